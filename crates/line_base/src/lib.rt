@@ -1,0 +1,6 @@
+//! base
+#![tactic(auto)]
+
+mod items;
+
+pub use items::Items;
