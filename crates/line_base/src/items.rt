@@ -1,9 +1,8 @@
-ghost use Rattle.std.specs.Prelude.{◌≡◌, ◌<◌, length, vec_len, slice_index_or};
-ghost use Rattle.line_base.specs.declared.items.Thing.{Thing};
+ghost use Rattle.std.specs.Prelude.{◌≡◌, length, IsTrue, [], ◌↔◌};
 
 use std::marker::Model;
 
-/// A list that contracts see as the list of its elements, whatever its capacity.
+/// A list that contracts see as the list of its elements, whatever room it has.
 #[derive(Drop)]
 pub struct Items<T> {
     elements: Vec<T>,
@@ -14,56 +13,42 @@ impl<T> Model for Items<T> {
 
     ghost Value = { List T };
 
-    ghost view = { λ l. l.elements.items };
+    ghost view = { λ list. list.elements.items };
 }
 
 impl<T> Items<T> {
+    /// The list of a vector's elements, in order. It takes no memory.
     pub fn from_vec(elements: Vec<T>) -> Self
         ensures { result ≡ elements.items }
     {
         Items { elements }
     }
 
+    /// Gives the vector back. It takes no memory.
     pub fn into_vec(self) -> Vec<T>
         ensures { result.items ≡ self }
     {
         self.elements
     }
 
+    /// The elements, in order.
     pub fn as_slice(&self) -> &[T]
         ensures { result.now ≡ self.now }
     {
         self.elements.as_slice()
     }
 
+    /// How many elements there are.
     pub fn len(&self) -> usize
         ensures { result ≡ length self.now }
     {
         self.elements.len()
     }
-}
 
-#[derive(Drop)]
-pub struct Thing {
-    pub name: Items<u8>,
-    pub times: Items<u64>,
-}
-
-#[derive(Drop)]
-pub enum Times {
-    Fixed(u64),
-    Each(Items<u64>),
-}
-
-pub fn things(v: Items<Thing>) -> usize
-    ensures { result ≡ length v }
-{
-    v.len()
-}
-
-pub fn first_name_len(v: &Items<Thing>) -> usize
-    requires { 0 < length v.now }
-    ensures { (d : Thing) → result ≡ length (slice_index_or v.now 0 d).name }
-{
-    v.as_slice()[0].name.len()
+    /// Whether there is no element.
+    pub fn is_empty(&self) -> bool
+        ensures { IsTrue result ↔ (self.now ≡ []) }
+    {
+        self.elements.is_empty()
+    }
 }

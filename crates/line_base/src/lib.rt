@@ -1,6 +1,23 @@
-//! base
+//! What every other crate of `pull` stands on: the limits of a plant, names, labels and numbers as text, job times,
+//! lists of dates with room taken beforehand, and the parts of an event graph.
 #![tactic(auto)]
 
+mod event;
 mod items;
+mod limits;
+mod log;
+mod name;
+mod number;
+mod times;
 
+pub use event::{Arc, Parts};
 pub use items::Items;
+pub use limits::{
+    MAX_ARCS, MAX_CARDS, MAX_CHECKPOINT_BYTES, MAX_COLUMN, MAX_DEMAND_DATE, MAX_DEMANDS,
+    MAX_FILE_BYTES, MAX_LOOPS, MAX_OBSERVE, MAX_OBSERVE_DATE, MAX_STAGES, MAX_STATIONS, MAX_TABLE,
+    MAX_TIME, MAX_WORKERS,
+};
+pub use log::{Log, Logs, Places};
+pub use name::{Label, Name, NameError, is_checkpoint_name, is_file_name};
+pub use number::{digits, number_of};
+pub use times::{Date, Times};

@@ -1,0 +1,148 @@
+ghost use Rattle.std.specs.Prelude.{◌≡◌, ◌≤◌, IsTrue, IfOk, IsErrOf, ◌↔◌, false};
+ghost use Rattle.std.specs.List.{list_all};
+ghost use Rattle.line_base.specs.Text.{is_between, is_letter, is_name_byte, is_file_byte, is_name, is_label, ends_in_ckpt, may_name_file, is_file_name, is_checkpoint_name};
+
+use std::alloc::{AllocError, Global};
+use std::marker::Model;
+
+/// The name of a stage or of a machine: 1 to 24 characters of `a-z 0-9 _ -`, the first a letter.
+#[derive(Drop)]
+pub struct Name {
+    text: Vec<u8>,
+}
+
+impl Model for Name {
+    ghost use Rattle.std.specs.Prelude.{List, ℕ, IsTrue};
+    ghost use Rattle.line_base.specs.Text.{is_name};
+
+    ghost Value = { List ℕ };
+
+    ghost view = { λ name. name.text.items };
+
+    ghost invariant = { λ name. IsTrue (is_name name.text.items) };
+}
+
+/// Why a text gave no name.
+#[derive(Clone, Copy, Debug, PartialEq, Eq)]
+pub enum NameError {
+    /// The text breaks the rule of names.
+    BadName,
+    /// Memory ran out.
+    NoMemory,
+}
+
+impl Name {
+    /// The name with this text. `BadName` comes exactly where the text breaks the rule of names.
+    pub fn of(alloc: Global, text: &[u8]) -> Result<Self, NameError>
+        ensures named { IfOk result (λ name. name ≡ text.now) }
+        ensures refused { IsErrOf result NameError.BadName ↔ (is_name text.now ≡ false) }
+    {
+        if !keeps_name_rule(text) {
+            return Err(NameError::BadName);
+        }
+        match Vec::from_slice(alloc, text) {
+            Ok(text) => Ok(Name { text }),
+            Err(_) => Err(NameError::NoMemory),
+        }
+    }
+
+    /// The text of the name, in ASCII.
+    pub fn text(&self) -> &[u8]
+        ensures text { result.now ≡ self.now }
+        ensures rule { IsTrue (is_name result.now) }
+    {
+        self.text.as_slice()
+    }
+}
+
+/// The label of a station as reports show it: 1 to 49 bytes from 33 to 126.
+#[derive(Drop)]
+pub struct Label {
+    text: Vec<u8>,
+}
+
+impl Model for Label {
+    ghost use Rattle.std.specs.Prelude.{List, ℕ, IsTrue};
+    ghost use Rattle.line_base.specs.Text.{is_label};
+
+    ghost Value = { List ℕ };
+
+    ghost view = { λ label. label.text.items };
+
+    ghost invariant = { λ label. IsTrue (is_label label.text.items) };
+}
+
+impl Label {
+    /// The label with this text.
+    pub fn of(alloc: Global, text: &[u8]) -> Result<Self, AllocError>
+        requires { IsTrue (is_label text.now) }
+        ensures { IfOk result (λ label. label ≡ text.now) }
+    {
+        Ok(Label {
+            text: Vec::from_slice(alloc, text)?,
+        })
+    }
+
+    /// The text of the label, in ASCII.
+    pub fn text(&self) -> &[u8]
+        ensures text { result.now ≡ self.now }
+        ensures rule { IsTrue (is_label result.now) }
+    {
+        self.text.as_slice()
+    }
+}
+
+/// Whether a text keeps the rule of names.
+fn keeps_name_rule(text: &[u8]) -> bool
+    ensures { result ≡ is_name text.now }
+{
+    let [first, ..] = text else {
+        return false;
+    };
+    text.len() <= 24 && first.is_ascii_lowercase() && has_name_bytes(text)
+}
+
+/// Whether each byte of a text may stand in a name.
+fn has_name_bytes(text: &[u8]) -> bool
+    ensures { result ≡ list_all is_name_byte text.now }
+{
+    text.iter().all(|byte| is_in_names(*byte))
+}
+
+/// Whether a byte may stand in a name.
+fn is_in_names(byte: u8) -> bool
+    ensures { result ≡ is_name_byte byte }
+{
+    matches!(byte, b'a'..=b'z' | b'0'..=b'9' | b'_' | b'-')
+}
+
+/// Whether a text may name a file of any kind: 1 to 255 bytes, none below 32 and none 127, the first no `-`.
+fn names_a_file(text: &[u8]) -> bool
+    ensures { result ≡ may_name_file text.now }
+{
+    let [first, ..] = text else {
+        return false;
+    };
+    text.len() <= 255 && *first != b'-' && has_file_bytes(text)
+}
+
+/// Whether each byte of a text may stand in a file's name.
+fn has_file_bytes(text: &[u8]) -> bool
+    ensures { result ≡ list_all is_file_byte text.now }
+{
+    text.iter().all(|byte| *byte >= 32 && *byte != 127)
+}
+
+/// Whether a text names a plant, csv, schedule or edits file: a file name that doesn't end in `.ckpt`.
+pub fn is_file_name(text: &[u8]) -> bool
+    ensures { result ≡ is_file_name text.now }
+{
+    names_a_file(text) && !text.ends_with(b".ckpt")
+}
+
+/// Whether a text names a checkpoint: a file name that ends in `.ckpt`.
+pub fn is_checkpoint_name(text: &[u8]) -> bool
+    ensures { result ≡ is_checkpoint_name text.now }
+{
+    names_a_file(text) && text.ends_with(b".ckpt")
+}
