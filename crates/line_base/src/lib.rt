@@ -8,6 +8,8 @@ mod limits;
 mod log;
 mod name;
 mod number;
+#[cfg(test)]
+mod tests;
 mod times;
 
 pub use event::{Arc, Parts};
