@@ -1,0 +1,11 @@
+pub mod Network
+pub mod Limits
+pub mod Table
+pub mod Term
+pub mod Solves
+pub mod Least
+pub mod State
+pub mod Firing
+pub mod Reached
+pub mod Circuit
+pub mod Live
