@@ -1,1 +1,3 @@
 mod Examples
+pub mod ArcNumbers
+pub mod Mapped

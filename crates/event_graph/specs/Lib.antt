@@ -9,3 +9,5 @@ pub mod Firing
 pub mod Reached
 pub mod Circuit
 pub mod Live
+pub mod Faults
+pub mod Lists

@@ -1,6 +1,6 @@
 -- The looks of an event graph, for every contract that speaks of one. A graph is seen as its `Parts`.
 -- Source: Baccelli, Cohen, Olsder, Quadrat, Synchronization and Linearity, timed event graphs.
-use Rattle.std.specs.Prelude.{◌≡◌, ◌≢◌, ℕ, ◌-◌, ◌<◌, ◌≤◌, ◌==◌, false, List, length, slice_index, slice_index_or, filter}
+use Rattle.std.specs.Prelude.{◌≡◌, ◌≢◌, ℕ, ◌-◌, ◌<◌, ◌≤◌, ◌==◌, List, [], false, length, slice_index, slice_index_or, filter}
 use Rattle.std.specs.List.{range_with_len}
 use Rattle.line_base.specs.declared.event.Arc.{Arc}
 use Rattle.line_base.specs.declared.event.Parts.{Parts}
@@ -21,6 +21,10 @@ arc_count g = length g.arcs
 abbrev pub arc : Parts → ℕ → Arc
 arc g a = slice_index_or g.arcs a (record { from = 0; to = 0; tokens = 0; worked = false })
 
+-- the text of station t
+abbrev pub label : Parts → ℕ → List ℕ
+label g t = slice_index_or g.labels t []
+
 -- the time that station t takes for job n, where jobs are counted from 1
 unfoldable pub time : Parts → ℕ → ℕ → ℕ
 time g t n = time_at (slice_index_or g.times t (Fixed 0)) n
@@ -39,6 +43,13 @@ ins g t = filter (λ a. (arc g a).to == t) (range_with_len 0 (arc_count g))
 
 unfoldable pub outs : Parts → ℕ → List ℕ
 outs g t = filter (λ a. (arc g a).from == t) (range_with_len 0 (arc_count g))
+
+-- arc a is there, and ends at station t, or starts there
+abbrev pub EndsAt : Parts → ℕ → ℕ → Type 0
+EndsAt g t a = (a < arc_count g) × ((arc g a).to ≡ t)
+
+abbrev pub StartsAt : Parts → ℕ → ℕ → Type 0
+StartsAt g t a = (a < arc_count g) × ((arc g a).from ≡ t)
 
 -- station 0 is the feed, which no arc enters; every other station has an arc in
 pub record IsGraph (g : Parts) : Type 0 where

@@ -1,0 +1,25 @@
+ghost use Rattle.std.specs.Prelude.{◌≡◌};
+ghost use Rattle.event_graph.specs.declared.error.GraphError.TheVariants.{NoMemory};
+
+use std::alloc::AllocError;
+
+/// Why parts give no graph.
+#[derive(Clone, Copy, Debug, PartialEq, Eq)]
+pub enum GraphError {
+    /// The arc starts or ends at a station that isn't there.
+    EndOutOfRange { arc: u32 },
+    /// The arc enters the feed.
+    FeedInput { arc: u32 },
+    /// The station isn't the feed, and no arc enters it.
+    NoInput { station: u32 },
+    /// Memory ran out.
+    NoMemory,
+}
+
+impl From<AllocError> for GraphError {
+    ghost from_gives = { λ _ e. e ≡ NoMemory };
+
+    fn from(_error: AllocError) -> Self {
+        GraphError::NoMemory
+    }
+}
