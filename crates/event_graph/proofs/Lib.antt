@@ -1,3 +1,4 @@
 mod Examples
 pub mod ArcNumbers
 pub mod Mapped
+pub mod Places

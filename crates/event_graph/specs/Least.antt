@@ -3,7 +3,7 @@
 use Rattle.std.specs.Prelude.{ℕ, ◌<◌, ◌≤◌}
 use Rattle.line_base.specs.declared.event.Parts.{Parts}
 use Rattle.event_graph.specs.Network.{stations, jobs}
-use Rattle.event_graph.specs.Table.{Table, IsSameTable}
+use Rattle.event_graph.specs.Table.{Table}
 use Rattle.event_graph.specs.Solves.{Solves}
 
 -- no date of x is above the date of y
@@ -14,7 +14,3 @@ IsNowhereAbove g x y = (t n : ℕ) → t < stations g → 1 ≤ n → n ≤ jobs
 pub record IsLeast (g : Parts) (x : Table) : Type 0 where
   pub solves : Solves g x
   pub least : (y : Table) → Solves g y → IsNowhereAbove g x y
-
--- a graph has at most one least solution
-abbrev pub HasOneLeast : Parts → Type 0
-HasOneLeast g = (x y : Table) → IsLeast g x → IsLeast g y → IsSameTable g x y

@@ -11,3 +11,4 @@ pub mod Circuit
 pub mod Live
 pub mod Faults
 pub mod Lists
+pub mod Laws

@@ -1,15 +1,23 @@
-ghost use Rattle.std.specs.Prelude.{◌≡◌};
 ghost use Rattle.line_base.specs.declared.event.Parts.{Parts};
-ghost use Rattle.event_graph.specs.Least.{HasOneLeast};
 ghost use Rattle.event_graph.specs.State.{start};
 ghost use Rattle.event_graph.specs.Reached.{Reached};
+ghost use Rattle.event_graph.specs.Laws.{HasOneLeast, StartsFull, KeepsCircuits};
 
-/// A graph has at most one least solution.
+/// A law of the definitions: a graph has at most one least solution.
 pub fn one_least_solution()
     ensures { (g : Parts) → HasOneLeast g }
-{}
+{
+}
 
-/// The start is reached.
+/// A law of the definitions: the start is reached.
 pub fn start_is_reached()
     ensures { (g : Parts) → Reached g (start g) }
-{}
+{
+}
+
+/// A law of the definitions: at the start every circuit has its tokens, and no firing changes their number.
+pub fn circuits_keep_their_tokens()
+    ensures start { (g : Parts) → StartsFull g }
+    ensures firing { (g : Parts) → KeepsCircuits g }
+{
+}

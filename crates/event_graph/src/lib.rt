@@ -10,6 +10,6 @@ mod marking;
 
 pub use error::GraphError;
 pub use graph::Graph;
-pub use laws::{one_least_solution, start_is_reached};
+pub use laws::{circuits_keep_their_tokens, one_least_solution, start_is_reached};
 pub use line_base::{Arc, Parts};
 pub use marking::Marking;
