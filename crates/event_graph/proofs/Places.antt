@@ -1,13 +1,12 @@
 -- Lemmas on the places of a state after a firing, and along walks.
-use Rattle.std.proofs.Common.{◌≡◌, ℕ, ◌+◌, ◌<◌, Bool, true, false, cond, eqb, List, [], ◌∷◌, ◌++◌, drop, replicate, map, length, get_or, zero-add, refl, sym, ap, ◌∙◌, arith, length-append, length-drop}
-use Rattle.std.specs.List.{sum_by}
+use Rattle.std.proofs.Common.{◌≡◌, ℕ, ◌+◌, ◌<◌, Bool, true, false, cond, eqb, List, [], ◌∷◌, ◌++◌, drop, replicate, length, zero-add, refl, sym, ap, ◌∙◌, arith, length-append, length-drop}
 use Rattle.std.proofs.lemmas.Bool.{eqb-true}
 use Rattle.std.proofs.lemmas.List.{get_or-map, length-replicate}
 use Rattle.std.proofs.lemmas.List.FromFn.{get_or-map-range_with_len}
 use Rattle.std.proofs.lemmas.List.Sums.{sum_by-cons}
 use Rattle.line_base.specs.declared.event.Arc.{Arc}
 use Rattle.line_base.specs.declared.event.Parts.{Parts}
-use Rattle.event_graph.specs.Network.{arc_count, arc, delay}
+use Rattle.event_graph.specs.Network.{arc_count, arc}
 use Rattle.event_graph.specs.State.{State, start, place}
 use Rattle.event_graph.specs.Firing.{CanFire, new_date, place_after, after}
 use Rattle.event_graph.specs.Circuit.{IsWalk, IsCircuit, tokens_in, tokens_on}

@@ -1,5 +1,5 @@
 -- Source: Baccelli, Cohen, Olsder, Quadrat, Synchronization and Linearity, markings of event graphs.
-use Rattle.std.specs.Prelude.{◌≡◌, ℕ, List, [], map, length, replicate, slice_index_or}
+use Rattle.std.specs.Prelude.{ℕ, List, [], map, replicate, slice_index_or}
 use Rattle.line_base.specs.declared.event.Parts.{Parts}
 use Rattle.event_graph.specs.Network.{stations}
 

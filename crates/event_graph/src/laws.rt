@@ -6,18 +6,15 @@ ghost use Rattle.event_graph.specs.Laws.{HasOneLeast, StartsFull, KeepsCircuits}
 /// A law of the definitions: a graph has at most one least solution.
 pub fn one_least_solution()
     ensures { (g : Parts) → HasOneLeast g }
-{
-}
+{}
 
 /// A law of the definitions: the start is reached.
 pub fn start_is_reached()
     ensures { (g : Parts) → Reached g (start g) }
-{
-}
+{}
 
 /// A law of the definitions: at the start every circuit has its tokens, and no firing changes their number.
 pub fn circuits_keep_their_tokens()
     ensures start { (g : Parts) → StartsFull g }
     ensures firing { (g : Parts) → KeepsCircuits g }
-{
-}
+{}

@@ -7,6 +7,8 @@ mod graph;
 mod laws;
 mod lists;
 mod marking;
+#[cfg(test)]
+mod tests;
 
 pub use error::GraphError;
 pub use graph::Graph;

@@ -1,8 +1,6 @@
-use Rattle.std.proofs.Common.{◌≡◌, ℕ, ◌<◌, length, [], get_or, arith, ap, ◌∙◌, sym}
+use Rattle.std.proofs.Common.{length, [], get_or, arith, ap, ◌∙◌, sym}
 use Rattle.std.proofs.lemmas.Bool.{eqb-true, eqb-false}
-use Rattle.event_graph.specs.Network.{stations, ins}
 use Rattle.event_graph.specs.declared.lists.End.TheVariants.{Finish}
-use Rattle.event_graph.specs.Lists.{lists_at}
 use Rattle.event_graph.proofs.ArcNumbers.{get_or-ins, length-lists_at, lacks_input, has_input}
 use borrow.Author.Count.{below_more}
 use Rattle.event_graph.proofs.checks.check_inputs.Goals as goal

@@ -1,6 +1,5 @@
-use Rattle.std.proofs.Common.{◌≡◌, ◌≤◌, ◌<◌, ◌+◌, [], replicate, length, refl, sym, ap, ◌∙◌, subst, arith}
-use Rattle.event_graph.specs.Network.{stations, arc_count, arc}
-use Rattle.event_graph.specs.Lists.{station_at, lists_at}
+use Rattle.std.proofs.Common.{◌≡◌, ◌<◌, [], replicate, length, sym, ap, ◌∙◌, arith}
+use Rattle.event_graph.specs.Network.{arc_count}
 use Rattle.event_graph.proofs.ArcNumbers.{first_lists, first_lists-none, first_lists-more, first_lists-all, length-first_lists, station_at-exists, station_at-read}
 use Rattle.event_graph.proofs.lists.arcs_by_station.Goals as goal
 

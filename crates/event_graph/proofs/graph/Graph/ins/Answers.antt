@@ -1,4 +1,4 @@
-use Rattle.std.proofs.Common.{◌≡◌, ◌<◌, length, [], get_or, arith, ap, ◌∙◌, sym, subst, refl}
+use Rattle.std.proofs.Common.{◌≡◌, ◌<◌, length, [], get_or, arith, ap, ◌∙◌, sym, subst}
 use Rattle.std.specs.Prelude.{All}
 use Rattle.event_graph.specs.Network.{stations, ins, EndsAt}
 use Rattle.event_graph.specs.declared.lists.End.TheVariants.{Finish}
