@@ -43,8 +43,8 @@ tokens_in-after g s t (a ∷ arcs) from to can (there, starts, rest) =
     let at_start = ap {B = ℕ} (λ (u : ℕ). cond (eqb u t) 1 0) starts in
     omega (arith, here, later, at_start, sum_by-cons (λ b. length (place (after g s t) b)) a arcs, sum_by-cons (λ b. length (place s b)) a arcs)
 
-pub circuit-after : (g : Parts) (s : State) (t : ℕ) (arcs : List ℕ) → CanFire g s t → IsCircuit g arcs → tokens_in (after g s t) arcs ≡ tokens_in s arcs
-circuit-after g s t arcs can circuit =
+pub circuit-after : (g : Parts) (s : State) (t : ℕ) → CanFire g s t → (arcs : List ℕ) → IsCircuit g arcs → tokens_in (after g s t) arcs ≡ tokens_in s arcs
+circuit-after g s t can arcs circuit =
     omega (arith, tokens_in-after g s t arcs circuit.base circuit.base can circuit.closed)
 
 pub walk-start : (g : Parts) (arcs : List ℕ) (from to : ℕ) → IsWalk g from arcs to → tokens_in (start g) arcs ≡ tokens_on g arcs

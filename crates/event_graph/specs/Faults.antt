@@ -27,12 +27,21 @@ pub record IsFirst (Fault : ℕ → Type 0) (bound k : ℕ) : Type 0 where
   pub found : Fault k
   pub first : HasNone Fault k
 
+-- the parts have none of the faults of one kind
+abbrev pub AllNameStations : Parts → Type 0
+AllNameStations g = HasNone (NamesNoStation g) (arc_count g)
+
+abbrev pub NoneEntersFeed : Parts → Type 0
+NoneEntersFeed g = HasNone (EntersFeed g) (arc_count g)
+
+abbrev pub NoneLacksInput : Parts → Type 0
+NoneLacksInput g = HasNone (LacksInput g) (stations g)
+
 -- the error names the first fault of the parts: of the first kind that they have, its first arc or
 -- station; want of memory is free
 abbrev pub IsFirstFault : Parts → GraphError → Type 0
 IsFirstFault g (EndOutOfRange a) = IsFirst (NamesNoStation g) (arc_count g) a
-IsFirstFault g (FeedInput a) =
-    HasNone (NamesNoStation g) (arc_count g) × IsFirst (EntersFeed g) (arc_count g) a
+IsFirstFault g (FeedInput a) = AllNameStations g × IsFirst (EntersFeed g) (arc_count g) a
 IsFirstFault g (NoInput t) =
-    HasNone (NamesNoStation g) (arc_count g) × HasNone (EntersFeed g) (arc_count g) × IsFirst (LacksInput g) (stations g) t
+    AllNameStations g × NoneEntersFeed g × IsFirst (LacksInput g) (stations g) t
 IsFirstFault g NoMemory = ⊤

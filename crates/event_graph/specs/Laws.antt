@@ -15,7 +15,11 @@ HasOneLeast g = (x y : Table) → IsLeast g x → IsLeast g y → IsSameTable g 
 abbrev pub StartsFull : Parts → Type 0
 StartsFull g = (arcs : List ℕ) → IsCircuit g arcs → tokens_in (start g) arcs ≡ tokens_on g arcs
 
+-- both states have the same number of tokens on the arcs
+abbrev pub HasSameTokens : State → State → List ℕ → Type 0
+HasSameTokens old new arcs = tokens_in new arcs ≡ tokens_in old arcs
+
 -- a firing leaves the tokens of every circuit as they were, in any state in which it is possible
 abbrev pub KeepsCircuits : Parts → Type 0
 KeepsCircuits g =
-    (s : State) (t : ℕ) (arcs : List ℕ) → CanFire g s t → IsCircuit g arcs → tokens_in (after g s t) arcs ≡ tokens_in s arcs
+    (s : State) (t : ℕ) → CanFire g s t → (arcs : List ℕ) → IsCircuit g arcs → HasSameTokens s (after g s t) arcs

@@ -1,5 +1,5 @@
 -- The lists of arcs that a graph keeps for each station, for the functions that make and hold them.
-use Rattle.std.specs.Prelude.{◌≡◌, ℕ, List, map}
+use Rattle.std.specs.Prelude.{◌≡◌, ℕ, List, [], ◌∷◌, ◌++◌, map, slice_index_or, slice_set}
 use Rattle.std.specs.List.{range_with_len}
 use Rattle.line_base.specs.declared.event.Arc.{Arc}
 use Rattle.line_base.specs.declared.event.Parts.{Parts}
@@ -12,6 +12,11 @@ use Rattle.event_graph.specs.Limits.{IsWithinLimits}
 abbrev pub station_at : End → Arc → ℕ
 station_at Start arc = arc.from
 station_at Finish arc = arc.to
+
+-- the lists with one more arc at the end of a station's
+abbrev pub with_arc : List (List ℕ) → ℕ → ℕ → List (List ℕ)
+with_arc lists station arc =
+    slice_set lists station (slice_index_or lists station [] ++ arc ∷ [])
 
 -- for each station the arcs that have this end there
 abbrev pub lists_at : End → Parts → List (List ℕ)

@@ -1,6 +1,6 @@
 ghost use Rattle.std.specs.Prelude.{◌≡◌, ℕ, ◌^◌, ◌<◌, ◌≤◌, MatchResult};
 ghost use Rattle.event_graph.specs.Network.{stations, arc_count};
-ghost use Rattle.event_graph.specs.Faults.{HasNone, NamesNoStation, EntersFeed, LacksInput, IsFirstFault};
+ghost use Rattle.event_graph.specs.Faults.{AllNameStations, NoneEntersFeed, NoneLacksInput, IsFirstFault};
 ghost use Rattle.event_graph.specs.Lists.{lists_at};
 ghost use Rattle.event_graph.specs.declared.lists.End.TheVariants.{Finish};
 
@@ -11,7 +11,7 @@ use line_base::Parts;
 /// Refuses parts in which an arc names no station.
 pub fn check_ends(parts: &Parts) -> Result<(), GraphError>
     requires { arc_count parts.now < 2 ^ 32 }
-    ensures { MatchResult result (λ _. HasNone (NamesNoStation parts.now) (arc_count parts.now)) (IsFirstFault parts.now) }
+    ensures { MatchResult result (λ _. AllNameStations parts.now) (IsFirstFault parts.now) }
 {
     let stations = parts.labels.len();
     for (number, arc) in parts.arcs.as_slice().iter().enumerate() {
@@ -25,8 +25,8 @@ pub fn check_ends(parts: &Parts) -> Result<(), GraphError>
 /// Refuses parts in which an arc enters the feed.
 pub fn check_feed(parts: &Parts) -> Result<(), GraphError>
     requires few { arc_count parts.now < 2 ^ 32 }
-    requires ends { HasNone (NamesNoStation parts.now) (arc_count parts.now) }
-    ensures { MatchResult result (λ _. HasNone (EntersFeed parts.now) (arc_count parts.now)) (IsFirstFault parts.now) }
+    requires ends { AllNameStations parts.now }
+    ensures { MatchResult result (λ _. NoneEntersFeed parts.now) (IsFirstFault parts.now) }
 {
     for (number, arc) in parts.arcs.as_slice().iter().enumerate() {
         if arc.to == 0 {
@@ -39,10 +39,10 @@ pub fn check_feed(parts: &Parts) -> Result<(), GraphError>
 /// Refuses parts in which no arc enters a station that isn't the feed.
 pub fn check_inputs(parts: &Parts, into: &ArcLists) -> Result<(), GraphError>
     requires few { stations parts.now < 2 ^ 32 }
-    requires ends { HasNone (NamesNoStation parts.now) (arc_count parts.now) }
-    requires feed { HasNone (EntersFeed parts.now) (arc_count parts.now) }
+    requires ends { AllNameStations parts.now }
+    requires feed { NoneEntersFeed parts.now }
     requires listed { into.now ≡ lists_at Finish parts.now }
-    ensures { MatchResult result (λ _. HasNone (LacksInput parts.now) (stations parts.now)) (IsFirstFault parts.now) }
+    ensures { MatchResult result (λ _. NoneLacksInput parts.now) (IsFirstFault parts.now) }
 {
     for station in 1..parts.labels.len() as u32 {
         if into.of(station).is_empty() {

@@ -1,8 +1,8 @@
 ghost use Rattle.std.specs.Prelude.{◌≡◌, ◌^◌, ◌<◌, [], ◌∷◌, ◌++◌, length, map, replicate, IfOk, OnOk, slice_index_or, slice_set};
 ghost use Rattle.std.specs.List.{range_with_len};
 ghost use Rattle.event_graph.specs.Network.{stations, arc_count, IsGraph};
-ghost use Rattle.event_graph.specs.Faults.{HasNone, NamesNoStation};
-ghost use Rattle.event_graph.specs.Lists.{station_at, lists_at};
+ghost use Rattle.event_graph.specs.Faults.{AllNameStations};
+ghost use Rattle.event_graph.specs.Lists.{station_at, lists_at, with_arc};
 
 use line_base::{Arc, Parts};
 use std::alloc::{AllocError, Global};
@@ -37,7 +37,7 @@ impl ArcLists {
     /// Adds an arc at the end of a station's list.
     pub fn add(&mut self, station: u32, arc: u32) -> Result<(), AllocError>
         requires { station < length self.old }
-        ensures { OnOk result (self.new ≡ slice_set self.old station (slice_index_or self.old station [] ++ arc ∷ [])) }
+        ensures { OnOk result (self.new ≡ with_arc self.old station arc) }
     {
         self.lists[station as usize].push(arc)?;
         Ok(())
@@ -74,7 +74,7 @@ impl End {
 /// For each station the arcs that have this end there, ascending.
 pub fn arcs_by_station(alloc: Global, parts: &Parts, end: End) -> Result<ArcLists, AllocError>
     requires few { arc_count parts.now < 2 ^ 32 }
-    requires ends { HasNone (NamesNoStation parts.now) (arc_count parts.now) }
+    requires ends { AllNameStations parts.now }
     ensures { IfOk result (λ lists. lists ≡ lists_at end parts.now) }
 {
     let mut lists = ArcLists::empty(alloc, parts.labels.len())?;
