@@ -1,0 +1,28 @@
+-- What holds between the logs and the places of a state that firings reach, without their order.
+use Rattle.std.specs.Prelude.{◌≡◌, ℕ, ◌+◌, ◌<◌, ◌≤◌, ◌==◌, if◌then◌else◌, List, ◌++◌, map, drop, length, replicate, slice_index}
+use Rattle.std.specs.List.{range_with_len}
+use Rattle.line_base.specs.declared.event.Parts.{Parts}
+use Rattle.event_graph.specs.Network.{stations, jobs, arc_count, arc, demand, delay, ins}
+use Rattle.event_graph.specs.Table.{date_in}
+use Rattle.event_graph.specs.Term.{term}
+use Rattle.event_graph.specs.State.{State, log, place}
+use Rattle.event_graph.specs.Firing.{greatest}
+
+-- every token that arc a has held so far, in order: those of the start, then one for each date of
+-- the log of the station where it starts
+unfoldable pub all_tokens : Parts → State → ℕ → List ℕ
+all_tokens g s a =
+    replicate (arc g a).tokens 0 ++ map (λ date. date + delay g a) (log s (arc g a).from)
+
+-- the date that the equations give to job n at station t over the logs
+unfoldable pub due_date : Parts → State → ℕ → ℕ → ℕ
+due_date g s t n =
+    if t == 0 then demand g n else greatest (λ a. term g (date_in s.logs) a n) (ins g t)
+
+pub record IsConsistent (g : Parts) (s : State) : Type 0 where
+  pub a_log_each : length s.logs ≡ stations g
+  pub a_place_each : length s.places ≡ arc_count g
+  pub few_dates : (t : ℕ) → t < stations g → length (log s t) ≤ jobs g
+  pub tokens_suffice : (a : ℕ) → a < arc_count g → length (log s (arc g a).to) ≤ length (all_tokens g s a)
+  pub dates_are_due : (t k : ℕ) → t < stations g → k < length (log s t) → slice_index (log s t) k ≡ due_date g s t (k + 1)
+  pub places_are_left : (a : ℕ) → a < arc_count g → place s a ≡ drop (length (log s (arc g a).to)) (all_tokens g s a)

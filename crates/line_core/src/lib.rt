@@ -1,0 +1,4 @@
+//! The pure machine of an event graph: one station fires after the other.
+#![tactic(auto)]
+
+mod state;
