@@ -1,34 +1,34 @@
 -- Every state that firings reach is consistent.
-use Rattle.std.proofs.Common.{◌≡◌, ◌≢◌, ℕ, zero, suc, ◌+◌, ◌-◌, ◌<◌, ◌≤◌, Bool, true, false, cond, eqb, List, [], ◌∷◌, ◌++◌, drop, replicate, map, length, get_or, zero-add, add-zero, refl, sym, ap, ◌∙◌, subst, arith, ⊎_elim}
-use Rattle.std.specs.List.{All, range_with_len}
-use Rattle.std.proofs.lemmas.Bool.{eqb-true, eq-eqb, ne_eqb, cases_eq, cases_lt, cases_Bool, cond-true, cond-false}
+use Rattle.std.proofs.Common.{◌≡◌, ◌≢◌, ℕ, ◌+◌, ◌<◌, ◌≤◌, cond, eqb, List, [], ◌++◌, drop, replicate, map, length, get_or, add-zero, refl, sym, ap, ◌∙◌, subst, arith, ⊎_elim}
+use Rattle.std.specs.List.{All}
+use Rattle.std.proofs.lemmas.Bool.{eqb-true, eqb-false, cond_both, eq-eqb, cases_lt, cases_Bool, cond-true, cond-false}
 use Rattle.std.proofs.lemmas.List.{append-nil, length-set, length-map, length-replicate, get_or-replicate, get_or_past, length-drop, get_or-drop, get_or_at}
 use Rattle.std.proofs.lemmas.List.FromFn.{length-map-range_with_len}
 use Rattle.line_base.specs.declared.event.Arc.{Arc}
 use Rattle.line_base.specs.declared.event.Parts.{Parts}
-use Rattle.event_graph.specs.Network.{stations, jobs, arc, arc_count, demand, delay, ins, IsGraph}
+use Rattle.event_graph.specs.Network.{stations, jobs, arc, arc_count, demand, delay, ins}
 use Rattle.event_graph.specs.Table.{date_in}
-use Rattle.event_graph.specs.Term.{work, term, token_date}
+use Rattle.event_graph.specs.Term.{work, term}
 use Rattle.event_graph.specs.State.{State, log, place, start}
 use Rattle.event_graph.specs.Firing.{greatest, CanFire, asked_date, new_date, after, place_after}
 use Rattle.event_graph.specs.Reached.{Reached, begins, fires}
 use Rattle.event_graph.proofs.ArcNumbers.{All-ins}
 use Rattle.event_graph.proofs.Places.{place-start, place-after}
 use Rattle.line_core.specs.Consistent.{all_tokens, due_date, IsConsistent}
-use Rattle.line_core.proofs.Greatest.{greatest-same}
-use Rattle.line_core.proofs.Tokens.{with_new, length-with_new, get_or-with_new, log-after, all_tokens-after, length-all_tokens, token_date-next, drop-with_new}
+use Rattle.line_core.proofs.Greatest.{greatest-le, greatest-same}
+use Rattle.line_core.proofs.Tokens.{with_new, length-with_new, get_or-with_new, log-after, all_tokens-after, token_date-next, drop-with_new}
 
 -- ---- the start
 
-log-start : (g : Parts) (t : ℕ) → log (start g) t ≡ []
+pub log-start : (g : Parts) (t : ℕ) → log (start g) t ≡ []
 unfolding start
 log-start g t =
     ⊎_elim
-      (λ there. get_or-replicate (stations g) t [] [] there)
-      (λ past. get_or_past (replicate (stations g) []) t [] (omega (arith, length-replicate {A = List ℕ} (stations g) [])))
-      (cases_lt t (stations g))
+    (λ there. get_or-replicate (stations g) t [] [] there)
+    (λ past. get_or_past (replicate (stations g) []) t [] (omega (arith, length-replicate {A = List ℕ} (stations g) [])))
+    (cases_lt t (stations g))
 
-all_tokens-start : (g : Parts) (a : ℕ) → all_tokens g (start g) a ≡ replicate (arc g a).tokens 0
+pub all_tokens-start : (g : Parts) (a : ℕ) → all_tokens g (start g) a ≡ replicate (arc g a).tokens 0
 unfolding all_tokens
 all_tokens-start g a =
     ap (λ l. replicate (arc g a).tokens 0 ++ map (λ date. date + delay g a) l) (log-start g (arc g a).from)
@@ -43,48 +43,60 @@ start_is_consistent g = record {
   tokens_suffice = λ a there. omega (arith, ap length (log-start g (arc g a).to));
   dates_are_due = λ t k there low. absurd (omega (arith, ap length (log-start g t)));
   places_are_left = λ a there.
-    place-start g a there
-    ∙ sym (all_tokens-start g a)
-    ∙ ap (λ n. drop n (all_tokens g (start g) a)) (sym (ap length (log-start g (arc g a).to)));
+      place-start g a there
+      ∙ sym (all_tokens-start g a)
+      ∙ ap (λ n. drop n (all_tokens g (start g) a)) (sym (ap length (log-start g (arc g a).to)));
 }
 
 -- ---- dates by the tokens that arcs have held
 
 -- the date that token k of each arc, counted from 0, gives to job k + 1 at station t
-abbrev asked : Parts → State → ℕ → ℕ → ℕ
+abbrev pub asked : Parts → State → ℕ → ℕ → ℕ
 asked g s k a = work g a (k + 1) + get_or (all_tokens g s a) k 0
 
-date_by_tokens : Parts → State → ℕ → ℕ → ℕ
+unfoldable pub date_by_tokens : Parts → State → ℕ → ℕ → ℕ
 date_by_tokens g s t k = cond (eqb t 0) (demand g (k + 1)) (greatest (asked g s k) (ins g t))
 
 -- each arc into station t has held more than k tokens
 abbrev pub HasHeld : Parts → State → ℕ → ℕ → Type 0
 HasHeld g s t k = (a : ℕ) → a < arc_count g → (arc g a).to ≡ t → k < length (all_tokens g s a)
 
+-- what bounds the demand date of the feed, or the dates that are asked of another station, bounds the date
+pub by_tokens-le : (g : Parts) (s : State) (t k most : ℕ) → (t ≡ 0 → demand g (k + 1) ≤ most) → (t ≢ 0 → All (λ a. asked g s k a ≤ most) (ins g t)) → date_by_tokens g s t k ≤ most
+unfolding date_by_tokens
+by_tokens-le g s t k most feed others =
+    cond_both
+    (eqb t 0)
+    (demand g (k + 1))
+    (greatest (asked g s k) (ins g t))
+    (λ date. date ≤ most)
+    (λ yes. feed (eqb-true t 0 yes))
+    (λ no. greatest-le (asked g s k) (ins g t) most (others (eqb-false t 0 no)))
+
 due_date-by_tokens : (g : Parts) (s : State) (t k : ℕ) → HasHeld g s t k → due_date g s t (k + 1) ≡ date_by_tokens g s t k
 unfolding due_date date_by_tokens
 due_date-by_tokens g s t k held =
     ap (λ n. cond (eqb t 0) (demand g (k + 1)) n) (
-      greatest-same
-        (λ a. term g (date_in s.logs) a (k + 1))
-        (asked g s k)
-        (ins g t)
-        (λ i d low. let at = All-ins g t i d low in ap (λ n. work g (get_or (ins g t) i d) (k + 1) + n) (token_date-next g s _ k (held _ at.0 at.1))))
+    greatest-same
+    (λ a. term g (date_in s.logs) a (k + 1))
+    (asked g s k)
+    (ins g t)
+    (λ i d low. let at = All-ins g t i d low in ap (λ n. work g (get_or (ins g t) i d) (k + 1) + n) (token_date-next g s _ k (held _ at.0 at.1))))
 
 by_tokens-after : (g : Parts) (s : State) (t u k : ℕ) → t < length s.logs → HasHeld g s u k → date_by_tokens g (after g s t) u k ≡ date_by_tokens g s u k
 unfolding date_by_tokens
 by_tokens-after g s t u k there held =
     ap (λ n. cond (eqb u 0) (demand g (k + 1)) n) (
-      greatest-same
-        (asked g (after g s t) k)
-        (asked g s k)
-        (ins g u)
-        (λ i d low.
-          let a = get_or (ins g u) i d in
-          let at = All-ins g u i d low in
-          ap (λ n. work g a (k + 1) + n) (
-            ap (λ l. get_or l k 0) (all_tokens-after g s t a there)
-            ∙ get_or-with_new (eqb (arc g a).from t) (all_tokens g s a) (new_date g s t + delay g a) k (held a at.0 at.1))))
+    greatest-same
+    (asked g (after g s t) k)
+    (asked g s k)
+    (ins g u)
+    (λ i d low.
+    let a = get_or (ins g u) i d in
+    let at = All-ins g u i d low in
+    ap (λ n. work g a (k + 1) + n) (
+    ap (λ l. get_or l k 0) (all_tokens-after g s t a there)
+    ∙ get_or-with_new (eqb (arc g a).from t) (all_tokens g s a) (new_date g s t + delay g a) k (held a at.0 at.1))))
 
 HasHeld-after : (g : Parts) (s : State) (t u k : ℕ) → t < length s.logs → HasHeld g s u k → HasHeld g (after g s t) u k
 HasHeld-after g s t u k there held a listed ends =
@@ -93,7 +105,7 @@ HasHeld-after g s t u k there held a listed ends =
 -- ---- a firing
 
 module _ (g : Parts) (s : State) (t : ℕ) (c : IsConsistent g s) (can : CanFire g s t) where
-  exists : t < length s.logs
+  pub exists : t < length s.logs
   exists = omega (arith, can.exists, c.a_log_each)
 
   -- each input place of t has a token
@@ -102,42 +114,42 @@ module _ (g : Parts) (s : State) (t : ℕ) (c : IsConsistent g s) (can : CanFire
       let enters = eqb (arc g a).to t in
       let left = ap length (c.places_are_left a there) ∙ length-drop (length (log s (arc g a).to)) (all_tokens g s a) in
       ⊎_elim
-        (λ yes. omega (arith, cond-true {A = ℕ} enters 1 0 yes, can.tokens a there (eqb-true _ t yes), left))
-        (λ no. omega (arith, cond-false {A = ℕ} enters 1 0 no, c.tokens_suffice a there))
-        (cases_Bool enters)
+      (λ yes. omega (arith, cond-true {A = ℕ} enters 1 0 yes, can.tokens a there (eqb-true _ t yes), left))
+      (λ no. omega (arith, cond-false {A = ℕ} enters 1 0 no, c.tokens_suffice a there))
+      (cases_Bool enters)
 
   -- the next job of t takes the tokens that are in front
-  held_now : HasHeld g s t (length (log s t))
+  pub held_now : HasHeld g s t (length (log s t))
   held_now a there ends =
       let left = ap length (c.places_are_left a there) ∙ length-drop (length (log s (arc g a).to)) (all_tokens g s a) in
       omega (arith, can.tokens a there ends, left, ap (λ u. length (log s u)) ends)
 
-  new_date-by_tokens : new_date g s t ≡ date_by_tokens g s t (length (log s t))
+  pub new_date-by_tokens : new_date g s t ≡ date_by_tokens g s t (length (log s t))
   unfolding new_date date_by_tokens
   new_date-by_tokens =
       let n = length (log s t) in
       ap (λ date. cond (eqb t 0) (demand g (n + 1)) date) (
-        greatest-same
-          (asked_date g s (n + 1))
-          (asked g s n)
-          (ins g t)
-          (λ i d low.
-            let a = get_or (ins g t) i d in
-            let at = All-ins g t i d low in
-            ap (λ date. work g a (n + 1) + date) (
-              ap (λ l. get_or l 0 0) (c.places_are_left a at.0)
-              ∙ get_or-drop (length (log s (arc g a).to)) (all_tokens g s a) 0 0
-              ∙ ap (λ k. get_or (all_tokens g s a) k 0) (add-zero _ ∙ ap (λ u. length (log s u)) at.1))))
+      greatest-same
+      (asked_date g s (n + 1))
+      (asked g s n)
+      (ins g t)
+      (λ i d low.
+      let a = get_or (ins g t) i d in
+      let at = All-ins g t i d low in
+      ap (λ date. work g a (n + 1) + date) (
+      ap (λ l. get_or l 0 0) (c.places_are_left a at.0)
+      ∙ get_or-drop (length (log s (arc g a).to)) (all_tokens g s a) 0 0
+      ∙ ap (λ k. get_or (all_tokens g s a) k 0) (add-zero _ ∙ ap (λ u. length (log s u)) at.1))))
 
-  length-log-after : (u : ℕ) → length (log (after g s t) u) ≡ length (log s u) + cond (eqb u t) 1 0
+  pub length-log-after : (u : ℕ) → length (log (after g s t) u) ≡ length (log s u) + cond (eqb u t) 1 0
   length-log-after u = ap length (log-after g s t u exists) ∙ length-with_new (eqb u t) (log s u) (new_date g s t)
 
   few_dates-after : (u : ℕ) → u < stations g → length (log (after g s t) u) ≤ jobs g
   few_dates-after u there =
       ⊎_elim
-        (λ yes. omega (arith, length-log-after u, cond-true {A = ℕ} (eqb u t) 1 0 yes, ap (λ v. length (log s v)) (eqb-true u t yes), can.more))
-        (λ no. omega (arith, length-log-after u, cond-false {A = ℕ} (eqb u t) 1 0 no, c.few_dates u there))
-        (cases_Bool (eqb u t))
+      (λ yes. omega (arith, length-log-after u, cond-true {A = ℕ} (eqb u t) 1 0 yes, ap (λ v. length (log s v)) (eqb-true u t yes), can.more))
+      (λ no. omega (arith, length-log-after u, cond-false {A = ℕ} (eqb u t) 1 0 no, c.few_dates u there))
+      (cases_Bool (eqb u t))
 
   tokens_suffice-after : (a : ℕ) → a < arc_count g → length (log (after g s t) (arc g a).to) ≤ length (all_tokens g (after g s t) a)
   tokens_suffice-after a there =
@@ -163,7 +175,7 @@ module _ (g : Parts) (s : State) (t : ℕ) (c : IsConsistent g s) (can : CanFire
   old_dates-after : (u k : ℕ) → u < stations g → k < length (log s u) → get_or (log (after g s t) u) k 0 ≡ due_date g (after g s t) u (k + 1)
   old_dates-after u k there early =
       let held : HasHeld g s u k =
-        λ a listed ends. omega (arith, early, c.tokens_suffice a listed, ap (λ v. length (log s v)) ends) in
+      λ a listed ends. omega (arith, early, c.tokens_suffice a listed, ap (λ v. length (log s v)) ends) in
       ap (λ l. get_or l k 0) (log-after g s t u exists)
       ∙ get_or-with_new (eqb u t) (log s u) (new_date g s t) k early
       ∙ c.dates_are_due u k there early
@@ -183,15 +195,15 @@ module _ (g : Parts) (s : State) (t : ℕ) (c : IsConsistent g s) (can : CanFire
   dates_are_due-after u k there low =
       let IsDue : ℕ → Type 0 = λ v. get_or (log (after g s t) v) k 0 ≡ due_date g (after g s t) v (k + 1) in
       let late : length (log s u) ≤ k → IsDue u =
-        λ past.
-          let same : u ≡ t =
-            ⊎_elim
-              (λ yes. eqb-true u t yes)
-              (λ no. absurd (omega (arith, low, past, length-log-after u, cond-false {A = ℕ} (eqb u t) 1 0 no)))
-              (cases_Bool (eqb u t)) in
-          let last : k ≡ length (log s t) =
-            omega (arith, low, past, length-log-after u, cond-true {A = ℕ} (eqb u t) 1 0 (eq-eqb u t same), ap (λ v. length (log s v)) same) in
-          subst IsDue (sym same) (last_date-after k last) in
+      λ past.
+      let same : u ≡ t =
+      ⊎_elim
+      (λ yes. eqb-true u t yes)
+      (λ no. absurd (omega (arith, low, past, length-log-after u, cond-false {A = ℕ} (eqb u t) 1 0 no)))
+      (cases_Bool (eqb u t)) in
+      let last : k ≡ length (log s t) =
+      omega (arith, low, past, length-log-after u, cond-true {A = ℕ} (eqb u t) 1 0 (eq-eqb u t same), ap (λ v. length (log s v)) same) in
+      subst IsDue (sym same) (last_date-after k last) in
       ⊎_elim (old_dates-after u k there) late (cases_lt k (length (log s u)))
 
   pub after_is_consistent : IsConsistent g (after g s t)

@@ -1,3 +1,6 @@
 pub mod Greatest
 pub mod Tokens
 pub mod Consistency
+pub mod Solution
+pub mod Bounds
+pub mod Circuits

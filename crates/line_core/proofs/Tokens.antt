@@ -1,9 +1,9 @@
 -- What a firing does to logs and to the tokens that arcs have held, and the dates of those tokens.
-use Rattle.std.proofs.Common.{◌≡◌, ◌≢◌, ℕ, zero, suc, ◌+◌, ◌-◌, ◌<◌, ◌≤◌, Bool, true, false, cond, eqb, ltb, List, [], ◌∷◌, ◌++◌, drop, replicate, map, length, get_or, set, zero-add, add-zero, add-one, refl, sym, ap, ◌∙◌, subst, arith, ⊎_elim, append_assoc, length-append}
-use Rattle.std.proofs.lemmas.Bool.{eqb-true, eq-eqb, ne_eqb, cases_eq, cases_lt, cond-true, cond-false, lt-ltb, le-ltb}
+use Rattle.std.proofs.Common.{◌≡◌, ◌≢◌, ℕ, suc, ◌+◌, ◌-◌, ◌<◌, ◌≤◌, Bool, true, false, cond, eqb, ltb, List, [], ◌∷◌, ◌++◌, drop, replicate, map, length, get_or, set, add-zero, add-one, refl, sym, ap, ◌∙◌, arith, ⊎_elim, append_assoc, length-append}
+use Rattle.std.proofs.lemmas.Bool.{eq-eqb, ne_eqb, cases_eq, cases_lt, cond-true, cond-false, lt-ltb, le-ltb}
 use Rattle.std.proofs.lemmas.List.{get_or-set_same, get_or-set_other, get_or_append_left, get_or-append_right, get_or-replicate, get_or-map, length-replicate, length-map, map_push, drop-drop, drop-append-le}
 use Rattle.line_base.specs.declared.event.Parts.{Parts}
-use Rattle.event_graph.specs.Network.{arc, arc_count, delay}
+use Rattle.event_graph.specs.Network.{arc, delay}
 use Rattle.event_graph.specs.Table.{date_in}
 use Rattle.event_graph.specs.Term.{token_date}
 use Rattle.event_graph.specs.State.{State, log}
@@ -28,15 +28,15 @@ unfolding after
 log-after g s t u there =
     let added = log s t ++ new_date g s t ∷ [] in
     let at_t : u ≡ t → get_or (set s.logs t added) u [] ≡ with_new (eqb u t) (log s u) (new_date g s t) =
-      λ same.
-        ap (λ v. get_or (set s.logs t added) v []) same
-        ∙ get_or-set_same s.logs t added [] there
-        ∙ ap (λ v. log s v ++ new_date g s t ∷ []) (sym same)
-        ∙ ap (λ b. with_new b (log s u) (new_date g s t)) (sym (eq-eqb u t same)) in
+    λ same.
+    ap (λ v. get_or (set s.logs t added) v []) same
+    ∙ get_or-set_same s.logs t added [] there
+    ∙ ap (λ v. log s v ++ new_date g s t ∷ []) (sym same)
+    ∙ ap (λ b. with_new b (log s u) (new_date g s t)) (sym (eq-eqb u t same)) in
     let elsewhere : u ≢ t → get_or (set s.logs t added) u [] ≡ with_new (eqb u t) (log s u) (new_date g s t) =
-      λ other.
-        get_or-set_other s.logs t u added [] other
-        ∙ ap (λ b. with_new b (log s u) (new_date g s t)) (sym (ne_eqb u t other)) in
+    λ other.
+    get_or-set_other s.logs t u added [] other
+    ∙ ap (λ b. with_new b (log s u) (new_date g s t)) (sym (ne_eqb u t other)) in
     ⊎_elim at_t elsewhere (cases_eq u t)
 
 -- each arc out of it has held one more token
@@ -47,12 +47,13 @@ all_tokens-after g s t a there =
     let later = λ (date : ℕ). date + delay g a in
     let fired = log-after g s t (arc g a).from there in
     let put : (gains : Bool) → first ++ map later (with_new gains (log s (arc g a).from) (new_date g s t)) ≡ with_new gains (first ++ map later (log s (arc g a).from)) (later (new_date g s t)) =
-      λ gains.
-        elim gains as (λ b. first ++ map later (with_new b (log s (arc g a).from) (new_date g s t)) ≡ with_new b (first ++ map later (log s (arc g a).from)) (later (new_date g s t))) [
-          true ↦
-            ap (λ l. first ++ l) (map_push later (log s (arc g a).from) (new_date g s t))
-            ∙ sym (append_assoc first (map later (log s (arc g a).from)) (later (new_date g s t) ∷ []))
-        | false ↦ refl ] in
+    λ gains.
+    elim gains as (λ b. first ++ map later (with_new b (log s (arc g a).from) (new_date g s t)) ≡ with_new b (first ++ map later (log s (arc g a).from)) (later (new_date g s t))) [
+      | true ↦
+          ap (λ l. first ++ l) (map_push later (log s (arc g a).from) (new_date g s t))
+          ∙ sym (append_assoc first (map later (log s (arc g a).from)) (later (new_date g s t) ∷ []))
+      | false ↦ refl
+    ] in
     ap (λ l. first ++ map later l) fired ∙ put (eqb (arc g a).from t)
 
 pub length-all_tokens : (g : Parts) (s : State) (a : ℕ) → length (all_tokens g s a) ≡ (arc g a).tokens + length (log s (arc g a).from)
@@ -70,15 +71,15 @@ token_date-next g s a k low =
     let later = λ (date : ℕ). date + delay g a in
     let many = length-all_tokens g s a in
     let at_start : k < tokens → token_date g (date_in s.logs) a (k + 1) ≡ get_or (replicate tokens 0 ++ map later dates) k 0 =
-      λ early.
-        cond-false (ltb tokens (k + 1)) (date_in s.logs (arc g a).from (k + 1 - tokens) + delay g a) 0 (le-ltb tokens (k + 1) (omega arith))
-        ∙ sym (get_or_append_left (replicate tokens 0) (map later dates) 0 k (omega (arith, length-replicate {A = ℕ} tokens 0)) ∙ get_or-replicate tokens k 0 0 early) in
+    λ early.
+    cond-false (ltb tokens (k + 1)) (date_in s.logs (arc g a).from (k + 1 - tokens) + delay g a) 0 (le-ltb tokens (k + 1) (omega arith))
+    ∙ sym (get_or_append_left (replicate tokens 0) (map later dates) 0 k (omega (arith, length-replicate {A = ℕ} tokens 0)) ∙ get_or-replicate tokens k 0 0 early) in
     let put : tokens ≤ k → token_date g (date_in s.logs) a (k + 1) ≡ get_or (replicate tokens 0 ++ map later dates) k 0 =
-      λ late.
-        let number : k + 1 - tokens ≡ suc (k - tokens) = omega (arith, add-one (k - tokens)) in
-        cond-true (ltb tokens (k + 1)) (date_in s.logs (arc g a).from (k + 1 - tokens) + delay g a) 0 (lt-ltb tokens (k + 1) (omega arith))
-        ∙ ap (λ n. date_in s.logs (arc g a).from n + delay g a) number
-        ∙ sym (get_or-append_right (replicate tokens 0) (map later dates) tokens k 0 (length-replicate tokens 0) late ∙ get_or-map later dates (k - tokens) 0 0 (omega arith)) in
+    λ late.
+    let number : k + 1 - tokens ≡ suc (k - tokens) = omega (arith, add-one (k - tokens)) in
+    cond-true (ltb tokens (k + 1)) (date_in s.logs (arc g a).from (k + 1 - tokens) + delay g a) 0 (lt-ltb tokens (k + 1) (omega arith))
+    ∙ ap (λ n. date_in s.logs (arc g a).from n + delay g a) number
+    ∙ sym (get_or-append_right (replicate tokens 0) (map later dates) tokens k 0 (length-replicate tokens 0) late ∙ get_or-map later dates (k - tokens) 0 0 (omega arith)) in
     ⊎_elim at_start put (cases_lt k tokens)
 
 -- what is left of a list after n elements were taken, when one more is taken, or one is added

@@ -1,6 +1,5 @@
 -- What holds between the logs and the places of a state that firings reach, without their order.
-use Rattle.std.specs.Prelude.{◌≡◌, ℕ, ◌+◌, ◌<◌, ◌≤◌, ◌==◌, if◌then◌else◌, List, ◌++◌, map, drop, length, replicate, slice_index}
-use Rattle.std.specs.List.{range_with_len}
+use Rattle.std.specs.Prelude.{◌≡◌, ℕ, ◌+◌, ◌<◌, ◌≤◌, ◌==◌, if◌then◌else◌, List, ◌++◌, map, drop, length, replicate, slice_index, sum_by, All}
 use Rattle.line_base.specs.declared.event.Parts.{Parts}
 use Rattle.event_graph.specs.Network.{stations, jobs, arc_count, arc, demand, delay, ins}
 use Rattle.event_graph.specs.Table.{date_in}
@@ -26,3 +25,20 @@ pub record IsConsistent (g : Parts) (s : State) : Type 0 where
   pub tokens_suffice : (a : ℕ) → a < arc_count g → length (log s (arc g a).to) ≤ length (all_tokens g s a)
   pub dates_are_due : (t k : ℕ) → t < stations g → k < length (log s t) → slice_index (log s t) k ≡ due_date g s t (k + 1)
   pub places_are_left : (a : ℕ) → a < arc_count g → place s a ≡ drop (length (log s (arc g a).to)) (all_tokens g s a)
+
+-- every station has fired once for each job
+abbrev pub IsFinished : Parts → State → Type 0
+IsFinished g s = (t : ℕ) → t < stations g → length (log s t) ≡ jobs g
+
+-- how many firings made the state
+abbrev pub fired : State → ℕ
+fired s = sum_by length s.logs
+
+-- no date of a log or a place comes later
+pub record IsNoLaterThan (g : Parts) (s : State) (latest : ℕ) : Type 0 where
+  pub logs : (t : ℕ) → t < stations g → All (λ date. date ≤ latest) (log s t)
+  pub places : (a : ℕ) → a < arc_count g → All (λ date. date ≤ latest) (place s a)
+
+-- the latest date within the limits: the last demand, and twice the longest time for each date of a table
+abbrev pub LATEST_DATE : ℕ
+LATEST_DATE = 2_001_000_000_000_000

@@ -1,0 +1,5 @@
+use Rattle.line_core.proofs.Circuits.{circuit_keeps_number}
+use Rattle.line_core.proofs.laws.circuits_keep_their_number.Goals as goal
+
+pub returns : goal.returns
+returns c = circuit_keeps_number
