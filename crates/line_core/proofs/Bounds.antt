@@ -114,7 +114,7 @@ module _ (g : Parts) (s : State) (t : ℕ) (limits : IsWithinLimits g) (c : IsCo
       let new : IsOnTime date = omega (arith, new_date-early, fired-after g s t there) in
       record {
         dates = λ u known.
-            subst (All IsOnTime) (sym (log-after g s t u there)) (
+            subst (All IsOnTime) (sym (log-after g s t there u)) (
             All-with_new IsOnTime (eqb u t) (log s u) date (still (log s u) (early.dates u known)) new);
         tokens = λ a known.
             let put : IsOnTime (date + delay g a) = omega (arith, new_date-early, fired-after g s t there, delay-small g a limits) in

@@ -16,7 +16,7 @@ use Rattle.event_graph.proofs.ArcNumbers.{All-ins}
 use Rattle.event_graph.proofs.Places.{place-start, place-after}
 use Rattle.line_core.specs.Consistent.{all_tokens, due_date, IsConsistent}
 use Rattle.line_core.proofs.Greatest.{greatest-le, greatest-same}
-use Rattle.line_core.proofs.Tokens.{with_new, length-with_new, get_or-with_new, log-after, all_tokens-after, token_date-next, drop-with_new}
+use Rattle.line_core.proofs.Tokens.{with_new, length-with_new, LogGains, get_or-with_new, log-after, all_tokens-gain, all_tokens-after, token_date-next, drop-with_new}
 
 -- ---- the start
 
@@ -73,7 +73,7 @@ by_tokens-le g s t k most feed others =
     (λ yes. feed (eqb-true t 0 yes))
     (λ no. greatest-le (asked g s k) (ins g t) most (others (eqb-false t 0 no)))
 
-due_date-by_tokens : (g : Parts) (s : State) (t k : ℕ) → HasHeld g s t k → due_date g s t (k + 1) ≡ date_by_tokens g s t k
+pub due_date-by_tokens : (g : Parts) (s : State) (t k : ℕ) → HasHeld g s t k → due_date g s t (k + 1) ≡ date_by_tokens g s t k
 unfolding due_date date_by_tokens
 due_date-by_tokens g s t k held =
     ap (λ n. cond (eqb t 0) (demand g (k + 1)) n) (
@@ -83,24 +83,25 @@ due_date-by_tokens g s t k held =
     (ins g t)
     (λ i d low. let at = All-ins g t i d low in ap (λ n. work g (get_or (ins g t) i d) (k + 1) + n) (token_date-next g s _ k (held _ at.0 at.1))))
 
-by_tokens-after : (g : Parts) (s : State) (t u k : ℕ) → t < length s.logs → HasHeld g s u k → date_by_tokens g (after g s t) u k ≡ date_by_tokens g s u k
+-- a date that a log gains changes no date that the earlier tokens give
+pub by_tokens-gain : (g : Parts) (old new : State) (t date u k : ℕ) → LogGains old new t date → HasHeld g old u k → date_by_tokens g new u k ≡ date_by_tokens g old u k
 unfolding date_by_tokens
-by_tokens-after g s t u k there held =
+by_tokens-gain g old new t date u k gain held =
     ap (λ n. cond (eqb u 0) (demand g (k + 1)) n) (
-    greatest-same
-    (asked g (after g s t) k)
-    (asked g s k)
-    (ins g u)
-    (λ i d low.
-    let a = get_or (ins g u) i d in
-    let at = All-ins g u i d low in
-    ap (λ n. work g a (k + 1) + n) (
-    ap (λ l. get_or l k 0) (all_tokens-after g s t a there)
-    ∙ get_or-with_new (eqb (arc g a).from t) (all_tokens g s a) (new_date g s t + delay g a) k (held a at.0 at.1))))
+      greatest-same
+        (asked g new k)
+        (asked g old k)
+        (ins g u)
+        (λ i d low.
+          let a = get_or (ins g u) i d in
+          let at = All-ins g u i d low in
+          ap (λ n. work g a (k + 1) + n) (
+            ap (λ l. get_or l k 0) (all_tokens-gain g old new t date a gain)
+            ∙ get_or-with_new (eqb (arc g a).from t) (all_tokens g old a) (date + delay g a) k (held a at.0 at.1))))
 
-HasHeld-after : (g : Parts) (s : State) (t u k : ℕ) → t < length s.logs → HasHeld g s u k → HasHeld g (after g s t) u k
-HasHeld-after g s t u k there held a listed ends =
-    omega (arith, held a listed ends, ap length (all_tokens-after g s t a there), length-with_new (eqb (arc g a).from t) (all_tokens g s a) (new_date g s t + delay g a))
+pub HasHeld-gain : (g : Parts) (old new : State) (t date u k : ℕ) → LogGains old new t date → HasHeld g old u k → HasHeld g new u k
+HasHeld-gain g old new t date u k gain held a listed ends =
+    omega (arith, held a listed ends, ap length (all_tokens-gain g old new t date a gain), length-with_new (eqb (arc g a).from t) (all_tokens g old a) (date + delay g a))
 
 -- ---- a firing
 
@@ -142,7 +143,7 @@ module _ (g : Parts) (s : State) (t : ℕ) (c : IsConsistent g s) (can : CanFire
       ∙ ap (λ k. get_or (all_tokens g s a) k 0) (add-zero _ ∙ ap (λ u. length (log s u)) at.1))))
 
   pub length-log-after : (u : ℕ) → length (log (after g s t) u) ≡ length (log s u) + cond (eqb u t) 1 0
-  length-log-after u = ap length (log-after g s t u exists) ∙ length-with_new (eqb u t) (log s u) (new_date g s t)
+  length-log-after u = ap length (log-after g s t exists u) ∙ length-with_new (eqb u t) (log s u) (new_date g s t)
 
   few_dates-after : (u : ℕ) → u < stations g → length (log (after g s t) u) ≤ jobs g
   few_dates-after u there =
@@ -169,14 +170,14 @@ module _ (g : Parts) (s : State) (t : ℕ) (c : IsConsistent g s) (can : CanFire
 
   due-after : (u k : ℕ) → HasHeld g s u k → date_by_tokens g s u k ≡ due_date g (after g s t) u (k + 1)
   due-after u k held =
-      sym (by_tokens-after g s t u k exists held)
-      ∙ sym (due_date-by_tokens g (after g s t) u k (HasHeld-after g s t u k exists held))
+      sym (by_tokens-gain g s (after g s t) t (new_date g s t) u k (log-after g s t exists) held)
+      ∙ sym (due_date-by_tokens g (after g s t) u k (HasHeld-gain g s (after g s t) t (new_date g s t) u k (log-after g s t exists) held))
 
   old_dates-after : (u k : ℕ) → u < stations g → k < length (log s u) → get_or (log (after g s t) u) k 0 ≡ due_date g (after g s t) u (k + 1)
   old_dates-after u k there early =
       let held : HasHeld g s u k =
       λ a listed ends. omega (arith, early, c.tokens_suffice a listed, ap (λ v. length (log s v)) ends) in
-      ap (λ l. get_or l k 0) (log-after g s t u exists)
+      ap (λ l. get_or l k 0) (log-after g s t exists u)
       ∙ get_or-with_new (eqb u t) (log s u) (new_date g s t) k early
       ∙ c.dates_are_due u k there early
       ∙ due_date-by_tokens g s u k held
@@ -185,7 +186,7 @@ module _ (g : Parts) (s : State) (t : ℕ) (c : IsConsistent g s) (can : CanFire
   last_date-after : (k : ℕ) → k ≡ length (log s t) → get_or (log (after g s t) t) k 0 ≡ due_date g (after g s t) t (k + 1)
   last_date-after k last =
       let held : HasHeld g s t k = λ a listed ends. omega (arith, held_now a listed ends, last) in
-      ap (λ l. get_or l k 0) (log-after g s t t exists ∙ cond-true (eqb t t) _ _ (eq-eqb t t refl))
+      ap (λ l. get_or l k 0) (log-after g s t exists t ∙ cond-true (eqb t t) _ _ (eq-eqb t t refl))
       ∙ get_or_at (log s t) (new_date g s t) [] 0 k (sym last)
       ∙ new_date-by_tokens
       ∙ ap (date_by_tokens g s t) (sym last)

@@ -69,7 +69,7 @@ module _ (g : Parts) (y : Table) (graph : IsGraph g) (solves : Solves g y) where
   reached_is_nowhere_later s (fires old t reached can) u k there low =
       let c = reached_is_consistent g old reached in
       let before = reached_is_nowhere_later old reached in
-      let fired = log-after g old t u (exists g old t c can) in
+      let fired = log-after g old t (exists g old t c can) u in
       let new : eqb u t ≡ true → k ≡ length (log old u) → new_date g old t ≤ y u (k + 1) =
       λ yes last.
       let same = ap (λ v. y v (length (log old v) + 1)) (sym (eqb-true u t yes)) ∙ ap (λ n. y u (n + 1)) (sym last) in

@@ -22,39 +22,48 @@ pub get_or-with_new : (gains : Bool) (xs : List ℕ) (x k : ℕ) → k < length 
 get_or-with_new true xs x k low = get_or_append_left xs (x ∷ []) 0 k low
 get_or-with_new false xs x k low = refl
 
--- the log of the station that fires gains the new date
-pub log-after : (g : Parts) (s : State) (t u : ℕ) → t < length s.logs → log (after g s t) u ≡ with_new (eqb u t) (log s u) (new_date g s t)
-unfolding after
-log-after g s t u there =
-    let added = log s t ++ new_date g s t ∷ [] in
-    let at_t : u ≡ t → get_or (set s.logs t added) u [] ≡ with_new (eqb u t) (log s u) (new_date g s t) =
-    λ same.
-    ap (λ v. get_or (set s.logs t added) v []) same
-    ∙ get_or-set_same s.logs t added [] there
-    ∙ ap (λ v. log s v ++ new_date g s t ∷ []) (sym same)
-    ∙ ap (λ b. with_new b (log s u) (new_date g s t)) (sym (eq-eqb u t same)) in
-    let elsewhere : u ≢ t → get_or (set s.logs t added) u [] ≡ with_new (eqb u t) (log s u) (new_date g s t) =
-    λ other.
-    get_or-set_other s.logs t u added [] other
-    ∙ ap (λ b. with_new b (log s u) (new_date g s t)) (sym (ne_eqb u t other)) in
+-- the logs are the same, but that the one of station t gains a date
+abbrev pub LogGains : State → State → ℕ → ℕ → Type 0
+LogGains old new t date = (u : ℕ) → log new u ≡ with_new (eqb u t) (log old u) date
+
+-- a list of logs in which that of station t gains a date
+pub log-set : (logs : List (List ℕ)) (t date u : ℕ) → t < length logs → get_or (set logs t (get_or logs t [] ++ date ∷ [])) u [] ≡ with_new (eqb u t) (get_or logs u []) date
+log-set logs t date u there =
+    let added = get_or logs t [] ++ date ∷ [] in
+    let at_t : u ≡ t → get_or (set logs t added) u [] ≡ with_new (eqb u t) (get_or logs u []) date =
+      λ same.
+        ap (λ v. get_or (set logs t added) v []) same
+        ∙ get_or-set_same logs t added [] there
+        ∙ ap (λ v. get_or logs v [] ++ date ∷ []) (sym same)
+        ∙ ap (λ b. with_new b (get_or logs u []) date) (sym (eq-eqb u t same)) in
+    let elsewhere : u ≢ t → get_or (set logs t added) u [] ≡ with_new (eqb u t) (get_or logs u []) date =
+      λ other.
+        get_or-set_other logs t u added [] other
+        ∙ ap (λ b. with_new b (get_or logs u []) date) (sym (ne_eqb u t other)) in
     ⊎_elim at_t elsewhere (cases_eq u t)
 
--- each arc out of it has held one more token
-pub all_tokens-after : (g : Parts) (s : State) (t a : ℕ) → t < length s.logs → all_tokens g (after g s t) a ≡ with_new (eqb (arc g a).from t) (all_tokens g s a) (new_date g s t + delay g a)
+-- the station that fires gains the new date
+pub log-after : (g : Parts) (s : State) (t : ℕ) → t < length s.logs → LogGains s (after g s t) t (new_date g s t)
+unfolding after
+log-after g s t there u = log-set s.logs t (new_date g s t) u there
+
+-- each arc out of a station that gains a date has held one more token
+pub all_tokens-gain : (g : Parts) (old new : State) (t date a : ℕ) → LogGains old new t date → all_tokens g new a ≡ with_new (eqb (arc g a).from t) (all_tokens g old a) (date + delay g a)
 unfolding all_tokens
-all_tokens-after g s t a there =
+all_tokens-gain g old new t date a gain =
     let first = replicate (arc g a).tokens 0 in
-    let later = λ (date : ℕ). date + delay g a in
-    let fired = log-after g s t (arc g a).from there in
-    let put : (gains : Bool) → first ++ map later (with_new gains (log s (arc g a).from) (new_date g s t)) ≡ with_new gains (first ++ map later (log s (arc g a).from)) (later (new_date g s t)) =
-    λ gains.
-    elim gains as (λ b. first ++ map later (with_new b (log s (arc g a).from) (new_date g s t)) ≡ with_new b (first ++ map later (log s (arc g a).from)) (later (new_date g s t))) [
-      | true ↦
-          ap (λ l. first ++ l) (map_push later (log s (arc g a).from) (new_date g s t))
-          ∙ sym (append_assoc first (map later (log s (arc g a).from)) (later (new_date g s t) ∷ []))
-      | false ↦ refl
-    ] in
-    ap (λ l. first ++ map later l) fired ∙ put (eqb (arc g a).from t)
+    let later = λ (n : ℕ). n + delay g a in
+    let dates = log old (arc g a).from in
+    let put : (gains : Bool) → first ++ map later (with_new gains dates date) ≡ with_new gains (first ++ map later dates) (later date) =
+      λ gains.
+        elim gains as (λ b. first ++ map later (with_new b dates date) ≡ with_new b (first ++ map later dates) (later date)) [
+          true ↦ ap (λ l. first ++ l) (map_push later dates date) ∙ sym (append_assoc first (map later dates) (later date ∷ []))
+        | false ↦ refl ] in
+    ap (λ l. first ++ map later l) (gain (arc g a).from) ∙ put (eqb (arc g a).from t)
+
+pub all_tokens-after : (g : Parts) (s : State) (t a : ℕ) → t < length s.logs → all_tokens g (after g s t) a ≡ with_new (eqb (arc g a).from t) (all_tokens g s a) (new_date g s t + delay g a)
+all_tokens-after g s t a there =
+    all_tokens-gain g s (after g s t) t (new_date g s t) a (log-after g s t there)
 
 pub length-all_tokens : (g : Parts) (s : State) (a : ℕ) → length (all_tokens g s a) ≡ (arc g a).tokens + length (log s (arc g a).from)
 unfolding all_tokens
