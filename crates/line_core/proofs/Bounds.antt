@@ -60,7 +60,7 @@ work-small g a n limits =
 
 -- ---- a firing
 
-fired-after : (g : Parts) (s : State) (t : ℕ) → t < length s.logs → fired (after g s t) ≡ fired s + 1
+pub fired-after : (g : Parts) (s : State) (t : ℕ) → t < length s.logs → fired (after g s t) ≡ fired s + 1
 unfolding after
 fired-after g s t there =
     let dates = log s t in
@@ -74,7 +74,7 @@ latest_after firings = MAX_DEMAND_DATE + firings * (2 * MAX_TIME)
 -- no date of a log, and no token that an arc has held, is later
 record IsEarly (g : Parts) (s : State) : Type 0 where
   dates : (t : ℕ) → t < stations g → All (λ date. date ≤ latest_after (fired s)) (log s t)
-  tokens : (a : ℕ) → a < arc_count g → All (λ date. date ≤ latest_after (fired s)) (all_tokens g s a)
+  tokens : (a : ℕ) → a < arc_count g → All (λ date. date ≤ latest_after (fired s)) (all_tokens g s.logs a)
 
 All-with_new : (P : ℕ → Type 0) (gains : Bool) (xs : List ℕ) (x : ℕ) → All P xs → P x → All P (with_new gains xs x)
 All-with_new P true xs x all new = All-push P xs x all new
@@ -119,7 +119,7 @@ module _ (g : Parts) (s : State) (t : ℕ) (limits : IsWithinLimits g) (c : IsCo
         tokens = λ a known.
             let put : IsOnTime (date + delay g a) = omega (arith, new_date-early, fired-after g s t there, delay-small g a limits) in
             subst (All IsOnTime) (sym (all_tokens-after g s t a there)) (
-            All-with_new IsOnTime (eqb (arc g a).from t) (all_tokens g s a) (date + delay g a) (still (all_tokens g s a) (early.tokens a known)) put);
+            All-with_new IsOnTime (eqb (arc g a).from t) (all_tokens g s.logs a) (date + delay g a) (still (all_tokens g s.logs a) (early.tokens a known)) put);
       }
 
 reached_is_early : (g : Parts) (s : State) → IsWithinLimits g → Reached g s → IsEarly g s
@@ -144,7 +144,7 @@ reached_is_no_later g s limits reached =
       logs = early.dates;
       places = λ a there.
           subst (All IsOnTime) (sym (c.places_are_left a there)) (
-          All-drop IsOnTime (length (log s (arc g a).to)) (all_tokens g s a) (early.tokens a there));
+          All-drop IsOnTime (length (log s (arc g a).to)) (all_tokens g s.logs a) (early.tokens a there));
     }
 
 -- within the limits no date is above 2,001,000,000,000,000

@@ -28,7 +28,7 @@ log-start g t =
     (λ past. get_or_past (replicate (stations g) []) t [] (omega (arith, length-replicate {A = List ℕ} (stations g) [])))
     (cases_lt t (stations g))
 
-pub all_tokens-start : (g : Parts) (a : ℕ) → all_tokens g (start g) a ≡ replicate (arc g a).tokens 0
+pub all_tokens-start : (g : Parts) (a : ℕ) → all_tokens g (start g).logs a ≡ replicate (arc g a).tokens 0
 unfolding all_tokens
 all_tokens-start g a =
     ap (λ l. replicate (arc g a).tokens 0 ++ map (λ date. date + delay g a) l) (log-start g (arc g a).from)
@@ -45,21 +45,21 @@ start_is_consistent g = record {
   places_are_left = λ a there.
       place-start g a there
       ∙ sym (all_tokens-start g a)
-      ∙ ap (λ n. drop n (all_tokens g (start g) a)) (sym (ap length (log-start g (arc g a).to)));
+      ∙ ap (λ n. drop n (all_tokens g (start g).logs a)) (sym (ap length (log-start g (arc g a).to)));
 }
 
 -- ---- dates by the tokens that arcs have held
 
 -- the date that token k of each arc, counted from 0, gives to job k + 1 at station t
 abbrev pub asked : Parts → State → ℕ → ℕ → ℕ
-asked g s k a = work g a (k + 1) + get_or (all_tokens g s a) k 0
+asked g s k a = work g a (k + 1) + get_or (all_tokens g s.logs a) k 0
 
 unfoldable pub date_by_tokens : Parts → State → ℕ → ℕ → ℕ
 date_by_tokens g s t k = cond (eqb t 0) (demand g (k + 1)) (greatest (asked g s k) (ins g t))
 
 -- each arc into station t has held more than k tokens
 abbrev pub HasHeld : Parts → State → ℕ → ℕ → Type 0
-HasHeld g s t k = (a : ℕ) → a < arc_count g → (arc g a).to ≡ t → k < length (all_tokens g s a)
+HasHeld g s t k = (a : ℕ) → a < arc_count g → (arc g a).to ≡ t → k < length (all_tokens g s.logs a)
 
 -- what bounds the demand date of the feed, or the dates that are asked of another station, bounds the date
 pub by_tokens-le : (g : Parts) (s : State) (t k most : ℕ) → (t ≡ 0 → demand g (k + 1) ≤ most) → (t ≢ 0 → All (λ a. asked g s k a ≤ most) (ins g t)) → date_by_tokens g s t k ≤ most
@@ -73,7 +73,7 @@ by_tokens-le g s t k most feed others =
     (λ yes. feed (eqb-true t 0 yes))
     (λ no. greatest-le (asked g s k) (ins g t) most (others (eqb-false t 0 no)))
 
-pub due_date-by_tokens : (g : Parts) (s : State) (t k : ℕ) → HasHeld g s t k → due_date g s t (k + 1) ≡ date_by_tokens g s t k
+pub due_date-by_tokens : (g : Parts) (s : State) (t k : ℕ) → HasHeld g s t k → due_date g s.logs t (k + 1) ≡ date_by_tokens g s t k
 unfolding due_date date_by_tokens
 due_date-by_tokens g s t k held =
     ap (λ n. cond (eqb t 0) (demand g (k + 1)) n) (
@@ -97,11 +97,11 @@ by_tokens-gain g old new t date u k gain held =
           let at = All-ins g u i d low in
           ap (λ n. work g a (k + 1) + n) (
             ap (λ l. get_or l k 0) (all_tokens-gain g old new t date a gain)
-            ∙ get_or-with_new (eqb (arc g a).from t) (all_tokens g old a) (date + delay g a) k (held a at.0 at.1))))
+            ∙ get_or-with_new (eqb (arc g a).from t) (all_tokens g old.logs a) (date + delay g a) k (held a at.0 at.1))))
 
 pub HasHeld-gain : (g : Parts) (old new : State) (t date u k : ℕ) → LogGains old new t date → HasHeld g old u k → HasHeld g new u k
 HasHeld-gain g old new t date u k gain held a listed ends =
-    omega (arith, held a listed ends, ap length (all_tokens-gain g old new t date a gain), length-with_new (eqb (arc g a).from t) (all_tokens g old a) (date + delay g a))
+    omega (arith, held a listed ends, ap length (all_tokens-gain g old new t date a gain), length-with_new (eqb (arc g a).from t) (all_tokens g old.logs a) (date + delay g a))
 
 -- ---- a firing
 
@@ -110,10 +110,10 @@ module _ (g : Parts) (s : State) (t : ℕ) (c : IsConsistent g s) (can : CanFire
   exists = omega (arith, can.exists, c.a_log_each)
 
   -- each input place of t has a token
-  room : (a : ℕ) → a < arc_count g → length (log s (arc g a).to) + cond (eqb (arc g a).to t) 1 0 ≤ length (all_tokens g s a)
+  room : (a : ℕ) → a < arc_count g → length (log s (arc g a).to) + cond (eqb (arc g a).to t) 1 0 ≤ length (all_tokens g s.logs a)
   room a there =
       let enters = eqb (arc g a).to t in
-      let left = ap length (c.places_are_left a there) ∙ length-drop (length (log s (arc g a).to)) (all_tokens g s a) in
+      let left = ap length (c.places_are_left a there) ∙ length-drop (length (log s (arc g a).to)) (all_tokens g s.logs a) in
       ⊎_elim
       (λ yes. omega (arith, cond-true {A = ℕ} enters 1 0 yes, can.tokens a there (eqb-true _ t yes), left))
       (λ no. omega (arith, cond-false {A = ℕ} enters 1 0 no, c.tokens_suffice a there))
@@ -122,7 +122,7 @@ module _ (g : Parts) (s : State) (t : ℕ) (c : IsConsistent g s) (can : CanFire
   -- the next job of t takes the tokens that are in front
   pub held_now : HasHeld g s t (length (log s t))
   held_now a there ends =
-      let left = ap length (c.places_are_left a there) ∙ length-drop (length (log s (arc g a).to)) (all_tokens g s a) in
+      let left = ap length (c.places_are_left a there) ∙ length-drop (length (log s (arc g a).to)) (all_tokens g s.logs a) in
       omega (arith, can.tokens a there ends, left, ap (λ u. length (log s u)) ends)
 
   pub new_date-by_tokens : new_date g s t ≡ date_by_tokens g s t (length (log s t))
@@ -139,8 +139,8 @@ module _ (g : Parts) (s : State) (t : ℕ) (c : IsConsistent g s) (can : CanFire
       let at = All-ins g t i d low in
       ap (λ date. work g a (n + 1) + date) (
       ap (λ l. get_or l 0 0) (c.places_are_left a at.0)
-      ∙ get_or-drop (length (log s (arc g a).to)) (all_tokens g s a) 0 0
-      ∙ ap (λ k. get_or (all_tokens g s a) k 0) (add-zero _ ∙ ap (λ u. length (log s u)) at.1))))
+      ∙ get_or-drop (length (log s (arc g a).to)) (all_tokens g s.logs a) 0 0
+      ∙ ap (λ k. get_or (all_tokens g s.logs a) k 0) (add-zero _ ∙ ap (λ u. length (log s u)) at.1))))
 
   pub length-log-after : (u : ℕ) → length (log (after g s t) u) ≡ length (log s u) + cond (eqb u t) 1 0
   length-log-after u = ap length (log-after g s t exists u) ∙ length-with_new (eqb u t) (log s u) (new_date g s t)
@@ -152,11 +152,11 @@ module _ (g : Parts) (s : State) (t : ℕ) (c : IsConsistent g s) (can : CanFire
       (λ no. omega (arith, length-log-after u, cond-false {A = ℕ} (eqb u t) 1 0 no, c.few_dates u there))
       (cases_Bool (eqb u t))
 
-  tokens_suffice-after : (a : ℕ) → a < arc_count g → length (log (after g s t) (arc g a).to) ≤ length (all_tokens g (after g s t) a)
+  tokens_suffice-after : (a : ℕ) → a < arc_count g → length (log (after g s t) (arc g a).to) ≤ length (all_tokens g (after g s t).logs a)
   tokens_suffice-after a there =
-      omega (arith, length-log-after (arc g a).to, room a there, ap length (all_tokens-after g s t a exists), length-with_new (eqb (arc g a).from t) (all_tokens g s a) (new_date g s t + delay g a))
+      omega (arith, length-log-after (arc g a).to, room a there, ap length (all_tokens-after g s t a exists), length-with_new (eqb (arc g a).from t) (all_tokens g s.logs a) (new_date g s t + delay g a))
 
-  places_are_left-after : (a : ℕ) → a < arc_count g → place (after g s t) a ≡ drop (length (log (after g s t) (arc g a).to)) (all_tokens g (after g s t) a)
+  places_are_left-after : (a : ℕ) → a < arc_count g → place (after g s t) a ≡ drop (length (log (after g s t) (arc g a).to)) (all_tokens g (after g s t).logs a)
   places_are_left-after a there =
       let gains = eqb (arc g a).from t in
       let loses = eqb (arc g a).to t in
@@ -164,16 +164,16 @@ module _ (g : Parts) (s : State) (t : ℕ) (c : IsConsistent g s) (can : CanFire
       let taken = length (log s (arc g a).to) in
       place-after g s t a there
       ∙ ap (λ p. with_new gains (cond loses (drop 1 p) p) put) (c.places_are_left a there)
-      ∙ drop-with_new gains loses taken (all_tokens g s a) put (room a there)
+      ∙ drop-with_new gains loses taken (all_tokens g s.logs a) put (room a there)
       ∙ ap (λ l. drop (taken + cond loses 1 0) l) (sym (all_tokens-after g s t a exists))
-      ∙ ap (λ n. drop n (all_tokens g (after g s t) a)) (sym (length-log-after (arc g a).to))
+      ∙ ap (λ n. drop n (all_tokens g (after g s t).logs a)) (sym (length-log-after (arc g a).to))
 
-  due-after : (u k : ℕ) → HasHeld g s u k → date_by_tokens g s u k ≡ due_date g (after g s t) u (k + 1)
+  due-after : (u k : ℕ) → HasHeld g s u k → date_by_tokens g s u k ≡ due_date g (after g s t).logs u (k + 1)
   due-after u k held =
       sym (by_tokens-gain g s (after g s t) t (new_date g s t) u k (log-after g s t exists) held)
       ∙ sym (due_date-by_tokens g (after g s t) u k (HasHeld-gain g s (after g s t) t (new_date g s t) u k (log-after g s t exists) held))
 
-  old_dates-after : (u k : ℕ) → u < stations g → k < length (log s u) → get_or (log (after g s t) u) k 0 ≡ due_date g (after g s t) u (k + 1)
+  old_dates-after : (u k : ℕ) → u < stations g → k < length (log s u) → get_or (log (after g s t) u) k 0 ≡ due_date g (after g s t).logs u (k + 1)
   old_dates-after u k there early =
       let held : HasHeld g s u k =
       λ a listed ends. omega (arith, early, c.tokens_suffice a listed, ap (λ v. length (log s v)) ends) in
@@ -183,7 +183,7 @@ module _ (g : Parts) (s : State) (t : ℕ) (c : IsConsistent g s) (can : CanFire
       ∙ due_date-by_tokens g s u k held
       ∙ due-after u k held
 
-  last_date-after : (k : ℕ) → k ≡ length (log s t) → get_or (log (after g s t) t) k 0 ≡ due_date g (after g s t) t (k + 1)
+  last_date-after : (k : ℕ) → k ≡ length (log s t) → get_or (log (after g s t) t) k 0 ≡ due_date g (after g s t).logs t (k + 1)
   last_date-after k last =
       let held : HasHeld g s t k = λ a listed ends. omega (arith, held_now a listed ends, last) in
       ap (λ l. get_or l k 0) (log-after g s t exists t ∙ cond-true (eqb t t) _ _ (eq-eqb t t refl))
@@ -192,9 +192,9 @@ module _ (g : Parts) (s : State) (t : ℕ) (c : IsConsistent g s) (can : CanFire
       ∙ ap (date_by_tokens g s t) (sym last)
       ∙ due-after t k held
 
-  dates_are_due-after : (u k : ℕ) → u < stations g → k < length (log (after g s t) u) → get_or (log (after g s t) u) k 0 ≡ due_date g (after g s t) u (k + 1)
+  dates_are_due-after : (u k : ℕ) → u < stations g → k < length (log (after g s t) u) → get_or (log (after g s t) u) k 0 ≡ due_date g (after g s t).logs u (k + 1)
   dates_are_due-after u k there low =
-      let IsDue : ℕ → Type 0 = λ v. get_or (log (after g s t) v) k 0 ≡ due_date g (after g s t) v (k + 1) in
+      let IsDue : ℕ → Type 0 = λ v. get_or (log (after g s t) v) k 0 ≡ due_date g (after g s t).logs v (k + 1) in
       let late : length (log s u) ≤ k → IsDue u =
       λ past.
       let same : u ≡ t =

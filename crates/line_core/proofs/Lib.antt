@@ -4,3 +4,5 @@ pub mod Consistency
 pub mod Solution
 pub mod Bounds
 pub mod Circuits
+pub mod Order
+pub mod Progress

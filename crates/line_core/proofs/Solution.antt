@@ -34,14 +34,14 @@ date-with_new P false xs x k low old new = old low
 
 module _ (g : Parts) (y : Table) (graph : IsGraph g) (solves : Solves g y) where
   -- where the state is nowhere later, neither are the tokens that its arcs have held
-  token-le : (s : State) → IsNowhereLater g s y → (a k : ℕ) → a < arc_count g → k < length (all_tokens g s a) → get_or (all_tokens g s a) k 0 ≤ token_date g y a (k + 1)
+  token-le : (s : State) → IsNowhereLater g s y → (a k : ℕ) → a < arc_count g → k < length (all_tokens g s.logs a) → get_or (all_tokens g s.logs a) k 0 ≤ token_date g y a (k + 1)
   token-le s early a k there low =
       let tokens = (arc g a).tokens in
       let from = (arc g a).from in
       let token = token_date-next g s a k low in
-      let at_start : k < tokens → get_or (all_tokens g s a) k 0 ≤ token_date g y a (k + 1) =
+      let at_start : k < tokens → get_or (all_tokens g s.logs a) k 0 ≤ token_date g y a (k + 1) =
       λ first. omega (arith, token, cond-false (ltb tokens (k + 1)) (date_in s.logs from (k + 1 - tokens) + delay g a) 0 (le-ltb tokens (k + 1) (omega arith))) in
-      let put : tokens ≤ k → get_or (all_tokens g s a) k 0 ≤ token_date g y a (k + 1) =
+      let put : tokens ≤ k → get_or (all_tokens g s.logs a) k 0 ≤ token_date g y a (k + 1) =
       λ later.
       let j = k - tokens in
       let number : k + 1 - tokens ≡ suc j = omega (arith, add-one j) in
@@ -78,7 +78,7 @@ module _ (g : Parts) (y : Table) (graph : IsGraph g) (solves : Solves g y) where
       date-with_new (λ date. date ≤ y u (k + 1)) (eqb u t) (log old u) (new_date g old t) k (subst (λ l. k < length l) fired low) (before u k there) new)
 
 -- the date that the equations give to a station other than the feed is the greatest of its terms
-pub due_date-other : (g : Parts) (s : State) (t n : ℕ) → t ≢ 0 → due_date g s t n ≡ greatest (λ a. term g (date_in s.logs) a n) (ins g t)
+pub due_date-other : (g : Parts) (s : State) (t n : ℕ) → t ≢ 0 → due_date g s.logs t n ≡ greatest (λ a. term g (date_in s.logs) a n) (ins g t)
 unfolding due_date
 due_date-other g s t n other = cond-false (eqb t 0) _ _ (ne_eqb t 0 other)
 

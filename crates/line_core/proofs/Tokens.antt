@@ -48,7 +48,7 @@ unfolding after
 log-after g s t there u = log-set s.logs t (new_date g s t) u there
 
 -- each arc out of a station that gains a date has held one more token
-pub all_tokens-gain : (g : Parts) (old new : State) (t date a : ℕ) → LogGains old new t date → all_tokens g new a ≡ with_new (eqb (arc g a).from t) (all_tokens g old a) (date + delay g a)
+pub all_tokens-gain : (g : Parts) (old new : State) (t date a : ℕ) → LogGains old new t date → all_tokens g new.logs a ≡ with_new (eqb (arc g a).from t) (all_tokens g old.logs a) (date + delay g a)
 unfolding all_tokens
 all_tokens-gain g old new t date a gain =
     let first = replicate (arc g a).tokens 0 in
@@ -61,18 +61,18 @@ all_tokens-gain g old new t date a gain =
         | false ↦ refl ] in
     ap (λ l. first ++ map later l) (gain (arc g a).from) ∙ put (eqb (arc g a).from t)
 
-pub all_tokens-after : (g : Parts) (s : State) (t a : ℕ) → t < length s.logs → all_tokens g (after g s t) a ≡ with_new (eqb (arc g a).from t) (all_tokens g s a) (new_date g s t + delay g a)
+pub all_tokens-after : (g : Parts) (s : State) (t a : ℕ) → t < length s.logs → all_tokens g (after g s t).logs a ≡ with_new (eqb (arc g a).from t) (all_tokens g s.logs a) (new_date g s t + delay g a)
 all_tokens-after g s t a there =
     all_tokens-gain g s (after g s t) t (new_date g s t) a (log-after g s t there)
 
-pub length-all_tokens : (g : Parts) (s : State) (a : ℕ) → length (all_tokens g s a) ≡ (arc g a).tokens + length (log s (arc g a).from)
+pub length-all_tokens : (g : Parts) (s : State) (a : ℕ) → length (all_tokens g s.logs a) ≡ (arc g a).tokens + length (log s (arc g a).from)
 unfolding all_tokens
 length-all_tokens g s a =
     let later = λ (date : ℕ). date + delay g a in
     omega (arith, length-append (replicate (arc g a).tokens 0) (map later (log s (arc g a).from)), length-replicate {A = ℕ} (arc g a).tokens 0, length-map (log s (arc g a).from) later)
 
 -- job k + 1 takes token k of an arc, counted from 0
-pub token_date-next : (g : Parts) (s : State) (a k : ℕ) → k < length (all_tokens g s a) → token_date g (date_in s.logs) a (k + 1) ≡ get_or (all_tokens g s a) k 0
+pub token_date-next : (g : Parts) (s : State) (a k : ℕ) → k < length (all_tokens g s.logs a) → token_date g (date_in s.logs) a (k + 1) ≡ get_or (all_tokens g s.logs a) k 0
 unfolding all_tokens
 token_date-next g s a k low =
     let tokens = (arc g a).tokens in
