@@ -88,16 +88,16 @@ pub by_tokens-gain : (g : Parts) (old new : State) (t date u k : ℕ) → LogGai
 unfolding date_by_tokens
 by_tokens-gain g old new t date u k gain held =
     ap (λ n. cond (eqb u 0) (demand g (k + 1)) n) (
-      greatest-same
-        (asked g new k)
-        (asked g old k)
-        (ins g u)
-        (λ i d low.
-          let a = get_or (ins g u) i d in
-          let at = All-ins g u i d low in
-          ap (λ n. work g a (k + 1) + n) (
-            ap (λ l. get_or l k 0) (all_tokens-gain g old new t date a gain)
-            ∙ get_or-with_new (eqb (arc g a).from t) (all_tokens g old.logs a) (date + delay g a) k (held a at.0 at.1))))
+    greatest-same
+    (asked g new k)
+    (asked g old k)
+    (ins g u)
+    (λ i d low.
+    let a = get_or (ins g u) i d in
+    let at = All-ins g u i d low in
+    ap (λ n. work g a (k + 1) + n) (
+    ap (λ l. get_or l k 0) (all_tokens-gain g old new t date a gain)
+    ∙ get_or-with_new (eqb (arc g a).from t) (all_tokens g old.logs a) (date + delay g a) k (held a at.0 at.1))))
 
 pub HasHeld-gain : (g : Parts) (old new : State) (t date u k : ℕ) → LogGains old new t date → HasHeld g old u k → HasHeld g new u k
 HasHeld-gain g old new t date u k gain held a listed ends =

@@ -6,3 +6,4 @@ pub mod Bounds
 pub mod Circuits
 pub mod Order
 pub mod Progress
+pub mod Unwinding

@@ -31,15 +31,15 @@ pub log-set : (logs : List (List ℕ)) (t date u : ℕ) → t < length logs → 
 log-set logs t date u there =
     let added = get_or logs t [] ++ date ∷ [] in
     let at_t : u ≡ t → get_or (set logs t added) u [] ≡ with_new (eqb u t) (get_or logs u []) date =
-      λ same.
-        ap (λ v. get_or (set logs t added) v []) same
-        ∙ get_or-set_same logs t added [] there
-        ∙ ap (λ v. get_or logs v [] ++ date ∷ []) (sym same)
-        ∙ ap (λ b. with_new b (get_or logs u []) date) (sym (eq-eqb u t same)) in
+    λ same.
+    ap (λ v. get_or (set logs t added) v []) same
+    ∙ get_or-set_same logs t added [] there
+    ∙ ap (λ v. get_or logs v [] ++ date ∷ []) (sym same)
+    ∙ ap (λ b. with_new b (get_or logs u []) date) (sym (eq-eqb u t same)) in
     let elsewhere : u ≢ t → get_or (set logs t added) u [] ≡ with_new (eqb u t) (get_or logs u []) date =
-      λ other.
-        get_or-set_other logs t u added [] other
-        ∙ ap (λ b. with_new b (get_or logs u []) date) (sym (ne_eqb u t other)) in
+    λ other.
+    get_or-set_other logs t u added [] other
+    ∙ ap (λ b. with_new b (get_or logs u []) date) (sym (ne_eqb u t other)) in
     ⊎_elim at_t elsewhere (cases_eq u t)
 
 -- the station that fires gains the new date
@@ -55,10 +55,11 @@ all_tokens-gain g old new t date a gain =
     let later = λ (n : ℕ). n + delay g a in
     let dates = log old (arc g a).from in
     let put : (gains : Bool) → first ++ map later (with_new gains dates date) ≡ with_new gains (first ++ map later dates) (later date) =
-      λ gains.
-        elim gains as (λ b. first ++ map later (with_new b dates date) ≡ with_new b (first ++ map later dates) (later date)) [
-          true ↦ ap (λ l. first ++ l) (map_push later dates date) ∙ sym (append_assoc first (map later dates) (later date ∷ []))
-        | false ↦ refl ] in
+    λ gains.
+    elim gains as (λ b. first ++ map later (with_new b dates date) ≡ with_new b (first ++ map later dates) (later date)) [
+      | true ↦ ap (λ l. first ++ l) (map_push later dates date) ∙ sym (append_assoc first (map later dates) (later date ∷ []))
+      | false ↦ refl
+    ] in
     ap (λ l. first ++ map later l) (gain (arc g a).from) ∙ put (eqb (arc g a).from t)
 
 pub all_tokens-after : (g : Parts) (s : State) (t a : ℕ) → t < length s.logs → all_tokens g (after g s t).logs a ≡ with_new (eqb (arc g a).from t) (all_tokens g s.logs a) (new_date g s t + delay g a)
