@@ -1,0 +1,40 @@
+ghost use Rattle.std.specs.Prelude.{◌≡◌, ◌<◌, [], ◌∷◌, ◌++◌, length};
+
+use crate::Date;
+use rtrb::Producer;
+use std::marker::Model;
+
+/// The end of a queue at which tokens are put. It may move to another thread.
+#[derive(Drop)]
+pub struct Put {
+    pub(crate) producer: Producer<Date>,
+    // How many tokens the queue began with.
+    pub(crate) initial: usize,
+}
+
+impl Model for Put {
+    ghost use Rattle.std.specs.Prelude.{◌-◌, ◌≤◌, take, drop, length};
+    ghost use Rattle.rtrb.specs.Ring.{sent, producer_capacity};
+    ghost use Rattle.card_queue.specs.Queue.{PutEnd};
+
+    ghost Value = { PutEnd };
+
+    ghost view = { λ p. record {
+      initial = take p.initial (sent p.producer);
+      added = drop p.initial (sent p.producer);
+      room = producer_capacity p.producer - p.initial;
+      ring = record { words = p.producer.end.words; slots = p.producer.end.slots; names = p.producer.end.names };
+    } };
+
+    ghost invariant = { λ p. p.initial ≤ length (sent p.producer) };
+}
+
+impl Put {
+    /// Puts a token behind all others.
+    pub fn put(&mut self, date: Date)
+        requires { length self.old.added < self.old.room }
+        ensures { self.new ≡ record self.old { added = self.old.added ++ date ∷ [] } }
+    {
+        self.producer.push_reserved(date);
+    }
+}
