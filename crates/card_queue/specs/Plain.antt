@@ -1,7 +1,7 @@
 -- What contracts see of a queue inside one worker.
 use Rattle.std.specs.Prelude.{ℕ, List, ◌++◌, take, drop}
 
--- a queue that is put and taken by one owner
+-- a queue that one worker both puts into and takes from
 pub record PlainQueue : Type 0 where
   pub initial : List ℕ  -- the tokens that the queue began with
   pub added : List ℕ  -- the tokens that were put since, oldest first
@@ -12,10 +12,10 @@ pub record PlainQueue : Type 0 where
 abbrev pub plain_tokens : PlainQueue → List ℕ
 plain_tokens queue = queue.initial ++ queue.added
 
--- the tokens that were taken: the first that were put
+-- the tokens that were taken: the first of those that were put
 abbrev pub plain_taken : PlainQueue → List ℕ
 plain_taken queue = take queue.takes (plain_tokens queue)
 
--- the tokens that wait to be taken, oldest first
+-- the tokens that wait to be taken, oldest first: the rest of those that were put
 abbrev pub plain_waiting : PlainQueue → List ℕ
 plain_waiting queue = drop queue.takes (plain_tokens queue)

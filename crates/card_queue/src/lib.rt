@@ -1,4 +1,5 @@
-//! Queues of dated tokens: one ring with an end to put and an end to take, and a plain queue inside one worker.
+//! Queues of dated tokens, first in, first out. A queue between two workers is one ring, with an end to put and an end to
+//! take, each of which may move to a thread of its own. A plain queue stays with one worker.
 #![tactic(auto)]
 
 ghost use Rattle.std.specs.Prelude.{◌≡◌, ◌+◌, ◌<◌, ◌^◌, [], length, IfOk};
@@ -9,15 +10,15 @@ mod plain;
 mod put;
 mod take;
 
+use line_base::Date;
 pub use plain::Plain;
 pub use put::Put;
 use rtrb::RingBuffer;
 use std::alloc::{AllocError, Global};
 pub use take::Take;
 
-pub type Date = u64;
-
-/// A queue that has put the initial tokens, taken none and knows all of them. `put` may be called `room` times on it.
+/// Makes a queue that has put the initial tokens, taken none and knows all of them. `put` may be called `room` times on it.
+/// Fails only for want of memory.
 pub fn queue(alloc: Global, initial: &[Date], room: u32) -> Result<(Put, Take), AllocError>
     requires { length initial.now + room < 2 ^ 32 }
     ensures ends { IfOk result (λ ends. IsQueue ends.0 ends.1) }
@@ -29,6 +30,7 @@ pub fn queue(alloc: Global, initial: &[Date], room: u32) -> Result<(Put, Take), 
 {
     let capacity = initial.len() + room as usize;
     let (mut producer, mut consumer) = RingBuffer::new(alloc, capacity)?;
+    // There is room for all of them.
     let _ = producer.push_entire_slice(initial);
     consumer.slots_beside(&mut producer);
     let put = Put {
@@ -38,8 +40,8 @@ pub fn queue(alloc: Global, initial: &[Date], room: u32) -> Result<(Put, Take), 
     Ok((put, Take { consumer }))
 }
 
-/// Brings the two ends of a queue together on one thread: what was taken is then a prefix of what was put, and `known`
-/// counts all the rest.
+/// Brings the two ends of one queue together on one thread. What was taken is then a prefix of what was put, the initial
+/// tokens first, and all the rest is known.
 pub fn meet(put: &mut Put, take: &mut Take)
     requires { IsQueue put.old take.old }
     ensures put { put.new ≡ put.old }

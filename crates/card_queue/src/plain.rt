@@ -1,15 +1,16 @@
 ghost use Rattle.std.specs.Prelude.{◌≡◌, ◌+◌, ◌<◌, ◌^◌, ◌↔◌, [], ◌∷◌, ◌++◌, length, IfOk, IsNone, option_to_list};
 ghost use Rattle.card_queue.specs.Plain.{plain_tokens, plain_taken, plain_waiting};
 
-use crate::Date;
+use line_base::Date;
 use std::alloc::{AllocError, Global};
 use std::marker::Model;
 
-/// A queue inside one worker. It keeps every token that it was given, and the number of those taken.
+/// A queue inside one worker. It keeps every token that it was given, and the number of those taken, so at every moment
+/// the tokens that were taken are the first that were put.
 #[derive(Drop)]
 pub struct Plain {
     tokens: Vec<Date>,
-    // How many tokens the queue began with, and how many may be put.
+    // How many tokens the queue began with, and how many may be put. Contracts alone read these two.
     initial: usize,
     room: u32,
     takes: usize,
@@ -40,7 +41,7 @@ impl Model for Plain {
 }
 
 impl Plain {
-    /// A queue that holds the initial tokens. `put` may be called `room` times on it.
+    /// Makes a queue that holds the initial tokens. `put` may be called `room` times on it. Fails only for want of memory.
     pub fn new(alloc: Global, initial: &[Date], room: u32) -> Result<Plain, AllocError>
         requires { length initial.now + room < 2 ^ 32 }
         ensures initial { IfOk result (λ plain. plain.initial ≡ initial.now) }
@@ -58,7 +59,7 @@ impl Plain {
         })
     }
 
-    /// Puts a token behind all others.
+    /// Puts a token behind all others. It takes no memory, since `new` took room for it.
     pub fn put(&mut self, date: Date)
         requires { length self.old.added < self.old.room }
         ensures added { self.new ≡ record self.old { added = self.old.added ++ date ∷ [] } }
@@ -72,7 +73,8 @@ impl Plain {
         ensures front { plain_waiting self.old ≡ option_to_list result ++ plain_waiting self.new }
         ensures none { IsNone result ↔ (plain_waiting self.old ≡ []) }
         ensures taken { plain_taken self.new ≡ plain_taken self.old ++ option_to_list result }
-        ensures takes { self.new ≡ record self.old { takes = self.old.takes + length (option_to_list result) } }
+        ensures takes { self.new.takes ≡ self.old.takes + length (option_to_list result) }
+        ensures same { self.new ≡ record self.old { takes = self.new.takes } }
     {
         let token = self.tokens.get(self.takes).copied()?;
         self.takes += 1;

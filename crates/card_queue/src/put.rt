@@ -1,6 +1,6 @@
 ghost use Rattle.std.specs.Prelude.{◌≡◌, ◌<◌, [], ◌∷◌, ◌++◌, length};
 
-use crate::Date;
+use line_base::Date;
 use rtrb::Producer;
 use std::marker::Model;
 
@@ -8,14 +8,15 @@ use std::marker::Model;
 #[derive(Drop)]
 pub struct Put {
     pub(crate) producer: Producer<Date>,
-    // How many tokens the queue began with.
+    // How many tokens the queue began with. Contracts alone read it.
     pub(crate) initial: usize,
 }
 
 impl Model for Put {
     ghost use Rattle.std.specs.Prelude.{◌-◌, ◌≤◌, take, drop, length};
     ghost use Rattle.rtrb.specs.Ring.{sent, producer_capacity};
-    ghost use Rattle.card_queue.specs.Queue.{PutEnd};
+    ghost use Rattle.card_queue.specs.Ring.{ring_of_producer};
+    ghost use Rattle.card_queue.specs.Put.{PutEnd};
 
     ghost Value = { PutEnd };
 
@@ -23,14 +24,14 @@ impl Model for Put {
       initial = take p.initial (sent p.producer);
       added = drop p.initial (sent p.producer);
       room = producer_capacity p.producer - p.initial;
-      ring = record { words = p.producer.end.words; slots = p.producer.end.slots; names = p.producer.end.names };
+      ring = ring_of_producer p.producer;
     } };
 
     ghost invariant = { λ p. p.initial ≤ length (sent p.producer) };
 }
 
 impl Put {
-    /// Puts a token behind all others.
+    /// Puts a token behind all others. It takes no memory, since room was taken for it when the queue was made.
     pub fn put(&mut self, date: Date)
         requires { length self.old.added < self.old.room }
         ensures { self.new ≡ record self.old { added = self.old.added ++ date ∷ [] } }

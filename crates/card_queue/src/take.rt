@@ -1,7 +1,7 @@
 ghost use Rattle.std.specs.Prelude.{◌≡◌, [], ◌++◌, length, IfNone, option_to_list};
 ghost use mathlib.Core.List.{IsPrefix};
 
-use crate::Date;
+use line_base::Date;
 use rtrb::Consumer;
 use std::marker::Model;
 
@@ -14,21 +14,22 @@ pub struct Take {
 impl Model for Take {
     ghost use Rattle.std.specs.Prelude.{◌<◌, ◌^◌};
     ghost use Rattle.rtrb.specs.Ring.{received, known_items, consumer_capacity};
-    ghost use Rattle.card_queue.specs.Queue.{TakeEnd};
+    ghost use Rattle.card_queue.specs.Ring.{ring_of_consumer};
+    ghost use Rattle.card_queue.specs.Take.{TakeEnd};
 
     ghost Value = { TakeEnd };
 
     ghost view = { λ t. record {
       taken = received t.consumer;
       known = known_items t.consumer;
-      ring = record { words = t.consumer.end.words; slots = t.consumer.end.slots; names = t.consumer.end.names };
+      ring = ring_of_consumer t.consumer;
     } };
 
     ghost invariant = { λ t. consumer_capacity t.consumer < 2 ^ 32 };
 }
 
 impl Take {
-    /// Takes the next token in order of putting, or gives `None`, which comes only where none is known.
+    /// Takes the next token in order of putting. `None` comes only where no token is known, and then nothing changes.
     pub fn take(&mut self) -> Option<Date>
         ensures ring { self.new.ring ≡ self.old.ring }
         ensures taken { self.new.taken ≡ self.old.taken ++ option_to_list result }

@@ -1,4 +1,4 @@
-use Rattle.std.proofs.Common.{◌≡◌, ◌+◌, ◌≤◌, length}
+use Rattle.std.proofs.Common.{◌≡◌, ◌+◌, length}
 use Rattle.card_queue.proofs.tests.put_all.Given as goal
 
 abbrev pub invariant-loop-n : goal.invariant-loop-n
