@@ -10,5 +10,5 @@ pub record PutEnd : Type 0 where
   pub ring : Ring  -- the queue whose end this is
 
 -- every token of the queue in order of putting, the initial ones first
-abbrev pub tokens : PutEnd → List ℕ
-tokens put = put.initial ++ put.added
+abbrev pub put_tokens : PutEnd → List ℕ
+put_tokens put = put.initial ++ put.added

@@ -1,5 +1,5 @@
-//! Queues of dated tokens, first in, first out. A queue between two workers is one ring, with an end to put and an end to
-//! take, each of which may move to a thread of its own. A plain queue stays with one worker.
+//! Queues of dated tokens, first in, first out. A queue between two workers is one ring, with an end to put and an end
+//! to take, each of which may move to a thread of its own. A plain queue stays with one worker.
 #![tactic(auto)]
 
 ghost use Rattle.std.specs.Prelude.{◌≡◌, ◌+◌, ◌<◌, ◌^◌, [], length, IfOk};
@@ -17,8 +17,8 @@ use rtrb::RingBuffer;
 use std::alloc::{AllocError, Global};
 pub use take::Take;
 
-/// Makes a queue that has put the initial tokens, taken none and knows all of them. `put` may be called `room` times on it.
-/// Fails only for want of memory.
+/// Makes a queue that has put the initial tokens, taken none and knows all of them. `put` may be called `room` times on
+/// it. Fails only for want of memory.
 pub fn queue(alloc: Global, initial: &[Date], room: u32) -> Result<(Put, Take), AllocError>
     requires { length initial.now + room < 2 ^ 32 }
     ensures ends { IfOk result (λ ends. IsQueue ends.0 ends.1) }
@@ -40,8 +40,8 @@ pub fn queue(alloc: Global, initial: &[Date], room: u32) -> Result<(Put, Take), 
     Ok((put, Take { consumer }))
 }
 
-/// Brings the two ends of one queue together on one thread. What was taken is then a prefix of what was put, the initial
-/// tokens first, and all the rest is known.
+/// Brings the two ends of one queue together on one thread. What was taken is then a prefix of what was put, the
+/// initial tokens first, and all the rest is known.
 pub fn meet(put: &mut Put, take: &mut Take)
     requires { IsQueue put.old take.old }
     ensures put { put.new ≡ put.old }
