@@ -1,0 +1,49 @@
+ghost use Rattle.std.specs.Prelude.{◌≡◌, [], ◌++◌, length, IfNone, option_to_list};
+ghost use mathlib.Core.List.{IsPrefix};
+
+use line_base::Date;
+use rtrb::Consumer;
+use std::marker::Model;
+
+/// The end of a queue at which tokens are taken. It may move to another thread.
+#[derive(Drop)]
+pub struct Take {
+    pub(crate) consumer: Consumer<Date>,
+}
+
+impl Model for Take {
+    ghost use Rattle.std.specs.Prelude.{◌<◌, ◌^◌};
+    ghost use Rattle.rtrb.specs.Ring.{received, known_items, consumer_capacity};
+    ghost use Rattle.card_queue.specs.Ring.{ring_of_consumer};
+    ghost use Rattle.card_queue.specs.Take.{TakeEnd};
+
+    ghost Value = { TakeEnd };
+
+    ghost view = { λ t. record {
+      taken = received t.consumer;
+      known = known_items t.consumer;
+      ring = ring_of_consumer t.consumer;
+    } };
+
+    ghost invariant = { λ t. consumer_capacity t.consumer < 2 ^ 32 };
+}
+
+impl Take {
+    /// Takes the next token in order of putting. `None` comes only where no token is known, and then nothing changes.
+    pub fn take(&mut self) -> Option<Date>
+        ensures ring { self.new.ring ≡ self.old.ring }
+        ensures taken { self.new.taken ≡ self.old.taken ++ option_to_list result }
+        ensures next { IsPrefix self.old.known (option_to_list result ++ self.new.known) }
+        ensures none { IfNone result (self.old.known ≡ []) }
+        ensures unchanged { IfNone result (self.new ≡ self.old) }
+    {
+        self.consumer.pop().ok()
+    }
+
+    /// How many tokens are known to wait. The end that puts never lowers it.
+    pub fn known(&self) -> u32
+        ensures { result ≡ length self.now.known }
+    {
+        self.consumer.cached_slots() as u32
+    }
+}
