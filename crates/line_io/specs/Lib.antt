@@ -1,4 +1,5 @@
 pub mod Contents
 pub mod Faults
 pub mod Held
+pub mod Outgoing
 pub mod Written
