@@ -113,23 +113,29 @@ pushed_held tells written faults pending part failed = record {
   faults_stay_or_rise = omega arith;
 }
 
--- From here on the stream began with nothing waiting and no fault, and ended in `finish`, which answered r.
--- At `Ok` the whole text was written
-pub put_on_ok : {T E : Type 0} {tells : Bool} {a : Stream} {text : List ℕ} (new : List ℕ) (now : ℕ) (r : Result T E) → a.pending ≡ [] → a.failed ≡ false → Pushed tells a (record { written = new; faults = now; pending = []; failed = is_err r }) text → OnOk r (PutsAll tells a.written new text)
-put_on_ok {text = text} new now (Ok x) none well p = λ told.
-    let split : text ≡ p.sent ++ p.rest = ap (λ l. l ++ text) (sym none) ∙ p.split well in
-    let whole : text ≡ p.sent = split ∙ ap (λ l. p.sent ++ l) (sym (p.waits refl)) ∙ append-nil p.sent in
-    rw whole (p.puts told)
-put_on_ok new now (Err e) none well p = tt
+-- what waits is sent after a text
+pub pushed_then_none : {tells : Bool} {a b c : Stream} {text : List ℕ} → Pushed tells a b text → Pushed tells b c [] → Pushed tells a c text
+pushed_then_none {text = text} p q = rw append-nil at (pushed_after p q)
+
+-- From here on a stream began with nothing waiting and no fault, took a text, and ended by `finish`, which
+-- answered r. At `Ok` the whole text was written
+pub put_on_ok : {T E : Type 0} {tells : Bool} {a b : Stream} {text : List ℕ} (new : List ℕ) (now : ℕ) (r : Result T E) → a.pending ≡ [] → a.failed ≡ false → Pushed tells a b text → Pushed tells b (record { written = new; faults = now; pending = []; failed = is_err r }) [] → OnOk r (PutsAll tells a.written new text)
+put_on_ok {text = text} new now (Ok x) none well p q = λ told.
+    let end = pushed_then_none p q in
+    let split : text ≡ end.sent ++ end.rest = ap (λ l. l ++ text) (sym none) ∙ end.split well in
+    let whole : text ≡ end.sent = split ∙ ap (λ l. end.sent ++ l) (sym (end.waits refl)) ∙ append-nil end.sent in
+    rw whole (end.puts told)
+put_on_ok new now (Err e) none well p q = tt
 
 -- at `Err` a front of it
-pub front_on_err : {T E : Type 0} {tells : Bool} {a : Stream} {text : List ℕ} (new : List ℕ) (now : ℕ) (r : Result T E) → a.pending ≡ [] → a.failed ≡ false → Pushed tells a (record { written = new; faults = now; pending = []; failed = is_err r }) text → OnErr r (PutsFront tells a.written new text)
-front_on_err new now (Ok x) none well p = tt
-front_on_err {text = text} new now (Err e) none well p =
-    let split : text ≡ p.sent ++ p.rest = ap (λ l. l ++ text) (sym none) ∙ p.split well in
-    (p.sent, p.rest, split, p.puts)
+pub front_on_err : {T E : Type 0} {tells : Bool} {a b : Stream} {text : List ℕ} (new : List ℕ) (now : ℕ) (r : Result T E) → a.pending ≡ [] → a.failed ≡ false → Pushed tells a b text → Pushed tells b (record { written = new; faults = now; pending = []; failed = is_err r }) [] → OnErr r (PutsFront tells a.written new text)
+front_on_err new now (Ok x) none well p q = tt
+front_on_err {text = text} new now (Err e) none well p q =
+    let end = pushed_then_none p q in
+    let split : text ≡ end.sent ++ end.rest = ap (λ l. l ++ text) (sym none) ∙ end.split well in
+    (end.sent, end.rest, split, end.puts)
 
 -- and the sink's count of faults rose
-pub cause_on_err : {T E : Type 0} {tells : Bool} {a : Stream} {text : List ℕ} (new : List ℕ) (now : ℕ) (r : Result T E) → a.failed ≡ false → Pushed tells a (record { written = new; faults = now; pending = []; failed = is_err r }) text → OnErr r (Rose a.faults now)
-cause_on_err new now (Ok x) well p = tt
-cause_on_err new now (Err e) well p = p.cause well refl
+pub cause_on_err : {T E : Type 0} {tells : Bool} {a b : Stream} {text : List ℕ} (new : List ℕ) (now : ℕ) (r : Result T E) → a.failed ≡ false → Pushed tells a b text → Pushed tells b (record { written = new; faults = now; pending = []; failed = is_err r }) [] → OnErr r (Rose a.faults now)
+cause_on_err new now (Ok x) well p q = tt
+cause_on_err new now (Err e) well p q = (pushed_then_none p q).cause well refl

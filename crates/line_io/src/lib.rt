@@ -10,6 +10,8 @@ mod pieces;
 mod sink;
 mod std_sink;
 mod store;
+#[cfg(test)]
+mod tests;
 
 pub use file_store::FileStore;
 pub use mem_sink::MemSink;

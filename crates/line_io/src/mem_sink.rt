@@ -62,7 +62,10 @@ impl MemSink {
 }
 
 impl Sink for MemSink {
-    ghost use Rattle.std.specs.Prelude.{true};
+    ghost use Rattle.std.specs.Prelude.{true, ◌<◌, ◌↔◌, ◌⊎◌, take, IsErr, OnOk, OnErr};
+    ghost use Rattle.line_io.specs.Written.{PutsAll, PutsFront};
+    ghost use Rattle.line_io.specs.Faults.{Rose};
+    ghost use Rattle.line_io.specs.MemSink.{IsDue, kept_of};
 
     ghost tells = { true };
 
@@ -70,7 +73,14 @@ impl Sink for MemSink {
 
     ghost faults = { λ sink. sink.faults };
 
-    fn put(&mut self, piece: &[u8]) -> Result<(), Failed> {
+    fn put(&mut self, piece: &[u8]) -> Result<(), Failed>
+        ensures refused { IsErr result ↔ (IsDue self.old.plan ⊎ (self.old.room < length self.old.bytes.items + length piece.now)) }
+        ensures kept { OnErr result (self.new.bytes.items ≡ self.old.bytes.items ++ take (kept_of self.old piece.now) piece.now) }
+        ensures appended { OnOk result (PutsAll true self.old.bytes.items self.new.bytes.items piece.now) }
+        ensures front { OnErr result (PutsFront true self.old.bytes.items self.new.bytes.items piece.now) }
+        ensures cause { OnErr result (Rose self.old.faults self.new.faults) }
+        ensures faults_stay_or_rise { self.old.faults ≤ self.new.faults }
+    {
         let is_due = self.plan.next();
         let left = self.room as usize - self.bytes.len();
         if !is_due && piece.len() <= left {

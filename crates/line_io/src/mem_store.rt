@@ -1,4 +1,4 @@
-ghost use Rattle.std.specs.Prelude.{◌≡◌, ◌≢◌, ◌+◌, ◌≤◌, ◌<◌, ◌↔◌, List, ℕ, Some, None, length, vec_len, vec_capacity, IfOk, OnOk, OnErr, IsErrOf};
+ghost use Rattle.std.specs.Prelude.{◌≡◌, ◌≢◌, ◌+◌, ◌≤◌, ◌<◌, ◌↔◌, List, ℕ, Some, None, length, IfOk, OnOk, OnErr, IsErrOf, option_map, if◌then◌else◌};
 ghost use Rattle.line_io.specs.Held.{contents, times_noted};
 ghost use Rattle.line_io.specs.Faults.{NeverFall};
 
@@ -102,6 +102,16 @@ impl MemStore {
     }
 }
 
+// A file that is there, unless the call is to fail.
+fn readable<'a>(files: &'a Files, name: &str, is_due: bool) -> Option<&'a Vec<u8>>
+    ensures { option_map (λ v. v.now.items) result ≡ (if is_due then None else contents files.now name.now) }
+{
+    if is_due {
+        return None;
+    }
+    files.get(name)
+}
+
 // The bytes of a file that is at most that long, and how many were taken of it.
 fn copy_to_limit(
     alloc: Global,
@@ -142,9 +152,9 @@ impl Store for MemStore {
     fn read(&mut self, alloc: Global, name: &str, limit: u64) -> Result<Vec<u8>, StoreError> {
         self.taken = 0;
         let is_due = self.plan.next();
-        match self.files.get(name) {
-            Some(bytes) if !is_due => copy_to_limit(alloc, bytes, limit, &mut self.taken),
-            _ => {
+        match readable(&self.files, name, is_due) {
+            Some(bytes) => copy_to_limit(alloc, bytes, limit, &mut self.taken),
+            None => {
                 note(self.alloc, &mut self.failed_reads, name)?;
                 Err(StoreError::Failed)
             }
