@@ -15,7 +15,8 @@ OthersStay tells old new name = IsTrue tells → (q : List ℕ) → q ≢ name �
 
 -- a file that a write of these bytes broke off: as it was, or a front of them, which may be all
 abbrev pub IsTorn : Option (List ℕ) → Option (List ℕ) → List ℕ → Type 0
-IsTorn old new bytes = (new ≡ old) ⊎ ((front rest : List ℕ) × (bytes ≡ front ++ rest) × (new ≡ Some front))
+IsTorn old new bytes =
+    (new ≡ old) ⊎ ((front rest : List ℕ) × (bytes ≡ front ++ rest) × (new ≡ Some front))
 
 -- the file is there and has more bytes than that
 abbrev pub IsLongerThan : ℕ → Option (List ℕ) → Type 0

@@ -1,5 +1,5 @@
 -- When a sink in memory refuses a piece, and what it keeps of it.
-use Rattle.std.specs.Prelude.{ℕ, ◌+◌, ◌-◌, ◌^◌, min, List, length, Contains}
+use Rattle.std.specs.Prelude.{ℕ, ◌+◌, ◌-◌, ◌^◌, min, List, length, take, Contains}
 use Rattle.line_io.specs.declared.fail_plan.FailPlan.{FailPlan}
 use Rattle.line_io.specs.declared.mem_sink.MemSink.{MemSink}
 
@@ -7,6 +7,10 @@ use Rattle.line_io.specs.declared.mem_sink.MemSink.{MemSink}
 abbrev pub IsDue : FailPlan → Type 0
 IsDue plan = Contains plan.failing.items (min (plan.calls + 1) (2 ^ 64 - 1))
 
--- of a piece that is refused: no more than it has, than is to be kept, and than there is room for
-abbrev pub kept_of : MemSink → List ℕ → ℕ
-kept_of sink piece = min (min sink.keep (length piece)) (sink.room - length sink.bytes.items)
+-- how many bytes still fit
+abbrev pub room_left : MemSink → ℕ
+room_left sink = sink.room - length sink.bytes.items
+
+-- the front of a refused piece that is kept
+abbrev pub kept_of : MemSink → List ℕ → List ℕ
+kept_of sink piece = take (min sink.keep (room_left sink)) piece

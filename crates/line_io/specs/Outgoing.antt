@@ -1,4 +1,4 @@
--- What a sink and the buffer before it did with the bytes that they were given, for callers of `Outgoing`.
+-- What a sink and the buffer before it did with the bytes that they got, for callers of `Outgoing`.
 use Rattle.std.specs.Prelude.{◌≡◌, ℕ, ◌≤◌, List, [], ◌++◌, Bool, true, false}
 use Rattle.line_io.specs.Written.{PutsAll}
 use Rattle.line_io.specs.Faults.{Rose}
@@ -24,8 +24,8 @@ stream written faults sink out =
 abbrev pub emptied : Bool → Pending
 emptied failed = record { bytes = []; failed = failed }
 
--- Bytes were given to a stream. A front of what waited and of them was sent, and the rest waits, until
--- the sink fails; from then on nothing more is sent.
+-- Bytes were given to a stream. A front of what waited and of them was sent, and the rest waits,
+-- until the sink fails; from then on nothing more is sent.
 pub record Pushed (tells : Bool) (old new : Stream) (bytes : List ℕ) : Type 0 where
   pub sent : List ℕ
   pub rest : List ℕ

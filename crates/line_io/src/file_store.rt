@@ -10,8 +10,8 @@ use std::{fs, io};
 /// The most bytes that one turn of reading asks for.
 const MAX_TURN: usize = 16_384;
 
-/// The files of the machine, by their paths from the folder in which the program runs. What they hold
-/// is not told, and one count of faults serves every name and both kinds of call.
+/// The files of the machine, by their paths from the folder in which the program runs. What they
+/// hold is not told, and one count of faults serves every name and both kinds of call.
 #[derive(Drop)]
 pub struct FileStore<R: Files + Drop> {
     rt: R,

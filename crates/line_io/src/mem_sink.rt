@@ -27,9 +27,9 @@ fn append(bytes: &mut Vec<u8>, piece: &[u8])
 }
 
 impl MemSink {
-    /// An empty sink for `room` bytes. The calls whose numbers, from 1, are in `failing` fail, and so
-    /// does a piece that does not fit. A failing call keeps the first `keep` bytes of its piece, as far
-    /// as they fit.
+    /// An empty sink for `room` bytes. The calls whose numbers, from 1, are in `failing` fail, and
+    /// so does a piece that does not fit. A failing call keeps the first `keep` bytes of its piece,
+    /// as far as they fit.
     pub fn new(
         alloc: Global,
         room: u32,
@@ -62,10 +62,10 @@ impl MemSink {
 }
 
 impl Sink for MemSink {
-    ghost use Rattle.std.specs.Prelude.{true, ◌<◌, ◌↔◌, ◌⊎◌, take, IsErr, OnOk, OnErr};
+    ghost use Rattle.std.specs.Prelude.{true, ◌<◌, ◌↔◌, ◌⊎◌, IsErr, OnOk, OnErr};
     ghost use Rattle.line_io.specs.Written.{PutsAll, PutsFront};
     ghost use Rattle.line_io.specs.Faults.{Rose};
-    ghost use Rattle.line_io.specs.MemSink.{IsDue, kept_of};
+    ghost use Rattle.line_io.specs.MemSink.{IsDue, room_left, kept_of};
 
     ghost tells = { true };
 
@@ -74,8 +74,9 @@ impl Sink for MemSink {
     ghost faults = { λ sink. sink.faults };
 
     fn put(&mut self, piece: &[u8]) -> Result<(), Failed>
-        ensures refused { IsErr result ↔ (IsDue self.old.plan ⊎ (self.old.room < length self.old.bytes.items + length piece.now)) }
-        ensures kept { OnErr result (self.new.bytes.items ≡ self.old.bytes.items ++ take (kept_of self.old piece.now) piece.now) }
+        ensures refused { IsErr result ↔ (IsDue self.old.plan ⊎ (room_left self.old < length piece.now)) }
+        ensures kept { OnErr result (self.new.bytes.items
+            ≡ self.old.bytes.items ++ kept_of self.old piece.now) }
         ensures appended { OnOk result (PutsAll true self.old.bytes.items self.new.bytes.items piece.now) }
         ensures front { OnErr result (PutsFront true self.old.bytes.items self.new.bytes.items piece.now) }
         ensures cause { OnErr result (Rose self.old.faults self.new.faults) }

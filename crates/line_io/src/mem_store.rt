@@ -1,5 +1,7 @@
-ghost use Rattle.std.specs.Prelude.{◌≡◌, ◌≢◌, ◌+◌, ◌≤◌, ◌<◌, ◌↔◌, List, ℕ, Some, None, length, IfOk, OnOk, OnErr, IsErrOf, option_map, if◌then◌else◌};
-ghost use Rattle.line_io.specs.Held.{contents, times_noted};
+ghost use Rattle.std.specs.Prelude.{◌≡◌, ◌≢◌, ◌+◌, ◌≤◌, ◌<◌, ◌↔◌, List, ℕ, Some, None, length, IfOk, OnOk, OnErr, IsErrOf, option_map, true};
+ghost use Rattle.std.specs.Bool.{OnTrue, OnFalse};
+ghost use Rattle.line_io.specs.Contents.{SameFiles, OthersStay};
+ghost use Rattle.line_io.specs.Held.{contents, times_noted, NotesOnce};
 ghost use Rattle.line_io.specs.Faults.{NeverFall};
 
 use crate::fail_plan::FailPlan;
@@ -23,7 +25,7 @@ pub struct MemStore {
     taken: u64,
 }
 
-// A store in which a failing write leaves that many bytes, or where none is given the file as it was.
+// A store in which a failing write leaves that many bytes, or with none given the file as it was.
 fn make(alloc: Global, files: Files, failing: Vec<u32>, keep: Option<u32>) -> MemStore
     ensures files { result.files ≡ files }
     ensures failing { result.plan.failing.items ≡ failing.items }
@@ -47,8 +49,8 @@ fn make(alloc: Global, files: Files, failing: Vec<u32>, keep: Option<u32>) -> Me
 // Gives a file these bytes.
 fn set_file(alloc: Global, files: &mut Files, name: &str, bytes: &[u8]) -> Result<(), AllocError>
     ensures written { OnOk result (contents files.new name.now ≡ Some bytes.now) }
-    ensures others_stay { (q : List ℕ) → q ≢ name.now → contents files.new q ≡ contents files.old q }
-    ensures no_memory { OnErr result ((q : List ℕ) → contents files.new q ≡ contents files.old q) }
+    ensures others_stay { OthersStay true (contents files.old) (contents files.new) name.now }
+    ensures no_memory { OnErr result (SameFiles true (contents files.old) (contents files.new)) }
 {
     let copy = bytes.to_vec(alloc)?;
     let _ = files.insert(String::from_str(alloc, name)?, copy)?;
@@ -57,8 +59,7 @@ fn set_file(alloc: Global, files: &mut Files, name: &str, bytes: &[u8]) -> Resul
 
 // Notes a fault at this name.
 fn note(alloc: Global, faults: &mut Vec<String>, name: &str) -> Result<(), AllocError>
-    ensures noted { OnOk result (times_noted faults.new name.now ≡ times_noted faults.old name.now + 1) }
-    ensures others_stay { (q : List ℕ) → q ≢ name.now → times_noted faults.new q ≡ times_noted faults.old q }
+    ensures noted { OnOk result (NotesOnce faults.old faults.new name.now) }
     ensures stays_or_rises { NeverFall (times_noted faults.old) (times_noted faults.new) }
     ensures no_memory { OnErr result (faults.new.items ≡ faults.old.items) }
 {
@@ -67,7 +68,8 @@ fn note(alloc: Global, faults: &mut Vec<String>, name: &str) -> Result<(), Alloc
 }
 
 impl MemStore {
-    /// A store of these files. The calls whose numbers, from 1, are in `failing` fail and change nothing.
+    /// A store of these files. The calls whose numbers, from 1, are in `failing` fail and change
+    /// nothing.
     pub fn new(alloc: Global, files: Files, failing: Vec<u32>) -> MemStore
         ensures files { result.files ≡ files }
         ensures failing { result.plan.failing.items ≡ failing.items }
@@ -80,8 +82,8 @@ impl MemStore {
         make(alloc, files, failing, None)
     }
 
-    /// The same, but that a write which is to fail leaves the first `keep` bytes of those that it was
-    /// given.
+    /// The same, but that a write which is to fail leaves the first `keep` bytes of those that it
+    /// was given.
     pub fn torn(alloc: Global, files: Files, failing: Vec<u32>, keep: u32) -> MemStore
         ensures files { result.files ≡ files }
         ensures failing { result.plan.failing.items ≡ failing.items }
@@ -104,7 +106,8 @@ impl MemStore {
 
 // A file that is there, unless the call is to fail.
 fn readable<'a>(files: &'a Files, name: &str, is_due: bool) -> Option<&'a Vec<u8>>
-    ensures { option_map (λ v. v.now.items) result ≡ (if is_due then None else contents files.now name.now) }
+    ensures due { OnTrue is_due (result ≡ None) }
+    ensures else_told { OnFalse is_due (option_map (λ v. v.now.items) result ≡ contents files.now name.now) }
 {
     if is_due {
         return None;

@@ -6,8 +6,9 @@ use crate::sink::{Failed, MAX_PIECE, Sink};
 use std::alloc::{AllocError, Global};
 use std::marker::Model;
 
-/// A buffer of one piece before a sink, for a text that is written part by part. Bytes wait in it until
-/// a piece is full. Once the sink has failed all that follows is dropped, and `finish` tells it.
+/// A buffer of one piece before a sink, for a text that is written part by part. Bytes wait in it
+/// until a piece is full. Once the sink has failed all that follows is dropped, and `finish` tells
+/// it.
 #[derive(Drop)]
 pub struct Outgoing {
     pending: Vec<u8>,

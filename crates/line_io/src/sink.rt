@@ -14,8 +14,8 @@ pub struct Failed;
 
 /// Where bytes go that are printed, one piece after another.
 pub trait Sink {
-    /// Whether what was written is told. Over standard output it isn't, and clauses on the bytes then
-    /// say nothing.
+    /// Whether what was written is told. Over standard output it isn't, and clauses on the bytes
+    /// then say nothing.
     ghost tells: { Bool };
 
     /// All that was written.

@@ -60,20 +60,26 @@ pub trait Store {
         ensures within_limit { IfOk result (λ v. length v.items ≤ limit) }
         ensures took_them { IfOk result (λ v. taken self.new ≡ length v.items) }
         ensures too_long { IsErrOf result StoreError.TooLong ↔ (limit < taken self.new) }
-        ensures longer { IsErrOf result StoreError.TooLong → IsTrue tells → IsLongerThan limit (files self.old name.now) }
-        ensures cause { IsErrOf result StoreError.Failed → Rose (read_faults self.old name.now) (read_faults self.new name.now) }
+        ensures longer { IsErrOf result StoreError.TooLong → IsTrue tells
+            → IsLongerThan limit (files self.old name.now) }
+        ensures cause { IsErrOf result StoreError.Failed
+            → Rose (read_faults self.old name.now) (read_faults self.new name.now) }
         ensures files_stay { SameFiles tells (files self.old) (files self.new) }
         ensures read_faults_stay_or_rise { NeverFall (read_faults self.old) (read_faults self.new) }
         ensures write_faults_stay_or_rise { NeverFall (write_faults self.old) (write_faults self.new) };
 
-    /// Gives a file these bytes, whether it was there or not. After `Failed` it may hold a front of them.
+    /// Gives a file these bytes, whether it was there or not. After `Failed` it may hold a front of
+    /// them.
     fn write(&mut self, name: &str, bytes: &[u8]) -> Result<(), StoreError>
         ensures written { OnOk result (IsTrue tells → files self.new name.now ≡ Some bytes.now) }
         ensures others_stay { OthersStay tells (files self.old) (files self.new) name.now }
-        ensures torn { IsErrOf result StoreError.Failed → IsTrue tells → IsTorn (files self.old name.now) (files self.new name.now) bytes.now }
-        ensures no_memory { IsErrOf result StoreError.NoMemory → SameFiles tells (files self.old) (files self.new) }
+        ensures torn { IsErrOf result StoreError.Failed → IsTrue tells
+            → IsTorn (files self.old name.now) (files self.new name.now) bytes.now }
+        ensures no_memory { IsErrOf result StoreError.NoMemory
+            → SameFiles tells (files self.old) (files self.new) }
         ensures never_too_long { ¬ (IsErrOf result StoreError.TooLong) }
-        ensures cause { IsErrOf result StoreError.Failed → Rose (write_faults self.old name.now) (write_faults self.new name.now) }
+        ensures cause { IsErrOf result StoreError.Failed
+            → Rose (write_faults self.old name.now) (write_faults self.new name.now) }
         ensures taken_stays { taken self.new ≡ taken self.old }
         ensures read_faults_stay_or_rise { NeverFall (read_faults self.old) (read_faults self.new) }
         ensures write_faults_stay_or_rise { NeverFall (write_faults self.old) (write_faults self.new) };

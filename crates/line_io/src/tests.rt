@@ -1,7 +1,9 @@
 use super::*;
 use std::alloc::{AllocError, Global};
-use std::fs;
+use std::cell::Cell;
+use std::fmt::Display;
 use std::test::Fail;
+use std::{fs, io};
 
 fn files_of(alloc: Global, name: &str, bytes: &[u8]) -> Result<Files, AllocError> {
     let mut files = Files::new(alloc);
@@ -164,8 +166,41 @@ fn files_of_the_machine_are_written_and_read(rt: HostRuntime) -> Result<(), Fail
     Ok(())
 }
 
+// A printer that refuses what goes past its room.
+#[derive(Drop)]
+struct Printer {
+    printed: Cell<usize>,
+    room: usize,
+}
+
+impl Print for Printer {
+    fn print<D: Display + Drop>(&self, _value: D) -> io::Result<()> {
+        Err(io::ErrorKind::Unsupported.into())
+    }
+
+    fn println<D: Display + Drop>(&self, _value: D) -> io::Result<()> {
+        Err(io::ErrorKind::Unsupported.into())
+    }
+
+    fn write_all(&self, bytes: &[u8]) -> io::Result<()> {
+        let printed = self.printed.get().saturating_add(bytes.len());
+        if printed > self.room {
+            return Err(io::ErrorKind::StorageFull.into());
+        }
+        self.printed.set(printed);
+        Ok(())
+    }
+}
+
 #[test]
 fn standard_output_takes_pieces(rt: HostRuntime) -> Result<(), Fail> {
     put_all(&mut StdSink::new(&rt), b"written through a sink\n")?;
+    let printer = Printer {
+        printed: Cell::new(0),
+        room: 8_191,
+    };
+    let bytes = vec![in rt.alloc(); b'x'; 8_192]?;
+    assert_eq!(rt; put_all(&mut StdSink::new(&printer), &bytes), Err(Failed));
+    assert_eq!(rt; printer.printed.get(), 4_096);
     Ok(())
 }

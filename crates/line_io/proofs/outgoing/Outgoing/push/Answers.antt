@@ -1,6 +1,6 @@
-use Rattle.std.proofs.Common.{◌≡◌, ℕ, List, [], ◌∷◌, ◌++◌, take, drop, refl, sym, ap, ◌∙◌, append_assoc, append-nil}
+use Rattle.std.proofs.Common.{◌≡◌, ℕ, List, [], ◌++◌, take, drop, refl, append_assoc}
 use Rattle.std.proofs.lemmas.List.{take-append-drop}
-use Rattle.line_io.specs.Outgoing.{Pushed, stream}
+use Rattle.line_io.specs.Outgoing.{stream}
 use Rattle.line_io.proofs.OutgoingLemmas.{pushed_none, pushed_after, pushed_then_none, pushed_held}
 use Rattle.line_io.proofs.outgoing.Outgoing.push.Goals as goal
 
