@@ -1,0 +1,141 @@
+-- Bytes that are given to a sink and the buffer before it, one part after another.
+use Rattle.std.proofs.Common.{◌≡◌, ◌≤◌, ℕ, List, [], ◌++◌, Bool, true, false, Result, Ok, Err, OnOk, OnErr, is_err, refl, sym, ap, ◌∙◌, append_assoc, append-nil, arith}
+use Rattle.std.proofs.lemmas.Bool.{false≢true}
+use Rattle.line_io.specs.Written.{PutsAll, PutsFront}
+use Rattle.line_io.specs.Faults.{Rose}
+use Rattle.line_io.specs.Outgoing.{Stream, Pushed}
+use Rattle.line_io.proofs.WrittenLemmas.{puts_none, puts_all_after}
+
+-- a count that rose stays risen
+pub rose_then : (a b c : ℕ) → Rose a b → b ≤ c → Rose a c
+rose_then a b c rose later = omega arith
+
+-- a count that didn't fall before it rose
+pub rose_after : (a b c : ℕ) → a ≤ b → Rose b c → Rose a c
+rose_after a b c earlier rose = omega arith
+
+-- a part after a part, where the sink had not failed between them
+pushed_after_well : {tells : Bool} {a b c : Stream} {xs ys : List ℕ} → Pushed tells a b xs → Pushed tells b c ys → b.failed ≡ false → Pushed tells a c (xs ++ ys)
+pushed_after_well {tells} {a} {b} {c} {xs} {ys} p q well = record {
+  sent = p.sent ++ q.sent;
+  rest = q.rest;
+  split = λ ok.
+      let first : a.pending ++ xs ≡ p.sent ++ b.pending = p.split ok ∙ ap (λ r. p.sent ++ r) (sym (p.waits well)) in
+      sym (append_assoc a.pending xs ys) ∙ ap (λ l. l ++ ys) first ∙ append_assoc p.sent b.pending ys ∙ ap (λ l. p.sent ++ l) (q.split well) ∙ sym (append_assoc p.sent q.sent q.rest);
+  puts = puts_all_after tells a.written b.written c.written p.sent q.sent p.puts q.puts;
+  waits = q.waits;
+  cause = λ ok bad. rose_after a.faults b.faults c.faults p.faults_stay_or_rise (q.cause well bad);
+  latched = λ bad. absurd (false≢true (sym well ∙ (p.latched bad).0));
+  faults_stay_or_rise = omega arith;
+}
+
+-- and where it had
+pushed_after_fault : {tells : Bool} {a b c : Stream} {xs ys : List ℕ} → Pushed tells a b xs → Pushed tells b c ys → b.failed ≡ true → Pushed tells a c (xs ++ ys)
+pushed_after_fault {tells} {a} {b} {c} {xs} {ys} p q bad =
+    let none : q.sent ≡ [] = (q.latched bad).1 in
+    let same : p.sent ++ q.sent ≡ p.sent = ap (λ l. p.sent ++ l) none ∙ append-nil p.sent in
+    record {
+      sent = p.sent ++ q.sent;
+      rest = p.rest ++ ys;
+      split = λ ok. rw same (sym (append_assoc a.pending xs ys) ∙ ap (λ l. l ++ ys) (p.split ok) ∙ append_assoc p.sent p.rest ys);
+      puts = puts_all_after tells a.written b.written c.written p.sent q.sent p.puts q.puts;
+      waits = λ ok. absurd (false≢true (sym ok ∙ (q.latched bad).0));
+      cause = λ ok _. rose_then a.faults b.faults c.faults (p.cause ok bad) q.faults_stay_or_rise;
+      latched = λ before. ((q.latched bad).0, same ∙ (p.latched before).1);
+      faults_stay_or_rise = omega arith;
+    }
+
+-- one part after another
+pub pushed_after : {tells : Bool} {a b c : Stream} {xs ys : List ℕ} → Pushed tells a b xs → Pushed tells b c ys → Pushed tells a c (xs ++ ys)
+pushed_after {tells} {a} {b} {c} {xs} {ys} p q =
+    let by_case : (v : Bool) → b.failed ≡ v → Pushed tells a c (xs ++ ys) = λ v. elim v as (λ w. b.failed ≡ w → Pushed tells a c (xs ++ ys)) [ true ↦ pushed_after_fault p q | false ↦ pushed_after_well p q ] in
+    by_case b.failed refl
+
+-- nothing was given, and nothing happened
+pub pushed_none : (tells : Bool) (a : Stream) → Pushed tells a a []
+pushed_none tells a = record {
+  sent = [];
+  rest = a.pending;
+  split = λ _. append-nil a.pending;
+  puts = puts_none tells a.written;
+  waits = λ _. refl;
+  cause = λ ok bad. absurd (false≢true (sym ok ∙ bad));
+  latched = λ bad. (bad, refl);
+  faults_stay_or_rise = omega arith;
+}
+
+-- a stream that has failed drops what waits
+pub pushed_dropped : (tells : Bool) (written : List ℕ) (faults : ℕ) (pending later : List ℕ) → Pushed tells (record { written = written; faults = faults; pending = pending; failed = true }) (record { written = written; faults = faults; pending = later; failed = true }) []
+pushed_dropped tells written faults pending later = record {
+  sent = [];
+  rest = [];
+  split = λ ok. absurd (false≢true (sym ok));
+  puts = puts_none tells written;
+  waits = λ ok. absurd (false≢true (sym ok));
+  cause = λ ok _. absurd (false≢true (sym ok));
+  latched = λ _. (refl, refl);
+  faults_stay_or_rise = omega arith;
+}
+
+-- what waits is sent, and the sink answers
+pub pushed_sent : {T E : Type 0} (tells : Bool) (old new : List ℕ) (before now : ℕ) (pending : List ℕ) (r : Result T E) → OnOk r (PutsAll tells old new pending) → OnErr r (PutsFront tells old new pending) → OnErr r (Rose before now) → before ≤ now → Pushed tells (record { written = old; faults = before; pending = pending; failed = false }) (record { written = new; faults = now; pending = []; failed = is_err r }) []
+pushed_sent tells old new before now pending (Ok x) all front cause later = record {
+  sent = pending;
+  rest = [];
+  split = λ _. refl;
+  puts = all;
+  waits = λ _. refl;
+  cause = λ _ bad. absurd (false≢true bad);
+  latched = λ bad. absurd (false≢true bad);
+  faults_stay_or_rise = later;
+}
+pushed_sent tells old new before now pending (Err e) all front cause later = record {
+  sent = front.0;
+  rest = front.1;
+  split = λ _. append-nil pending ∙ front.2;
+  puts = front.3;
+  waits = λ ok. absurd (false≢true (sym ok));
+  cause = λ _ _. cause;
+  latched = λ bad. absurd (false≢true bad);
+  faults_stay_or_rise = later;
+}
+
+-- a part is held, and the sink has no part in it
+pub pushed_held : (tells : Bool) (written : List ℕ) (faults : ℕ) (pending part : List ℕ) (failed : Bool) → Pushed tells (record { written = written; faults = faults; pending = pending; failed = failed }) (record { written = written; faults = faults; pending = pending ++ part; failed = failed }) part
+pushed_held tells written faults pending part failed = record {
+  sent = [];
+  rest = pending ++ part;
+  split = λ _. refl;
+  puts = puts_none tells written;
+  waits = λ _. refl;
+  cause = λ ok bad. absurd (false≢true (sym ok ∙ bad));
+  latched = λ bad. (bad, refl);
+  faults_stay_or_rise = omega arith;
+}
+
+-- what waits is sent after a text
+pub pushed_then_none : {tells : Bool} {a b c : Stream} {text : List ℕ} → Pushed tells a b text → Pushed tells b c [] → Pushed tells a c text
+pushed_then_none {text = text} p q = rw append-nil at (pushed_after p q)
+
+-- From here on a stream began with nothing waiting and no fault, took a text, and ended by `finish`, which
+-- answered r. At `Ok` the whole text was written
+pub put_on_ok : {T E : Type 0} {tells : Bool} {a b : Stream} {text : List ℕ} (new : List ℕ) (now : ℕ) (r : Result T E) → a.pending ≡ [] → a.failed ≡ false → Pushed tells a b text → Pushed tells b (record { written = new; faults = now; pending = []; failed = is_err r }) [] → OnOk r (PutsAll tells a.written new text)
+put_on_ok {text = text} new now (Ok x) none well p q = λ told.
+    let end = pushed_then_none p q in
+    let split : text ≡ end.sent ++ end.rest = ap (λ l. l ++ text) (sym none) ∙ end.split well in
+    let whole : text ≡ end.sent = split ∙ ap (λ l. end.sent ++ l) (sym (end.waits refl)) ∙ append-nil end.sent in
+    rw whole (end.puts told)
+put_on_ok new now (Err e) none well p q = tt
+
+-- at `Err` a front of it
+pub front_on_err : {T E : Type 0} {tells : Bool} {a b : Stream} {text : List ℕ} (new : List ℕ) (now : ℕ) (r : Result T E) → a.pending ≡ [] → a.failed ≡ false → Pushed tells a b text → Pushed tells b (record { written = new; faults = now; pending = []; failed = is_err r }) [] → OnErr r (PutsFront tells a.written new text)
+front_on_err new now (Ok x) none well p q = tt
+front_on_err {text = text} new now (Err e) none well p q =
+    let end = pushed_then_none p q in
+    let split : text ≡ end.sent ++ end.rest = ap (λ l. l ++ text) (sym none) ∙ end.split well in
+    (end.sent, end.rest, split, end.puts)
+
+-- and the sink's count of faults rose
+pub cause_on_err : {T E : Type 0} {tells : Bool} {a b : Stream} {text : List ℕ} (new : List ℕ) (now : ℕ) (r : Result T E) → a.failed ≡ false → Pushed tells a b text → Pushed tells b (record { written = new; faults = now; pending = []; failed = is_err r }) [] → OnErr r (Rose a.faults now)
+cause_on_err new now (Ok x) well p q = tt
+cause_on_err new now (Err e) well p q = (pushed_then_none p q).cause well refl

@@ -1,0 +1,13 @@
+use Rattle.std.proofs.Common.{◌≡◌, ℕ, List, ◌++◌, length}
+use Rattle.line_io.specs.Outgoing.{Pushed, stream}
+use Rattle.line_io.proofs.outgoing.Outgoing.push.Given as goal
+
+-- what is done was pushed, and the rest is still to go
+abbrev pub invariant-loop-rest : goal.invariant-loop-rest
+invariant-loop-rest g l =
+    (done : List ℕ)
+    × (l.bytes ≡ done ++ l.rest)
+    × Pushed g.K.Sink.tells (stream g.K.Sink.written g.K.Sink.faults l.initial.sink l.initial.self) (stream g.K.Sink.written g.K.Sink.faults l.sink l.self) done
+
+abbrev pub decreases-loop-rest : goal.decreases-loop-rest
+decreases-loop-rest g l = length l.rest

@@ -1,0 +1,23 @@
+//! The outside as the program sees it: a store of files by name, and a sink for what is printed.
+#![tactic(auto)]
+
+mod fail_plan;
+mod file_store;
+mod mem_sink;
+mod mem_store;
+mod outgoing;
+mod pieces;
+mod sink;
+mod std_sink;
+mod store;
+#[cfg(test)]
+mod tests;
+
+pub use file_store::FileStore;
+pub use mem_sink::MemSink;
+pub use mem_store::{Files, MemStore};
+pub use outgoing::Outgoing;
+pub use pieces::put_all;
+pub use sink::{Failed, MAX_PIECE, Sink};
+pub use std_sink::StdSink;
+pub use store::{Store, StoreError};

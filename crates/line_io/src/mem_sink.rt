@@ -1,0 +1,96 @@
+ghost use Rattle.std.specs.Prelude.{◌≡◌, ◌+◌, ◌≤◌, ◌++◌, [], length, vec_len, vec_capacity, IfOk};
+
+use crate::fail_plan::FailPlan;
+use crate::sink::{Failed, Sink};
+use std::alloc::{AllocError, Global};
+
+/// A sink in memory, with a room that is taken at the start.
+#[derive(Drop)]
+pub struct MemSink {
+    bytes: Vec<u8>,
+    room: u32,
+    keep: u32,
+    plan: FailPlan,
+    faults: u64,
+    ghost fits: { vec_len bytes ≤ room },
+    ghost has_room: { room ≤ vec_capacity bytes },
+}
+
+// Appends what there is room for.
+fn append(bytes: &mut Vec<u8>, piece: &[u8])
+    requires { vec_len bytes.old + length piece.now ≤ vec_capacity bytes.old }
+    ensures items { bytes.new.items ≡ bytes.old.items ++ piece.now }
+    ensures len { vec_len bytes.new ≡ vec_len bytes.old + length piece.now }
+    ensures capacity { vec_capacity bytes.old ≤ vec_capacity bytes.new }
+{
+    bytes.extend_from_slice(piece).unwrap();
+}
+
+impl MemSink {
+    /// An empty sink for `room` bytes. The calls whose numbers, from 1, are in `failing` fail, and
+    /// so does a piece that does not fit. A failing call keeps the first `keep` bytes of its piece,
+    /// as far as they fit.
+    pub fn new(
+        alloc: Global,
+        room: u32,
+        failing: Vec<u32>,
+        keep: u32,
+    ) -> Result<MemSink, AllocError>
+        ensures empty { IfOk result (λ sink. sink.bytes.items ≡ []) }
+        ensures room { IfOk result (λ sink. sink.room ≡ room) }
+        ensures failing { IfOk result (λ sink. sink.plan.failing.items ≡ failing.items) }
+        ensures keep { IfOk result (λ sink. sink.keep ≡ keep) }
+        ensures no_call { IfOk result (λ sink. sink.plan.calls ≡ 0) }
+        ensures no_fault { IfOk result (λ sink. sink.faults ≡ 0) }
+    {
+        let bytes = Vec::with_capacity(alloc, room as usize)?;
+        Ok(MemSink {
+            bytes,
+            room,
+            keep,
+            plan: FailPlan::new(failing),
+            faults: 0,
+        })
+    }
+
+    /// All that was written. It takes no memory.
+    pub fn written(&self) -> &[u8]
+        ensures { result.now ≡ self.now.bytes.items }
+    {
+        &self.bytes
+    }
+}
+
+impl Sink for MemSink {
+    ghost use Rattle.std.specs.Prelude.{true, ◌<◌, ◌↔◌, ◌⊎◌, IsErr, OnOk, OnErr};
+    ghost use Rattle.line_io.specs.Written.{PutsAll, PutsFront};
+    ghost use Rattle.line_io.specs.Faults.{Rose};
+    ghost use Rattle.line_io.specs.MemSink.{IsDue, room_left, kept_of};
+
+    ghost tells = { true };
+
+    ghost written = { λ sink. sink.bytes.items };
+
+    ghost faults = { λ sink. sink.faults };
+
+    fn put(&mut self, piece: &[u8]) -> Result<(), Failed>
+        ensures refused { IsErr result ↔ (IsDue self.old.plan ⊎ (room_left self.old < length piece.now)) }
+        ensures kept { OnErr result (self.new.bytes.items
+            ≡ self.old.bytes.items ++ kept_of self.old piece.now) }
+        ensures appended { OnOk result (PutsAll true self.old.bytes.items self.new.bytes.items piece.now) }
+        ensures front { OnErr result (PutsFront true self.old.bytes.items self.new.bytes.items piece.now) }
+        ensures cause { OnErr result (Rose self.old.faults self.new.faults) }
+        ensures faults_stay_or_rise { self.old.faults ≤ self.new.faults }
+    {
+        let is_due = self.plan.next();
+        let left = self.room as usize - self.bytes.len();
+        if !is_due && piece.len() <= left {
+            append(&mut self.bytes, piece);
+            return Ok(());
+        }
+        let kept = piece.len().min(left).min(self.keep as usize);
+        append(&mut self.bytes, &piece[..kept]);
+        self.faults = self.faults.saturating_add(1);
+        Err(Failed)
+    }
+}
