@@ -1,2 +1,5 @@
 pub mod Reached
+pub mod Reading
 pub mod Decimals
+pub mod RowLemmas
+pub mod Taken

@@ -1,2 +1,5 @@
 pub mod Records
 pub mod Field
+pub mod Reader
+pub mod Rows
+pub mod FeedError

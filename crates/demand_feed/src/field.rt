@@ -4,7 +4,7 @@ ghost use Rattle.std.specs.List.{list_all, prefix_len, suffix_len};
 ghost use Rattle.demand_feed.specs.Field.{decimal_up_to, is_blank, is_decimal, is_name, number_in, without_blanks};
 
 /// The most digits of a number, leading zeros among them.
-pub const MAX_DIGITS: usize = 20;
+pub(crate) const MAX_DIGITS: usize = 20;
 
 /// Whether a byte is a space or a tab.
 fn is_blank(byte: u8) -> bool
@@ -71,14 +71,14 @@ fn decimal_up_to(text: &[u8], most: u64) -> Option<u64>
 }
 
 /// The number of at most `most` that a field holds, if it holds one.
-pub fn number_in(field: &[u8], most: u64) -> Option<u64>
+pub(crate) fn number_in(field: &[u8], most: u64) -> Option<u64>
     ensures { result ≡ number_in most field.now }
 {
     decimal_up_to(without_blanks(field), most)
 }
 
 /// Whether a field begins with an ASCII letter, after the blanks in front of it.
-pub fn is_name(field: &[u8]) -> bool
+pub(crate) fn is_name(field: &[u8]) -> bool
     ensures { result ≡ is_name field.now }
 {
     match without_blanks(field) {
