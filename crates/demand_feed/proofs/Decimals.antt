@@ -1,5 +1,5 @@
 -- What `parse` reads of a text of decimal digits.
-use Rattle.std.proofs.Common.{refl, inl, inr, ◌≡◌, ◌≤◌, ◌<◌, ◌^◌, ℕ, Bool, true, false, ◌&&◌, List, [], ◌∷◌, length, Option, Some, None, Result, Ok, Err, sym, ap, ◌∙◌, arith, rules}
+use Rattle.std.proofs.Common.{refl, inl, inr, ◌≡◌, ◌≤◌, ◌<◌, ◌^◌, ℕ, true, false, List, length, Option, Some, None, Result, ap, arith, rules}
 use Rattle.std.specs.Prelude.{nat_le}
 use Rattle.std.specs.Char.{is_ascii_digit}
 use Rattle.std.specs.List.{list_all}

@@ -3,3 +3,5 @@ pub mod Reading
 pub mod Decimals
 pub mod RowLemmas
 pub mod Taken
+pub mod GoodRows
+pub mod TableLemmas

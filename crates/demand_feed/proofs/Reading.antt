@@ -34,7 +34,7 @@ GivesNext-read old new fields false reads begun file rows given =
     (rows-end (λ (bytes : Bor (List ℕ)). Some bytes.now) old new fields default_config given.rest given.config given.source read)
 
 -- a byte order mark left out makes a file no longer
-length-strip_bom : (file : List ℕ) → length (strip_bom file) ≤ length file
+pub length-strip_bom : (file : List ℕ) → length (strip_bom file) ≤ length file
 unfolding strip_bom
 length-strip_bom [] = omega arith
 length-strip_bom (a ∷ []) = omega arith

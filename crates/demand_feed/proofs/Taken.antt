@@ -1,7 +1,6 @@
 -- How the numbers of the jobs grow with each record that is read.
-use Rattle.std.proofs.Common.{add-zero, ◌≡◌, ◌∙◌, ◌≤◌, ◌+◌, ◌++◌, ◌==◌, ◌&&◌, ℕ, List, [], ◌∷◌, Option, Some, None, Ok, Err, Bool, true, false, cond, not, map, length, refl, sym, ap, append_assoc, add_assoc, arith}
+use Rattle.std.proofs.Common.{add-zero, ◌≡◌, ◌∙◌, ◌≤◌, ◌+◌, ◌++◌, ℕ, List, [], ◌∷◌, Some, None, Err, Bool, true, false, not, map, length, refl, sym, ap, arith}
 use Rattle.std.specs.List.{concat, enumerate_from, filter, find}
-use Rattle.std.specs.Option.{option_map, option_or}
 use Rattle.std.proofs.lemmas.List.{append-nil, length-append, length-map, map-append}
 use Rattle.std.proofs.lemmas.List.Elements.{filter-append}
 use Rattle.std.proofs.lemmas.List.Folds.{concat-append, find-append}

@@ -3,3 +3,6 @@ pub mod Field
 pub mod Reader
 pub mod Rows
 pub mod FeedError
+pub mod Dates
+pub mod Table
+pub mod Times

@@ -1,5 +1,5 @@
 -- From the records of a file to one row of numbers a job, or to the first bad record.
-use Rattle.std.specs.Prelude.{◌≡◌, ℕ, ◌+◌, ◌-◌, Bool, false, ◌==◌, ◌&&◌, not, List, map, length, Option, Some, None, Result, Ok, Err, is_none, slice_get}
+use Rattle.std.specs.Prelude.{◌≡◌, ℕ, ◌-◌, Bool, false, ◌==◌, ◌&&◌, not, List, map, length, Option, Some, None, Result, Ok, Err, is_none, slice_get}
 use Rattle.std.specs.List.{concat, enumerate_from, filter, filter_map, find, list_all, list_any}
 use Rattle.std.specs.Option.{option_and_then, option_map, option_map_or}
 use Rattle.demand_feed.specs.Field.{is_name, number_in}

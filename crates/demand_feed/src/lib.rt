@@ -1,11 +1,14 @@
 //! Demand dates and job times from csv files.
 #![tactic(auto)]
 
+mod columns;
+mod dates;
 mod error;
 mod field;
 mod reader;
 mod row;
 mod rows;
 
+pub use columns::{Columns, read_times};
+pub use dates::read_dates;
 pub use error::FeedError;
-pub use rows::{Rows, read_rows};

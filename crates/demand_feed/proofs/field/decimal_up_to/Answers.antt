@@ -1,4 +1,4 @@
-use Rattle.std.proofs.Common.{◌≡◌, ◌∙◌, ◌≤◌, ◌<◌, ◌^◌, ℕ, List, true, sym, subst, ap, arith}
+use Rattle.std.proofs.Common.{◌≡◌, ◌∙◌, true, sym, ap, arith}
 use Rattle.std.specs.Str.Parse.{digits_value}
 use Rattle.demand_feed.specs.Field.{is_decimal}
 use Rattle.demand_feed.proofs.Decimals.{above-limit, IsUtf8-digits, decimal_up_to-large, decimal_up_to-other, decimal_up_to-small, has_one, parse-digits}

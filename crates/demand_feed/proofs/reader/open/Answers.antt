@@ -1,6 +1,5 @@
-use Rattle.std.proofs.Common.{◌≡◌, ◌∙◌, refl, sym, inl, inr}
+use Rattle.std.proofs.Common.{◌∙◌, refl, sym, inr}
 use Rattle.csv.specs.Reading.{Reached, strip_bom}
-use Rattle.demand_feed.specs.Reader.{HasGiven}
 use Rattle.demand_feed.proofs.reader.open.Goals as goal
 
 pub returns : goal.returns

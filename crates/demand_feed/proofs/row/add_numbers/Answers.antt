@@ -1,4 +1,4 @@
-use Rattle.std.proofs.Common.{◌≡◌, ◌∙◌, ◌++◌, ◌∷◌, ℕ, List, [], Some, ap, append_assoc, sym}
+use Rattle.std.proofs.Common.{◌∙◌, ◌++◌, ◌∷◌, ℕ, List, [], ap, append_assoc, sym}
 use Rattle.csv.specs.Records.{fields_of}
 use Rattle.demand_feed.proofs.RowLemmas.{lacks_number-more, numbers_of-more}
 use Rattle.demand_feed.proofs.row.add_numbers.Goals as goal

@@ -1,4 +1,4 @@
-use Rattle.std.proofs.Common.{◌∙◌, ap, sym, Option, List, ℕ, false}
+use Rattle.std.proofs.Common.{◌∙◌, ap, Option, List, ℕ, false}
 use Rattle.std.specs.Option.{option_map_or}
 use Rattle.demand_feed.specs.Field.{is_name}
 use Rattle.demand_feed.specs.Rows.{has_name_at}

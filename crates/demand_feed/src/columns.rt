@@ -1,0 +1,87 @@
+ghost use Rattle.std.specs.Prelude.{◌≡◌, ◌≤◌, ◌<◌, ◌==◌, All, Contains, IfErr, IfOk, Ok, length};
+ghost use Rattle.std.specs.List.{position_or_len};
+ghost use Rattle.std.specs.List.Sorted.{IsStrictlyIncreasing};
+ghost use Rattle.line_base.specs.declared.limits.TheConstants.{MAX_COLUMN, MAX_FILE_BYTES, MAX_TIME};
+ghost use Rattle.demand_feed.specs.FeedError.{TellsBadRecord};
+ghost use Rattle.demand_feed.specs.Table.{field_of};
+ghost use Rattle.demand_feed.specs.Times.{times_of};
+
+use crate::error::FeedError;
+use crate::rows::{Rows, read_rows};
+use line_base::{MAX_COLUMN, MAX_FILE_BYTES, MAX_TIME};
+use std::alloc::Global;
+use std::marker::Model;
+
+/// The job times in some columns of a times file. Contracts see the columns, and for each job the row of its times.
+#[derive(Drop)]
+pub struct Columns {
+    columns: Vec<u32>,
+    // The times of the first job, column by column, then those of the second, and so on.
+    times: Vec<u64>,
+    jobs: u32,
+}
+
+impl Model for Columns {
+    ghost use Rattle.demand_feed.specs.Table.{IsTable, Table, table_of};
+
+    ghost Value = { Table };
+
+    ghost view = { λ c. table_of c.columns.items c.jobs c.times.items };
+
+    ghost invariant = { λ c. IsTable c.columns.items c.jobs c.times.items };
+}
+
+impl Columns {
+    /// How many jobs there are.
+    pub fn records(&self) -> u32
+        ensures { result ≡ length self.now.rows }
+    {
+        self.jobs
+    }
+
+    /// The time of a job in a column, in the plant's unit of time. Jobs count from 1, columns from 1.
+    pub fn field(&self, job: u32, column: u32) -> u64
+        requires job { (1 ≤ job) × (job ≤ length self.now.rows) }
+        requires column { Contains self.now.columns column }
+        ensures time { result ≡ field_of self.now job column }
+        ensures limit { result ≤ MAX_TIME }
+    {
+        let columns = self.columns.as_slice();
+        let place = place_of(columns, column);
+        self.times[(job as usize - 1) * columns.len() + place]
+    }
+}
+
+/// The place of a column among columns that rise.
+fn place_of(columns: &[u32], column: u32) -> usize
+    requires ascending { IsStrictlyIncreasing columns.now }
+    requires there { Contains columns.now column }
+    ensures place { result ≡ position_or_len (λ other. other == column) columns.now }
+    ensures within { result < length columns.now }
+{
+    let Ok(place) = columns.binary_search(&column) else {
+        unreachable!()
+    };
+    place
+}
+
+/// Reads the job times in these columns of a times file, each in the plant's unit of time. Columns count from 1.
+///
+/// A field is 1 to 20 decimal digits, spaces and tabs around it aside, of a value of at most 10^9. The first record is a
+/// header where each of these columns of it begins with an ASCII letter. `BadRecord` names the first other record that
+/// lacks such a field in one of the columns, counted from 1. Records are those of RFC 4180 as the crate `csv` reads them.
+pub fn read_times(alloc: Global, bytes: &[u8], columns: &[u32]) -> Result<Columns, FeedError>
+    requires size { length bytes.now ≤ MAX_FILE_BYTES }
+    requires ascending { IsStrictlyIncreasing columns.now }
+    requires in_range { All (λ column. (1 ≤ column) × (column ≤ MAX_COLUMN)) columns.now }
+    ensures times { IfOk result (λ table. times_of columns.now bytes.now ≡ Ok table) }
+    ensures bad_record { IfErr result (TellsBadRecord (times_of columns.now bytes.now)) }
+{
+    let kept = Vec::from_slice(alloc, columns)?;
+    let Rows { numbers, jobs } = read_rows(alloc, bytes, columns, MAX_TIME)?;
+    Ok(Columns {
+        columns: kept,
+        times: numbers,
+        jobs: jobs as u32,
+    })
+}
