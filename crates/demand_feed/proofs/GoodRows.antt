@@ -19,7 +19,7 @@ use Rattle.demand_feed.proofs.Reading.{length-strip_bom}
 use Rattle.demand_feed.specs.Records.{Record, records_of}
 use Rattle.demand_feed.specs.Rows.{HoldsRows, Placed, Reading, field_in, first_bad, is_header, jobs, lacks_number, number_at, numbers_of, rows_of, unless_bad}
 use Rattle.demand_feed.specs.Field.{decimal_up_to, is_decimal, number_in, without_blanks}
-use Rattle.demand_feed.specs.Table.{cut_rows}
+use Rattle.demand_feed.specs.JobTimes.{cut_rows}
 
 -- a row with a number for each used column, none above the limit
 pub record IsRow (width most : ℕ) (row : List ℕ) : Type 0 where

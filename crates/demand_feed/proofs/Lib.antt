@@ -4,4 +4,4 @@ pub mod Decimals
 pub mod RowLemmas
 pub mod Taken
 pub mod GoodRows
-pub mod TableLemmas
+pub mod JobTimesLemmas

@@ -1,4 +1,4 @@
--- What a field of a record says: a number, or a name. Bytes are ASCII codes.
+-- What a field of a record says: a number, or a title. Bytes are ASCII codes.
 use Rattle.std.specs.Prelude.{ℕ, ◌-◌, Bool, ◌==◌, ◌&&◌, ◌||◌, nat_le, if◌then◌else◌, List, length, take, drop, Option, Some, None}
 use Rattle.std.specs.List.{list_all, list_any, prefix_len, suffix_len}
 use Rattle.std.specs.Char.{is_ascii_alphabetic, is_ascii_digit}
@@ -33,6 +33,6 @@ decimal_up_to most text =
 abbrev pub number_in : ℕ → List ℕ → Option ℕ
 number_in most field = decimal_up_to most (without_blanks field)
 
--- a field that begins with an ASCII letter, after the blanks in front of it
-abbrev pub is_name : List ℕ → Bool
-is_name field = list_any is_ascii_alphabetic (take 1 (without_blanks field))
+-- a title: a field that begins with an ASCII letter, after the blanks in front of it
+abbrev pub is_title : List ℕ → Bool
+is_title field = list_any is_ascii_alphabetic (take 1 (without_blanks field))

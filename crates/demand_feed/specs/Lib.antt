@@ -4,5 +4,5 @@ pub mod Reader
 pub mod Rows
 pub mod FeedError
 pub mod Dates
-pub mod Table
+pub mod JobTimes
 pub mod Times

@@ -2,7 +2,7 @@
 use Rattle.std.specs.Prelude.{◌≡◌, ℕ, ◌-◌, Bool, false, ◌==◌, ◌&&◌, not, List, map, length, Option, Some, None, Result, Ok, Err, is_none, slice_get}
 use Rattle.std.specs.List.{concat, enumerate_from, filter, filter_map, find, list_all, list_any}
 use Rattle.std.specs.Option.{option_and_then, option_map, option_map_or}
-use Rattle.demand_feed.specs.Field.{is_name, number_in}
+use Rattle.demand_feed.specs.Field.{is_title, number_in}
 use Rattle.demand_feed.specs.Records.{Record}
 
 -- the field of a record in a column, if it has one; columns count from 1
@@ -13,17 +13,17 @@ field_in fields column = slice_get fields (column - 1)
 unfoldable pub number_at : ℕ → Record → ℕ → Option ℕ
 number_at most fields column = option_and_then (number_in most) (field_in fields column)
 
--- whether a record has a name in a column
-unfoldable pub has_name_at : Record → ℕ → Bool
-has_name_at fields column = option_map_or is_name (field_in fields column) false
+-- whether a record has a title in a column
+unfoldable pub has_title_at : Record → ℕ → Bool
+has_title_at fields column = option_map_or is_title (field_in fields column) false
 
 -- a record with its place in the file, from 1
 abbrev pub Placed : Type 0
 Placed = ℕ × Record
 
--- a header: the first record, where it has a name in every used column
+-- a header: the first record, where it has a title in every used column
 abbrev pub is_header : List ℕ → Placed → Bool
-is_header used row = row.0 == 1 && list_all (has_name_at row.1) used
+is_header used row = row.0 == 1 && list_all (has_title_at row.1) used
 
 -- the records of jobs: all but a header
 unfoldable pub jobs : List ℕ → List Record → List Placed

@@ -3,7 +3,7 @@ ghost use Rattle.std.specs.List.{position_or_len};
 ghost use Rattle.std.specs.List.Sorted.{IsStrictlyIncreasing};
 ghost use Rattle.line_base.specs.declared.limits.TheConstants.{MAX_COLUMN, MAX_FILE_BYTES, MAX_TIME};
 ghost use Rattle.demand_feed.specs.FeedError.{TellsBadRecord};
-ghost use Rattle.demand_feed.specs.Table.{field_of};
+ghost use Rattle.demand_feed.specs.JobTimes.{field_of};
 ghost use Rattle.demand_feed.specs.Times.{times_of};
 
 use crate::error::FeedError;
@@ -22,13 +22,13 @@ pub struct Columns {
 }
 
 impl Model for Columns {
-    ghost use Rattle.demand_feed.specs.Table.{IsTable, Table, table_of};
+    ghost use Rattle.demand_feed.specs.JobTimes.{IsFilled, JobTimes, job_times};
 
-    ghost Value = { Table };
+    ghost Value = { JobTimes };
 
-    ghost view = { λ c. table_of c.columns.items c.jobs c.times.items };
+    ghost view = { λ c. job_times c.columns.items c.jobs c.times.items };
 
-    ghost invariant = { λ c. IsTable c.columns.items c.jobs c.times.items };
+    ghost invariant = { λ c. IsFilled c.columns.items c.jobs c.times.items };
 }
 
 impl Columns {
@@ -39,7 +39,7 @@ impl Columns {
         self.jobs
     }
 
-    /// The time of a job in a column, in the plant's unit of time. Jobs count from 1, columns from 1.
+    /// The time of a job in one of the columns, in the plant's unit of time. Jobs and columns count from 1.
     pub fn field(&self, job: u32, column: u32) -> u64
         requires job { (1 ≤ job) × (job ≤ length self.now.rows) }
         requires column { Contains self.now.columns column }
@@ -74,6 +74,7 @@ pub fn read_times(alloc: Global, bytes: &[u8], columns: &[u32]) -> Result<Column
     requires size { length bytes.now ≤ MAX_FILE_BYTES }
     requires ascending { IsStrictlyIncreasing columns.now }
     requires in_range { All (λ column. (1 ≤ column) × (column ≤ MAX_COLUMN)) columns.now }
+    ensures columns { IfOk result (λ table. table.columns ≡ columns.now) }
     ensures times { IfOk result (λ table. times_of columns.now bytes.now ≡ Ok table) }
     ensures bad_record { IfErr result (TellsBadRecord (times_of columns.now bytes.now)) }
 {

@@ -1,7 +1,7 @@
 ghost use Rattle.std.specs.Prelude.{◌≡◌, ◌≤◌, length};
 ghost use Rattle.std.specs.Char.{is_ascii_digit};
 ghost use Rattle.std.specs.List.{list_all, prefix_len, suffix_len};
-ghost use Rattle.demand_feed.specs.Field.{decimal_up_to, is_blank, is_decimal, is_name, number_in, without_blanks};
+ghost use Rattle.demand_feed.specs.Field.{decimal_up_to, is_blank, is_decimal, is_title, number_in, without_blanks};
 
 /// The most digits of a number, leading zeros among them.
 pub(crate) const MAX_DIGITS: usize = 20;
@@ -78,8 +78,8 @@ pub(crate) fn number_in(field: &[u8], most: u64) -> Option<u64>
 }
 
 /// Whether a field begins with an ASCII letter, after the blanks in front of it.
-pub(crate) fn is_name(field: &[u8]) -> bool
-    ensures { result ≡ is_name field.now }
+pub(crate) fn is_title(field: &[u8]) -> bool
+    ensures { result ≡ is_title field.now }
 {
     match without_blanks(field) {
         [first, ..] => first.is_ascii_alphabetic(),

@@ -1,9 +1,9 @@
 ghost use Rattle.std.specs.Prelude.{◌≡◌, ◌≤◌, ◌++◌, not, true, All, IfOk, option_map};
 ghost use Rattle.std.specs.List.{list_all};
 ghost use Rattle.csv.specs.Records.{fields_of};
-ghost use Rattle.demand_feed.specs.Rows.{field_in, has_name_at, lacks_number, number_at, numbers_of};
+ghost use Rattle.demand_feed.specs.Rows.{field_in, has_title_at, lacks_number, number_at, numbers_of};
 
-use crate::field::{is_name, number_in};
+use crate::field::{is_title, number_in};
 use csv::ByteRecord;
 use std::alloc::AllocError;
 
@@ -26,23 +26,23 @@ fn number_at(row: &ByteRecord, column: u32, most: u64) -> Option<u64>
     }
 }
 
-/// Whether a record has a name in a column.
-fn has_name_at(row: &ByteRecord, column: u32) -> bool
+/// Whether a record has a title in a column.
+fn has_title_at(row: &ByteRecord, column: u32) -> bool
     requires { 1 ≤ column }
-    ensures { result ≡ has_name_at (fields_of row.now) column }
+    ensures { result ≡ has_title_at (fields_of row.now) column }
 {
     match field_in(row, column) {
-        Some(field) => is_name(field),
+        Some(field) => is_title(field),
         None => false,
     }
 }
 
-/// Whether a record has a name in every used column.
-pub(crate) fn has_names(row: &ByteRecord, used: &[u32]) -> bool
+/// Whether a record has a title in every used column.
+pub(crate) fn has_titles(row: &ByteRecord, used: &[u32]) -> bool
     requires { All (λ column. 1 ≤ column) used.now }
-    ensures { result ≡ list_all (has_name_at (fields_of row.now)) used.now }
+    ensures { result ≡ list_all (has_title_at (fields_of row.now)) used.now }
 {
-    used.iter().all(|column| has_name_at(row, *column))
+    used.iter().all(|column| has_title_at(row, *column))
 }
 
 /// Adds the numbers in the used columns of a record, column by column; false where one of them is missing, is no number

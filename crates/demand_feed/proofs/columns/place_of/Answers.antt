@@ -1,5 +1,5 @@
 use Rattle.std.proofs.Common.{sym}
-use Rattle.demand_feed.proofs.TableLemmas.{place-found, place-missing}
+use Rattle.demand_feed.proofs.JobTimesLemmas.{place-found, place-missing}
 use Rattle.demand_feed.proofs.columns.place_of.Goals as goal
 
 pub unreachable-requires : goal.unreachable-requires

@@ -1,6 +1,6 @@
 use Rattle.std.proofs.Common.{◌∙◌, arith}
 use Rattle.std.proofs.lemmas.List.{get_or_default}
-use Rattle.demand_feed.proofs.TableLemmas.{field_of-place, place-within-times}
+use Rattle.demand_feed.proofs.JobTimesLemmas.{field_of-place, place-within-times}
 use Rattle.demand_feed.proofs.columns.Columns.field.Goals as goal
 
 pub overflow_mul-job : goal.overflow_mul-job

@@ -1,5 +1,5 @@
 use Rattle.std.proofs.Common.{length, sym}
-use Rattle.demand_feed.proofs.TableLemmas.{length-cut_rows}
+use Rattle.demand_feed.proofs.JobTimesLemmas.{length-cut_rows}
 use Rattle.demand_feed.proofs.columns.Columns.records.Goals as goal
 
 pub returns : goal.returns

@@ -13,7 +13,7 @@ use Rattle.demand_feed.specs.Records.{records_of}
 use Rattle.demand_feed.specs.Rows.{HoldsRows, rows_of}
 use Rattle.demand_feed.specs.Times.{times_of, under_columns}
 use Rattle.demand_feed.proofs.GoodRows.{Accepted-held, All-concat-rows, IsRow, cut_rows-concat, length-concat-rows}
-use Rattle.demand_feed.specs.Table.{IsTable, Table, cut_rows, field_of, number_for, table_of}
+use Rattle.demand_feed.specs.JobTimes.{IsFilled, JobTimes, cut_rows, field_of, number_for, job_times}
 
 pub length-cut_rows : (width count : ℕ) (numbers : List ℕ) → length (cut_rows width count numbers) ≡ count
 unfolding cut_rows
@@ -75,15 +75,15 @@ place-within : (count width k p : ℕ) → k < count → p < width → k * width
 place-within count width k p below inside = grind arith
 
 -- the time of a job in a column stands at the place of the column in the job's row; `shown` are the table's columns
-pub place-within-times : (table : Table) (columns : List ℕ) (jobs : ℕ) (times : List ℕ) (job : ℕ) (shown : List ℕ) (place : ℕ)
-    → table_of columns jobs times ≡ table → IsTable columns jobs times → (1 ≤ job) × (job ≤ length table.rows)
+pub place-within-times : (table : JobTimes) (columns : List ℕ) (jobs : ℕ) (times : List ℕ) (job : ℕ) (shown : List ℕ) (place : ℕ)
+    → job_times columns jobs times ≡ table → IsFilled columns jobs times → (1 ≤ job) × (job ≤ length table.rows)
     → shown ≡ columns → place < length shown → (job - 1) * length shown + place < length times
 place-within-times table columns jobs times job shown place seen kept exists same inside =
     let count : length table.rows ≡ jobs = rw (← seen) (length-cut_rows (length columns) jobs times) in
     rw (same, kept.filled) (place-within jobs (length columns) (job - 1) place (omega (arith, exists)) (rw same at inside))
 
-pub field_of-place : (table : Table) (columns : List ℕ) (jobs : ℕ) (times : List ℕ) (job : ℕ) (shown : List ℕ) (place column : ℕ)
-    → table_of columns jobs times ≡ table → IsTable columns jobs times → (1 ≤ job) × (job ≤ length table.rows)
+pub field_of-place : (table : JobTimes) (columns : List ℕ) (jobs : ℕ) (times : List ℕ) (job : ℕ) (shown : List ℕ) (place column : ℕ)
+    → job_times columns jobs times ≡ table → IsFilled columns jobs times → (1 ≤ job) × (job ≤ length table.rows)
     → shown ≡ columns → place < length shown → place ≡ position_or_len (λ other. eqb other column) shown
     → get_or times ((job - 1) * length shown + place) 0 ≡ field_of table job column
 field_of-place table columns jobs times job shown place column seen kept exists same inside found =
@@ -91,9 +91,9 @@ field_of-place table columns jobs times job shown place column seen kept exists 
     rw (same, ← seen) (sym (numbers_in-cut_rows columns column jobs times (job - 1) place (omega (arith, exists)) (rw same at inside) (sym (rw same at found))))
 
 -- good rows, joined, make a table
-IsTable-rows : (columns kept numbers : List ℕ) (jobs : ℕ) (rows : List (List ℕ)) → kept ≡ columns → IsStrictlyIncreasing columns
-    → AllByRecursion (IsRow (length columns) MAX_TIME) rows → numbers ≡ concat rows → jobs ≡ length rows → IsTable kept jobs numbers
-IsTable-rows columns kept numbers jobs rows same up good joined counted =
+IsFilled-rows : (columns kept numbers : List ℕ) (jobs : ℕ) (rows : List (List ℕ)) → kept ≡ columns → IsStrictlyIncreasing columns
+    → AllByRecursion (IsRow (length columns) MAX_TIME) rows → numbers ≡ concat rows → jobs ≡ length rows → IsFilled kept jobs numbers
+IsFilled-rows columns kept numbers jobs rows same up good joined counted =
     record {
       ascending = rw same up;
       filled = rw (same, joined, counted) (length-concat-rows (length columns) MAX_TIME rows good);
@@ -101,21 +101,21 @@ IsTable-rows columns kept numbers jobs rows same up good joined counted =
     }
 
 -- and the table has those rows
-table_of-rows : (columns kept numbers : List ℕ) (jobs : ℕ) (rows : List (List ℕ)) → kept ≡ columns
+job_times-rows : (columns kept numbers : List ℕ) (jobs : ℕ) (rows : List (List ℕ)) → kept ≡ columns
     → AllByRecursion (IsRow (length columns) MAX_TIME) rows → numbers ≡ concat rows → jobs ≡ length rows
-    → under_columns columns (Ok rows) ≡ Ok (table_of kept jobs numbers)
-table_of-rows columns kept numbers jobs rows same good joined counted =
+    → under_columns columns (Ok rows) ≡ Ok (job_times kept jobs numbers)
+job_times-rows columns kept numbers jobs rows same good joined counted =
     rw (same, joined, counted, cut_rows-concat (length columns) MAX_TIME rows good) refl
 
 -- what a pass over a file holds is the table of its times
-pub IsTable-held : (columns kept file numbers : List ℕ) (jobs : ℕ) → kept ≡ columns → IsStrictlyIncreasing columns
-    → HoldsRows (rows_of columns MAX_TIME (records_of file)) numbers jobs → IsTable kept jobs numbers
-IsTable-held columns kept file numbers jobs same up held =
+pub IsFilled-held : (columns kept file numbers : List ℕ) (jobs : ℕ) → kept ≡ columns → IsStrictlyIncreasing columns
+    → HoldsRows (rows_of columns MAX_TIME (records_of file)) numbers jobs → IsFilled kept jobs numbers
+IsFilled-held columns kept file numbers jobs same up held =
     let all = Accepted-held columns MAX_TIME (records_of file) numbers jobs held in
-    IsTable-rows columns kept numbers jobs all.rows same up all.good all.joined all.counted
+    IsFilled-rows columns kept numbers jobs all.rows same up all.good all.joined all.counted
 
 pub times_of-held : (columns kept file numbers : List ℕ) (jobs : ℕ) → kept ≡ columns
-    → HoldsRows (rows_of columns MAX_TIME (records_of file)) numbers jobs → times_of columns file ≡ Ok (table_of kept jobs numbers)
+    → HoldsRows (rows_of columns MAX_TIME (records_of file)) numbers jobs → times_of columns file ≡ Ok (job_times kept jobs numbers)
 times_of-held columns kept file numbers jobs same held =
     let all = Accepted-held columns MAX_TIME (records_of file) numbers jobs held in
-    ap (under_columns columns) all.told ∙ table_of-rows columns kept numbers jobs all.rows same all.good all.joined all.counted
+    ap (under_columns columns) all.told ∙ job_times-rows columns kept numbers jobs all.rows same all.good all.joined all.counted
