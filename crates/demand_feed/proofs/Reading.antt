@@ -1,7 +1,7 @@
 -- What one read adds to the records that a reader has given.
 use Rattle.std.proofs.Common.{◌≡◌, ◌∙◌, ℕ, List, [], ◌∷◌, ◌++◌, Bool, true, false, Bor, Some, inl, inr, ◌≤◌, ◌+◌, Err, length, refl, append_assoc, length-append, arith}
 use Rattle.std.proofs.lemmas.Bool.{cases_Bool}
-use Rattle.csv.specs.Reading.{ReadRecord, Ready, default_config, is_bom, reader_trim, strip_bom, took_first}
+use Rattle.csv.specs.Reading.{ReadRecord, Ready, default_config, is_bom, is_flexible, reader_trim, strip_bom, took_first}
 use Rattle.csv.specs.declared.reader.Trim.TheVariants as trim
 use Rattle.csv.specs.declared.parser.State.TheVariants as st
 use Rattle.csv.proofs.ReadFacts.{rows-end, rows-more}
@@ -16,22 +16,25 @@ abbrev Reads : ByteReader → ByteReader → Record → Bool → Type 0
 Reads old new fields found = ReadRecord (λ (bytes : Bor (List ℕ)). Some bytes.now) old new found fields
 
 pub GivesNext-read : (old new : ByteReader) (fields : Record) (found : Bool) → (reader_trim old ≡ trim.None → Ready old → Reads old new fields found)
-    → (reader_trim old ≡ trim.None → took_first new ≡ true) → GivesNext old new fields found
-GivesNext-read old new fields true reads begun file rows given =
-    let read = reads given.trim given.ready in
-    let more = rows-more (λ (bytes : Bor (List ℕ)). Some bytes.now) old new fields default_config st.StartRecord (strip_bom file) given.rest rows given.config given.source given.reached read in
+    → (reader_trim old ≡ trim.None → took_first new ≡ true) → is_flexible new ≡ is_flexible old → GivesNext old new fields found
+GivesNext-read old new fields true reads begun flexible file rows given =
+    let read = reads given.plain.trim given.plain.ready in
+    let more = rows-more (λ (bytes : Bor (List ℕ)). Some bytes.now) old new fields default_config st.StartRecord (strip_bom file) given.rest rows given.plain.config given.source given.reached read in
     record {
-      config = read.2 ∙ given.config;
-      trim = read.3 ∙ given.trim;
-      ready = inl (begun given.trim);
+      plain = record {
+        config = read.2 ∙ given.plain.config;
+        trim = read.3 ∙ given.plain.trim;
+        flexible = flexible ∙ given.plain.flexible;
+        ready = inl (begun given.plain.trim);
+      };
       rest = more.0;
       source = more.1;
       reached = more.2;
     }
-GivesNext-read old new fields false reads begun file rows given =
-    let read = reads given.trim given.ready in
+GivesNext-read old new fields false reads begun flexible file rows given =
+    let read = reads given.plain.trim given.plain.ready in
     records-all _ _ given.rest rows given.reached
-    (rows-end (λ (bytes : Bor (List ℕ)). Some bytes.now) old new fields default_config given.rest given.config given.source read)
+    (rows-end (λ (bytes : Bor (List ℕ)). Some bytes.now) old new fields default_config given.rest given.plain.config given.source read)
 
 -- a byte order mark left out makes a file no longer
 pub length-strip_bom : (file : List ℕ) → length (strip_bom file) ≤ length file

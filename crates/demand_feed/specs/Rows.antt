@@ -35,13 +35,14 @@ lacks_number used most fields = list_any (λ column. is_none (number_at most fie
 
 -- the place of the first bad record among those of jobs, if one is bad
 unfoldable pub first_bad : List ℕ → ℕ → List Record → Option ℕ
-first_bad used most records = option_map (λ row. row.0) (find (λ row. lacks_number used most row.1) (jobs used records))
+first_bad used most records =
+    option_map (λ row. row.0) (find (λ row. lacks_number used most row.1) (jobs used records))
 
 -- the numbers of a record, column by column
 abbrev pub numbers_of : List ℕ → ℕ → Record → List ℕ
 numbers_of used most fields = filter_map (number_at most fields) used
 
--- what a file holds, or the place of its first bad record
+-- what is read of a file: what it holds, or the place of its first bad record
 abbrev pub Reading : Type 0 → Type 0
 Reading A = Result A ℕ
 

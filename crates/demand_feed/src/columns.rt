@@ -12,7 +12,8 @@ use line_base::{MAX_COLUMN, MAX_FILE_BYTES, MAX_TIME};
 use std::alloc::Global;
 use std::marker::Model;
 
-/// The job times in some columns of a times file. Contracts see the columns, and for each job the row of its times.
+/// The job times in some columns of a times file. Contracts see the columns, and for each job the
+/// row of its times.
 #[derive(Drop)]
 pub struct Columns {
     columns: Vec<u32>,
@@ -39,7 +40,8 @@ impl Columns {
         self.jobs
     }
 
-    /// The time of a job in one of the columns, in the plant's unit of time. Jobs and columns count from 1.
+    /// The time of a job in one of the columns, in the plant's unit of time. Jobs and columns count
+    /// from 1.
     pub fn field(&self, job: u32, column: u32) -> u64
         requires job { (1 ≤ job) × (job ≤ length self.now.rows) }
         requires column { Contains self.now.columns column }
@@ -65,11 +67,14 @@ fn place_of(columns: &[u32], column: u32) -> usize
     place
 }
 
-/// Reads the job times in these columns of a times file, each in the plant's unit of time. Columns count from 1.
+/// Reads the job times in these columns of a times file, in the plant's unit of time. Columns count
+/// from 1, and each record but a header is a job.
 ///
-/// A field is 1 to 20 decimal digits, spaces and tabs around it aside, of a value of at most 10^9. The first record is a
-/// header where each of these columns of it begins with an ASCII letter. `BadRecord` names the first other record that
-/// lacks such a field in one of the columns, counted from 1. Records are those of RFC 4180 as the crate `csv` reads them.
+/// A time is 1 to 20 decimal digits of a value of at most 10^9, with any spaces and tabs around it.
+/// The first record is a header where it begins with an ASCII letter in each of these columns.
+/// `BadRecord` names the first other record that lacks a time in one of the columns. Records are
+/// those of RFC 4180 as the crate `csv` reads them, of any number of fields each; a byte order mark
+/// at the front is no part of the first.
 pub fn read_times(alloc: Global, bytes: &[u8], columns: &[u32]) -> Result<Columns, FeedError>
     requires size { length bytes.now ≤ MAX_FILE_BYTES }
     requires ascending { IsStrictlyIncreasing columns.now }

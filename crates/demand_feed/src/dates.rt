@@ -8,12 +8,14 @@ use crate::rows::{Rows, read_rows};
 use line_base::{Date, MAX_DEMAND_DATE};
 use std::alloc::Global;
 
-/// Reads the dates of a demand file: the first field of each record but a header, in the plant's unit of time.
+/// Reads the dates of a demand file, in the plant's unit of time: the first field of each record but
+/// a header.
 ///
-/// A field is 1 to 20 decimal digits, spaces and tabs around it aside, of a value of at most 10^12. The first record is
-/// a header where its first field begins with an ASCII letter. `BadRecord` names the first other record that has no such
-/// field, counted from 1, and is 0 where the file has no date. Records are those of RFC 4180 as the crate `csv` reads
-/// them: a comma between fields, quotes, any number of fields, a byte order mark at the front left out.
+/// A date is 1 to 20 decimal digits of a value of at most 10^12, with any spaces and tabs around it.
+/// The first record is a header where it begins with an ASCII letter. `BadRecord` names the first
+/// other record that does not begin with a date, and is 0 where the file has no date. Records are
+/// those of RFC 4180 as the crate `csv` reads them, of any number of fields each; a byte order mark
+/// at the front is no part of the first.
 pub fn read_dates(alloc: Global, bytes: &[u8]) -> Result<Vec<Date>, FeedError>
     ensures dates { IfOk result (λ dates. dates_of bytes.now ≡ Ok dates.items) }
     ensures bad_record { IfErr result (TellsBadRecord (dates_of bytes.now)) }

@@ -6,8 +6,8 @@ use std::alloc::AllocError;
 /// Why a csv file gave no dates or times.
 #[derive(Clone, Copy, Debug, PartialEq, Eq)]
 pub enum FeedError {
-    /// The first record that lacks a used field, or has no number within the limit in one. Records are counted from 1
-    /// as the file has them, a header among them; 0 stands for a demand file without a date.
+    /// The first record that lacks a number within the limit in a used field. Records count from 1
+    /// as they stand in the file, a header among them; 0 stands for a demand file without a date.
     BadRecord {
         /// Which record.
         number: u64,

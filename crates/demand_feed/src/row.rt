@@ -45,8 +45,8 @@ pub(crate) fn has_titles(row: &ByteRecord, used: &[u32]) -> bool
     used.iter().all(|column| has_title_at(row, *column))
 }
 
-/// Adds the numbers in the used columns of a record, column by column; false where one of them is missing, is no number
-/// or is above `most`.
+/// Adds the numbers in the used columns of a record, column by column; false where a column has none
+/// of at most `most`.
 pub(crate) fn add_numbers(
     numbers: &mut Vec<u64>,
     row: &ByteRecord,
@@ -55,7 +55,8 @@ pub(crate) fn add_numbers(
 ) -> Result<bool, AllocError>
     requires { All (λ column. 1 ≤ column) used.now }
     ensures good { IfOk result (λ good. good ≡ not (lacks_number used.now most (fields_of row.now))) }
-    ensures added { IfOk result (λ good. good ≡ true → numbers.new.items ≡ numbers.old.items ++ numbers_of used.now most (fields_of row.now)) }
+    ensures added { IfOk result (λ good. good ≡ true →
+        numbers.new.items ≡ numbers.old.items ++ numbers_of used.now most (fields_of row.now)) }
 {
     for column in used {
         let Some(number) = number_at(row, *column, most) else {

@@ -35,7 +35,8 @@ pub(crate) fn read_rows(
     most: u64,
 ) -> Result<Rows, FeedError>
     requires { All (λ column. 1 ≤ column) used.now }
-    ensures rows { IfOk result (λ rows. HoldsRows (rows_of used.now most (records_of file.now)) rows.numbers.items rows.jobs) }
+    ensures rows { IfOk result (λ rows.
+        HoldsRows (rows_of used.now most (records_of file.now)) rows.numbers.items rows.jobs) }
     ensures bad_record { IfErr result (TellsBadRecord (rows_of used.now most (records_of file.now))) }
 {
     let mut reader = open(alloc, file);

@@ -9,9 +9,12 @@ returns c =
     let flexible = c.flexible.ensures in
     let headers = c.has_headers.ensures in
     record {
-      config = rw (flexible, headers) at made.config ∙ c.new.ensures.config;
-      trim = rw (flexible, headers) at made.trim ∙ c.new.ensures.trim;
-      ready = inr (inr (rw (flexible, headers) at made.has_headers, made.headers));
+      plain = record {
+        config = rw (flexible, headers) at made.config ∙ c.new.ensures.config;
+        trim = rw (flexible, headers) at made.trim ∙ c.new.ensures.trim;
+        flexible = rw flexible at made.flexible;
+        ready = inr (inr (rw (flexible, headers) at made.has_headers, made.headers));
+      };
       rest = strip_bom c.args.file.now;
       source = made.source;
       reached = (sym made.state, refl);
