@@ -1,0 +1,121 @@
+-- Where a number of a table stands among the numbers row after row.
+use Rattle.std.proofs.Common.{◌≡◌, ◌∙◌, ◌≤◌, ◌<◌, ◌+◌, ◌-◌, ◌*◌, ℕ, zero, suc, List, Result, Ok, Err, eqb, map, length, drop, get_or, refl, sym, ap, inl, inr, arith}
+use Rattle.std.specs.List.{AllByRecursion, Contains, concat, position_or_len}
+use Rattle.std.specs.List.Sorted.{IsBinarySearchResult, IsStrictlyIncreasing}
+use Rattle.std.specs.Ordering.{nat_cmp}
+use Rattle.std.proofs.lemmas.Bool.{cases_lt, eq-eqb, ne_eqb}
+use Rattle.std.proofs.lemmas.List.{get_or-drop, get_or-take, get_or_default}
+use Rattle.std.proofs.lemmas.List.Kept.{AllPairs-from_increasing}
+use Rattle.std.proofs.lemmas.List.Sorted.{searched}
+use Rattle.std.proofs.lemmas.List.Sums.{position_or_len_is}
+use Rattle.line_base.specs.declared.limits.TheConstants.{MAX_TIME}
+use Rattle.demand_feed.specs.Records.{records_of}
+use Rattle.demand_feed.specs.Rows.{HoldsRows, rows_of}
+use Rattle.demand_feed.specs.Times.{times_of, under_columns}
+use Rattle.demand_feed.proofs.GoodRows.{Accepted-held, All-concat-rows, IsRow, cut_rows-concat, length-concat-rows}
+use Rattle.demand_feed.specs.JobTimes.{IsFilled, JobTimes, cut_rows, field_of, number_for, job_times}
+
+pub length-cut_rows : (width count : ℕ) (numbers : List ℕ) → length (cut_rows width count numbers) ≡ count
+unfolding cut_rows
+length-cut_rows width zero numbers = refl
+length-cut_rows width (suc count) numbers = ap suc (length-cut_rows width count (drop width numbers))
+
+-- the number of row k for the column at place p
+pub numbers_in-cut_rows : (columns : List ℕ) (column count : ℕ) (numbers : List ℕ) (k p : ℕ) → k < count → p < length columns
+    → position_or_len (λ other. eqb other column) columns ≡ p
+    → get_or (map (number_for columns column) (cut_rows (length columns) count numbers)) k 0 ≡ get_or numbers (k * length columns + p) 0
+unfolding cut_rows
+numbers_in-cut_rows columns column zero numbers k p within inside place = absurd (omega arith)
+numbers_in-cut_rows columns column (suc count) numbers zero p within inside place =
+    let first : p ≡ 0 * length columns + p = omega arith in
+    rw place (get_or-take (length columns) numbers p 0 inside ∙ ap (λ (at : ℕ). get_or numbers at 0) first)
+numbers_in-cut_rows columns column (suc count) numbers (suc k) p within inside place =
+    let later : length columns + (k * length columns + p) ≡ suc k * length columns + p = omega arith in
+    numbers_in-cut_rows columns column count (drop (length columns) numbers) k p (omega arith) inside place
+    ∙ get_or-drop (length columns) numbers (k * length columns + p) 0
+    ∙ ap (λ (at : ℕ). get_or numbers at 0) later
+
+-- numbers that rise, from one place to any later one
+rises : (xs : List ℕ) → IsStrictlyIncreasing xs → (i j : ℕ) → i < j → j < length xs → get_or xs i 0 < get_or xs j 0
+rises xs up i j below within = AllPairs-from_increasing xs up i j 0 below within
+
+keeps-up : (xs : List ℕ) → IsStrictlyIncreasing xs → (i j : ℕ) → i ≤ j → j < length xs → get_or xs i 0 ≤ get_or xs j 0
+keeps-up xs up i j order within = elim (cases_lt i j) [
+  | inl below ↦ omega (arith, rises xs up i j below within)
+  | inr other ↦
+      let same : i ≡ j = omega arith in
+      rw same (omega arith)
+]
+
+-- a search in rising columns finds one at its only place
+pub place-found : (columns : List ℕ) (column p : ℕ) (r : Result ℕ ℕ) → r ≡ Ok p → IsStrictlyIncreasing columns
+    → IsBinarySearchResult (λ y. nat_cmp y column) columns r → (p < length columns) × (position_or_len (λ other. eqb other column) columns ≡ p)
+place-found columns column p r is up found =
+    let told = rw is at (searched columns column r found (keeps-up columns up)) in
+    let inside = told.0 in (
+      inside,
+      position_or_len_is (λ other. eqb other column) columns p 0 (omega arith)
+          (λ k below. let lower = rises columns up k p below inside in ne_eqb (get_or columns k 0) column (λ same. absurd (omega (arith, told.1))))
+          (λ _. eq-eqb (get_or columns p 0) column told.1),
+    )
+
+-- and misses none that is there
+pub place-missing : (columns : List ℕ) (column i : ℕ) (r : Result ℕ ℕ) → r ≡ Err i → IsStrictlyIncreasing columns
+    → IsBinarySearchResult (λ y. nat_cmp y column) columns r → Contains columns column → ⊥
+place-missing columns column i r is up missing (k, inside, there) =
+    let told = rw is at (searched columns column r missing (keeps-up columns up)) in
+    let here : get_or columns k 0 ≡ column = get_or_default columns k 0 column inside ∙ there in
+    elim (cases_lt k i) [
+      | inl below ↦ omega (arith, told.1 k below)
+      | inr above ↦ omega (arith, told.2 k above inside)
+    ]
+
+-- a place in a row is a place among all numbers
+place-within : (count width k p : ℕ) → k < count → p < width → k * width + p < count * width
+place-within count width k p below inside = grind arith
+
+-- the time of a job in a column stands at the place of the column in the job's row; `shown` are the table's columns
+pub place-within-times : (table : JobTimes) (columns : List ℕ) (jobs : ℕ) (times : List ℕ) (job : ℕ) (shown : List ℕ) (place : ℕ)
+    → job_times columns jobs times ≡ table → IsFilled columns jobs times → (1 ≤ job) × (job ≤ length table.rows)
+    → shown ≡ columns → place < length shown → (job - 1) * length shown + place < length times
+place-within-times table columns jobs times job shown place seen kept exists same inside =
+    let count : length table.rows ≡ jobs = rw (← seen) (length-cut_rows (length columns) jobs times) in
+    rw (same, kept.filled) (place-within jobs (length columns) (job - 1) place (omega (arith, exists)) (rw same at inside))
+
+pub field_of-place : (table : JobTimes) (columns : List ℕ) (jobs : ℕ) (times : List ℕ) (job : ℕ) (shown : List ℕ) (place column : ℕ)
+    → job_times columns jobs times ≡ table → IsFilled columns jobs times → (1 ≤ job) × (job ≤ length table.rows)
+    → shown ≡ columns → place < length shown → place ≡ position_or_len (λ other. eqb other column) shown
+    → get_or times ((job - 1) * length shown + place) 0 ≡ field_of table job column
+field_of-place table columns jobs times job shown place column seen kept exists same inside found =
+    let count : length table.rows ≡ jobs = rw (← seen) (length-cut_rows (length columns) jobs times) in
+    rw (same, ← seen) (sym (numbers_in-cut_rows columns column jobs times (job - 1) place (omega (arith, exists)) (rw same at inside) (sym (rw same at found))))
+
+-- good rows, joined, make a table
+IsFilled-rows : (columns kept numbers : List ℕ) (jobs : ℕ) (rows : List (List ℕ)) → kept ≡ columns → IsStrictlyIncreasing columns
+    → AllByRecursion (IsRow (length columns) MAX_TIME) rows → numbers ≡ concat rows → jobs ≡ length rows → IsFilled kept jobs numbers
+IsFilled-rows columns kept numbers jobs rows same up good joined counted =
+    record {
+      ascending = rw same up;
+      filled = rw (same, joined, counted) (length-concat-rows (length columns) MAX_TIME rows good);
+      limit = rw joined (All-concat-rows (length columns) MAX_TIME rows good);
+    }
+
+-- and the table has those rows
+job_times-rows : (columns kept numbers : List ℕ) (jobs : ℕ) (rows : List (List ℕ)) → kept ≡ columns
+    → AllByRecursion (IsRow (length columns) MAX_TIME) rows → numbers ≡ concat rows → jobs ≡ length rows
+    → under_columns columns (Ok rows) ≡ Ok (job_times kept jobs numbers)
+job_times-rows columns kept numbers jobs rows same good joined counted =
+    rw (same, joined, counted, cut_rows-concat (length columns) MAX_TIME rows good) refl
+
+-- what a pass over a file holds is the table of its times
+pub IsFilled-held : (columns kept file numbers : List ℕ) (jobs : ℕ) → kept ≡ columns → IsStrictlyIncreasing columns
+    → HoldsRows (rows_of columns MAX_TIME (records_of file)) numbers jobs → IsFilled kept jobs numbers
+IsFilled-held columns kept file numbers jobs same up held =
+    let all = Accepted-held columns MAX_TIME (records_of file) numbers jobs held in
+    IsFilled-rows columns kept numbers jobs all.rows same up all.good all.joined all.counted
+
+pub times_of-held : (columns kept file numbers : List ℕ) (jobs : ℕ) → kept ≡ columns
+    → HoldsRows (rows_of columns MAX_TIME (records_of file)) numbers jobs → times_of columns file ≡ Ok (job_times kept jobs numbers)
+times_of-held columns kept file numbers jobs same held =
+    let all = Accepted-held columns MAX_TIME (records_of file) numbers jobs held in
+    ap (under_columns columns) all.told ∙ job_times-rows columns kept numbers jobs all.rows same all.good all.joined all.counted

@@ -1,0 +1,17 @@
+//! Demand dates and job times from csv files.
+#![tactic(auto)]
+
+mod columns;
+mod dates;
+mod error;
+mod field;
+mod reader;
+mod row;
+mod rows;
+
+pub use columns::{Columns, read_times};
+pub use dates::read_dates;
+pub use error::FeedError;
+
+#[cfg(test)]
+mod tests;
