@@ -1,0 +1,32 @@
+//! The program `pull`: it hands the words of the command line to the top call and ends with its status.
+#![tactic(auto)]
+
+use line_io::{FileStore, StdSink};
+use pull_cli::pull;
+use std::process::ExitCode;
+use std::rt::Env;
+use std::{env, io};
+
+/// The status where the machine doesn't hand over the words, as where one is no UTF-8. The top call never answers it.
+const NO_WORDS: u8 = 1;
+
+/// The status where there is no memory for the words.
+const NO_MEMORY: u8 = 9;
+
+/// The words after the program's name.
+fn words_of<R: Env + AllocGlobal>(rt: &R) -> io::Result<Vec<String>> {
+    let mut words = env::args(rt)?;
+    words.next();
+    Ok(words.collect(rt.alloc())?)
+}
+
+fn main(rt: HostRuntime) -> ExitCode {
+    let words = match words_of(&rt) {
+        Ok(words) => words,
+        Err(error) if error.kind() == io::ErrorKind::OutOfMemory => return NO_MEMORY.into(),
+        Err(_) => return NO_WORDS.into(),
+    };
+    let mut store = FileStore::new(&rt);
+    let mut sink = StdSink::new(&rt);
+    pull(rt.alloc(), words.as_slice(), &mut store, &mut sink).into()
+}

@@ -1,0 +1,5 @@
+pub mod Bounds
+pub mod Demands
+pub mod FirstForm
+pub mod Memory
+pub mod Tree
