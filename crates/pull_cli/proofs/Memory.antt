@@ -1,5 +1,5 @@
 -- Where a line that names a file finds no memory.
-use Rattle.std.proofs.Common.{◌≡◌, Option, Some, None, inl, inr, subst}
+use Rattle.std.proofs.Common.{Option, Some, None, inl, inr, subst}
 use Rattle.pull_cli.specs.Ends.{Reading, MayCome}
 use Rattle.pull_cli.specs.Outcome.{IsNamed}
 use Rattle.pull_cli.specs.declared.outcome.Outcome.{Outcome}

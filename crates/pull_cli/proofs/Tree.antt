@@ -1,11 +1,11 @@
 -- The tree that bytes are, from what toml's reader answers.
-use Rattle.std.proofs.Common.{◌≡◌, ◌∙◌, sym, ap, ℕ, List, Bool, true, false, cond, Option, Some, None, refl}
+use Rattle.std.proofs.Common.{◌≡◌, ℕ, List, Bool, true, false, cond, Some, None, refl}
 use Rattle.std.specs.Str.{IsUtf8, is_utf8}
 use Rattle.std.proofs.lemmas.Str.{IsUtf8-from_is_utf8, is_utf8-from_IsUtf8}
 use Rattle.toml.specs.Data.{Members}
 use Rattle.toml.specs.Parse.{parse_document}
 use Rattle.pull_cli.specs.FirstForm.{IsSound, IsFirstForm, line_members}
-use Rattle.pull_cli.specs.Reads.{Reads, tree_of}
+use Rattle.pull_cli.specs.Reads.{tree_of}
 use Rattle.pull_cli.specs.declared.first_form.SerialLine.{SerialLine}
 
 -- text that is read is the tree

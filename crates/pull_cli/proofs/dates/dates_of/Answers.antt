@@ -1,4 +1,3 @@
-use Rattle.std.proofs.Common.{rules}
 use Rattle.pull_cli.proofs.Bounds.{date_at}
 use Rattle.pull_cli.proofs.dates.dates_of.Goals as goal
 

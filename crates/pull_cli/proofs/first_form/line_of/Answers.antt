@@ -1,4 +1,4 @@
-use Rattle.std.proofs.Common.{rules, arith}
+use Rattle.std.proofs.Common.{rules}
 use Rattle.pull_cli.proofs.FirstForm.{too_large}
 use Rattle.pull_cli.proofs.first_form.line_of.Goals as goal
 
