@@ -1,0 +1,6 @@
+//! Is a graph live: an order of its stations, or a circuit without a token.
+#![tactic(auto)]
+
+mod law;
+
+pub use law::more_tokens_never_later;
