@@ -1,1 +1,4 @@
+pub mod Counts
 pub mod NeverLater
+pub mod RankSteps
+pub mod Upward

@@ -1,1 +1,4 @@
 pub mod MoreTokens
+pub mod Order
+pub mod Ranking
+pub mod DeadCircuit

@@ -2,5 +2,6 @@
 #![tactic(auto)]
 
 mod law;
+mod ranking;
 
 pub use law::more_tokens_never_later;
