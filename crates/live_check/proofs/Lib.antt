@@ -2,3 +2,4 @@ pub mod Counts
 pub mod NeverLater
 pub mod RankSteps
 pub mod Upward
+pub mod StuckWalks

@@ -10,7 +10,7 @@ use Rattle.std.proofs.lemmas.List.FromFn.{length-range_with_len}
 use Rattle.line_base.specs.declared.event.Arc.{Arc}
 use Rattle.line_base.specs.declared.event.Parts.{Parts}
 use Rattle.event_graph.specs.Network.{IsGraph, arc, arc_count, stations, ins}
-use Rattle.live_check.specs.Ranking.{Ranks, with_next, with_passed, released, is_free_from, is_open, open_count, IsPassing, IsPassed, NoneIsReady, CountsFree}
+use Rattle.live_check.specs.Ranking.{Ranks, with_next, with_passed, released, is_free_from, is_open, open_count, IsPassing, IsPassed, NoneIsReady, CountsFree, IsComplete}
 use Rattle.live_check.specs.DeadCircuit.{LeadsOn, IsStuck}
 use Rattle.live_check.proofs.Counts.{count_by-range-agree, count_by-filter, count_by-range_more, sum_by-range-add, none_passes, some_passes}
 
@@ -498,3 +498,7 @@ idle_more_no g r t w waiting h exists same read waits =
 -- there are no more ranks than stations
 pub order_short : (g : Parts) (r : Ranks) (p : ℕ) → IsPassed g r p → length r.order ≤ stations g
 order_short g r p h = omega (arith, h.falling.unranked)
+
+-- a complete ranking leaves no station without a rank that has no way on
+pub complete_stuck : (g : Parts) (r : Ranks) → IsComplete g r → IsStuck g r.ranks
+complete_stuck g r h = stuck g r (length r.order) h.sound h.passed h.ready (omega arith)

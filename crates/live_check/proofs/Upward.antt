@@ -9,8 +9,8 @@ use Rattle.line_base.specs.declared.event.Parts.{Parts}
 use Rattle.event_graph.specs.Network.{IsGraph, arc, arc_count, stations}
 use Rattle.event_graph.specs.Circuit.{IsWalk, IsCircuit, tokens_on}
 use Rattle.event_graph.specs.Live.{IsLive}
-use Rattle.live_check.specs.Order.{IsUpward, StandsAt}
-use Rattle.live_check.specs.Ranking.{IsFalling, AllRanked, from_end}
+use Rattle.live_check.specs.Order.{IsUpward, StandsAt, IsRanked, IsOrdered}
+use Rattle.live_check.specs.Ranking.{Ranks, IsFalling, IsComplete, AllRanked, from_end}
 
 -- along arcs without tokens each step is one place up at least
 climbs : (g : Parts) (places : List ℕ) → IsUpward g places → (t u : ℕ) (arcs : List ℕ) → IsWalk g t arcs u → tokens_on g arcs ≡ 0 → get_or places t 0 + length arcs ≤ get_or places u 0
@@ -80,3 +80,14 @@ falling_stands g ranks order falling ranked =
         let e = place_is g ranks falling.rank_for_each t (falling.in_order k in_order) in
         ap (λ u. get_or (map (from_end T) ranks) u 0) (turned place below) ∙ (e ∙ omega (arith, falling.rank_at k in_order)));
     }
+
+-- a complete ranking in which every station has a rank is an order
+pub complete_ordered : (g : Parts) (r : Ranks) → IsComplete g r → AllRanked r.ranks → IsOrdered g (map (from_end (length r.ranks)) r.ranks) (reverse r.order)
+complete_ordered g r h ranked =
+    let falling = h.passed.falling in
+    let up = falling_upward g r.ranks r.order h.sound falling ranked in
+    rw falling.rank_for_each
+    (record {
+      ranked = record { sound = h.sound; limits = h.limits; live = upward_live g (map (from_end (stations g)) r.ranks) up; upward = up };
+      stands = falling_stands g r.ranks r.order falling ranked;
+    })

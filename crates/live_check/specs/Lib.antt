@@ -1,4 +1,5 @@
-pub mod MoreTokens
 pub mod Order
-pub mod Ranking
 pub mod DeadCircuit
+pub mod NotLive
+pub mod MoreTokens
+pub mod Ranking

@@ -31,3 +31,8 @@ pub record IsRanked (l : LiveGraph) : Type 0 where
   pub limits : IsWithinLimits l.graph
   pub live : IsLive l.graph
   pub upward : IsUpward l.graph l.places
+
+-- the places order the stations of the graph, which is live, and the order has the station at each place
+pub record IsOrdered (g : Parts) (places order : List ℕ) : Type 0 where
+  pub ranked : IsRanked (record { graph = g; places = places })
+  pub stands : StandsAt g places order

@@ -2,7 +2,8 @@
 use Rattle.std.specs.Prelude.{◌≡◌, ℕ, ◌+◌, ◌-◌, ◌<◌, ◌≤◌, ◌==◌, ◌&&◌, nat_le, if◌then◌else◌, Bool, List, [], ◌∷◌, ◌++◌, length, slice_index, slice_set, count_by, All}
 use Rattle.std.specs.List.{range_with_len}
 use Rattle.line_base.specs.declared.event.Parts.{Parts}
-use Rattle.event_graph.specs.Network.{stations, arc_count, arc}
+use Rattle.event_graph.specs.Network.{IsGraph, stations, arc_count, arc}
+use Rattle.event_graph.specs.Limits.{IsWithinLimits}
 
 -- for each station how many of its arcs out without a token are not passed, and its rank; the ranked stations by rank
 pub record Ranks : Type 0 where
@@ -78,3 +79,10 @@ IsUnranked ranks t = (t < length ranks) × (length ranks ≤ slice_index ranks t
 -- the place of a rank among n stations, counted from the other end
 abbrev pub from_end : ℕ → ℕ → ℕ
 from_end n rank = n - 1 - rank
+
+-- every station that can have a rank has one
+pub record IsComplete (g : Parts) (r : Ranks) : Type 0 where
+  pub sound : IsGraph g
+  pub limits : IsWithinLimits g
+  pub passed : IsPassed g r (length r.order)
+  pub ready : NoneIsReady g r (stations g)

@@ -1,7 +1,8 @@
-ghost use Rattle.std.specs.Prelude.{◌≡◌, ℕ, ◌+◌, ◌-◌, ◌^◌, ◌<◌, ◌≤◌, [], length, slice_index, slice_set, replicate, reverse, map, count_by, All, IfOk, MatchOption};
+ghost use Rattle.std.specs.Prelude.{◌≡◌, ℕ, ◌+◌, ◌-◌, ◌^◌, ◌<◌, ◌≤◌, [], length, slice_index, slice_set, replicate, reverse, map, count_by, All, IfOk, OnOk, MatchOption};
 ghost use Rattle.std.specs.List.{range_with_len};
 ghost use Rattle.event_graph.specs.Network.{IsGraph, stations, arc_count};
-ghost use Rattle.live_check.specs.Ranking.{Ranks, with_next, released, CountsFree, IsPassing, IsPassed, NoneIsReady, AllRanked, IsUnranked, from_end};
+ghost use Rattle.event_graph.specs.Limits.{IsWithinLimits};
+ghost use Rattle.live_check.specs.Ranking.{Ranks, with_next, released, CountsFree, IsPassing, IsPassed, NoneIsReady, IsComplete, AllRanked, IsUnranked, from_end};
 
 use event_graph::{Arc, Graph};
 use std::alloc::{AllocError, Global};
@@ -56,8 +57,7 @@ fn turn_round(ranks: &mut Vec<u32>)
 impl Ranking {
     /// The ranking of a graph, with as many stations ranked as can be.
     pub fn of(alloc: Global, graph: &Graph) -> Result<Ranking, AllocError>
-        ensures passed { IfOk result (λ r. IsPassed graph.now r (length r.order)) }
-        ensures ready { IfOk result (λ r. NoneIsReady graph.now r (stations graph.now)) }
+        ensures { IfOk result (IsComplete graph.now) }
     {
         let mut ranking = Ranking::new(alloc, graph)?;
         ranking.rank_idle(graph);
@@ -69,6 +69,8 @@ impl Ranking {
     fn new(alloc: Global, graph: &Graph) -> Result<Ranking, AllocError>
         ensures passed { IfOk result (λ r. IsPassed graph.now r 0) }
         ensures none { IfOk result (λ r. r.order ≡ []) }
+        ensures sound { OnOk result (IsGraph graph.now) }
+        ensures limits { OnOk result (IsWithinLimits graph.now) }
     {
         let stations = graph.stations();
         let waiting = count_free(alloc, graph)?;
