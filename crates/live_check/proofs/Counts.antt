@@ -50,11 +50,11 @@ some_passes p a zero some = absurd (omega (arith, some))
 some_passes p a (suc n) some =
     let whole = sum_by-cons (λ k. cond (p k) 1 0) a (range_with_len (a + 1) n) in
     elim (cases_Bool (p a)) [
-      inl passes ↦ (a, omega arith, passes)
-    | inr fails ↦
-        (let zero_here : cond (p a) 1 0 ≡ 0 = ap {B = ℕ} (λ b. cond b 1 0) fails in
-        let later = some_passes p (a + 1) n (omega (arith, whole, zero_here, some)) in
-        (later.0, omega (arith, later.1), later.2))
+      | inl passes ↦ (a, omega arith, passes)
+      | inr fails ↦
+          (let zero_here : cond (p a) 1 0 ≡ 0 = ap {B = ℕ} (λ b. cond b 1 0) fails in
+          let later = some_passes p (a + 1) n (omega (arith, whole, zero_here, some)) in
+          (later.0, omega (arith, later.1), later.2))
     ]
 
 kept_behind : (b : Bool) (y : ℕ) (zs : List ℕ) (x : ℕ) → Contains zs x → Contains (cond b (y ∷ zs) zs) x

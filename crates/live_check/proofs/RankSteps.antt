@@ -28,8 +28,8 @@ ends_passed g r p s a arcs h exists idle there from free =
     let none : open_count g r.ranks p s ≡ 0 = omega (arith, h.waits s exists, idle) in
     let shut = none_passes (is_open g r.ranks p s) (arc_count g) a none there in
     elim (and_cases (is_free_from g s a) (leb p (get_or r.ranks (arc g a).to 0)) shut) [
-      inl taken ↦ absurd (false≢true (sym taken ∙ and_from (eqb (arc g a).from s) (eqb (arc g a).tokens 0) (eq-eqb (arc g a).from s from) (eq-eqb (arc g a).tokens 0 free)))
-    | inr passed ↦ leb-false p (get_or r.ranks (arc g a).to 0) passed
+      | inl taken ↦ absurd (false≢true (sym taken ∙ and_from (eqb (arc g a).from s) (eqb (arc g a).tokens 0) (eq-eqb (arc g a).from s from) (eq-eqb (arc g a).tokens 0 free)))
+      | inr passed ↦ leb-false p (get_or r.ranks (arc g a).to 0) passed
     ]
 
 -- a rank past the passed ones opens and closes no arc
@@ -38,10 +38,10 @@ unfolding open_count
 open_count-next g ranks p s n t exists behind unpassed =
     count_by-range-agree (is_open g (set ranks s n) p t) (is_open g ranks p t) 0 (arc_count g)
     (λ a low high. ap (λ b. is_free_from g t a && b)
-      (elim (cases_eq (arc g a).to s) [
-        inl here ↦ (rw here (rw get_or-set_same (le-leb p n behind ∙ sym (le-leb p (get_or ranks s 0) unpassed))))
+    (elim (cases_eq (arc g a).to s) [
+      | inl here ↦ (rw here (rw get_or-set_same (le-leb p n behind ∙ sym (le-leb p (get_or ranks s 0) unpassed))))
       | inr elsewhere ↦ ap (leb p) (get_or-set_other ranks s (arc g a).to n 0 elsewhere)
-      ]))
+    ]))
 
 -- what a station that gets the next rank leaves as it was
 rank_elsewhere : (g : Parts) (r : Ranks) (s t : ℕ) → t ≢ s → get_or (with_next r s).ranks t 0 ≡ get_or r.ranks t 0
@@ -61,61 +61,61 @@ next_keeps g r p s arcs graph h exists idle unranked =
       falling = record {
         rank_for_each = length-set r.ranks s n ∙ h.falling.rank_for_each;
         unranked =
-          (let f = λ (x : ℕ). cond (leb (stations g) x) 1 0 in
-          let moved = sum_by-set f r.ranks s n 0 here in
-          let before : f (get_or r.ranks s 0) ≡ 1 = ap {B = ℕ} (λ b. cond b 1 0) (le-leb (stations g) (get_or r.ranks s 0) unranked) in
-          let after : f n ≡ 0 = ap {B = ℕ} (λ b. cond b 1 0) (lt-leb (stations g) n room) in
-          omega (arith, h.falling.unranked, moved, before, after, length_push r.order s));
+            (let f = λ (x : ℕ). cond (leb (stations g) x) 1 0 in
+            let moved = sum_by-set f r.ranks s n 0 here in
+            let before : f (get_or r.ranks s 0) ≡ 1 = ap {B = ℕ} (λ b. cond b 1 0) (le-leb (stations g) (get_or r.ranks s 0) unranked) in
+            let after : f n ≡ 0 = ap {B = ℕ} (λ b. cond b 1 0) (lt-leb (stations g) n room) in
+            omega (arith, h.falling.unranked, moved, before, after, length_push r.order s));
         has_rank = λ t there ranked.
-          elim (cases_eq t s) [
-            inl same ↦ omega (arith, ap (λ u. get_or (with_next r s).ranks u 0) same, own, length_push r.order s)
-          | inr apart ↦ omega (arith, rank_elsewhere g r s t apart, h.falling.has_rank t there (rw (rank_elsewhere g r s t apart) at ranked), length_push r.order s)
-          ];
+            elim (cases_eq t s) [
+              | inl same ↦ omega (arith, ap (λ u. get_or (with_next r s).ranks u 0) same, own, length_push r.order s)
+              | inr apart ↦ omega (arith, rank_elsewhere g r s t apart, h.falling.has_rank t there (rw (rank_elsewhere g r s t apart) at ranked), length_push r.order s)
+            ];
         at_rank = λ t there ranked.
-          elim (cases_eq t s) [
-            inl same ↦ ap (λ u. get_or (with_next r s).order (get_or (with_next r s).ranks u 0) 0) same ∙ (ap (λ k. get_or (with_next r s).order k 0) own ∙ (get_or_push r.order s 0 n refl ∙ sym same))
-          | inr apart ↦
-              (let ranked_before = rw (rank_elsewhere g r s t apart) at ranked in
-              ap (λ k. get_or (with_next r s).order k 0) (rank_elsewhere g r s t apart) ∙ (order_before r s (get_or r.ranks t 0) (h.falling.has_rank t there ranked_before) ∙ h.falling.at_rank t there ranked_before))
-          ];
+            elim (cases_eq t s) [
+              | inl same ↦ ap (λ u. get_or (with_next r s).order (get_or (with_next r s).ranks u 0) 0) same ∙ (ap (λ k. get_or (with_next r s).order k 0) own ∙ (get_or_push r.order s 0 n refl ∙ sym same))
+              | inr apart ↦
+                  (let ranked_before = rw (rank_elsewhere g r s t apart) at ranked in
+                  ap (λ k. get_or (with_next r s).order k 0) (rank_elsewhere g r s t apart) ∙ (order_before r s (get_or r.ranks t 0) (h.falling.has_rank t there ranked_before) ∙ h.falling.at_rank t there ranked_before))
+            ];
         in_order = λ k within.
-          elim (cases_lt k n) [
-            inl before ↦ omega (arith, order_before r s k before, h.falling.in_order k before)
-          | inr last ↦ (let e : n ≡ k = omega (arith, length_push r.order s) in omega (arith, get_or_push r.order s 0 k e))
-          ];
+            elim (cases_lt k n) [
+              | inl before ↦ omega (arith, order_before r s k before, h.falling.in_order k before)
+              | inr last ↦ (let e : n ≡ k = omega (arith, length_push r.order s) in omega (arith, get_or_push r.order s 0 k e))
+            ];
         rank_at = λ k within.
-          elim (cases_lt k n) [
-            inl before ↦
-              (let u = get_or r.order k 0 in
-              let apart : u ≢ s = λ same. omega (arith, h.falling.rank_at k before, ap (λ v. get_or r.ranks v 0) same, room) in
-              ap (λ v. get_or (with_next r s).ranks v 0) (order_before r s k before) ∙ (rank_elsewhere g r s u apart ∙ h.falling.rank_at k before))
-          | inr last ↦
-              (let e : n ≡ k = omega (arith, length_push r.order s) in
-              ap (λ v. get_or (with_next r s).ranks v 0) (get_or_push r.order s 0 k e) ∙ (own ∙ e))
-          ];
+            elim (cases_lt k n) [
+              | inl before ↦
+                  (let u = get_or r.order k 0 in
+                  let apart : u ≢ s = λ same. omega (arith, h.falling.rank_at k before, ap (λ v. get_or r.ranks v 0) same, room) in
+                  ap (λ v. get_or (with_next r s).ranks v 0) (order_before r s k before) ∙ (rank_elsewhere g r s u apart ∙ h.falling.rank_at k before))
+              | inr last ↦
+                  (let e : n ≡ k = omega (arith, length_push r.order s) in
+                  ap (λ v. get_or (with_next r s).ranks v 0) (get_or_push r.order s 0 k e) ∙ (own ∙ e))
+            ];
         falls = λ a there free ranked.
-          (let T = stations g in
-          let from = (arc g a).from in
-          let to = (arc g a).to in
-          elim (cases_eq from s) [
-            inl same ↦
-              (let low = ends_passed g r p s a arcs h exists idle there same free in
-              let apart : to ≢ s = λ e. omega (arith, ap (λ v. get_or r.ranks v 0) e, low, h.within, room) in
-              omega (arith, rank_elsewhere g r s to apart, ap (λ v. get_or (with_next r s).ranks v 0) same, own, low, h.within))
-          | inr apart_from ↦
-              (let fall = h.falling.falls a there free (rw (rank_elsewhere g r s from apart_from) at ranked) in
-              let apart : to ≢ s = λ e. omega (arith, ap (λ v. get_or r.ranks v 0) e, fall, rank_elsewhere g r s from apart_from, ranked) in
-              omega (arith, rank_elsewhere g r s to apart, rank_elsewhere g r s from apart_from, fall))
-          ]);
+            (let T = stations g in
+            let from = (arc g a).from in
+            let to = (arc g a).to in
+            elim (cases_eq from s) [
+              | inl same ↦
+                  (let low = ends_passed g r p s a arcs h exists idle there same free in
+                  let apart : to ≢ s = λ e. omega (arith, ap (λ v. get_or r.ranks v 0) e, low, h.within, room) in
+                  omega (arith, rank_elsewhere g r s to apart, ap (λ v. get_or (with_next r s).ranks v 0) same, own, low, h.within))
+              | inr apart_from ↦
+                  (let fall = h.falling.falls a there free (rw (rank_elsewhere g r s from apart_from) at ranked) in
+                  let apart : to ≢ s = λ e. omega (arith, ap (λ v. get_or r.ranks v 0) e, fall, rank_elsewhere g r s from apart_from, ranked) in
+                  omega (arith, rank_elsewhere g r s to apart, rank_elsewhere g r s from apart_from, fall))
+            ]);
       };
       within = omega (arith, h.within, length_push r.order s);
       waiting_for_each = h.waiting_for_each;
       waits = λ t there. h.waits t there ∙ ap (λ c. c + count_by (is_free_from g t) arcs) (sym (open_count-next g r.ranks p s n t here h.within (omega (arith, h.within))));
       no_wait = λ t there ranked.
-        elim (cases_eq t s) [
-          inl same ↦ ap (λ u. get_or r.waiting u 0) same ∙ idle
-        | inr apart ↦ h.no_wait t there (rw (rank_elsewhere g r s t apart) at ranked)
-        ];
+          elim (cases_eq t s) [
+            | inl same ↦ ap (λ u. get_or r.waiting u 0) same ∙ idle
+            | inr apart ↦ h.no_wait t there (rw (rank_elsewhere g r s t apart) at ranked)
+          ];
     }
 
 -- an arc that holds a token, or that leads out of another station, is not waited for
@@ -153,13 +153,12 @@ pub waits_still : (g : Parts) (r : Ranks) (p a : ℕ) (arcs : List ℕ) → IsGr
 waits_still g r p a arcs graph h there none =
     let s = (arc g a).from in
     let exists = graph.starts_exist a there in
-    let waiting : 0 < get_or r.waiting s 0 = omega (arith, h.waits s exists, count_rest_yes g s a arcs (free g s a refl none)) in
-    (
+    let waiting : 0 < get_or r.waiting s 0 = omega (arith, h.waits s exists, count_rest_yes g s a arcs (free g s a refl none)) in (
       waiting,
       elim (cases_lt (get_or r.ranks s 0) (stations g)) [
-        inl ranked ↦ absurd (omega (arith, h.no_wait s exists ranked, waiting))
-      | inr unranked ↦ unranked
-      ]
+        | inl ranked ↦ absurd (omega (arith, h.no_wait s exists ranked, waiting))
+        | inr unranked ↦ unranked
+      ],
     )
 
 -- an arc without a token is passed
@@ -176,17 +175,17 @@ passed_keeps g r p a arcs graph h there none =
       within = h.within;
       waiting_for_each = length-set r.waiting s (w - 1) ∙ h.waiting_for_each;
       waits = λ t known.
-        elim (cases_eq t s) [
-          inl same ↦
-            omega (arith, ap (λ u. get_or (set r.waiting s (w - 1)) u 0) same, get_or-set_same r.waiting s (w - 1) 0 here, h.waits s exists, count_rest_yes g s a arcs (free g s a refl none), ap (λ u. open_count g r.ranks p u + count_by (is_free_from g u) arcs) same)
-        | inr apart ↦
-            omega (arith, elsewhere t apart, h.waits t known, count_rest_no g t a arcs (not_free g t a (λ from _. apart (sym from))))
-        ];
+          elim (cases_eq t s) [
+            | inl same ↦
+                omega (arith, ap (λ u. get_or (set r.waiting s (w - 1)) u 0) same, get_or-set_same r.waiting s (w - 1) 0 here, h.waits s exists, count_rest_yes g s a arcs (free g s a refl none), ap (λ u. open_count g r.ranks p u + count_by (is_free_from g u) arcs) same)
+            | inr apart ↦
+                omega (arith, elsewhere t apart, h.waits t known, count_rest_no g t a arcs (not_free g t a (λ from _. apart (sym from))))
+          ];
       no_wait = λ t known ranked.
-        elim (cases_eq t s) [
-          inl same ↦ absurd (omega (arith, still.1, ranked, ap (λ u. get_or r.ranks u 0) same))
-        | inr apart ↦ elsewhere t apart ∙ h.no_wait t known ranked
-        ];
+          elim (cases_eq t s) [
+            | inl same ↦ absurd (omega (arith, still.1, ranked, ap (λ u. get_or r.ranks u 0) same))
+            | inr apart ↦ elsewhere t apart ∙ h.no_wait t known ranked
+          ];
     }
 
 -- ---- one arc, and the rank that may follow
@@ -204,11 +203,11 @@ released_keeps g r p a arcs graph h there none =
 pub next_ready : (g : Parts) (r : Ranks) (p s n : ℕ) (arcs : List ℕ) → IsPassing g r p arcs → s < stations g → stations g ≤ get_or r.ranks s 0 → ((t : ℕ) → t < n → t ≢ s → stations g ≤ get_or r.ranks t 0 → 0 < get_or r.waiting t 0) → NoneIsReady g (with_next r s) n
 next_ready g r p s n arcs h exists unranked others = record {
   all_wait = λ t below no_rank.
-    elim (cases_eq t s) [
-      inl same ↦
-        absurd (omega (arith, no_rank, ap (λ u. get_or (with_next r s).ranks u 0) same, get_or-set_same r.ranks s (length r.order) 0 (omega (arith, h.falling.rank_for_each)), has_room g r p s arcs h exists unranked))
-    | inr apart ↦ others t below apart (rw (rank_elsewhere g r s t apart) at no_rank)
-    ];
+      elim (cases_eq t s) [
+        | inl same ↦
+            absurd (omega (arith, no_rank, ap (λ u. get_or (with_next r s).ranks u 0) same, get_or-set_same r.ranks s (length r.order) 0 (omega (arith, h.falling.rank_for_each)), has_room g r p s arcs h exists unranked))
+        | inr apart ↦ others t below apart (rw (rank_elsewhere g r s t apart) at no_rank)
+      ];
 }
 
 pub released_ready : (g : Parts) (r : Ranks) (p a : ℕ) (arcs : List ℕ) → IsGraph g → IsPassing g r p (a ∷ arcs) → a < arc_count g → (arc g a).tokens ≡ 0 → NoneIsReady g r (stations g) → NoneIsReady g (released r (arc g a).from) (stations g)
@@ -224,15 +223,15 @@ released_ready g r p a arcs graph h there none ready =
     cond_both (eqb (w - 1) 0) (with_next (with_passed r s) s) (with_passed r s) (λ v. NoneIsReady g v (stations g))
     (λ last. next_ready g (with_passed r s) p s (stations g) arcs passed exists still.1 others)
     (λ more.
-      record {
-        all_wait = λ t below no_rank.
+    record {
+      all_wait = λ t below no_rank.
           elim (cases_eq t s) [
-            inl same ↦
-              (let left : w - 1 ≢ 0 = eqb-false (w - 1) 0 more in
-              omega (arith, left, ap (λ u. get_or (set r.waiting s (w - 1)) u 0) same, get_or-set_same r.waiting s (w - 1) 0 here))
-          | inr apart ↦ others t below apart no_rank
+            | inl same ↦
+                (let left : w - 1 ≢ 0 = eqb-false (w - 1) 0 more in
+                omega (arith, left, ap (λ u. get_or (set r.waiting s (w - 1)) u 0) same, get_or-set_same r.waiting s (w - 1) 0 here))
+            | inr apart ↦ others t below apart no_rank
           ];
-      })
+    })
 
 -- ---- the next station of the order
 
@@ -255,18 +254,18 @@ still_open g r p a graph h more there =
     let t = get_or r.order p 0 in
     let rank = get_or r.ranks to 0 in
     elim (cases_eq to t) [
-      inl into ↦
-        (let is : rank ≡ p = ap (λ u. get_or r.ranks u 0) into ∙ h.falling.rank_at p more in
-        inl (eq-eqb to t into, le-leb p rank (omega arith), lt-leb (p + 1) rank (omega arith)))
-    | inr past ↦
-        (let apart : rank ≢ p = λ e. past (sym (h.falling.at_rank to (graph.ends_exist a there) (omega (arith, e, has_place g r p h more))) ∙ ap (λ k. get_or r.order k 0) e) in
-        inr (
-          ne_eqb to t past,
-          elim (cases_lt rank p) [
-            inl below ↦ lt-leb p rank below ∙ sym (lt-leb (p + 1) rank (omega arith))
-          | inr above ↦ le-leb p rank above ∙ sym (le-leb (p + 1) rank (omega arith))
-          ]
-        ))
+      | inl into ↦
+          (let is : rank ≡ p = ap (λ u. get_or r.ranks u 0) into ∙ h.falling.rank_at p more in
+          inl (eq-eqb to t into, le-leb p rank (omega arith), lt-leb (p + 1) rank (omega arith)))
+      | inr past ↦
+          (let apart : rank ≢ p = λ e. past (sym (h.falling.at_rank to (graph.ends_exist a there) (omega (arith, e, has_place g r p h more))) ∙ ap (λ k. get_or r.order k 0) e) in
+          inr (
+            ne_eqb to t past,
+            elim (cases_lt rank p) [
+              | inl below ↦ lt-leb p rank below ∙ sym (lt-leb (p + 1) rank (omega arith))
+              | inr above ↦ le-leb p rank above ∙ sym (le-leb (p + 1) rank (omega arith))
+            ],
+          ))
     ]
 
 -- before its arcs are passed, the next station waits to be passed along all arcs into it
@@ -278,11 +277,11 @@ turn g r p graph h more = record {
   waiting_for_each = h.waiting_for_each;
   no_wait = h.no_wait;
   waits = λ t exists.
-    let u = get_or r.order p 0 in
-    let n = arc_count g in
-    let split = sum_by-range-add (λ a. cond (is_open g r.ranks p t a) 1 0) (λ a. cond (is_open g r.ranks (p + 1) t a) 1 0) (λ a. cond (eqb (arc g a).to u && is_free_from g t a) 1 0) 0 n (λ a low high. split_test (is_free_from g t a) (leb p (get_or r.ranks (arc g a).to 0)) (leb (p + 1) (get_or r.ranks (arc g a).to 0)) (eqb (arc g a).to u) (still_open g r p a graph h more (omega arith))) in
-    let into = count_by-filter (is_free_from g t) (λ a. eqb (arc g a).to u) (range_with_len 0 n) in
-    omega (arith, h.waits t exists, split, into);
+      let u = get_or r.order p 0 in
+      let n = arc_count g in
+      let split = sum_by-range-add (λ a. cond (is_open g r.ranks p t a) 1 0) (λ a. cond (is_open g r.ranks (p + 1) t a) 1 0) (λ a. cond (eqb (arc g a).to u && is_free_from g t a) 1 0) 0 n (λ a low high. split_test (is_free_from g t a) (leb p (get_or r.ranks (arc g a).to 0)) (leb (p + 1) (get_or r.ranks (arc g a).to 0)) (eqb (arc g a).to u) (still_open g r p a graph h more (omega arith))) in
+      let into = count_by-filter (is_free_from g t) (λ a. eqb (arc g a).to u) (range_with_len 0 n) in
+      omega (arith, h.waits t exists, split, into);
 }
 
 -- ---- the start and the end
@@ -301,8 +300,8 @@ start_keeps g waiting graph long counts =
       falling = record {
         rank_for_each = length-replicate T T;
         unranked =
-          (let each : cond (leb T T) 1 0 ≡ 1 = ap {B = ℕ} (λ b. cond b 1 0) (le-leb T T (omega arith)) in
-          add-zero (count_by (leb T) (replicate T T)) ∙ (sum_by-replicate (λ x. cond (leb T x) 1 0) T T ∙ (ap (λ c. T * c) each ∙ mul-one T)));
+            (let each : cond (leb T T) 1 0 ≡ 1 = ap {B = ℕ} (λ b. cond b 1 0) (le-leb T T (omega arith)) in
+            add-zero (count_by (leb T) (replicate T T)) ∙ (sum_by-replicate (λ x. cond (leb T x) 1 0) T T ∙ (ap (λ c. T * c) each ∙ mul-one T)));
         has_rank = λ t exists ranked. absurd (no_rank t exists ranked);
         at_rank = λ t exists ranked. absurd (no_rank t exists ranked);
         in_order = λ k below. absurd (omega (arith, below));
@@ -312,7 +311,7 @@ start_keeps g waiting graph long counts =
       within = omega arith;
       waiting_for_each = long;
       waits = λ t exists.
-        counts t exists ∙ (count_by-range-agree (is_free_from g t) (is_open g (replicate T T) 0 t) 0 (arc_count g) (λ a low high. sym (and_true (is_free_from g t a) (leb 0 (get_or (replicate T T) (arc g a).to 0)) (le-leb 0 (get_or (replicate T T) (arc g a).to 0) (omega arith)))) ∙ sym (add-zero (open_count g (replicate T T) 0 t)));
+          counts t exists ∙ (count_by-range-agree (is_free_from g t) (is_open g (replicate T T) 0 t) 0 (arc_count g) (λ a low high. sym (and_true (is_free_from g t a) (leb 0 (get_or (replicate T T) (arc g a).to 0)) (le-leb 0 (get_or (replicate T T) (arc g a).to 0) (omega arith)))) ∙ sym (add-zero (open_count g (replicate T T) 0 t)));
       no_wait = λ t exists ranked. absurd (no_rank t exists ranked);
     }
 
@@ -321,25 +320,24 @@ pub stuck : (g : Parts) (r : Ranks) (p : ℕ) → IsGraph g → IsPassing g r p 
 unfolding open_count
 stuck g r p graph h ready end = record {
   way = λ t exists no_rank.
-    let found = some_passes (is_open g r.ranks p t) 0 (arc_count g) (omega (arith, h.waits t exists, ready.all_wait t exists no_rank)) in
-    let a = found.0 in
-    let there : a < arc_count g = omega (arith, found.1) in
-    let to = (arc g a).to in
-    let parts = and_parts (is_free_from g t a) (leb p (get_or r.ranks to 0)) found.2 in
-    let waits = and_parts (eqb (arc g a).from t) (eqb (arc g a).tokens 0) parts.0 in
-    (
-      a,
-      record {
-        exists = there;
-        from = eqb-true (arc g a).from t waits.0;
-        free = eqb-true (arc g a).tokens 0 waits.1;
-        unranked =
-          elim (cases_lt (get_or r.ranks to 0) (stations g)) [
-            inl ranked ↦ absurd (omega (arith, leb-true p (get_or r.ranks to 0) parts.1, h.falling.has_rank to (graph.ends_exist a there) ranked))
-          | inr unranked ↦ unranked
-          ];
-      }
-    );
+      let found = some_passes (is_open g r.ranks p t) 0 (arc_count g) (omega (arith, h.waits t exists, ready.all_wait t exists no_rank)) in
+      let a = found.0 in
+      let there : a < arc_count g = omega (arith, found.1) in
+      let to = (arc g a).to in
+      let parts = and_parts (is_free_from g t a) (leb p (get_or r.ranks to 0)) found.2 in
+      let waits = and_parts (eqb (arc g a).from t) (eqb (arc g a).tokens 0) parts.0 in (
+        a,
+        record {
+          exists = there;
+          from = eqb-true (arc g a).from t waits.0;
+          free = eqb-true (arc g a).tokens 0 waits.1;
+          unranked =
+              elim (cases_lt (get_or r.ranks to 0) (stations g)) [
+                | inl ranked ↦ absurd (omega (arith, leb-true p (get_or r.ranks to 0) parts.1, h.falling.has_rank to (graph.ends_exist a there) ranked))
+                | inr unranked ↦ unranked
+              ];
+        },
+      );
 }
 
 -- ---- the counts at the start
@@ -362,23 +360,23 @@ counts_more_yes g counts n graph h there none =
     record {
       one_for_each = length-set counts s c ∙ h.one_for_each;
       counts = λ t exists.
-        (let more = count_by-range_more (is_free_from g t) n in
-        elim (cases_eq t s) [
-          inl same ↦
-            (let one : cond (is_free_from g t n) 1 0 ≡ 1 = ap {B = ℕ} (λ b. cond b 1 0) (free g t n (sym same) none) in
-            omega (arith, ap (λ u. get_or (set counts s c) u 0) same, get_or-set_same counts s c 0 here, ap (λ u. get_or counts u 0) same, h.counts t exists, more, one))
-        | inr apart ↦
-            (let zero_here : cond (is_free_from g t n) 1 0 ≡ 0 = ap {B = ℕ} (λ b. cond b 1 0) (not_free g t n (λ from _. apart (sym from))) in
-            omega (arith, get_or-set_other counts s t c 0 apart, h.counts t exists, more, zero_here))
-        ]);
+          (let more = count_by-range_more (is_free_from g t) n in
+          elim (cases_eq t s) [
+            | inl same ↦
+                (let one : cond (is_free_from g t n) 1 0 ≡ 1 = ap {B = ℕ} (λ b. cond b 1 0) (free g t n (sym same) none) in
+                omega (arith, ap (λ u. get_or (set counts s c) u 0) same, get_or-set_same counts s c 0 here, ap (λ u. get_or counts u 0) same, h.counts t exists, more, one))
+            | inr apart ↦
+                (let zero_here : cond (is_free_from g t n) 1 0 ≡ 0 = ap {B = ℕ} (λ b. cond b 1 0) (not_free g t n (λ from _. apart (sym from))) in
+                omega (arith, get_or-set_other counts s t c 0 apart, h.counts t exists, more, zero_here))
+          ]);
     }
 
 pub counts_more_no : (g : Parts) (counts : List ℕ) (n : ℕ) → CountsFree g counts n → (arc g n).tokens ≢ 0 → CountsFree g counts (n + 1)
 counts_more_no g counts n h taken = record {
   one_for_each = h.one_for_each;
   counts = λ t exists.
-    let zero_here : cond (is_free_from g t n) 1 0 ≡ 0 = ap {B = ℕ} (λ b. cond b 1 0) (not_free g t n (λ from none. taken none)) in
-    omega (arith, h.counts t exists, count_by-range_more (is_free_from g t) n, zero_here);
+      let zero_here : cond (is_free_from g t n) 1 0 ≡ 0 = ap {B = ℕ} (λ b. cond b 1 0) (not_free g t n (λ from none. taken none)) in
+      omega (arith, h.counts t exists, count_by-range_more (is_free_from g t) n, zero_here);
 }
 
 -- where no station has a rank, none was passed
@@ -462,10 +460,10 @@ idle_none g r h empty = record {
   passed = h;
   ready = record { all_wait = λ t below. absurd (omega (arith, below)) };
   unranked = λ u low exists.
-    elim (cases_lt (get_or r.ranks u 0) (stations g)) [
-      inl ranked ↦ absurd (omega (arith, h.falling.has_rank u exists ranked, ap length empty))
-    | inr unranked ↦ unranked
-    ];
+      elim (cases_lt (get_or r.ranks u 0) (stations g)) [
+        | inl ranked ↦ absurd (omega (arith, h.falling.has_rank u exists ranked, ap length empty))
+        | inr unranked ↦ unranked
+      ];
 }
 
 pub idle_more_yes : (g : Parts) (r : Ranks) (t w : ℕ) (waiting : List ℕ) → IsGraph g → HasRankedIdle g r t → t < stations g → waiting ≡ r.waiting → w ≡ get_or waiting t w → w ≡ 0 → HasRankedIdle g (with_next r t) (t + 1)
@@ -487,10 +485,10 @@ idle_more_no g r t w waiting h exists same read waits =
       passed = h.passed;
       ready = record {
         all_wait = λ u below no_rank.
-          elim (cases_eq u t) [
-            inl same_one ↦ omega (arith, ap (λ v. get_or r.waiting v 0) same_one, is, waits)
-          | inr apart ↦ h.ready.all_wait u (omega arith) no_rank
-          ];
+            elim (cases_eq u t) [
+              | inl same_one ↦ omega (arith, ap (λ v. get_or r.waiting v 0) same_one, is, waits)
+              | inr apart ↦ h.ready.all_wait u (omega arith) no_rank
+            ];
       };
       unranked = λ u low there. h.unranked u (omega arith) there;
     }

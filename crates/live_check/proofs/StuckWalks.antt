@@ -38,8 +38,8 @@ walk_none g ranks start here unranked =
       step_of = λ t exists seen. absurd (seen (get_or-replicate T t T 0 exists));
       left_at = λ t exists seen. absurd (seen (get_or-replicate T t T 0 exists));
       unseen =
-        (let each : cond (eqb T T) 1 0 ≡ 1 = ap {B = ℕ} (λ b. cond b 1 0) (eq-eqb T T refl) in
-        add-zero (count_by (λ step. eqb step T) (replicate T T)) ∙ (sum_by-replicate (λ step. cond (eqb step T) 1 0) T T ∙ (ap (λ c. T * c) each ∙ mul-one T)));
+          (let each : cond (eqb T T) 1 0 ≡ 1 = ap {B = ℕ} (λ b. cond b 1 0) (eq-eqb T T refl) in
+          add-zero (count_by (λ step. eqb step T) (replicate T T)) ∙ (sum_by-replicate (λ step. cond (eqb step T) 1 0) T T ∙ (ap (λ c. T * c) each ∙ mul-one T)));
     }
 
 -- at a station that it has not left, the walk has room for one more arc
@@ -67,42 +67,42 @@ walk_more g ranks path left start at a graph h fresh on =
       walk = walk_push g start at a path h.walk on.exists on.from;
       empty = omega (arith, h.empty, on.free, sum_by_push (λ b. (arc g b).tokens) path a);
       arcs_exist = λ k below.
-        elim (cases_lt k n) [
-          inl before ↦ omega (arith, old k before, h.arcs_exist k before)
-        | inr end ↦ (let e : n ≡ k = omega (arith, length_push path a) in omega (arith, get_or_push path a 0 k e, on.exists))
-        ];
+          elim (cases_lt k n) [
+            | inl before ↦ omega (arith, old k before, h.arcs_exist k before)
+            | inr end ↦ (let e : n ≡ k = omega (arith, length_push path a) in omega (arith, get_or_push path a 0 k e, on.exists))
+          ];
       here = graph.ends_exist a on.exists;
       unranked = on.unranked;
       left_for_each = length-set left at n ∙ h.left_for_each;
       left_once = λ k below.
-        elim (cases_lt k n) [
-          inl before ↦
-            (let t = (arc g (get_or path k 0)).from in
-            let apart : t ≢ at = λ same. omega (arith, h.left_once k before, ap (λ u. get_or left u 0) same, fresh, room) in
-            ap (λ b. get_or left' (arc g b).from 0) (old k before) ∙ (other t apart ∙ h.left_once k before))
-        | inr end ↦
-            (let e : n ≡ k = omega (arith, length_push path a) in
-            ap (λ b. get_or left' (arc g b).from 0) (get_or_push path a 0 k e) ∙ (ap (λ u. get_or left' u 0) on.from ∙ (own ∙ e)))
-        ];
+          elim (cases_lt k n) [
+            | inl before ↦
+                (let t = (arc g (get_or path k 0)).from in
+                let apart : t ≢ at = λ same. omega (arith, h.left_once k before, ap (λ u. get_or left u 0) same, fresh, room) in
+                ap (λ b. get_or left' (arc g b).from 0) (old k before) ∙ (other t apart ∙ h.left_once k before))
+            | inr end ↦
+                (let e : n ≡ k = omega (arith, length_push path a) in
+                ap (λ b. get_or left' (arc g b).from 0) (get_or_push path a 0 k e) ∙ (ap (λ u. get_or left' u 0) on.from ∙ (own ∙ e)))
+          ];
       step_of = λ t exists seen.
-        elim (cases_eq t at) [
-          inl same ↦ omega (arith, ap (λ u. get_or left' u 0) same, own, length_push path a)
-        | inr apart ↦ omega (arith, other t apart, h.step_of t exists (λ e. seen (other t apart ∙ e)), length_push path a)
-        ];
+          elim (cases_eq t at) [
+            | inl same ↦ omega (arith, ap (λ u. get_or left' u 0) same, own, length_push path a)
+            | inr apart ↦ omega (arith, other t apart, h.step_of t exists (λ e. seen (other t apart ∙ e)), length_push path a)
+          ];
       left_at = λ t exists seen.
-        elim (cases_eq t at) [
-          inl same ↦
-            ap (λ u. (arc g (get_or path' (get_or left' u 0) 0)).from) same ∙ (ap (λ k. (arc g (get_or path' k 0)).from) own ∙ (ap (λ b. (arc g b).from) last ∙ (on.from ∙ sym same)))
-        | inr apart ↦
-            (let seen_before : get_or left t 0 ≢ T = λ e. seen (other t apart ∙ e) in
-            ap (λ k. (arc g (get_or path' k 0)).from) (other t apart) ∙ (ap (λ b. (arc g b).from) (old (get_or left t 0) (h.step_of t exists seen_before)) ∙ h.left_at t exists seen_before))
-        ];
+          elim (cases_eq t at) [
+            | inl same ↦
+                ap (λ u. (arc g (get_or path' (get_or left' u 0) 0)).from) same ∙ (ap (λ k. (arc g (get_or path' k 0)).from) own ∙ (ap (λ b. (arc g b).from) last ∙ (on.from ∙ sym same)))
+            | inr apart ↦
+                (let seen_before : get_or left t 0 ≢ T = λ e. seen (other t apart ∙ e) in
+                ap (λ k. (arc g (get_or path' k 0)).from) (other t apart) ∙ (ap (λ b. (arc g b).from) (old (get_or left t 0) (h.step_of t exists seen_before)) ∙ h.left_at t exists seen_before))
+          ];
       unseen =
-        (let f : ℕ → ℕ = λ step. cond (eqb step T) 1 0 in
-        let moved = sum_by-set f left at n 0 here in
-        let before : f (get_or left at 0) ≡ 1 = ap {B = ℕ} (λ b. cond b 1 0) (eq-eqb (get_or left at 0) T fresh) in
-        let after : f n ≡ 0 = ap {B = ℕ} (λ b. cond b 1 0) (ne_eqb n T (λ e. omega (arith, e, room))) in
-        omega (arith, h.unseen, moved, before, after, length_push path a));
+          (let f : ℕ → ℕ = λ step. cond (eqb step T) 1 0 in
+          let moved = sum_by-set f left at n 0 here in
+          let before : f (get_or left at 0) ≡ 1 = ap {B = ℕ} (λ b. cond b 1 0) (eq-eqb (get_or left at 0) T fresh) in
+          let after : f n ≡ 0 = ap {B = ℕ} (λ b. cond b 1 0) (ne_eqb n T (λ e. omega (arith, e, room))) in
+          omega (arith, h.unseen, moved, before, after, length_push path a));
     }
 
 -- back at a station that it left, its last arcs from there are a circuit without a token
@@ -117,12 +117,12 @@ walk_closed g ranks path left start at h seen =
         base = at;
         closed = (let P : ℕ → Type 0 = λ t. IsWalk g t (drop k path) at in subst P (h.left_at at h.here seen) (walk_drop g start at k path h.walk below));
         distinct = λ i j d before within same.
-          (let j_in : j < length (drop k path) = omega (arith, within, length-map (drop k path) from) in
-          let i_in : i < length (drop k path) = omega (arith, before, j_in) in
-          let at_i : get_or (map from (drop k path)) i d ≡ from (get_or path (k + i) 0) = get_or-map from (drop k path) i 0 d i_in ∙ ap from (get_or-drop k path i 0) in
-          let at_j : get_or (map from (drop k path)) j d ≡ from (get_or path (k + j) 0) = get_or-map from (drop k path) j 0 d j_in ∙ ap from (get_or-drop k path j 0) in
-          let one : from (get_or path (k + i) 0) ≡ from (get_or path (k + j) 0) = sym at_i ∙ (same ∙ at_j) in
-          omega (arith, h.left_once (k + i) (omega (arith, i_in, length-drop k path)), h.left_once (k + j) (omega (arith, j_in, length-drop k path)), ap (λ t. get_or left t 0) one));
+            (let j_in : j < length (drop k path) = omega (arith, within, length-map (drop k path) from) in
+            let i_in : i < length (drop k path) = omega (arith, before, j_in) in
+            let at_i : get_or (map from (drop k path)) i d ≡ from (get_or path (k + i) 0) = get_or-map from (drop k path) i 0 d i_in ∙ ap from (get_or-drop k path i 0) in
+            let at_j : get_or (map from (drop k path)) j d ≡ from (get_or path (k + j) 0) = get_or-map from (drop k path) j 0 d j_in ∙ ap from (get_or-drop k path j 0) in
+            let one : from (get_or path (k + i) 0) ≡ from (get_or path (k + j) 0) = sym at_i ∙ (same ∙ at_j) in
+            omega (arith, h.left_once (k + i) (omega (arith, i_in, length-drop k path)), h.left_once (k + j) (omega (arith, j_in, length-drop k path)), ap (λ t. get_or left t 0) one));
       };
       empty = omega (arith, h.empty, sum_by-take-drop (λ b. (arc g b).tokens) path k);
     }

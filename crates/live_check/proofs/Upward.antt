@@ -25,8 +25,8 @@ climbs g places up t u (a ∷ arcs) walk empty =
 pub upward_live : (g : Parts) (places : List ℕ) → IsUpward g places → IsLive g
 upward_live g places up arcs circuit =
     elim (cases_lt 0 (tokens_on g arcs)) [
-      inl some ↦ some
-    | inr none ↦ absurd (omega (arith, climbs g places up circuit.base circuit.base arcs circuit.closed (omega (arith, none)), circuit.some))
+      | inl some ↦ some
+      | inr none ↦ absurd (omega (arith, climbs g places up circuit.base circuit.base arcs circuit.closed (omega (arith, none)), circuit.some))
     ]
 
 rank_below : (g : Parts) (ranks : List ℕ) → length ranks ≡ stations g → AllRanked ranks → (t : ℕ) → t < stations g → get_or ranks t 0 < stations g
@@ -43,19 +43,19 @@ falling_upward g ranks order graph falling ranked =
       place_for_each = length-map ranks (from_end T) ∙ long;
       below = All-map (λ place. place < T) (from_end T) ranks (λ k d below. omega (arith, ranked k d below));
       distinct = λ i j d before within same.
-        (let j_in : j < T = omega (arith, length-map ranks (from_end T)) in
-        let i_in : i < T = omega arith in
-        let ri = get_or ranks i 0 in
-        let rj = get_or ranks j 0 in
-        let e : ri ≡ rj = omega (arith, get_or-map (from_end T) ranks i 0 d (omega (arith, long)), get_or-map (from_end T) ranks j 0 d (omega (arith, long)), same, rank_below g ranks long ranked i i_in, rank_below g ranks long ranked j j_in) in
-        let back : i ≡ j = sym (falling.at_rank i i_in (rank_below g ranks long ranked i i_in)) ∙ (ap (λ r. get_or order r 0) e ∙ falling.at_rank j j_in (rank_below g ranks long ranked j j_in)) in
-        omega (arith, back));
+          (let j_in : j < T = omega (arith, length-map ranks (from_end T)) in
+          let i_in : i < T = omega arith in
+          let ri = get_or ranks i 0 in
+          let rj = get_or ranks j 0 in
+          let e : ri ≡ rj = omega (arith, get_or-map (from_end T) ranks i 0 d (omega (arith, long)), get_or-map (from_end T) ranks j 0 d (omega (arith, long)), same, rank_below g ranks long ranked i i_in, rank_below g ranks long ranked j j_in) in
+          let back : i ≡ j = sym (falling.at_rank i i_in (rank_below g ranks long ranked i i_in)) ∙ (ap (λ r. get_or order r 0) e ∙ falling.at_rank j j_in (rank_below g ranks long ranked j j_in)) in
+          omega (arith, back));
       upward = λ a there none.
-        (let from = (arc g a).from in
-        let to = (arc g a).to in
-        let low = rank_below g ranks long ranked from (graph.starts_exist a there) in
-        let fall = falling.falls a there none low in
-        omega (arith, low, fall, place_is g ranks long from (graph.starts_exist a there), place_is g ranks long to (graph.ends_exist a there)));
+          (let from = (arc g a).from in
+          let to = (arc g a).to in
+          let low = rank_below g ranks long ranked from (graph.starts_exist a there) in
+          let fall = falling.falls a there none low in
+          omega (arith, low, fall, place_is g ranks long from (graph.starts_exist a there), place_is g ranks long to (graph.ends_exist a there)));
     }
 
 -- then the order has all stations
@@ -74,11 +74,11 @@ falling_stands g ranks order falling ranked =
       one_for_each = length-reverse order ∙ n;
       exists = λ place below. omega (arith, turned place below, falling.in_order (T - 1 - place) (omega (arith, n)));
       place = λ place below.
-        (let k = T - 1 - place in
-        let t = get_or order k 0 in
-        let in_order : k < length order = omega (arith, n) in
-        let e = place_is g ranks falling.rank_for_each t (falling.in_order k in_order) in
-        ap (λ u. get_or (map (from_end T) ranks) u 0) (turned place below) ∙ (e ∙ omega (arith, falling.rank_at k in_order)));
+          (let k = T - 1 - place in
+          let t = get_or order k 0 in
+          let in_order : k < length order = omega (arith, n) in
+          let e = place_is g ranks falling.rank_for_each t (falling.in_order k in_order) in
+          ap (λ u. get_or (map (from_end T) ranks) u 0) (turned place below) ∙ (e ∙ omega (arith, falling.rank_at k in_order)));
     }
 
 -- a complete ranking in which every station has a rank is an order

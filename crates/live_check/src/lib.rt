@@ -6,6 +6,8 @@ mod circuit;
 mod law;
 mod live;
 mod ranking;
+#[cfg(test)]
+mod tests;
 
 pub use law::more_tokens_never_later;
 pub use live::{Live, NotLive, rank};

@@ -2,6 +2,7 @@ ghost use Rattle.std.specs.Prelude.{◌≡◌, ◌<◌, slice_index, IfOk, OnOk,
 ghost use Rattle.event_graph.specs.Network.{stations};
 ghost use Rattle.event_graph.specs.Live.{IsLive};
 ghost use Rattle.live_check.specs.Order.{IsRanked};
+ghost use Rattle.live_check.specs.NotLive.{HandsBack, ShowsDeadCircuit, SaysNotLive};
 
 use crate::circuit::dead_circuit;
 use crate::ranking::Ranking;
@@ -68,8 +69,6 @@ impl Live {
     }
 }
 
-ghost use Rattle.live_check.specs.NotLive.{HandsBack, ShowsDead};
-
 /// Orders the stations of a live graph, in a time that grows with the number of stations and arcs alone. A graph that
 /// isn't live is refused with one circuit that holds no token.
 ///
@@ -77,8 +76,12 @@ ghost use Rattle.live_check.specs.NotLive.{HandsBack, ShowsDead};
 pub fn rank(alloc: Global, graph: Graph) -> Result<Live, NotLive>
     ensures kept { IfOk result (λ live. live.graph ≡ graph) }
     ensures ranked { IfOk result IsRanked }
+    ensures live { OnOk result (IsLive graph) }
+
+    // Both refusals hand the graph back, and one that isn't for want of memory comes only where the graph isn't live.
     ensures handed_back { IfErr result (HandsBack graph) }
-    ensures dead { IfErr result (ShowsDead graph) }
+    ensures not_live { IfErr result (SaysNotLive graph) }
+    ensures dead_circuit { IfErr result (ShowsDeadCircuit graph) }
 {
     let Ok(ranking) = Ranking::of(alloc, &graph) else {
         return Err(NotLive::NoMemory { graph });

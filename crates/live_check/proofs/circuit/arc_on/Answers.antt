@@ -7,10 +7,10 @@ pub loop-a-preserved : goal.loop-a-preserved
 loop-a-preserved c =
     below_more _ _ c.loop-a.invariant
     (λ none no_rank.
-      elim c.else-arc-eq0.branch [
-        else-arc-eq0-via-then-arc-eq0+else-ranks-arc w ↦ (let ranked = rw c.arcs-arcs.ensures.arcs at w.if-ranks-arc.false in omega (arith, ranked, no_rank, c.stations-stations.ensures.count))
+    elim c.else-arc-eq0.branch [
+      | else-arc-eq0-via-then-arc-eq0+else-ranks-arc w ↦ (let ranked = rw c.arcs-arcs.ensures.arcs at w.if-ranks-arc.false in omega (arith, ranked, no_rank, c.stations-stations.ensures.count))
       | else-arc-eq0-via-else-arc-eq0 w ↦ (let taken = rw c.arcs-arcs.ensures.arcs at w.if-arc-eq0.false in taken none)
-      ])
+    ])
 
 pub unreachable-requires : goal.unreachable-requires
 unreachable-requires c =

@@ -12,8 +12,8 @@ loop-arcs-preserved c =
     let steps : vec_len c.loop-arcs.path ≡ length c.loop-arcs.path.items = omega arith in
     record {
       walk =
-        rw (c.push_reserved.ensures.items, c.arcs-arcs.ensures.arcs)
-        (walk_more_read g c.args.ranks.now c.loop-arcs.path.items c.loop-arcs.left.items c.args.start c.loop-arcs.at c.arc_on-a.result c.len.result c.index.result.now all.graph c.loop-arcs.invariant.walk c.index.ensures (c.loop-arcs-test.true ∙ all.count) c.arc_on-a.ensures (c.len.ensures ∙ steps));
+          rw (c.push_reserved.ensures.items, c.arcs-arcs.ensures.arcs)
+          (walk_more_read g c.args.ranks.now c.loop-arcs.path.items c.loop-arcs.left.items c.args.start c.loop-arcs.at c.arc_on-a.result c.len.result c.index.result.now all.graph c.loop-arcs.invariant.walk c.index.ensures (c.loop-arcs-test.true ∙ all.count) c.arc_on-a.ensures (c.len.ensures ∙ steps));
       room = omega (arith, c.loop-arcs.invariant.room, c.push_reserved.ensures.capacity);
     }
 

@@ -13,3 +13,6 @@ returns-in_default-first_unranked-clause-ranked c = (invariant_of-result c).rank
 pub dead_circuit-requires-clause-stuck : goal.dead_circuit-requires-clause-stuck
 dead_circuit-requires-clause-stuck c =
     rw c.ranks.ensures (complete_stuck c.args.graph c.in-Ok.ranking c.in-Ok.ensures)
+
+pub returns-in_default-first_unranked-clause-live : goal.returns-in_default-first_unranked-clause-live
+returns-in_default-first_unranked-clause-live c = (invariant_of-result c).ranked.live

@@ -15,6 +15,6 @@ loop-arc-preserved c =
     let g = c.args.graph.now in
     let arcs = c.arcs-arcs in
     elim c.if-arc-eq0.branch [
-      then-arc-eq0 w ↦ (rw w.counts-is (counts_read_yes g arcs.result.now c.loop-arc.counts.items c.loop-arc.arc-index w.index_mut.result.now arcs.ensures.arcs arcs.ensures.graph c.loop-arc.invariant c.loop-arc-test.true w.if-arc-eq0.true w.index_mut.ensures.value))
-    | else-arc-eq0 w ↦ (rw w.counts-is (counts_read_no g arcs.result.now c.loop-arc.counts.items c.loop-arc.arc-index arcs.ensures.arcs c.loop-arc.invariant w.if-arc-eq0.false))
+      | then-arc-eq0 w ↦ (rw w.counts-is (counts_read_yes g arcs.result.now c.loop-arc.counts.items c.loop-arc.arc-index w.index_mut.result.now arcs.ensures.arcs arcs.ensures.graph c.loop-arc.invariant c.loop-arc-test.true w.if-arc-eq0.true w.index_mut.ensures.value))
+      | else-arc-eq0 w ↦ (rw w.counts-is (counts_read_no g arcs.result.now c.loop-arc.counts.items c.loop-arc.arc-index arcs.ensures.arcs c.loop-arc.invariant w.if-arc-eq0.false))
     ]

@@ -25,10 +25,10 @@ loop-a-preserved c =
     let arcs = c.arcs-arcs.ensures.arcs in
     let there = (c.ins-ins.ensures.each c.loop-a.a-index 0 c.loop-a-test.true).0 in
     elim c.if-arc-eq0.branch [
-      then-arc-eq0 w ↦
-        (rw (w.self-is, w.release.ensures, arcs)
-        (passes_yes g c.loop-a.self (c.args.rank + 1) c.loop-a.a-index c.ins-ins.result.now c.ins-ins.ensures.graph c.loop-a.invariant c.loop-a-test.true there (rw arcs at w.if-arc-eq0.true)))
-    | else-arc-eq0 w ↦
-        (rw w.self-is
-        (passes_no g c.loop-a.self (c.args.rank + 1) c.loop-a.a-index c.ins-ins.result.now c.loop-a.invariant c.loop-a-test.true (rw arcs at w.if-arc-eq0.false)))
+      | then-arc-eq0 w ↦
+          (rw (w.self-is, w.release.ensures, arcs)
+          (passes_yes g c.loop-a.self (c.args.rank + 1) c.loop-a.a-index c.ins-ins.result.now c.ins-ins.ensures.graph c.loop-a.invariant c.loop-a-test.true there (rw arcs at w.if-arc-eq0.true)))
+      | else-arc-eq0 w ↦
+          (rw w.self-is
+          (passes_no g c.loop-a.self (c.args.rank + 1) c.loop-a.a-index c.ins-ins.result.now c.loop-a.invariant c.loop-a-test.true (rw arcs at w.if-arc-eq0.false)))
     ]

@@ -10,9 +10,9 @@ loop-t-preserved c =
     let n = c.stations-t-end.ensures in
     let waiting = ap (λ (r : Ranks). r.waiting) c.self.view_is in
     elim c.if-index-eq0.branch [
-      then-index-eq0 w ↦
-        (rw (w.self-is, w.rank_next.ensures)
-        (idle_more_yes g c.loop-t.self c.loop-t.t c.index.result.now _ n.graph c.loop-t.invariant (omega (arith, n.count)) waiting c.index.ensures w.if-index-eq0.true))
-    | else-index-eq0 w ↦
-        (rw w.self-is (idle_more_no g c.loop-t.self c.loop-t.t c.index.result.now _ c.loop-t.invariant (omega (arith, n.count)) waiting c.index.ensures w.if-index-eq0.false))
+      | then-index-eq0 w ↦
+          (rw (w.self-is, w.rank_next.ensures)
+          (idle_more_yes g c.loop-t.self c.loop-t.t c.index.result.now _ n.graph c.loop-t.invariant (omega (arith, n.count)) waiting c.index.ensures w.if-index-eq0.true))
+      | else-index-eq0 w ↦
+          (rw w.self-is (idle_more_no g c.loop-t.self c.loop-t.t c.index.result.now _ c.loop-t.invariant (omega (arith, n.count)) waiting c.index.ensures w.if-index-eq0.false))
     ]
