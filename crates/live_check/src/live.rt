@@ -2,6 +2,7 @@ ghost use Rattle.std.specs.Prelude.{◌≡◌, ◌<◌, slice_index, IfOk, OnOk,
 ghost use Rattle.event_graph.specs.Network.{stations};
 ghost use Rattle.event_graph.specs.Live.{IsLive};
 ghost use Rattle.live_check.specs.Order.{IsRanked};
+ghost use Rattle.live_check.specs.Ranking.{IsComplete, AllRanked};
 ghost use Rattle.live_check.specs.NotLive.{HandsBack, ShowsDeadCircuit, SaysNotLive};
 
 use crate::circuit::dead_circuit;
@@ -40,6 +41,21 @@ pub enum NotLive {
 }
 
 impl Live {
+    /// The graph in the order of a ranking that has all stations.
+    fn of(graph: Graph, ranking: Ranking) -> Live
+        requires complete { IsComplete graph ranking }
+        requires all { AllRanked ranking.ranks }
+        ensures kept { result.graph ≡ graph }
+        ensures ranked { IsRanked result }
+    {
+        let (places, order) = ranking.into_order();
+        Live {
+            graph,
+            places,
+            order,
+        }
+    }
+
     /// The graph.
     pub fn graph(&self) -> &Graph
         ensures graph { result.now ≡ self.now.graph }
@@ -87,18 +103,13 @@ pub fn rank(alloc: Global, graph: Graph) -> Result<Live, NotLive>
         return Err(NotLive::NoMemory { graph });
     };
     let Some(start) = ranking.first_unranked() else {
-        let (places, order) = ranking.into_order();
-        return Ok(Live {
-            graph,
-            places,
-            order,
-        });
+        return Ok(Live::of(graph, ranking));
     };
     match dead_circuit(alloc, &graph, ranking.ranks(), start) {
-        Ok(arcs) => Err(NotLive::Dead {
-            graph,
-            arcs: Items::from_vec(arcs),
-        }),
+        Ok(arcs) => {
+            let arcs = Items::from_vec(arcs);
+            Err(NotLive::Dead { graph, arcs })
+        }
         Err(_) => Err(NotLive::NoMemory { graph }),
     }
 }
