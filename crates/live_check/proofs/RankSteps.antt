@@ -1,8 +1,7 @@
 -- The steps of an order in the making keep what is known of it.
-use Rattle.std.proofs.Common.{◌≡◌, ◌≢◌, ℕ, zero, suc, ◌+◌, ◌-◌, ◌<◌, ◌≤◌, ◌⊎◌, Bool, true, false, cond, ◌&&◌, ltb, leb, eqb, nat_le, List, [], ◌∷◌, ◌++◌, length, set, get_or, filter, drop, count_by, replicate, refl, sym, ap, ◌∙◌, subst, inl, inr, zero-add, add-zero, ◌*◌, mul-one, arith}
-use Rattle.std.specs.List.{sum_by, range_with_len, Contains}
-use Rattle.std.proofs.lemmas.Bool.{cases_lt, cases_eq, cases_Bool, false≢true, le-leb, lt-leb, leb-true, leb-false, eq-eqb, ne_eqb, eqb-true, and_parts, and_from, and_cases, false_from_ne_true, cond_both, eqb-false}
-use Rattle.std.proofs.lemmas.Bool.Decides.{nat_tests}
+use Rattle.std.proofs.Common.{◌≡◌, ◌≢◌, ℕ, ◌+◌, ◌-◌, ◌<◌, ◌≤◌, ◌⊎◌, Bool, true, false, cond, ◌&&◌, leb, eqb, List, [], ◌∷◌, length, set, get_or, drop, count_by, replicate, refl, sym, ap, ◌∙◌, subst, inl, inr, add-zero, ◌*◌, mul-one, arith}
+use Rattle.std.specs.List.{range_with_len}
+use Rattle.std.proofs.lemmas.Bool.{cases_lt, cases_eq, false≢true, le-leb, lt-leb, leb-true, leb-false, eq-eqb, ne_eqb, eqb-true, and_parts, and_from, and_cases, false_from_ne_true, cond_both, eqb-false}
 use Rattle.std.proofs.lemmas.List.Folds.{sum_by-replicate}
 use Rattle.std.proofs.lemmas.List.{length-set, length-replicate, get_or-replicate, get_or-set_same, get_or-set_other, length_push, get_or_push, get_or_append_left, get_or_read, drop_more}
 use Rattle.std.proofs.lemmas.List.Sums.{sum_by-cons, sum_by-set, get_or-le-sum_by, count_by-le-length}
@@ -11,7 +10,7 @@ use Rattle.line_base.specs.declared.event.Arc.{Arc}
 use Rattle.line_base.specs.declared.event.Parts.{Parts}
 use Rattle.event_graph.specs.Network.{IsGraph, arc, arc_count, stations, ins}
 use Rattle.live_check.specs.Ranking.{Ranks, with_next, with_passed, released, is_free_from, is_open, open_count, IsPassing, IsPassed, NoneIsReady, CountsFree, IsComplete}
-use Rattle.live_check.specs.DeadCircuit.{LeadsOn, IsStuck}
+use Rattle.live_check.specs.DeadCircuit.{IsStuck}
 use Rattle.live_check.proofs.Counts.{count_by-range-agree, count_by-filter, count_by-range_more, sum_by-range-add, none_passes, some_passes}
 
 -- an unranked station leaves room for the next rank

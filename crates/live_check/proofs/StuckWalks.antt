@@ -1,6 +1,6 @@
 -- A walk among the stations without a rank comes back to a station that it left, and what lies between is a dead circuit.
-use Rattle.std.proofs.Common.{◌≡◌, ◌≢◌, ℕ, zero, suc, ◌+◌, ◌-◌, ◌<◌, ◌≤◌, ◌⊎◌, Bool, true, false, cond, eqb, List, [], ◌∷◌, ◌++◌, length, set, get_or, map, drop, take, replicate, count_by, refl, sym, ap, ◌∙◌, subst, inl, inr, zero-add, add-zero, mul-one, ◌*◌, arith, length-drop}
-use Rattle.std.specs.List.{sum_by, range_with_len, AllPairs, Contains}
+use Rattle.std.proofs.Common.{◌≡◌, ◌≢◌, ℕ, zero, suc, ◌+◌, ◌<◌, ◌≤◌, cond, eqb, List, [], ◌∷◌, ◌++◌, length, set, get_or, map, drop, replicate, count_by, refl, sym, ap, ◌∙◌, subst, inl, inr, zero-add, add-zero, mul-one, ◌*◌, arith, length-drop}
+use Rattle.std.specs.List.{range_with_len, Contains}
 use Rattle.std.proofs.lemmas.Bool.{cases_lt, cases_eq, eq-eqb, ne_eqb}
 use Rattle.std.proofs.lemmas.List.{length-set, length-replicate, length-map, get_or-replicate, get_or-set_same, get_or-set_other, get_or-map, get_or-drop, length_push, get_or_push, get_or_append_left, get_or_default, get_or_read}
 use Rattle.std.proofs.lemmas.List.FromFn.{length-range_with_len, get_or-range_with_len}
@@ -8,7 +8,7 @@ use Rattle.std.proofs.lemmas.List.Folds.{sum_by-replicate}
 use Rattle.std.proofs.lemmas.List.Sums.{sum_by-set, sum_by_push, get_or-le-sum_by, sum_by-take-drop}
 use Rattle.line_base.specs.declared.event.Parts.{Parts}
 use Rattle.event_graph.specs.Network.{IsGraph, arc, arc_count, stations, outs}
-use Rattle.event_graph.specs.Circuit.{IsWalk, IsCircuit, starting_stations, tokens_on}
+use Rattle.event_graph.specs.Circuit.{IsWalk}
 use Rattle.live_check.specs.DeadCircuit.{IsDeadCircuit, LeadsOn, IsStuckWalk}
 use Rattle.live_check.proofs.Counts.{Contains-filter}
 

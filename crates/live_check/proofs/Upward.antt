@@ -1,15 +1,14 @@
 -- A graph whose arcs without tokens go upwards is live, and falling ranks give such an order.
-use Rattle.std.proofs.Common.{◌≡◌, ◌≢◌, ℕ, zero, suc, ◌+◌, ◌-◌, ◌<◌, ◌≤◌, ◌⊎◌, Bool, true, false, cond, leb, List, [], ◌∷◌, length, get_or, map, reverse, count_by, refl, sym, ap, ◌∙◌, inl, inr, arith, ◌*◌}
-use Rattle.std.specs.List.{sum_by, All, AllPairs}
+use Rattle.std.proofs.Common.{◌≡◌, ℕ, ◌+◌, ◌-◌, ◌<◌, ◌≤◌, cond, leb, List, [], ◌∷◌, length, get_or, map, reverse, count_by, sym, ap, ◌∙◌, inl, inr, arith, ◌*◌}
 use Rattle.std.proofs.lemmas.Bool.{cases_lt, lt-leb}
 use Rattle.std.proofs.lemmas.List.{length-map, length-reverse, get_or-map, get_or-reverse}
-use Rattle.std.proofs.lemmas.List.Elements.{All-map, All-get_or}
+use Rattle.std.proofs.lemmas.List.Elements.{All-map}
 use Rattle.std.proofs.lemmas.List.Sums.{sum_by-cons, sum_by-le}
 use Rattle.line_base.specs.declared.event.Parts.{Parts}
-use Rattle.event_graph.specs.Network.{IsGraph, arc, arc_count, stations}
-use Rattle.event_graph.specs.Circuit.{IsWalk, IsCircuit, tokens_on}
+use Rattle.event_graph.specs.Network.{IsGraph, arc, stations}
+use Rattle.event_graph.specs.Circuit.{IsWalk, tokens_on}
 use Rattle.event_graph.specs.Live.{IsLive}
-use Rattle.live_check.specs.Order.{IsUpward, StandsAt, IsRanked, IsOrdered}
+use Rattle.live_check.specs.Order.{IsUpward, StandsAt, IsOrdered}
 use Rattle.live_check.specs.Ranking.{Ranks, IsFalling, IsComplete, AllRanked, from_end}
 
 -- along arcs without tokens each step is one place up at least

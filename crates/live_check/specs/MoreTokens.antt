@@ -50,7 +50,9 @@ pub record IsNeverLater (few many : Parts) : Type 0 where
   pub live : IsLive many
   pub dates : (x y : Table) → IsLeast few x → IsLeast many y → IsNowhereAbove few y x
 
--- more tokens, never later
+-- more tokens, never later: with more tokens a live graph stays live, and its least solution gets no later anywhere,
+-- where demand dates do not decrease and one token keeps the jobs of each list of times in order
 abbrev pub MoreTokensNeverLater : Type 0
 MoreTokensNeverLater =
-    (few many : Parts) → IsGraph few → IsNonDecreasing few.dates → ListsKeepOrder few → IsLive few → HasMoreTokens few many → IsNeverLater few many
+    (few many : Parts) → IsGraph few → IsNonDecreasing few.dates → ListsKeepOrder few → IsLive few →
+    HasMoreTokens few many → IsNeverLater few many

@@ -17,7 +17,8 @@ pub record IsUpward (g : Parts) (places : List ℕ) : Type 0 where
   pub place_for_each : length places ≡ stations g
   pub below : All (λ place. place < stations g) places
   pub distinct : AllPairs (λ place other. place ≢ other) places
-  pub upward : (a : ℕ) → a < arc_count g → (arc g a).tokens ≡ 0 → slice_index places (arc g a).from < slice_index places (arc g a).to
+  pub upward : (a : ℕ) → a < arc_count g → (arc g a).tokens ≡ 0 →
+      slice_index places (arc g a).from < slice_index places (arc g a).to
 
 -- at each place stands a station that has this place
 pub record StandsAt (g : Parts) (places order : List ℕ) : Type 0 where

@@ -42,17 +42,20 @@ pub record IsFalling (g : Parts) (ranks order : List ℕ) : Type 0 where
   pub rank_for_each : length ranks ≡ stations g
   pub unranked : count_by (nat_le (stations g)) ranks + length order ≡ stations g
   pub has_rank : (t : ℕ) → t < stations g → slice_index ranks t < stations g → slice_index ranks t < length order
-  pub at_rank : (t : ℕ) → t < stations g → slice_index ranks t < stations g → slice_index order (slice_index ranks t) ≡ t
+  pub at_rank : (t : ℕ) → t < stations g → slice_index ranks t < stations g →
+      slice_index order (slice_index ranks t) ≡ t
   pub in_order : (k : ℕ) → k < length order → slice_index order k < stations g
   pub rank_at : (k : ℕ) → k < length order → slice_index ranks (slice_index order k) ≡ k
-  pub falls : (a : ℕ) → a < arc_count g → (arc g a).tokens ≡ 0 → slice_index ranks (arc g a).from < stations g → slice_index ranks (arc g a).to < slice_index ranks (arc g a).from
+  pub falls : (a : ℕ) → a < arc_count g → (arc g a).tokens ≡ 0 → slice_index ranks (arc g a).from < stations g →
+      slice_index ranks (arc g a).to < slice_index ranks (arc g a).from
 
 -- the first stations of the order were passed, but for these arcs into the last of them
 pub record IsPassing (g : Parts) (r : Ranks) (passed : ℕ) (arcs : List ℕ) : Type 0 where
   pub falling : IsFalling g r.ranks r.order
   pub within : passed ≤ length r.order
   pub waiting_for_each : length r.waiting ≡ stations g
-  pub waits : (t : ℕ) → t < stations g → slice_index r.waiting t ≡ open_count g r.ranks passed t + count_by (is_free_from g t) arcs
+  pub waits : (t : ℕ) → t < stations g →
+      slice_index r.waiting t ≡ open_count g r.ranks passed t + count_by (is_free_from g t) arcs
   pub no_wait : (t : ℕ) → t < stations g → slice_index r.ranks t < stations g → slice_index r.waiting t ≡ 0
 
 -- the count of each station is the number of its arcs out without a token among the first n arcs

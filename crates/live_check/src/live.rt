@@ -94,7 +94,7 @@ pub fn rank(alloc: Global, graph: Graph) -> Result<Live, NotLive>
     ensures ranked { IfOk result IsRanked }
     ensures live { OnOk result (IsLive graph) }
 
-    // Both refusals hand the graph back, and one that isn't for want of memory comes only where the graph isn't live.
+    // Both refusals hand the graph back. `Dead` comes only where the graph isn't live.
     ensures handed_back { IfErr result (HandsBack graph) }
     ensures not_live { IfErr result (SaysNotLive graph) }
     ensures dead_circuit { IfErr result (ShowsDeadCircuit graph) }

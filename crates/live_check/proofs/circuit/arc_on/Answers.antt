@@ -1,4 +1,4 @@
-use Rattle.std.proofs.Common.{below_more, ap, ◌∙◌, sym, arith}
+use Rattle.std.proofs.Common.{below_more, arith}
 use Rattle.live_check.proofs.StuckWalks.{some_leads_on}
 use Rattle.live_check.proofs.circuit.arc_on.Goals as goal
 use Rattle.live_check.proofs.circuit.arc_on.Goals.{else-arc-eq0-via-then-arc-eq0+else-ranks-arc, else-arc-eq0-via-else-arc-eq0}

@@ -1,6 +1,5 @@
-use Rattle.std.proofs.Common.{◌≡◌, ◌≢◌, ap, sym, ◌∙◌, length, drop, vec_len, Vec, Global, ℕ, arith}
+use Rattle.std.proofs.Common.{◌≡◌, ap, sym, ◌∙◌, length, drop, vec_len, Vec, Global, ℕ, arith}
 use Rattle.std.proofs.lemmas.Result.{IfOk-weaker}
-use Rattle.event_graph.specs.Network.{stations}
 use Rattle.live_check.specs.DeadCircuit.{IsDeadCircuit}
 use Rattle.live_check.proofs.StuckWalks.{walk_more_read, walk_closed_read}
 use Rattle.live_check.proofs.circuit.dead_circuit.Goals as goal

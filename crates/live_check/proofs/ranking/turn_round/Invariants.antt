@@ -1,4 +1,4 @@
-use Rattle.std.proofs.Common.{◌≡◌, ◌++◌, map, take, drop, length}
+use Rattle.std.proofs.Common.{◌≡◌, ◌++◌, map, take, drop}
 use Rattle.live_check.specs.Ranking.{from_end}
 use Rattle.live_check.proofs.ranking.turn_round.Given as goal
 

@@ -1,4 +1,4 @@
-use Rattle.std.proofs.Common.{◌+◌, ap, arith}
+use Rattle.std.proofs.Common.{◌+◌, ap}
 use Rattle.live_check.specs.Ranking.{Ranks}
 use Rattle.live_check.proofs.RankSteps.{turn_read, may_release, passes_yes, passes_no}
 use Rattle.live_check.proofs.ranking.Ranking.pass.Goals as goal
