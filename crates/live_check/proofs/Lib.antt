@@ -1,0 +1,5 @@
+pub mod Counts
+pub mod NeverLater
+pub mod RankSteps
+pub mod Upward
+pub mod StuckWalks
