@@ -57,8 +57,11 @@ MayGive bytes other = ⊥
 
 -- what `run PLANT` may come to
 abbrev pub MayRun : List ℕ → Reading → Outcome → Type 0
-MayRun plant store (outcome.StoreFault file) = (file ≡ plant) × Rose (store.before plant) (store.after plant) × (store.taken ≤ MAX_FILE_BYTES)
-MayRun plant store (outcome.TooLong file) = (file ≡ plant) × (MAX_FILE_BYTES < store.taken) × (IsTrue store.tells → IsLongerThan MAX_FILE_BYTES (store.files plant))
+MayRun plant store (outcome.StoreFault file) =
+    (file ≡ plant) × Rose (store.before plant) (store.after plant) × (store.taken ≤ MAX_FILE_BYTES)
+MayRun plant store (outcome.TooLong file) =
+    (file ≡ plant) × (MAX_FILE_BYTES < store.taken)
+    × (IsTrue store.tells → IsLongerThan MAX_FILE_BYTES (store.files plant))
 MayRun plant store outcome.NoMemory = ⊤
 MayRun plant store other = (bytes : List ℕ) × IsRead plant store bytes × MayGive bytes other
 

@@ -15,7 +15,9 @@ number n = integer (pos n)
 
 -- a machine, which is a name and a time, has exactly `name` and `time`
 abbrev pub machine_data : List ℕ × ℕ → Data
-machine_data machine = table (member (codes "name") (string machine.0) (member (codes "time") (number machine.1) no_members))
+machine_data machine =
+    table (member (codes "name") (string machine.0)
+    (member (codes "time") (number machine.1) no_members))
 
 -- `feeds`, which each stage but the last has, is the name of the next
 abbrev pub with_feeds : List SerialStage → Members → Members
@@ -24,10 +26,15 @@ with_feeds (next ∷ later) members = member (codes "feeds") (string next.name) 
 
 -- a stage has exactly `cards`, `feeds`, `machine`, which is a list of one machine, and `name`
 abbrev pub stage_tree : List SerialStage → Data → Data → Data → Data
-stage_tree later cards machine name = table (member (codes "cards") cards (with_feeds later (member (codes "machine") (array (item machine no_items)) (member (codes "name") name no_members))))
+stage_tree later cards machine name =
+    table (member (codes "cards") cards
+    (with_feeds later
+    (member (codes "machine") (array (item machine no_items))
+    (member (codes "name") name no_members))))
 
 abbrev pub stage_data : List SerialStage → SerialStage → Data
-stage_data later stage = stage_tree later (number stage.cards) (machine_data (stage.machine, stage.time)) (string stage.name)
+stage_data later stage =
+    stage_tree later (number stage.cards) (machine_data (stage.machine, stage.time)) (string stage.name)
 
 -- each stage before those after it
 abbrev pub stage_items : List SerialStage → Items
@@ -41,7 +48,10 @@ number_items (n ∷ ns) = item (number n) (number_items ns)
 
 -- the file has exactly `demands`, `policy`, which is `kanban`, and `stage`
 abbrev pub line_members : SerialLine → Members
-line_members line = member (codes "demands") (array (number_items line.demands)) (member (codes "policy") (string (codes "kanban")) (member (codes "stage") (array (stage_items line.stages)) no_members))
+line_members line =
+    member (codes "demands") (array (number_items line.demands))
+    (member (codes "policy") (string (codes "kanban"))
+    (member (codes "stage") (array (stage_items line.stages)) no_members))
 
 -- the name of one of the two stations that every line has
 abbrev pub is_outer_name : List ℕ → Bool

@@ -13,11 +13,14 @@ texts words = map string_bytes words
 -- the command that a word is by itself
 abbrev pub lone_command : List ℕ → Option Command
 lone_command word =
-    if bytes_eq word (codes "--help") then Some Help else if bytes_eq word (codes "--version") then Some Version else None
+    if bytes_eq word (codes "--help") then Some Help
+    else if bytes_eq word (codes "--version") then Some Version
+    else None
 
 -- `run PLANT`, where PLANT is a file name and no checkpoint's
 abbrev pub plant_command : List ℕ → List ℕ → Option Command
-plant_command word plant = if bytes_eq word (codes "run") && is_file_name plant then Some (Run plant) else None
+plant_command word plant =
+    if bytes_eq word (codes "run") && is_file_name plant then Some (Run plant) else None
 
 -- the command that the words are, if they are one
 abbrev pub command_of : List (List ℕ) → Option Command

@@ -59,7 +59,8 @@ impl Table {
         requires job { job < self.old.jobs }
         ensures stations { self.new.stations ≡ self.old.stations }
         ensures jobs { self.new.jobs ≡ self.old.jobs }
-        ensures capped { (bound : ℕ) → date ≤ bound → IsAtMost bound self.old.dates.items → IsAtMost bound self.new.dates.items }
+        ensures capped { (bound : ℕ) → date ≤ bound → IsAtMost bound self.old.dates.items
+            → IsAtMost bound self.new.dates.items }
     {
         self.dates[station * self.jobs + job] = date;
     }
@@ -128,7 +129,8 @@ pub fn dates_of(alloc: Global, line: &SerialLine) -> Result<Table, AllocError>
     requires { IsSound line.now }
     ensures stations { IfOk result (λ table. table.stations ≡ 2 * length line.now.stages + 2) }
     ensures jobs { IfOk result (λ table. table.jobs ≡ length line.now.demands) }
-    ensures dates { IfOk result (λ table. IsAtMost (date_bound (length line.now.demands * length line.now.stages)) table.dates.items) }
+    ensures dates { IfOk result (λ table.
+        IsAtMost (date_bound (length line.now.demands * length line.now.stages)) table.dates.items) }
 {
     let stages = line.stages.as_slice();
     let demands = line.demands.as_slice();

@@ -117,7 +117,8 @@ fn name_of(alloc: Global, value: &Value) -> Result<Name, FormError>
 
 /// Holds where no member is left.
 fn take_end(members: &mut Iter<'_, String, Value>) -> Result<(), FormError>
-    ensures { MatchResult result (λ _. members_view members.old ≡ no_members) (λ _. members_view members.old ≢ no_members) }
+    ensures { MatchResult result (λ _. members_view members.old ≡ no_members)
+        (λ _. members_view members.old ≢ no_members) }
 {
     match members.next() {
         None => Ok(()),

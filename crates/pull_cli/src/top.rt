@@ -45,7 +45,8 @@ fn finish<K: Sink>(sink: &mut K, status: u8, text: &[u8]) -> u8
 
 /// What the words come to.
 fn outcome_of<S: Store>(alloc: Global, words: &[String], store: &mut S) -> Outcome
-    ensures cause { MayCome (command_of (texts words.now)) (reading S.tells S.files S.read_faults S.taken store.old store.new) result }
+    ensures cause { MayCome (command_of (texts words.now))
+        (reading S.tells S.files S.read_faults S.taken store.old store.new) result }
     ensures files_stay { SameFiles S.tells (S.files store.old) (S.files store.new) }
 {
     match read_words(alloc, words) {
@@ -59,7 +60,8 @@ fn outcome_of<S: Store>(alloc: Global, words: &[String], store: &mut S) -> Outco
 
 /// What `run PLANT` comes to.
 fn run<S: Store>(alloc: Global, plant: FileName, store: &mut S) -> Outcome
-    ensures cause { MayRun plant (reading S.tells S.files S.read_faults S.taken store.old store.new) result }
+    ensures cause { MayRun plant
+        (reading S.tells S.files S.read_faults S.taken store.old store.new) result }
     ensures files_stay { SameFiles S.tells (S.files store.old) (S.files store.new) }
 {
     match store.read(alloc, plant.as_str(), MAX_FILE_BYTES) {
