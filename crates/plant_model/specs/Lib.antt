@@ -1,0 +1,6 @@
+pub mod Line
+pub mod Graph
+pub mod Place
+pub mod Refusals
+pub mod Sound
+pub mod Layout

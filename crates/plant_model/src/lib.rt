@@ -1,0 +1,19 @@
+//! The plant as a value: its types, the test whether it is sound, and the refusals of a plant file.
+#![tactic(auto)]
+
+mod check;
+mod error;
+mod layout;
+mod line;
+mod place;
+mod plant;
+mod text;
+
+pub use error::PlantError;
+pub use layout::{FEED, Layout};
+pub use place::{Table, element_place, key_place, table_place};
+pub use plant::{CardLoop, Machine, Plant, Policy, Stage};
+pub use text::Text;
+
+#[cfg(test)]
+mod tests;

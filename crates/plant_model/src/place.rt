@@ -1,0 +1,74 @@
+ghost use Rattle.std.specs.Prelude.{◌≡◌, IfOk, string_bytes};
+ghost use Rattle.plant_model.specs.Place.{at, place_of, key_of};
+
+use crate::text::Text;
+use std::alloc::{AllocError, Global};
+
+/// A table of a plant file. Stages, machines and loops are numbered from 0 here, and from 1 in the text of a place.
+#[derive(Clone, Copy, Debug, PartialEq, Eq)]
+pub enum Table {
+    /// The top of the file.
+    Top,
+    /// A stage.
+    InStage(usize),
+    /// A machine of a stage: the stage's number, then the machine's.
+    InMachine(usize, usize),
+    /// A loop.
+    InLoop(usize),
+}
+
+/// The place of a table, as `stage[2].machine[1]`; that of the top is empty.
+pub fn table_place(alloc: Global, table: Table) -> Result<Text, AllocError>
+    ensures { IfOk result (λ place. place ≡ place_of table) }
+{
+    Ok(Text::from_string(write_table(alloc, table)?))
+}
+
+/// The place of a key of a table, as `stage[2].machine[1].time`.
+pub fn key_place(alloc: Global, table: Table, key: &str) -> Result<Text, AllocError>
+    ensures { IfOk result (λ place. place ≡ key_of table key.now) }
+{
+    Ok(Text::from_string(write_key(alloc, table, key)?))
+}
+
+/// The place of element `k` of a list at a key, as `demands[3]`.
+pub fn element_place(alloc: Global, table: Table, key: &str, k: usize) -> Result<Text, AllocError>
+    ensures { IfOk result (λ place. place ≡ at (key_of table key.now) k) }
+{
+    let list = write_key(alloc, table, key)?;
+    Ok(Text::from_string(write_element(alloc, &list, k)?))
+}
+
+/// The text of a table's place.
+fn write_table(alloc: Global, table: Table) -> Result<String, AllocError>
+    ensures { IfOk result (λ text. string_bytes text ≡ place_of table) }
+{
+    match table {
+        Table::Top => Ok(String::new(alloc)),
+        Table::InStage(i) => write_element(alloc, "stage", i),
+        Table::InMachine(i, j) => {
+            let stage = write_element(alloc, "stage", i)?;
+            write_element(alloc, &format!(in alloc; "{stage}.machine")?, j)
+        }
+        Table::InLoop(k) => write_element(alloc, "loop", k),
+    }
+}
+
+/// The text of a key's place.
+fn write_key(alloc: Global, table: Table, key: &str) -> Result<String, AllocError>
+    ensures { IfOk result (λ text. string_bytes text ≡ key_of table key.now) }
+{
+    if table == Table::Top {
+        return String::from_str(alloc, key);
+    }
+    let table = write_table(alloc, table)?;
+    format!(in alloc; "{table}.{key}")
+}
+
+/// The text of the place of element `k` of a list.
+fn write_element(alloc: Global, list: &str, k: usize) -> Result<String, AllocError>
+    ensures { IfOk result (λ text. string_bytes text ≡ at list.now k) }
+{
+    let number = k as u128 + 1;
+    format!(in alloc; "{list}[{number}]")
+}
