@@ -1,0 +1,14 @@
+pub mod RowLists
+pub mod PolicyRows
+pub mod GraphRows
+pub mod SmallRows
+pub mod Sizes
+pub mod WithinLimits
+pub mod Inputs
+pub mod SolvesRows
+pub mod SharedRows
+pub mod ExtendedLaws
+pub mod LabelTexts
+pub mod Joined
+pub mod PolicyDelays
+pub mod Built

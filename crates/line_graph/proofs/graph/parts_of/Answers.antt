@@ -1,0 +1,12 @@
+use Rattle.std.proofs.Common.{◌∙◌}
+use Rattle.line_graph.proofs.Built.{graph-parts}
+use Rattle.line_graph.proofs.graph.parts_of.Goals as goal
+
+pub returns : goal.returns
+returns c =
+    graph-parts c.args.plant.now _
+    (c.from_vec.ensures ∙ c.in_ok-station_labels.ensures)
+    (c.from_vec-2.ensures ∙ c.in_ok-station_times.ensures)
+    (c.from_vec-3.ensures ∙ (c.in_ok-from_slice.ensures.items ∙ c.as_slice.ensures))
+    (c.from_vec-4.ensures ∙ c.in_ok-line_arcs.ensures)
+    (c.from_vec-5.ensures ∙ c.in_ok-line_delays.ensures)

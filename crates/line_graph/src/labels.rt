@@ -1,0 +1,41 @@
+ghost use Rattle.std.specs.Prelude.{◌≡◌, ◌∷◌, [], ◌++◌, IfOk, OnOk, IsTrue, map, codes};
+ghost use Rattle.plant_model.specs.Graph.{labels, stage_labels};
+
+use line_base::{Label, Name};
+use plant_model::{Plant, Stage};
+use std::alloc::{AllocError, Global};
+
+/// The labels of the stations: `feed`, then each stage's, then `deliver`.
+#[tactic(auto, unfolding(plant_model::specs::Graph::labels))]
+pub fn station_labels(alloc: Global, plant: &Plant) -> Result<Vec<Label>, AllocError>
+    ensures { IfOk result (λ all. all.items ≡ labels plant.now) }
+{
+    let mut all = Vec::new(alloc);
+    all.push(Label::of(alloc, b"feed")?)?;
+    for stage in plant.stages.as_slice() {
+        add_stage_labels(alloc, stage, &mut all)?;
+    }
+    all.push(Label::of(alloc, b"deliver")?)?;
+    Ok(all)
+}
+
+/// Adds the labels of a stage: its own for the release, then one a machine.
+fn add_stage_labels(alloc: Global, stage: &Stage, all: &mut Vec<Label>) -> Result<(), AllocError>
+    ensures { OnOk result (all.new.items ≡ all.old.items ++ stage_labels stage.now) }
+{
+    all.push(Label::of(alloc, stage.name.text())?)?;
+    for machine in stage.machines.as_slice() {
+        all.push(machine_label(alloc, &stage.name, &machine.name)?)?;
+    }
+    Ok(())
+}
+
+/// The label of a machine: its stage's name, a dot, its own name.
+fn machine_label(alloc: Global, stage: &Name, machine: &Name) -> Result<Label, AllocError>
+    ensures { IfOk result (λ label. label ≡ stage.now ++ codes "." ++ machine.now) }
+{
+    let mut text = Vec::from_slice(alloc, stage.text())?;
+    text.push(b'.')?;
+    text.extend_from_slice(machine.text())?;
+    Label::of(alloc, text.as_slice())
+}

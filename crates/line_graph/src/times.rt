@@ -1,0 +1,44 @@
+ghost use Rattle.std.specs.Prelude.{◌≡◌, ◌++◌, IfOk, OnOk};
+ghost use Rattle.plant_model.specs.Graph.{times, stage_times};
+
+use line_base::{Items, Times};
+use plant_model::{Plant, Stage};
+use std::alloc::{AllocError, Global};
+
+/// The job times of the stations: none for the feed and the delivery, between them each stage's.
+#[tactic(auto, unfolding(plant_model::specs::Graph::times))]
+pub fn station_times(alloc: Global, plant: &Plant) -> Result<Vec<Times>, AllocError>
+    ensures { IfOk result (λ all. all.items ≡ times plant.now) }
+{
+    let mut all = Vec::new(alloc);
+    all.push(Times::Fixed(0))?;
+    for stage in plant.stages.as_slice() {
+        add_stage_times(alloc, stage, &mut all)?;
+    }
+    all.push(Times::Fixed(0))?;
+    Ok(all)
+}
+
+/// Adds the job times of a stage: none for its release, then those of its machines.
+fn add_stage_times(alloc: Global, stage: &Stage, all: &mut Vec<Times>) -> Result<(), AllocError>
+    ensures { OnOk result (all.new.items ≡ all.old.items ++ stage_times stage.now) }
+{
+    all.push(Times::Fixed(0))?;
+    for machine in stage.machines.as_slice() {
+        all.push(copy_of(alloc, &machine.times)?)?;
+    }
+    Ok(())
+}
+
+/// A copy of job times.
+fn copy_of(alloc: Global, times: &Times) -> Result<Times, AllocError>
+    ensures { IfOk result (λ copy. copy ≡ times.now) }
+{
+    match times {
+        Times::Fixed(time) => Ok(Times::Fixed(*time)),
+        Times::Each(list) => Ok(Times::Each(Items::from_vec(Vec::from_slice(
+            alloc,
+            list.as_slice(),
+        )?))),
+    }
+}
