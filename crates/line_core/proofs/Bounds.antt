@@ -18,7 +18,7 @@ use Rattle.event_graph.specs.Firing.{CanFire, new_date, after}
 use Rattle.event_graph.specs.Reached.{Reached, begins, fires}
 use Rattle.event_graph.proofs.ArcNumbers.{All-ins}
 use Rattle.line_core.specs.Consistent.{all_tokens, IsConsistent, fired, IsNoLaterThan, LATEST_DATE}
-use Rattle.line_core.proofs.Tokens.{with_new, log-after, all_tokens-after}
+use Rattle.line_core.proofs.ArcTokens.{with_new, log-after, all_tokens-after}
 use Rattle.line_core.proofs.Consistency.{by_tokens-le, new_date-by_tokens, held_now, exists, log-start, all_tokens-start, reached_is_consistent}
 
 -- ---- the numbers of a graph within the limits
@@ -31,7 +31,7 @@ demand-small : (g : Parts) (n : ℕ) → IsWithinLimits g → demand g n ≤ MAX
 unfolding demand
 demand-small g n limits = All-at (λ date. date ≤ MAX_DEMAND_DATE) g.dates (n - 1) limits.demands_small (omega arith)
 
-delay-small : (g : Parts) (a : ℕ) → IsWithinLimits g → delay g a ≤ MAX_TIME
+pub delay-small : (g : Parts) (a : ℕ) → IsWithinLimits g → delay g a ≤ MAX_TIME
 unfolding delay
 delay-small g a limits = All-at (λ time. time ≤ MAX_TIME) g.delays a limits.delays_small (omega arith)
 
@@ -39,7 +39,7 @@ time_at-small : (jobs n : ℕ) (times : Times) → AreTimesFor jobs times → ti
 time_at-small jobs n (Fixed time) small = small
 time_at-small jobs n (Each times) small = All-at (λ time. time ≤ MAX_TIME) times (n - 1) small.1 (omega arith)
 
-time-small : (g : Parts) (t n : ℕ) → IsWithinLimits g → time g t n ≤ MAX_TIME
+pub time-small : (g : Parts) (t n : ℕ) → IsWithinLimits g → time g t n ≤ MAX_TIME
 unfolding time
 time-small g t n limits =
     ⊎_elim
@@ -47,7 +47,7 @@ time-small g t n limits =
     (λ past. subst (λ (times : Times). time_at times n ≤ MAX_TIME) (sym (get_or_past g.times t (Fixed 0) past)) (omega arith))
     (cases_lt t (length g.times))
 
-work-small : (g : Parts) (a n : ℕ) → IsWithinLimits g → work g a n ≤ MAX_TIME
+pub work-small : (g : Parts) (a n : ℕ) → IsWithinLimits g → work g a n ≤ MAX_TIME
 unfolding work
 work-small g a n limits =
     cond_both

@@ -1,5 +1,5 @@
 pub mod Greatest
-pub mod Tokens
+pub mod ArcTokens
 pub mod Consistency
 pub mod Solution
 pub mod Bounds
@@ -7,3 +7,6 @@ pub mod Circuits
 pub mod Order
 pub mod Progress
 pub mod Unwinding
+pub mod Runs
+pub mod Searches
+pub mod Following

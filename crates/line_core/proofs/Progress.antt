@@ -8,7 +8,7 @@ use Rattle.event_graph.specs.State.{State, log, place, start}
 use Rattle.event_graph.specs.Firing.{CanFire, after}
 use Rattle.event_graph.specs.Reached.{Reached, begins, fires}
 use Rattle.line_core.specs.Consistent.{all_tokens, IsConsistent, IsFinished, fired}
-use Rattle.line_core.proofs.Tokens.{length-all_tokens}
+use Rattle.line_core.proofs.ArcTokens.{length-all_tokens}
 use Rattle.line_core.proofs.Consistency.{exists, reached_is_consistent, after_is_consistent}
 use Rattle.line_core.proofs.Bounds.{fired-after, fired-le}
 use Rattle.line_core.proofs.Order.{GoesUp, first_station, no_more_dates, fewer_dates}

@@ -11,7 +11,7 @@ use Rattle.event_graph.specs.State.{State, log, place, start}
 use Rattle.event_graph.specs.Firing.{CanFire, new_date, after}
 use Rattle.event_graph.specs.Reached.{Reached, begins, fires}
 use Rattle.line_core.specs.Consistent.{all_tokens, tokens_left, due_date, state_of, IsConsistent, fired}
-use Rattle.line_core.proofs.Tokens.{with_new, length-with_new, get_or-with_new, LogGains, log-after, length-all_tokens}
+use Rattle.line_core.proofs.ArcTokens.{with_new, length-with_new, get_or-with_new, LogGains, log-after, length-all_tokens}
 use Rattle.line_core.proofs.Consistency.{HasHeld, HasHeld-gain, by_tokens-gain, due_date-by_tokens, new_date-by_tokens, held_now, exists, start_is_consistent, after_is_consistent}
 use Rattle.line_core.proofs.Bounds.{fired-after}
 use Rattle.line_core.proofs.Order.{GoesUp, ComesFirst, last_station, no_more_dates, fewer_dates}
@@ -27,7 +27,7 @@ state_of-logs g s c =
 same_from_logs : (g : Parts) (s other : State) → IsConsistent g s → IsConsistent g other → s.logs ≡ other.logs → s ≡ other
 same_from_logs g s other c d e = state_of-logs g s c ∙ ap (state_of g) e ∙ sym (state_of-logs g other d)
 
-place-state_of : (g : Parts) (logs : List (List ℕ)) (a : ℕ) → a < arc_count g → place (state_of g logs) a ≡ tokens_left g logs a
+pub place-state_of : (g : Parts) (logs : List (List ℕ)) (a : ℕ) → a < arc_count g → place (state_of g logs) a ≡ tokens_left g logs a
 unfolding state_of
 place-state_of g logs a there = get_or-map-range_with_len (tokens_left g logs) 0 (arc_count g) a a [] there (zero-add a)
 

@@ -1,2 +1,6 @@
 pub mod Consistent
 pub mod Laws
+pub mod ArcTokens
+pub mod Run
+pub mod Refusals
+pub mod Schedule

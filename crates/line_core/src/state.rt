@@ -1,0 +1,200 @@
+ghost use Rattle.std.specs.Prelude.{◌≡◌, ◌<◌, map, length, IsTrue, ◌↔◌, IfOk, IfErr, IfSome, OnOk, OnErr, replicate, []};
+ghost use Rattle.line_base.specs.Roomy.{dates_of};
+ghost use Rattle.event_graph.specs.Network.{stations, arc_count};
+ghost use Rattle.event_graph.specs.State.{log, place};
+ghost use Rattle.event_graph.specs.Reached.{Reached};
+ghost use Rattle.event_graph.specs.Firing.{CanFire};
+ghost use Rattle.line_core.specs.Consistent.{IsFinished, fired, state_of};
+ghost use Rattle.line_core.specs.ArcTokens.{FillsCircuits, HasRoom};
+ghost use Rattle.line_core.specs.Run.{run_of, begun, fired_at, IsReached, IsLeastTable, IsRunWithRoom};
+ghost use Rattle.line_core.specs.Refusals.{Refuses, first_unfinished};
+
+use crate::dates::{arc_at, count_at, first_empty, first_unfinished, next_date, tokens_on};
+use crate::error::FireError;
+use crate::table::Table;
+use crate::tokens::Tokens;
+use event_graph::{Graph, Marking};
+use line_base::{Date, Log, Logs};
+use live_check::Live;
+use std::alloc::{AllocError, Global};
+use std::marker::Model;
+use std::snapshot::Snapshot;
+
+/// A state of a live graph that some firings reach: a log of dates for each station, and a place of dated tokens for
+/// each arc. Contracts see both, beside the graph; the dates are kept once, in the logs, and the places follow from
+/// them.
+///
+/// Each call that takes a `Live` takes the one that the state was made for.
+#[derive(Drop)]
+pub struct State {
+    logs: Logs,
+    alloc: Global,
+    // The graph that the state was made for. Contracts alone read it.
+    graph: Snapshot<Graph>,
+}
+
+impl Model for State {
+    ghost use Rattle.line_core.specs.Run.{Run, run_of, IsRunWithRoom};
+
+    ghost Value = { Run };
+
+    ghost view = { λ s. run_of s.graph.value s.logs };
+
+    ghost invariant = { λ s. IsRunWithRoom s.graph.value s.logs };
+}
+
+/// An empty log for each station of the graph, with room for a date of each job.
+pub fn empty_logs(alloc: Global, graph: &Graph) -> Result<Logs, AllocError>
+    ensures held { IfOk result (IsRunWithRoom graph.now) }
+    ensures start { IfOk result (λ logs. dates_of logs ≡ replicate (stations graph.now) []) }
+{
+    let stations = graph.stations();
+    let jobs = graph.jobs();
+    let mut logs = Logs::new(alloc, stations)?;
+    for _ in 0..stations {
+        logs.add(Log::new(alloc, jobs)?);
+    }
+    Ok(logs)
+}
+
+impl State {
+    /// The start: empty logs, and on each arc its tokens, of date 0. It takes the room of all later firings.
+    pub fn start(alloc: Global, live: &Live) -> Result<State, AllocError>
+        ensures start { IfOk result (λ state. state ≡ begun live.now.graph) }
+        ensures reached { IfOk result IsReached }
+    {
+        let logs = empty_logs(alloc, live.graph())?;
+        Ok(State {
+            logs,
+            alloc,
+            graph: Snapshot::of(live.graph()),
+        })
+    }
+
+    /// Fires station `t`: the front token of each input place goes away, and the new date goes to the end of the
+    /// station's log and, later by the arc's delay, to the back of each output place. The date is the greatest of the
+    /// dates that went away, each with the station's time for the job where its arc is worked; for the feed it is the
+    /// demand date. It takes no memory, and time in the station's arcs alone.
+    ///
+    /// `Done` comes where the station has fired once for each job, else `Empty` where an input place has no token; the
+    /// state is then unchanged.
+    ///
+    /// Source of the rule: Baccelli, Cohen, Olsder and Quadrat, Synchronization and Linearity, on event graphs.
+    pub fn fire(&mut self, live: &Live, t: u32) -> Result<(), FireError>
+        requires made_for { live.now.graph ≡ self.old.graph }
+        requires station { t < stations self.old.graph }
+        ensures could { OnOk result (CanFire self.old.graph self.old.state t) }
+        ensures fired { OnOk result (self.new ≡ fired_at self.old t) }
+        ensures refused { IfErr result (Refuses self.old t) }
+        ensures kept { OnErr result (self.new ≡ self.old) }
+        ensures reached { IsReached self.new }
+    {
+        let graph = live.graph();
+        if count_at(&self.logs, graph, t) == graph.jobs() as usize {
+            return Err(FireError::Done);
+        }
+        match first_empty(&self.logs, graph, t) {
+            Some(arc) => Err(FireError::Empty { arc }),
+            None => {
+                let date = next_date(&self.logs, graph, t);
+                self.logs.add_to(t, date);
+                Ok(())
+            }
+        }
+    }
+
+    /// Whether every station has fired once for each job.
+    pub fn finished(&self, live: &Live) -> bool
+        requires made_for { live.now.graph ≡ self.now.graph }
+        ensures finished { IsTrue result ↔ IsFinished self.now.graph self.now.state }
+        ensures reached { IsReached self.now }
+    {
+        self.first_unfinished(live).is_none()
+    }
+
+    /// The first station that hasn't fired once for each job.
+    pub(crate) fn first_unfinished(&self, live: &Live) -> Option<u32>
+        requires made_for { live.now.graph ≡ self.now.graph }
+        ensures station { result ≡ first_unfinished self.now.graph self.now.state }
+        ensures exists { IfSome result (λ t. t < stations self.now.graph) }
+        ensures reached { IsReached self.now }
+    {
+        first_unfinished(&self.logs, live.graph())
+    }
+
+    /// The log of station `t`: its dates, in the order of the jobs.
+    pub fn log(&self, t: u32) -> &[Date]
+        requires { t < stations self.now.graph }
+        ensures log { result.now ≡ log self.now.state t }
+        ensures reached { IsReached self.now }
+    {
+        self.logs.get(t).dates()
+    }
+
+    /// The tokens on arc `a`, from the front to the back.
+    pub fn place<'a>(&'a self, live: &Live, a: u32) -> Tokens<'a>
+        requires made_for { live.now.graph ≡ self.now.graph }
+        requires arc { a < arc_count self.now.graph }
+        ensures tokens { result ≡ place self.now.state a }
+        ensures reached { IsReached self.now }
+    {
+        let graph = live.graph();
+        let arc = arc_at(graph, a);
+        let taken = count_at(&self.logs, graph, arc.to);
+        let dates = self.logs.get(arc.from).dates();
+        Tokens::left(taken, arc.tokens as usize, dates, graph.delay(a))
+    }
+
+    /// How many firings made the state.
+    pub fn fired(&self) -> u64
+        ensures fired { result ≡ fired self.now.state }
+        ensures reached { IsReached self.now }
+    {
+        let mut fired = 0;
+        for t in 0..self.logs.len() as u32 {
+            fired += self.logs.get(t).dates().len() as u64;
+        }
+        fired
+    }
+
+    /// How many tokens each arc has, in the order of the arcs. Each circuit has by them the tokens that it has at the
+    /// start.
+    pub fn marking(&self, live: &Live) -> Result<Marking, AllocError>
+        requires made_for { live.now.graph ≡ self.now.graph }
+        ensures lengths { IfOk result (λ m. m ≡ map (λ tokens. length tokens) self.now.state.places) }
+        ensures circuits { IfOk result (FillsCircuits self.now.graph) }
+        ensures reached { IsReached self.now }
+    {
+        let graph = live.graph();
+        let arcs = graph.arcs().len() as u32;
+        let mut lengths = Vec::with_capacity(self.alloc, arcs as usize)?;
+        for a in 0..arcs {
+            lengths.push_reserved(tokens_on(&self.logs, graph, a) as u32);
+        }
+        Ok(Marking::of(lengths))
+    }
+
+    /// The state that firings reach with these logs, which take the room of all later firings. It takes no memory.
+    pub fn of_reached(alloc: Global, live: &Live, logs: Logs) -> State
+        requires reached { Reached live.now.graph (state_of live.now.graph (dates_of logs)) }
+        requires room { HasRoom live.now.graph logs }
+        ensures state { result ≡ run_of live.now.graph logs }
+        ensures reached { IsReached result }
+    {
+        State {
+            logs,
+            alloc,
+            graph: Snapshot::of(live.graph()),
+        }
+    }
+
+    /// The table of a finished state. It takes no memory.
+    pub fn into_table(self, live: &Live) -> Table
+        requires made_for { live.now.graph ≡ self.graph }
+        requires finished { IsFinished self.graph self.state }
+        ensures dates { result ≡ record { graph = self.graph; rows = self.state.logs } }
+        ensures least { IsLeastTable result }
+    {
+        Table::of(live.graph(), self.logs)
+    }
+}
