@@ -8,17 +8,16 @@ use Rattle.plant_model.specs.Graph.{Row, worked, plain, onward, machine_rows, st
 use Rattle.plant_model.proofs.RowLists.{rows_more}
 
 -- three elements added one after the other
-append-three : {X : Type 0} (xs : List X) (a b c : X) → xs ++ a ∷ [] ++ b ∷ [] ++ c ∷ [] ≡ xs ++ (a ∷ b ∷ c ∷ [])
+pub append-three : {X : Type 0} (xs : List X) (a b c : X) → xs ++ a ∷ [] ++ b ∷ [] ++ c ∷ [] ≡ xs ++ (a ∷ b ∷ c ∷ [])
 append-three xs a b c = append_assoc (xs ++ a ∷ []) (b ∷ []) (c ∷ []) ∙ append_assoc xs (a ∷ []) (b ∷ c ∷ [])
 
 module _ {X : Type 0} (part : Row → X) (p : Plant) where
   -- one machine more
-  pub machine_more : (i place : ℕ) (front parts : List X) (first a b c : X) → parts ≡ front ++ (first ∷ map part (flat_map (machine_rows p i) (range_with_len 0 place))) → a ≡ part (worked (machine_station p i place) (machine_station p i place) (machine_at p i place).servers) → b ≡ part (plain (machine_station p i place) (machine_station p i place) 1 0) → c ≡ part (onward p i place) → parts ++ a ∷ [] ++ b ∷ [] ++ c ∷ [] ≡ front ++ (first ∷ map part (flat_map (machine_rows p i) (range_with_len 0 (place + 1))))
-  machine_more i place front parts first a b c is at_a at_b at_c =
+  pub machine_more : (i place : ℕ) (front parts : List X) (first : X) (more : List X) → parts ≡ front ++ (first ∷ map part (flat_map (machine_rows p i) (range_with_len 0 place))) → more ≡ map part (machine_rows p i place) → parts ++ more ≡ front ++ (first ∷ map part (flat_map (machine_rows p i) (range_with_len 0 (place + 1))))
+  machine_more i place front parts first more is at =
       let before = map part (flat_map (machine_rows p i) (range_with_len 0 place)) in
-      let three : a ∷ b ∷ c ∷ [] ≡ map part (machine_rows p i place) = rw (at_a, at_b, at_c) refl in
-      let more = rows_more part (machine_rows p i) before (a ∷ b ∷ c ∷ []) place refl three in
-      append-three parts a b c ∙ ap (λ xs. xs ++ (a ∷ b ∷ c ∷ [])) is ∙ append_assoc front (first ∷ before) (a ∷ b ∷ c ∷ []) ∙ ap (λ xs. front ++ (first ∷ xs)) more
+      let all = rows_more part (machine_rows p i) before more place refl at in
+      ap (λ xs. xs ++ more) is ∙ append_assoc front (first ∷ before) more ∙ ap (λ xs. front ++ (first ∷ xs)) all
 
   -- all stages, the feed, the policy, the loops
   pub rows-joined : (stages policy loops : List X) (feed : X) (n : ℕ) → stages ≡ map part (flat_map (stage_rows p) (range_with_len 0 n)) → n ≡ length p.stages → feed ≡ part (feed_row p) → policy ≡ map part (policy_rows p) → loops ≡ map part (loop_rows p) → stages ++ feed ∷ [] ++ policy ++ loops ≡ map part (rows p)

@@ -1,6 +1,6 @@
 ghost use Rattle.std.specs.Prelude.{◌≡◌, ◌<◌, ◌++◌, length, IfOk, OnOk};
 ghost use Rattle.plant_model.specs.Line.{stage_at};
-ghost use Rattle.plant_model.specs.Graph.{arcs_of, worked, plain, onward, stage_rows, policy_rows, rows};
+ghost use Rattle.plant_model.specs.Graph.{arcs_of, worked, plain, onward, machine_rows, stage_rows, policy_rows, rows};
 ghost use Rattle.plant_model.specs.Sound.{IsSound};
 
 use line_base::Arc;
@@ -44,12 +44,28 @@ fn add_stage_arcs(layout: &Layout, number: u32, arcs: &mut Vec<Arc>) -> Result<(
     ensures { OnOk result (arcs.new.items ≡ arcs.old.items ++ arcs_of (stage_rows layout.now number)) }
 {
     arcs.push(worked(layout.release(number), layout.machine(number, 0), 0))?;
-    for (place, machine) in layout.stage(number).machines.as_slice().iter().enumerate() {
-        let here = layout.machine(number, place as u32);
-        arcs.push(worked(here, here, machine.servers))?;
-        arcs.push(plain(here, here, 1))?;
-        arcs.push(onward_arc(layout, number, place as u32))?;
+    for place in 0..layout.stage(number).machines.len() {
+        add_machine_arcs(layout, number, place as u32, arcs)?;
     }
+    Ok(())
+}
+
+/// Adds the arcs of a machine: with a token a server, with one token that keeps the parts in order, and from it on.
+fn add_machine_arcs(
+    layout: &Layout,
+    number: u32,
+    place: u32,
+    arcs: &mut Vec<Arc>,
+) -> Result<(), AllocError>
+    requires exists { number < length layout.now.stages }
+    requires machine { place < length (stage_at layout.now number).machines }
+    ensures { OnOk result (arcs.new.items ≡ arcs.old.items ++ arcs_of (machine_rows layout.now number place)) }
+{
+    let here = layout.machine(number, place);
+    let machine = &layout.stage(number).machines.as_slice()[place as usize];
+    arcs.push(worked(here, here, machine.servers))?;
+    arcs.push(plain(here, here, 1))?;
+    arcs.push(onward_arc(layout, number, place))?;
     Ok(())
 }
 

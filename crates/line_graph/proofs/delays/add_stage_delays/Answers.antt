@@ -2,8 +2,8 @@ use Rattle.std.proofs.Common.{◌≡◌, ◌+◌, ◌∷◌, [], ◌++◌, lengt
 use Rattle.std.proofs.lemmas.Bool.{eq-eqb, ne_eqb}
 use Rattle.plant_model.specs.declared.plant.Stage.{Stage}
 use Rattle.plant_model.specs.Line.{stage_at}
-use Rattle.plant_model.specs.Graph.{onward}
-use Rattle.line_graph.proofs.Joined.{machine_more, onward-delay}
+use Rattle.plant_model.specs.Graph.{delays_of, machine_rows, onward}
+use Rattle.line_graph.proofs.Joined.{append-three, machine_more, onward-delay}
 use Rattle.line_graph.proofs.delays.add_stage_delays.Goals as goal
 use Rattle.line_graph.proofs.delays.add_stage_delays.Goals.{then-is_last, else-is_last}
 
@@ -22,4 +22,5 @@ loop-place-preserved c =
     ]
     in
     let pushed = c.in_ok-push-4.ensures.items ∙ ap (λ delays. delays ++ c.if-is_last.push ∷ []) (c.in_ok-push-3.ensures.items ∙ ap (λ delays. delays ++ 0 ∷ []) c.in_ok-push-2.ensures.items) in
-    pushed ∙ machine_more (λ r. r.delay) p i j c.args.delays.now.items c.loop-place.delays.items 0 _ _ _ c.loop-place.invariant refl refl delay
+    let more : 0 ∷ 0 ∷ c.if-is_last.push ∷ [] ≡ delays_of (machine_rows p i j) = ap (λ delay. 0 ∷ 0 ∷ delay ∷ []) delay in
+    pushed ∙ append-three _ 0 0 c.if-is_last.push ∙ machine_more (λ r. r.delay) p i j c.args.delays.now.items c.loop-place.delays.items 0 _ c.loop-place.invariant more
