@@ -37,7 +37,8 @@ pub record IsConsistent (g : Parts) (s : State) : Type 0 where
   pub a_place_each : length s.places ≡ arc_count g
   pub few_dates : (t : ℕ) → t < stations g → length (log s t) ≤ jobs g
   pub tokens_suffice : (a : ℕ) → a < arc_count g → length (log s (arc g a).to) ≤ length (all_tokens g s.logs a)
-  pub dates_are_due : (t k : ℕ) → t < stations g → k < length (log s t) → slice_index (log s t) k ≡ due_date g s.logs t (k + 1)
+  pub dates_are_due : (t k : ℕ) → t < stations g → k < length (log s t)
+      → slice_index (log s t) k ≡ due_date g s.logs t (k + 1)
   pub places_are_left : (a : ℕ) → a < arc_count g → place s a ≡ tokens_left g s.logs a
 
 -- every station has fired once for each job

@@ -31,7 +31,7 @@ impl Model for Table {
 
 impl Table {
     /// The table of these dates.
-    pub fn of(graph: &Graph, rows: Logs) -> Table
+    pub(crate) fn of(graph: &Graph, rows: Logs) -> Table
         requires { IsLeastTable (record { graph = graph.now; rows = dates_of rows }) }
         ensures { result ≡ record { graph = graph.now; rows = dates_of rows } }
     {
