@@ -1,3 +1,4 @@
+pub mod Digits
 pub mod HeldLemmas
 pub mod OutgoingLemmas
 pub mod WrittenLemmas

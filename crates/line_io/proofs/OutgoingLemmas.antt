@@ -77,23 +77,23 @@ pushed_dropped tells written faults pending later = record {
   faults_stay_or_rise = omega arith;
 }
 
--- what waits is sent, and the sink answers
-pub pushed_sent : {T E : Type 0} (tells : Bool) (old new : List ℕ) (before now : ℕ) (pending : List ℕ) (r : Result T E) → OnOk r (PutsAll tells old new pending) → OnErr r (PutsFront tells old new pending) → OnErr r (Rose before now) → before ≤ now → Pushed tells (record { written = old; faults = before; pending = pending; failed = false }) (record { written = new; faults = now; pending = []; failed = is_err r }) []
-pushed_sent tells old new before now pending (Ok x) all front cause later = record {
-  sent = pending;
-  rest = [];
-  split = λ _. refl;
+-- a front of what waits is sent, and the sink answers
+pub pushed_sent : {T E : Type 0} (tells : Bool) (old new : List ℕ) (before now : ℕ) (pending front rest : List ℕ) (r : Result T E) → pending ≡ front ++ rest → OnOk r (PutsAll tells old new front) → OnErr r (PutsFront tells old new front) → OnErr r (Rose before now) → before ≤ now → Pushed tells (record { written = old; faults = before; pending = pending; failed = false }) (record { written = new; faults = now; pending = rest; failed = is_err r }) []
+pushed_sent tells old new before now pending front rest (Ok x) split all some cause later = record {
+  sent = front;
+  rest = rest;
+  split = λ _. append-nil pending ∙ split;
   puts = all;
   waits = λ _. refl;
   cause = λ _ bad. absurd (false≢true bad);
   latched = λ bad. absurd (false≢true bad);
   faults_stay_or_rise = later;
 }
-pushed_sent tells old new before now pending (Err e) all front cause later = record {
-  sent = front.0;
-  rest = front.1;
-  split = λ _. append-nil pending ∙ front.2;
-  puts = front.3;
+pushed_sent tells old new before now pending front rest (Err e) split all some cause later = record {
+  sent = some.0;
+  rest = some.1 ++ rest;
+  split = λ _. append-nil pending ∙ split ∙ ap (λ l. l ++ rest) some.2 ∙ append_assoc some.0 some.1 rest;
+  puts = some.3;
   waits = λ ok. absurd (false≢true (sym ok));
   cause = λ _ _. cause;
   latched = λ bad. absurd (false≢true bad);
@@ -139,3 +139,12 @@ front_on_err {text = text} new now (Err e) none well p q =
 pub cause_on_err : {T E : Type 0} {tells : Bool} {a b : Stream} {text : List ℕ} (new : List ℕ) (now : ℕ) (r : Result T E) → a.failed ≡ false → Pushed tells a b text → Pushed tells b (record { written = new; faults = now; pending = []; failed = is_err r }) [] → OnErr r (Rose a.faults now)
 cause_on_err new now (Ok x) well p q = tt
 cause_on_err new now (Err e) well p q = (pushed_then_none p q).cause well refl
+
+-- a part is held, and then pieces that are full are sent
+pub pushed_part : {tells : Bool} {c : Stream} (written : List ℕ) (faults : ℕ) (pending part held : List ℕ) (failed : Bool) → held ≡ pending ++ part → Pushed tells (record { written = written; faults = faults; pending = held; failed = failed }) c [] → Pushed tells (record { written = written; faults = faults; pending = pending; failed = failed }) c part
+pushed_part {tells} {c} written faults pending part held failed is sent =
+    let between : Stream = record { written = written; faults = faults; pending = held; failed = failed } in
+    let holds : Pushed tells (record { written = written; faults = faults; pending = pending; failed = failed }) between part =
+    rw is (pushed_held tells written faults pending part failed)
+    in
+    pushed_then_none {b = between} holds sent

@@ -20,9 +20,13 @@ abbrev pub stream : {S : Type 0} → (S → List ℕ) → (S → ℕ) → S → 
 stream written faults sink out =
     record { written = written sink; faults = faults sink; pending = out.bytes; failed = out.failed }
 
+-- these bytes wait, and the sink has failed or not
+abbrev pub waiting : List ℕ → Bool → Pending
+waiting bytes failed = record { bytes = bytes; failed = failed }
+
 -- nothing waits, and the sink has failed or not
 abbrev pub emptied : Bool → Pending
-emptied failed = record { bytes = []; failed = failed }
+emptied failed = waiting [] failed
 
 -- Bytes were given to a stream. A front of what waited and of them was sent, and the rest waits,
 -- until the sink fails; from then on nothing more is sent.

@@ -6,6 +6,7 @@ mod file_store;
 mod mem_sink;
 mod mem_store;
 mod outgoing;
+mod piece_buffer;
 mod pieces;
 mod sink;
 mod std_sink;

@@ -1,8 +1,10 @@
-ghost use Rattle.std.specs.Prelude.{◌≡◌, ◌+◌, ◌≤◌, ◌<◌, ◌++◌, [], false, length, is_err, IfOk};
-ghost use Rattle.line_io.specs.Outgoing.{Pending, Pushed, stream, emptied};
+ghost use Rattle.std.specs.Prelude.{◌≡◌, ◌+◌, ◌≤◌, ◌<◌, ◌++◌, [], false, length, decimal, is_err, IfOk};
+ghost use Rattle.line_io.specs.Outgoing.{Pushed, stream, emptied, waiting};
 
+use crate::piece_buffer::{MAX_OVER, PieceBuffer};
 use crate::pieces::put_all;
 use crate::sink::{Failed, MAX_PIECE, Sink};
+use itoa::Buffer;
 use std::alloc::{AllocError, Global};
 use std::marker::Model;
 
@@ -11,20 +13,34 @@ use std::marker::Model;
 /// it.
 #[derive(Drop)]
 pub struct Outgoing {
-    pending: Vec<u8>,
+    buffer: PieceBuffer,
     failed: bool,
 }
 
 impl Model for Outgoing {
-    ghost use Rattle.std.specs.Prelude.{◌≤◌, vec_len, vec_capacity};
+    ghost use Rattle.std.specs.Prelude.{◌<◌, length};
     ghost use Rattle.line_io.specs.Outgoing.{Pending};
     ghost use Rattle.line_io.specs.declared.sink.TheConstants.{MAX_PIECE};
 
     ghost Value = { Pending };
 
-    ghost view = { λ out. record { bytes = out.pending.items; failed = out.failed } };
+    ghost view = { λ out. record { bytes = out.buffer; failed = out.failed } };
 
-    ghost invariant = { λ out. (vec_len out.pending ≤ MAX_PIECE) × (MAX_PIECE ≤ vec_capacity out.pending) };
+    ghost invariant = { λ out. length out.buffer < MAX_PIECE };
+}
+
+// Sends a piece that is full, unless the sink has failed, and answers whether it has failed now.
+fn send_full<K: Sink>(buffer: &mut PieceBuffer, failed: bool, sink: &mut K) -> bool
+    ensures pushed { Pushed K.tells (stream K.written K.faults sink.old (waiting buffer.old failed))
+        (stream K.written K.faults sink.new (waiting buffer.new result)) [] }
+    ensures not_full { length buffer.new < MAX_PIECE }
+{
+    if buffer.len() < MAX_PIECE {
+        return failed;
+    }
+    let failed = failed || sink.put(buffer.piece()).is_err();
+    buffer.remove_piece();
+    failed
 }
 
 impl Outgoing {
@@ -33,40 +49,19 @@ impl Outgoing {
         ensures { IfOk result (λ out. out ≡ emptied false) }
     {
         Ok(Outgoing {
-            pending: Vec::with_capacity(alloc, MAX_PIECE)?,
+            buffer: PieceBuffer::new(alloc)?,
             failed: false,
         })
     }
 
-    // Adds what there is room for.
-    fn hold(&mut self, part: &[u8])
-        requires { length self.old.bytes + length part.now ≤ MAX_PIECE }
-        ensures { self.new ≡ record { bytes = self.old.bytes ++ part.now; failed = self.old.failed } }
+    // Gives a short part to the sink.
+    fn push_part<K: Sink>(&mut self, sink: &mut K, part: &[u8])
+        requires { length part.now ≤ MAX_OVER }
+        ensures { Pushed K.tells (stream K.written K.faults sink.old self.old)
+            (stream K.written K.faults sink.new self.new) part.now }
     {
-        self.pending.extend_from_slice(part).unwrap();
-    }
-
-    // Sends what waits, unless the sink has failed.
-    fn flush<K: Sink>(&mut self, sink: &mut K)
-        ensures pushed { Pushed K.tells (stream K.written K.faults sink.old self.old)
-            (stream K.written K.faults sink.new self.new) [] }
-        ensures empty { self.new.bytes ≡ [] }
-    {
-        if !self.failed {
-            self.failed = put_all(sink, &self.pending).is_err();
-        }
-        self.pending.clear();
-    }
-
-    // Sends a piece that is full.
-    fn make_room<K: Sink>(&mut self, sink: &mut K)
-        ensures pushed { Pushed K.tells (stream K.written K.faults sink.old self.old)
-            (stream K.written K.faults sink.new self.new) [] }
-        ensures not_full { length self.new.bytes < MAX_PIECE }
-    {
-        if self.pending.len() == MAX_PIECE {
-            self.flush(sink);
-        }
+        self.buffer.add(part);
+        self.failed = send_full(&mut self.buffer, self.failed, sink);
     }
 
     /// Gives bytes to the sink, by pieces of 4,096 bytes.
@@ -76,11 +71,28 @@ impl Outgoing {
     {
         let mut rest = bytes;
         while !rest.is_empty() {
-            self.make_room(sink);
-            let (now, later) = rest.split_at(rest.len().min(MAX_PIECE - self.pending.len()));
-            self.hold(now);
+            let (now, later) = rest.split_at(rest.len().min(MAX_OVER));
+            self.push_part(sink, now);
             rest = later;
         }
+    }
+
+    /// Gives a number in decimal to the sink. Its digits are written where they go out from.
+    pub fn push_number<K: Sink>(&mut self, sink: &mut K, n: u64)
+        ensures { Pushed K.tells (stream K.written K.faults sink.old self.old)
+            (stream K.written K.faults sink.new self.new) (decimal n) }
+    {
+        self.buffer.add_number(n);
+        self.failed = send_full(&mut self.buffer, self.failed, sink);
+    }
+
+    /// Gives a number of up to 128 bits in decimal to the sink.
+    pub fn push_wide_number<K: Sink>(&mut self, sink: &mut K, n: u128)
+        ensures { Pushed K.tells (stream K.written K.faults sink.old self.old)
+            (stream K.written K.faults sink.new self.new) (decimal n) }
+    {
+        let mut text = Buffer::new();
+        self.push(sink, text.format(n).as_bytes());
     }
 
     /// Sends what is left, and says whether all went out. The buffer is then as new.
@@ -89,8 +101,8 @@ impl Outgoing {
             (stream K.written K.faults sink.new (emptied (is_err result))) [] }
         ensures as_new { self.new ≡ emptied false }
     {
-        self.flush(sink);
-        let failed = self.failed;
+        let failed = self.failed || put_all(sink, self.buffer.bytes()).is_err();
+        self.buffer.clear();
         self.failed = false;
         if failed { Err(Failed) } else { Ok(()) }
     }

@@ -142,6 +142,36 @@ fn long_texts_go_out_in_pieces_of_4096_bytes(rt: HostRuntime) -> Result<(), Fail
 }
 
 #[test]
+fn numbers_go_out_where_they_stand(rt: HostRuntime) -> Result<(), Fail> {
+    let alloc = rt.alloc();
+    let cases: [(u64, &[u8]); 8] = [
+        (0, b"0"),
+        (10, b"10"),
+        (999, b"999"),
+        (1_000, b"1000"),
+        (9_999, b"9999"),
+        (10_000, b"10000"),
+        (123_456_789, b"123456789"),
+        (u64::MAX, b"18446744073709551615"),
+    ];
+    for (n, text) in cases {
+        for before in [0, 4_090, 4_095] {
+            let mut sink = MemSink::new(alloc, 20_000, Vec::new(alloc), 0)?;
+            let mut out = Outgoing::new(alloc)?;
+            out.push(&mut sink, &vec![in alloc; b'x'; before]?);
+            out.push_number(&mut sink, n);
+            out.push_wide_number(&mut sink, n as u128);
+            assert!(rt; out.finish(&mut sink).is_ok());
+            let (first, last) = sink.written().split_at(before.min(sink.written().len()));
+            assert_eq!(rt; first.len(), before);
+            assert_eq!(rt; last.len(), 2 * text.len());
+            assert!(rt; last.starts_with(text) && last.ends_with(text), "{n}");
+        }
+    }
+    Ok(())
+}
+
+#[test]
 fn files_of_the_machine_are_written_and_read(rt: HostRuntime) -> Result<(), Fail> {
     let alloc = rt.alloc();
     let own = format!(in alloc; "line_io_{}.test", std::process::id(rt.process()))?;

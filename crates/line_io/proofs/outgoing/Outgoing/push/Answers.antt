@@ -1,7 +1,6 @@
 use Rattle.std.proofs.Common.{◌≡◌, ℕ, List, [], ◌++◌, take, drop, refl, append_assoc}
 use Rattle.std.proofs.lemmas.List.{take-append-drop}
-use Rattle.line_io.specs.Outgoing.{stream}
-use Rattle.line_io.proofs.OutgoingLemmas.{pushed_none, pushed_after, pushed_then_none, pushed_held}
+use Rattle.line_io.proofs.OutgoingLemmas.{pushed_none, pushed_after}
 use Rattle.line_io.proofs.outgoing.Outgoing.push.Goals as goal
 
 pub loop-rest-init : goal.loop-rest-init
@@ -16,6 +15,4 @@ pub loop-rest-preserved : goal.loop-rest-preserved
 loop-rest-preserved g c =
     let old = c.loop-rest.invariant in
     let part = c.split_at.result.0.now in
-    let room = pushed_then_none {c = stream g.K.Sink.written g.K.Sink.faults c.make_room.new.sink c.make_room.new.self} old.2 c.make_room.ensures.pushed in
-    let held = pushed_held g.K.Sink.tells (g.K.Sink.written c.make_room.new.sink) (g.K.Sink.faults c.make_room.new.sink) c.make_room.new.self.bytes part c.make_room.new.self.failed in
-    (old.0 ++ part, part_moves c.args.bytes.now old.0 c.loop-rest.rest.now part c.split_at.result.1.now c.min.result old.1 c.split_at.ensures.front c.split_at.ensures.back, rw c.hold.ensures (pushed_after room held))
+    (old.0 ++ part, part_moves c.args.bytes.now old.0 c.loop-rest.rest.now part c.split_at.result.1.now c.min.result old.1 c.split_at.ensures.front c.split_at.ensures.back, pushed_after old.2 c.push_part.ensures)
