@@ -1,10 +1,11 @@
 -- Where a number of a table stands among the numbers row after row.
 use Rattle.std.proofs.Common.{◌≡◌, ◌∙◌, ◌≤◌, ◌<◌, ◌+◌, ◌-◌, ◌*◌, ℕ, zero, suc, List, Result, Ok, Err, eqb, map, length, drop, get_or, refl, sym, ap, inl, inr, arith}
-use Rattle.std.specs.List.{AllByRecursion, Contains, concat, position_or_len}
+use Rattle.std.specs.List.{All, AllByRecursion, Contains, concat, position_or_len}
 use Rattle.std.specs.List.Sorted.{IsBinarySearchResult, IsStrictlyIncreasing}
 use Rattle.std.specs.Ordering.{nat_cmp}
 use Rattle.std.proofs.lemmas.Bool.{cases_lt, eq-eqb, ne_eqb}
 use Rattle.std.proofs.lemmas.List.{get_or-drop, get_or-take, get_or_default}
+use Rattle.std.proofs.lemmas.List.Elements.{All-nil, All-cons, All-take, All-drop}
 use Rattle.std.proofs.lemmas.List.Kept.{AllPairs-from_increasing}
 use Rattle.std.proofs.lemmas.List.Sorted.{searched}
 use Rattle.std.proofs.lemmas.List.Sums.{position_or_len_is}
@@ -19,6 +20,14 @@ pub length-cut_rows : (width count : ℕ) (numbers : List ℕ) → length (cut_r
 unfolding cut_rows
 length-cut_rows width zero numbers = refl
 length-cut_rows width (suc count) numbers = ap suc (length-cut_rows width count (drop width numbers))
+
+-- where no number is above a limit, none of a row is
+pub limit-cut_rows : (limit width count : ℕ) (numbers : List ℕ) → All (λ n. n ≤ limit) numbers → All (λ row. All (λ n. n ≤ limit) row) (cut_rows width count numbers)
+unfolding cut_rows
+limit-cut_rows limit width zero numbers low = All-nil (λ row. All (λ n. n ≤ limit) row)
+limit-cut_rows limit width (suc count) numbers low =
+    All-cons (λ row. All (λ n. n ≤ limit) row) _ _ (All-take (λ n. n ≤ limit) width numbers low)
+    (limit-cut_rows limit width count (drop width numbers) (All-drop (λ n. n ≤ limit) width numbers low))
 
 -- the number of row k for the column at place p
 pub numbers_in-cut_rows : (columns : List ℕ) (column count : ℕ) (numbers : List ℕ) (k p : ℕ) → k < count → p < length columns

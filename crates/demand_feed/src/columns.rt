@@ -35,7 +35,8 @@ impl Model for Columns {
 impl Columns {
     /// How many jobs there are.
     pub fn records(&self) -> u32
-        ensures { result ≡ length self.now.rows }
+        ensures count { result ≡ length self.now.rows }
+        ensures limit { All (λ row. All (λ time. time ≤ MAX_TIME) row) self.now.rows }
     {
         self.jobs
     }
