@@ -1,4 +1,5 @@
 pub mod Line
+pub mod Paths
 pub mod Graph
 pub mod Place
 pub mod Refusals

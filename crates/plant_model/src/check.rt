@@ -11,6 +11,7 @@ mod ranges;
 mod sizes;
 
 use crate::error::PlantError;
+use crate::path_table::PathTable;
 use crate::plant::Plant;
 use std::alloc::Global;
 
@@ -58,7 +59,8 @@ fn check_together(alloc: Global, plant: &Plant) -> Result<(), PlantError>
 {
     counts::check_times_counts(alloc, plant)?;
     counts::check_demand_order(plant)?;
-    cards::check_cards(alloc, plant)?;
-    cards::check_downstream(alloc, plant)?;
+    let paths = PathTable::of(alloc, plant)?;
+    cards::check_cards(alloc, &paths)?;
+    cards::check_downstream(alloc, &paths)?;
     sizes::check_sizes(alloc, plant)
 }

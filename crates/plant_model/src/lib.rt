@@ -5,6 +5,7 @@ mod check;
 mod error;
 mod layout;
 mod line;
+mod path_table;
 mod place;
 mod plant;
 mod text;

@@ -64,7 +64,7 @@ pub(crate) fn stock_up_to(plant: &Plant, from: u32, to: u32) -> Option<u64>
 }
 
 /// The starting stock of stage `i`.
-fn starting_stock(plant: &Plant, i: usize) -> u32
+pub(crate) fn starting_stock(plant: &Plant, i: usize) -> u32
     requires { i < length plant.now.stages }
     ensures { result ≡ starting plant.now i }
 {
@@ -72,7 +72,7 @@ fn starting_stock(plant: &Plant, i: usize) -> u32
 }
 
 /// The stage that stage `i` feeds.
-fn next_stage(plant: &Plant, i: usize) -> Option<u32>
+pub(crate) fn next_stage(plant: &Plant, i: usize) -> Option<u32>
     requires { i < length plant.now.stages }
     ensures { result ≡ next plant.now i }
 {

@@ -1,41 +1,39 @@
-ghost use Rattle.std.specs.Prelude.{◌≡◌, ◌<◌, [], length, codes};
+ghost use Rattle.std.specs.Prelude.{◌<◌, ◌≡◌, length, codes};
 ghost use Rattle.plant_model.specs.Place.{key_of};
-ghost use Rattle.plant_model.specs.Refusals.{AnswersFirst, each, all_feeds_not_later, too_few, too_few_in_line, too_few_in_stage, too_few_under, loop_stock, too_few_in_loop, too_few_cards, not_downstream, loops_not_downstream};
+ghost use Rattle.plant_model.specs.Refusals.{AnswersFirst, each, too_few, too_few_in_line, too_few_in_stage, too_few_under, loop_stock, too_few_in_loop, too_few_cards, not_downstream, loops_not_downstream};
 
 use crate::error::PlantError;
-use crate::line::{is_fed, stock_on_path, stock_up_to};
+use crate::path_table::PathTable;
 use crate::place::{Table, key_place, table_place};
-use crate::plant::{CardLoop, Plant, Policy, Stage};
+use crate::plant::{CardLoop, Policy, Stage};
 use std::alloc::Global;
 
 /// Whether there are as many cards as starting stock that needs one each.
-pub(crate) fn check_cards(alloc: Global, plant: &Plant) -> Result<(), PlantError>
-    requires { all_feeds_not_later plant.now ≡ [] }
-    ensures { AnswersFirst result (too_few_cards plant.now) }
+pub(crate) fn check_cards(alloc: Global, paths: &PathTable) -> Result<(), PlantError>
+    ensures { AnswersFirst result (too_few_cards paths.now) }
 {
-    check_policy(alloc, plant)?;
-    check_loops(alloc, plant)
+    check_policy(alloc, paths)?;
+    check_loops(alloc, paths)
 }
 
 /// Whether the policy's cards are enough.
-fn check_policy(alloc: Global, plant: &Plant) -> Result<(), PlantError>
-    requires { all_feeds_not_later plant.now ≡ [] }
-    ensures { AnswersFirst result (too_few_under plant.now plant.now.policy) }
+fn check_policy(alloc: Global, paths: &PathTable) -> Result<(), PlantError>
+    ensures { AnswersFirst result (too_few_under paths.now paths.now.policy) }
 {
+    let plant = paths.plant();
     match plant.policy {
-        Policy::Conwip(cards) => check_line(alloc, plant, cards),
+        Policy::Conwip(cards) => check_line(alloc, paths, cards),
         Policy::Extended => check_stages(alloc, plant.stages.as_slice()),
         Policy::Kanban | Policy::BaseStock => Ok(()),
     }
 }
 
 /// Whether the line's cards are enough for the stock on the path of each first stage.
-fn check_line(alloc: Global, plant: &Plant, cards: u32) -> Result<(), PlantError>
-    requires { all_feeds_not_later plant.now ≡ [] }
-    ensures { AnswersFirst result (each (too_few_in_line plant.now cards) plant.now.stages) }
+fn check_line(alloc: Global, paths: &PathTable, cards: u32) -> Result<(), PlantError>
+    ensures { AnswersFirst result (each (too_few_in_line paths.now cards) paths.now.stages) }
 {
-    for (i, stage) in plant.stages.as_slice().iter().enumerate() {
-        check_path(alloc, plant, cards, i, stage)?;
+    for (i, stage) in paths.plant().stages.as_slice().iter().enumerate() {
+        check_path(alloc, paths, cards, i, stage)?;
     }
     Ok(())
 }
@@ -43,19 +41,18 @@ fn check_line(alloc: Global, plant: &Plant, cards: u32) -> Result<(), PlantError
 /// Whether the line's cards are enough for the stock on the path of stage `i`, if it is a first stage.
 fn check_path(
     alloc: Global,
-    plant: &Plant,
+    paths: &PathTable,
     cards: u32,
     i: usize,
     _stage: &Stage,
 ) -> Result<(), PlantError>
-    requires later { all_feeds_not_later plant.now ≡ [] }
-    requires exists { i < length plant.now.stages }
-    ensures { AnswersFirst result (too_few_in_line plant.now cards i _stage.now) }
+    requires { i < length paths.now.stages }
+    ensures { AnswersFirst result (too_few_in_line paths.now cards i _stage.now) }
 {
-    if is_fed(plant.stages.as_slice(), i) {
+    if !paths.is_first(i) {
         return Ok(());
     }
-    check_count(alloc, Table::Top, u64::from(cards), stock_on_path(plant, i))
+    check_count(alloc, Table::Top, u64::from(cards), paths.stock(i))
 }
 
 /// Whether each stage has as many cards as starting stock.
@@ -77,12 +74,11 @@ fn check_stage(alloc: Global, i: usize, stage: &Stage) -> Result<(), PlantError>
 }
 
 /// Whether each loop has as many cards as starting stock of its stages; one that goes down no path is passed over.
-fn check_loops(alloc: Global, plant: &Plant) -> Result<(), PlantError>
-    requires { all_feeds_not_later plant.now ≡ [] }
-    ensures { AnswersFirst result (each (too_few_in_loop plant.now) plant.now.loops) }
+fn check_loops(alloc: Global, paths: &PathTable) -> Result<(), PlantError>
+    ensures { AnswersFirst result (each (too_few_in_loop paths.now) paths.now.loops) }
 {
-    for (k, card_loop) in plant.loops.as_slice().iter().enumerate() {
-        check_loop(alloc, plant, k, card_loop)?;
+    for (k, card_loop) in paths.plant().loops.as_slice().iter().enumerate() {
+        check_loop(alloc, paths, k, card_loop)?;
     }
     Ok(())
 }
@@ -90,26 +86,25 @@ fn check_loops(alloc: Global, plant: &Plant) -> Result<(), PlantError>
 /// Whether loop `k` has as many cards as starting stock of its stages, if it goes down a path.
 fn check_loop(
     alloc: Global,
-    plant: &Plant,
+    paths: &PathTable,
     k: usize,
     card_loop: &CardLoop,
 ) -> Result<(), PlantError>
-    requires { all_feeds_not_later plant.now ≡ [] }
-    ensures { AnswersFirst result (too_few_in_loop plant.now k card_loop.now) }
+    ensures { AnswersFirst result (too_few_in_loop paths.now k card_loop.now) }
 {
-    match stock_of_loop(plant, card_loop) {
+    match stock_of_loop(paths, card_loop) {
         Some(stock) => check_count(alloc, Table::InLoop(k), u64::from(card_loop.cards), stock),
         None => Ok(()),
     }
 }
 
 /// The starting stock of a loop's stages; `None` exactly where it goes down no path.
-fn stock_of_loop(plant: &Plant, card_loop: &CardLoop) -> Option<u64>
-    requires { all_feeds_not_later plant.now ≡ [] }
-    ensures { result ≡ loop_stock plant.now card_loop.now }
+fn stock_of_loop(paths: &PathTable, card_loop: &CardLoop) -> Option<u64>
+    ensures { result ≡ loop_stock paths.now card_loop.now }
 {
-    if (card_loop.first as usize) < plant.stages.len() {
-        stock_up_to(plant, card_loop.first, card_loop.last)
+    let first = card_loop.first as usize;
+    if first < paths.plant().stages.len() {
+        paths.stock_up_to(first, card_loop.last as usize)
     } else {
         None
     }
@@ -131,12 +126,11 @@ fn check_count(alloc: Global, table: Table, cards: u64, stock: u64) -> Result<()
 }
 
 /// Whether each loop goes down a path.
-pub(crate) fn check_downstream(alloc: Global, plant: &Plant) -> Result<(), PlantError>
-    requires { all_feeds_not_later plant.now ≡ [] }
-    ensures { AnswersFirst result (loops_not_downstream plant.now) }
+pub(crate) fn check_downstream(alloc: Global, paths: &PathTable) -> Result<(), PlantError>
+    ensures { AnswersFirst result (loops_not_downstream paths.now) }
 {
-    for (k, card_loop) in plant.loops.as_slice().iter().enumerate() {
-        check_loop_downstream(alloc, plant, k, card_loop)?;
+    for (k, card_loop) in paths.plant().loops.as_slice().iter().enumerate() {
+        check_loop_downstream(alloc, paths, k, card_loop)?;
     }
     Ok(())
 }
@@ -144,14 +138,13 @@ pub(crate) fn check_downstream(alloc: Global, plant: &Plant) -> Result<(), Plant
 /// Whether loop `k` goes down a path.
 fn check_loop_downstream(
     alloc: Global,
-    plant: &Plant,
+    paths: &PathTable,
     k: usize,
     card_loop: &CardLoop,
 ) -> Result<(), PlantError>
-    requires { all_feeds_not_later plant.now ≡ [] }
-    ensures { AnswersFirst result (not_downstream plant.now k card_loop.now) }
+    ensures { AnswersFirst result (not_downstream paths.now k card_loop.now) }
 {
-    if stock_of_loop(plant, card_loop).is_some() {
+    if stock_of_loop(paths, card_loop).is_some() {
         return Ok(());
     }
     let place = table_place(alloc, Table::InLoop(k))?;

@@ -3,4 +3,4 @@ use Rattle.plant_model.proofs.Passes.{Passed}
 use Rattle.plant_model.proofs.check.cards.check_line.Given as goal
 
 abbrev pub invariant-loop-i : goal.invariant-loop-i
-invariant-loop-i l = Passed (too_few_in_line l.plant l.cards) l.plant.stages l.i
+invariant-loop-i l = Passed (too_few_in_line l.paths l.cards) l.paths.stages l.i
