@@ -10,3 +10,4 @@ pub mod Unwinding
 pub mod Runs
 pub mod Searches
 pub mod Following
+pub mod RoundLemmas

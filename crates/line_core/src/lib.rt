@@ -4,6 +4,7 @@
 mod dates;
 mod error;
 mod laws;
+mod rounds;
 mod schedule;
 mod state;
 mod table;
@@ -16,6 +17,7 @@ pub use laws::{
     circuits_keep_their_number, dates_stay_early, finished_states_are_least,
     reached_states_are_consistent,
 };
+pub use rounds::run;
 pub use schedule::replay;
 pub use state::State;
 pub use table::Table;

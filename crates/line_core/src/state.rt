@@ -96,11 +96,21 @@ impl State {
         match first_empty(&self.logs, graph, t) {
             Some(arc) => Err(FireError::Empty { arc }),
             None => {
-                let date = next_date(&self.logs, graph, t);
-                self.logs.add_to(t, date);
+                self.fire_ready(live, t);
                 Ok(())
             }
         }
+    }
+
+    /// Fires station `t`, which can fire.
+    pub(crate) fn fire_ready(&mut self, live: &Live, t: u32)
+        requires made_for { live.now.graph ≡ self.old.graph }
+        requires can { CanFire self.old.graph self.old.state t }
+        ensures fired { self.new ≡ fired_at self.old t }
+        ensures reached { IsReached self.new }
+    {
+        let date = next_date(&self.logs, live.graph(), t);
+        self.logs.add_to(t, date);
     }
 
     /// Whether every station has fired once for each job.

@@ -1,4 +1,4 @@
-ghost use Rattle.std.specs.Prelude.{◌≡◌, ◌<◌, ◌≤◌};
+ghost use Rattle.std.specs.Prelude.{◌≡◌, ◌<◌, ◌≤◌, [], slice_index_or};
 ghost use Rattle.event_graph.specs.Network.{stations, jobs};
 ghost use Rattle.event_graph.specs.Table.{date_in};
 ghost use Rattle.line_base.specs.Roomy.{dates_of};
@@ -50,5 +50,23 @@ impl Table {
         ensures least { IsLeastTable self.now }
     {
         self.rows.get(t).dates()[n as usize - 1]
+    }
+
+    /// The dates of station `t`, that of job 1 first.
+    pub fn dates(&self, t: u32) -> &[Date]
+        requires { t < stations self.now.graph }
+        ensures dates { result.now ≡ slice_index_or self.now.rows t [] }
+        ensures least { IsLeastTable self.now }
+    {
+        let row = self.rows.get(t);
+        row.dates()
+    }
+
+    /// How many stations there are.
+    pub fn stations(&self) -> u32
+        ensures stations { result ≡ stations self.now.graph }
+        ensures least { IsLeastTable self.now }
+    {
+        self.rows.len() as u32
     }
 }

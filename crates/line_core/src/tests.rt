@@ -7,7 +7,7 @@ ghost use Rattle.event_graph.specs.Limits.{AreTimesFor};
 use crate::state::empty_logs;
 use crate::{
     FireError, ReplayError, State, circuits_keep_their_number, dates_stay_early,
-    finished_states_are_least, reached_states_are_consistent, replay,
+    finished_states_are_least, reached_states_are_consistent, replay, run,
 };
 use event_graph::{Arc, Graph, Parts};
 use line_base::{Date, Items, Label, MAX_CARDS, MAX_TIME, Times};
@@ -149,7 +149,9 @@ fn has_the_dates(rt: &impl Abort, live: &Live, state: State)
     assert_eq!(rt; state.fired(), 18);
     assert!(rt; state.finished(live));
     let table = state.into_table(live);
+    assert_eq!(rt; table.stations(), 6);
     for t in 0..6 {
+        assert_eq!(rt; table.dates(t), DATES[t as usize].as_slice());
         for n in 1..4 {
             assert_eq!(rt;
                 table.date(t, n),
@@ -174,6 +176,7 @@ fn schedules_agree(rt: HostRuntime) -> Result<(), Fail> {
             Err(error) => assert!(rt; false, "{error:?}"),
         }
     }
+    has_the_dates(&rt, &live, run(rt.alloc(), &live)?);
     Ok(())
 }
 

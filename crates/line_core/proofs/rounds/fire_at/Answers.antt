@@ -1,0 +1,25 @@
+use Rattle.std.proofs.Common.{◌+◌, ◌<◌, ap, sym, subst, arith}
+use Rattle.line_base.specs.declared.event.Parts.{Parts}
+use Rattle.event_graph.specs.Network.{stations}
+use Rattle.live_check.specs.Order.{IsRanked}
+use Rattle.line_core.specs.Run.{Run}
+use Rattle.line_core.specs.Round.{IsInRound}
+use Rattle.line_core.proofs.RoundLemmas.{can_fire_next, round_goes_on}
+use Rattle.line_core.proofs.rounds.fire_at.Goals as goal
+
+pub fire_ready-requires-clause-can : goal.fire_ready-requires-clause-can
+fire_ready-requires-clause-can c =
+    let r = c.args.state.now in
+    let places = c.args.live.now.places in
+    let ranked = subst (λ (h : Parts). IsRanked (record { graph = h; places = places })) c.requires.made_for c.station_at.ensures.ranked in
+    let there : c.station_at.result < stations r.graph = omega (arith, ap stations c.requires.made_for, c.station_at.ensures.exists) in
+    can_fire_next r.graph places r.state c.args.done c.args.place c.station_at.result ranked c.requires.reached c.requires.round c.requires.more there c.station_at.ensures.place
+
+pub returns-clause-round : goal.returns-clause-round
+returns-clause-round c =
+    let r = c.args.state.now in
+    let places = c.args.live.now.places in
+    let ranked = subst (λ (h : Parts). IsRanked (record { graph = h; places = places })) c.requires.made_for c.station_at.ensures.ranked in
+    let there : c.station_at.result < stations r.graph = omega (arith, ap stations c.requires.made_for, c.station_at.ensures.exists) in
+    let on = round_goes_on r.graph places r.state c.args.done c.args.place c.station_at.result ranked c.requires.reached c.requires.round there c.station_at.ensures.place in
+    subst (λ (next : Run). IsInRound places next c.args.done (c.args.place + 1)) (sym c.fire_ready.ensures.fired) on
