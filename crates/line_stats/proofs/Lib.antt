@@ -1,0 +1,11 @@
+pub mod Counting
+pub mod DateLists
+pub mod StationWalks
+pub mod Rising
+pub mod Flows
+pub mod PlantTables
+pub mod DateWalks
+pub mod Greatest
+pub mod CardFlows
+pub mod StandingParts
+pub mod Waits

@@ -1,0 +1,64 @@
+-- What a table of a plant's graph says of the plant.
+use Rattle.std.proofs.Common.{◌≡◌, ℕ, ◌+◌, ◌<◌, ◌≤◌, List, length, get_or, refl, sym, ap, ◌∙◌, subst, ◌-◌, arith}
+use Rattle.std.proofs.lemmas.List.{get_or_default}
+use Rattle.line_base.specs.declared.event.Parts.{Parts}
+use Rattle.plant_model.specs.declared.plant.Plant.{Plant}
+use Rattle.plant_model.specs.declared.plant.Stage.{Stage}
+use Rattle.plant_model.specs.declared.plant.Policy.{Policy}
+use Rattle.plant_model.specs.declared.plant.Policy.TheVariants.{Kanban, Conwip, BaseStock, Extended}
+use Rattle.plant_model.specs.Line.{no_stage, stage_at, stock_under, starting, last_machine, station_count}
+use Rattle.plant_model.specs.Sound.{IsSound}
+use Rattle.plant_model.proofs.SoundPlants.{HasSoundSizes-sound, IsSoundStage-sound}
+use Rattle.plant_model.specs.Graph.{graph}
+use Rattle.event_graph.specs.Network.{stations, jobs}
+use Rattle.event_graph.specs.Table.{Table, date_in}
+use Rattle.event_graph.specs.Solves.{Solves}
+use Rattle.line_core.specs.Run.{Dates, IsLeastTable}
+use Rattle.line_graph.proofs.Sizes.{stations-graph}
+use Rattle.line_stats.specs.Counts.{count_until, done, arrived}
+use Rattle.line_stats.proofs.Counting.{until-le, until-moved, until-none}
+
+pub exists_in : (p : Plant) (g : Parts) (t : ℕ) → g ≡ graph p → t < station_count p → t < stations g
+exists_in p g t is below = let e = ap (λ (h : Parts). stations h) is in omega (arith, stations-graph p)
+
+pub done_in : (p : Plant) (g : Parts) (x : Table) (t u v n : ℕ) → g ≡ graph p → t ≡ u → n ≡ done g x t v → n ≡ done (graph p) x u v
+done_in p g x t u v n is at count = count ∙ ap (λ (h : Parts). done h x t v) is ∙ ap (λ s. done (graph p) x s v) at
+
+pub solves_in : (p : Plant) (d : Dates) → d.graph ≡ graph p → IsLeastTable d → Solves (graph p) (date_in d.rows)
+solves_in p d is table = subst (λ (g : Parts). Solves g (date_in d.rows)) is table.least.solves
+
+-- the travel of a stage, as it is read in a list of the stages
+pub travel-read : (p : Plant) (i : ℕ) (stages : List Stage) (s : Stage) → i < length p.stages → stages ≡ p.stages → (get_or stages i s).travel ≡ (stage_at p i).travel
+travel-read p i stages s below same =
+    ap (λ xs. (get_or xs i s).travel) same ∙ ap (λ (t : Stage). t.travel) (get_or_default p.stages i s no_stage below)
+
+-- what has arrived by a date left the last machine by then less the travel
+pub arrived-after : (p : Plant) (x : Table) (i v w n : ℕ) → (stage_at p i).travel ≤ v → w ≡ v - (stage_at p i).travel → n ≡ done (graph p) x (last_machine p i) w → n ≡ arrived p x i v
+unfolding count_until
+arrived-after p x i v w n le is made =
+    made ∙ ap (λ (u : ℕ). done (graph p) x (last_machine p i) u) is ∙ sym (until-moved (jobs (graph p)) (x (last_machine p i)) (stage_at p i).travel v le)
+
+pub arrived-before : (p : Plant) (x : Table) (i v : ℕ) → v < (stage_at p i).travel → 0 ≡ arrived p x i v
+unfolding count_until
+arrived-before p x i v lt = sym (until-none (jobs (graph p)) (x (last_machine p i)) (stage_at p i).travel v lt)
+
+-- the counts are small
+jobs-graph : (p : Plant) → jobs (graph p) ≡ length p.demands
+unfolding graph
+jobs-graph p = refl
+
+pub arrived-small : (p : Plant) (x : Table) (i v : ℕ) → IsSound p → arrived p x i v ≤ 20000
+unfolding count_until
+arrived-small p x i v sound =
+    omega (arith, until-le (jobs (graph p)) (λ n. x (last_machine p i) n + (stage_at p i).travel) v, jobs-graph p, (HasSoundSizes-sound p sound).few_demands)
+
+stock_under-small : (policy : Policy) (s : Stage) → s.cards ≤ 10000 → s.stock ≤ 10000 → stock_under policy s ≤ 10000
+stock_under-small Kanban s cards stock = cards
+stock_under-small (Conwip _) s cards stock = stock
+stock_under-small BaseStock s cards stock = stock
+stock_under-small Extended s cards stock = stock
+
+pub starting-small : (p : Plant) (i : ℕ) → IsSound p → i < length p.stages → starting p i ≤ 10000
+starting-small p i sound below =
+    let stage = IsSoundStage-sound p i sound below in
+    stock_under-small p.policy (stage_at p i) stage.few_cards stage.little_stock

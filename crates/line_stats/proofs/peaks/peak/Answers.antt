@@ -1,0 +1,81 @@
+use Rattle.std.proofs.Common.{◌≡◌, ℕ, ◌≤◌, length, sym, ap, ◌∙◌, subst, arith}
+use Rattle.std.specs.List.Sorted.{IsNonDecreasing}
+use Rattle.plant_model.specs.Line.{release, receiver}
+use Rattle.plant_model.specs.Graph.{graph}
+use Rattle.event_graph.specs.Table.{date_in}
+use Rattle.event_graph.specs.Solves.{Solves}
+use Rattle.line_stats.specs.Counts.{standing}
+use Rattle.line_stats.specs.Between.{dates_until, between}
+use Rattle.line_stats.proofs.Rising.{lists_keep_order, row-rises, count-row}
+use Rattle.line_stats.proofs.PlantTables.{exists_in, done_in, solves_in, starting-small}
+use Rattle.line_stats.proofs.StandingParts.{standing-is, peak-is, most-bounded}
+use Rattle.line_stats.proofs.peaks.peak.Goals.{After-most_between}
+use Rattle.line_stats.proofs.peaks.peak.Goals as goal
+
+pub dates-released-requires : goal.dates-released-requires
+dates-released-requires c = exists_in c.args.plant.now c.args.table.now.graph c.release.result c.requires.of_plant c.release.ensures.exists
+
+pub dates-taken-requires : goal.dates-taken-requires
+dates-taken-requires c = exists_in c.args.plant.now c.args.table.now.graph c.receiver.result c.requires.of_plant c.receiver.ensures.exists
+
+pub most_between-requires-clause-entered_in_order : goal.most_between-requires-clause-entered_in_order
+most_between-requires-clause-entered_in_order c =
+    let p = c.args.plant.now in
+    let d = c.args.table.now in
+    let exists = exists_in p d.graph c.release.result c.requires.of_plant c.release.ensures.exists in
+    subst IsNonDecreasing (sym c.dates-released.ensures.dates) (row-rises d c.release.result c.dates-released.ensures.least (lists_keep_order p d.graph c.requires.of_plant) exists)
+
+pub most_between-requires-clause-left_in_order : goal.most_between-requires-clause-left_in_order
+most_between-requires-clause-left_in_order c =
+    let p = c.args.plant.now in
+    let d = c.args.table.now in
+    let exists = exists_in p d.graph c.receiver.result c.requires.of_plant c.receiver.ensures.exists in
+    subst IsNonDecreasing (sym c.dates-taken.ensures.dates) (row-rises d c.receiver.result c.dates-taken.ensures.least (lists_keep_order p d.graph c.requires.of_plant) exists)
+
+pub most_between-requires-clause-few : goal.most_between-requires-clause-few
+most_between-requires-clause-few c =
+    let p = c.args.plant.now in
+    let d = c.args.table.now in
+    let exists = exists_in p d.graph c.release.result c.requires.of_plant c.release.ensures.exists in
+    let table = c.dates-released.ensures.least in
+    omega (arith, ap length c.dates-released.ensures.dates, table.a_date_each c.release.result exists, table.limits.few_jobs)
+
+pub most_between-requires-clause-small : goal.most_between-requires-clause-small
+most_between-requires-clause-small c =
+    omega (arith, starting-small c.args.plant.now c.args.stage c.requires.sound c.requires.exists, c.starting.ensures)
+
+solves : (c : After-most_between) → Solves (graph c.args.plant.now) (date_in c.args.table.now.rows)
+solves c = solves_in c.args.plant.now c.args.table.now c.requires.of_plant c.dates-released.ensures.least
+
+-- what is between the two stations is what the stage has
+level : (c : After-most_between) (v : ℕ) → between c.dates-released.result.now c.dates-taken.result.now c.starting.result v ≡ standing c.args.plant.now (date_in c.args.table.now.rows) c.args.stage v
+level c v =
+    let p = c.args.plant.now in
+    let d = c.args.table.now in
+    let x = date_in d.rows in
+    let i = c.args.stage in
+    let table = c.dates-released.ensures.least in
+    let released_exists = exists_in p d.graph c.release.result c.requires.of_plant c.release.ensures.exists in
+    let taken_exists = exists_in p d.graph c.receiver.result c.requires.of_plant c.receiver.ensures.exists in
+    let released_row = ap (λ row. dates_until row v) c.dates-released.ensures.dates ∙ count-row d c.release.result v table released_exists in
+    let taken_row = ap (λ row. dates_until row v) c.dates-taken.ensures.dates ∙ count-row d c.receiver.result v table taken_exists in
+    let released = done_in p d.graph x c.release.result (release p i) v (dates_until c.dates-released.result.now v) c.requires.of_plant c.release.ensures.station released_row in
+    let taken = done_in p d.graph x c.receiver.result (receiver p i) v (dates_until c.dates-taken.result.now v) c.requires.of_plant c.receiver.ensures.station taken_row in
+    omega (arith, standing-is p x i v c.requires.sound (solves c) c.requires.exists, c.starting.ensures)
+
+covers : (c : After-most_between) (v : ℕ) → standing c.args.plant.now (date_in c.args.table.now.rows) c.args.stage v ≤ c.most_between.result
+covers c v = omega (arith, level c v, c.most_between.ensures.covers v)
+
+least : (c : After-most_between) (bound : ℕ) → ((v : ℕ) → standing c.args.plant.now (date_in c.args.table.now.rows) c.args.stage v ≤ bound) → c.most_between.result ≤ bound
+least c bound all = c.most_between.ensures.least bound (λ v. let h = all v in omega (arith, level c v))
+
+pub returns-clause-peak : goal.returns-clause-peak
+returns-clause-peak c =
+    peak-is c.args.plant.now (date_in c.args.table.now.rows) c.args.stage c.most_between.result c.requires.sound (solves c) c.requires.exists (covers c) (least c)
+
+pub returns-clause-covers : goal.returns-clause-covers
+returns-clause-covers c = covers c
+
+pub returns-clause-bounded : goal.returns-clause-bounded
+returns-clause-bounded c =
+    most-bounded c.args.plant.now (date_in c.args.table.now.rows) c.args.stage c.most_between.result c.requires.sound (solves c) c.requires.exists (least c)

@@ -1,0 +1,17 @@
+//! Counts of parts in a line, over the dates of a finished run: what is in process, on its way and in stock at a date,
+//! the demands that are not delivered, the most that a stage ever had, and how long the jobs waited.
+#![tactic(auto)]
+
+mod counts;
+mod laws;
+mod logs;
+mod peaks;
+mod stations;
+#[cfg(test)]
+mod tests;
+mod totals;
+
+pub use counts::{backlog, in_move, in_process, in_stock};
+pub use laws::{deliveries_follow_demands, jobs_stay_in_order, stages_stay_bounded};
+pub use peaks::peak;
+pub use totals::{last, waiting_total};
