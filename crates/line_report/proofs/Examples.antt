@@ -1,0 +1,107 @@
+-- The text of a report at a small plant, against a text that was written by hand.
+use Rattle.std.specs.Prelude.{◌≡◌, ℕ, List, [], ◌∷◌, ◌++◌, Option, None, Some, codes, refl}
+use Rattle.std.specs.Fmt.{digits}
+use Rattle.line_base.specs.declared.times.Times.TheVariants.{Fixed}
+use Rattle.plant_model.specs.declared.plant.Policy.TheVariants.{Kanban}
+use Rattle.plant_model.specs.declared.plant.Stage.{Stage}
+use Rattle.plant_model.specs.declared.plant.Plant.{Plant}
+use Rattle.plant_model.specs.Graph.{graph, labels}
+use Rattle.event_graph.specs.Table.{date_in}
+use Rattle.event_graph.specs.Firing.{greatest}
+use Rattle.line_stats.specs.Counts.{count_until, in_process, in_move, in_stock, standing, backlog, last_date, peak, waiting}
+use Rattle.line_report.specs.ReportText.{date_line, station_lines, date_lines, stage_line, backlog_line, observed_lines, peak_line, waiting_line, last_line, report}
+
+-- a stage with one machine and one card
+abbrev stage : List ℕ → Option ℕ → List ℕ → ℕ → Stage
+stage name to machine time =
+    record {
+      name = name;
+      feeds = to;
+      cards = 1;
+      stock = 0;
+      travel = 0;
+      card_time = 0;
+      machines = record { name = machine; servers = 1; times = Fixed time } ∷ [];
+    }
+
+-- `cut` with `saw` feeds `weld` with `torch`
+abbrev plant : List ℕ → Plant
+plant observe =
+    record {
+      policy = Kanban;
+      stages = stage (codes "cut") (Some 1) (codes "saw") 3 ∷ stage (codes "weld") None (codes "torch") 5 ∷ [];
+      loops = [];
+      card_time = 0;
+      demands = 0 ∷ 2 ∷ 4 ∷ [];
+      observe = observe;
+    }
+
+-- its dates
+abbrev rows : List (List ℕ)
+rows =
+    (0 ∷ 2 ∷ 4 ∷ [])
+    ∷ (0 ∷ 5 ∷ 10 ∷ [])
+    ∷ (3 ∷ 8 ∷ 13 ∷ [])
+    ∷ (0 ∷ 5 ∷ 10 ∷ [])
+    ∷ (5 ∷ 10 ∷ 15 ∷ [])
+    ∷ (0 ∷ 5 ∷ 10 ∷ [])
+    ∷ []
+
+-- the lines of the dates
+abbrev dates : List ℕ
+dates =
+    codes "feed 1 0\nfeed 2 2\nfeed 3 4\n"
+    ++ codes "cut 1 0\ncut 2 5\ncut 3 10\n"
+    ++ codes "cut.saw 1 3\ncut.saw 2 8\ncut.saw 3 13\n"
+    ++ codes "weld 1 0\nweld 2 5\nweld 3 10\n"
+    ++ codes "weld.torch 1 5\nweld.torch 2 10\nweld.torch 3 15\n"
+    ++ codes "deliver 1 0\ndeliver 2 5\ndeliver 3 10\n"
+
+dates_written : (observe : List ℕ) → date_lines (graph (plant observe)) (date_in rows) ≡ dates
+unfolding date_lines station_lines date_line graph labels digits
+dates_written observe = refl
+
+peak_of_cut : (observe : List ℕ) → peak_line (plant observe) (date_in rows) 0 ≡ codes "peak cut 1 of 1\n"
+unfolding peak_line peak standing in_process in_move in_stock count_until last_date greatest graph labels digits
+peak_of_cut observe = refl
+
+peak_of_weld : (observe : List ℕ) → peak_line (plant observe) (date_in rows) 1 ≡ codes "peak weld 1 of 1\n"
+unfolding peak_line peak standing in_process in_move in_stock count_until last_date greatest graph labels digits
+peak_of_weld observe = refl
+
+all_waiting : (observe : List ℕ) → waiting_line (graph (plant observe)) (date_in rows) ≡ codes "waiting 9\n"
+unfolding waiting_line waiting graph labels digits
+all_waiting observe = refl
+
+last_of_all : (observe : List ℕ) → last_line (graph (plant observe)) (date_in rows) ≡ codes "last 15\n"
+unfolding last_line last_date greatest graph labels digits
+last_of_all observe = refl
+
+cut_observed : stage_line (plant (4 ∷ [])) (date_in rows) 4 0 ≡ codes "at 4 cut process 0 stock 1\n"
+unfolding stage_line count_until in_process in_move in_stock graph digits
+cut_observed = refl
+
+weld_observed : stage_line (plant (4 ∷ [])) (date_in rows) 4 1 ≡ codes "at 4 weld process 1 stock 0\n"
+unfolding stage_line count_until in_process in_move in_stock graph digits
+weld_observed = refl
+
+backlog_observed : backlog_line (plant (4 ∷ [])) (date_in rows) 4 ≡ codes "at 4 backlog 2\n"
+unfolding backlog_line backlog count_until graph digits
+backlog_observed = refl
+
+-- the lines of the peaks and the totals
+abbrev totals : List ℕ
+totals = codes "peak cut 1 of 1\npeak weld 1 of 1\nwaiting 9\nlast 15\n"
+
+report_of_plant : report (plant []) (date_in rows) ≡ dates ++ totals
+unfolding report
+report_of_plant = rw (dates_written [], peak_of_cut [], peak_of_weld [], all_waiting [], last_of_all []) refl
+
+report_observed :
+    report (plant (4 ∷ [])) (date_in rows)
+    ≡ dates ++ (codes "at 4 cut process 0 stock 1\nat 4 weld process 1 stock 0\nat 4 backlog 2\n" ++ totals)
+unfolding report observed_lines
+report_observed =
+    let observe : List ℕ = 4 ∷ [] in
+    rw (dates_written observe, cut_observed, weld_observed, backlog_observed, peak_of_cut observe, peak_of_weld observe, all_waiting observe, last_of_all observe)
+    refl

@@ -1,0 +1,23 @@
+use Rattle.std.proofs.Common.{◌≡◌, length, arith}
+use Rattle.event_graph.specs.Table.{date_in}
+use Rattle.line_io.proofs.OutgoingLemmas.{pushed_none, pushed_after}
+use Rattle.plant_model.proofs.LayoutFacts.{few_stages}
+use Rattle.line_report.specs.ReportText.{stage_line, observed_lines}
+use Rattle.line_report.proofs.Lines.{pushed_line}
+use Rattle.line_report.proofs.observed.write_date_observed.Goals as goal
+
+pub overflow_cast-stage-end : goal.overflow_cast-stage-end
+overflow_cast-stage-end g c = omega (arith, few_stages _ c.requires.sound)
+
+pub loop-stage-init : goal.loop-stage-init
+loop-stage-init g c = pushed_none _ _
+
+pub loop-stage-preserved : goal.loop-stage-preserved
+loop-stage-preserved g c =
+    pushed_line (stage_line c.args.plant.now (date_in c.args.table.now.rows) c.args.at) 0 c.loop-stage.stage c.loop-stage.stage (omega arith) c.loop-stage.invariant c.write_stage.ensures
+
+pub returns : goal.returns
+unfolding observed_lines
+returns g c =
+    let all : c.loop-stage.stage ≡ length c.args.plant.now.stages = omega arith in
+    pushed_after (rw all at c.loop-stage.invariant) c.write_backlog.ensures

@@ -1,0 +1,13 @@
+use Rattle.std.specs.Prelude.{take}
+use Rattle.std.specs.List.{flat_map}
+use Rattle.line_io.specs.Outgoing.{Pushed, stream}
+use Rattle.event_graph.specs.Table.{date_in}
+use Rattle.line_report.specs.ReportText.{observed_lines}
+use Rattle.line_report.proofs.observed.write_observed.Given as goal
+
+-- the lines of the dates before are written
+abbrev pub invariant-loop-at : goal.invariant-loop-at
+invariant-loop-at g l =
+    Pushed g.K.Sink.tells (stream g.K.Sink.written g.K.Sink.faults l.initial.sink l.initial.out)
+    (stream g.K.Sink.written g.K.Sink.faults l.sink l.out)
+    (flat_map (observed_lines l.plant (date_in l.table.rows)) (take l.at-index l.plant.observe))

@@ -1,0 +1,44 @@
+use Rattle.std.proofs.Common.{◌≡◌}
+use Rattle.plant_model.specs.Line.{stage_at}
+use Rattle.event_graph.specs.Table.{date_in}
+use Rattle.line_io.proofs.OutgoingLemmas.{pushed_after}
+use Rattle.line_report.proofs.Lines.{stage_read, stage_line-moving, stage_line-still}
+use Rattle.line_report.proofs.observed.write_stage.Goals as goal
+use Rattle.line_report.proofs.observed.write_stage.Goals.{then-part-gt0, else-part-gt0}
+
+pub returns : goal.returns
+returns g c =
+    let plant = c.args.plant.now in
+    let x = date_in c.args.table.now.rows in
+    let read : c.index-as_slice-stage.result ≡ stage_at plant c.args.stage =
+    stage_read plant c.args.stage c.as_slice.result.now c.index-as_slice-stage.result c.as_slice.ensures c.requires.exists c.index-as_slice-stage.is
+    in
+    elim c.if-part-gt0.branch [
+      | then-part-gt0 w ↦
+          let process = rw c.in_process.ensures.count at c.push_number-2.ensures in
+          let move = rw (w.in_move.ensures.count, ← w.out-is, ← w.sink-is) at w.push_number-then-part-gt0.ensures in
+          let stock = rw c.in_stock.ensures.count at c.push_number-3.ensures in
+          rw (stage_line-moving plant x c.args.at c.args.stage _ read w.if-part-gt0.true)
+          (pushed_after c.push.ensures
+          (pushed_after c.push_number.ensures
+          (pushed_after c.push-2.ensures
+          (pushed_after (rw c.text.ensures.text at c.push-3.ensures)
+          (pushed_after c.push-4.ensures
+          (pushed_after process
+          (pushed_after w.push-then-part-gt0.ensures
+          (pushed_after move
+          (pushed_after c.push-5.ensures
+          (pushed_after stock c.push-6.ensures))))))))))
+      | else-part-gt0 w ↦
+          let process = rw (c.in_process.ensures.count, ← w.out-is, ← w.sink-is) at c.push_number-2.ensures in
+          let stock = rw c.in_stock.ensures.count at c.push_number-3.ensures in
+          rw (stage_line-still plant x c.args.at c.args.stage _ read w.if-part-gt0.false)
+          (pushed_after c.push.ensures
+          (pushed_after c.push_number.ensures
+          (pushed_after c.push-2.ensures
+          (pushed_after (rw c.text.ensures.text at c.push-3.ensures)
+          (pushed_after c.push-4.ensures
+          (pushed_after process
+          (pushed_after c.push-5.ensures
+          (pushed_after stock c.push-6.ensures))))))))
+    ]

@@ -1,0 +1,24 @@
+use Rattle.std.proofs.Common.{◌≡◌}
+use Rattle.plant_model.specs.Line.{stage_at}
+use Rattle.line_io.proofs.OutgoingLemmas.{pushed_after}
+use Rattle.line_report.specs.ReportText.{peak_line}
+use Rattle.line_report.proofs.Lines.{stage_read}
+use Rattle.line_report.proofs.totals.write_peak.Goals as goal
+
+pub returns : goal.returns
+unfolding peak_line
+returns g c =
+    let plant = c.args.plant.now in
+    let read : c.index-as_slice-stage.result ≡ stage_at plant c.args.stage =
+    stage_read plant c.args.stage c.as_slice.result.now c.index-as_slice-stage.result c.as_slice.ensures c.requires.exists c.index-as_slice-stage.is
+    in
+    let name = rw c.text.ensures.text at c.push-2.ensures in
+    let peak = rw c.peak.ensures.peak at c.push_number.ensures in
+    let bound = rw c.bound_of.ensures.bound at c.write_bound.ensures in
+    rw (← read)
+    (pushed_after c.push.ensures
+    (pushed_after name
+    (pushed_after c.push-3.ensures
+    (pushed_after peak
+    (pushed_after c.push-4.ensures
+    (pushed_after bound c.push-5.ensures))))))

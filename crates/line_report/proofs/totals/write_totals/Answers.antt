@@ -1,0 +1,12 @@
+use Rattle.line_io.proofs.OutgoingLemmas.{pushed_after}
+use Rattle.line_report.specs.ReportText.{waiting_line, last_line}
+use Rattle.line_report.proofs.totals.write_totals.Goals as goal
+
+pub returns : goal.returns
+unfolding waiting_line last_line
+returns g c =
+    let waiting = rw c.waiting_total.ensures at c.push_wide_number.ensures in
+    let last = rw c.last.ensures at c.push_number.ensures in
+    pushed_after
+    (pushed_after c.push.ensures (pushed_after waiting c.push-2.ensures))
+    (pushed_after c.push-3.ensures (pushed_after last c.push-4.ensures))

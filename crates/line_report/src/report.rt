@@ -1,0 +1,96 @@
+ghost use Rattle.std.specs.Prelude.{◌≡◌, ◌≤◌, IfOk, OnOk, OnErr, false};
+ghost use Rattle.line_io.specs.Written.{PutsAll, PutsFront};
+ghost use Rattle.line_io.specs.Faults.{Rose};
+ghost use Rattle.line_io.specs.Outgoing.{Pushed, stream};
+ghost use Rattle.event_graph.specs.Table.{date_in};
+ghost use Rattle.line_report.specs.ReportText.{report};
+ghost use Rattle.line_report.specs.Reported.{IsReported, AreOfPlant, report_of};
+
+use crate::dates::write_dates;
+use crate::observed::write_observed;
+use crate::totals::{write_peaks, write_totals};
+use line_core::Table;
+use line_io::{Outgoing, Sink};
+use live_check::Live;
+use plant_model::Plant;
+use std::alloc::{AllocError, Global};
+use std::marker::Model;
+use thiserror::Error;
+
+/// The sink failed, and its count of faults rose. A front of the report was written.
+#[derive(Clone, Copy, Debug, PartialEq, Eq, Error)]
+#[error("the sink failed")]
+pub struct SinkFault;
+
+/// The report of a finished run of a plant, and the memory for writing it. Contracts see the plant and the dates.
+#[derive(Drop)]
+pub struct Report {
+    plant: Plant,
+    live: Live,
+    table: Table,
+    out: Outgoing,
+}
+
+impl Model for Report {
+    ghost use Rattle.std.specs.Prelude.{◌≡◌, false};
+    ghost use Rattle.line_core.specs.Run.{IsLeastTable};
+    ghost use Rattle.line_io.specs.Outgoing.{emptied};
+    ghost use Rattle.line_report.specs.Reported.{Reported, AreOfPlant};
+
+    ghost Value = { Reported };
+
+    ghost view = { λ r. record { plant = r.plant; rows = r.table.rows } };
+
+    ghost invariant = { λ r. AreOfPlant r.plant r.live r.table × IsLeastTable r.table × (r.out ≡ emptied false) };
+}
+
+/// Writes the whole text of a report.
+fn write_text<K: Sink>(out: &mut Outgoing, sink: &mut K, plant: &Plant, live: &Live, table: &Table)
+    requires { AreOfPlant plant.now live.now table.now }
+    ensures { Pushed K.tells (stream K.written K.faults sink.old out.old)
+        (stream K.written K.faults sink.new out.new) (report plant.now (date_in table.now.rows)) }
+{
+    write_dates(out, sink, live.graph(), table);
+    write_observed(out, sink, plant, table);
+    write_peaks(out, sink, plant, table);
+    write_totals(out, sink, table);
+}
+
+impl Report {
+    /// The report of a sound plant, its live graph, and a table of that graph. It takes all memory that writing takes:
+    /// room for one piece of the text.
+    pub fn new(alloc: Global, plant: Plant, live: Live, table: Table) -> Result<Report, AllocError>
+        requires { AreOfPlant plant live table }
+        ensures plant { IfOk result (λ report. report.plant ≡ plant) }
+        ensures dates { IfOk result (λ report. report.rows ≡ table.rows) }
+        ensures least { IfOk result IsReported }
+    {
+        let _stations = table.stations();
+        Ok(Report {
+            plant,
+            live,
+            table,
+            out: Outgoing::new(alloc)?,
+        })
+    }
+
+    /// Writes the report to the sink, from its beginning: a line for each station and job, what stands in each stage at
+    /// each date that is looked at, the peak of each stage, how long the jobs wait, and the last date. It goes out in
+    /// pieces of 4,096 bytes and a last one that may be shorter. After `SinkFault` a front of it was written. It takes no
+    /// memory.
+    pub fn write<K: Sink>(&mut self, sink: &mut K) -> Result<(), SinkFault>
+        ensures written { OnOk result (PutsAll K.tells (K.written sink.old) (K.written sink.new) (report_of self.old)) }
+        ensures front { OnErr result
+            (PutsFront K.tells (K.written sink.old) (K.written sink.new) (report_of self.old)) }
+        ensures cause { OnErr result (Rose (K.faults sink.old) (K.faults sink.new)) }
+        ensures faults_stay_or_rise { K.faults sink.old ≤ K.faults sink.new }
+        ensures same { self.new ≡ self.old }
+        ensures least { IsReported self.old }
+    {
+        write_text(&mut self.out, sink, &self.plant, &self.live, &self.table);
+        match self.out.finish(sink) {
+            Ok(()) => Ok(()),
+            Err(_) => Err(SinkFault),
+        }
+    }
+}

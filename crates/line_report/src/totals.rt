@@ -1,0 +1,71 @@
+//! What is said of a whole run: the peak of each stage, how long the jobs wait, and the last date.
+ghost use Rattle.std.specs.Prelude.{◌≡◌, ◌<◌, ◌++◌, length};
+ghost use Rattle.std.specs.List.{flat_map};
+ghost use Rattle.line_io.specs.Outgoing.{Pushed, stream};
+ghost use Rattle.plant_model.specs.Line.{stage_numbers};
+ghost use Rattle.plant_model.specs.Graph.{graph};
+ghost use Rattle.plant_model.specs.Sound.{IsSound};
+ghost use Rattle.event_graph.specs.Table.{date_in};
+ghost use Rattle.line_report.specs.ReportText.{bound_word, peak_line, waiting_line, last_line};
+
+use circuit_sums::bound_of;
+use line_core::Table;
+use line_io::{Outgoing, Sink};
+use line_stats::{last, peak, waiting_total};
+use plant_model::Plant;
+
+/// Writes the bound of a stage, or that it has none.
+fn write_bound<K: Sink>(out: &mut Outgoing, sink: &mut K, bound: Option<u32>)
+    ensures { Pushed K.tells (stream K.written K.faults sink.old out.old)
+        (stream K.written K.faults sink.new out.new) (bound_word bound) }
+{
+    match bound {
+        Some(number) => out.push_number(sink, number as u64),
+        None => out.push(sink, b"none"),
+    }
+}
+
+/// Writes the most parts that are ever in a stage, and its bound.
+fn write_peak<K: Sink>(out: &mut Outgoing, sink: &mut K, plant: &Plant, table: &Table, stage: u32)
+    requires sound { IsSound plant.now }
+    requires of_plant { table.now.graph ≡ graph plant.now }
+    requires exists { stage < length plant.now.stages }
+    ensures { Pushed K.tells (stream K.written K.faults sink.old out.old)
+        (stream K.written K.faults sink.new out.new) (peak_line plant.now (date_in table.now.rows) stage) }
+{
+    let part = &plant.stages.as_slice()[stage as usize];
+    out.push(sink, b"peak ");
+    out.push(sink, part.name.text());
+    out.push(sink, b" ");
+    out.push_number(sink, peak(plant, table, stage) as u64);
+    out.push(sink, b" of ");
+    write_bound(out, sink, bound_of(plant, stage));
+    out.push(sink, b"\n");
+}
+
+/// Writes the peaks of all stages, in order.
+pub fn write_peaks<K: Sink>(out: &mut Outgoing, sink: &mut K, plant: &Plant, table: &Table)
+    requires sound { IsSound plant.now }
+    requires of_plant { table.now.graph ≡ graph plant.now }
+    ensures { Pushed K.tells (stream K.written K.faults sink.old out.old)
+        (stream K.written K.faults sink.new out.new)
+        (flat_map (peak_line plant.now (date_in table.now.rows)) (stage_numbers plant.now)) }
+{
+    for stage in 0..plant.stages.len() as u32 {
+        write_peak(out, sink, plant, table, stage);
+    }
+}
+
+/// Writes how long all jobs together wait, and the last date.
+pub fn write_totals<K: Sink>(out: &mut Outgoing, sink: &mut K, table: &Table)
+    ensures { Pushed K.tells (stream K.written K.faults sink.old out.old)
+        (stream K.written K.faults sink.new out.new)
+        (waiting_line table.now.graph (date_in table.now.rows) ++ last_line table.now.graph (date_in table.now.rows)) }
+{
+    out.push(sink, b"waiting ");
+    out.push_wide_number(sink, waiting_total(table));
+    out.push(sink, b"\n");
+    out.push(sink, b"last ");
+    out.push_number(sink, last(table));
+    out.push(sink, b"\n");
+}
