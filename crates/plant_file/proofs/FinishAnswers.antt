@@ -1,0 +1,19 @@
+-- From the first of some refusals to the answer.
+use Rattle.std.proofs.Common.{◌≡◌, ◌≢◌, List, [], ◌∷◌, Some, Err, Result}
+use Rattle.std.specs.Prelude.{IsErrAnd}
+use Rattle.std.proofs.lemmas.Result.{err_from_is_err_and}
+use Rattle.plant_model.specs.declared.error.PlantError.{PlantError}
+use Rattle.plant_model.specs.declared.error.PlantError.TheVariants.{NoMemory}
+use Rattle.plant_model.specs.declared.plant.Plant.{Plant}
+use Rattle.plant_model.specs.Refusals.{first}
+use Rattle.plant_file.specs.Finish.{plant_or_first, AnswersPlant}
+
+-- the answer where a refusal is the first
+pub plant_or_first-refused : (rs : List PlantError) (p : Plant) (e : PlantError) → first rs ≡ Some e → plant_or_first rs p ≡ Err e
+plant_or_first-refused [] p e h = cc
+plant_or_first-refused (r ∷ rs) p e h = cc
+
+-- an exit with an error that is the first refusal
+pub AnswersPlant-refused : (r : Result Plant PlantError) (rs : List PlantError) (p : Plant) {e : PlantError} → IsErrAnd r (λ y. y ≡ e) → (e ≢ NoMemory → first rs ≡ Some e) → AnswersPlant r (plant_or_first rs p)
+AnswersPlant-refused r rs p {e} was named =
+    let out = err_from_is_err_and r was in rw (out.1, out.2) (λ ne. plant_or_first-refused rs p e (named ne))

@@ -1,0 +1,303 @@
+//! A draft becomes a plant, once the files that it names have been read.
+ghost use Rattle.std.specs.Prelude.{◌≡◌, ◌≢◌, ◌≤◌, ◌<◌, [], ◌∷◌, ℕ, List, Option, All, Contains, Ok, IfErr, IfOk, IfSome, map, is_some, option_map, option_copied, length, vec_len};
+ghost use Rattle.line_base.specs.declared.limits.TheConstants.{MAX_DEMAND_DATE, MAX_FILE_BYTES};
+ghost use Rattle.demand_feed.specs.Dates.{dates_of};
+ghost use Rattle.demand_feed.specs.JobTimes.{numbers_in};
+ghost use Rattle.demand_feed.specs.Times.{times_of};
+ghost use Rattle.plant_model.specs.Sound.{IsSound};
+ghost use Rattle.plant_file.specs.Draft.{demands_file, columns_of, is_filled};
+ghost use Rattle.plant_file.specs.Finish.{AnswersPlant, HasColumn, HasColumns, IsWithinLimit, bad_record_in, completed, dates_with, finished, loop_with, machine_with, plant_with, stage_with, times_with};
+ghost use Rattle.plant_file.specs.Complete.{HoldsDates, HoldsTimes, refusal_of};
+ghost use Rattle.plant_file.specs.PlantOfFiles.{Contents, IsReadFrom, plant_of};
+
+use crate::draft::{
+    Draft, DraftDemands, DraftLoop, DraftMachine, DraftPlant, DraftStage, DraftTimes,
+};
+use demand_feed::{Columns, FeedError, read_dates, read_times};
+use line_base::{Date, Items, Times};
+use plant_model::{CardLoop, Machine, Plant, PlantError, Stage, Text};
+use std::alloc::{AllocError, Global};
+
+impl Draft {
+    /// The plant of a draft, with the dates of its demand file and the times of its times file where it uses them. The error
+    /// is the first of the refusals 11 to 15 of `PlantError`. A loop's end that names no stage becomes the number of stages,
+    /// which class 14 refuses. Want of memory may come before any refusal.
+    pub fn finish(
+        self,
+        alloc: Global,
+        dates: Option<Vec<Date>>,
+        times: Option<Columns>,
+    ) -> Result<Plant, PlantError>
+        requires dates_where_used { is_some dates ≡ is_some (demands_file self) }
+        requires some_dates { IfSome dates (λ read. 0 < vec_len read) }
+        requires dates_limit { IfSome dates (λ read. All (λ date. date ≤ MAX_DEMAND_DATE) read.items) }
+        requires times_where_used { is_some times ≡ is_filled (columns_of self) }
+        requires times_columns { IfSome times (λ table. table.columns ≡ columns_of self) }
+        ensures plant { AnswersPlant result (finished self (option_map (λ read. read.items) dates) times) }
+        ensures sound { IfOk result IsSound }
+    {
+        let Draft { plant, columns: _ } = self;
+        let plant = plant_with(alloc, plant, dates, times)?;
+        plant.check_whole(alloc)?;
+        Ok(plant)
+    }
+
+    /// The plant of a draft and of the bytes of its demand file and of its times file, each given exactly where the draft
+    /// names it. The error is the first of the refusals 10 to 15 of `PlantError`, the demand file tried before the times
+    /// file. Want of memory may come before any refusal.
+    pub fn complete(
+        self,
+        alloc: Global,
+        demands: Option<&[u8]>,
+        times: Option<&[u8]>,
+    ) -> Result<Plant, PlantError>
+        requires demands_where_used { is_some demands ≡ is_some (demands_file self) }
+        requires times_where_used { is_some times ≡ is_some self.times_file }
+        requires times_size { IfSome times (λ bytes. length bytes.now ≤ MAX_FILE_BYTES) }
+        ensures plant { AnswersPlant result (completed self (option_copied demands.entry) (option_copied times.entry)) }
+        ensures sound { IfOk result IsSound }
+
+        // where the draft and the bytes are those of files, the answer is the plant of the files
+        ensures of_files { (name : List ℕ) (files : Contents)
+            → IsReadFrom name files self (option_copied demands.entry) (option_copied times.entry)
+            → AnswersPlant result (plant_of name files) }
+    {
+        let dates = self.dates_in(alloc, demands)?;
+        let table = self.times_in(alloc, times)?;
+        self.finish(alloc, dates, table)
+    }
+
+    /// The dates of the bytes of the demand file, if there is one.
+    fn dates_in(&self, alloc: Global, bytes: Option<&[u8]>) -> Result<Option<Vec<Date>>, PlantError>
+        requires { is_some bytes ≡ is_some (demands_file self.now) }
+        ensures held { IfOk result (HoldsDates self.now (option_copied bytes.entry)) }
+        ensures refused { IfErr result (λ e. e ≢ PlantError.NoMemory
+            → bad_record_in dates_of (demands_file self.now) (option_copied bytes.entry) ≡ e ∷ []) }
+    {
+        let Some(bytes) = bytes else {
+            return Ok(None);
+        };
+        let name = self.demands_file().unwrap_or("");
+        match read_dates(alloc, bytes) {
+            Ok(dates) => Ok(Some(dates)),
+            Err(error) => Err(refusal_of(alloc, name, error)),
+        }
+    }
+
+    /// The table of the bytes of the times file, if there is one.
+    fn times_in(&self, alloc: Global, bytes: Option<&[u8]>) -> Result<Option<Columns>, PlantError>
+        requires where_used { is_some bytes ≡ is_some self.now.times_file }
+        requires size { IfSome bytes (λ bs. length bs.now ≤ MAX_FILE_BYTES) }
+        ensures held { IfOk result (HoldsTimes self.now (option_copied bytes.entry)) }
+        ensures refused { IfErr result (λ e. e ≢ PlantError.NoMemory
+            → bad_record_in (times_of (columns_of self.now)) self.now.times_file (option_copied bytes.entry) ≡ e ∷ []) }
+    {
+        let Some(bytes) = bytes else {
+            return Ok(None);
+        };
+        let name = self.times_file().unwrap_or("");
+        match read_times(alloc, bytes, self.columns()) {
+            Ok(table) => Ok(Some(table)),
+            Err(error) => Err(refusal_of(alloc, name, error)),
+        }
+    }
+}
+
+/// The refusal of a file that gave this error.
+fn refusal_of(alloc: Global, file: &str, error: FeedError) -> PlantError
+    ensures { result ≢ PlantError.NoMemory → result ≡ refusal_of file.now error }
+{
+    let FeedError::BadRecord { number } = error else {
+        return PlantError::NoMemory;
+    };
+    match String::from_str(alloc, file) {
+        Ok(text) => PlantError::BadRecord {
+            file: Text::from_string(text),
+            number,
+        },
+        Err(_) => PlantError::NoMemory,
+    }
+}
+
+/// The plant of a draft, with the dates of its demand file and the table of its times file.
+fn plant_with(
+    alloc: Global,
+    draft: DraftPlant,
+    dates: Option<Vec<Date>>,
+    table: Option<Columns>,
+) -> Result<Plant, PlantError>
+    requires columns { All (HasColumns table) draft.stages }
+    ensures plant { IfOk result (λ made. made ≡ plant_with draft (option_map (λ read. read.items) dates) table) }
+    ensures limit { IfOk result (λ _. IfSome table IsWithinLimit) }
+    ensures memory { IfErr result (λ error. error ≡ PlantError.NoMemory) }
+{
+    let Ok(count) = u32::try_from(draft.stages.len()) else {
+        return Err(PlantError::NoMemory);
+    };
+    let jobs = jobs_in(&table);
+    let stages = stages_with(alloc, draft.stages, table.as_ref(), jobs)?;
+    let loops = loops_with(alloc, draft.loops, count)?;
+    Ok(Plant {
+        policy: draft.policy,
+        stages,
+        loops,
+        card_time: draft.card_time,
+        demands: dates_with(alloc, draft.demands, dates),
+        observe: draft.observe,
+    })
+}
+
+/// How many jobs the times file has, if there is one.
+fn jobs_in(table: &Option<Columns>) -> u32
+    ensures count { IfSome table.now (λ t. result ≡ length t.rows) }
+    ensures limit { IfSome table.now IsWithinLimit }
+{
+    match table {
+        Some(table) => table.records(),
+        None => 0,
+    }
+}
+
+/// The dates that are given in the plant file, or those of the demand file.
+fn dates_with(alloc: Global, demands: DraftDemands, dates: Option<Vec<Date>>) -> Items<Date>
+    ensures { result ≡ dates_with demands (option_map (λ read. read.items) dates) }
+{
+    match demands {
+        DraftDemands::Given(given) => given,
+        DraftDemands::File(_) => match dates {
+            Some(dates) => Items::from_vec(dates),
+            None => Items::from_vec(Vec::new(alloc)),
+        },
+    }
+}
+
+/// The loops of a plant of so many stages. An end that names no stage gets the number after the last.
+fn loops_with(
+    alloc: Global,
+    loops: Items<DraftLoop>,
+    count: u32,
+) -> Result<Items<CardLoop>, AllocError>
+    ensures { IfOk result (λ made. made ≡ map (loop_with count) loops) }
+{
+    let mut made = Vec::with_capacity(alloc, loops.len())?;
+    for card_loop in loops.as_slice() {
+        made.push(loop_with(card_loop, count))?;
+    }
+    Ok(Items::from_vec(made))
+}
+
+/// A loop of a plant of so many stages.
+fn loop_with(card_loop: &DraftLoop, count: u32) -> CardLoop
+    ensures { result ≡ loop_with count card_loop.now }
+{
+    CardLoop {
+        first: card_loop.first.unwrap_or(count),
+        last: card_loop.last.unwrap_or(count),
+        cards: card_loop.cards,
+        card_time: card_loop.card_time,
+    }
+}
+
+/// The stages with their job times.
+fn stages_with(
+    alloc: Global,
+    stages: Items<DraftStage>,
+    table: Option<&Columns>,
+    jobs: u32,
+) -> Result<Items<Stage>, AllocError>
+    requires columns { All (HasColumns (option_copied table)) stages }
+    requires jobs { IfSome (option_copied table) (λ t. jobs ≡ length t.rows) }
+    ensures { IfOk result (λ made. made ≡ map (stage_with (option_copied table.entry)) stages) }
+{
+    let mut made = Vec::with_capacity(alloc, stages.len())?;
+    for stage in stages.into_vec() {
+        made.push(stage_with(alloc, stage, table, jobs)?)?;
+    }
+    Ok(Items::from_vec(made))
+}
+
+/// A stage with the job times of its machines.
+fn stage_with(
+    alloc: Global,
+    stage: DraftStage,
+    table: Option<&Columns>,
+    jobs: u32,
+) -> Result<Stage, AllocError>
+    requires columns { HasColumns (option_copied table) stage }
+    requires jobs { IfSome (option_copied table) (λ t. jobs ≡ length t.rows) }
+    ensures { IfOk result (λ made. made ≡ stage_with (option_copied table.entry) stage) }
+{
+    let machines = machines_with(alloc, stage.machines, table, jobs)?;
+    Ok(Stage {
+        name: stage.name,
+        feeds: stage.feeds,
+        cards: stage.cards,
+        stock: stage.stock,
+        travel: stage.travel,
+        card_time: stage.card_time,
+        machines,
+    })
+}
+
+/// The machines with their job times.
+fn machines_with(
+    alloc: Global,
+    machines: Items<DraftMachine>,
+    table: Option<&Columns>,
+    jobs: u32,
+) -> Result<Items<Machine>, AllocError>
+    requires columns { All (λ m. HasColumn (option_copied table) m.times) machines }
+    requires jobs { IfSome (option_copied table) (λ t. jobs ≡ length t.rows) }
+    ensures { IfOk result (λ made. made ≡ map (machine_with (option_copied table.entry)) machines) }
+{
+    let mut made = Vec::with_capacity(alloc, machines.len())?;
+    for machine in machines.into_vec() {
+        let times = times_with(alloc, machine.times, table, jobs)?;
+        made.push(Machine {
+            name: machine.name,
+            servers: machine.servers,
+            times,
+        })?;
+    }
+    Ok(Items::from_vec(made))
+}
+
+/// The job times of a machine: one time, a list, or a column of the times file.
+fn times_with(
+    alloc: Global,
+    times: DraftTimes,
+    table: Option<&Columns>,
+    jobs: u32,
+) -> Result<Times, AllocError>
+    requires columns { HasColumn (option_copied table) times }
+    requires jobs { IfSome (option_copied table) (λ t. jobs ≡ length t.rows) }
+    ensures { IfOk result (λ made. made ≡ times_with (option_copied table.entry) times) }
+{
+    match times {
+        DraftTimes::Fixed(time) => Ok(Times::Fixed(time)),
+        DraftTimes::Each(times) => Ok(Times::Each(times)),
+        DraftTimes::Column(column) => {
+            let times = match table {
+                Some(table) => column_of(alloc, table, jobs, column)?,
+                None => Vec::new(alloc),
+            };
+            Ok(Times::Each(Items::from_vec(times)))
+        }
+    }
+}
+
+/// The numbers of a column of a table of so many jobs, job by job.
+fn column_of(alloc: Global, table: &Columns, jobs: u32, column: u32) -> Result<Vec<u64>, AllocError>
+    requires column { Contains table.now.columns column }
+    requires jobs { jobs ≡ length table.now.rows }
+    ensures { IfOk result (λ times. times.items ≡ numbers_in table.now column) }
+{
+    let mut times = Vec::with_capacity(alloc, jobs as usize)?;
+    for job in 0..jobs {
+        times.push(table.field(job + 1, column))?;
+    }
+    Ok(times)
+}
+
+#[cfg(test)]
+mod tests;
