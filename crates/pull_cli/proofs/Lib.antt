@@ -1,5 +1,6 @@
-pub mod Bounds
-pub mod Demands
-pub mod FirstForm
-pub mod Memory
-pub mod Tree
+pub mod DeadCircuits
+pub mod Plants
+pub mod PlantsOfFiles
+pub mod Endings
+pub mod FileReads
+pub mod Schedules

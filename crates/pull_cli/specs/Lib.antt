@@ -1,6 +1,11 @@
+pub mod CheckText
+pub mod DeadLine
 pub mod Ends
-pub mod FirstForm
 pub mod Outcome
-pub mod Reads
-pub mod Table
+pub mod Outside
+pub mod PlantLine
+pub mod ScheduleLine
+pub mod ScheduleRefusals
+pub mod Steps
+pub mod Verdict
 pub mod Words

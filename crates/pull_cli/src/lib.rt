@@ -2,14 +2,19 @@
 //! store, and writes what the command has to say to a sink.
 #![tactic(auto)]
 
-mod dates;
-mod first_form;
+mod check;
+mod dead;
+mod files;
+mod line;
 mod outcome;
+mod refusals;
+mod schedule;
 mod top;
+mod usage;
 mod words;
 
-pub use outcome::USAGE;
 pub use top::pull;
+pub use usage::USAGE;
 pub use words::{Command, FileName, WordsError, read_words};
 
 #[cfg(test)]

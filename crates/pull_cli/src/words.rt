@@ -1,6 +1,7 @@
-ghost use Rattle.std.specs.Prelude.{◌≡◌, ◌↔◌, Some, None, IfOk, IsErrOf, string_bytes};
+ghost use Rattle.std.specs.Prelude.{◌≡◌, ◌↔◌, ◌&&◌, Some, None, IfOk, IsErrOf, string_bytes};
 ghost use Rattle.pull_cli.specs.declared.words.WordsError.TheVariants.{NoMemory};
-ghost use Rattle.pull_cli.specs.Words.{texts, lone_command, plant_command, command_of};
+ghost use Rattle.line_base.specs.Text.{is_file_name};
+ghost use Rattle.pull_cli.specs.Words.{texts, lone_command, plant_command, schedule_command, command_of};
 
 use line_base::is_file_name;
 use std::alloc::{AllocError, Global};
@@ -23,7 +24,7 @@ impl Model for FileName {
 
 impl FileName {
     /// The name with this text.
-    fn of(alloc: Global, text: &str) -> Result<Self, AllocError>
+    pub(crate) fn of(alloc: Global, text: &str) -> Result<Self, AllocError>
         ensures { IfOk result (λ name. name ≡ text.now) }
     {
         Ok(FileName {
@@ -42,10 +43,22 @@ impl FileName {
 /// What the words after the program's name ask for.
 #[derive(Debug, Drop)]
 pub enum Command {
-    /// `run PLANT`: the dates of every job at every station.
+    /// `run PLANT`: the report of the plant.
     Run {
         /// The plant file.
         plant: FileName,
+    },
+    /// `check PLANT`: that the plant is live, and its card circuits.
+    Check {
+        /// The plant file.
+        plant: FileName,
+    },
+    /// `replay PLANT SCHEDULE`: the report of the plant, by the firings of a schedule.
+    Replay {
+        /// The plant file.
+        plant: FileName,
+        /// The schedule file.
+        schedule: FileName,
     },
     /// `--help`: how the program is used.
     Help,
@@ -81,6 +94,9 @@ pub fn read_words(alloc: Global, words: &[String]) -> Result<Command, WordsError
     match words {
         [word] => lone_command(word.as_str()).ok_or(WordsError::Usage),
         [word, plant] => plant_command(alloc, word.as_str(), plant.as_str()),
+        [word, plant, schedule] => {
+            schedule_command(alloc, word.as_str(), plant.as_str(), schedule.as_str())
+        }
         _ => Err(WordsError::Usage),
     }
 }
@@ -101,9 +117,43 @@ fn plant_command(alloc: Global, word: &str, plant: &str) -> Result<Command, Word
     ensures command { IfOk result (λ command. plant_command word.now plant.now ≡ Some command) }
     ensures usage { IsErrOf result WordsError.Usage ↔ (plant_command word.now plant.now ≡ None) }
 {
-    if word != "run" || !is_file_name(plant.as_bytes()) {
+    if !is_file_name(plant.as_bytes()) {
+        return Err(WordsError::Usage);
+    }
+    match word {
+        "run" => Ok(Command::Run {
+            plant: FileName::of(alloc, plant)?,
+        }),
+        "check" => Ok(Command::Check {
+            plant: FileName::of(alloc, plant)?,
+        }),
+        _ => Err(WordsError::Usage),
+    }
+}
+
+/// The command that a word and the names of a plant file and of a schedule file make.
+fn schedule_command(
+    alloc: Global,
+    word: &str,
+    plant: &str,
+    schedule: &str,
+) -> Result<Command, WordsError>
+    ensures command { IfOk result
+        (λ command. schedule_command word.now plant.now schedule.now ≡ Some command) }
+    ensures usage { IsErrOf result WordsError.Usage
+        ↔ (schedule_command word.now plant.now schedule.now ≡ None) }
+{
+    if word != "replay" || !are_file_names(plant, schedule) {
         return Err(WordsError::Usage);
     }
     let plant = FileName::of(alloc, plant)?;
-    Ok(Command::Run { plant })
+    let schedule = FileName::of(alloc, schedule)?;
+    Ok(Command::Replay { plant, schedule })
+}
+
+/// Whether both texts are file names and no checkpoint's.
+fn are_file_names(plant: &str, schedule: &str) -> bool
+    ensures { result ≡ (is_file_name plant.now && is_file_name schedule.now) }
+{
+    is_file_name(plant.as_bytes()) && is_file_name(schedule.as_bytes())
 }

@@ -1,0 +1,135 @@
+ghost use Rattle.std.specs.Prelude.{◌≡◌, ◌≤◌, length, option_map, is_some, IfOk, IfSome};
+ghost use Rattle.plant_model.specs.Sound.{IsSound};
+ghost use Rattle.pull_cli.specs.Outside.{reading, OnlyReads};
+ghost use Rattle.pull_cli.specs.Steps.{ReadsOne, ReadsAll, IsFaultOf, refusal_of};
+ghost use Rattle.pull_cli.specs.Verdict.{file_at, named_file, plant_of_draft, plant_at};
+ghost use Rattle.plant_file.specs.Reading.{reading as reading_of, AnswersReading};
+
+use crate::outcome::Outcome;
+use crate::words::FileName;
+use line_base::{Items, MAX_FILE_BYTES};
+use line_io::{Store, StoreError};
+use plant_file::{Draft, read_plant};
+use plant_model::{Plant, PlantError};
+use std::alloc::Global;
+
+/// The bytes of a file.
+pub fn read_file<S: Store>(alloc: Global, store: &mut S, name: &str) -> Result<Items<u8>, Outcome>
+    ensures reads { ReadsOne (reading S.tells S.files S.read_faults S.taken store.old store.new)
+        (λ files. file_at name.now (files name.now)) result }
+    ensures within { IfOk result (λ bytes. length bytes ≤ MAX_FILE_BYTES) }
+    ensures only_reads { OnlyReads (reading S.tells S.files S.read_faults S.taken store.old store.new)
+        (S.files store.new) }
+{
+    match store.read(alloc, name, MAX_FILE_BYTES) {
+        Ok(bytes) => Ok(Items::from_vec(bytes)),
+        Err(error) => Err(file_fault(alloc, name, error)),
+    }
+}
+
+/// What a file comes to that can't be read.
+fn file_fault(alloc: Global, name: &str, error: StoreError) -> Outcome
+    ensures { IsFaultOf name.now error result }
+{
+    let Ok(file) = FileName::of(alloc, name) else {
+        return Outcome::NoMemory;
+    };
+    match error {
+        StoreError::Failed => Outcome::StoreFault { file },
+        StoreError::TooLong => Outcome::TooLong { file },
+        StoreError::NoMemory => Outcome::NoMemory,
+    }
+}
+
+/// The bytes of a file, if one is named.
+fn read_named<S: Store>(
+    alloc: Global,
+    store: &mut S,
+    name: Option<&str>,
+) -> Result<Option<Items<u8>>, Outcome>
+    ensures reads { ReadsOne (reading S.tells S.files S.read_faults S.taken store.old store.new)
+        (named_file (option_map (λ text. text.now) name.entry)) result }
+    ensures where_named { IfOk result (λ bytes. is_some bytes ≡ is_some name.entry) }
+    ensures within { IfOk result (λ bytes. IfSome bytes (λ read. length read ≤ MAX_FILE_BYTES)) }
+    ensures only_reads { OnlyReads (reading S.tells S.files S.read_faults S.taken store.old store.new)
+        (S.files store.new) }
+{
+    match name {
+        None => Ok(None),
+        Some(name) => match read_file(alloc, store, name) {
+            Ok(bytes) => Ok(Some(bytes)),
+            Err(stop) => Err(stop),
+        },
+    }
+}
+
+/// The plant of a plant file, and of the files that it names.
+pub fn read_plant_files<S: Store>(
+    alloc: Global,
+    store: &mut S,
+    name: &str,
+) -> Result<Plant, Outcome>
+    ensures reads { ReadsAll (reading S.tells S.files S.read_faults S.taken store.old store.new)
+        (λ given. plant_at given name.now) result }
+    ensures sound { IfOk result IsSound }
+    ensures only_reads { OnlyReads (reading S.tells S.files S.read_faults S.taken store.old store.new)
+        (S.files store.new) }
+{
+    let bytes = match read_file(alloc, store, name) {
+        Ok(bytes) => bytes,
+        Err(stop) => return Err(stop),
+    };
+    match draft_of(alloc, bytes) {
+        Ok(draft) => complete(alloc, store, draft),
+        Err(error) => Err(refusal_of(error)),
+    }
+}
+
+/// The draft that the bytes of a plant file are, which are let go.
+fn draft_of(alloc: Global, bytes: Items<u8>) -> Result<Draft, PlantError>
+    ensures { AnswersReading result (reading_of bytes) }
+{
+    read_plant(alloc, bytes.as_slice())
+}
+
+/// The plant of a draft, and of the files that it names.
+fn complete<S: Store>(alloc: Global, store: &mut S, draft: Draft) -> Result<Plant, Outcome>
+    ensures reads { ReadsAll (reading S.tells S.files S.read_faults S.taken store.old store.new)
+        (λ given. plant_of_draft given draft) result }
+    ensures sound { IfOk result IsSound }
+    ensures only_reads { OnlyReads (reading S.tells S.files S.read_faults S.taken store.old store.new)
+        (S.files store.new) }
+{
+    let demands = match read_named(alloc, store, draft.demands_file()) {
+        Ok(demands) => demands,
+        Err(stop) => return Err(stop),
+    };
+    let times = match read_named(alloc, store, draft.times_file()) {
+        Ok(times) => times,
+        Err(stop) => return Err(stop),
+    };
+    match draft.complete(alloc, slice_of(&demands), slice_of(&times)) {
+        Ok(plant) => Ok(plant),
+        Err(error) => Err(refusal_of(error)),
+    }
+}
+
+/// The bytes, if there are any.
+fn slice_of(bytes: &Option<Items<u8>>) -> Option<&[u8]>
+    ensures { option_map (λ slice. slice.now) result ≡ bytes.now }
+{
+    match bytes {
+        Some(bytes) => Some(bytes.as_slice()),
+        None => None,
+    }
+}
+
+/// What a refusal of a plant comes to.
+fn refusal_of(error: PlantError) -> Outcome
+    ensures { result ≡ refusal_of error }
+{
+    match error {
+        PlantError::NoMemory => Outcome::NoMemory,
+        error => Outcome::Refused { error },
+    }
+}
