@@ -52,6 +52,3 @@ pub fn meet(put: &mut Put, take: &mut Take)
 {
     take.consumer.slots_beside(&mut put.producer);
 }
-
-#[cfg(test)]
-mod tests;

@@ -6,7 +6,7 @@ use std::alloc::{AllocError, Global};
 use std::marker::Model;
 
 /// A queue inside one worker. It keeps every token that it was given, and the number of those taken, so at every moment
-/// the tokens that were taken are the first that were put.
+/// the tokens that were taken are the first that were put. Its memory is exactly the room that `new` took, at every moment.
 #[derive(Drop)]
 pub struct Plain {
     tokens: Vec<Date>,
@@ -29,12 +29,12 @@ impl Model for Plain {
       takes = p.takes;
     } };
 
-    ghost use Rattle.std.specs.Prelude.{◌+◌, ◌≤◌, ◌<◌, ◌^◌, length};
+    ghost use Rattle.std.specs.Prelude.{◌≡◌, ◌+◌, ◌≤◌, ◌<◌, ◌^◌, length};
 
     ghost invariant = { λ p. record {
       began : p.initial ≤ length p.tokens.items;
       within : length p.tokens.items ≤ p.initial + p.room;
-      reserved : p.initial + p.room ≤ vec_capacity p.tokens;
+      reserved : vec_capacity p.tokens ≡ p.initial + p.room;
       counted : p.initial + p.room < 2 ^ 32;
       taken : p.takes ≤ length p.tokens.items;
     } };
@@ -51,7 +51,9 @@ impl Plain {
         ensures takes { IfOk result (λ plain. plain.takes ≡ 0) }
     {
         let mut tokens = Vec::with_capacity(alloc, initial.len() + room as usize)?;
-        tokens.extend_from_slice(initial)?;
+        for token in initial {
+            tokens.push_reserved(*token);
+        }
         Ok(Plain {
             tokens,
             initial: initial.len(),

@@ -14,6 +14,3 @@ pub use circuit::{CardCircuit, CircuitKind};
 pub use laws::{bounds_have_circuits, bounds_hold, onward_arcs_lead_on};
 pub use listing::card_circuits;
 pub use tokens::sum;
-
-#[cfg(test)]
-mod tests;

@@ -1,7 +1,7 @@
 -- What a demand file holds.
 use Rattle.std.specs.Prelude.{ℕ, List, [], ◌∷◌, Ok, Err}
 use Rattle.std.specs.List.{concat}
-use Rattle.line_base.specs.declared.limits.TheConstants.{MAX_DEMAND_DATE}
+use Rattle.line_base.specs.Limits.{last_demand}
 use Rattle.demand_feed.specs.Records.{records_of}
 use Rattle.demand_feed.specs.Rows.{Reading, rows_of}
 
@@ -17,4 +17,4 @@ joined_dates (Err place) = Err place
 
 -- the dates of a demand file in its order, or the number of its first bad record
 abbrev pub dates_of : List ℕ → Reading (List ℕ)
-dates_of file = joined_dates (rows_of date_column MAX_DEMAND_DATE (records_of file))
+dates_of file = joined_dates (rows_of date_column last_demand (records_of file))

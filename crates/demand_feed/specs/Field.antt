@@ -3,7 +3,6 @@ use Rattle.std.specs.Prelude.{ℕ, ◌-◌, Bool, ◌==◌, ◌&&◌, ◌||◌, 
 use Rattle.std.specs.List.{list_all, list_any, prefix_len, suffix_len}
 use Rattle.std.specs.Char.{is_ascii_alphabetic, is_ascii_digit}
 use Rattle.std.specs.Str.Parse.{digits_value}
-use Rattle.demand_feed.specs.declared.field.TheConstants.{MAX_DIGITS}
 
 -- a space or a tab
 abbrev pub is_blank : ℕ → Bool
@@ -22,7 +21,7 @@ without_blanks field = without_end_blanks (without_front_blanks field)
 
 -- 1 to 20 decimal digits, leading zeros among them
 abbrev pub is_decimal : List ℕ → Bool
-is_decimal text = nat_le 1 (length text) && nat_le (length text) MAX_DIGITS && list_all is_ascii_digit text
+is_decimal text = nat_le 1 (length text) && nat_le (length text) 20 && list_all is_ascii_digit text
 
 -- the number that a text writes in decimal, where it is at most `most`
 unfoldable pub decimal_up_to : ℕ → List ℕ → Option ℕ

@@ -2,7 +2,7 @@
 use Rattle.std.specs.Prelude.{◌≡◌, ◌≤◌, ℕ, zero, suc, ◌-◌, ◌*◌, ◌==◌, All, List, [], ◌∷◌, drop, length, map, slice_index, take}
 use Rattle.std.specs.List.{position_or_len}
 use Rattle.std.specs.List.Sorted.{IsStrictlyIncreasing}
-use Rattle.line_base.specs.declared.limits.TheConstants.{MAX_TIME}
+use Rattle.line_base.specs.Limits.{longest_time}
 
 -- the columns that were asked for, and for each job the row of their numbers
 pub record JobTimes : Type 0 where
@@ -34,4 +34,4 @@ job_times columns jobs times = record { columns = columns; rows = cut_rows (leng
 pub record IsFilled (columns : List ℕ) (jobs : ℕ) (times : List ℕ) : Type 0 where
   pub ascending : IsStrictlyIncreasing columns
   pub filled : length times ≡ jobs * length columns
-  pub limit : All (λ time. time ≤ MAX_TIME) times
+  pub limit : All (λ time. time ≤ longest_time) times

@@ -1,6 +1,6 @@
 -- What a times file holds.
 use Rattle.std.specs.Prelude.{ℕ, List, Ok, Err}
-use Rattle.line_base.specs.declared.limits.TheConstants.{MAX_TIME}
+use Rattle.line_base.specs.Limits.{longest_time}
 use Rattle.demand_feed.specs.Records.{records_of}
 use Rattle.demand_feed.specs.Rows.{Reading, rows_of}
 use Rattle.demand_feed.specs.JobTimes.{JobTimes}
@@ -12,4 +12,4 @@ under_columns columns (Err place) = Err place
 
 -- the times in these columns of a times file, job by job, or the number of its first bad record
 abbrev pub times_of : List ℕ → List ℕ → Reading JobTimes
-times_of columns file = under_columns columns (rows_of columns MAX_TIME (records_of file))
+times_of columns file = under_columns columns (rows_of columns longest_time (records_of file))

@@ -12,6 +12,3 @@ mod rows;
 pub use columns::{Columns, read_times};
 pub use dates::read_dates;
 pub use error::FeedError;
-
-#[cfg(test)]
-mod tests;

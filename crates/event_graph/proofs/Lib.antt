@@ -2,3 +2,5 @@ mod Examples
 pub mod ArcNumbers
 pub mod Mapped
 pub mod Places
+pub mod Greatest
+pub mod GreatestTerms

@@ -3,6 +3,7 @@ use Rattle.std.specs.Prelude.{◌≡◌, ℕ, List}
 use Rattle.line_base.specs.declared.event.Parts.{Parts}
 use Rattle.event_graph.specs.Table.{Table, IsSameTable}
 use Rattle.event_graph.specs.Least.{IsLeast}
+use Rattle.event_graph.specs.Greatest.{IsGreatestOfTerms}
 use Rattle.event_graph.specs.State.{State, start}
 use Rattle.event_graph.specs.Firing.{CanFire, after}
 use Rattle.event_graph.specs.Circuit.{IsCircuit, tokens_in, tokens_on}
@@ -10,6 +11,10 @@ use Rattle.event_graph.specs.Circuit.{IsCircuit, tokens_in, tokens_on}
 -- there is at most one least solution
 abbrev pub HasOneLeast : Parts → Type 0
 HasOneLeast g = (x y : Table) → IsLeast g x → IsLeast g y → IsSameTable g x y
+
+-- each date of a least solution is the greatest of its terms
+abbrev pub LeastIsGreatest : Parts → Type 0
+LeastIsGreatest g = (x : Table) → IsLeast g x → IsGreatestOfTerms g x
 
 -- at the start every circuit has its tokens
 abbrev pub StartsFull : Parts → Type 0

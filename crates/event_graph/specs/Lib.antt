@@ -4,6 +4,7 @@ pub mod Table
 pub mod Term
 pub mod Solves
 pub mod Least
+pub mod Greatest
 pub mod State
 pub mod Firing
 pub mod Reached

@@ -1,7 +1,7 @@
 -- The sizes within which a graph is built.
 use Rattle.std.specs.Prelude.{◌≡◌, ℕ, ◌*◌, ◌≤◌, length, All}
 use Rattle.std.specs.List.Sorted.{IsNonDecreasing}
-use Rattle.line_base.specs.declared.limits.TheConstants.{MAX_STATIONS, MAX_DEMANDS, MAX_TABLE, MAX_ARCS, MAX_CARDS, MAX_TIME, MAX_DEMAND_DATE}
+use Rattle.line_base.specs.Limits.{most_stations, most_demands, most_dates, most_arcs, most_cards, longest_time, last_demand}
 use Rattle.line_base.specs.declared.event.Parts.{Parts}
 use Rattle.line_base.specs.declared.times.Times.{Times}
 use Rattle.line_base.specs.declared.times.Times.TheVariants.{Fixed, Each}
@@ -9,20 +9,20 @@ use Rattle.event_graph.specs.Network.{stations, jobs, arc_count}
 
 -- every job time is within the limit, and a list of times has one for each job
 abbrev pub AreTimesFor : ℕ → Times → Type 0
-AreTimesFor jobs (Fixed time) = time ≤ MAX_TIME
-AreTimesFor jobs (Each times) = (length times ≡ jobs) × All (λ time. time ≤ MAX_TIME) times
+AreTimesFor jobs (Fixed time) = time ≤ longest_time
+AreTimesFor jobs (Each times) = (length times ≡ jobs) × All (λ time. time ≤ longest_time) times
 
 pub record IsWithinLimits (g : Parts) : Type 0 where
   pub some_station : 1 ≤ stations g
-  pub few_stations : stations g ≤ MAX_STATIONS
+  pub few_stations : stations g ≤ most_stations
   pub some_job : 1 ≤ jobs g
-  pub few_jobs : jobs g ≤ MAX_DEMANDS
-  pub small_table : stations g * jobs g ≤ MAX_TABLE
+  pub few_jobs : jobs g ≤ most_demands
+  pub small_table : stations g * jobs g ≤ most_dates
   pub demands_in_order : IsNonDecreasing g.dates
-  pub demands_small : All (λ date. date ≤ MAX_DEMAND_DATE) g.dates
+  pub demands_small : All (λ date. date ≤ last_demand) g.dates
   pub times_for_each : length g.times ≡ stations g
   pub times_small : All (AreTimesFor (jobs g)) g.times
-  pub few_arcs : arc_count g ≤ MAX_ARCS
-  pub few_tokens : All (λ a. a.tokens ≤ MAX_CARDS) g.arcs
+  pub few_arcs : arc_count g ≤ most_arcs
+  pub few_tokens : All (λ a. a.tokens ≤ most_cards) g.arcs
   pub delays_for_each : length g.delays ≡ arc_count g
-  pub delays_small : All (λ delay. delay ≤ MAX_TIME) g.delays
+  pub delays_small : All (λ delay. delay ≤ longest_time) g.delays

@@ -7,11 +7,12 @@ mod graph;
 mod laws;
 mod lists;
 mod marking;
-#[cfg(test)]
-mod tests;
 
 pub use error::GraphError;
 pub use graph::Graph;
-pub use laws::{circuits_keep_their_tokens, one_least_solution, start_is_reached};
+pub use laws::{
+    circuits_keep_their_tokens, least_dates_are_greatest_terms, one_least_solution,
+    start_is_reached,
+};
 pub use line_base::{Arc, Parts};
 pub use marking::Marking;

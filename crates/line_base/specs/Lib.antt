@@ -1,3 +1,4 @@
 pub mod Times
 pub mod Roomy
 pub mod Text
+pub mod Limits

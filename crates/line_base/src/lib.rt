@@ -8,8 +8,6 @@ mod limits;
 mod log;
 mod name;
 mod number;
-#[cfg(test)]
-mod tests;
 mod times;
 
 pub use event::{Arc, Parts};
@@ -17,7 +15,7 @@ pub use items::Items;
 pub use limits::{
     MAX_ARCS, MAX_CARDS, MAX_CHECKPOINT_BYTES, MAX_COLUMN, MAX_DEMAND_DATE, MAX_DEMANDS,
     MAX_FILE_BYTES, MAX_LOOPS, MAX_OBSERVE, MAX_OBSERVE_DATE, MAX_STAGES, MAX_STATIONS, MAX_TABLE,
-    MAX_TIME, MAX_WORKERS,
+    MAX_TIME, MAX_WORKERS, limits_are_those_of_the_definitions,
 };
 pub use log::{Log, Logs, Places};
 pub use name::{Label, Name, NameError, is_checkpoint_name, is_file_name};

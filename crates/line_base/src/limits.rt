@@ -1,3 +1,6 @@
+ghost use Rattle.std.specs.Prelude.{◌≡◌};
+ghost use Rattle.line_base.specs.Limits.{most_stages, most_stations, most_demands, most_dates, most_loops, most_observed, last_observed, most_cards, longest_time, last_demand, last_column, most_workers, most_arcs, most_file_bytes, most_checkpoint_bytes};
+
 /// The most stages of a plant.
 pub const MAX_STAGES: u32 = 64;
 
@@ -42,3 +45,22 @@ pub const MAX_FILE_BYTES: u64 = 67_108_864;
 
 /// The most bytes of a checkpoint file, and of the content of a slot: 160 MiB.
 pub const MAX_CHECKPOINT_BYTES: u64 = 167_772_160;
+
+/// Each constant is the number that the definitions cite.
+pub fn limits_are_those_of_the_definitions()
+    ensures stages { MAX_STAGES ≡ most_stages }
+    ensures stations { MAX_STATIONS ≡ most_stations }
+    ensures demands { MAX_DEMANDS ≡ most_demands }
+    ensures table { MAX_TABLE ≡ most_dates }
+    ensures loops { MAX_LOOPS ≡ most_loops }
+    ensures observed { MAX_OBSERVE ≡ most_observed }
+    ensures observed_date { MAX_OBSERVE_DATE ≡ last_observed }
+    ensures cards { MAX_CARDS ≡ most_cards }
+    ensures time { MAX_TIME ≡ longest_time }
+    ensures demand_date { MAX_DEMAND_DATE ≡ last_demand }
+    ensures column { MAX_COLUMN ≡ last_column }
+    ensures workers { MAX_WORKERS ≡ most_workers }
+    ensures arcs { MAX_ARCS ≡ most_arcs }
+    ensures file_bytes { MAX_FILE_BYTES ≡ most_file_bytes }
+    ensures checkpoint_bytes { MAX_CHECKPOINT_BYTES ≡ most_checkpoint_bytes }
+{}

@@ -15,7 +15,7 @@ use Rattle.event_graph.specs.Reached.{Reached, begins, fires}
 use Rattle.event_graph.proofs.ArcNumbers.{All-ins}
 use Rattle.event_graph.proofs.Places.{place-start, place-after}
 use Rattle.line_core.specs.Consistent.{all_tokens, due_date, IsConsistent}
-use Rattle.line_core.proofs.Greatest.{greatest-le, greatest-same}
+use Rattle.event_graph.proofs.Greatest.{greatest-le, greatest-same}
 use Rattle.line_core.proofs.ArcTokens.{with_new, length-with_new, LogGains, get_or-with_new, log-after, all_tokens-gain, all_tokens-after, token_date-next, drop-with_new}
 
 -- ---- the start

@@ -1,13 +1,16 @@
-pub mod Greatest
 pub mod ArcTokens
 pub mod Consistency
 pub mod Solution
 pub mod Bounds
 pub mod Circuits
+pub mod DeadStations
 pub mod Order
 pub mod Progress
+pub mod Existence
 pub mod Unwinding
 pub mod Runs
 pub mod Searches
 pub mod Following
 pub mod RoundLemmas
+pub mod FirstRefusals
+pub mod PartsLemmas

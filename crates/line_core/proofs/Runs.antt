@@ -1,6 +1,6 @@
 -- What the logs of a run tell of its state.
 use Rattle.std.proofs.Common.{◌≡◌, ◌≢◌, ℕ, zero, suc, ◌+◌, ◌-◌, ◌<◌, ◌≤◌, true, false, eqb, List, [], ◌∷◌, ◌++◌, drop, take, replicate, map, length, get_or, set, refl, sym, ap, ◌∙◌, subst, arith, ⊎_elim}
-use Rattle.std.specs.List.{sum_by, range_with_len}
+use Rattle.std.specs.List.{All, sum_by, range_with_len}
 use Rattle.std.proofs.lemmas.Bool.{cases_lt, cases_eq, ne_eqb, cond-false, cond-true, eq-eqb}
 use Rattle.std.proofs.lemmas.List.{get_or-map, length-map, map-set, length-drop, get_or_past, get_or_append_left, get_or-append_right, get_or-replicate, length-replicate, get_or-set_same, get_or-set_other, take_all, drop-map, drop-append-le, drop_all, drop-drop}
 use Rattle.std.proofs.lemmas.List.FromFn.{fill_by_all}
@@ -23,6 +23,7 @@ use Rattle.line_core.proofs.Consistency.{date_by_tokens, new_date-by_tokens, hel
 use Rattle.line_core.proofs.Bounds.{fired-le, reached_is_within}
 use Rattle.line_core.proofs.Circuits.{circuit_keeps_number}
 use Rattle.line_core.proofs.Solution.{finished_is_least}
+use Rattle.event_graph.proofs.GreatestTerms.{greatest_of_terms}
 use Rattle.line_core.proofs.Unwinding.{state_of-logs, place-state_of}
 
 -- the state of a run's logs
@@ -45,6 +46,19 @@ get_or-dates_of logs t =
 
 pub log-state_in : (g : Parts) (logs : RoomyLogs) (t : ℕ) → log (state_in g logs) t ≡ (log_at logs t).dates
 log-state_in g logs t = ap (λ l. get_or l t []) (logs-state_of g (dates_of logs)) ∙ get_or-dates_of logs t
+
+-- a log of these dates with this room
+abbrev pub log_of : ℕ → List ℕ → RoomyLog
+log_of room dates = record { dates = dates; room = room }
+
+pub dates-log_of : (room : ℕ) (lists : List (List ℕ)) → map (λ (l : RoomyLog). l.dates) (map (log_of room) lists) ≡ lists
+dates-log_of room [] = refl
+dates-log_of room (dates ∷ lists) = ap (λ l. dates ∷ l) (dates-log_of room lists)
+
+pub room-log_of : (room : ℕ) (lists : List (List ℕ)) → All (λ (l : RoomyLog). l.room ≡ room) (map (log_of room) lists)
+room-log_of room [] k d low = absurd (omega arith)
+room-log_of room (dates ∷ lists) zero d low = refl
+room-log_of room (dates ∷ lists) (suc k) d low = room-log_of room lists k d (omega arith)
 
 -- ---- the tokens that an arc has held, by the logs alone
 
@@ -315,11 +329,13 @@ module _ (g : Parts) (logs : RoomyLogs) (held : IsRunWithRoom g logs) where
   least_table finished =
       let s = state_in g logs in
       let same = logs-state_of g (dates_of logs) in
+      let least : IsLeast g (date_in (dates_of logs)) = subst (λ l. IsLeast g (date_in l)) same (finished_is_least g s held.run.limits.some_station held.run.sound held.run.reached finished) in
       record {
         sound = held.run.sound;
         limits = held.run.limits;
         a_row_each = ap length (sym same) ∙ consistent.a_log_each;
         a_date_each = λ t there. ap (λ l. length (get_or l t [])) (sym same) ∙ finished t there;
         early = λ t n. subst (λ l. date_in l t n ≤ LATEST_DATE) same (no_date_late t n);
-        least = subst (λ l. IsLeast g (date_in l)) same (finished_is_least g s held.run.limits.some_station held.run.sound held.run.reached finished);
+        least = least;
+        greatest = greatest_of_terms g (date_in (dates_of logs)) held.run.sound least;
       }

@@ -13,7 +13,7 @@ use Rattle.event_graph.specs.Firing.{greatest, CanFire, new_date}
 use Rattle.event_graph.specs.Reached.{Reached, begins, fires}
 use Rattle.event_graph.proofs.ArcNumbers.{All-ins, each_input}
 use Rattle.line_core.specs.Consistent.{all_tokens, due_date, IsConsistent, IsFinished}
-use Rattle.line_core.proofs.Greatest.{le-greatest}
+use Rattle.event_graph.proofs.Greatest.{le-greatest}
 use Rattle.line_core.proofs.ArcTokens.{with_new, log-after, length-all_tokens, token_date-next}
 use Rattle.line_core.proofs.Consistency.{by_tokens-le, new_date-by_tokens, held_now, exists, log-start, reached_is_consistent}
 

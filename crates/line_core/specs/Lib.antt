@@ -5,3 +5,4 @@ pub mod Run
 pub mod Round
 pub mod Refusals
 pub mod Schedule
+pub mod Parts

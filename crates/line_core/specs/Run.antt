@@ -6,6 +6,7 @@ use Rattle.event_graph.specs.Network.{stations, jobs, IsGraph}
 use Rattle.event_graph.specs.Limits.{IsWithinLimits}
 use Rattle.event_graph.specs.Table.{date_in}
 use Rattle.event_graph.specs.Least.{IsLeast}
+use Rattle.event_graph.specs.Greatest.{IsGreatestOfTerms}
 use Rattle.event_graph.specs.State.{State, start}
 use Rattle.event_graph.specs.Firing.{after}
 use Rattle.event_graph.specs.Reached.{Reached}
@@ -48,7 +49,8 @@ pub record Dates : Type 0 where
   pub graph : Parts
   pub rows : List (List ℕ)
 
--- each station has one date for each job, none is late, and together they are the least solution
+-- each station has one date for each job, none is late, and together they are the least solution, in which each date is the
+-- greatest of its terms
 pub record IsLeastTable (d : Dates) : Type 0 where
   pub sound : IsGraph d.graph
   pub limits : IsWithinLimits d.graph
@@ -56,3 +58,4 @@ pub record IsLeastTable (d : Dates) : Type 0 where
   pub a_date_each : (t : ℕ) → t < stations d.graph → length (slice_index_or d.rows t []) ≡ jobs d.graph
   pub early : (t n : ℕ) → date_in d.rows t n ≤ LATEST_DATE
   pub least : IsLeast d.graph (date_in d.rows)
+  pub greatest : IsGreatestOfTerms d.graph (date_in d.rows)

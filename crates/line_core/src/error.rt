@@ -1,3 +1,5 @@
+use std::fmt;
+
 /// Why a station didn't fire.
 #[derive(Clone, Copy, Debug, PartialEq, Eq)]
 pub enum FireError {
@@ -20,4 +22,74 @@ pub enum ReplayError {
     Unfinished { station: u32, have: u64 },
     /// Memory ran out.
     NoMemory,
+}
+
+/// Why logs and places are no state that firings reach: the first thing that is wrong with them. Stations and arcs are
+/// counted from 0, jobs and tokens from 1, dates are in the plant's unit. Each kind is tried whole before the next, by
+/// station and job, or by arc and token.
+#[derive(Clone, Copy, Debug, PartialEq, Eq)]
+pub enum StateError {
+    /// The log of this station has more dates than there are jobs.
+    Count {
+        station: u32,
+        have: u64,
+        limit: u64,
+    },
+    /// The place of this arc has another number of tokens than its tokens of the start and the log where it starts,
+    /// less the log where it ends.
+    Marking {
+        arc: u32,
+        have: u64,
+        need: i64,
+    },
+    /// This date isn't the one that the equations of the graph give over the logs.
+    Date {
+        station: u32,
+        job: u32,
+        have: u64,
+        need: u64,
+    },
+    /// This token isn't the one that the logs leave on the arc.
+    PlaceDate {
+        arc: u32,
+        token: u32,
+        have: u64,
+        need: u64,
+    },
+    /// Memory ran out.
+    NoMemory,
+}
+
+impl fmt::Display for StateError {
+    fn fmt<W: fmt::Write>(&self, f: &mut fmt::Formatter<W>) -> fmt::Result {
+        match self {
+            StateError::Count {
+                station,
+                have,
+                limit,
+            } => write!(f, "station {station} has {have} dates of {limit}"),
+            StateError::Marking { arc, have, need } => {
+                write!(f, "arc {arc} has {have} tokens, needs {need}")
+            }
+            StateError::Date {
+                station,
+                job,
+                have,
+                need,
+            } => write!(
+                f,
+                "job {job} of station {station} has date {have}, needs {need}"
+            ),
+            StateError::PlaceDate {
+                arc,
+                token,
+                have,
+                need,
+            } => write!(
+                f,
+                "token {token} of arc {arc} has date {have}, needs {need}"
+            ),
+            StateError::NoMemory => f.write_str("memory ran out"),
+        }
+    }
 }

@@ -5,7 +5,8 @@ ghost use Rattle.event_graph.specs.Limits.{IsWithinLimits};
 ghost use Rattle.event_graph.specs.State.{State};
 ghost use Rattle.event_graph.specs.Reached.{Reached};
 ghost use Rattle.line_core.specs.Consistent.{IsConsistent};
-ghost use Rattle.line_core.specs.Laws.{EndsLeast, KeepsNumbers, StaysEarly};
+ghost use Rattle.event_graph.specs.Live.{IsLive};
+ghost use Rattle.line_core.specs.Laws.{EndsLeast, HasLeast, DeadStationsStayIdle, KeepsNumbers, StaysEarly};
 
 /// A law of the definitions: in every state that firings reach each place holds what the logs leave there, and each
 /// date is the one that the equations give over the logs.
@@ -16,6 +17,17 @@ pub fn reached_states_are_consistent()
 /// A law of the definitions: where firings have made every date, the logs are the least solution.
 pub fn finished_states_are_least()
     ensures { (g : Parts) → 1 ≤ stations g → IsGraph g → EndsLeast g }
+{}
+
+/// A law of the definitions: a live graph has a least solution, and each of its dates is the greatest of its terms.
+pub fn live_graphs_have_a_least_solution()
+    ensures { (g : Parts) → IsGraph g → IsLive g → HasLeast g }
+{}
+
+/// A law of the definitions: no station on a circuit without a token ever fires, whatever else does. So a graph that isn't
+/// live never makes all of its dates.
+pub fn dead_stations_stay_idle()
+    ensures { (g : Parts) → DeadStationsStayIdle g }
 {}
 
 /// A law of the definitions: in every state that firings reach each circuit has the tokens that it has at the start.

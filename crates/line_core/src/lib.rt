@@ -4,18 +4,17 @@
 mod dates;
 mod error;
 mod laws;
+mod parts;
 mod rounds;
 mod schedule;
 mod state;
 mod table;
-#[cfg(test)]
-mod tests;
 mod tokens;
 
-pub use error::{FireError, ReplayError};
+pub use error::{FireError, ReplayError, StateError};
 pub use laws::{
-    circuits_keep_their_number, dates_stay_early, finished_states_are_least,
-    reached_states_are_consistent,
+    circuits_keep_their_number, dates_stay_early, dead_stations_stay_idle,
+    finished_states_are_least, live_graphs_have_a_least_solution, reached_states_are_consistent,
 };
 pub use rounds::run;
 pub use schedule::replay;

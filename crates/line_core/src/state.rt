@@ -1,4 +1,4 @@
-ghost use Rattle.std.specs.Prelude.{◌≡◌, ◌<◌, map, length, IsTrue, ◌↔◌, IfOk, IfErr, IfSome, OnOk, OnErr, replicate, []};
+ghost use Rattle.std.specs.Prelude.{◌≡◌, ◌<◌, map, length, IsTrue, ◌↔◌, IfOk, IfErr, IfSome, OnOk, OnErr, replicate, [], Some};
 ghost use Rattle.line_base.specs.Roomy.{dates_of};
 ghost use Rattle.event_graph.specs.Network.{stations, arc_count};
 ghost use Rattle.event_graph.specs.State.{log, place};
@@ -8,13 +8,15 @@ ghost use Rattle.line_core.specs.Consistent.{IsFinished, fired, state_of};
 ghost use Rattle.line_core.specs.ArcTokens.{FillsCircuits, HasRoom};
 ghost use Rattle.line_core.specs.Run.{run_of, begun, fired_at, IsReached, IsLeastTable, IsRunWithRoom};
 ghost use Rattle.line_core.specs.Refusals.{Refuses, first_unfinished};
+ghost use Rattle.line_core.specs.Parts.{AreParts, run_with, state_refusal, IsStateRefusal, IsReachedExactly};
 
 use crate::dates::{arc_at, count_at, first_empty, first_unfinished, next_date, tokens_on};
-use crate::error::FireError;
+use crate::error::{FireError, StateError};
+use crate::parts::{check_parts, with_room};
 use crate::table::Table;
 use crate::tokens::Tokens;
 use event_graph::{Graph, Marking};
-use line_base::{Date, Log, Logs};
+use line_base::{Date, Log, Logs, Places};
 use live_check::Live;
 use std::alloc::{AllocError, Global};
 use std::marker::Model;
@@ -196,6 +198,49 @@ impl State {
             alloc,
             graph: Snapshot::of(live.graph()),
         }
+    }
+
+    /// The state with these logs and these places, which can go on firing: it takes the room of all later firings.
+    ///
+    /// Every other answer but want of memory is the first thing that is wrong with the parts. A log with more dates than
+    /// there are jobs is refused, else a place with another number of tokens than the logs leave there, else a date that
+    /// isn't the one of its equation over the logs, else a token that isn't the one that the logs leave there.
+    pub fn of_parts(
+        alloc: Global,
+        live: &Live,
+        logs: Logs,
+        places: Places,
+    ) -> Result<State, StateError>
+        requires parts { AreParts live.now.graph logs places }
+        ensures state { IfOk result (λ state. state ≡ run_with live.now.graph (dates_of logs) (dates_of places)) }
+        ensures reached { IfOk result IsReached }
+        ensures refused { IfErr result (IsStateRefusal live.now.graph (dates_of logs) (dates_of places)) }
+        ensures exact { IsReachedExactly live.now.graph (dates_of logs) (dates_of places) }
+    {
+        check_parts(live.graph(), &logs, &places)?;
+        match with_room(alloc, &logs, live.graph().jobs()) {
+            Ok(logs) => Ok(State::of_reached(alloc, live, logs)),
+            Err(_) => Err(StateError::NoMemory),
+        }
+    }
+
+    /// The state with these logs, which have the room of all later firings, and these places, as `of_parts` answers it.
+    /// It takes no memory.
+    pub fn of_roomy_parts(
+        alloc: Global,
+        live: &Live,
+        logs: Logs,
+        places: &Places,
+    ) -> Result<State, StateError>
+        requires parts { AreParts live.now.graph logs places.now }
+        requires room { HasRoom live.now.graph logs }
+        ensures state { IfOk result (λ state. state ≡ run_with live.now.graph (dates_of logs) (dates_of places.now)) }
+        ensures reached { IfOk result IsReached }
+        ensures refused { IfErr result (λ error. state_refusal live.now.graph (dates_of logs) (dates_of places.now) ≡ Some error) }
+        ensures exact { IsReachedExactly live.now.graph (dates_of logs) (dates_of places.now) }
+    {
+        check_parts(live.graph(), &logs, places)?;
+        Ok(State::of_reached(alloc, live, logs))
     }
 
     /// The table of a finished state. It takes no memory.

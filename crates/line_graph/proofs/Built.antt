@@ -1,8 +1,6 @@
 -- The parts of a sound plant's graph are built without a refusal.
-use Rattle.std.proofs.Common.{◌≡◌, ℕ, ◌+◌, ◌*◌, ◌<◌, ◌≤◌, List, length, refl, sym, ap, ◌∙◌, subst, inl, inr, arith}
-use Rattle.line_base.specs.declared.event.Arc.{Arc}
+use Rattle.std.proofs.Common.{◌≡◌, ◌+◌, ◌*◌, ◌≤◌, refl, inl, inr, arith}
 use Rattle.line_base.specs.declared.event.Parts.{Parts}
-use Rattle.line_base.specs.declared.times.Times.{Times}
 use Rattle.plant_model.specs.declared.plant.Plant.{Plant}
 use Rattle.plant_model.specs.Graph.{labels, times, rows, arcs_of, delays_of, graph}
 use Rattle.plant_model.specs.Sound.{IsSound}

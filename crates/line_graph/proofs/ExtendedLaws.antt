@@ -1,28 +1,25 @@
 -- Extended kanban with as many cards as stock is kanban, and with a card for each job besides it is base stock.
-use Rattle.std.proofs.Common.{◌≡◌, ℕ, zero, suc, ◌+◌, ◌-◌, ◌<◌, ◌≤◌, ◌↔◌, Bool, true, false, cond, nat_lt, List, length, refl, sym, ap, ◌∙◌, subst, zero-add, arith}
-use Rattle.std.specs.Prelude.{slice_index_or}
-use Rattle.std.specs.List.{All, Contains}
+use Rattle.std.proofs.Common.{◌≡◌, ℕ, zero, suc, ◌+◌, ◌-◌, ◌<◌, ◌≤◌, Bool, cond, List, length, refl, sym, ap, ◌∙◌, subst, zero-add, arith}
+use Rattle.std.specs.List.{All}
 use Rattle.std.proofs.lemmas.Bool.{lt-ltb, le-ltb}
 use Rattle.std.proofs.lemmas.List.Elements.{All-contains}
-use Rattle.line_base.specs.declared.event.Arc.{Arc}
 use Rattle.line_base.specs.declared.event.Parts.{Parts}
 use Rattle.line_base.specs.declared.times.Times.{Times}
 use Rattle.plant_model.specs.declared.plant.Policy.{Policy}
-use Rattle.plant_model.specs.declared.plant.Policy.TheVariants.{Kanban, Conwip, BaseStock, Extended}
+use Rattle.plant_model.specs.declared.plant.Policy.TheVariants.{Kanban, BaseStock, Extended}
 use Rattle.plant_model.specs.declared.plant.Plant.{Plant}
 use Rattle.plant_model.specs.Line.{stage_at, release, deliver, receiver, stock_under, starting}
-use Rattle.plant_model.specs.Graph.{Row, plain, feed_row, card_row, demand_row, rows, times, labels, graph}
+use Rattle.plant_model.specs.Graph.{plain, feed_row, card_row, demand_row, rows, times, labels, graph}
 use Rattle.plant_model.specs.Sound.{IsSound}
 use Rattle.event_graph.specs.Network.{stations, jobs, demand}
 use Rattle.event_graph.specs.Table.{Table}
 use Rattle.event_graph.specs.Solves.{Solves}
-use Rattle.event_graph.specs.Least.{IsNowhereAbove, IsLeast}
+use Rattle.event_graph.specs.Least.{IsLeast}
 use Rattle.plant_model.proofs.LayoutStations.{at_receiver}
 use Rattle.line_graph.specs.Laws.{under, HaveSameLeast, CardsEqualStock, CardsCoverJobs}
-use Rattle.line_graph.proofs.GraphRows.{EachPolicyRow}
 use Rattle.line_graph.proofs.Inputs.{in_feed}
 use Rattle.line_graph.proofs.SolvesRows.{asked, Meets, Meets-solves, Solves-meets}
-use Rattle.line_graph.proofs.SharedRows.{StartAlike, HoldAlike, HoldAlike-sound, shared, in_kanban, in_base_stock, extended_card_row, in_extended_demand, in_extended_card}
+use Rattle.line_graph.proofs.SharedRows.{StartAlike, HoldAlike-sound, shared, in_kanban, in_base_stock, extended_card_row, in_extended_demand, in_extended_card}
 
 -- the policy touches neither stations nor jobs, times and demands
 times-under : (policy : Policy) (p : Plant) → times (under policy p) ≡ times p

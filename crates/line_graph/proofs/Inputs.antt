@@ -1,22 +1,21 @@
 -- The graph of a sound plant is an event graph: the ends of its arcs exist, no arc enters the feed, and each other station
 -- has an arc in.
-use Rattle.std.proofs.Common.{◌≡◌, ◌≢◌, ℕ, zero, suc, ◌+◌, ◌-◌, ◌<◌, ◌≤◌, Bool, true, false, cond, eqb, List, [], ◌∷◌, ◌++◌, length, get_or, map, Option, None, Some, inl, inr, ◌⊎◌, refl, sym, ap, ◌∙◌, subst, not, arith}
-use Rattle.std.specs.List.{All, Contains, flat_map, list_any}
+use Rattle.std.proofs.Common.{◌≡◌, ℕ, zero, suc, ◌+◌, ◌-◌, ◌<◌, ◌≤◌, Bool, true, false, cond, eqb, [], ◌∷◌, ◌++◌, length, get_or, Option, None, Some, inl, inr, refl, sym, ap, ◌∙◌, subst, arith}
+use Rattle.std.specs.List.{Contains, flat_map, list_any}
 use Rattle.std.specs.Option.{option_map_or}
-use Rattle.std.proofs.lemmas.Bool.{cases_lt, cases_Bool, eq-eqb, eqb-true, not-false}
+use Rattle.std.proofs.lemmas.Bool.{cases_lt, eq-eqb, eqb-true, not-false}
 use Rattle.std.proofs.lemmas.List.{get_or-map, get_or_default}
 use Rattle.std.proofs.lemmas.List.Folds.{Any-from_list_any}
 use Rattle.std.proofs.lemmas.List.Elements.{All-get_or, Contains-append_left, Contains-append_right}
 use Rattle.line_base.specs.declared.event.Arc.{Arc}
-use Rattle.line_base.specs.declared.event.Parts.{Parts}
 use Rattle.plant_model.specs.declared.plant.Policy.{Policy}
 use Rattle.plant_model.specs.declared.plant.Policy.TheVariants.{Kanban, Conwip, BaseStock, Extended}
 use Rattle.plant_model.specs.declared.plant.Stage.{Stage}
 use Rattle.plant_model.specs.declared.plant.Plant.{Plant}
-use Rattle.plant_model.specs.Line.{no_stage, stage_at, machine_at, stage_numbers, machine_numbers, release, machine_station, last_machine, deliver, station_count, next, receiver, starting, feeds, is_first}
-use Rattle.plant_model.specs.Graph.{Row, worked, plain, onward, machine_rows, stage_rows, feed_row, card_row, demand_row, line_card_row, policy_rows, loop_rows, rows, arcs_of, graph}
+use Rattle.plant_model.specs.Line.{no_stage, stage_at, machine_at, stage_numbers, machine_numbers, release, machine_station, deliver, station_count, receiver, starting, feeds, is_first}
+use Rattle.plant_model.specs.Graph.{Row, worked, plain, onward, machine_rows, stage_rows, feed_row, card_row, demand_row, line_card_row, policy_rows, loop_rows, rows, graph}
 use Rattle.plant_model.specs.Sound.{IsSound}
-use Rattle.event_graph.specs.Network.{stations, arc_count, arc, IsGraph}
+use Rattle.event_graph.specs.Network.{arc_count, arc, IsGraph}
 use Rattle.plant_model.proofs.SoundPlants.{IsSoundStage-sound}
 use Rattle.plant_model.proofs.LayoutStations.{release-next, release-all}
 use Rattle.line_graph.proofs.RowLists.{Contains-map-range, Contains-map-filter, Contains-flat_map-range, Contains-head, Contains-tail}

@@ -1,9 +1,9 @@
 -- What is read off rows in the order in which they are added: machine by machine, then stages, feed, policy and loops.
-use Rattle.std.proofs.Common.{◌≡◌, Bool, true, false, cond, eqb, ℕ, ◌+◌, ◌≤◌, List, [], ◌∷◌, ◌++◌, length, map, refl, sym, ap, ◌∙◌, arith}
+use Rattle.std.proofs.Common.{◌≡◌, Bool, true, false, cond, eqb, ℕ, ◌+◌, List, [], ◌∷◌, ◌++◌, length, map, refl, sym, ap, ◌∙◌}
 use Rattle.std.specs.List.{flat_map, range_with_len}
 use Rattle.std.proofs.lemmas.List.{append_assoc, map-append}
 use Rattle.plant_model.specs.declared.plant.Plant.{Plant}
-use Rattle.plant_model.specs.Line.{stage_at, starting, receiver, stage_numbers, machine_at, machine_station}
+use Rattle.plant_model.specs.Line.{stage_at, starting, receiver, stage_numbers, machine_station}
 use Rattle.plant_model.specs.Graph.{Row, worked, plain, onward, machine_rows, stage_rows, feed_row, policy_rows, loop_rows, rows}
 use Rattle.plant_model.proofs.RowLists.{rows_more}
 

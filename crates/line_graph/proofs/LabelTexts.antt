@@ -1,12 +1,12 @@
 -- A name is a label, and so are two names with a dot between them.
-use Rattle.std.proofs.Common.{◌≡◌, ℕ, ◌+◌, ◌<◌, ◌≤◌, Bool, true, ◌&&◌, leb, List, [], ◌∷◌, ◌++◌, length, codes, refl, sym, ap, ◌∙◌, arith, length-append}
-use Rattle.std.specs.List.{list_all, All, AllPass}
+use Rattle.std.proofs.Common.{◌≡◌, ℕ, ◌≤◌, true, leb, List, ◌++◌, length, codes, refl, ◌∙◌, arith, length-append}
+use Rattle.std.specs.List.{list_all}
 use Rattle.std.proofs.lemmas.Bool.{and_parts, and_from, leb-true, le-leb}
 use Rattle.std.proofs.lemmas.Bool.Decides.{nat_tests}
 use Rattle.std.proofs.lemmas.List.Elements.{All-weaker}
 use Rattle.std.proofs.lemmas.List.Sums.{AllPass-from_list_all, list_all-from_AllPass}
 use Rattle.std.proofs.lemmas.List.Folds.{list_all-append}
-use Rattle.line_base.specs.Text.{is_between, is_letter, is_name_byte, is_name, is_label}
+use Rattle.line_base.specs.Text.{is_between, is_name_byte, is_name, is_label}
 
 -- what a name has
 record NameHas (text : List ℕ) : Type 0 where

@@ -12,3 +12,7 @@ pub mod LabelTexts
 pub mod Joined
 pub mod PolicyDelays
 pub mod Built
+pub mod OwnTokens
+pub mod RowPairs
+pub mod CardlessPlants
+pub mod MoreCards

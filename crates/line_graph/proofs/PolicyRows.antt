@@ -1,12 +1,9 @@
 -- The rows of the plant's policy, policy by policy.
-use Rattle.std.proofs.Common.{◌≡◌, ℕ, ◌-◌, ◌<◌, true, List, length, refl, sym, subst, arith}
-use Rattle.std.specs.List.{All}
+use Rattle.std.proofs.Common.{◌≡◌, ℕ, refl, sym, subst}
 use Rattle.plant_model.specs.declared.plant.Policy.{Policy}
 use Rattle.plant_model.specs.declared.plant.Policy.TheVariants.{Kanban, Conwip, BaseStock, Extended}
 use Rattle.plant_model.specs.declared.plant.Plant.{Plant}
-use Rattle.plant_model.specs.Line.{stage_at, stage_numbers, starting, is_first}
-use Rattle.plant_model.specs.Graph.{Row, card_row, demand_row, line_card_row, policy_rows, kanban_rows, base_stock_rows, extended_rows, conwip_rows}
-use Rattle.line_graph.proofs.RowLists.{All-map-range, All-map-filter, All-flat_map-range}
+use Rattle.plant_model.specs.Graph.{policy_rows, kanban_rows, base_stock_rows, extended_rows, conwip_rows}
 
 -- the plant with this policy in its place
 abbrev with_policy : Policy → Plant → Plant

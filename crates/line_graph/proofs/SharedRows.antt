@@ -1,15 +1,15 @@
 -- Two plants that differ in their policy alone share all rows but the policy's, where their starting stocks are the same.
-use Rattle.std.proofs.Common.{◌≡◌, ℕ, zero, suc, Option, None, Some, ◌+◌, ◌-◌, ◌<◌, ◌≤◌, Bool, cond, eqb, true, List, [], ◌∷◌, ◌++◌, length, get_or, map, refl, sym, ap, ◌∙◌, subst, arith}
+use Rattle.std.proofs.Common.{◌≡◌, ℕ, zero, suc, Option, None, Some, ◌+◌, ◌-◌, ◌<◌, cond, eqb, List, [], ◌∷◌, ◌++◌, length, get_or, refl, sym, ap, ◌∙◌, subst, arith}
 use Rattle.std.specs.List.{All, Contains, flat_map, sum_by}
 use Rattle.std.specs.Option.{option_map_or}
 use Rattle.std.proofs.lemmas.List.{length-map, get_or-map}
-use Rattle.std.proofs.lemmas.List.Elements.{All-contains, All-nil, All-head, All-tail, Contains-append_right}
+use Rattle.std.proofs.lemmas.List.Elements.{All-contains, All-head, All-tail, Contains-append_right}
 use Rattle.std.proofs.lemmas.List.Sums.{sum_by-cons}
 use Rattle.plant_model.specs.declared.plant.Policy.{Policy}
 use Rattle.plant_model.specs.declared.plant.Policy.TheVariants.{Kanban, BaseStock, Extended}
 use Rattle.plant_model.specs.declared.plant.CardLoop.{CardLoop}
 use Rattle.plant_model.specs.declared.plant.Plant.{Plant}
-use Rattle.plant_model.specs.Line.{next, path_within, stage_at, machine_at, stage_numbers, machine_numbers, release, machine_station, receiver, starting, path, up_to, stock_between}
+use Rattle.plant_model.specs.Line.{next, path_within, stage_at, stage_numbers, machine_numbers, release, machine_station, receiver, starting, path, up_to, stock_between}
 use Rattle.plant_model.specs.Graph.{Row, worked, plain, onward, machine_rows, stage_rows, feed_row, card_row, demand_row, loop_row, policy_rows, loop_rows, rows}
 use Rattle.plant_model.specs.Sound.{IsSound}
 use Rattle.plant_model.proofs.SoundPlants.{IsSoundLoop-sound}
@@ -17,7 +17,7 @@ use Rattle.plant_model.proofs.LayoutPaths.{path-stages, All-up_to}
 use Rattle.line_graph.specs.Laws.{under}
 use Rattle.line_graph.proofs.RowLists.{Contains-map-range, Contains-flat_map-range, Contains-head, Contains-tail}
 use Rattle.line_graph.proofs.PolicyRows.{policy_rows-kanban, policy_rows-base_stock, policy_rows-extended}
-use Rattle.line_graph.proofs.GraphRows.{EachPolicyRow, EachStageRow, EachRow, All-rows}
+use Rattle.line_graph.proofs.GraphRows.{EachPolicyRow, All-rows}
 use Rattle.line_graph.proofs.Inputs.{in_stages, in_machines, in_feed, in_policy}
 
 -- the rows of the loops, and of three policies, stand among all
@@ -58,7 +58,7 @@ abbrev pub StartAlike : Plant → Plant → Type 0
 StartAlike p q = (i : ℕ) → i < length p.stages → starting p i ≡ starting q i
 
 -- a sum of what is the same at each element is the same
-sum_by-alike : (f g : ℕ → ℕ) (is : List ℕ) → All (λ i. f i ≡ g i) is → sum_by f is ≡ sum_by g is
+pub sum_by-alike : (f g : ℕ → ℕ) (is : List ℕ) → All (λ i. f i ≡ g i) is → sum_by f is ≡ sum_by g is
 sum_by-alike f g [] h = refl
 sum_by-alike f g (i ∷ is) h =
     let head = All-head (λ j. f j ≡ g j) i is h in

@@ -1,26 +1,25 @@
 -- How many stations and arcs a plant's graph has, and that its lists are of one length.
-use Rattle.std.proofs.Common.{codes, ◌≡◌, ℕ, zero, suc, ◌+◌, ◌-◌, ◌*◌, ◌<◌, ◌≤◌, List, [], ◌∷◌, ◌++◌, length, get_or, take, map, refl, sym, ap, ◌∙◌, subst, arith}
-use Rattle.std.specs.List.{flat_map, range_with_len, filter, sum_by, count_by}
+use Rattle.std.proofs.Common.{codes, ◌≡◌, ℕ, zero, suc, ◌+◌, ◌-◌, ◌*◌, ◌≤◌, List, [], ◌∷◌, ◌++◌, length, take, refl, sym, ap, ◌∙◌, subst, arith}
+use Rattle.std.specs.List.{flat_map, range_with_len, filter, sum_by}
 use Rattle.std.proofs.lemmas.List.{length-append, length-map, take_all}
 use Rattle.std.proofs.lemmas.List.FromFn.{length-map-range_with_len, length-range_with_len}
 use Rattle.std.proofs.lemmas.List.Concat.{length-flat_map}
-use Rattle.std.proofs.lemmas.List.Sums.{sum_by_more, sum_by-cons, sum_by-le-sum_by, length-filter, count_by-le-length}
+use Rattle.std.proofs.lemmas.List.Sums.{sum_by_more, sum_by-le-sum_by, length-filter, count_by-le-length}
 use Rattle.line_base.specs.declared.times.Times.TheVariants.{Fixed}
-use Rattle.line_base.specs.declared.event.Parts.{Parts}
 use Rattle.plant_model.specs.declared.plant.Policy.{Policy}
 use Rattle.plant_model.specs.declared.plant.Policy.TheVariants.{Kanban, Conwip, BaseStock, Extended}
 use Rattle.plant_model.specs.declared.plant.Stage.{Stage}
 use Rattle.plant_model.specs.declared.plant.Plant.{Plant}
 use Rattle.plant_model.specs.Line.{no_stage, stage_at, stage_numbers, stations_of, station_count, starting, is_first}
-use Rattle.plant_model.specs.Graph.{Row, machine_rows, stage_rows, feed_row, card_row, demand_row, line_card_row, loop_row, policy_rows, loop_rows, rows, arcs_of, delays_of, stage_labels, labels, stage_times, times, graph}
+use Rattle.plant_model.specs.Graph.{machine_rows, stage_rows, feed_row, card_row, demand_row, line_card_row, loop_row, policy_rows, loop_rows, rows, stage_labels, labels, stage_times, times, graph}
 use Rattle.plant_model.specs.Sound.{IsSound}
-use Rattle.event_graph.specs.Network.{stations, jobs, arc_count}
+use Rattle.event_graph.specs.Network.{stations, arc_count}
 use Rattle.plant_model.proofs.SoundPlants.{HasSoundSizes-sound}
 use Rattle.plant_model.proofs.RowLists.{flat_map-range_more}
 use Rattle.line_graph.proofs.PolicyRows.{policy_rows-kanban, policy_rows-base_stock, policy_rows-extended, policy_rows-conwip}
 
 -- two sums of the same terms are the same
-sum_by-same : {X : Type 0} (f g : X → ℕ) (xs : List X) → ((x : X) → f x ≡ g x) → sum_by f xs ≡ sum_by g xs
+pub sum_by-same : {X : Type 0} (f g : X → ℕ) (xs : List X) → ((x : X) → f x ≡ g x) → sum_by f xs ≡ sum_by g xs
 sum_by-same f g xs h =
     let up = sum_by-le-sum_by f g xs (λ x. let e = h x in omega arith) in
     let down = sum_by-le-sum_by g f xs (λ x. let e = h x in omega arith) in

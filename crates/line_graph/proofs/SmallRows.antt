@@ -1,18 +1,17 @@
 -- Each row of a sound plant's graph joins two of its stations, enters no feed, and is within the limits.
-use Rattle.std.proofs.Common.{◌≡◌, ℕ, ◌+◌, ◌-◌, ◌<◌, ◌≤◌, true, false, eqb, List, length, get_or, arith}
-use Rattle.std.proofs.lemmas.Bool.{cond_both, eqb-true, eqb-false}
+use Rattle.std.proofs.Common.{ℕ, ◌+◌, ◌<◌, ◌≤◌, eqb, length, get_or, arith}
+use Rattle.std.proofs.lemmas.Bool.{cond_both, eqb-false}
 use Rattle.line_base.specs.declared.limits.TheConstants.{MAX_CARDS, MAX_TIME}
-use Rattle.plant_model.specs.declared.plant.Policy.TheVariants.{Kanban, Conwip, BaseStock, Extended}
 use Rattle.plant_model.specs.declared.plant.CardLoop.{CardLoop}
 use Rattle.plant_model.specs.declared.plant.Plant.{Plant}
-use Rattle.plant_model.specs.Line.{stage_at, machine_at, release, machine_station, last_machine, deliver, station_count, receiver, starting, is_first, line_cards}
-use Rattle.plant_model.specs.Graph.{Row, worked, plain, onward, feed_row, card_row, demand_row, line_card_row, loop_row, rows}
+use Rattle.plant_model.specs.Line.{stage_at, machine_station, station_count, receiver, starting}
+use Rattle.plant_model.specs.Graph.{Row, worked, plain, onward, card_row, demand_row, line_card_row, loop_row, rows}
 use Rattle.plant_model.specs.Sound.{IsSound}
 use Rattle.std.specs.List.{All}
 use Rattle.plant_model.proofs.SoundPlants.{HasSoundSizes-sound, IsSoundStage-sound, IsSoundMachine-sound, IsSoundLoop-sound}
 use Rattle.plant_model.proofs.LayoutStations.{last_machine-below, release-below, receiver-above}
 use Rattle.plant_model.proofs.LayoutPaths.{starting-le, is_downstream-exists}
-use Rattle.line_graph.proofs.GraphRows.{EachPolicyRow, EachStageRow, EachRow, All-rows}
+use Rattle.line_graph.proofs.GraphRows.{EachPolicyRow, EachStageRow, All-rows}
 
 pub record IsSmallRow (p : Plant) (r : Row) : Type 0 where
   pub from : r.arc.from < station_count p

@@ -1,8 +1,8 @@
 -- A table solves a plant's graph exactly where it has the demand dates and meets each row.
-use Rattle.std.proofs.Common.{◌≡◌, ℕ, ◌+◌, ◌-◌, ◌<◌, ◌≤◌, Bool, cond, nat_lt, List, length, get_or, map, refl, sym, ap, ◌∙◌, subst, arith}
+use Rattle.std.proofs.Common.{◌≡◌, ℕ, ◌+◌, ◌-◌, ◌<◌, ◌≤◌, nat_lt, List, length, get_or, refl, sym, ap, ◌∙◌, subst}
 use Rattle.std.specs.Prelude.{if◌then◌else◌, slice_index_or}
 use Rattle.std.specs.List.{All}
-use Rattle.std.proofs.lemmas.List.{get_or-map, get_or_default}
+use Rattle.std.proofs.lemmas.List.{get_or-map}
 use Rattle.std.proofs.lemmas.List.Elements.{All-from_get_or, All-get_or}
 use Rattle.line_base.specs.declared.event.Arc.{Arc}
 use Rattle.line_base.specs.declared.event.Parts.{Parts}
@@ -11,7 +11,7 @@ use Rattle.line_base.specs.declared.times.Times.TheVariants.{Fixed}
 use Rattle.line_base.specs.Times.{time_at}
 use Rattle.plant_model.specs.declared.plant.Plant.{Plant}
 use Rattle.plant_model.specs.Graph.{Row, feed_row, rows, times, graph}
-use Rattle.event_graph.specs.Network.{jobs, arc_count, arc, time, demand, delay}
+use Rattle.event_graph.specs.Network.{jobs, arc, time, demand, delay}
 use Rattle.event_graph.specs.Table.{Table}
 use Rattle.event_graph.specs.Term.{work, term}
 use Rattle.event_graph.specs.Solves.{Solves}

@@ -1,21 +1,18 @@
 -- The graph of a sound plant is within the limits of event graphs.
-use Rattle.std.proofs.Common.{◌≡◌, ℕ, zero, suc, ◌+◌, ◌*◌, ◌<◌, ◌≤◌, List, [], ◌∷◌, ◌++◌, length, get_or, map, refl, sym, ap, ◌∙◌, subst, add-one, arith}
-use Rattle.std.specs.List.{All, flat_map, AllAdjacentBelow}
+use Rattle.std.proofs.Common.{ℕ, suc, ◌+◌, ◌<◌, ◌≤◌, List, [], ◌∷◌, length, get_or, sym, ◌∙◌, add-one, arith}
+use Rattle.std.specs.List.{All, flat_map}
 use Rattle.std.specs.List.Sorted.{IsNonDecreasing}
 use Rattle.std.proofs.lemmas.List.{get_or_default}
-use Rattle.std.proofs.lemmas.List.Elements.{All-nil, All-cons, All-append, All-map, All-weaker, All-from_get_or, All-get_or}
+use Rattle.std.proofs.lemmas.List.Elements.{All-nil, All-cons, All-append, All-map, All-weaker, All-from_get_or}
 use Rattle.std.proofs.lemmas.List.Sorted.{IsNonDecreasingBy-from_all_adjacent}
-use Rattle.line_base.specs.declared.limits.TheConstants.{MAX_STATIONS, MAX_DEMANDS, MAX_TABLE, MAX_ARCS, MAX_CARDS, MAX_TIME, MAX_DEMAND_DATE}
+use Rattle.line_base.specs.declared.limits.TheConstants.{MAX_CARDS, MAX_TIME, MAX_DEMAND_DATE}
 use Rattle.line_base.specs.declared.times.Times.{Times}
 use Rattle.line_base.specs.declared.times.Times.TheVariants.{Fixed, Each}
-use Rattle.line_base.specs.declared.event.Parts.{Parts}
-use Rattle.plant_model.specs.declared.plant.Machine.{Machine}
 use Rattle.plant_model.specs.declared.plant.Stage.{Stage}
 use Rattle.plant_model.specs.declared.plant.Plant.{Plant}
-use Rattle.plant_model.specs.Line.{no_stage, no_machine, stage_at, machine_at, station_count}
-use Rattle.plant_model.specs.Graph.{Row, rows, arcs_of, delays_of, stage_times, times, graph}
+use Rattle.plant_model.specs.Line.{no_stage, no_machine, stage_at, machine_at}
+use Rattle.plant_model.specs.Graph.{rows, stage_times, times, graph}
 use Rattle.plant_model.specs.Sound.{IsSound}
-use Rattle.event_graph.specs.Network.{stations, jobs, arc_count}
 use Rattle.event_graph.specs.Limits.{AreTimesFor, IsWithinLimits}
 use Rattle.plant_model.proofs.SoundPlants.{AreSoundTimes, HasSoundSizes-sound, IsSoundMachine-sound}
 use Rattle.line_graph.proofs.Sizes.{stations-graph, arc_count-graph, length-times, length-delays, few_arcs}

@@ -6,9 +6,9 @@ mod delays;
 mod graph;
 mod labels;
 mod laws;
-#[cfg(test)]
-mod tests;
 mod times;
 
 pub use graph::graph_of;
-pub use laws::{extended_is_base_stock, extended_is_kanban};
+pub use laws::{
+    extended_is_base_stock, extended_is_kanban, more_cards_never_later, plants_keep_lists_in_order,
+};

@@ -1,7 +1,7 @@
 -- Bytes that are given to a sink and the buffer before it, one part after another.
 use Rattle.std.proofs.Common.{◌≡◌, ◌≤◌, ℕ, List, [], ◌++◌, Bool, true, false, Result, Ok, Err, OnOk, OnErr, is_err, refl, sym, ap, ◌∙◌, append_assoc, append-nil, arith}
 use Rattle.std.proofs.lemmas.Bool.{false≢true}
-use Rattle.line_io.specs.Written.{PutsAll, PutsFront}
+use Rattle.line_io.specs.SinkView.{SinkView, PutsAll, PutsFront}
 use Rattle.line_io.specs.Faults.{Rose}
 use Rattle.line_io.specs.Outgoing.{Stream, Pushed}
 use Rattle.line_io.proofs.WrittenLemmas.{puts_none, puts_all_after}
@@ -15,49 +15,49 @@ pub rose_after : (a b c : ℕ) → a ≤ b → Rose b c → Rose a c
 rose_after a b c earlier rose = omega arith
 
 -- a part after a part, where the sink had not failed between them
-pushed_after_well : {tells : Bool} {a b c : Stream} {xs ys : List ℕ} → Pushed tells a b xs → Pushed tells b c ys → b.failed ≡ false → Pushed tells a c (xs ++ ys)
-pushed_after_well {tells} {a} {b} {c} {xs} {ys} p q well = record {
+pushed_after_well : {a b c : Stream} {xs ys : List ℕ} → Pushed a b xs → Pushed b c ys → b.failed ≡ false → Pushed a c (xs ++ ys)
+pushed_after_well {a} {b} {c} {xs} {ys} p q well = record {
   sent = p.sent ++ q.sent;
   rest = q.rest;
   split = λ ok.
       let first : a.pending ++ xs ≡ p.sent ++ b.pending = p.split ok ∙ ap (λ r. p.sent ++ r) (sym (p.waits well)) in
       sym (append_assoc a.pending xs ys) ∙ ap (λ l. l ++ ys) first ∙ append_assoc p.sent b.pending ys ∙ ap (λ l. p.sent ++ l) (q.split well) ∙ sym (append_assoc p.sent q.sent q.rest);
-  puts = puts_all_after tells a.written b.written c.written p.sent q.sent p.puts q.puts;
+  puts = puts_all_after a.sink.written b.sink.written c.sink.written p.sent q.sent p.puts q.puts;
   waits = q.waits;
-  cause = λ ok bad. rose_after a.faults b.faults c.faults p.faults_stay_or_rise (q.cause well bad);
+  cause = λ ok bad. rose_after a.sink.faults b.sink.faults c.sink.faults p.faults_stay_or_rise (q.cause well bad);
   latched = λ bad. absurd (false≢true (sym well ∙ (p.latched bad).0));
   faults_stay_or_rise = omega arith;
 }
 
 -- and where it had
-pushed_after_fault : {tells : Bool} {a b c : Stream} {xs ys : List ℕ} → Pushed tells a b xs → Pushed tells b c ys → b.failed ≡ true → Pushed tells a c (xs ++ ys)
-pushed_after_fault {tells} {a} {b} {c} {xs} {ys} p q bad =
+pushed_after_fault : {a b c : Stream} {xs ys : List ℕ} → Pushed a b xs → Pushed b c ys → b.failed ≡ true → Pushed a c (xs ++ ys)
+pushed_after_fault {a} {b} {c} {xs} {ys} p q bad =
     let none : q.sent ≡ [] = (q.latched bad).1 in
     let same : p.sent ++ q.sent ≡ p.sent = ap (λ l. p.sent ++ l) none ∙ append-nil p.sent in
     record {
       sent = p.sent ++ q.sent;
       rest = p.rest ++ ys;
       split = λ ok. rw same (sym (append_assoc a.pending xs ys) ∙ ap (λ l. l ++ ys) (p.split ok) ∙ append_assoc p.sent p.rest ys);
-      puts = puts_all_after tells a.written b.written c.written p.sent q.sent p.puts q.puts;
+      puts = puts_all_after a.sink.written b.sink.written c.sink.written p.sent q.sent p.puts q.puts;
       waits = λ ok. absurd (false≢true (sym ok ∙ (q.latched bad).0));
-      cause = λ ok _. rose_then a.faults b.faults c.faults (p.cause ok bad) q.faults_stay_or_rise;
+      cause = λ ok _. rose_then a.sink.faults b.sink.faults c.sink.faults (p.cause ok bad) q.faults_stay_or_rise;
       latched = λ before. ((q.latched bad).0, same ∙ (p.latched before).1);
       faults_stay_or_rise = omega arith;
     }
 
 -- one part after another
-pub pushed_after : {tells : Bool} {a b c : Stream} {xs ys : List ℕ} → Pushed tells a b xs → Pushed tells b c ys → Pushed tells a c (xs ++ ys)
-pushed_after {tells} {a} {b} {c} {xs} {ys} p q =
-    let by_case : (v : Bool) → b.failed ≡ v → Pushed tells a c (xs ++ ys) = λ v. elim v as (λ w. b.failed ≡ w → Pushed tells a c (xs ++ ys)) [ true ↦ pushed_after_fault p q | false ↦ pushed_after_well p q ] in
+pub pushed_after : {a b c : Stream} {xs ys : List ℕ} → Pushed a b xs → Pushed b c ys → Pushed a c (xs ++ ys)
+pushed_after {a} {b} {c} {xs} {ys} p q =
+    let by_case : (v : Bool) → b.failed ≡ v → Pushed a c (xs ++ ys) = λ v. elim v as (λ w. b.failed ≡ w → Pushed a c (xs ++ ys)) [ true ↦ pushed_after_fault p q | false ↦ pushed_after_well p q ] in
     by_case b.failed refl
 
 -- nothing was given, and nothing happened
-pub pushed_none : (tells : Bool) (a : Stream) → Pushed tells a a []
-pushed_none tells a = record {
+pub pushed_none : (a : Stream) → Pushed a a []
+pushed_none a = record {
   sent = [];
   rest = a.pending;
   split = λ _. append-nil a.pending;
-  puts = puts_none tells a.written;
+  puts = puts_none a.sink.written;
   waits = λ _. refl;
   cause = λ ok bad. absurd (false≢true (sym ok ∙ bad));
   latched = λ bad. (bad, refl);
@@ -65,12 +65,12 @@ pushed_none tells a = record {
 }
 
 -- a stream that has failed drops what waits
-pub pushed_dropped : (tells : Bool) (written : List ℕ) (faults : ℕ) (pending later : List ℕ) → Pushed tells (record { written = written; faults = faults; pending = pending; failed = true }) (record { written = written; faults = faults; pending = later; failed = true }) []
-pushed_dropped tells written faults pending later = record {
+pub pushed_dropped : (sink : SinkView) (pending later : List ℕ) → Pushed (record { sink = sink; pending = pending; failed = true }) (record { sink = sink; pending = later; failed = true }) []
+pushed_dropped sink pending later = record {
   sent = [];
   rest = [];
   split = λ ok. absurd (false≢true (sym ok));
-  puts = puts_none tells written;
+  puts = puts_none sink.written;
   waits = λ ok. absurd (false≢true (sym ok));
   cause = λ ok _. absurd (false≢true (sym ok));
   latched = λ _. (refl, refl);
@@ -78,8 +78,8 @@ pushed_dropped tells written faults pending later = record {
 }
 
 -- a front of what waits is sent, and the sink answers
-pub pushed_sent : {T E : Type 0} (tells : Bool) (old new : List ℕ) (before now : ℕ) (pending front rest : List ℕ) (r : Result T E) → pending ≡ front ++ rest → OnOk r (PutsAll tells old new front) → OnErr r (PutsFront tells old new front) → OnErr r (Rose before now) → before ≤ now → Pushed tells (record { written = old; faults = before; pending = pending; failed = false }) (record { written = new; faults = now; pending = rest; failed = is_err r }) []
-pushed_sent tells old new before now pending front rest (Ok x) split all some cause later = record {
+pub pushed_sent : {T E : Type 0} (old new : SinkView) (pending front rest : List ℕ) (r : Result T E) → pending ≡ front ++ rest → OnOk r (PutsAll old new front) → OnErr r (PutsFront old new front) → OnErr r (Rose old.faults new.faults) → old.faults ≤ new.faults → Pushed (record { sink = old; pending = pending; failed = false }) (record { sink = new; pending = rest; failed = is_err r }) []
+pushed_sent old new pending front rest (Ok x) split all some cause later = record {
   sent = front;
   rest = rest;
   split = λ _. append-nil pending ∙ split;
@@ -89,7 +89,7 @@ pushed_sent tells old new before now pending front rest (Ok x) split all some ca
   latched = λ bad. absurd (false≢true bad);
   faults_stay_or_rise = later;
 }
-pushed_sent tells old new before now pending front rest (Err e) split all some cause later = record {
+pushed_sent old new pending front rest (Err e) split all some cause later = record {
   sent = some.0;
   rest = some.1 ++ rest;
   split = λ _. append-nil pending ∙ split ∙ ap (λ l. l ++ rest) some.2 ∙ append_assoc some.0 some.1 rest;
@@ -101,12 +101,12 @@ pushed_sent tells old new before now pending front rest (Err e) split all some c
 }
 
 -- a part is held, and the sink has no part in it
-pub pushed_held : (tells : Bool) (written : List ℕ) (faults : ℕ) (pending part : List ℕ) (failed : Bool) → Pushed tells (record { written = written; faults = faults; pending = pending; failed = failed }) (record { written = written; faults = faults; pending = pending ++ part; failed = failed }) part
-pushed_held tells written faults pending part failed = record {
+pub pushed_held : (sink : SinkView) (pending part : List ℕ) (failed : Bool) → Pushed (record { sink = sink; pending = pending; failed = failed }) (record { sink = sink; pending = pending ++ part; failed = failed }) part
+pushed_held sink pending part failed = record {
   sent = [];
   rest = pending ++ part;
   split = λ _. refl;
-  puts = puts_none tells written;
+  puts = puts_none sink.written;
   waits = λ _. refl;
   cause = λ ok bad. absurd (false≢true (sym ok ∙ bad));
   latched = λ bad. (bad, refl);
@@ -114,37 +114,37 @@ pushed_held tells written faults pending part failed = record {
 }
 
 -- what waits is sent after a text
-pub pushed_then_none : {tells : Bool} {a b c : Stream} {text : List ℕ} → Pushed tells a b text → Pushed tells b c [] → Pushed tells a c text
+pub pushed_then_none : {a b c : Stream} {text : List ℕ} → Pushed a b text → Pushed b c [] → Pushed a c text
 pushed_then_none {text = text} p q = rw append-nil at (pushed_after p q)
 
 -- From here on a stream began with nothing waiting and no fault, took a text, and ended by `finish`, which
 -- answered r. At `Ok` the whole text was written
-pub put_on_ok : {T E : Type 0} {tells : Bool} {a b : Stream} {text : List ℕ} (new : List ℕ) (now : ℕ) (r : Result T E) → a.pending ≡ [] → a.failed ≡ false → Pushed tells a b text → Pushed tells b (record { written = new; faults = now; pending = []; failed = is_err r }) [] → OnOk r (PutsAll tells a.written new text)
-put_on_ok {text = text} new now (Ok x) none well p q = λ told.
+pub put_on_ok : {T E : Type 0} {a b : Stream} {text : List ℕ} (new : SinkView) (r : Result T E) → a.pending ≡ [] → a.failed ≡ false → Pushed a b text → Pushed b (record { sink = new; pending = []; failed = is_err r }) [] → OnOk r (PutsAll a.sink new text)
+put_on_ok {text = text} new (Ok x) none well p q =
     let end = pushed_then_none p q in
     let split : text ≡ end.sent ++ end.rest = ap (λ l. l ++ text) (sym none) ∙ end.split well in
     let whole : text ≡ end.sent = split ∙ ap (λ l. end.sent ++ l) (sym (end.waits refl)) ∙ append-nil end.sent in
-    rw whole (end.puts told)
-put_on_ok new now (Err e) none well p q = tt
+    rw whole end.puts
+put_on_ok new (Err e) none well p q = tt
 
 -- at `Err` a front of it
-pub front_on_err : {T E : Type 0} {tells : Bool} {a b : Stream} {text : List ℕ} (new : List ℕ) (now : ℕ) (r : Result T E) → a.pending ≡ [] → a.failed ≡ false → Pushed tells a b text → Pushed tells b (record { written = new; faults = now; pending = []; failed = is_err r }) [] → OnErr r (PutsFront tells a.written new text)
-front_on_err new now (Ok x) none well p q = tt
-front_on_err {text = text} new now (Err e) none well p q =
+pub front_on_err : {T E : Type 0} {a b : Stream} {text : List ℕ} (new : SinkView) (r : Result T E) → a.pending ≡ [] → a.failed ≡ false → Pushed a b text → Pushed b (record { sink = new; pending = []; failed = is_err r }) [] → OnErr r (PutsFront a.sink new text)
+front_on_err new (Ok x) none well p q = tt
+front_on_err {text = text} new (Err e) none well p q =
     let end = pushed_then_none p q in
     let split : text ≡ end.sent ++ end.rest = ap (λ l. l ++ text) (sym none) ∙ end.split well in
     (end.sent, end.rest, split, end.puts)
 
 -- and the sink's count of faults rose
-pub cause_on_err : {T E : Type 0} {tells : Bool} {a b : Stream} {text : List ℕ} (new : List ℕ) (now : ℕ) (r : Result T E) → a.failed ≡ false → Pushed tells a b text → Pushed tells b (record { written = new; faults = now; pending = []; failed = is_err r }) [] → OnErr r (Rose a.faults now)
-cause_on_err new now (Ok x) well p q = tt
-cause_on_err new now (Err e) well p q = (pushed_then_none p q).cause well refl
+pub cause_on_err : {T E : Type 0} {a b : Stream} {text : List ℕ} (new : SinkView) (r : Result T E) → a.failed ≡ false → Pushed a b text → Pushed b (record { sink = new; pending = []; failed = is_err r }) [] → OnErr r (Rose a.sink.faults new.faults)
+cause_on_err new (Ok x) well p q = tt
+cause_on_err new (Err e) well p q = (pushed_then_none p q).cause well refl
 
 -- a part is held, and then pieces that are full are sent
-pub pushed_part : {tells : Bool} {c : Stream} (written : List ℕ) (faults : ℕ) (pending part held : List ℕ) (failed : Bool) → held ≡ pending ++ part → Pushed tells (record { written = written; faults = faults; pending = held; failed = failed }) c [] → Pushed tells (record { written = written; faults = faults; pending = pending; failed = failed }) c part
-pushed_part {tells} {c} written faults pending part held failed is sent =
-    let between : Stream = record { written = written; faults = faults; pending = held; failed = failed } in
-    let holds : Pushed tells (record { written = written; faults = faults; pending = pending; failed = failed }) between part =
-    rw is (pushed_held tells written faults pending part failed)
+pub pushed_part : {c : Stream} (sink : SinkView) (pending part held : List ℕ) (failed : Bool) → held ≡ pending ++ part → Pushed (record { sink = sink; pending = held; failed = failed }) c [] → Pushed (record { sink = sink; pending = pending; failed = failed }) c part
+pushed_part {c} sink pending part held failed is sent =
+    let between : Stream = record { sink = sink; pending = held; failed = failed } in
+    let holds : Pushed (record { sink = sink; pending = pending; failed = failed }) between part =
+    rw is (pushed_held sink pending part failed)
     in
     pushed_then_none {b = between} holds sent

@@ -1,6 +1,9 @@
+pub mod Calls
 pub mod Contents
 pub mod Faults
 pub mod Held
-pub mod MemSink
+pub mod Left
+pub mod Memory
 pub mod Outgoing
-pub mod Written
+pub mod SinkView
+pub mod StoreView

@@ -1,7 +1,7 @@
 -- What a sink and the buffer before it did with the bytes that they got, for callers of `Outgoing`.
 use Rattle.std.specs.Prelude.{◌≡◌, ℕ, ◌≤◌, List, [], ◌++◌, Bool, true, false}
-use Rattle.line_io.specs.Written.{PutsAll}
 use Rattle.line_io.specs.Faults.{Rose}
+use Rattle.line_io.specs.SinkView.{SinkView, PutsAll}
 
 -- the bytes that wait for the sink, and whether it has failed
 pub record Pending : Type 0 where
@@ -10,15 +10,13 @@ pub record Pending : Type 0 where
 
 -- a sink and the bytes that wait for it
 pub record Stream : Type 0 where
-  pub written : List ℕ
-  pub faults : ℕ
+  pub sink : SinkView
   pub pending : List ℕ
   pub failed : Bool
 
--- a sink, read by its two ghost members, with a buffer before it
-abbrev pub stream : {S : Type 0} → (S → List ℕ) → (S → ℕ) → S → Pending → Stream
-stream written faults sink out =
-    record { written = written sink; faults = faults sink; pending = out.bytes; failed = out.failed }
+-- a sink with a buffer before it
+abbrev pub stream : SinkView → Pending → Stream
+stream sink out = record { sink = sink; pending = out.bytes; failed = out.failed }
 
 -- these bytes wait, and the sink has failed or not
 abbrev pub waiting : List ℕ → Bool → Pending
@@ -30,12 +28,12 @@ emptied failed = waiting [] failed
 
 -- Bytes were given to a stream. A front of what waited and of them was sent, and the rest waits,
 -- until the sink fails; from then on nothing more is sent.
-pub record Pushed (tells : Bool) (old new : Stream) (bytes : List ℕ) : Type 0 where
+pub record Pushed (old new : Stream) (bytes : List ℕ) : Type 0 where
   pub sent : List ℕ
   pub rest : List ℕ
   pub split : old.failed ≡ false → old.pending ++ bytes ≡ sent ++ rest
-  pub puts : PutsAll tells old.written new.written sent
+  pub puts : PutsAll old.sink new.sink sent
   pub waits : new.failed ≡ false → new.pending ≡ rest
-  pub cause : old.failed ≡ false → new.failed ≡ true → Rose old.faults new.faults
+  pub cause : old.failed ≡ false → new.failed ≡ true → Rose old.sink.faults new.sink.faults
   pub latched : old.failed ≡ true → (new.failed ≡ true) × (sent ≡ [])
-  pub faults_stay_or_rise : old.faults ≤ new.faults
+  pub faults_stay_or_rise : old.sink.faults ≤ new.sink.faults

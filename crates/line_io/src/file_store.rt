@@ -1,6 +1,8 @@
-ghost use Rattle.std.specs.Prelude.{◌≡◌, ◌<◌, ◌≤◌, ◌↔◌, ◌+◌, ◌-◌, ◌^◌, min, length, Ok, IfOk, IfErr, OnOk, OnErr, IsErrOf};
+ghost use Rattle.std.specs.Prelude.{◌≡◌, ◌<◌, ◌≤◌, ◌↔◌, ◌+◌, ◌-◌, ◌^◌, min, length, Ok, IfOk, IfSome, IfErr, OnOk, OnErr, IsErrOf};
+ghost use Rattle.line_io.specs.Calls.{none_asked};
 ghost use Rattle.line_io.specs.Faults.{Rose};
 
+use crate::calls::Calls;
 use crate::store::{Store, StoreError};
 use std::alloc::Global;
 use std::io::Read;
@@ -11,12 +13,13 @@ use std::{fs, io};
 const MAX_TURN: usize = 16_384;
 
 /// The files of the machine, by their paths from the folder in which the program runs. What they
-/// hold is not told, and one count of faults serves every name and both kinds of call.
+/// hold is told only of what was read, and one count of faults serves every name and both kinds of call.
 #[derive(Drop)]
 pub struct FileStore<R: Files + Drop> {
     rt: R,
     faults: u64,
     taken: u64,
+    calls: Calls,
 }
 
 impl<R: Files + Drop> FileStore<R> {
@@ -25,11 +28,13 @@ impl<R: Files + Drop> FileStore<R> {
         ensures opens { result.rt ≡ rt }
         ensures no_fault { result.faults ≡ 0 }
         ensures nothing_taken { result.taken ≡ 0 }
+        ensures nothing_asked { result.calls.asked ≡ none_asked }
     {
         FileStore {
             rt,
             faults: 0,
             taken: 0,
+            calls: Calls::new(),
         }
     }
 }
@@ -51,15 +56,17 @@ fn counted<T: Drop>(answer: io::Result<T>, faults: &mut u64) -> Result<T, StoreE
     }
 }
 
-// Reads to the end, to an error, or until limit + 1 bytes were taken, and counts the bytes taken.
-fn read_to_limit(
+// Reads to the end, to an error, or until limit + 1 bytes were taken, and counts the bytes taken. The bytes are all that
+// the reader had left.
+fn read_to_limit<R: Read>(
     alloc: Global,
-    file: &mut impl Read,
+    file: &mut R,
     limit: u64,
     taken: &mut u64,
     faults: &mut u64,
 ) -> Result<Vec<u8>, StoreError>
     requires { taken.old ≡ 0 }
+    ensures bytes { IfOk result (λ v. IfSome (R.remaining file.old) (λ left. v.items ≡ left)) }
     ensures within_limit { IfOk result (λ v. length v.items ≤ limit) }
     ensures took_them { IfOk result (λ v. taken.new ≡ length v.items) }
     ensures too_long { IsErrOf result StoreError.TooLong ↔ (limit < taken.new) }
@@ -88,21 +95,33 @@ impl<R: Files + Drop> Store for FileStore<R> {
 
     ghost tells = { false };
 
-    ghost files = { λ _ _. None };
-
-    ghost read_faults = { λ store _. store.faults };
-
-    ghost write_faults = { λ store _. store.faults };
-
-    ghost taken = { λ store. store.taken };
+    ghost shown = { λ store. record {
+      files = λ _. None;
+      read_faults = λ _. store.faults;
+      write_faults = λ _. store.faults;
+      taken = store.taken;
+      asked = store.calls.asked;
+    } };
 
     fn read(&mut self, alloc: Global, name: &str, limit: u64) -> Result<Vec<u8>, StoreError> {
         self.taken = 0;
-        let mut file = counted(fs::open(&self.rt, name), &mut self.faults)?;
-        read_to_limit(alloc, &mut file, limit, &mut self.taken, &mut self.faults)
+        match counted(fs::open(&self.rt, name), &mut self.faults) {
+            Ok(mut file) => {
+                let answer = read_to_limit(
+                    alloc,
+                    &mut file,
+                    limit,
+                    &mut self.taken,
+                    &mut self.faults,
+                );
+                self.calls.note_read(name, answer)
+            }
+            Err(error) => self.calls.note_read(name, Err(error)),
+        }
     }
 
     fn write(&mut self, name: &str, bytes: &[u8]) -> Result<(), StoreError> {
-        counted(fs::write(&self.rt, name, bytes), &mut self.faults)
+        let answer = counted(fs::write(&self.rt, name, bytes), &mut self.faults);
+        self.calls.note_write(name, bytes, answer)
     }
 }

@@ -1,6 +1,7 @@
 //! The outside as the program sees it: a store of files by name, and a sink for what is printed.
 #![tactic(auto)]
 
+mod calls;
 mod fail_plan;
 mod file_store;
 mod mem_sink;
@@ -11,8 +12,7 @@ mod pieces;
 mod sink;
 mod std_sink;
 mod store;
-#[cfg(test)]
-mod tests;
+mod transcript;
 
 pub use file_store::FileStore;
 pub use mem_sink::MemSink;

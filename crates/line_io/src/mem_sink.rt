@@ -62,23 +62,20 @@ impl MemSink {
 }
 
 impl Sink for MemSink {
-    ghost use Rattle.std.specs.Prelude.{true, ◌<◌, ◌↔◌, ◌⊎◌, IsErr, OnOk, OnErr};
-    ghost use Rattle.line_io.specs.Written.{PutsAll, PutsFront};
+    ghost use Rattle.std.specs.Prelude.{◌<◌, ◌↔◌, ◌⊎◌, IsErr, OnOk, OnErr};
+    ghost use Rattle.line_io.specs.SinkView.{PutsAll, PutsFront};
     ghost use Rattle.line_io.specs.Faults.{Rose};
-    ghost use Rattle.line_io.specs.MemSink.{IsDue, room_left, kept_of};
+    ghost use Rattle.line_io.specs.Memory.{IsDue, Counts, sink_view, room_left, kept_of, IsMadeAlike};
 
-    ghost tells = { true };
-
-    ghost written = { λ sink. sink.bytes.items };
-
-    ghost faults = { λ sink. sink.faults };
+    ghost shown = { sink_view };
 
     fn put(&mut self, piece: &[u8]) -> Result<(), Failed>
         ensures refused { IsErr result ↔ (IsDue self.old.plan ⊎ (room_left self.old < length piece.now)) }
-        ensures kept { OnErr result (self.new.bytes.items
-            ≡ self.old.bytes.items ++ kept_of self.old piece.now) }
-        ensures appended { OnOk result (PutsAll true self.old.bytes.items self.new.bytes.items piece.now) }
-        ensures front { OnErr result (PutsFront true self.old.bytes.items self.new.bytes.items piece.now) }
+        ensures kept { OnErr result (PutsAll (sink_view self.old) (sink_view self.new) (kept_of self.old piece.now)) }
+        ensures counted { Counts self.old.plan self.new.plan }
+        ensures made_alike { IsMadeAlike self.old self.new }
+        ensures appended { OnOk result (PutsAll (sink_view self.old) (sink_view self.new) piece.now) }
+        ensures front { OnErr result (PutsFront (sink_view self.old) (sink_view self.new) piece.now) }
         ensures cause { OnErr result (Rose self.old.faults self.new.faults) }
         ensures faults_stay_or_rise { self.old.faults ≤ self.new.faults }
     {

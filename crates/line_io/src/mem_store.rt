@@ -1,9 +1,12 @@
-ghost use Rattle.std.specs.Prelude.{◌≡◌, ◌≢◌, ◌+◌, ◌≤◌, ◌<◌, ◌↔◌, List, ℕ, Some, None, length, IfOk, OnOk, OnErr, IsErrOf, option_map, true};
+ghost use Rattle.std.specs.Prelude.{◌≡◌, ◌≢◌, ◌+◌, ◌≤◌, ◌<◌, ◌↔◌, ◌⊎◌, List, ℕ, Some, None, length, IfOk, OnOk, OnErr, IsErr, IsErrOf, option_map, true};
 ghost use Rattle.std.specs.Bool.{OnTrue, OnFalse};
-ghost use Rattle.line_io.specs.Contents.{SameFiles, OthersStay};
+ghost use Rattle.line_io.specs.Calls.{none_asked};
 ghost use Rattle.line_io.specs.Held.{contents, times_noted, NotesOnce};
-ghost use Rattle.line_io.specs.Faults.{NeverFall};
+ghost use Rattle.line_io.specs.Left.{left_by};
+ghost use Rattle.line_io.specs.Contents.{SameFiles, OthersStay, IsTorn};
+ghost use Rattle.line_io.specs.Faults.{Rose, NeverFall};
 
+use crate::calls::Calls;
 use crate::fail_plan::FailPlan;
 use crate::store::{Store, StoreError};
 use std::alloc::{AllocError, Global};
@@ -23,6 +26,7 @@ pub struct MemStore {
     failed_reads: Vec<String>,
     failed_writes: Vec<String>,
     taken: u64,
+    calls: Calls,
 }
 
 // A store in which a failing write leaves that many bytes, or with none given the file as it was.
@@ -32,6 +36,7 @@ fn make(alloc: Global, files: Files, failing: Vec<u32>, keep: Option<u32>) -> Me
     ensures keep { result.keep ≡ keep }
     ensures no_call { result.plan.calls ≡ 0 }
     ensures nothing_taken { result.taken ≡ 0 }
+    ensures nothing_asked { result.calls.asked ≡ none_asked }
     ensures no_read_fault { (name : List ℕ) → times_noted result.failed_reads name ≡ 0 }
     ensures no_write_fault { (name : List ℕ) → times_noted result.failed_writes name ≡ 0 }
 {
@@ -43,6 +48,7 @@ fn make(alloc: Global, files: Files, failing: Vec<u32>, keep: Option<u32>) -> Me
         failed_reads: Vec::new(alloc),
         failed_writes: Vec::new(alloc),
         taken: 0,
+        calls: Calls::new(),
     }
 }
 
@@ -76,6 +82,7 @@ impl MemStore {
         ensures keep { result.keep ≡ None }
         ensures no_call { result.plan.calls ≡ 0 }
         ensures nothing_taken { result.taken ≡ 0 }
+        ensures nothing_asked { result.calls.asked ≡ none_asked }
         ensures no_read_fault { (name : List ℕ) → times_noted result.failed_reads name ≡ 0 }
         ensures no_write_fault { (name : List ℕ) → times_noted result.failed_writes name ≡ 0 }
     {
@@ -90,6 +97,7 @@ impl MemStore {
         ensures keep { result.keep ≡ Some keep }
         ensures no_call { result.plan.calls ≡ 0 }
         ensures nothing_taken { result.taken ≡ 0 }
+        ensures nothing_asked { result.calls.asked ≡ none_asked }
         ensures no_read_fault { (name : List ℕ) → times_noted result.failed_reads name ≡ 0 }
         ensures no_write_fault { (name : List ℕ) → times_noted result.failed_writes name ≡ 0 }
     {
@@ -138,41 +146,132 @@ fn copy_to_limit(
     Ok(bytes.to_vec(alloc)?)
 }
 
+// A read that fails, which is noted.
+fn refuse(alloc: Global, faults: &mut Vec<String>, name: &str) -> Result<Vec<u8>, StoreError>
+    ensures refused { IsErr result }
+    ensures never_too_long { ¬ (IsErrOf result StoreError.TooLong) }
+    ensures cause { IsErrOf result StoreError.Failed
+        → Rose (times_noted faults.old name.now) (times_noted faults.new name.now) }
+    ensures stays_or_rises { NeverFall (times_noted faults.old) (times_noted faults.new) }
+{
+    note(alloc, faults, name)?;
+    Err(StoreError::Failed)
+}
+
+// Gives a file these bytes, or answers that there is no memory.
+fn give(alloc: Global, files: &mut Files, name: &str, bytes: &[u8]) -> Result<(), StoreError>
+    ensures written { OnOk result (contents files.new name.now ≡ Some bytes.now) }
+    ensures others_stay { OthersStay true (contents files.old) (contents files.new) name.now }
+    ensures no_memory { IsErrOf result StoreError.NoMemory → SameFiles true (contents files.old) (contents files.new) }
+    ensures never_failed { ¬ (IsErrOf result StoreError.Failed) }
+    ensures never_too_long { ¬ (IsErrOf result StoreError.TooLong) }
+{
+    Ok(set_file(alloc, files, name, bytes)?)
+}
+
+// A write that fails, which is noted, and leaves so many of the bytes, or with none given the file as it was.
+fn break_off(
+    alloc: Global,
+    files: &mut Files,
+    faults: &mut Vec<String>,
+    keep: Option<u32>,
+    name: &str,
+    bytes: &[u8],
+) -> Result<(), StoreError>
+    ensures refused { IsErr result }
+    ensures kept { IsErrOf result StoreError.Failed
+        → contents files.new name.now ≡ left_by keep (contents files.old name.now) bytes.now }
+    ensures torn { IsErrOf result StoreError.Failed
+        → IsTorn (contents files.old name.now) (contents files.new name.now) bytes.now }
+    ensures others_stay { OthersStay true (contents files.old) (contents files.new) name.now }
+    ensures no_memory { IsErrOf result StoreError.NoMemory → SameFiles true (contents files.old) (contents files.new) }
+    ensures never_too_long { ¬ (IsErrOf result StoreError.TooLong) }
+    ensures cause { IsErrOf result StoreError.Failed
+        → Rose (times_noted faults.old name.now) (times_noted faults.new name.now) }
+    ensures stays_or_rises { NeverFall (times_noted faults.old) (times_noted faults.new) }
+{
+    note(alloc, faults, name)?;
+    if let Some(keep) = keep {
+        let front = &bytes[..bytes.len().min(keep as usize)];
+        set_file(alloc, files, name, front)?;
+    }
+    Err(StoreError::Failed)
+}
+
 impl Store for MemStore {
-    ghost use Rattle.std.specs.Prelude.{true};
-    ghost use Rattle.line_io.specs.Held.{contents, times_noted};
+    ghost use Rattle.line_io.specs.Memory.{IsDue, Counts, store_view, IsAbsent, left_of};
+    ghost use Rattle.line_io.specs.Calls.{after_read, after_write};
+    ghost use Rattle.line_io.specs.Contents.{IsLongerThan};
 
     ghost tells = { true };
 
-    ghost files = { λ store. contents store.files };
+    ghost shown = { store_view };
 
-    ghost read_faults = { λ store. times_noted store.failed_reads };
-
-    ghost write_faults = { λ store. times_noted store.failed_writes };
-
-    ghost taken = { λ store. store.taken };
-
-    fn read(&mut self, alloc: Global, name: &str, limit: u64) -> Result<Vec<u8>, StoreError> {
+    fn read(&mut self, alloc: Global, name: &str, limit: u64) -> Result<Vec<u8>, StoreError>
+        ensures due { IsDue self.old.plan → IsErr result }
+        ensures due_as_failed { IsDue self.old.plan → ¬ (IsErrOf result StoreError.TooLong) }
+        ensures refused { IsErrOf result StoreError.Failed → IsDue self.old.plan ⊎ IsAbsent self.old name.now }
+        ensures counted { Counts self.old.plan self.new.plan }
+        ensures keep_stays { self.new.keep ≡ self.old.keep }
+        ensures told { self.new.calls.asked ≡ after_read self.old.calls.asked name.now result }
+        ensures bytes { IfOk result (λ v. contents self.old.files name.now ≡ Some v.items) }
+        ensures within_limit { IfOk result (λ v. length v.items ≤ limit) }
+        ensures took_them { IfOk result (λ v. self.new.taken ≡ length v.items) }
+        ensures too_long { IsErrOf result StoreError.TooLong ↔ (limit < self.new.taken) }
+        ensures longer { IsErrOf result StoreError.TooLong → IsLongerThan limit (contents self.old.files name.now) }
+        ensures cause { IsErrOf result StoreError.Failed
+            → Rose (times_noted self.old.failed_reads name.now) (times_noted self.new.failed_reads name.now) }
+        ensures files_stay { self.new.files ≡ self.old.files }
+        ensures read_faults_stay_or_rise { NeverFall (times_noted self.old.failed_reads) (times_noted self.new.failed_reads) }
+        ensures write_faults_stay { self.new.failed_writes ≡ self.old.failed_writes }
+    {
         self.taken = 0;
         let is_due = self.plan.next();
         match readable(&self.files, name, is_due) {
-            Some(bytes) => copy_to_limit(alloc, bytes, limit, &mut self.taken),
+            Some(bytes) => {
+                let answer = copy_to_limit(alloc, bytes, limit, &mut self.taken);
+                self.calls.note_read(name, answer)
+            }
             None => {
-                note(self.alloc, &mut self.failed_reads, name)?;
-                Err(StoreError::Failed)
+                let answer = refuse(self.alloc, &mut self.failed_reads, name);
+                self.calls.note_read(name, answer)
             }
         }
     }
 
-    fn write(&mut self, name: &str, bytes: &[u8]) -> Result<(), StoreError> {
-        if !self.plan.next() {
-            return Ok(set_file(self.alloc, &mut self.files, name, bytes)?);
+    fn write(&mut self, name: &str, bytes: &[u8]) -> Result<(), StoreError>
+        ensures due { IsDue self.old.plan → IsErr result }
+        ensures refused { IsErrOf result StoreError.Failed → IsDue self.old.plan }
+        ensures kept { IsErrOf result StoreError.Failed
+            → contents self.new.files name.now ≡ left_of self.old name.now bytes.now }
+        ensures counted { Counts self.old.plan self.new.plan }
+        ensures keep_stays { self.new.keep ≡ self.old.keep }
+        ensures told { self.new.calls.asked ≡ after_write self.old.calls.asked name.now bytes.now result }
+        ensures written { OnOk result (contents self.new.files name.now ≡ Some bytes.now) }
+        ensures others_stay { OthersStay true (contents self.old.files) (contents self.new.files) name.now }
+        ensures torn { IsErrOf result StoreError.Failed
+            → IsTorn (contents self.old.files name.now) (contents self.new.files name.now) bytes.now }
+        ensures no_memory { IsErrOf result StoreError.NoMemory
+            → SameFiles true (contents self.old.files) (contents self.new.files) }
+        ensures never_too_long { ¬ (IsErrOf result StoreError.TooLong) }
+        ensures cause { IsErrOf result StoreError.Failed
+            → Rose (times_noted self.old.failed_writes name.now) (times_noted self.new.failed_writes name.now) }
+        ensures taken_stays { self.new.taken ≡ self.old.taken }
+        ensures read_faults_stay { self.new.failed_reads ≡ self.old.failed_reads }
+        ensures write_faults_stay_or_rise { NeverFall (times_noted self.old.failed_writes) (times_noted self.new.failed_writes) }
+    {
+        if self.plan.next() {
+            let answer = break_off(
+                self.alloc,
+                &mut self.files,
+                &mut self.failed_writes,
+                self.keep,
+                name,
+                bytes,
+            );
+            return self.calls.note_write(name, bytes, answer);
         }
-        note(self.alloc, &mut self.failed_writes, name)?;
-        if let Some(keep) = self.keep {
-            let front = &bytes[..bytes.len().min(keep as usize)];
-            set_file(self.alloc, &mut self.files, name, front)?;
-        }
-        Err(StoreError::Failed)
+        let answer = give(self.alloc, &mut self.files, name, bytes);
+        self.calls.note_write(name, bytes, answer)
     }
 }

@@ -31,8 +31,8 @@ impl Model for Outgoing {
 
 // Sends a piece that is full, unless the sink has failed, and answers whether it has failed now.
 fn send_full<K: Sink>(buffer: &mut PieceBuffer, failed: bool, sink: &mut K) -> bool
-    ensures pushed { Pushed K.tells (stream K.written K.faults sink.old (waiting buffer.old failed))
-        (stream K.written K.faults sink.new (waiting buffer.new result)) [] }
+    ensures pushed { Pushed (stream (K.shown sink.old) (waiting buffer.old failed))
+        (stream (K.shown sink.new) (waiting buffer.new result)) [] }
     ensures not_full { length buffer.new < MAX_PIECE }
 {
     if buffer.len() < MAX_PIECE {
@@ -57,8 +57,8 @@ impl Outgoing {
     // Gives a short part to the sink.
     fn push_part<K: Sink>(&mut self, sink: &mut K, part: &[u8])
         requires { length part.now ≤ MAX_OVER }
-        ensures { Pushed K.tells (stream K.written K.faults sink.old self.old)
-            (stream K.written K.faults sink.new self.new) part.now }
+        ensures { Pushed (stream (K.shown sink.old) self.old)
+            (stream (K.shown sink.new) self.new) part.now }
     {
         self.buffer.add(part);
         self.failed = send_full(&mut self.buffer, self.failed, sink);
@@ -66,8 +66,8 @@ impl Outgoing {
 
     /// Gives bytes to the sink, by pieces of 4,096 bytes.
     pub fn push<K: Sink>(&mut self, sink: &mut K, bytes: &[u8])
-        ensures { Pushed K.tells (stream K.written K.faults sink.old self.old)
-            (stream K.written K.faults sink.new self.new) bytes.now }
+        ensures { Pushed (stream (K.shown sink.old) self.old)
+            (stream (K.shown sink.new) self.new) bytes.now }
     {
         let mut rest = bytes;
         while !rest.is_empty() {
@@ -79,8 +79,8 @@ impl Outgoing {
 
     /// Gives a number in decimal to the sink. Its digits are written where they go out from.
     pub fn push_number<K: Sink>(&mut self, sink: &mut K, n: u64)
-        ensures { Pushed K.tells (stream K.written K.faults sink.old self.old)
-            (stream K.written K.faults sink.new self.new) (decimal n) }
+        ensures { Pushed (stream (K.shown sink.old) self.old)
+            (stream (K.shown sink.new) self.new) (decimal n) }
     {
         self.buffer.add_number(n);
         self.failed = send_full(&mut self.buffer, self.failed, sink);
@@ -88,8 +88,8 @@ impl Outgoing {
 
     /// Gives a number of up to 128 bits in decimal to the sink.
     pub fn push_wide_number<K: Sink>(&mut self, sink: &mut K, n: u128)
-        ensures { Pushed K.tells (stream K.written K.faults sink.old self.old)
-            (stream K.written K.faults sink.new self.new) (decimal n) }
+        ensures { Pushed (stream (K.shown sink.old) self.old)
+            (stream (K.shown sink.new) self.new) (decimal n) }
     {
         let mut text = Buffer::new();
         self.push(sink, text.format(n).as_bytes());
@@ -97,8 +97,8 @@ impl Outgoing {
 
     /// Sends what is left, and says whether all went out. The buffer is then as new.
     pub fn finish<K: Sink>(&mut self, sink: &mut K) -> Result<(), Failed>
-        ensures flushed { Pushed K.tells (stream K.written K.faults sink.old self.old)
-            (stream K.written K.faults sink.new (emptied (is_err result))) [] }
+        ensures flushed { Pushed (stream (K.shown sink.old) self.old)
+            (stream (K.shown sink.new) (emptied (is_err result))) [] }
         ensures as_new { self.new ≡ emptied false }
     {
         let failed = self.failed || put_all(sink, self.buffer.bytes()).is_err();

@@ -1,5 +1,5 @@
 ghost use Rattle.std.specs.Prelude.{◌≤◌, OnOk, OnErr};
-ghost use Rattle.line_io.specs.Written.{PutsAll, PutsFront};
+ghost use Rattle.line_io.specs.SinkView.{PutsAll, PutsFront};
 ghost use Rattle.line_io.specs.Faults.{Rose};
 
 use crate::sink::{Failed, MAX_PIECE, Sink};
@@ -7,10 +7,10 @@ use crate::sink::{Failed, MAX_PIECE, Sink};
 /// Writes any bytes through a sink, in pieces of 4,096 bytes and a last one that may be shorter.
 /// After `Failed` a front of the bytes was written. It takes no memory.
 pub fn put_all<K: Sink>(sink: &mut K, bytes: &[u8]) -> Result<(), Failed>
-    ensures appended { OnOk result (PutsAll K.tells (K.written sink.old) (K.written sink.new) bytes.now) }
-    ensures front { OnErr result (PutsFront K.tells (K.written sink.old) (K.written sink.new) bytes.now) }
-    ensures cause { OnErr result (Rose (K.faults sink.old) (K.faults sink.new)) }
-    ensures faults_stay_or_rise { K.faults sink.old ≤ K.faults sink.new }
+    ensures appended { OnOk result (PutsAll (K.shown sink.old) (K.shown sink.new) bytes.now) }
+    ensures front { OnErr result (PutsFront (K.shown sink.old) (K.shown sink.new) bytes.now) }
+    ensures cause { OnErr result (Rose (K.shown sink.old).faults (K.shown sink.new).faults) }
+    ensures faults_stay_or_rise { (K.shown sink.old).faults ≤ (K.shown sink.new).faults }
 {
     for piece in bytes.chunks(MAX_PIECE) {
         sink.put(piece)?;

@@ -1,6 +1,8 @@
-ghost use Rattle.std.specs.Prelude.{◌≡◌, ◌<◌, ◌≤◌, ◌↔◌, ℕ, List, Bool, Some, length, IsTrue, IfOk, OnOk, IsErrOf};
+ghost use Rattle.std.specs.Prelude.{◌≡◌, ◌<◌, ◌≤◌, ◌↔◌, Bool, Some, length, IsTrue, IfOk, OnOk, IsErrOf};
 ghost use Rattle.line_io.specs.declared.store.StoreError.TheVariants.{NoMemory};
-ghost use Rattle.line_io.specs.Contents.{Contents, SameFiles, OthersStay, IsTorn, IsLongerThan};
+ghost use Rattle.line_io.specs.StoreView.{StoreView};
+ghost use Rattle.line_io.specs.Calls.{after_read, after_write};
+ghost use Rattle.line_io.specs.Contents.{SameFiles, OthersStay, IsTorn, IsLongerThan};
 ghost use Rattle.line_io.specs.Faults.{Rose, NeverFall};
 
 use std::alloc::{AllocError, AllocFailed, Global};
@@ -42,45 +44,39 @@ pub trait Store {
     /// say nothing.
     ghost tells: { Bool };
 
-    /// What each file holds.
-    ghost files: { Self → Contents };
-
-    /// How many reads of a file of this name have failed.
-    ghost read_faults: { Self → List ℕ → ℕ };
-
-    /// How many writes of a file of this name have failed.
-    ghost write_faults: { Self → List ℕ → ℕ };
-
-    /// How many bytes the last read took: 0 before the first read.
-    ghost taken: { Self → ℕ };
+    /// What the files hold, how often calls have failed, what the last read took, and every call with its answer.
+    ghost shown: { Self → StoreView };
 
     /// The bytes of a file, at most `limit` of them.
     fn read(&mut self, alloc: Global, name: &str, limit: u64) -> Result<Vec<u8>, StoreError>
-        ensures bytes { IfOk result (λ v. IsTrue tells → files self.old name.now ≡ Some v.items) }
+        ensures told { (shown self.new).asked ≡ after_read (shown self.old).asked name.now result }
+        ensures bytes { IfOk result (λ v. IsTrue tells → (shown self.old).files name.now ≡ Some v.items) }
         ensures within_limit { IfOk result (λ v. length v.items ≤ limit) }
-        ensures took_them { IfOk result (λ v. taken self.new ≡ length v.items) }
-        ensures too_long { IsErrOf result StoreError.TooLong ↔ (limit < taken self.new) }
+        ensures took_them { IfOk result (λ v. (shown self.new).taken ≡ length v.items) }
+        ensures too_long { IsErrOf result StoreError.TooLong ↔ (limit < (shown self.new).taken) }
         ensures longer { IsErrOf result StoreError.TooLong → IsTrue tells
-            → IsLongerThan limit (files self.old name.now) }
+            → IsLongerThan limit ((shown self.old).files name.now) }
         ensures cause { IsErrOf result StoreError.Failed
-            → Rose (read_faults self.old name.now) (read_faults self.new name.now) }
-        ensures files_stay { SameFiles tells (files self.old) (files self.new) }
-        ensures read_faults_stay_or_rise { NeverFall (read_faults self.old) (read_faults self.new) }
-        ensures write_faults_stay_or_rise { NeverFall (write_faults self.old) (write_faults self.new) };
+            → Rose ((shown self.old).read_faults name.now) ((shown self.new).read_faults name.now) }
+        ensures files_stay { SameFiles tells (shown self.old).files (shown self.new).files }
+        ensures read_faults_stay_or_rise { NeverFall (shown self.old).read_faults (shown self.new).read_faults }
+        ensures write_faults_stay_or_rise { NeverFall (shown self.old).write_faults (shown self.new).write_faults };
 
     /// Gives a file these bytes, whether it was there or not. After `Failed` it may hold a front of
     /// them.
     fn write(&mut self, name: &str, bytes: &[u8]) -> Result<(), StoreError>
-        ensures written { OnOk result (IsTrue tells → files self.new name.now ≡ Some bytes.now) }
-        ensures others_stay { OthersStay tells (files self.old) (files self.new) name.now }
+        ensures told { (shown self.new).asked
+            ≡ after_write (shown self.old).asked name.now bytes.now result }
+        ensures written { OnOk result (IsTrue tells → (shown self.new).files name.now ≡ Some bytes.now) }
+        ensures others_stay { OthersStay tells (shown self.old).files (shown self.new).files name.now }
         ensures torn { IsErrOf result StoreError.Failed → IsTrue tells
-            → IsTorn (files self.old name.now) (files self.new name.now) bytes.now }
+            → IsTorn ((shown self.old).files name.now) ((shown self.new).files name.now) bytes.now }
         ensures no_memory { IsErrOf result StoreError.NoMemory
-            → SameFiles tells (files self.old) (files self.new) }
+            → SameFiles tells (shown self.old).files (shown self.new).files }
         ensures never_too_long { ¬ (IsErrOf result StoreError.TooLong) }
         ensures cause { IsErrOf result StoreError.Failed
-            → Rose (write_faults self.old name.now) (write_faults self.new name.now) }
-        ensures taken_stays { taken self.new ≡ taken self.old }
-        ensures read_faults_stay_or_rise { NeverFall (read_faults self.old) (read_faults self.new) }
-        ensures write_faults_stay_or_rise { NeverFall (write_faults self.old) (write_faults self.new) };
+            → Rose ((shown self.old).write_faults name.now) ((shown self.new).write_faults name.now) }
+        ensures taken_stays { (shown self.new).taken ≡ (shown self.old).taken }
+        ensures read_faults_stay_or_rise { NeverFall (shown self.old).read_faults (shown self.new).read_faults }
+        ensures write_faults_stay_or_rise { NeverFall (shown self.old).write_faults (shown self.new).write_faults };
 }

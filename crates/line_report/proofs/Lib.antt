@@ -1,2 +1,3 @@
 mod Examples
 pub mod Lines
+pub mod SameReports

@@ -32,11 +32,11 @@ pub lines_take_more : (f : ℕ → List ℕ) (xs : List ℕ) (i : ℕ) → i < l
 lines_take_more f xs i h = ap (flat_map f) (take_more xs i 0 h) ∙ flat_map_push f (take i xs) (get_or xs i 0)
 
 -- the next line is written
-pub pushed_line : {tells : Bool} {a b c : Stream} (f : ℕ → List ℕ) (from n j : ℕ) → from + n ≡ j → Pushed tells a b (flat_map f (range_with_len from n)) → Pushed tells b c (f j) → Pushed tells a c (flat_map f (range_with_len from (n + 1)))
+pub pushed_line : {a b c : Stream} (f : ℕ → List ℕ) (from n j : ℕ) → from + n ≡ j → Pushed a b (flat_map f (range_with_len from n)) → Pushed b c (f j) → Pushed a c (flat_map f (range_with_len from (n + 1)))
 pushed_line {b = b} f from n j at before now = rw (lines_more f from n j at) (pushed_after {b = b} before now)
 
 -- and the same for the elements of a list
-pub pushed_element : {tells : Bool} {a b c : Stream} (f : ℕ → List ℕ) (xs : List ℕ) (i : ℕ) → i < length xs → Pushed tells a b (flat_map f (take i xs)) → Pushed tells b c (f (get_or xs i 0)) → Pushed tells a c (flat_map f (take (i + 1) xs))
+pub pushed_element : {a b c : Stream} (f : ℕ → List ℕ) (xs : List ℕ) (i : ℕ) → i < length xs → Pushed a b (flat_map f (take i xs)) → Pushed b c (f (get_or xs i 0)) → Pushed a c (flat_map f (take (i + 1) xs))
 pushed_element {b = b} f xs i h before now = rw (lines_take_more f xs i h) (pushed_after {b = b} before now)
 
 -- the element that was read at a number

@@ -1,2 +1,3 @@
 pub mod ReportText
 pub mod Reported
+pub mod Laws

@@ -12,8 +12,8 @@ use line_io::{Outgoing, Sink};
 
 /// Writes the date of a job at the station with this label.
 fn write_date<K: Sink>(out: &mut Outgoing, sink: &mut K, label: &[u8], job: u32, date: Date)
-    ensures { Pushed K.tells (stream K.written K.faults sink.old out.old)
-        (stream K.written K.faults sink.new out.new) (line (label.now ∷ decimal job ∷ decimal date ∷ [])) }
+    ensures { Pushed (stream (K.shown sink.old) out.old)
+        (stream (K.shown sink.new) out.new) (line (label.now ∷ decimal job ∷ decimal date ∷ [])) }
 {
     out.push(sink, label);
     out.push(sink, b" ");
@@ -27,8 +27,8 @@ fn write_date<K: Sink>(out: &mut Outgoing, sink: &mut K, label: &[u8], job: u32,
 fn write_station<K: Sink>(out: &mut Outgoing, sink: &mut K, graph: &Graph, table: &Table, t: u32)
     requires of_graph { table.now.graph ≡ graph.now }
     requires station { t < stations graph.now }
-    ensures { Pushed K.tells (stream K.written K.faults sink.old out.old)
-        (stream K.written K.faults sink.new out.new) (station_lines graph.now (date_in table.now.rows) t) }
+    ensures { Pushed (stream (K.shown sink.old) out.old)
+        (stream (K.shown sink.new) out.new) (station_lines graph.now (date_in table.now.rows) t) }
 {
     let label = graph.label(t);
     for before in 0..graph.jobs() {
@@ -40,8 +40,8 @@ fn write_station<K: Sink>(out: &mut Outgoing, sink: &mut K, graph: &Graph, table
 /// Writes the dates of all jobs at all stations, station by station.
 pub fn write_dates<K: Sink>(out: &mut Outgoing, sink: &mut K, graph: &Graph, table: &Table)
     requires { table.now.graph ≡ graph.now }
-    ensures { Pushed K.tells (stream K.written K.faults sink.old out.old)
-        (stream K.written K.faults sink.new out.new) (date_lines graph.now (date_in table.now.rows)) }
+    ensures { Pushed (stream (K.shown sink.old) out.old)
+        (stream (K.shown sink.new) out.new) (date_lines graph.now (date_in table.now.rows)) }
 {
     for t in 0..graph.stations() {
         write_station(out, sink, graph, table, t);

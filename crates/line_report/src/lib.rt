@@ -2,10 +2,10 @@
 #![tactic(auto)]
 
 mod dates;
+mod laws;
 mod observed;
 mod report;
-#[cfg(test)]
-mod tests;
 mod totals;
 
+pub use laws::schedules_agree;
 pub use report::{Report, SinkFault};

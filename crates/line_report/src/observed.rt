@@ -25,8 +25,8 @@ fn write_stage<K: Sink>(
     requires sound { IsSound plant.now }
     requires of_plant { table.now.graph ≡ graph plant.now }
     requires exists { stage < length plant.now.stages }
-    ensures { Pushed K.tells (stream K.written K.faults sink.old out.old)
-        (stream K.written K.faults sink.new out.new) (stage_line plant.now (date_in table.now.rows) at stage) }
+    ensures { Pushed (stream (K.shown sink.old) out.old)
+        (stream (K.shown sink.new) out.new) (stage_line plant.now (date_in table.now.rows) at stage) }
 {
     let part = &plant.stages.as_slice()[stage as usize];
     out.push(sink, b"at ");
@@ -48,8 +48,8 @@ fn write_stage<K: Sink>(
 fn write_backlog<K: Sink>(out: &mut Outgoing, sink: &mut K, plant: &Plant, table: &Table, at: Date)
     requires sound { IsSound plant.now }
     requires of_plant { table.now.graph ≡ graph plant.now }
-    ensures { Pushed K.tells (stream K.written K.faults sink.old out.old)
-        (stream K.written K.faults sink.new out.new) (backlog_line plant.now (date_in table.now.rows) at) }
+    ensures { Pushed (stream (K.shown sink.old) out.old)
+        (stream (K.shown sink.new) out.new) (backlog_line plant.now (date_in table.now.rows) at) }
 {
     out.push(sink, b"at ");
     out.push_number(sink, at);
@@ -68,8 +68,8 @@ fn write_date_observed<K: Sink>(
 )
     requires sound { IsSound plant.now }
     requires of_plant { table.now.graph ≡ graph plant.now }
-    ensures { Pushed K.tells (stream K.written K.faults sink.old out.old)
-        (stream K.written K.faults sink.new out.new) (observed_lines plant.now (date_in table.now.rows) at) }
+    ensures { Pushed (stream (K.shown sink.old) out.old)
+        (stream (K.shown sink.new) out.new) (observed_lines plant.now (date_in table.now.rows) at) }
 {
     for stage in 0..plant.stages.len() as u32 {
         write_stage(out, sink, plant, table, at, stage);
@@ -81,8 +81,8 @@ fn write_date_observed<K: Sink>(
 pub fn write_observed<K: Sink>(out: &mut Outgoing, sink: &mut K, plant: &Plant, table: &Table)
     requires sound { IsSound plant.now }
     requires of_plant { table.now.graph ≡ graph plant.now }
-    ensures { Pushed K.tells (stream K.written K.faults sink.old out.old)
-        (stream K.written K.faults sink.new out.new)
+    ensures { Pushed (stream (K.shown sink.old) out.old)
+        (stream (K.shown sink.new) out.new)
         (flat_map (observed_lines plant.now (date_in table.now.rows)) plant.now.observe) }
 {
     for at in plant.observe.as_slice() {

@@ -1,5 +1,5 @@
 ghost use Rattle.std.specs.Prelude.{◌≡◌, ◌≤◌, IfOk, OnOk, OnErr, false};
-ghost use Rattle.line_io.specs.Written.{PutsAll, PutsFront};
+ghost use Rattle.line_io.specs.SinkView.{PutsAll, PutsFront};
 ghost use Rattle.line_io.specs.Faults.{Rose};
 ghost use Rattle.line_io.specs.Outgoing.{Pushed, stream};
 ghost use Rattle.event_graph.specs.Table.{date_in};
@@ -47,8 +47,8 @@ impl Model for Report {
 /// Writes the whole text of a report.
 fn write_text<K: Sink>(out: &mut Outgoing, sink: &mut K, plant: &Plant, live: &Live, table: &Table)
     requires { AreOfPlant plant.now live.now table.now }
-    ensures { Pushed K.tells (stream K.written K.faults sink.old out.old)
-        (stream K.written K.faults sink.new out.new) (report plant.now (date_in table.now.rows)) }
+    ensures { Pushed (stream (K.shown sink.old) out.old)
+        (stream (K.shown sink.new) out.new) (report plant.now (date_in table.now.rows)) }
 {
     write_dates(out, sink, live.graph(), table);
     write_observed(out, sink, plant, table);
@@ -79,11 +79,11 @@ impl Report {
     /// pieces of 4,096 bytes and a last one that may be shorter. After `SinkFault` a front of it was written. It takes no
     /// memory.
     pub fn write<K: Sink>(&mut self, sink: &mut K) -> Result<(), SinkFault>
-        ensures written { OnOk result (PutsAll K.tells (K.written sink.old) (K.written sink.new) (report_of self.old)) }
+        ensures written { OnOk result (PutsAll (K.shown sink.old) (K.shown sink.new) (report_of self.old)) }
         ensures front { OnErr result
-            (PutsFront K.tells (K.written sink.old) (K.written sink.new) (report_of self.old)) }
-        ensures cause { OnErr result (Rose (K.faults sink.old) (K.faults sink.new)) }
-        ensures faults_stay_or_rise { K.faults sink.old ≤ K.faults sink.new }
+            (PutsFront (K.shown sink.old) (K.shown sink.new) (report_of self.old)) }
+        ensures cause { OnErr result (Rose (K.shown sink.old).faults (K.shown sink.new).faults) }
+        ensures faults_stay_or_rise { (K.shown sink.old).faults ≤ (K.shown sink.new).faults }
         ensures same { self.new ≡ self.old }
         ensures least { IsReported self.old }
     {

@@ -16,8 +16,8 @@ use plant_model::Plant;
 
 /// Writes the bound of a stage, or that it has none.
 fn write_bound<K: Sink>(out: &mut Outgoing, sink: &mut K, bound: Option<u32>)
-    ensures { Pushed K.tells (stream K.written K.faults sink.old out.old)
-        (stream K.written K.faults sink.new out.new) (bound_word bound) }
+    ensures { Pushed (stream (K.shown sink.old) out.old)
+        (stream (K.shown sink.new) out.new) (bound_word bound) }
 {
     match bound {
         Some(number) => out.push_number(sink, number as u64),
@@ -30,8 +30,8 @@ fn write_peak<K: Sink>(out: &mut Outgoing, sink: &mut K, plant: &Plant, table: &
     requires sound { IsSound plant.now }
     requires of_plant { table.now.graph ≡ graph plant.now }
     requires exists { stage < length plant.now.stages }
-    ensures { Pushed K.tells (stream K.written K.faults sink.old out.old)
-        (stream K.written K.faults sink.new out.new) (peak_line plant.now (date_in table.now.rows) stage) }
+    ensures { Pushed (stream (K.shown sink.old) out.old)
+        (stream (K.shown sink.new) out.new) (peak_line plant.now (date_in table.now.rows) stage) }
 {
     let part = &plant.stages.as_slice()[stage as usize];
     out.push(sink, b"peak ");
@@ -47,8 +47,8 @@ fn write_peak<K: Sink>(out: &mut Outgoing, sink: &mut K, plant: &Plant, table: &
 pub fn write_peaks<K: Sink>(out: &mut Outgoing, sink: &mut K, plant: &Plant, table: &Table)
     requires sound { IsSound plant.now }
     requires of_plant { table.now.graph ≡ graph plant.now }
-    ensures { Pushed K.tells (stream K.written K.faults sink.old out.old)
-        (stream K.written K.faults sink.new out.new)
+    ensures { Pushed (stream (K.shown sink.old) out.old)
+        (stream (K.shown sink.new) out.new)
         (flat_map (peak_line plant.now (date_in table.now.rows)) (stage_numbers plant.now)) }
 {
     for stage in 0..plant.stages.len() as u32 {
@@ -58,8 +58,8 @@ pub fn write_peaks<K: Sink>(out: &mut Outgoing, sink: &mut K, plant: &Plant, tab
 
 /// Writes how long all jobs together wait, and the last date.
 pub fn write_totals<K: Sink>(out: &mut Outgoing, sink: &mut K, table: &Table)
-    ensures { Pushed K.tells (stream K.written K.faults sink.old out.old)
-        (stream K.written K.faults sink.new out.new)
+    ensures { Pushed (stream (K.shown sink.old) out.old)
+        (stream (K.shown sink.new) out.new)
         (waiting_line table.now.graph (date_in table.now.rows) ++ last_line table.now.graph (date_in table.now.rows)) }
 {
     out.push(sink, b"waiting ");

@@ -9,3 +9,4 @@ pub mod Greatest
 pub mod CardFlows
 pub mod StandingParts
 pub mod Waits
+pub mod SameCounts

@@ -1,132 +1,22 @@
 -- The dates at a station don't decrease in the table of a plant's graph.
-use Rattle.std.proofs.Common.{◌≡◌, ℕ, zero, suc, ◌+◌, ◌-◌, ◌<◌, ◌≤◌, leb, List, [], ◌∷◌, ◌++◌, length, get_or, take, refl, sym, ap, ◌∙◌, subst, inl, inr, arith, count_by}
-use Rattle.std.specs.List.{flat_map, Contains, sum_by}
+use Rattle.std.proofs.Common.{◌≡◌, ℕ, suc, ◌+◌, ◌-◌, ◌<◌, ◌≤◌, leb, List, [], length, get_or, sym, ap, subst, arith, count_by}
 use Rattle.std.specs.List.Sorted.{IsNonDecreasing}
-use Rattle.std.proofs.lemmas.Bool.{cases_lt}
-use Rattle.std.proofs.lemmas.List.{get_or_default, get_or_append_left, length-map}
-use Rattle.std.proofs.Math.Seq.{get_or-append_seam}
-use Rattle.std.proofs.lemmas.List.Concat.{length-flat_map, get_or-flat_map}
-use Rattle.std.proofs.lemmas.List.Sums.{sum_by-le-sum_by}
-use Rattle.line_base.specs.declared.event.Arc.{Arc}
+use Rattle.std.proofs.lemmas.List.{get_or_default}
 use Rattle.line_base.specs.declared.event.Parts.{Parts}
-use Rattle.line_base.specs.declared.times.Times.TheVariants.{Fixed}
-use Rattle.plant_model.specs.declared.plant.Stage.{Stage}
 use Rattle.plant_model.specs.declared.plant.Plant.{Plant}
-use Rattle.plant_model.specs.Line.{no_stage, stage_at, machine_at, stations_of, release, machine_station, deliver, station_count}
-use Rattle.plant_model.specs.Graph.{Row, worked, plain, onward, rows, stage_times, times, graph}
-use Rattle.plant_model.proofs.LayoutStations.{release-next, release-all, release-below}
-use Rattle.event_graph.specs.Network.{stations, jobs, arc}
+use Rattle.plant_model.specs.Graph.{graph}
+use Rattle.event_graph.specs.Network.{stations, jobs}
 use Rattle.event_graph.specs.Table.{date_in}
-use Rattle.live_check.specs.MoreTokens.{IsList, HasOwnToken, ListsKeepOrder}
+use Rattle.live_check.specs.MoreTokens.{ListsKeepOrder}
 use Rattle.live_check.proofs.NeverLater.{least-rises, rises}
 use Rattle.line_core.specs.Run.{Dates, IsLeastTable}
-use Rattle.line_graph.proofs.RowLists.{Contains-head, Contains-tail}
-use Rattle.line_graph.proofs.Sizes.{stations-graph, arc_count-graph}
-use Rattle.line_graph.proofs.Inputs.{in_machines, arc-graph}
+use Rattle.line_graph.proofs.OwnTokens.{graph_keeps_order}
 use Rattle.line_stats.specs.Counts.{count_until}
 use Rattle.line_stats.proofs.Counting.{until-row}
 
--- ---- each machine has an arc to itself with one token
-
-row-own : (p : Plant) (t : ℕ) → Contains (rows p) (plain t t 1 0) → HasOwnToken (graph p) t
-row-own p t h =
-    let r = plain t t 1 0 in
-    let is : arc (graph p) h.0 ≡ r.arc = arc-graph p h.0 r h.1 ∙ ap (λ (s : Row). s.arc) h.2 in
-    record {
-      own = h.0;
-      exists = omega (arith, arc_count-graph p, h.1);
-      from = ap (λ (a : Arc). a.from) is;
-      to = ap (λ (a : Arc). a.to) is;
-      one = ap (λ (a : Arc). a.tokens) is;
-    }
-
-machine-own : (p : Plant) (i j : ℕ) → i < length p.stages → j < length (stage_at p i).machines → HasOwnToken (graph p) (machine_station p i j)
-machine-own p i j below inside =
-    let m = machine_station p i j in
-    let self = worked m m (machine_at p i j).servers in
-    let one = plain m m 1 0 in
-    row-own p m (in_machines p i j one below inside (Contains-tail self (one ∷ onward p i j ∷ []) one (Contains-head one (onward p i j ∷ []))))
-
--- ---- releases, the feed and the delivery have no list of times
-
-sum_by-same : {X : Type 0} (f g : X → ℕ) (xs : List X) → ((x : X) → f x ≡ g x) → sum_by f xs ≡ sum_by g xs
-sum_by-same f g xs h =
-    let up = sum_by-le-sum_by f g xs (λ x. let e = h x in omega arith) in
-    let down = sum_by-le-sum_by g f xs (λ x. let e = h x in omega arith) in
-    omega arith
-
-length-times_of : (stages : List Stage) → length (flat_map stage_times stages) ≡ stations_of stages
-length-times_of stages =
-    length-flat_map stage_times stages
-    ∙ sum_by-same (λ s. length (stage_times s)) (λ s. 1 + length s.machines) stages (λ s. omega (arith, length-map s.machines (λ m. m.times)))
-
-time-release : (p : Plant) (i : ℕ) → i < length p.stages → get_or (times p) (release p i) (Fixed 0) ≡ Fixed 0
-unfolding times
-time-release p i below =
-    let before = stations_of (take i p.stages) in
-    let all = flat_map stage_times p.stages in
-    let e : 1 + before ≡ suc (length (flat_map stage_times (take i p.stages)) + 0) = omega (arith, length-times_of (take i p.stages)) in
-    let k = length (flat_map stage_times (take i p.stages)) + 0 in
-    let here = get_or-flat_map stage_times p.stages i 0 no_stage (Fixed 0) below (omega arith) in
-    let inside : k < length all = omega (arith, release-below p i below, length-times_of (take i p.stages), length-times_of p.stages) in
-    ap (λ n. get_or (Fixed 0 ∷ (all ++ Fixed 0 ∷ [])) n (Fixed 0)) e ∙ get_or_append_left all (Fixed 0 ∷ []) (Fixed 0) k inside ∙ here
-
-time-deliver : (p : Plant) → get_or (times p) (deliver p) (Fixed 0) ≡ Fixed 0
-unfolding times
-time-deliver p =
-    let all = flat_map stage_times p.stages in
-    let e : deliver p ≡ suc (length all) = omega (arith, length-times_of p.stages) in
-    ap (λ n. get_or (Fixed 0 ∷ (all ++ Fixed 0 ∷ [])) n (Fixed 0)) e ∙ get_or-append_seam all (Fixed 0) [] (Fixed 0)
-
--- a station whose times are a list is a machine
-abbrev KeepsOrder : Plant → ℕ → Type 0
-KeepsOrder p t = IsList (get_or (times p) t (Fixed 0)) → HasOwnToken (graph p) t
-
-fixed-keeps : (p : Plant) (t : ℕ) → get_or (times p) t (Fixed 0) ≡ Fixed 0 → KeepsOrder p t
-fixed-keeps p t is list = absurd (subst IsList is list)
-
-time-feed : (p : Plant) → get_or (times p) 0 (Fixed 0) ≡ Fixed 0
-unfolding times
-time-feed p = refl
-
-stage-keeps : (p : Plant) (n t : ℕ) → n ≤ length p.stages → t < release p n → KeepsOrder p t
-stage-keeps p zero t few below = let e : 0 ≡ t = omega arith in subst (KeepsOrder p) e (fixed-keeps p 0 (time-feed p))
-stage-keeps p (suc n) t few below =
-    elim (cases_lt t (release p n)) [
-      | inl before ↦ stage-keeps p n t (omega arith) before
-      | inr after ↦
-          let e : n + 1 ≡ suc n = omega arith in
-          let end = subst (λ m. t < release p m) (sym e) below in
-          let ends = release-next p n (omega arith) in
-          elim (cases_lt (release p n) t) [
-            | inl machine ↦
-                let j = t - release p n - 1 in
-                let is : machine_station p n j ≡ t = omega arith in
-                subst (KeepsOrder p) is (λ list. machine-own p n j (omega arith) (omega arith))
-            | inr release_n ↦
-                let is : release p n ≡ t = omega arith in
-                subst (KeepsOrder p) is (fixed-keeps p (release p n) (time-release p n (omega arith)))
-          ]
-    ]
-
-station-keeps : (p : Plant) (t : ℕ) → t < station_count p → KeepsOrder p t
-station-keeps p t below =
-    elim (cases_lt t (deliver p)) [
-      | inl before ↦ stage-keeps p (length p.stages) t (omega arith) (rw release-all before)
-      | inr after ↦ let is : deliver p ≡ t = omega arith in subst (KeepsOrder p) is (fixed-keeps p (deliver p) (time-deliver p))
-    ]
-
-times-graph : (p : Plant) → (graph p).times ≡ times p
-unfolding graph
-times-graph p = refl
-
--- a plant's graph keeps the jobs of each list of times in order
+-- the graph of a plant keeps the jobs of each list of times in order, whatever it is called
 pub lists_keep_order : (p : Plant) (g : Parts) → g ≡ graph p → ListsKeepOrder g
-lists_keep_order p g is =
-    let of_plant : ListsKeepOrder (graph p) = λ t below list. station-keeps p t (omega (arith, stations-graph p)) (subst (λ ts. IsList (get_or ts t (Fixed 0))) (times-graph p) list) in
-    subst ListsKeepOrder (sym is) of_plant
-
--- ---- the rows of a table
+lists_keep_order p g is = subst ListsKeepOrder (sym is) (graph_keeps_order p)
 
 pub date-row : (d : Dates) (t k : ℕ) → date_in d.rows t (k + 1) ≡ get_or (get_or d.rows t []) k 0
 date-row d t k = let e : k + 1 ≡ suc k = omega arith in ap (date_in d.rows t) e

@@ -13,7 +13,7 @@ use Rattle.event_graph.specs.Network.{stations, jobs}
 use Rattle.event_graph.specs.Table.{Table}
 use Rattle.event_graph.specs.Solves.{Solves}
 use Rattle.event_graph.specs.Firing.{greatest}
-use Rattle.line_core.proofs.Greatest.{le-greatest, greatest-le}
+use Rattle.event_graph.proofs.Greatest.{le-greatest, greatest-le}
 use Rattle.line_graph.proofs.Sizes.{stations-graph}
 use Rattle.circuit_sums.specs.Bound.{bound}
 use Rattle.line_stats.specs.Counts.{job_numbers, count_until, done, in_process, in_move, in_stock, standing, last_date, peak}

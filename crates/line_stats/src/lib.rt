@@ -7,8 +7,6 @@ mod laws;
 mod logs;
 mod peaks;
 mod stations;
-#[cfg(test)]
-mod tests;
 mod totals;
 
 pub use counts::{backlog, in_move, in_process, in_stock};

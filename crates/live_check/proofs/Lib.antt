@@ -3,3 +3,4 @@ pub mod NeverLater
 pub mod RankSteps
 pub mod Upward
 pub mod StuckWalks
+pub mod LiveOrder

@@ -9,16 +9,16 @@ use Rattle.std.proofs.lemmas.List.FromFn.{length-range_with_len}
 use Rattle.line_base.specs.declared.event.Arc.{Arc}
 use Rattle.line_base.specs.declared.event.Parts.{Parts}
 use Rattle.event_graph.specs.Network.{IsGraph, arc, arc_count, stations, ins}
-use Rattle.live_check.specs.Ranking.{Ranks, with_next, with_passed, released, is_free_from, is_open, open_count, IsPassing, IsPassed, NoneIsReady, CountsFree, IsComplete}
+use Rattle.live_check.specs.Ranking.{Ranks, with_next, with_passed, released, is_free_from, is_open, open_count, IsFalling, IsPassing, IsPassed, NoneIsReady, CountsFree, IsComplete}
 use Rattle.live_check.specs.DeadCircuit.{IsStuck}
 use Rattle.live_check.proofs.Counts.{count_by-range-agree, count_by-filter, count_by-range_more, sum_by-range-add, none_passes, some_passes}
 
 -- an unranked station leaves room for the next rank
-pub has_room : (g : Parts) (r : Ranks) (p s : ℕ) (arcs : List ℕ) → IsPassing g r p arcs → s < stations g → stations g ≤ get_or r.ranks s 0 → length r.order < stations g
-has_room g r p s arcs h exists unranked =
-    let term = get_or-le-sum_by (λ x. cond (leb (stations g) x) 1 0) r.ranks s 0 (omega (arith, h.falling.rank_for_each)) in
+pub has_room : (g : Parts) (r : Ranks) (s : ℕ) → IsFalling g r.ranks r.order → s < stations g → stations g ≤ get_or r.ranks s 0 → length r.order < stations g
+has_room g r s h exists unranked =
+    let term = get_or-le-sum_by (λ x. cond (leb (stations g) x) 1 0) r.ranks s 0 (omega (arith, h.rank_for_each)) in
     let one : cond (leb (stations g) (get_or r.ranks s 0)) 1 0 ≡ 1 = ap {B = ℕ} (λ b. cond b 1 0) (le-leb (stations g) (get_or r.ranks s 0) unranked) in
-    omega (arith, h.falling.unranked, term, one)
+    omega (arith, h.unranked, term, one)
 
 -- where a station waits for no arc, each arc out of it without a token ends at a passed station
 ends_passed : (g : Parts) (r : Ranks) (p s a : ℕ) (arcs : List ℕ) → IsPassing g r p arcs → s < stations g → get_or r.waiting s 0 ≡ 0 → a < arc_count g → (arc g a).from ≡ s → (arc g a).tokens ≡ 0 → get_or r.ranks (arc g a).to 0 < p
@@ -49,64 +49,71 @@ rank_elsewhere g r s t apart = get_or-set_other r.ranks s t (length r.order) 0 a
 order_before : (r : Ranks) (s k : ℕ) → k < length r.order → get_or (with_next r s).order k 0 ≡ get_or r.order k 0
 order_before r s k before = get_or_append_left r.order (s ∷ []) 0 k before
 
--- a station that waits for no arc gets the next rank
+-- a station whose arcs out without a token end at ranked stations gets the next rank
+pub next_falls : (g : Parts) (r : Ranks) (s : ℕ) → IsFalling g r.ranks r.order → s < stations g → stations g ≤ get_or r.ranks s 0 → ((a : ℕ) → a < arc_count g → (arc g a).from ≡ s → (arc g a).tokens ≡ 0 → get_or r.ranks (arc g a).to 0 < length r.order) → IsFalling g (with_next r s).ranks (with_next r s).order
+next_falls g r s h exists unranked ranked_ends =
+    let n = length r.order in
+    let room = has_room g r s h exists unranked in
+    let here : s < length r.ranks = omega (arith, h.rank_for_each) in
+    let own : get_or (with_next r s).ranks s 0 ≡ n = get_or-set_same r.ranks s n 0 here in
+    record {
+      rank_for_each = length-set r.ranks s n ∙ h.rank_for_each;
+      unranked =
+          (let f = λ (x : ℕ). cond (leb (stations g) x) 1 0 in
+          let moved = sum_by-set f r.ranks s n 0 here in
+          let before : f (get_or r.ranks s 0) ≡ 1 = ap {B = ℕ} (λ b. cond b 1 0) (le-leb (stations g) (get_or r.ranks s 0) unranked) in
+          let after : f n ≡ 0 = ap {B = ℕ} (λ b. cond b 1 0) (lt-leb (stations g) n room) in
+          omega (arith, h.unranked, moved, before, after, length_push r.order s));
+      has_rank = λ t there ranked.
+          elim (cases_eq t s) [
+            | inl same ↦ omega (arith, ap (λ u. get_or (with_next r s).ranks u 0) same, own, length_push r.order s)
+            | inr apart ↦ omega (arith, rank_elsewhere g r s t apart, h.has_rank t there (rw (rank_elsewhere g r s t apart) at ranked), length_push r.order s)
+          ];
+      at_rank = λ t there ranked.
+          elim (cases_eq t s) [
+            | inl same ↦ ap (λ u. get_or (with_next r s).order (get_or (with_next r s).ranks u 0) 0) same ∙ (ap (λ k. get_or (with_next r s).order k 0) own ∙ (get_or_push r.order s 0 n refl ∙ sym same))
+            | inr apart ↦
+                (let ranked_before = rw (rank_elsewhere g r s t apart) at ranked in
+                ap (λ k. get_or (with_next r s).order k 0) (rank_elsewhere g r s t apart) ∙ (order_before r s (get_or r.ranks t 0) (h.has_rank t there ranked_before) ∙ h.at_rank t there ranked_before))
+          ];
+      in_order = λ k within.
+          elim (cases_lt k n) [
+            | inl before ↦ omega (arith, order_before r s k before, h.in_order k before)
+            | inr last ↦ (let e : n ≡ k = omega (arith, length_push r.order s) in omega (arith, get_or_push r.order s 0 k e))
+          ];
+      rank_at = λ k within.
+          elim (cases_lt k n) [
+            | inl before ↦
+                (let u = get_or r.order k 0 in
+                let apart : u ≢ s = λ same. omega (arith, h.rank_at k before, ap (λ v. get_or r.ranks v 0) same, room) in
+                ap (λ v. get_or (with_next r s).ranks v 0) (order_before r s k before) ∙ (rank_elsewhere g r s u apart ∙ h.rank_at k before))
+            | inr last ↦
+                (let e : n ≡ k = omega (arith, length_push r.order s) in
+                ap (λ v. get_or (with_next r s).ranks v 0) (get_or_push r.order s 0 k e) ∙ (own ∙ e))
+          ];
+      falls = λ a there free ranked.
+          (let T = stations g in
+          let from = (arc g a).from in
+          let to = (arc g a).to in
+          elim (cases_eq from s) [
+            | inl same ↦
+                (let low = ranked_ends a there same free in
+                let apart : to ≢ s = λ e. omega (arith, ap (λ v. get_or r.ranks v 0) e, low, room) in
+                omega (arith, rank_elsewhere g r s to apart, ap (λ v. get_or (with_next r s).ranks v 0) same, own, low))
+            | inr apart_from ↦
+                (let fall = h.falls a there free (rw (rank_elsewhere g r s from apart_from) at ranked) in
+                let apart : to ≢ s = λ e. omega (arith, ap (λ v. get_or r.ranks v 0) e, fall, rank_elsewhere g r s from apart_from, ranked) in
+                omega (arith, rank_elsewhere g r s to apart, rank_elsewhere g r s from apart_from, fall))
+          ]);
+    }
+
+-- so does a station that waits for no arc
 pub next_keeps : (g : Parts) (r : Ranks) (p s : ℕ) (arcs : List ℕ) → IsGraph g → IsPassing g r p arcs → s < stations g → get_or r.waiting s 0 ≡ 0 → stations g ≤ get_or r.ranks s 0 → IsPassing g (with_next r s) p arcs
 next_keeps g r p s arcs graph h exists idle unranked =
     let n = length r.order in
-    let room = has_room g r p s arcs h exists unranked in
     let here : s < length r.ranks = omega (arith, h.falling.rank_for_each) in
-    let own : get_or (with_next r s).ranks s 0 ≡ n = get_or-set_same r.ranks s n 0 here in
     record {
-      falling = record {
-        rank_for_each = length-set r.ranks s n ∙ h.falling.rank_for_each;
-        unranked =
-            (let f = λ (x : ℕ). cond (leb (stations g) x) 1 0 in
-            let moved = sum_by-set f r.ranks s n 0 here in
-            let before : f (get_or r.ranks s 0) ≡ 1 = ap {B = ℕ} (λ b. cond b 1 0) (le-leb (stations g) (get_or r.ranks s 0) unranked) in
-            let after : f n ≡ 0 = ap {B = ℕ} (λ b. cond b 1 0) (lt-leb (stations g) n room) in
-            omega (arith, h.falling.unranked, moved, before, after, length_push r.order s));
-        has_rank = λ t there ranked.
-            elim (cases_eq t s) [
-              | inl same ↦ omega (arith, ap (λ u. get_or (with_next r s).ranks u 0) same, own, length_push r.order s)
-              | inr apart ↦ omega (arith, rank_elsewhere g r s t apart, h.falling.has_rank t there (rw (rank_elsewhere g r s t apart) at ranked), length_push r.order s)
-            ];
-        at_rank = λ t there ranked.
-            elim (cases_eq t s) [
-              | inl same ↦ ap (λ u. get_or (with_next r s).order (get_or (with_next r s).ranks u 0) 0) same ∙ (ap (λ k. get_or (with_next r s).order k 0) own ∙ (get_or_push r.order s 0 n refl ∙ sym same))
-              | inr apart ↦
-                  (let ranked_before = rw (rank_elsewhere g r s t apart) at ranked in
-                  ap (λ k. get_or (with_next r s).order k 0) (rank_elsewhere g r s t apart) ∙ (order_before r s (get_or r.ranks t 0) (h.falling.has_rank t there ranked_before) ∙ h.falling.at_rank t there ranked_before))
-            ];
-        in_order = λ k within.
-            elim (cases_lt k n) [
-              | inl before ↦ omega (arith, order_before r s k before, h.falling.in_order k before)
-              | inr last ↦ (let e : n ≡ k = omega (arith, length_push r.order s) in omega (arith, get_or_push r.order s 0 k e))
-            ];
-        rank_at = λ k within.
-            elim (cases_lt k n) [
-              | inl before ↦
-                  (let u = get_or r.order k 0 in
-                  let apart : u ≢ s = λ same. omega (arith, h.falling.rank_at k before, ap (λ v. get_or r.ranks v 0) same, room) in
-                  ap (λ v. get_or (with_next r s).ranks v 0) (order_before r s k before) ∙ (rank_elsewhere g r s u apart ∙ h.falling.rank_at k before))
-              | inr last ↦
-                  (let e : n ≡ k = omega (arith, length_push r.order s) in
-                  ap (λ v. get_or (with_next r s).ranks v 0) (get_or_push r.order s 0 k e) ∙ (own ∙ e))
-            ];
-        falls = λ a there free ranked.
-            (let T = stations g in
-            let from = (arc g a).from in
-            let to = (arc g a).to in
-            elim (cases_eq from s) [
-              | inl same ↦
-                  (let low = ends_passed g r p s a arcs h exists idle there same free in
-                  let apart : to ≢ s = λ e. omega (arith, ap (λ v. get_or r.ranks v 0) e, low, h.within, room) in
-                  omega (arith, rank_elsewhere g r s to apart, ap (λ v. get_or (with_next r s).ranks v 0) same, own, low, h.within))
-              | inr apart_from ↦
-                  (let fall = h.falling.falls a there free (rw (rank_elsewhere g r s from apart_from) at ranked) in
-                  let apart : to ≢ s = λ e. omega (arith, ap (λ v. get_or r.ranks v 0) e, fall, rank_elsewhere g r s from apart_from, ranked) in
-                  omega (arith, rank_elsewhere g r s to apart, rank_elsewhere g r s from apart_from, fall))
-            ]);
-      };
+      falling = next_falls g r s h.falling exists unranked (λ a there from free. omega (arith, ends_passed g r p s a arcs h exists idle there from free, h.within));
       within = omega (arith, h.within, length_push r.order s);
       waiting_for_each = h.waiting_for_each;
       waits = λ t there. h.waits t there ∙ ap (λ c. c + count_by (is_free_from g t) arcs) (sym (open_count-next g r.ranks p s n t here h.within (omega (arith, h.within))));
@@ -204,7 +211,7 @@ next_ready g r p s n arcs h exists unranked others = record {
   all_wait = λ t below no_rank.
       elim (cases_eq t s) [
         | inl same ↦
-            absurd (omega (arith, no_rank, ap (λ u. get_or (with_next r s).ranks u 0) same, get_or-set_same r.ranks s (length r.order) 0 (omega (arith, h.falling.rank_for_each)), has_room g r p s arcs h exists unranked))
+            absurd (omega (arith, no_rank, ap (λ u. get_or (with_next r s).ranks u 0) same, get_or-set_same r.ranks s (length r.order) 0 (omega (arith, h.falling.rank_for_each)), has_room g r s h.falling exists unranked))
         | inr apart ↦ others t below apart (rw (rank_elsewhere g r s t apart) at no_rank)
       ];
 }
@@ -289,29 +296,37 @@ and_true : (b c : Bool) → c ≡ true → (b && c) ≡ b
 and_true true c passes = passes
 and_true false c passes = refl
 
+-- no station has a rank at the start
+no_rank : (T t : ℕ) → t < T → get_or (replicate T T) t 0 < T → ⊥
+no_rank T t exists ranked = omega (arith, ranked, get_or-replicate T t T 0 exists)
+
+pub start_falls : (g : Parts) → IsGraph g → IsFalling g (replicate (stations g) (stations g)) []
+start_falls g graph =
+    let T = stations g in
+    record {
+      rank_for_each = length-replicate T T;
+      unranked =
+          (let each : cond (leb T T) 1 0 ≡ 1 = ap {B = ℕ} (λ b. cond b 1 0) (le-leb T T (omega arith)) in
+          add-zero (count_by (leb T) (replicate T T)) ∙ (sum_by-replicate (λ x. cond (leb T x) 1 0) T T ∙ (ap (λ c. T * c) each ∙ mul-one T)));
+      has_rank = λ t exists ranked. absurd (no_rank T t exists ranked);
+      at_rank = λ t exists ranked. absurd (no_rank T t exists ranked);
+      in_order = λ k below. absurd (omega (arith, below));
+      rank_at = λ k below. absurd (omega (arith, below));
+      falls = λ a there none ranked. absurd (no_rank T (arc g a).from (graph.starts_exist a there) ranked);
+    }
+
 -- with no rank, each station waits for all arcs out of it without a token
 pub start_keeps : (g : Parts) (waiting : List ℕ) → IsGraph g → length waiting ≡ stations g → ((t : ℕ) → t < stations g → get_or waiting t 0 ≡ count_by (is_free_from g t) (range_with_len 0 (arc_count g))) → IsPassing g (record { waiting = waiting; ranks = replicate (stations g) (stations g); order = [] }) 0 []
 unfolding open_count
 start_keeps g waiting graph long counts =
     let T = stations g in
-    let no_rank : (t : ℕ) → t < T → get_or (replicate T T) t 0 < T → ⊥ = λ t exists ranked. omega (arith, ranked, get_or-replicate T t T 0 exists) in
     record {
-      falling = record {
-        rank_for_each = length-replicate T T;
-        unranked =
-            (let each : cond (leb T T) 1 0 ≡ 1 = ap {B = ℕ} (λ b. cond b 1 0) (le-leb T T (omega arith)) in
-            add-zero (count_by (leb T) (replicate T T)) ∙ (sum_by-replicate (λ x. cond (leb T x) 1 0) T T ∙ (ap (λ c. T * c) each ∙ mul-one T)));
-        has_rank = λ t exists ranked. absurd (no_rank t exists ranked);
-        at_rank = λ t exists ranked. absurd (no_rank t exists ranked);
-        in_order = λ k below. absurd (omega (arith, below));
-        rank_at = λ k below. absurd (omega (arith, below));
-        falls = λ a there none ranked. absurd (no_rank (arc g a).from (graph.starts_exist a there) ranked);
-      };
+      falling = start_falls g graph;
       within = omega arith;
       waiting_for_each = long;
       waits = λ t exists.
           counts t exists ∙ (count_by-range-agree (is_free_from g t) (is_open g (replicate T T) 0 t) 0 (arc_count g) (λ a low high. sym (and_true (is_free_from g t a) (leb 0 (get_or (replicate T T) (arc g a).to 0)) (le-leb 0 (get_or (replicate T T) (arc g a).to 0) (omega arith)))) ∙ sym (add-zero (open_count g (replicate T T) 0 t)));
-      no_wait = λ t exists ranked. absurd (no_rank t exists ranked);
+      no_wait = λ t exists ranked. absurd (no_rank T t exists ranked);
     }
 
 -- where all stations of the order were passed, each station without a rank is stuck
@@ -437,7 +452,7 @@ may_release g r p i into graph h below there none =
     let a = get_or into i 0 in
     let passing = rw (drop_more into i 0 below) at h in
     let still = waits_still g r p a (drop (i + 1) into) graph passing there none in
-    (still.0, omega (arith, h.falling.rank_for_each, has_room g r p (arc g a).from (a ∷ drop (i + 1) into) passing (graph.starts_exist a there) still.1))
+    (still.0, omega (arith, h.falling.rank_for_each, has_room g r (arc g a).from passing.falling (graph.starts_exist a there) still.1))
 
 -- the station of the next rank, as it is read
 pub turn_read : (g : Parts) (r : Ranks) (order into : List ℕ) (p t : ℕ) → IsGraph g → IsPassing g r p [] → NoneIsReady g r (stations g) → p < length r.order → order ≡ r.order → t ≡ get_or order p t → into ≡ ins g t → HasTurned g r (p + 1) into

@@ -20,6 +20,10 @@ pub record IsUpward (g : Parts) (places : List ℕ) : Type 0 where
   pub upward : (a : ℕ) → a < arc_count g → (arc g a).tokens ≡ 0 →
       slice_index places (arc g a).from < slice_index places (arc g a).to
 
+-- the stations have an order in which each arc without a token goes upwards
+abbrev pub HasOrder : Parts → Type 0
+HasOrder g = (places : List ℕ) × IsUpward g places
+
 -- at each place stands a station that has this place
 pub record StandsAt (g : Parts) (places order : List ℕ) : Type 0 where
   pub one_for_each : length order ≡ stations g

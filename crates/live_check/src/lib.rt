@@ -3,11 +3,9 @@
 #![tactic(auto)]
 
 mod circuit;
-mod law;
+mod laws;
 mod live;
 mod ranking;
-#[cfg(test)]
-mod tests;
 
-pub use law::more_tokens_never_later;
+pub use laws::{live_graphs_have_an_order, more_tokens_never_later};
 pub use live::{Live, NotLive, rank};

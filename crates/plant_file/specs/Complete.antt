@@ -1,7 +1,7 @@
 -- For the proofs of this crate: what a draft's files hold, once they have been read.
 use Rattle.std.specs.Prelude.{◌≡◌, ◌≤◌, ◌<◌, ℕ, All, List, [], Option, Vec, IfSome, is_some, option_map, vec_len}
 use Rattle.std.specs.Global.{Global}
-use Rattle.line_base.specs.declared.limits.TheConstants.{MAX_DEMAND_DATE}
+use Rattle.line_base.specs.Limits.{last_demand}
 use Rattle.demand_feed.specs.declared.error.FeedError.{FeedError}
 use Rattle.demand_feed.specs.declared.error.FeedError.TheVariants as feed
 use Rattle.demand_feed.specs.Dates.{dates_of}
@@ -9,8 +9,8 @@ use Rattle.demand_feed.specs.JobTimes.{JobTimes}
 use Rattle.demand_feed.specs.Times.{times_of}
 use Rattle.plant_model.specs.declared.error.PlantError.{PlantError}
 use Rattle.plant_model.specs.declared.error.PlantError.TheVariants.{BadRecord, NoMemory}
-use Rattle.plant_file.specs.declared.draft.DraftPlant.{DraftPlant}
-use Rattle.plant_file.specs.Draft.{demands_file, columns_of}
+use Rattle.plant_draft.specs.declared.draft.DraftPlant.{DraftPlant}
+use Rattle.plant_draft.specs.Draft.{demands_file, columns_of}
 use Rattle.plant_file.specs.Finish.{bad_record_in, held_in}
 
 -- the refusal of a file that gave this error
@@ -22,7 +22,7 @@ refusal_of file feed.NoMemory = NoMemory
 pub record HoldsDates (d : DraftPlant) (bytes : Option (List ℕ)) (dates : Option (Vec ℕ Global)) : Type 0 where
   pub given : is_some dates ≡ is_some (demands_file d)
   pub some : IfSome dates (λ read. 0 < vec_len read)
-  pub limit : IfSome dates (λ read. All (λ date. date ≤ MAX_DEMAND_DATE) read.items)
+  pub limit : IfSome dates (λ read. All (λ date. date ≤ last_demand) read.items)
   pub held : option_map (λ (read : Vec ℕ Global). read.items) dates ≡ held_in dates_of bytes
   pub good : bad_record_in dates_of (demands_file d) bytes ≡ []
 

@@ -2,7 +2,7 @@
 use Rattle.std.specs.Prelude.{◌≡◌, ◌≢◌, ◌≤◌, ⊤, ℕ, All, Contains, IfSome, List, [], ◌∷◌, ◌++◌, length, map, Option, unwrap_or, Result, Ok, Err, MatchResult}
 use Rattle.std.specs.Option.{option_and_then, option_map_or}
 use Rattle.std.specs.Result.{result_ok}
-use Rattle.line_base.specs.declared.limits.TheConstants.{MAX_TIME}
+use Rattle.line_base.specs.Limits.{longest_time}
 use Rattle.line_base.specs.declared.times.Times.{Times}
 use Rattle.line_base.specs.declared.times.Times.TheVariants as made
 use Rattle.plant_model.specs.declared.error.PlantError.{PlantError}
@@ -16,15 +16,15 @@ use Rattle.demand_feed.specs.Dates.{dates_of}
 use Rattle.demand_feed.specs.JobTimes.{JobTimes, numbers_in}
 use Rattle.demand_feed.specs.Rows.{Reading}
 use Rattle.demand_feed.specs.Times.{times_of}
-use Rattle.plant_file.specs.declared.draft.DraftDemands.{DraftDemands}
-use Rattle.plant_file.specs.declared.draft.DraftDemands.TheVariants.{Given, File}
-use Rattle.plant_file.specs.declared.draft.DraftTimes.{DraftTimes}
-use Rattle.plant_file.specs.declared.draft.DraftTimes.TheVariants.{Column, Fixed, Each}
-use Rattle.plant_file.specs.declared.draft.DraftMachine.{DraftMachine}
-use Rattle.plant_file.specs.declared.draft.DraftStage.{DraftStage}
-use Rattle.plant_file.specs.declared.draft.DraftLoop.{DraftLoop}
-use Rattle.plant_file.specs.declared.draft.DraftPlant.{DraftPlant}
-use Rattle.plant_file.specs.Draft.{demands_file, columns_of}
+use Rattle.plant_draft.specs.declared.draft.DraftDemands.{DraftDemands}
+use Rattle.plant_draft.specs.declared.draft.DraftDemands.TheVariants.{Given, File}
+use Rattle.plant_draft.specs.declared.draft.DraftTimes.{DraftTimes}
+use Rattle.plant_draft.specs.declared.draft.DraftTimes.TheVariants.{Column, Fixed, Each}
+use Rattle.plant_draft.specs.declared.draft.DraftMachine.{DraftMachine}
+use Rattle.plant_draft.specs.declared.draft.DraftStage.{DraftStage}
+use Rattle.plant_draft.specs.declared.draft.DraftLoop.{DraftLoop}
+use Rattle.plant_draft.specs.declared.draft.DraftPlant.{DraftPlant}
+use Rattle.plant_draft.specs.Draft.{demands_file, columns_of}
 
 -- a column that a machine uses is one of the table's
 abbrev pub HasColumn : Option JobTimes → DraftTimes → Type 0
@@ -38,7 +38,7 @@ HasColumns table s = All (λ m. HasColumn table m.times) s.machines
 
 -- no number of a table is above the limit
 abbrev pub IsWithinLimit : JobTimes → Type 0
-IsWithinLimit table = All (λ row. All (λ time. time ≤ MAX_TIME) row) table.rows
+IsWithinLimit table = All (λ row. All (λ time. time ≤ longest_time) row) table.rows
 
 -- the dates that are given in the plant file, or those of the demand file
 abbrev pub dates_with : DraftDemands → Option (List ℕ) → List ℕ

@@ -1,10 +1,3 @@
-pub mod Draft
-pub mod Readers
-pub mod Keys
-pub mod Walk
-pub mod Reading
+pub mod Complete
 pub mod Finish
 pub mod PlantOfFiles
-pub mod Complete
-pub mod Columns
-pub mod Code

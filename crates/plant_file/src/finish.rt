@@ -5,101 +5,106 @@ ghost use Rattle.demand_feed.specs.Dates.{dates_of};
 ghost use Rattle.demand_feed.specs.JobTimes.{numbers_in};
 ghost use Rattle.demand_feed.specs.Times.{times_of};
 ghost use Rattle.plant_model.specs.Sound.{IsSound};
-ghost use Rattle.plant_file.specs.Draft.{demands_file, columns_of, is_filled};
+ghost use Rattle.plant_draft.specs.Draft.{demands_file, columns_of};
 ghost use Rattle.plant_file.specs.Finish.{AnswersPlant, HasColumn, HasColumns, IsWithinLimit, bad_record_in, completed, dates_with, finished, loop_with, machine_with, plant_with, stage_with, times_with};
 ghost use Rattle.plant_file.specs.Complete.{HoldsDates, HoldsTimes, refusal_of};
 ghost use Rattle.plant_file.specs.PlantOfFiles.{Contents, IsReadFrom, plant_of};
 
-use crate::draft::{
-    Draft, DraftDemands, DraftLoop, DraftMachine, DraftPlant, DraftStage, DraftTimes,
-};
 use demand_feed::{Columns, FeedError, read_dates, read_times};
 use line_base::{Date, Items, Times};
+use plant_draft::{
+    Draft, DraftDemands, DraftLoop, DraftMachine, DraftPlant, DraftStage, DraftTimes,
+};
 use plant_model::{CardLoop, Machine, Plant, PlantError, Stage, Text};
 use std::alloc::{AllocError, Global};
 
-impl Draft {
-    /// The plant of a draft, with the dates of its demand file and the times of its times file where it uses them. The error
-    /// is the first of the refusals 11 to 15 of `PlantError`. A loop's end that names no stage becomes the number of stages,
-    /// which class 14 refuses. Want of memory may come before any refusal.
-    pub fn finish(
-        self,
-        alloc: Global,
-        dates: Option<Vec<Date>>,
-        times: Option<Columns>,
-    ) -> Result<Plant, PlantError>
-        requires dates_where_used { is_some dates ≡ is_some (demands_file self) }
-        requires some_dates { IfSome dates (λ read. 0 < vec_len read) }
-        requires dates_limit { IfSome dates (λ read. All (λ date. date ≤ MAX_DEMAND_DATE) read.items) }
-        requires times_where_used { is_some times ≡ is_filled (columns_of self) }
-        requires times_columns { IfSome times (λ table. table.columns ≡ columns_of self) }
-        ensures plant { AnswersPlant result (finished self (option_map (λ read. read.items) dates) times) }
-        ensures sound { IfOk result IsSound }
-    {
-        let Draft { plant, columns: _ } = self;
-        let plant = plant_with(alloc, plant, dates, times)?;
-        plant.check_whole(alloc)?;
-        Ok(plant)
+/// The plant of a draft, with the dates of its demand file and the times of its times file where it uses them. The error is
+/// the first of the refusals 11 to 15 of `PlantError`. A loop's end that names no stage becomes the number of stages, which
+/// class 14 refuses. Want of memory may come before any refusal.
+pub fn finish_draft(
+    alloc: Global,
+    draft: Draft,
+    dates: Option<Vec<Date>>,
+    times: Option<Columns>,
+) -> Result<Plant, PlantError>
+    requires dates_where_used { is_some dates ≡ is_some (demands_file draft) }
+    requires some_dates { IfSome dates (λ read. 0 < vec_len read) }
+    requires dates_limit { IfSome dates (λ read. All (λ date. date ≤ MAX_DEMAND_DATE) read.items) }
+    requires times_where_used { is_some times ≡ is_some draft.times_file }
+    requires times_columns { IfSome times (λ table. table.columns ≡ columns_of draft) }
+    ensures plant { AnswersPlant result (finished draft (option_map (λ read. read.items) dates) times) }
+    ensures sound { IfOk result IsSound }
+{
+    let plant = plant_with(alloc, draft.into_plant(), dates, times)?;
+    plant.check_whole(alloc)?;
+    Ok(plant)
+}
+
+/// The plant of a draft and of the bytes of its demand file and of its times file, each given exactly where the draft names
+/// it. The error is the first of the refusals 10 to 15 of `PlantError`, the demand file tried before the times file. Want of
+/// memory may come before any refusal.
+pub fn complete_draft(
+    alloc: Global,
+    draft: Draft,
+    demands: Option<&[u8]>,
+    times: Option<&[u8]>,
+) -> Result<Plant, PlantError>
+    requires demands_where_used { is_some demands ≡ is_some (demands_file draft) }
+    requires times_where_used { is_some times ≡ is_some draft.times_file }
+    requires times_size { IfSome times (λ bytes. length bytes.now ≤ MAX_FILE_BYTES) }
+    ensures plant { AnswersPlant result (completed draft (option_copied demands.entry) (option_copied times.entry)) }
+    ensures sound { IfOk result IsSound }
+
+    // where the draft and the bytes are those of files, the answer is the plant of the files
+    ensures of_files { (name : List ℕ) (files : Contents)
+        → IsReadFrom name files draft (option_copied demands.entry) (option_copied times.entry)
+        → AnswersPlant result (plant_of name files) }
+{
+    let dates = dates_in(alloc, &draft, demands)?;
+    let table = times_in(alloc, &draft, times)?;
+    finish_draft(alloc, draft, dates, table)
+}
+
+/// The dates of the bytes of the demand file, if there is one.
+fn dates_in(
+    alloc: Global,
+    draft: &Draft,
+    bytes: Option<&[u8]>,
+) -> Result<Option<Vec<Date>>, PlantError>
+    requires { is_some bytes ≡ is_some (demands_file draft.now) }
+    ensures held { IfOk result (HoldsDates draft.now (option_copied bytes.entry)) }
+    ensures refused { IfErr result (λ e. e ≢ PlantError.NoMemory
+        → bad_record_in dates_of (demands_file draft.now) (option_copied bytes.entry) ≡ e ∷ []) }
+{
+    let Some(bytes) = bytes else {
+        return Ok(None);
+    };
+    let name = draft.demands_file().unwrap_or("");
+    match read_dates(alloc, bytes) {
+        Ok(dates) => Ok(Some(dates)),
+        Err(error) => Err(refusal_of(alloc, name, error)),
     }
+}
 
-    /// The plant of a draft and of the bytes of its demand file and of its times file, each given exactly where the draft
-    /// names it. The error is the first of the refusals 10 to 15 of `PlantError`, the demand file tried before the times
-    /// file. Want of memory may come before any refusal.
-    pub fn complete(
-        self,
-        alloc: Global,
-        demands: Option<&[u8]>,
-        times: Option<&[u8]>,
-    ) -> Result<Plant, PlantError>
-        requires demands_where_used { is_some demands ≡ is_some (demands_file self) }
-        requires times_where_used { is_some times ≡ is_some self.times_file }
-        requires times_size { IfSome times (λ bytes. length bytes.now ≤ MAX_FILE_BYTES) }
-        ensures plant { AnswersPlant result (completed self (option_copied demands.entry) (option_copied times.entry)) }
-        ensures sound { IfOk result IsSound }
-
-        // where the draft and the bytes are those of files, the answer is the plant of the files
-        ensures of_files { (name : List ℕ) (files : Contents)
-            → IsReadFrom name files self (option_copied demands.entry) (option_copied times.entry)
-            → AnswersPlant result (plant_of name files) }
-    {
-        let dates = self.dates_in(alloc, demands)?;
-        let table = self.times_in(alloc, times)?;
-        self.finish(alloc, dates, table)
-    }
-
-    /// The dates of the bytes of the demand file, if there is one.
-    fn dates_in(&self, alloc: Global, bytes: Option<&[u8]>) -> Result<Option<Vec<Date>>, PlantError>
-        requires { is_some bytes ≡ is_some (demands_file self.now) }
-        ensures held { IfOk result (HoldsDates self.now (option_copied bytes.entry)) }
-        ensures refused { IfErr result (λ e. e ≢ PlantError.NoMemory
-            → bad_record_in dates_of (demands_file self.now) (option_copied bytes.entry) ≡ e ∷ []) }
-    {
-        let Some(bytes) = bytes else {
-            return Ok(None);
-        };
-        let name = self.demands_file().unwrap_or("");
-        match read_dates(alloc, bytes) {
-            Ok(dates) => Ok(Some(dates)),
-            Err(error) => Err(refusal_of(alloc, name, error)),
-        }
-    }
-
-    /// The table of the bytes of the times file, if there is one.
-    fn times_in(&self, alloc: Global, bytes: Option<&[u8]>) -> Result<Option<Columns>, PlantError>
-        requires where_used { is_some bytes ≡ is_some self.now.times_file }
-        requires size { IfSome bytes (λ bs. length bs.now ≤ MAX_FILE_BYTES) }
-        ensures held { IfOk result (HoldsTimes self.now (option_copied bytes.entry)) }
-        ensures refused { IfErr result (λ e. e ≢ PlantError.NoMemory
-            → bad_record_in (times_of (columns_of self.now)) self.now.times_file (option_copied bytes.entry) ≡ e ∷ []) }
-    {
-        let Some(bytes) = bytes else {
-            return Ok(None);
-        };
-        let name = self.times_file().unwrap_or("");
-        match read_times(alloc, bytes, self.columns()) {
-            Ok(table) => Ok(Some(table)),
-            Err(error) => Err(refusal_of(alloc, name, error)),
-        }
+/// The table of the bytes of the times file, if there is one.
+fn times_in(
+    alloc: Global,
+    draft: &Draft,
+    bytes: Option<&[u8]>,
+) -> Result<Option<Columns>, PlantError>
+    requires where_used { is_some bytes ≡ is_some draft.now.times_file }
+    requires size { IfSome bytes (λ bs. length bs.now ≤ MAX_FILE_BYTES) }
+    ensures held { IfOk result (HoldsTimes draft.now (option_copied bytes.entry)) }
+    ensures refused { IfErr result (λ e. e ≢ PlantError.NoMemory
+        → bad_record_in (times_of (columns_of draft.now)) draft.now.times_file (option_copied bytes.entry) ≡ e ∷ []) }
+{
+    let Some(bytes) = bytes else {
+        return Ok(None);
+    };
+    let name = draft.times_file().unwrap_or("");
+    match read_times(alloc, bytes, draft.columns()) {
+        Ok(table) => Ok(Some(table)),
+        Err(error) => Err(refusal_of(alloc, name, error)),
     }
 }
 
@@ -298,6 +303,3 @@ fn column_of(alloc: Global, table: &Columns, jobs: u32, column: u32) -> Result<V
     }
     Ok(times)
 }
-
-#[cfg(test)]
-mod tests;

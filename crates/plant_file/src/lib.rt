@@ -1,21 +1,9 @@
-//! Plant files: what a file says, as a draft, or the first refusal of its bytes.
+//! Plant files: the plant of a file and of the files that it names, or the first refusal.
 #![tactic(auto)]
 
-mod build;
-mod check;
-mod columns;
-mod draft;
-mod feeds;
 mod finish;
-mod keys;
-mod names;
-mod read;
-mod rules;
-mod unknown;
-mod values;
 
-pub use draft::{Draft, DraftDemands, DraftLoop, DraftMachine, DraftPlant, DraftStage, DraftTimes};
-pub use read::read_plant;
-
-#[cfg(test)]
-mod tests;
+pub use finish::{complete_draft, finish_draft};
+pub use plant_draft::{
+    Draft, DraftDemands, DraftLoop, DraftMachine, DraftPlant, DraftStage, DraftTimes, read_plant,
+};

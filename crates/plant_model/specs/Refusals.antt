@@ -3,7 +3,7 @@
 use Rattle.std.specs.Prelude.{◌≡◌, ◌≢◌, ⊤, ℕ, ◌+◌, ◌-◌, ◌*◌, Bool, not, ◌&&◌, ◌||◌, ◌==◌, nat_lt, if◌then◌else◌, List, [], ◌∷◌, ◌++◌, length, take, slice_index, Option, None, Some, is_none, Result, MatchResult, codes, bytes_eq}
 use Rattle.std.specs.Option.{option_map_or}
 use Rattle.std.specs.List.{list_any}
-use Rattle.line_base.specs.declared.limits.TheConstants.{MAX_STAGES, MAX_STATIONS, MAX_DEMANDS, MAX_TABLE, MAX_LOOPS, MAX_OBSERVE, MAX_OBSERVE_DATE, MAX_CARDS, MAX_TIME, MAX_DEMAND_DATE}
+use Rattle.line_base.specs.Limits.{most_stages, most_stations, most_demands, most_dates, most_loops, most_observed, last_observed, most_cards, longest_time, last_demand}
 use Rattle.line_base.specs.declared.times.Times.{Times}
 use Rattle.line_base.specs.declared.times.Times.TheVariants.{Fixed, Each}
 use Rattle.plant_model.specs.declared.error.PlantError.{PlantError}
@@ -79,45 +79,45 @@ empty place (_ ∷ _) = []
 -- 7, of the line's cards
 abbrev pub cards_out_of_range : Policy → List PlantError
 cards_out_of_range Kanban = []
-cards_out_of_range (Conwip cards) = above (codes "cards") MAX_CARDS cards
+cards_out_of_range (Conwip cards) = above (codes "cards") most_cards cards
 cards_out_of_range BaseStock = []
 cards_out_of_range Extended = []
 
 -- 7, of the keys at the top
 abbrev pub top_out_of_range : Plant → List PlantError
 top_out_of_range p =
-    above (codes "card_time") MAX_TIME p.card_time
+    above (codes "card_time") longest_time p.card_time
     ++ (cards_out_of_range p.policy
     ++ (empty (codes "demands") p.demands
-    ++ (each (element_above (codes "demands") MAX_DEMAND_DATE) p.demands
-    ++ (each (element_above (codes "observe") MAX_OBSERVE_DATE) p.observe
+    ++ (each (element_above (codes "demands") last_demand) p.demands
+    ++ (each (element_above (codes "observe") last_observed) p.observe
     ++ empty (codes "stage") p.stages))))
 
 -- 7, of job times
 abbrev pub times_out_of_range : Table → Times → List PlantError
-times_out_of_range machine (Fixed time) = above (key_of machine (codes "time")) MAX_TIME time
-times_out_of_range machine (Each times) = each (element_above (key_of machine (codes "times")) MAX_TIME) times
+times_out_of_range machine (Fixed time) = above (key_of machine (codes "time")) longest_time time
+times_out_of_range machine (Each times) = each (element_above (key_of machine (codes "times")) longest_time) times
 
 -- 7, of machine j of stage i
 abbrev pub machine_out_of_range : ℕ → ℕ → Machine → List PlantError
 machine_out_of_range i j m =
-    above (key_of (InMachine i j) (codes "servers")) MAX_CARDS m.servers ++ times_out_of_range (InMachine i j) m.times
+    above (key_of (InMachine i j) (codes "servers")) most_cards m.servers ++ times_out_of_range (InMachine i j) m.times
 
 -- 7, of stage i: its keys, then its machines
 abbrev pub stage_out_of_range : ℕ → Stage → List PlantError
 stage_out_of_range i s =
-    above (key_of (InStage i) (codes "card_time")) MAX_TIME s.card_time
-    ++ (above (key_of (InStage i) (codes "cards")) MAX_CARDS s.cards
+    above (key_of (InStage i) (codes "card_time")) longest_time s.card_time
+    ++ (above (key_of (InStage i) (codes "cards")) most_cards s.cards
     ++ (empty (key_of (InStage i) (codes "machine")) s.machines
-    ++ (above (key_of (InStage i) (codes "stock")) MAX_CARDS s.stock
-    ++ (above (key_of (InStage i) (codes "travel")) MAX_TIME s.travel
+    ++ (above (key_of (InStage i) (codes "stock")) most_cards s.stock
+    ++ (above (key_of (InStage i) (codes "travel")) longest_time s.travel
     ++ each (machine_out_of_range i) s.machines))))
 
 -- 7, of loop k
 abbrev pub loop_out_of_range : ℕ → CardLoop → List PlantError
 loop_out_of_range k l =
-    above (key_of (InLoop k) (codes "card_time")) MAX_TIME l.card_time
-    ++ above (key_of (InLoop k) (codes "cards")) MAX_CARDS l.cards
+    above (key_of (InLoop k) (codes "card_time")) longest_time l.card_time
+    ++ above (key_of (InLoop k) (codes "cards")) most_cards l.cards
 
 -- 7: a number is outside its limits, or a list is empty that may not be
 abbrev pub out_of_range : Plant → List PlantError
@@ -220,12 +220,12 @@ larger what limit n = refuse_if (nat_lt limit n) (TooLarge what)
 -- 15: the plant is too large
 abbrev pub too_large : Plant → List PlantError
 too_large p =
-    larger (codes "stages") MAX_STAGES (length p.stages)
-    ++ (larger (codes "stations") MAX_STATIONS (station_count p)
-    ++ (larger (codes "demands") MAX_DEMANDS (length p.demands)
-    ++ (larger (codes "table") MAX_TABLE (station_count p * length p.demands)
-    ++ (larger (codes "loops") MAX_LOOPS (length p.loops)
-    ++ larger (codes "observe") MAX_OBSERVE (length p.observe)))))
+    larger (codes "stages") most_stages (length p.stages)
+    ++ (larger (codes "stations") most_stations (station_count p)
+    ++ (larger (codes "demands") most_demands (length p.demands)
+    ++ (larger (codes "table") most_dates (station_count p * length p.demands)
+    ++ (larger (codes "loops") most_loops (length p.loops)
+    ++ larger (codes "observe") most_observed (length p.observe)))))
 
 -- 5 to 9: what is wrong with the parts of a plant
 unfoldable pub parts_refusals : Plant → List PlantError

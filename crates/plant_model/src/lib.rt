@@ -15,6 +15,3 @@ pub use layout::{FEED, Layout};
 pub use place::{Table, element_place, key_place, table_place};
 pub use plant::{CardLoop, Machine, Plant, Policy, Stage};
 pub use text::Text;
-
-#[cfg(test)]
-mod tests;

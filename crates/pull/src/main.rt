@@ -7,9 +7,6 @@ use std::process::ExitCode;
 use std::rt::Env;
 use std::{env, io};
 
-#[cfg(test)]
-mod tests;
-
 /// The status where the machine doesn't hand over the words, as where one is no UTF-8. The top call never answers it.
 const NO_WORDS: u8 = 1;
 

@@ -1,6 +1,4 @@
-pub mod DeadCircuits
-pub mod Plants
-pub mod PlantsOfFiles
-pub mod Endings
+pub mod Commands
 pub mod FileReads
-pub mod Schedules
+pub mod PlantsOfFiles
+pub mod StepLemmas

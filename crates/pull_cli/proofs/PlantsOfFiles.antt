@@ -1,80 +1,279 @@
--- Where files are told, what a command reads of a plant file is the plant of the files, or its first refusal.
-use Rattle.std.proofs.Common.{◌≡◌, ◌⊎◌, ℕ, Bool, true, false, cond, List, [], length, refl, ap, sym, ◌∙◌, subst, ⊎_elim}
-use Rattle.std.specs.Prelude.{Option, Some, None, Result, Ok, Err, IsTrue, nat_lt, unwrap_or}
-use Rattle.line_base.specs.declared.limits.TheConstants.{MAX_FILE_BYTES}
+-- Where files are told, what a command says of its plant is said of the plant of the files.
+use Rattle.std.proofs.Common.{◌≡◌, ◌⊎◌, ℕ, List, [], ◌∷◌, ◌++◌, refl, ap, sym, ◌∙◌, subst, ⊎_elim}
+use Rattle.std.specs.Prelude.{Option, Some, None, Result, Ok, Err, IsTrue, All, unwrap_or, ⊤}
+use Rattle.std.proofs.lemmas.List.Elements.{All-nil, All-cons, All-head, All-tail}
+use Rattle.event_graph.specs.State.{State}
+use Rattle.line_core.specs.Schedule.{follow}
+use Rattle.line_core.specs.declared.error.ReplayError.{ReplayError}
+use Rattle.line_core.specs.declared.error.ReplayError.TheVariants as replay
+use Rattle.line_io.specs.Calls.{Read}
 use Rattle.line_io.specs.Contents.{Contents}
+use Rattle.line_io.specs.declared.store.StoreError.{StoreError}
+use Rattle.line_io.specs.declared.store.StoreError.TheVariants as store_error
+use Rattle.line_report.specs.declared.report.Report.{Report}
 use Rattle.plant_model.specs.declared.error.PlantError.{PlantError}
 use Rattle.plant_model.specs.declared.plant.Plant.{Plant}
-use Rattle.plant_file.specs.declared.draft.DraftPlant.{DraftPlant}
-use Rattle.plant_file.specs.Draft.{demands_file}
+use Rattle.plant_model.specs.Graph.{graph}
+use Rattle.plant_draft.specs.declared.draft.DraftPlant.{DraftPlant}
+use Rattle.plant_draft.specs.Draft.{demands_file}
 use Rattle.plant_file.specs.Finish.{completed}
-use Rattle.plant_file.specs.PlantOfFiles.{bytes_at, bytes_of, plant_of_reading, plant_of}
-use Rattle.plant_file.specs.Reading.{reading}
-use Rattle.pull_cli.specs.Ends.{AgreesWith}
-use Rattle.pull_cli.specs.Outside.{Reading, IsGiven, Given, AreGiven}
-use Rattle.pull_cli.specs.Verdict.{file_at, and_then, named_file, or_refused, plant_of_draft, plant_at}
-use Rattle.pull_cli.specs.declared.outcome.Outcome.{Outcome}
-use Rattle.pull_cli.specs.declared.outcome.Outcome.TheVariants.{TooLong}
+use Rattle.plant_file.specs.PlantOfFiles.{bytes_of, plant_of_reading, plant_of}
+use Rattle.plant_draft.specs.Reading.{reading}
+use Rattle.pull_words.specs.CheckText.{check_text}
+use Rattle.pull_words.specs.DeadLine.{AreDead}
+use Rattle.pull_words.specs.ScheduleRefusals.{reply_of}
+use Rattle.pull_words.specs.declared.reply.Reply.{Reply}
+use Rattle.pull_words.specs.declared.reply.Reply.TheVariants.{Refused, Dead, StoreFault, NoMemory, TooLong, NotFollowed, Checked}
+use Rattle.pull_words.specs.declared.words.Command.{Command}
+use Rattle.pull_words.specs.declared.words.Command.TheVariants as command
+use Rattle.pull_cli.specs.Ends.{IsOfPlant, IsOfFiles, OfWords}
+use Rattle.pull_cli.specs.Outside.{StoreOver, Fits, IsOfFile}
+use Rattle.pull_cli.specs.Steps.{Step, Settles, Gives, ComesOfRead, LooksAt, LooksAtNamed, GoesOn, Then, Makes}
+use Rattle.pull_cli.proofs.FileReads.{stopped}
+use Rattle.pull_cli.specs.Verdict.{or_refused, OfDraft, OfBytes, OfPlantFile, OfLivePlant, OfSchedule, OfCommand, IsLiveOrDead, IsReport, IsEnd}
 
--- what was given of a file is what it holds, where that is told
-held_of : (store : Reading) (given : Contents) → IsGiven store given → IsTrue store.tells → (name bytes : List ℕ) → given name ≡ Some bytes → store.files name ≡ Some bytes
-held_of store given is told name bytes some =
-    ⊎_elim
-    (λ same. sym (same told) ∙ some)
-    (λ nothing. let none = nothing.0 in cc)
-    (is name)
+-- each of a list, and so each of its two parts
+all_front : {X : Type 0} (P : X → Type 0) (xs ys : List X) → All P (xs ++ ys) → All P xs
+all_front P [] ys all = All-nil P
+all_front P (x ∷ xs) ys all =
+    All-cons P x xs (All-head P x (xs ++ ys) all) (all_front P xs ys (All-tail P x (xs ++ ys) all))
 
--- what was given is what is held
-abbrev Holds : Contents → Contents → Type 0
-Holds given files = (name bytes : List ℕ) → given name ≡ Some bytes → files name ≡ Some bytes
+all_back : {X : Type 0} (P : X → Type 0) (xs ys : List X) → All P (xs ++ ys) → All P ys
+all_back P [] ys all = all
+all_back P (x ∷ xs) ys all = all_back P xs ys (All-tail P x (xs ++ ys) all)
 
-agrees_size : (W : Result Plant PlantError) (name bytes : List ℕ) (next : List ℕ → Result Plant Outcome) (long : Bool) → AgreesWith W (next bytes) → AgreesWith W (and_then (cond long (Err (TooLong name)) (Ok bytes)) next)
-agrees_size W name bytes next true is = tt
-agrees_size W name bytes next false is = is
+-- where each part of two steps leads
+goes_on_leads : {A B : Type 0} (next : A → Step B) (Q : Result B Reply → Type 0) (between : Result A Reply) (after : List Read) (answer : Result B Reply) → GoesOn next between after answer → ((reply : Reply) → between ≡ Err reply → Q (Err reply)) → ((x : A) → between ≡ Ok x → next x after answer → Q answer) → Q answer
+goes_on_leads next Q (Ok x) after answer on stop go = go x refl on
+goes_on_leads next Q (Err reply) after answer on stop go = subst Q (sym on.1) (stop reply refl)
 
-agrees_file : (W : Result Plant PlantError) (name : List ℕ) (held : Option (List ℕ)) (next : List ℕ → Result Plant Outcome) → ((bytes : List ℕ) → held ≡ Some bytes → AgreesWith W (next bytes)) → AgreesWith W (and_then (file_at name held) next)
-agrees_file W name None next is = tt
-agrees_file W name (Some bytes) next is = agrees_size W name bytes next (nat_lt MAX_FILE_BYTES (length bytes)) (is bytes refl)
+then_leads : {A B : Type 0} (first : Step A) (next : A → Step B) (P : Read → Type 0) (Q : Result B Reply → Type 0) (reads : List Read) (answer : Result B Reply) → Then first next reads answer → All P reads → ((reply : Reply) (before : List Read) → All P before → first before (Err reply) → Q (Err reply)) → ((x : A) (before after : List Read) → All P before → All P after → first before (Ok x) → next x after answer → Q answer) → Q answer
+then_leads {A} first next P Q reads answer both all stop go =
+    let whole : All P (both.before ++ both.after) = subst (All P) both.split all in
+    let front = all_front P both.before both.after whole in
+    let back = all_back P both.before both.after whole in
+    goes_on_leads next Q both.between both.after answer both.goes_on
+    (λ reply is. stop reply both.before front (subst (λ (r : Result A Reply). first both.before r) is both.comes))
+    (λ x is on. go x both.before both.after front back (subst (λ (r : Result A Reply). first both.before r) is both.comes) on)
 
-agrees_named_size : (W : Result Plant PlantError) (name bytes : List ℕ) (next : Option (List ℕ) → Result Plant Outcome) (long : Bool) → AgreesWith W (next (Some bytes)) → AgreesWith W (and_then (and_then (cond long (Err (TooLong name)) (Ok bytes)) (λ (b : List ℕ). Ok (Some b))) next)
-agrees_named_size W name bytes next true is = tt
-agrees_named_size W name bytes next false is = is
+-- the replies to a read, and want of memory
+abbrev IsOfRead : Reply → Type 0
+IsOfRead (StoreFault file) = ⊤
+IsOfRead (TooLong file) = ⊤
+IsOfRead NoMemory = ⊤
+IsOfRead other = ⊥
 
-agrees_some : (W : Result Plant PlantError) (name : List ℕ) (held : Option (List ℕ)) (next : Option (List ℕ) → Result Plant Outcome) → ((bytes : List ℕ) → held ≡ Some bytes → AgreesWith W (next (Some bytes))) → AgreesWith W (and_then (and_then (file_at name held) (λ (b : List ℕ). Ok (Some b))) next)
-agrees_some W name None next is = tt
-agrees_some W name (Some bytes) next is = agrees_named_size W name bytes next (nat_lt MAX_FILE_BYTES (length bytes)) (is bytes refl)
+read_reply : (name : List ℕ) (given : Result (List ℕ) StoreError) (reply : Reply) → ComesOfRead name given (Err reply) → IsOfRead reply
+read_reply name (Ok bytes) reply comes = absurd (cc)
+read_reply name (Err store_error.Failed) reply comes =
+    ⊎_elim (λ is. let same : reply ≡ StoreFault name = cc in subst IsOfRead (sym same) tt) (λ is. let same : reply ≡ NoMemory = cc in subst IsOfRead (sym same) tt) comes
+read_reply name (Err store_error.TooLong) reply comes =
+    ⊎_elim (λ is. let same : reply ≡ TooLong name = cc in subst IsOfRead (sym same) tt) (λ is. let same : reply ≡ NoMemory = cc in subst IsOfRead (sym same) tt) comes
+read_reply name (Err store_error.NoMemory) reply comes =
+    let same : reply ≡ NoMemory = cc in subst IsOfRead (sym same) tt
 
-agrees_named : (W : Result Plant PlantError) (name : Option (List ℕ)) (files given : Contents) (next : Option (List ℕ) → Result Plant Outcome) → Holds given files → AgreesWith W (next (bytes_of files name)) → AgreesWith W (and_then (named_file name given) next)
-agrees_named W None files given next holds is = is
-agrees_named W (Some name) files given next holds is =
-    agrees_some W name (given name) next
-    (λ bytes some. subst (λ (o : Option (List ℕ)). AgreesWith W (next (Some (unwrap_or o [])))) (holds name bytes some) is)
+-- the plant that is read is this one, and its refusal this refusal
+abbrev AgreesWith : Result Plant PlantError → Result Plant Reply → Type 0
+AgreesWith W (Ok p) = W ≡ Ok p
+AgreesWith W (Err (Refused error)) = W ≡ Err error
+AgreesWith W (Err other) = IsOfRead other
 
-agrees_completed : (r : Result Plant PlantError) → AgreesWith r (or_refused r)
-agrees_completed (Ok p) = refl
-agrees_completed (Err error) = refl
+agrees_read : (W : Result Plant PlantError) (reply : Reply) → IsOfRead reply → AgreesWith W (Err reply)
+agrees_read W (StoreFault file) is = tt
+agrees_read W (TooLong file) is = tt
+agrees_read W NoMemory is = tt
+agrees_read W (Refused error) is = absurd is
+agrees_read W other is = is
 
-module _ (store : Reading) (given : Given) (is : AreGiven store given) (told : IsTrue store.tells) where
-  agrees_draft : (d : DraftPlant) → AgreesWith (completed d (bytes_of store.files (demands_file d)) (bytes_of store.files d.times_file)) (plant_of_draft given d)
-  agrees_draft d =
-      let W = completed d (bytes_of store.files (demands_file d)) (bytes_of store.files d.times_file) in
-      agrees_named W (demands_file d) store.files given.demands
-      (λ demands. and_then (named_file d.times_file given.times) (λ times. or_refused (completed d demands times)))
-      (held_of store given.demands is.demands told)
-      (agrees_named W d.times_file store.files given.times
-      (λ times. or_refused (completed d (bytes_of store.files (demands_file d)) times))
-      (held_of store given.times is.times told)
-      (agrees_completed W))
+agrees_memory : (W : Result Plant PlantError) (answer : Result Plant Reply) → answer ≡ Err NoMemory → AgreesWith W answer
+agrees_memory W answer is = subst (AgreesWith W) (sym is) tt
 
-  agrees_reading : (r : Result DraftPlant PlantError) → AgreesWith (plant_of_reading store.files r) (and_then (or_refused r) (plant_of_draft given))
-  agrees_reading (Ok d) = agrees_draft d
-  agrees_reading (Err error) = refl
+agrees_refused : (r : Result Plant PlantError) → AgreesWith r (or_refused r)
+agrees_refused (Ok p) = refl
+agrees_refused (Err error) = refl
 
-  pub agrees : (name : List ℕ) → AgreesWith (plant_of name store.files) (plant_at given name)
+draft_read : (r : Result DraftPlant PlantError) (d : DraftPlant) → Ok d ≡ or_refused r → r ≡ Ok d
+draft_read (Ok e) d is = cc
+draft_read (Err error) d is = cc
+
+-- the same of a plant that is live, or has a circuit without a token
+abbrev IsLiveOf : Result Plant PlantError → Result Plant Reply → Type 0
+IsLiveOf W (Err (Dead labels)) = (p : Plant) × (W ≡ Ok p) × AreDead (graph p) labels
+IsLiveOf W other = AgreesWith W other
+
+live_agrees : (W : Result Plant PlantError) (reply : Reply) → AgreesWith W (Err reply) → IsLiveOf W (Err reply)
+live_agrees W (Dead labels) is = absurd is
+live_agrees W other is = is
+
+live_or_dead : (W : Result Plant PlantError) (p : Plant) (answer : Result Plant Reply) → W ≡ Ok p → IsLiveOrDead p answer → IsLiveOf W answer
+live_or_dead W p (Ok same) is live = is ∙ ap Ok (sym live.0)
+live_or_dead W p (Err (Dead labels)) is dead = (p, is, dead)
+live_or_dead W p (Err other) is dead = absurd dead
+
+of_plant : (W : Result Plant PlantError) (reply : Reply) → IsLiveOf W (Err reply) → IsOfPlant W (Err reply)
+of_plant W (Refused error) is = is
+of_plant W (Dead labels) is = is
+of_plant W (Checked text) is = absurd is
+of_plant W (NotFollowed refusal) is = absurd is
+of_plant W other is = tt
+
+of_read : (W : Result Plant PlantError) (reply : Reply) → IsOfRead reply → IsOfPlant W (Err reply)
+of_read W reply is = of_plant W reply (live_agrees W reply (agrees_read W reply is))
+
+of_memory : (W : Result Plant PlantError) (answer : Result Report Reply) → answer ≡ Err NoMemory → IsOfPlant W answer
+of_memory W answer is = subst (IsOfPlant W) (sym is) tt
+
+of_report : (W : Result Plant PlantError) (p : Plant) (answer : Result Report Reply) → W ≡ Ok p → IsReport p answer → IsOfPlant W answer
+of_report W p (Ok r) is report = is ∙ ap Ok (sym report.0)
+of_report W p (Err reply) is report = absurd report
+
+of_refusal : (W : Result Plant PlantError) (p : Plant) (error : ReplayError) → W ≡ Ok p → IsOfPlant W (Err (reply_of (graph p) error))
+of_refusal W p (replay.NoStation line) is = (p, is)
+of_refusal W p (replay.Done line t) is = (p, is)
+of_refusal W p (replay.Empty line a) is = (p, is)
+of_refusal W p (replay.Unfinished t have) is = (p, is)
+of_refusal W p replay.NoMemory is = tt
+
+of_end : (W : Result Plant PlantError) (p : Plant) (end : Result State ReplayError) (answer : Result Report Reply) → W ≡ Ok p → IsEnd p end answer → IsOfPlant W answer
+of_end W p (Ok state) answer is ends = of_report W p answer is ends
+of_end W p (Err error) answer is ends = subst (IsOfPlant W) (sym ends) (of_refusal W p error is)
+
+module _ (store : StoreOver) (told : IsTrue store.tells) where
+  abbrev files : Contents
+  files = store.old.files
+
+  abbrev Held : Read → Type 0
+  Held = IsOfFile store
+
+  given_held : (name : List ℕ) (given : Result (List ℕ) StoreError) (bytes : List ℕ) → ComesOfRead name given (Ok bytes) → Fits store.tells files name given → files name ≡ Some bytes
+  given_held name (Ok own) bytes comes fits = let same : own ≡ bytes = cc in fits.1 told ∙ ap Some same
+  given_held name (Err store_error.Failed) bytes comes fits = ⊎_elim (λ is. absurd (cc)) (λ is. absurd (cc)) comes
+  given_held name (Err store_error.TooLong) bytes comes fits = ⊎_elim (λ is. absurd (cc)) (λ is. absurd (cc)) comes
+  given_held name (Err store_error.NoMemory) bytes comes fits = absurd (cc)
+
+  -- the bytes of a read are those of the file
+  looked : (name : List ℕ) (reads : List Read) (bytes : List ℕ) → LooksAt name reads (Ok bytes) → All Held reads → files name ≡ Some bytes
+  looked name reads bytes looks all =
+      let read : Read = record { name = name; answer = looks.given } in
+      given_held name looks.given bytes looks.comes (All-head Held read [] (subst (All Held) looks.one all))
+
+  looked_reply : (name : List ℕ) (reads : List Read) (reply : Reply) → LooksAt name reads (Err reply) → IsOfRead reply
+  looked_reply name reads reply looks = read_reply name looks.given reply looks.comes
+
+  -- and of a read where a file is named
+  abbrev IsNamed : Option (List ℕ) → Result (Option (List ℕ)) Reply → Type 0
+  IsNamed name (Ok bytes) = bytes ≡ bytes_of files name
+  IsNamed name (Err reply) = IsOfRead reply
+
+  named_some : (name : List ℕ) (bytes : List ℕ) (answer : Result (Option (List ℕ)) Reply) → files name ≡ Some bytes → (answer ≡ Ok (Some bytes)) ⊎ (answer ≡ Err NoMemory) → IsNamed (Some name) answer
+  named_some name bytes answer held is =
+      ⊎_elim
+      (λ same. subst (IsNamed (Some name)) (sym same) (ap (λ (o : Option (List ℕ)). Some (unwrap_or o [])) (sym held)))
+      (λ none. subst (IsNamed (Some name)) (sym none) tt)
+      is
+
+  named : (name : Option (List ℕ)) (reads : List Read) (answer : Result (Option (List ℕ)) Reply) → LooksAtNamed name reads answer → All Held reads → IsNamed name answer
+  named None reads answer looks all =
+      ⊎_elim (λ same. subst (IsNamed None) (sym same) refl) (λ none. subst (IsNamed None) (sym none) tt) looks.1
+  named (Some name) reads answer looks all =
+      then_leads (LooksAt name) (λ bytes. Gives (Ok (Some bytes))) Held (IsNamed (Some name)) reads answer looks all
+      (λ reply before held stops. looked_reply name before reply stops)
+      (λ bytes before after held rest reads_it gives. named_some name bytes answer (looked name before bytes reads_it held) gives.1)
+
+  -- the plant of a draft
+  of_draft : (d : DraftPlant) (reads : List Read) (answer : Result Plant Reply) → OfDraft d reads answer → All Held reads → AgreesWith (completed d (bytes_of files (demands_file d)) (bytes_of files d.times_file)) answer
+  of_draft d reads answer steps all =
+      let W = completed d (bytes_of files (demands_file d)) (bytes_of files d.times_file) in
+      then_leads (LooksAtNamed (demands_file d)) (λ demands. Then (LooksAtNamed d.times_file) (λ times. Gives (or_refused (completed d demands times)))) Held (AgreesWith W) reads answer steps all
+      (λ reply before held stops. agrees_read W reply (named (demands_file d) before (Err reply) stops held))
+      (λ demands before after held rest first next.
+      then_leads (LooksAtNamed d.times_file) (λ times. Gives (or_refused (completed d demands times))) Held (AgreesWith W) after answer next rest
+      (λ reply before held stops. agrees_read W reply (named d.times_file before (Err reply) stops held))
+      (λ times later end held_times none second gives.
+      let own : completed d demands times ≡ W = ap (λ (o : Option (List ℕ)). completed d o times) (named (demands_file d) before (Ok demands) first held) ∙ ap (λ (o : Option (List ℕ)). completed d (bytes_of files (demands_file d)) o) (named d.times_file later (Ok times) second held_times) in
+      ⊎_elim
+      (λ same. subst (AgreesWith W) (sym same) (subst (λ (r : Result Plant PlantError). AgreesWith W (or_refused r)) (sym own) (agrees_refused W)))
+      (λ no_memory. agrees_memory W answer no_memory)
+      gives.1))
+
+  -- no memory for a draft
+  no_draft : (W : Result Plant PlantError) (reply : Reply) → stopped {A = DraftPlant} reply ≡ stopped NoMemory → AgreesWith W (Err reply)
+  no_draft W reply none = let same : reply ≡ NoMemory = cc in subst (λ v. AgreesWith W (Err v)) (sym same) tt
+
+  -- the reply to bytes that are no draft
+  refused_reading : (r : Result DraftPlant PlantError) (reply : Reply) → Err reply ≡ or_refused r → AgreesWith (plant_of_reading files r) (Err reply)
+  refused_reading (Ok d) reply is = absurd (cc)
+  refused_reading (Err error) reply is = let same : reply ≡ Refused error = cc in subst (λ v. AgreesWith (Err error) (Err v)) (sym same) refl
+
+  -- the plant of bytes
+  of_bytes : (bytes : List ℕ) (reads : List Read) (answer : Result Plant Reply) → Then (OfBytes bytes) OfDraft reads answer → All Held reads → AgreesWith (plant_of_reading files (reading bytes)) answer
+  of_bytes bytes reads answer steps all =
+      let W = plant_of_reading files (reading bytes) in
+      then_leads (OfBytes bytes) OfDraft Held (AgreesWith W) reads answer steps all
+      (λ reply before held stops. ⊎_elim (refused_reading (reading bytes) reply) (λ none. no_draft W reply none) stops.1)
+      (λ d before after held rest first next.
+      ⊎_elim
+      (λ same. subst (λ (r : Result DraftPlant PlantError). AgreesWith (plant_of_reading files r) answer) (sym (draft_read (reading bytes) d same)) (of_draft d after answer next rest))
+      (λ none. absurd (cc))
+      first.1)
+
+  -- the plant of a plant file
+  of_plant_file : (name : List ℕ) (reads : List Read) (answer : Result Plant Reply) → OfPlantFile name reads answer → All Held reads → AgreesWith (plant_of name files) answer
   unfolding plant_of
-  agrees name =
-      let next : List ℕ → Result Plant Outcome = λ bytes. and_then (or_refused (reading bytes)) (plant_of_draft given) in
-      agrees_file (plant_of name store.files) name (given.plant name) next
-      (λ bytes some.
-      let holds = held_of store given.plant is.plant told name bytes some in
-      subst (λ (o : Option (List ℕ)). AgreesWith (plant_of_reading store.files (reading (unwrap_or o []))) (next bytes)) (sym holds) (agrees_reading (reading bytes)))
+  of_plant_file name reads answer steps all =
+      let W = plant_of_reading files (reading (unwrap_or (files name) [])) in
+      then_leads (LooksAt name) (λ bytes. Then (OfBytes bytes) OfDraft) Held (AgreesWith W) reads answer steps all
+      (λ reply before held stops. agrees_read W reply (looked_reply name before reply stops))
+      (λ bytes before after held rest first next.
+      subst (λ (o : Option (List ℕ)). AgreesWith (plant_of_reading files (reading (unwrap_or o []))) answer) (sym (looked name before bytes first held)) (of_bytes bytes after answer next rest))
+
+  -- the live plant of a plant file
+  of_live_plant : (name : List ℕ) (reads : List Read) (answer : Result Plant Reply) → OfLivePlant name reads answer → All Held reads → IsLiveOf (plant_of name files) answer
+  of_live_plant name reads answer steps all =
+      let W = plant_of name files in
+      then_leads (OfPlantFile name) (λ p. Settles (IsLiveOrDead p)) Held (IsLiveOf W) reads answer steps all
+      (λ reply before held stops. live_agrees W reply (of_plant_file name before (Err reply) stops held))
+      (λ p before after held rest first next.
+      ⊎_elim
+      (λ live. live_or_dead W p answer (of_plant_file name before (Ok p) first held) live)
+      (λ none. subst (IsLiveOf W) (sym none) tt)
+      next.1)
+
+  -- and what comes after it
+  after_plant : (name : List ℕ) (next : Plant → Step Report) (reads : List Read) (answer : Result Report Reply) → Then (OfLivePlant name) next reads answer → All Held reads → ((p : Plant) (after : List Read) → plant_of name files ≡ Ok p → next p after answer → IsOfPlant (plant_of name files) answer) → IsOfPlant (plant_of name files) answer
+  after_plant name next reads answer steps all go =
+      let W = plant_of name files in
+      then_leads (OfLivePlant name) next Held (IsOfPlant W) reads answer steps all
+      (λ reply before held stops. of_plant W reply (of_live_plant name before (Err reply) stops held))
+      (λ p before after held rest first on. go p after (of_live_plant name before (Ok p) first held) on)
+
+  of_schedule : (W : Result Plant PlantError) (p : Plant) (name : List ℕ) (reads : List Read) (answer : Result Report Reply) → W ≡ Ok p → OfSchedule p name reads answer → IsOfPlant W answer
+  of_schedule W p name reads answer is steps =
+      then_leads (LooksAt name) (λ bytes. Settles (IsEnd p (follow (graph p) bytes))) (λ read. ⊤) (IsOfPlant W) reads answer steps (λ k d low. tt)
+      (λ reply before held stops. of_read W reply (looked_reply name before reply stops))
+      (λ bytes before after held rest first next. ⊎_elim (λ ends. of_end W p (follow (graph p) bytes) answer is ends) (λ none. of_memory W answer none) next.1)
+
+  of_command : (command : Command) (reads : List Read) (answer : Result Report Reply) → OfCommand command reads answer → All Held reads → IsOfFiles files (Some command) answer
+  of_command command.Help reads answer steps all = tt
+  of_command command.Version reads answer steps all = tt
+  of_command (command.Run plant) reads answer steps all =
+      after_plant plant (λ p. Settles (IsReport p)) reads answer steps all
+      (λ p after is next. ⊎_elim (λ report. of_report (plant_of plant files) p answer is report) (λ none. of_memory (plant_of plant files) answer none) next.1)
+  of_command (command.Check plant) reads answer steps all =
+      after_plant plant (λ p. Gives (Err (Checked (check_text p)))) reads answer steps all
+      (λ p after is next. ⊎_elim (λ same. subst (IsOfPlant (plant_of plant files)) (sym same) (p, is, refl)) (λ none. of_memory (plant_of plant files) answer none) next.1)
+  of_command (command.Replay plant schedule) reads answer steps all =
+      after_plant plant (λ p. OfSchedule p schedule) reads answer steps all
+      (λ p after is next. of_schedule (plant_of plant files) p schedule after answer is next)
+
+  no_memory_of_files : (command : Command) (answer : Result Report Reply) → answer ≡ Err NoMemory → IsOfFiles files (Some command) answer
+  no_memory_of_files command.Help answer none = tt
+  no_memory_of_files command.Version answer none = tt
+  no_memory_of_files (command.Run plant) answer none = of_memory (plant_of plant files) answer none
+  no_memory_of_files (command.Check plant) answer none = of_memory (plant_of plant files) answer none
+  no_memory_of_files (command.Replay plant schedule) answer none = of_memory (plant_of plant files) answer none
+
+  pub of_words : (words : Option Command) (answer : Result Report Reply) → Makes store (OfWords words) answer → IsOfFiles files words answer
+  of_words None answer makes = tt
+  of_words (Some command) answer makes =
+      ⊎_elim (λ steps. of_command command makes.reads answer steps makes.of_files) (λ none. no_memory_of_files command answer none.1) makes.comes

@@ -1,55 +1,73 @@
 -- The theorem of the top call: for every list of words, every store and every sink, the call ends in one of the ways that
 -- are allowed here.
-use Rattle.std.specs.Prelude.{◌≡◌, ◌⊎◌, ℕ, List, IsTrue, Option, Some, None, Result, Ok, Err, ⊤}
+use Rattle.std.specs.Prelude.{◌≡◌, ◌⊎◌, ℕ, List, [], IsTrue, Option, Some, None, Result, Ok, Err, ⊤}
+use Rattle.line_io.specs.Contents.{Contents}
 use Rattle.line_io.specs.Faults.{Rose}
-use Rattle.line_io.specs.Written.{PutsAll, PutsFront}
+use Rattle.line_io.specs.SinkView.{PutsAll, PutsFront}
+use Rattle.line_report.specs.Reported.{report_of}
+use Rattle.line_report.specs.declared.report.Report.{Report}
 use Rattle.plant_model.specs.declared.error.PlantError.{PlantError}
 use Rattle.plant_model.specs.declared.plant.Plant.{Plant}
+use Rattle.plant_model.specs.Graph.{graph}
 use Rattle.plant_file.specs.PlantOfFiles.{plant_of}
-use Rattle.pull_cli.specs.Outcome.{status_of, text_of, IsFixed}
-use Rattle.pull_cli.specs.Outside.{Reading, Writing, Given, AreGiven, IsCaused}
-use Rattle.pull_cli.specs.Verdict.{ComesTo, plant_at}
-use Rattle.pull_cli.specs.Words.{command_of}
+use Rattle.pull_words.specs.CheckText.{check_text}
+use Rattle.pull_words.specs.DeadLine.{AreDead}
+use Rattle.pull_words.specs.Reply.{status_of, text_of, IsFixed}
+use Rattle.pull_words.specs.Words.{command_of}
+use Rattle.pull_words.specs.declared.reply.Reply.{Reply}
+use Rattle.pull_words.specs.declared.reply.Reply.TheVariants.{Usage, NoMemory, Refused, Dead, Checked, NotFollowed}
+use Rattle.pull_words.specs.declared.words.Command.{Command}
+use Rattle.pull_words.specs.declared.words.Command.TheVariants as command
+use Rattle.pull_cli.specs.Outcome.{answer_of}
+use Rattle.pull_cli.specs.Outside.{StoreOver, SinkOver}
+use Rattle.pull_cli.specs.Steps.{Step, Makes}
+use Rattle.pull_cli.specs.Verdict.{OfCommand}
 use Rattle.pull_cli.specs.declared.outcome.Outcome.{Outcome}
-use Rattle.pull_cli.specs.declared.outcome.Outcome.TheVariants.{Usage, NoMemory, Refused}
-use Rattle.pull_cli.specs.declared.words.Command.{Command}
+use Rattle.pull_cli.specs.declared.outcome.Outcome.TheVariants.{Said, Reported}
 
--- The words come to this: where they are a command, to its verdict over what its reads gave, or to want of memory.
-abbrev pub MayCome : Given → Option Command → Outcome → Type 0
-MayCome given None came = came ≡ Usage
-MayCome given (Some command) came = ComesTo given command came ⊎ (came ≡ NoMemory)
-
--- what was given, what came of it, and that each fault of a file had its cause
-pub record Comes (command : Option Command) (store : Reading) (came : Outcome) : Type 0 where
-  pub given : Given
-  pub are_given : AreGiven store given
-  pub verdict : MayCome given command came
-  pub caused : IsCaused store came
+-- Words that are no command read nothing and come to the usage. A command reads and comes to what its verdict says, or to want
+-- of memory before anything was read.
+abbrev pub OfWords : Option Command → Step Report
+OfWords None reads answer = (reads ≡ []) × (answer ≡ Err Usage)
+OfWords (Some command) reads answer = OfCommand command reads answer ⊎ ((reads ≡ []) × (answer ≡ Err NoMemory))
 
 -- all these bytes were written and the status is this, or it is 6 and a front of the bytes was, where the sink failed
-abbrev pub Writes : Writing → List ℕ → ℕ → ℕ → Type 0
+abbrev pub Writes : SinkOver → List ℕ → ℕ → ℕ → Type 0
 Writes sink bytes good status =
-    ((status ≡ good) × PutsAll sink.tells sink.old sink.new bytes)
-    ⊎ ((status ≡ 6) × Rose sink.before sink.after × PutsFront sink.tells sink.old sink.new bytes)
+    ((status ≡ good) × PutsAll sink.old sink.new bytes)
+    ⊎ ((status ≡ 6) × Rose sink.old.faults sink.new.faults × PutsFront sink.old sink.new bytes)
+
+-- a reply was written, or want of memory where there was none for its text
+abbrev pub WritesReply : SinkOver → Reply → ℕ → Type 0
+WritesReply sink reply status =
+    Writes sink (text_of reply) (status_of reply) status
+    ⊎ ((IsFixed reply → ⊥) × Writes sink (text_of NoMemory) (status_of NoMemory) status)
 
 -- an outcome was written
-abbrev pub Finishes : Writing → Outcome → ℕ → Type 0
-Finishes sink came status = Writes sink (text_of came) (status_of came) status
+abbrev pub Finishes : SinkOver → Outcome → ℕ → Type 0
+Finishes sink (Said reply) status = WritesReply sink reply status
+Finishes sink (Reported report) status = Writes sink (report_of report) 0 status
 
--- an outcome that is no report was written, or want of memory where there was none for its line
-abbrev pub WritesText : Writing → Outcome → ℕ → Type 0
-WritesText sink came status = Finishes sink came status ⊎ ((IsFixed came → ⊥) × Finishes sink NoMemory status)
+-- what is said of a plant is said of this one, or of this refusal
+abbrev pub IsOfPlant : Result Plant PlantError → Result Report Reply → Type 0
+IsOfPlant plant (Ok report) = plant ≡ Ok report.plant
+IsOfPlant plant (Err (Refused error)) = plant ≡ Err error
+IsOfPlant plant (Err (Dead labels)) = (p : Plant) × (plant ≡ Ok p) × AreDead (graph p) labels
+IsOfPlant plant (Err (Checked text)) = (p : Plant) × (plant ≡ Ok p) × (text ≡ check_text p)
+IsOfPlant plant (Err (NotFollowed refusal)) = (p : Plant) × (plant ≡ Ok p)
+IsOfPlant plant (Err other) = ⊤
 
--- the plant that was read is the plant of the files, and a refusal of it their first refusal
-abbrev pub AgreesWith : Result Plant PlantError → Result Plant Outcome → Type 0
-AgreesWith files (Ok p) = files ≡ Ok p
-AgreesWith files (Err (Refused error)) = files ≡ Err error
-AgreesWith files (Err other) = ⊤
+-- what a command says of its plant is said of the plant of these files
+abbrev pub IsOfFiles : Contents → Option Command → Result Report Reply → Type 0
+IsOfFiles files (Some (command.Run name)) answer = IsOfPlant (plant_of name files) answer
+IsOfFiles files (Some (command.Check name)) answer = IsOfPlant (plant_of name files) answer
+IsOfFiles files (Some (command.Replay name schedule)) answer = IsOfPlant (plant_of name files) answer
+IsOfFiles files other answer = ⊤
 
--- The call ends with this status: what the words came to over this store was written to the sink.
-pub record Ends (words : List (List ℕ)) (store : Reading) (sink : Writing) (status : ℕ) : Type 0 where
+-- The call ends with this status: the words read, and came to, what the verdict says over the bytes that were read; and what they
+-- came to was written to the sink. Where files are told, it is the plant of the files.
+pub record Ends (words : List (List ℕ)) (store : StoreOver) (sink : SinkOver) (status : ℕ) : Type 0 where
   pub came : Outcome
-  pub cause : Comes (command_of words) store came
+  pub makes : Makes store (OfWords (command_of words)) (answer_of came)
   pub finishes : Finishes sink came status
-  pub of_files : IsTrue store.tells → (name : List ℕ)
-      → AgreesWith (plant_of name store.files) (plant_at cause.given name)
+  pub of_files : IsTrue store.tells → IsOfFiles store.old.files (command_of words) (answer_of came)

@@ -1,11 +1,7 @@
-pub mod CheckText
-pub mod DeadLine
 pub mod Ends
+pub mod Line
 pub mod Outcome
 pub mod Outside
-pub mod PlantLine
-pub mod ScheduleLine
-pub mod ScheduleRefusals
+pub mod Replies
 pub mod Steps
 pub mod Verdict
-pub mod Words

@@ -1,66 +1,51 @@
--- A store and a sink over the call, and what the reads of the store give.
-use Rattle.std.specs.Prelude.{◌≡◌, ◌⊎◌, ℕ, ◌<◌, List, Bool, IsTrue, None, ⊤}
-use Rattle.line_base.specs.declared.limits.TheConstants.{MAX_FILE_BYTES}
-use Rattle.line_io.specs.Contents.{Contents, SameFiles}
-use Rattle.line_io.specs.Faults.{Rose, NeverFall}
-use Rattle.pull_cli.specs.declared.outcome.Outcome.{Outcome}
-use Rattle.pull_cli.specs.declared.outcome.Outcome.TheVariants.{StoreFault, TooLong}
+-- A store and a sink over a call.
+use Rattle.std.specs.Prelude.{◌≡◌, ℕ, ◌<◌, ◌≤◌, List, ◌++◌, length, Bool, IsTrue, Some, Result, Ok, Err, ⊤}
+use Rattle.line_base.specs.Limits.{most_file_bytes}
+use Rattle.line_io.specs.Calls.{Read, Asked}
+use Rattle.line_io.specs.Contents.{Contents, IsLongerThan}
+use Rattle.line_io.specs.Faults.{Rose}
+use Rattle.line_io.specs.SinkView.{SinkView}
+use Rattle.line_io.specs.StoreView.{StoreView}
+use Rattle.line_io.specs.declared.store.StoreError.{StoreError}
+use Rattle.line_io.specs.declared.store.StoreError.TheVariants as store_error
+use Rattle.pull_words.specs.declared.reply.Reply.{Reply}
+use Rattle.pull_words.specs.declared.reply.Reply.TheVariants.{StoreFault, TooLong}
 
--- A store over the call: whether it tells what its files hold, what they held before the call, its counts of reads that
--- failed before the call and after it, and how many bytes its last read took.
-pub record Reading : Type 0 where
+-- a store over a call: whether it tells what its files hold, and what it shows before the call and after it
+pub record StoreOver : Type 0 where
   pub tells : Bool
-  pub files : Contents
-  pub before : List ℕ → ℕ
-  pub after : List ℕ → ℕ
-  pub taken : ℕ
+  pub old : StoreView
+  pub new : StoreView
 
--- a sink over the call: whether it tells what was written, that before the call and after it, and its counts of faults
-pub record Writing : Type 0 where
-  pub tells : Bool
-  pub old : List ℕ
-  pub new : List ℕ
-  pub before : ℕ
-  pub after : ℕ
+-- a sink over a call: what it shows before the call and after it
+pub record SinkOver : Type 0 where
+  pub old : SinkView
+  pub new : SinkView
 
--- a store, and a sink, by their ghost members
-abbrev pub reading : {S : Type 0} → Bool → (S → Contents) → (S → List ℕ → ℕ) → (S → ℕ) → S → S → Reading
-reading tells files faults taken old new =
-    record { tells = tells; files = files old; before = faults old; after = faults new; taken = taken new }
+-- a store, and a sink, by what they show
+abbrev pub store_over : Bool → StoreView → StoreView → StoreOver
+store_over tells old new = record { tells = tells; old = old; new = new }
 
-abbrev pub writing : {K : Type 0} → Bool → (K → List ℕ) → (K → ℕ) → K → K → Writing
-writing tells written faults old new =
-    record { tells = tells; old = written old; new = written new; before = faults old; after = faults new }
+abbrev pub sink_over : SinkView → SinkView → SinkOver
+sink_over old new = record { old = old; new = new }
 
--- What reads of a store give: what the file holds, where the store tells it; or nothing, where the count of failed reads
--- of that file rose in this call.
-abbrev pub IsGiven : Reading → Contents → Type 0
-IsGiven store given =
-    (file : List ℕ)
-    → (IsTrue store.tells → given file ≡ store.files file)
-    ⊎ ((given file ≡ None) × Rose (store.before file) (store.after file))
+-- these reads more, and nothing else was asked
+abbrev pub with_reads : Asked → List Read → Asked
+with_reads asked reads = record asked { reads = asked.reads ++ reads }
 
--- what the reads of a command give: of the plant file, of its demand file, of its times file, and of the schedule
-pub record Given : Type 0 where
-  pub plant : Contents
-  pub demands : Contents
-  pub times : Contents
-  pub schedule : Contents
+-- What a read answered fits what the file holds, where that is told: the bytes are its bytes, and a file that is called too
+-- long is. No bytes are above the limit.
+abbrev pub Fits : Bool → Contents → List ℕ → Result (List ℕ) StoreError → Type 0
+Fits tells files name (Ok bytes) = (length bytes ≤ most_file_bytes) × (IsTrue tells → files name ≡ Some bytes)
+Fits tells files name (Err store_error.TooLong) = IsTrue tells → IsLongerThan most_file_bytes (files name)
+Fits tells files name (Err other) = ⊤
 
--- each of the reads gives what a store gives
-pub record AreGiven (store : Reading) (given : Given) : Type 0 where
-  pub plant : IsGiven store given.plant
-  pub demands : IsGiven store given.demands
-  pub times : IsGiven store given.times
-  pub schedule : IsGiven store given.schedule
+-- a read of a store over a call fits what its file held before the call
+abbrev pub IsOfFile : StoreOver → Read → Type 0
+IsOfFile store read = Fits store.tells store.old.files read.name read.answer
 
 -- a file that can't be read has a count that rose in this call, and one that is too long had more bytes taken from it
-abbrev pub IsCaused : Reading → Outcome → Type 0
-IsCaused store (StoreFault file) = Rose (store.before file) (store.after file)
-IsCaused store (TooLong file) = MAX_FILE_BYTES < store.taken
+abbrev pub IsCaused : StoreOver → Reply → Type 0
+IsCaused store (StoreFault file) = Rose (store.old.read_faults file) (store.new.read_faults file)
+IsCaused store (TooLong file) = most_file_bytes < store.new.taken
 IsCaused store other = ⊤
-
--- a store changes in nothing but its counts, and these never fall
-pub record OnlyReads (store : Reading) (new : Contents) : Type 0 where
-  pub files_stay : SameFiles store.tells store.files new
-  pub faults_stay_or_rise : NeverFall store.before store.after

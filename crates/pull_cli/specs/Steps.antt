@@ -1,65 +1,67 @@
--- What the steps of a command answer: reading a file, reading a plant, and making it live.
-use Rattle.std.specs.Prelude.{◌≡◌, ◌⊎◌, ℕ, List, Result, Ok, Err, IfErr}
-use Rattle.line_io.specs.Contents.{Contents}
+-- The steps of a command. A step makes reads, and then answers a value to go on with, or the reply that the command ends with.
+use Rattle.std.specs.Prelude.{◌≡◌, ◌⊎◌, ℕ, List, [], ◌∷◌, ◌++◌, Option, Some, None, Result, Ok, Err, IfErr, All}
+use Rattle.line_io.specs.Calls.{Read}
+use Rattle.line_io.specs.Contents.{SameFiles}
+use Rattle.line_io.specs.Faults.{NeverFall}
 use Rattle.line_io.specs.declared.store.StoreError.{StoreError}
 use Rattle.line_io.specs.declared.store.StoreError.TheVariants as store_error
-use Rattle.plant_model.specs.declared.error.PlantError.{PlantError}
-use Rattle.plant_model.specs.declared.error.PlantError.TheVariants as plant_error
-use Rattle.plant_model.specs.declared.plant.Plant.{Plant}
-use Rattle.plant_model.specs.Graph.{graph}
-use Rattle.plant_model.specs.Sound.{IsSound}
-use Rattle.pull_cli.specs.Outside.{Reading, IsGiven, Given, AreGiven, IsCaused}
-use Rattle.pull_cli.specs.Verdict.{plant_at, StopsAt, IsLivePlant}
-use Rattle.pull_cli.specs.declared.line.Line.{Line}
-use Rattle.pull_cli.specs.declared.outcome.Outcome.{Outcome}
-use Rattle.pull_cli.specs.declared.outcome.Outcome.TheVariants.{NoMemory, Refused, StoreFault, TooLong}
+use Rattle.pull_cli.specs.Outside.{StoreOver, with_reads, IsOfFile, IsCaused}
+use Rattle.pull_words.specs.declared.reply.Reply.{Reply}
+use Rattle.pull_words.specs.declared.reply.Reply.TheVariants.{NoMemory, StoreFault, TooLong}
 
--- the answer is this one; want of memory may come instead
-abbrev pub Answers : {A : Type 0} → Result A Outcome → Result A Outcome → Type 0
-Answers want (Ok x) = want ≡ Ok x
-Answers want (Err stop) = (want ≡ Err stop) ⊎ (stop ≡ NoMemory)
+-- the reads that a step makes, in order, and what it answers
+abbrev pub Step : Type 0 → Type 1
+Step A = List Read → Result A Reply → Type 0
 
--- a function that reads one file answers what is said over what the read gives
-pub record ReadsOne {A : Type 0} (store : Reading) (want : Contents → Result A Outcome) (answer : Result A Outcome)
-    : Type 0 where
-  pub given : Contents
-  pub is_given : IsGiven store given
-  pub answers : Answers (want given) answer
+-- Nothing is read, and this holds of the answer; or there is no memory.
+abbrev pub Settles : {A : Type 0} → (Result A Reply → Type 0) → Step A
+Settles P reads answer = (reads ≡ []) × (P answer ⊎ (answer ≡ Err NoMemory))
+
+-- nothing is read, and the answer is this one
+abbrev pub Gives : {A : Type 0} → Result A Reply → Step A
+Gives want = Settles (λ answer. answer ≡ want)
+
+-- what an answer of the store comes to; want of memory may come in place of a reply
+abbrev pub ComesOfRead : List ℕ → Result (List ℕ) StoreError → Result (List ℕ) Reply → Type 0
+ComesOfRead name (Ok bytes) answer = answer ≡ Ok bytes
+ComesOfRead name (Err store_error.Failed) answer = (answer ≡ Err (StoreFault name)) ⊎ (answer ≡ Err NoMemory)
+ComesOfRead name (Err store_error.TooLong) answer = (answer ≡ Err (TooLong name)) ⊎ (answer ≡ Err NoMemory)
+ComesOfRead name (Err store_error.NoMemory) answer = answer ≡ Err NoMemory
+
+-- the file of this name is read, once
+pub record LooksAt (name : List ℕ) (reads : List Read) (answer : Result (List ℕ) Reply) : Type 0 where
+  pub given : Result (List ℕ) StoreError
+  pub one : reads ≡ record { name = name; answer = given } ∷ []
+  pub comes : ComesOfRead name given answer
+
+-- a next step goes on with a value; a reply ends the command, and nothing more is read
+abbrev pub GoesOn : {A B : Type 0} → (A → Step B) → Result A Reply → Step B
+GoesOn next (Ok x) reads answer = next x reads answer
+GoesOn next (Err reply) reads answer = (reads ≡ []) × (answer ≡ Err reply)
+
+-- one step, and then a next one
+pub record Then {A B : Type 0} (first : List Read → Result A Reply → Type 0)
+    (next : A → List Read → Result B Reply → Type 0) (reads : List Read) (answer : Result B Reply) : Type 0 where
+  pub before : List Read
+  pub after : List Read
+  pub split : reads ≡ before ++ after
+  pub between : Result A Reply
+  pub comes : first before between
+  pub goes_on : GoesOn next between after answer
+
+-- the file of a name is read where there is one
+abbrev pub LooksAtNamed : Option (List ℕ) → Step (Option (List ℕ))
+LooksAtNamed None = Gives (Ok None)
+LooksAtNamed (Some name) = Then (LooksAt name) (λ bytes. Gives (Ok (Some bytes)))
+
+-- A store over a call that makes a step: the reads of this call are those of the step, and nothing else was asked; each fits its
+-- file; and a reply has its cause.
+pub record Makes {A : Type 0} (store : StoreOver) (step : List Read → Result A Reply → Type 0)
+    (answer : Result A Reply) : Type 0 where
+  pub reads : List Read
+  pub asked : store.new.asked ≡ with_reads store.old.asked reads
+  pub of_files : All (IsOfFile store) reads
+  pub comes : step reads answer
   pub caused : IfErr answer (IsCaused store)
-
--- a function that reads the files of a plant answers what is said over what the reads give
-pub record ReadsAll {A : Type 0} (store : Reading) (want : Given → Result A Outcome) (answer : Result A Outcome)
-    : Type 0 where
-  pub given : Given
-  pub are_given : AreGiven store given
-  pub answers : Answers (want given) answer
-  pub caused : IfErr answer (IsCaused store)
-
--- the line of a plant file was made: its plant, and the live graph of it
-pub record IsLineOf (given : Given) (name : List ℕ) (line : Line) : Type 0 where
-  pub plant : IsLivePlant given name line.plant
-  pub graph : line.live.graph ≡ graph line.plant
-  pub sound : IsSound line.plant
-
--- the line of a plant file was made, or the command stops at its plant
-abbrev pub MakesLine : Given → List ℕ → Result Line Outcome → Type 0
-MakesLine given name (Ok line) = IsLineOf given name line
-MakesLine given name (Err stop) = StopsAt (plant_at given name) stop ⊎ (stop ≡ NoMemory)
-
--- over what the reads give, the line of a plant file was made, or the command stops
-pub record ReadsLine (store : Reading) (name : List ℕ) (answer : Result Line Outcome) : Type 0 where
-  pub given : Given
-  pub are_given : AreGiven store given
-  pub makes : MakesLine given name answer
-  pub caused : IfErr answer (IsCaused store)
-
--- what a file comes to that a store doesn't read; want of memory may come instead
-abbrev pub IsFaultOf : List ℕ → StoreError → Outcome → Type 0
-IsFaultOf name store_error.Failed came = (came ≡ StoreFault name) ⊎ (came ≡ NoMemory)
-IsFaultOf name store_error.TooLong came = (came ≡ TooLong name) ⊎ (came ≡ NoMemory)
-IsFaultOf name store_error.NoMemory came = came ≡ NoMemory
-
--- the outcome of a refusal
-abbrev pub refusal_of : PlantError → Outcome
-refusal_of plant_error.NoMemory = NoMemory
-refusal_of error = Refused error
+  pub files_stay : SameFiles store.tells store.old.files store.new.files
+  pub faults_stay_or_rise : NeverFall store.old.read_faults store.new.read_faults

@@ -1,108 +1,82 @@
--- The verdict: what a command comes to over what its reads give. The files are looked at in the order in which they stand
--- here, and the first that stops the command is named.
-use Rattle.std.specs.Prelude.{◌≡◌, ◌⊎◌, ℕ, ◌≤◌, nat_lt, if◌then◌else◌, List, length, Option, Some, None, Result, Ok, Err}
-use Rattle.line_base.specs.declared.limits.TheConstants.{MAX_FILE_BYTES}
-use Rattle.line_io.specs.Contents.{Contents}
+-- The verdict: what a command reads, in which order, and what it comes to over the bytes that its reads gave. The files are
+-- looked at in the order in which they stand here, and the first refusal ends the command.
+use Rattle.std.specs.Prelude.{◌≡◌, ℕ, List, Result, Ok, Err}
 use Rattle.line_base.specs.declared.event.Parts.{Parts}
 use Rattle.plant_model.specs.declared.error.PlantError.{PlantError}
 use Rattle.plant_model.specs.declared.plant.Plant.{Plant}
 use Rattle.plant_model.specs.Graph.{graph}
-use Rattle.plant_file.specs.declared.draft.DraftPlant.{DraftPlant}
-use Rattle.plant_file.specs.Draft.{demands_file}
+use Rattle.plant_draft.specs.declared.draft.DraftPlant.{DraftPlant}
+use Rattle.plant_draft.specs.Draft.{demands_file}
 use Rattle.plant_file.specs.Finish.{completed}
-use Rattle.plant_file.specs.Reading.{reading}
+use Rattle.plant_draft.specs.Reading.{reading}
 use Rattle.event_graph.specs.Live.{IsLive}
 use Rattle.event_graph.specs.Least.{IsLeast}
 use Rattle.event_graph.specs.State.{State}
 use Rattle.event_graph.specs.Table.{date_in}
 use Rattle.line_core.specs.Schedule.{follow}
 use Rattle.line_core.specs.declared.error.ReplayError.{ReplayError}
-use Rattle.pull_cli.specs.CheckText.{check_text}
-use Rattle.pull_cli.specs.DeadLine.{AreDead}
-use Rattle.pull_cli.specs.Outside.{Given}
-use Rattle.pull_cli.specs.ScheduleRefusals.{outcome_of}
-use Rattle.pull_cli.specs.declared.outcome.Outcome.{Outcome}
-use Rattle.pull_cli.specs.declared.outcome.Outcome.TheVariants.{Help, Version, StoreFault, TooLong, Refused, Dead, Checked, Reported}
-use Rattle.pull_cli.specs.declared.words.Command.{Command}
-use Rattle.pull_cli.specs.declared.words.Command.TheVariants as command
+use Rattle.line_report.specs.declared.report.Report.{Report}
+use Rattle.pull_words.specs.CheckText.{check_text}
+use Rattle.pull_words.specs.DeadLine.{AreDead}
+use Rattle.pull_words.specs.ScheduleRefusals.{reply_of}
+use Rattle.pull_words.specs.declared.reply.Reply.{Reply}
+use Rattle.pull_words.specs.declared.reply.Reply.TheVariants.{Help, Version, Refused, Dead, Checked}
+use Rattle.pull_words.specs.declared.words.Command.{Command}
+use Rattle.pull_words.specs.declared.words.Command.TheVariants as command
+use Rattle.pull_cli.specs.Steps.{Step, Settles, Gives, LooksAt, Then, LooksAtNamed}
 
--- the bytes of a file that is there and within the limit
-abbrev pub file_at : List ℕ → Option (List ℕ) → Result (List ℕ) Outcome
-file_at name None = Err (StoreFault name)
-file_at name (Some bytes) = if nat_lt MAX_FILE_BYTES (length bytes) then Err (TooLong name) else Ok bytes
-
--- what comes next, where nothing has stopped the command
-abbrev pub and_then : {A B : Type 0} → Result A Outcome → (A → Result B Outcome) → Result B Outcome
-and_then (Ok x) next = next x
-and_then (Err stop) next = Err stop
-
--- the bytes of a file that a plant file may name
-abbrev pub named_file : Option (List ℕ) → Contents → Result (Option (List ℕ)) Outcome
-named_file None files = Ok None
-named_file (Some name) files = and_then (file_at name (files name)) (λ bytes. Ok (Some bytes))
-
--- a refusal of a plant stops the command
-abbrev pub or_refused : {A : Type 0} → Result A PlantError → Result A Outcome
+-- a refusal of a plant ends the command
+abbrev pub or_refused : {A : Type 0} → Result A PlantError → Result A Reply
 or_refused (Ok x) = Ok x
 or_refused (Err error) = Err (Refused error)
 
 -- the plant of a draft: its demand file, then its times file, where it names them, then the refusals 10 to 15
-abbrev pub plant_of_draft : Given → DraftPlant → Result Plant Outcome
-plant_of_draft given d =
-    and_then (named_file (demands_file d) given.demands) (λ demands.
-    and_then (named_file d.times_file given.times) (λ times.
-    or_refused (completed d demands times)))
+abbrev pub OfDraft : DraftPlant → Step Plant
+OfDraft d =
+    Then (LooksAtNamed (demands_file d)) (λ demands.
+    Then (LooksAtNamed d.times_file) (λ times.
+    Gives (or_refused (completed d demands times))))
 
--- the plant of a plant file: the file, then the refusals 1 to 9, then what the draft comes to
-abbrev pub plant_at : Given → List ℕ → Result Plant Outcome
-plant_at given name =
-    and_then (file_at name (given.plant name)) (λ bytes.
-    and_then (or_refused (reading bytes)) (plant_of_draft given))
+-- the draft of the bytes of a plant file, or one of the refusals 1 to 9
+abbrev pub OfBytes : List ℕ → Step DraftPlant
+OfBytes bytes = Gives (or_refused (reading bytes))
+
+-- the plant of a plant file: the file, then its draft, then what that comes to
+abbrev pub OfPlantFile : List ℕ → Step Plant
+OfPlantFile name = Then (LooksAt name) (λ bytes. Then (OfBytes bytes) OfDraft)
 
 -- a graph with a circuit without a token comes to the labels of one
-abbrev pub IsDeadOutcome : Parts → Outcome → Type 0
-IsDeadOutcome g (Dead labels) = AreDead g labels
-IsDeadOutcome g other = ⊥
+abbrev pub IsDeadReply : Parts → Reply → Type 0
+IsDeadReply g (Dead labels) = AreDead g labels
+IsDeadReply g other = ⊥
 
--- the command stops at its plant: there is none, or it has a circuit without a token
-abbrev pub StopsAt : Result Plant Outcome → Outcome → Type 0
-StopsAt (Err stop) came = came ≡ stop
-StopsAt (Ok p) came = IsDeadOutcome (graph p) came
+-- the plant, which is live, or a circuit without a token that its graph has
+abbrev pub IsLiveOrDead : Plant → Result Plant Reply → Type 0
+IsLiveOrDead p (Ok same) = (same ≡ p) × IsLive (graph p)
+IsLiveOrDead p (Err reply) = IsDeadReply (graph p) reply
 
--- the plant of a plant file, which is live
-pub record IsLivePlant (given : Given) (name : List ℕ) (p : Plant) : Type 0 where
-  pub plant : plant_at given name ≡ Ok p
-  pub live : IsLive (graph p)
-
--- the command stops at its plant, or the plant is live and this comes next
-abbrev pub AfterPlant : Given → List ℕ → (Plant → Outcome → Type 0) → Outcome → Type 0
-AfterPlant given name next came =
-    StopsAt (plant_at given name) came ⊎ ((p : Plant) × IsLivePlant given name p × next p came)
+-- the live plant of a plant file
+abbrev pub OfLivePlant : List ℕ → Step Plant
+OfLivePlant name = Then (OfPlantFile name) (λ p. Settles (IsLiveOrDead p))
 
 -- the report of the plant, over the least solution of its graph
-abbrev pub ComesToReport : Plant → Outcome → Type 0
-ComesToReport p (Reported r) = (r.plant ≡ p) × IsLeast (graph p) (date_in r.rows)
-ComesToReport p other = ⊥
-
--- the lines of a plant that is live
-abbrev pub ComesToCheck : Plant → Outcome → Type 0
-ComesToCheck p came = came ≡ Checked (check_text p)
+abbrev pub IsReport : Plant → Result Report Reply → Type 0
+IsReport p (Ok r) = (r.plant ≡ p) × IsLeast (graph p) (date_in r.rows)
+IsReport p (Err reply) = ⊥
 
 -- the end of a schedule that can be followed is the report, and any other one its refusal
-abbrev pub ComesToEnd : Plant → Result State ReplayError → Outcome → Type 0
-ComesToEnd p (Ok end) came = ComesToReport p came
-ComesToEnd p (Err error) came = came ≡ outcome_of (graph p) error
+abbrev pub IsEnd : Plant → Result State ReplayError → Result Report Reply → Type 0
+IsEnd p (Ok end) answer = IsReport p answer
+IsEnd p (Err error) answer = answer ≡ Err (reply_of (graph p) error)
 
 -- the schedule file, then the schedule
-abbrev pub ComesToReplay : Plant → Result (List ℕ) Outcome → Outcome → Type 0
-ComesToReplay p (Err stop) came = came ≡ stop
-ComesToReplay p (Ok bytes) came = ComesToEnd p (follow (graph p) bytes) came
+abbrev pub OfSchedule : Plant → List ℕ → Step Report
+OfSchedule p name = Then (LooksAt name) (λ bytes. Settles (IsEnd p (follow (graph p) bytes)))
 
--- what a command comes to
-abbrev pub ComesTo : Given → Command → Outcome → Type 0
-ComesTo given command.Help came = came ≡ Help
-ComesTo given command.Version came = came ≡ Version
-ComesTo given (command.Run plant) came = AfterPlant given plant ComesToReport came
-ComesTo given (command.Check plant) came = AfterPlant given plant ComesToCheck came
-ComesTo given (command.Replay plant schedule) came =
-    AfterPlant given plant (λ p. ComesToReplay p (file_at schedule (given.schedule schedule))) came
+-- what a command reads, and comes to: a report, or a reply
+abbrev pub OfCommand : Command → Step Report
+OfCommand command.Help = Gives (Err Help)
+OfCommand command.Version = Gives (Err Version)
+OfCommand (command.Run plant) = Then (OfLivePlant plant) (λ p. Settles (IsReport p))
+OfCommand (command.Check plant) = Then (OfLivePlant plant) (λ p. Gives (Err (Checked (check_text p))))
+OfCommand (command.Replay plant schedule) = Then (OfLivePlant plant) (λ p. OfSchedule p schedule)

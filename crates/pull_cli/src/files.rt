@@ -1,25 +1,22 @@
 ghost use Rattle.std.specs.Prelude.{◌≡◌, ◌≤◌, length, option_map, is_some, IfOk, IfSome};
 ghost use Rattle.plant_model.specs.Sound.{IsSound};
-ghost use Rattle.pull_cli.specs.Outside.{reading, OnlyReads};
-ghost use Rattle.pull_cli.specs.Steps.{ReadsOne, ReadsAll, IsFaultOf, refusal_of};
-ghost use Rattle.pull_cli.specs.Verdict.{file_at, named_file, plant_of_draft, plant_at};
-ghost use Rattle.plant_file.specs.Reading.{reading as reading_of, AnswersReading};
+ghost use Rattle.pull_cli.specs.Outside.{store_over};
+ghost use Rattle.pull_cli.specs.Replies.{IsFaultOf, refusal_of};
+ghost use Rattle.pull_cli.specs.Steps.{Makes, LooksAt, LooksAtNamed};
+ghost use Rattle.pull_cli.specs.Verdict.{OfDraft, OfPlantFile};
+ghost use Rattle.plant_draft.specs.Reading.{reading as reading_of, AnswersReading};
 
-use crate::outcome::Outcome;
-use crate::words::FileName;
 use line_base::{Items, MAX_FILE_BYTES};
 use line_io::{Store, StoreError};
-use plant_file::{Draft, read_plant};
+use plant_file::{Draft, complete_draft, read_plant};
 use plant_model::{Plant, PlantError};
+use pull_words::{FileName, Reply};
 use std::alloc::Global;
 
 /// The bytes of a file.
-pub fn read_file<S: Store>(alloc: Global, store: &mut S, name: &str) -> Result<Items<u8>, Outcome>
-    ensures reads { ReadsOne (reading S.tells S.files S.read_faults S.taken store.old store.new)
-        (λ files. file_at name.now (files name.now)) result }
+pub fn read_file<S: Store>(alloc: Global, store: &mut S, name: &str) -> Result<Items<u8>, Reply>
+    ensures makes { Makes (store_over S.tells (S.shown store.old) (S.shown store.new)) (LooksAt name.now) result }
     ensures within { IfOk result (λ bytes. length bytes ≤ MAX_FILE_BYTES) }
-    ensures only_reads { OnlyReads (reading S.tells S.files S.read_faults S.taken store.old store.new)
-        (S.files store.new) }
 {
     match store.read(alloc, name, MAX_FILE_BYTES) {
         Ok(bytes) => Ok(Items::from_vec(bytes)),
@@ -28,16 +25,16 @@ pub fn read_file<S: Store>(alloc: Global, store: &mut S, name: &str) -> Result<I
 }
 
 /// What a file comes to that can't be read.
-fn file_fault(alloc: Global, name: &str, error: StoreError) -> Outcome
+fn file_fault(alloc: Global, name: &str, error: StoreError) -> Reply
     ensures { IsFaultOf name.now error result }
 {
     let Ok(file) = FileName::of(alloc, name) else {
-        return Outcome::NoMemory;
+        return Reply::NoMemory;
     };
     match error {
-        StoreError::Failed => Outcome::StoreFault { file },
-        StoreError::TooLong => Outcome::TooLong { file },
-        StoreError::NoMemory => Outcome::NoMemory,
+        StoreError::Failed => Reply::StoreFault { file },
+        StoreError::TooLong => Reply::TooLong { file },
+        StoreError::NoMemory => Reply::NoMemory,
     }
 }
 
@@ -46,13 +43,11 @@ fn read_named<S: Store>(
     alloc: Global,
     store: &mut S,
     name: Option<&str>,
-) -> Result<Option<Items<u8>>, Outcome>
-    ensures reads { ReadsOne (reading S.tells S.files S.read_faults S.taken store.old store.new)
-        (named_file (option_map (λ text. text.now) name.entry)) result }
+) -> Result<Option<Items<u8>>, Reply>
+    ensures makes { Makes (store_over S.tells (S.shown store.old) (S.shown store.new))
+        (LooksAtNamed (option_map (λ text. text.now) name.entry)) result }
     ensures where_named { IfOk result (λ bytes. is_some bytes ≡ is_some name.entry) }
     ensures within { IfOk result (λ bytes. IfSome bytes (λ read. length read ≤ MAX_FILE_BYTES)) }
-    ensures only_reads { OnlyReads (reading S.tells S.files S.read_faults S.taken store.old store.new)
-        (S.files store.new) }
 {
     match name {
         None => Ok(None),
@@ -64,16 +59,9 @@ fn read_named<S: Store>(
 }
 
 /// The plant of a plant file, and of the files that it names.
-pub fn read_plant_files<S: Store>(
-    alloc: Global,
-    store: &mut S,
-    name: &str,
-) -> Result<Plant, Outcome>
-    ensures reads { ReadsAll (reading S.tells S.files S.read_faults S.taken store.old store.new)
-        (λ given. plant_at given name.now) result }
+pub fn read_plant_files<S: Store>(alloc: Global, store: &mut S, name: &str) -> Result<Plant, Reply>
+    ensures makes { Makes (store_over S.tells (S.shown store.old) (S.shown store.new)) (OfPlantFile name.now) result }
     ensures sound { IfOk result IsSound }
-    ensures only_reads { OnlyReads (reading S.tells S.files S.read_faults S.taken store.old store.new)
-        (S.files store.new) }
 {
     let bytes = match read_file(alloc, store, name) {
         Ok(bytes) => bytes,
@@ -93,12 +81,9 @@ fn draft_of(alloc: Global, bytes: Items<u8>) -> Result<Draft, PlantError>
 }
 
 /// The plant of a draft, and of the files that it names.
-fn complete<S: Store>(alloc: Global, store: &mut S, draft: Draft) -> Result<Plant, Outcome>
-    ensures reads { ReadsAll (reading S.tells S.files S.read_faults S.taken store.old store.new)
-        (λ given. plant_of_draft given draft) result }
+fn complete<S: Store>(alloc: Global, store: &mut S, draft: Draft) -> Result<Plant, Reply>
+    ensures makes { Makes (store_over S.tells (S.shown store.old) (S.shown store.new)) (OfDraft draft) result }
     ensures sound { IfOk result IsSound }
-    ensures only_reads { OnlyReads (reading S.tells S.files S.read_faults S.taken store.old store.new)
-        (S.files store.new) }
 {
     let demands = match read_named(alloc, store, draft.demands_file()) {
         Ok(demands) => demands,
@@ -108,7 +93,7 @@ fn complete<S: Store>(alloc: Global, store: &mut S, draft: Draft) -> Result<Plan
         Ok(times) => times,
         Err(stop) => return Err(stop),
     };
-    match draft.complete(alloc, slice_of(&demands), slice_of(&times)) {
+    match complete_draft(alloc, draft, slice_of(&demands), slice_of(&times)) {
         Ok(plant) => Ok(plant),
         Err(error) => Err(refusal_of(error)),
     }
@@ -125,11 +110,11 @@ fn slice_of(bytes: &Option<Items<u8>>) -> Option<&[u8]>
 }
 
 /// What a refusal of a plant comes to.
-fn refusal_of(error: PlantError) -> Outcome
+fn refusal_of(error: PlantError) -> Reply
     ensures { result ≡ refusal_of error }
 {
     match error {
-        PlantError::NoMemory => Outcome::NoMemory,
-        error => Outcome::Refused { error },
+        PlantError::NoMemory => Reply::NoMemory,
+        error => Reply::Refused { error },
     }
 }

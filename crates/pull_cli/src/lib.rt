@@ -2,20 +2,10 @@
 //! store, and writes what the command has to say to a sink.
 #![tactic(auto)]
 
-mod check;
-mod dead;
 mod files;
 mod line;
 mod outcome;
-mod refusals;
-mod schedule;
 mod top;
-mod usage;
-mod words;
 
+pub use pull_words::{Command, FileName, USAGE, WordsError, read_words};
 pub use top::pull;
-pub use usage::USAGE;
-pub use words::{Command, FileName, WordsError, read_words};
-
-#[cfg(test)]
-mod tests;

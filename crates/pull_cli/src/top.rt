@@ -1,41 +1,44 @@
-ghost use Rattle.std.specs.Prelude.{◌≡◌, ◌⊎◌, Ok, Some};
+ghost use Rattle.std.specs.Prelude.{◌≡◌, ◌⊎◌, Err};
 ghost use Rattle.plant_model.specs.Graph.{graph};
 ghost use Rattle.plant_model.specs.Sound.{IsSound};
 ghost use Rattle.line_io.specs.Contents.{SameFiles};
-ghost use Rattle.pull_cli.specs.Ends.{Ends, Comes, Finishes, Writes, WritesText};
-ghost use Rattle.pull_cli.specs.Outcome.{IsNoReport};
-ghost use Rattle.pull_cli.specs.Outside.{reading, writing, OnlyReads};
-ghost use Rattle.pull_cli.specs.Verdict.{ComesToReport, ComesToCheck, ComesToReplay};
-ghost use Rattle.pull_cli.specs.Words.{texts, command_of};
+ghost use Rattle.pull_words.specs.Words.{texts, command_of};
+ghost use Rattle.line_core.specs.Schedule.{follow};
+ghost use Rattle.pull_words.specs.CheckText.{check_text as text_of_check};
+ghost use Rattle.pull_cli.specs.Ends.{Ends, OfWords, Finishes, Writes, WritesReply};
+ghost use Rattle.pull_cli.specs.Outcome.{answer_of};
+ghost use Rattle.pull_cli.specs.Outside.{store_over, sink_over};
+ghost use Rattle.pull_cli.specs.Steps.{Makes};
+ghost use Rattle.pull_cli.specs.Verdict.{OfCommand, IsReport, IsEnd};
 
-use crate::check::check_text;
 use crate::files::read_file;
 use crate::line::{Line, read_line, report_of};
 use crate::outcome::Outcome;
-use crate::schedule::schedule_outcome;
-use crate::words::{Command, WordsError, read_words};
 use line_core::replay;
 use line_io::{Failed, Sink, Store, put_all};
 use line_report::{Report, SinkFault};
+use pull_words::{
+    Command, OUT_OF_MEMORY, Reply, WordsError, check_text, read_words, schedule_reply,
+};
 use std::alloc::Global;
 
 /// Does what the words after the program's name ask for, and answers the status that the program ends with. The words are
 /// read first, then the plant file and what it names, then the schedule. Nothing is written before all of this is done and
 /// tried. Each status but 0 and 6 has written exactly its one line.
 pub fn pull<S: Store, K: Sink>(alloc: Global, words: &[String], store: &mut S, sink: &mut K) -> u8
-    ensures ends { Ends (texts words.now) (reading S.tells S.files S.read_faults S.taken store.old store.new)
-        (writing K.tells K.written K.faults sink.old sink.new) result }
-    ensures files_stay { SameFiles S.tells (S.files store.old) (S.files store.new) }
+    ensures ends { Ends (texts words.now) (store_over S.tells (S.shown store.old) (S.shown store.new))
+        (sink_over (K.shown sink.old) (K.shown sink.new)) result }
+    ensures files_stay { SameFiles S.tells (S.shown store.old).files (S.shown store.new).files }
 {
     match outcome_of(alloc, words, store) {
         Outcome::Reported { report } => write_report(report, sink),
-        outcome => write_text(alloc, &outcome, sink),
+        Outcome::Said { reply } => write_reply(alloc, &reply, sink),
     }
 }
 
 /// Writes a report, and answers the status, or 6 where the sink failed.
 fn write_report<K: Sink>(mut report: Report, sink: &mut K) -> u8
-    ensures { Finishes (writing K.tells K.written K.faults sink.old sink.new) (Outcome.Reported report) result }
+    ensures { Finishes (sink_over (K.shown sink.old) (K.shown sink.new)) (Outcome.Reported report) result }
 {
     match report.write(sink) {
         Ok(()) => 0,
@@ -43,20 +46,19 @@ fn write_report<K: Sink>(mut report: Report, sink: &mut K) -> u8
     }
 }
 
-/// Writes the text of an outcome, or the line of want of memory where there is none for it, and answers the status.
-fn write_text<K: Sink>(alloc: Global, outcome: &Outcome, sink: &mut K) -> u8
-    requires { IsNoReport outcome.now }
-    ensures { WritesText (writing K.tells K.written K.faults sink.old sink.new) outcome.now result }
+/// Writes a reply, or the line of want of memory where there is none for its text, and answers the status.
+fn write_reply<K: Sink>(alloc: Global, reply: &Reply, sink: &mut K) -> u8
+    ensures { WritesReply (sink_over (K.shown sink.old) (K.shown sink.new)) reply.now result }
 {
-    match outcome.text(alloc) {
-        Ok(text) => write_all(sink, outcome.status(), text.as_slice()),
-        Err(_) => write_all(sink, 9, b"memory\n"),
+    match reply.text(alloc) {
+        Ok(text) => write_all(sink, reply.status(), text.as_slice()),
+        Err(_) => write_all(sink, Reply::NoMemory.status(), OUT_OF_MEMORY.as_bytes()),
     }
 }
 
 /// Writes a text, and answers the status, or 6 where the sink failed.
 fn write_all<K: Sink>(sink: &mut K, status: u8, text: &[u8]) -> u8
-    ensures { Writes (writing K.tells K.written K.faults sink.old sink.new) text.now status result }
+    ensures { Writes (sink_over (K.shown sink.old) (K.shown sink.new)) text.now status result }
 {
     match put_all(sink, text) {
         Ok(()) => status,
@@ -66,10 +68,8 @@ fn write_all<K: Sink>(sink: &mut K, status: u8, text: &[u8]) -> u8
 
 /// What the words come to.
 fn outcome_of<S: Store>(alloc: Global, words: &[String], store: &mut S) -> Outcome
-    ensures comes { Comes (command_of (texts words.now))
-        (reading S.tells S.files S.read_faults S.taken store.old store.new) result }
-    ensures only_reads { OnlyReads (reading S.tells S.files S.read_faults S.taken store.old store.new)
-        (S.files store.new) }
+    ensures { Makes (store_over S.tells (S.shown store.old) (S.shown store.new))
+        (OfWords (command_of (texts words.now))) (answer_of result) }
 {
     match read_words(alloc, words) {
         Ok(Command::Run { plant }) => run(alloc, store, plant.as_str()),
@@ -77,23 +77,21 @@ fn outcome_of<S: Store>(alloc: Global, words: &[String], store: &mut S) -> Outco
         Ok(Command::Replay { plant, schedule }) => {
             replay_schedule(alloc, store, plant.as_str(), schedule.as_str())
         }
-        Ok(Command::Help) => Outcome::Help,
-        Ok(Command::Version) => Outcome::Version,
-        Err(WordsError::Usage) => Outcome::Usage,
-        Err(WordsError::NoMemory) => Outcome::NoMemory,
+        Ok(Command::Help) => said(Reply::Help),
+        Ok(Command::Version) => said(Reply::Version),
+        Err(WordsError::Usage) => said(Reply::Usage),
+        Err(WordsError::NoMemory) => said(Reply::NoMemory),
     }
 }
 
 /// What `run PLANT` comes to.
 fn run<S: Store>(alloc: Global, store: &mut S, plant: &str) -> Outcome
-    ensures comes { Comes (Some (Command.Run plant.now))
-        (reading S.tells S.files S.read_faults S.taken store.old store.new) result }
-    ensures only_reads { OnlyReads (reading S.tells S.files S.read_faults S.taken store.old store.new)
-        (S.files store.new) }
+    ensures { Makes (store_over S.tells (S.shown store.old) (S.shown store.new))
+        (OfCommand (Command.Run plant.now)) (answer_of result) }
 {
     match read_line(alloc, store, plant) {
         Ok(line) => run_line(alloc, line),
-        Err(stop) => stop,
+        Err(stop) => said(stop),
     }
 }
 
@@ -101,24 +99,22 @@ fn run<S: Store>(alloc: Global, store: &mut S, plant: &str) -> Outcome
 fn run_line(alloc: Global, line: Line) -> Outcome
     requires sound { IsSound line.plant }
     requires graph { line.live.graph ≡ graph line.plant }
-    ensures { ComesToReport line.plant result ⊎ (result ≡ Outcome.NoMemory) }
+    ensures { IsReport line.plant (answer_of result) ⊎ (answer_of result ≡ Err Reply.NoMemory) }
 {
     match line_core::run(alloc, &line.live) {
         Ok(end) => report_of(alloc, line, end),
-        Err(_) => Outcome::NoMemory,
+        Err(_) => said(Reply::NoMemory),
     }
 }
 
 /// What `check PLANT` comes to.
 fn check<S: Store>(alloc: Global, store: &mut S, plant: &str) -> Outcome
-    ensures comes { Comes (Some (Command.Check plant.now))
-        (reading S.tells S.files S.read_faults S.taken store.old store.new) result }
-    ensures only_reads { OnlyReads (reading S.tells S.files S.read_faults S.taken store.old store.new)
-        (S.files store.new) }
+    ensures { Makes (store_over S.tells (S.shown store.old) (S.shown store.new))
+        (OfCommand (Command.Check plant.now)) (answer_of result) }
 {
     match read_line(alloc, store, plant) {
         Ok(line) => check_line(alloc, &line),
-        Err(stop) => stop,
+        Err(stop) => said(stop),
     }
 }
 
@@ -126,28 +122,26 @@ fn check<S: Store>(alloc: Global, store: &mut S, plant: &str) -> Outcome
 fn check_line(alloc: Global, line: &Line) -> Outcome
     requires sound { IsSound line.now.plant }
     requires graph { line.now.live.graph ≡ graph line.now.plant }
-    ensures { ComesToCheck line.now.plant result ⊎ (result ≡ Outcome.NoMemory) }
+    ensures { answer_of result ≡ Err (Reply.Checked (text_of_check line.now.plant)) ⊎ (answer_of result ≡ Err Reply.NoMemory) }
 {
     match check_text(alloc, &line.plant, line.live.graph()) {
-        Ok(text) => Outcome::Checked { text },
-        Err(_) => Outcome::NoMemory,
+        Ok(text) => said(Reply::Checked { text }),
+        Err(_) => said(Reply::NoMemory),
     }
 }
 
 /// What `replay PLANT SCHEDULE` comes to.
 fn replay_schedule<S: Store>(alloc: Global, store: &mut S, plant: &str, schedule: &str) -> Outcome
-    ensures comes { Comes (Some (Command.Replay plant.now schedule.now))
-        (reading S.tells S.files S.read_faults S.taken store.old store.new) result }
-    ensures only_reads { OnlyReads (reading S.tells S.files S.read_faults S.taken store.old store.new)
-        (S.files store.new) }
+    ensures { Makes (store_over S.tells (S.shown store.old) (S.shown store.new))
+        (OfCommand (Command.Replay plant.now schedule.now)) (answer_of result) }
 {
     let line = match read_line(alloc, store, plant) {
         Ok(line) => line,
-        Err(stop) => return stop,
+        Err(stop) => return said(stop),
     };
     match read_file(alloc, store, schedule) {
         Ok(bytes) => replay_line(alloc, line, bytes.as_slice()),
-        Err(stop) => stop,
+        Err(stop) => said(stop),
     }
 }
 
@@ -155,10 +149,18 @@ fn replay_schedule<S: Store>(alloc: Global, store: &mut S, plant: &str, schedule
 fn replay_line(alloc: Global, line: Line, schedule: &[u8]) -> Outcome
     requires sound { IsSound line.plant }
     requires graph { line.live.graph ≡ graph line.plant }
-    ensures { ComesToReplay line.plant (Ok schedule.now) result ⊎ (result ≡ Outcome.NoMemory) }
+    ensures { IsEnd line.plant (follow (graph line.plant) schedule.now) (answer_of result)
+        ⊎ (answer_of result ≡ Err Reply.NoMemory) }
 {
     match replay(alloc, &line.live, schedule) {
         Ok(end) => report_of(alloc, line, end),
-        Err(error) => schedule_outcome(alloc, line.live.graph(), error),
+        Err(error) => said(schedule_reply(alloc, line.live.graph(), error)),
     }
+}
+
+/// What a reply comes to.
+fn said(reply: Reply) -> Outcome
+    ensures { result ≡ Outcome.Said reply }
+{
+    Outcome::Said { reply }
 }

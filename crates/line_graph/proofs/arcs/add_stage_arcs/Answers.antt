@@ -1,6 +1,6 @@
-use Rattle.std.proofs.Common.{◌<◌, length, refl, ap, ◌∙◌, arith}
+use Rattle.std.proofs.Common.{length, refl, ap, ◌∙◌, arith}
 use Rattle.plant_model.specs.declared.plant.Stage.{Stage}
-use Rattle.plant_model.specs.Line.{stage_at, release, last_machine, machine_station}
+use Rattle.plant_model.specs.Line.{release, machine_station}
 use Rattle.plant_model.specs.Graph.{worked}
 use Rattle.plant_model.proofs.SoundPlants.{IsSoundStage-sound}
 use Rattle.plant_model.proofs.LayoutFacts.{small_last_machine}

@@ -1,6 +1,5 @@
-use Rattle.std.proofs.Common.{◌≡◌, ◌∷◌, [], ◌++◌, length, refl, ap, ◌∙◌, arith}
+use Rattle.std.proofs.Common.{◌≡◌, ◌++◌, length, refl, ap, ◌∙◌, arith}
 use Rattle.plant_model.specs.declared.plant.Plant.{Plant}
-use Rattle.plant_model.specs.Line.{deliver}
 use Rattle.plant_model.specs.Graph.{arcs_of, stage_rows}
 use Rattle.plant_model.proofs.RowLists.{rows_more}
 use Rattle.line_graph.proofs.Joined.{rows-joined}

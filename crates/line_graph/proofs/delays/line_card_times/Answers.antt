@@ -1,4 +1,4 @@
-use Rattle.std.proofs.Common.{◌≡◌, ◌∙◌, sym, refl}
+use Rattle.std.proofs.Common.{◌∙◌, sym, refl}
 use Rattle.plant_model.specs.Line.{is_first}
 use Rattle.plant_model.specs.Graph.{line_card_row}
 use Rattle.plant_model.proofs.RowLists.{passing_row_more, failing_row_more}

@@ -1,4 +1,4 @@
-use Rattle.std.proofs.Common.{◌≡◌, ◌∷◌, [], ◌++◌, codes, ap, ◌∙◌}
+use Rattle.std.proofs.Common.{◌++◌, codes, ap, ◌∙◌}
 use Rattle.line_graph.proofs.LabelTexts.{is_label-machine}
 use Rattle.line_graph.proofs.labels.machine_label.Goals as goal
 

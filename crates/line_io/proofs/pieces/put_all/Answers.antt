@@ -16,7 +16,7 @@ loop-piece-preserved g c =
     let piece = c.in-Some.piece.now in
     record {
       size = search rules;
-      done = (old.done.0 ++ piece, piece_moves _ _ _ _ _ old.done.1 step.1.0, puts_all_after _ _ _ _ _ _ old.done.2 c.in_ok-put.ensures.appended);
+      done = (old.done.0 ++ piece, piece_moves _ _ _ _ _ old.done.1 step.1.0, puts_all_after _ _ _ _ _ old.done.2 c.in_ok-put.ensures.appended);
       faults = omega arith;
     }
 
@@ -26,4 +26,4 @@ returns-in_err-put-clause-front g c =
     let old = c.loop-piece.invariant in
     let split = piece_moves c.args.bytes.now old.done.0 (chunks_rest c.loop-piece.piece-iterator) c.in-Some.piece.now (chunks_rest c.next.new.self) old.done.1 c.in-Some.ensures.steps.1.0 in
     rw (p.1, split)
-    (puts_front_longer _ _ _ _ _ (puts_front_after _ _ _ _ _ _ old.done.2 c.in_err-put.ensures.front))
+    (puts_front_longer _ _ _ _ (puts_front_after _ _ _ _ _ old.done.2 c.in_err-put.ensures.front))

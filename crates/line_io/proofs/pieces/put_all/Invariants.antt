@@ -1,6 +1,6 @@
 use Rattle.std.proofs.Common.{◌≡◌, ◌≤◌, ℕ, List, ◌++◌}
 use Rattle.std.specs.Slice.Iter.{chunks_rest, chunks_size}
-use Rattle.line_io.specs.Written.{PutsAll}
+use Rattle.line_io.specs.SinkView.{PutsAll}
 use Rattle.line_io.specs.declared.sink.TheConstants.{MAX_PIECE}
 use Rattle.line_io.proofs.pieces.put_all.Given as goal
 
@@ -8,6 +8,6 @@ use Rattle.line_io.proofs.pieces.put_all.Given as goal
 abbrev pub invariant-loop-piece : goal.invariant-loop-piece
 invariant-loop-piece g l = record {
   size : chunks_size l.piece-iterator ≡ MAX_PIECE;
-  done : (done : List ℕ) × (l.bytes ≡ done ++ chunks_rest l.piece-iterator) × PutsAll g.K.Sink.tells (g.K.Sink.written l.initial.sink) (g.K.Sink.written l.sink) done;
-  faults : g.K.Sink.faults l.initial.sink ≤ g.K.Sink.faults l.sink;
+  done : (done : List ℕ) × (l.bytes ≡ done ++ chunks_rest l.piece-iterator) × PutsAll (g.K.Sink.shown l.initial.sink) (g.K.Sink.shown l.sink) done;
+  faults : (g.K.Sink.shown l.initial.sink).faults ≤ (g.K.Sink.shown l.sink).faults;
 }

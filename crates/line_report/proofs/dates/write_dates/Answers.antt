@@ -7,7 +7,7 @@ use Rattle.line_report.proofs.Lines.{pushed_line}
 use Rattle.line_report.proofs.dates.write_dates.Goals as goal
 
 pub loop-t-init : goal.loop-t-init
-loop-t-init g c = pushed_none _ _
+loop-t-init g c = pushed_none _
 
 pub loop-t-preserved : goal.loop-t-preserved
 loop-t-preserved g c =

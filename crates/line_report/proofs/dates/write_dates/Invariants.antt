@@ -7,6 +7,6 @@ use Rattle.line_report.proofs.dates.write_dates.Given as goal
 -- the lines of the stations before are written
 abbrev pub invariant-loop-t : goal.invariant-loop-t
 invariant-loop-t g l =
-    Pushed g.K.Sink.tells (stream g.K.Sink.written g.K.Sink.faults l.initial.sink l.initial.out)
-    (stream g.K.Sink.written g.K.Sink.faults l.sink l.out)
+    Pushed (stream (g.K.Sink.shown l.initial.sink) l.initial.out)
+    (stream (g.K.Sink.shown l.sink) l.out)
     (flat_map (station_lines l.graph (date_in l.table.rows)) (range_with_len 0 l.t))

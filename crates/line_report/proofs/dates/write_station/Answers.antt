@@ -7,7 +7,7 @@ use Rattle.line_report.proofs.Lines.{pushed_line}
 use Rattle.line_report.proofs.dates.write_station.Goals as goal
 
 pub loop-before-init : goal.loop-before-init
-loop-before-init g c = pushed_none _ _
+loop-before-init g c = pushed_none _
 
 pub loop-before-preserved : goal.loop-before-preserved
 unfolding date_line

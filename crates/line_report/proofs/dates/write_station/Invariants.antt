@@ -7,6 +7,6 @@ use Rattle.line_report.proofs.dates.write_station.Given as goal
 -- the lines of the jobs before are written
 abbrev pub invariant-loop-before : goal.invariant-loop-before
 invariant-loop-before g l =
-    Pushed g.K.Sink.tells (stream g.K.Sink.written g.K.Sink.faults l.initial.sink l.initial.out)
-    (stream g.K.Sink.written g.K.Sink.faults l.sink l.out)
+    Pushed (stream (g.K.Sink.shown l.initial.sink) l.initial.out)
+    (stream (g.K.Sink.shown l.sink) l.out)
     (flat_map (date_line l.graph (date_in l.table.rows) l.t) (range_with_len 1 l.before))

@@ -7,6 +7,6 @@ use Rattle.line_report.proofs.observed.write_date_observed.Given as goal
 -- the lines of the stages before are written
 abbrev pub invariant-loop-stage : goal.invariant-loop-stage
 invariant-loop-stage g l =
-    Pushed g.K.Sink.tells (stream g.K.Sink.written g.K.Sink.faults l.initial.sink l.initial.out)
-    (stream g.K.Sink.written g.K.Sink.faults l.sink l.out)
+    Pushed (stream (g.K.Sink.shown l.initial.sink) l.initial.out)
+    (stream (g.K.Sink.shown l.sink) l.out)
     (flat_map (stage_line l.plant (date_in l.table.rows) l.at) (range_with_len 0 l.stage))

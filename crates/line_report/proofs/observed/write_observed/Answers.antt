@@ -5,7 +5,7 @@ use Rattle.line_report.proofs.Lines.{pushed_element}
 use Rattle.line_report.proofs.observed.write_observed.Goals as goal
 
 pub loop-at-init : goal.loop-at-init
-loop-at-init g c = pushed_none _ _
+loop-at-init g c = pushed_none _
 
 pub loop-at-preserved : goal.loop-at-preserved
 loop-at-preserved g c =

@@ -8,6 +8,6 @@ use Rattle.line_report.proofs.observed.write_observed.Given as goal
 -- the lines of the dates before are written
 abbrev pub invariant-loop-at : goal.invariant-loop-at
 invariant-loop-at g l =
-    Pushed g.K.Sink.tells (stream g.K.Sink.written g.K.Sink.faults l.initial.sink l.initial.out)
-    (stream g.K.Sink.written g.K.Sink.faults l.sink l.out)
+    Pushed (stream (g.K.Sink.shown l.initial.sink) l.initial.out)
+    (stream (g.K.Sink.shown l.sink) l.out)
     (flat_map (observed_lines l.plant (date_in l.table.rows)) (take l.at-index l.plant.observe))

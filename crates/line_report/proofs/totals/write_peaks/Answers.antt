@@ -10,7 +10,7 @@ pub overflow_cast-stage-end : goal.overflow_cast-stage-end
 overflow_cast-stage-end g c = omega (arith, few_stages _ c.requires.sound)
 
 pub loop-stage-init : goal.loop-stage-init
-loop-stage-init g c = pushed_none _ _
+loop-stage-init g c = pushed_none _
 
 pub loop-stage-preserved : goal.loop-stage-preserved
 loop-stage-preserved g c =

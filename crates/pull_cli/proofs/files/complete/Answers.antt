@@ -1,58 +1,78 @@
-use Rattle.std.proofs.Common.{Option, List, ℕ, ◌≡◌, ◌≢◌, ◌∙◌, sym, ap, subst, Ok, Err}
-use Rattle.plant_file.specs.Draft.{demands_file}
+use Rattle.std.proofs.Common.{◌≡◌, ◌≢◌, Option, ℕ, List, ap, sym, subst, inl}
+use Rattle.std.specs.Prelude.{Ok, Err}
+use Rattle.plant_draft.specs.Draft.{demands_file}
 use Rattle.plant_file.specs.Finish.{completed}
 use Rattle.plant_model.specs.declared.error.PlantError.TheVariants as plant_error
-use Rattle.pull_cli.specs.Outside.{reading}
-use Rattle.pull_cli.specs.Steps.{ReadsOne}
-use Rattle.pull_cli.specs.Verdict.{named_file}
-use Rattle.pull_cli.specs.declared.outcome.Outcome.{Outcome}
-use Rattle.pull_cli.proofs.FileReads.{over}
-use Rattle.pull_cli.proofs.Plants.{TwoSteps, demands_stop, times_stop, draft_ok, draft_err}
+use Rattle.pull_cli.specs.Outside.{store_over}
+use Rattle.pull_cli.specs.Replies.{refusal_of}
+use Rattle.pull_cli.specs.Steps.{Step, Gives, LooksAtNamed, Then, Makes}
+use Rattle.pull_cli.specs.Verdict.{or_refused}
+use Rattle.plant_model.specs.declared.plant.Plant.{Plant}
+use Rattle.plant_draft.specs.declared.draft.DraftPlant.{DraftPlant}
+use Rattle.pull_cli.proofs.FileReads.{refusal_answers, refusal_caused}
+use Rattle.pull_cli.proofs.StepLemmas.{then_makes, then_settles, then_stops}
 use Rattle.pull_cli.proofs.files.complete.Goals as goal
 
-pub returns-in-Err-clause-reads : goal.returns-in-Err-clause-reads
-returns-in-Err-clause-reads g c =
-    let store = reading g.S.Store.tells g.S.Store.files g.S.Store.read_faults g.S.Store.taken c.args.store.now c.read_named.new.store in
-    demands_stop store c.args.draft c.in-Err.stop
-    (subst (λ (n : Option (List ℕ)). ReadsOne {A = Option (List ℕ)} store (named_file n) (Err c.in-Err.stop)) c.demands_file.ensures c.in-Err.ensures.reads)
+abbrev AfterTimes : DraftPlant → Option (List ℕ) → Option (List ℕ) → Step Plant
+AfterTimes d demands times = Gives (or_refused (completed d demands times))
 
-pub returns-in-Err-read_named-clause-reads : goal.returns-in-Err-read_named-clause-reads
-returns-in-Err-read_named-clause-reads g c =
-    let first = reading g.S.Store.tells g.S.Store.files g.S.Store.read_faults g.S.Store.taken c.args.store.now c.read_named.new.store in
-    let second = reading g.S.Store.tells g.S.Store.files g.S.Store.read_faults g.S.Store.taken c.read_named.new.store c.read_named-2.new.store in
-    times_stop g.S.Store.tells (g.S.Store.files c.args.store.now) (g.S.Store.files c.read_named.new.store) (g.S.Store.read_faults c.args.store.now) (g.S.Store.read_faults c.read_named.new.store) (g.S.Store.read_faults c.read_named-2.new.store) (g.S.Store.taken c.read_named.new.store) (g.S.Store.taken c.read_named-2.new.store) (g.S.Store.files c.read_named-2.new.store)
-    (record { first = c.in-Ok.ensures.only_reads; second = c.in-Err-read_named.ensures.only_reads })
-    c.args.draft c.in-Ok.demands c.in-Err-read_named.stop
-    (subst (λ (n : Option (List ℕ)). ReadsOne first (named_file n) (Ok c.in-Ok.demands)) c.demands_file.ensures c.in-Ok.ensures.reads)
-    (subst (λ (n : Option (List ℕ)). ReadsOne {A = Option (List ℕ)} second (named_file n) (Err c.in-Err-read_named.stop)) c.times_file.ensures.name c.in-Err-read_named.ensures.reads)
+abbrev AfterDemands : DraftPlant → Option (List ℕ) → Step Plant
+AfterDemands d demands = Then (LooksAtNamed d.times_file) (AfterTimes d demands)
 
-pub returns-in-Ok-complete-clause-reads : goal.returns-in-Ok-complete-clause-reads
-returns-in-Ok-complete-clause-reads g c =
-    let first = reading g.S.Store.tells g.S.Store.files g.S.Store.read_faults g.S.Store.taken c.args.store.now c.read_named.new.store in
-    let second = reading g.S.Store.tells g.S.Store.files g.S.Store.read_faults g.S.Store.taken c.read_named.new.store c.read_named-2.new.store in
+pub returns-in-Err-clause-makes : goal.returns-in-Err-clause-makes
+returns-in-Err-clause-makes g c =
+    let tells = g.S.Store.tells in
+    let old = g.S.Store.shown c.args.store.now in
+    let new = g.S.Store.shown c.read_named.new.store in
+    let d = c.args.draft in
+    then_stops tells old new (LooksAtNamed (demands_file d)) (AfterDemands d) c.in-Err.stop
+    (subst (λ (n : Option (List ℕ)). Makes {A = Option (List ℕ)} (store_over tells old new) (LooksAtNamed n) (Err c.in-Err.stop)) c.demands_file.ensures c.in-Err.ensures.makes)
+
+pub returns-in-Err-read_named-clause-makes : goal.returns-in-Err-read_named-clause-makes
+returns-in-Err-read_named-clause-makes g c =
+    let tells = g.S.Store.tells in
+    let old = g.S.Store.shown c.args.store.now in
+    let between = g.S.Store.shown c.read_named.new.store in
+    let new = g.S.Store.shown c.read_named-2.new.store in
+    let d = c.args.draft in
+    let demands = c.in-Ok.demands in
+    let stop = c.in-Err-read_named.stop in
+    then_makes tells old between new (LooksAtNamed (demands_file d)) (AfterDemands d) demands (Err stop)
+    (subst (λ (n : Option (List ℕ)). Makes (store_over tells old between) (LooksAtNamed n) (Ok demands)) c.demands_file.ensures c.in-Ok.ensures.makes)
+    (then_stops tells between new (LooksAtNamed d.times_file) (AfterTimes d demands) stop
+    (subst (λ (n : Option (List ℕ)). Makes {A = Option (List ℕ)} (store_over tells between new) (LooksAtNamed n) (Err stop)) c.times_file.ensures.name c.in-Err-read_named.ensures.makes))
+
+pub returns-in-Ok-complete_draft-clause-makes : goal.returns-in-Ok-complete_draft-clause-makes
+returns-in-Ok-complete_draft-clause-makes g c =
+    let tells = g.S.Store.tells in
+    let old = g.S.Store.shown c.args.store.now in
+    let between = g.S.Store.shown c.read_named.new.store in
+    let new = g.S.Store.shown c.read_named-2.new.store in
+    let d = c.args.draft in
     let demands = c.in-Ok.demands in
     let times = c.in-Ok-read_named.times in
-    let given : completed c.args.draft demands times ≡ Ok c.in-Ok-complete.plant =
-    rw (← c.slice_of.ensures, ← c.slice_of-2.ensures) c.in-Ok-complete.ensures.plant in
-    draft_ok g.S.Store.tells (g.S.Store.files c.args.store.now) (g.S.Store.files c.read_named.new.store) (g.S.Store.read_faults c.args.store.now) (g.S.Store.read_faults c.read_named.new.store) (g.S.Store.read_faults c.read_named-2.new.store) (g.S.Store.taken c.read_named.new.store) (g.S.Store.taken c.read_named-2.new.store) (g.S.Store.files c.read_named-2.new.store)
-    (record { first = c.in-Ok.ensures.only_reads; second = c.in-Ok-read_named.ensures.only_reads })
-    c.args.draft demands times c.in-Ok-complete.plant
-    (subst (λ (n : Option (List ℕ)). ReadsOne first (named_file n) (Ok demands)) c.demands_file.ensures c.in-Ok.ensures.reads)
-    (subst (λ (n : Option (List ℕ)). ReadsOne second (named_file n) (Ok times)) c.times_file.ensures.name c.in-Ok-read_named.ensures.reads)
-    given
+    let plant = c.in-Ok-complete_draft.plant in
+    let given : completed d demands times ≡ Ok plant = rw (← c.slice_of.ensures, ← c.slice_of-2.ensures) c.in-Ok-complete_draft.ensures.plant in
+    then_makes tells old between new (LooksAtNamed (demands_file d)) (AfterDemands d) demands (Ok plant)
+    (subst (λ (n : Option (List ℕ)). Makes (store_over tells old between) (LooksAtNamed n) (Ok demands)) c.demands_file.ensures c.in-Ok.ensures.makes)
+    (then_settles tells between new (LooksAtNamed d.times_file) (λ (times : Option (List ℕ)) answer. answer ≡ or_refused (completed d demands times)) times (Ok plant)
+    (subst (λ (n : Option (List ℕ)). Makes (store_over tells between new) (LooksAtNamed n) (Ok times)) c.times_file.ensures.name c.in-Ok-read_named.ensures.makes)
+    (inl (sym (ap or_refused given))) tt)
 
-pub returns-clause-reads : goal.returns-clause-reads
-returns-clause-reads g c =
-    let first = reading g.S.Store.tells g.S.Store.files g.S.Store.read_faults g.S.Store.taken c.args.store.now c.read_named.new.store in
-    let second = reading g.S.Store.tells g.S.Store.files g.S.Store.read_faults g.S.Store.taken c.read_named.new.store c.read_named-2.new.store in
+pub returns-clause-makes : goal.returns-clause-makes
+returns-clause-makes g c =
+    let tells = g.S.Store.tells in
+    let old = g.S.Store.shown c.args.store.now in
+    let between = g.S.Store.shown c.read_named.new.store in
+    let new = g.S.Store.shown c.read_named-2.new.store in
+    let d = c.args.draft in
     let demands = c.in-Ok.demands in
     let times = c.in-Ok-read_named.times in
-    let error = c.in-Err-complete.error in
-    let given : error ≢ plant_error.NoMemory → completed c.args.draft demands times ≡ Err error =
-    λ other. rw (← c.slice_of.ensures, ← c.slice_of-2.ensures) (c.in-Err-complete.ensures.plant other) in
-    draft_err g.S.Store.tells (g.S.Store.files c.args.store.now) (g.S.Store.files c.read_named.new.store) (g.S.Store.read_faults c.args.store.now) (g.S.Store.read_faults c.read_named.new.store) (g.S.Store.read_faults c.read_named-2.new.store) (g.S.Store.taken c.read_named.new.store) (g.S.Store.taken c.read_named-2.new.store) (g.S.Store.files c.read_named-2.new.store)
-    (record { first = c.in-Ok.ensures.only_reads; second = c.in-Ok-read_named.ensures.only_reads })
-    c.args.draft demands times error c.refusal_of.result
-    (subst (λ (n : Option (List ℕ)). ReadsOne first (named_file n) (Ok demands)) c.demands_file.ensures c.in-Ok.ensures.reads)
-    (subst (λ (n : Option (List ℕ)). ReadsOne second (named_file n) (Ok times)) c.times_file.ensures.name c.in-Ok-read_named.ensures.reads)
-    given c.refusal_of.ensures
+    let error = c.in-Err-complete_draft.error in
+    let given : error ≢ plant_error.NoMemory → completed d demands times ≡ Err error = λ other. rw (← c.slice_of.ensures, ← c.slice_of-2.ensures) (c.in-Err-complete_draft.ensures.plant other) in
+    rw c.refusal_of.ensures
+    (then_makes tells old between new (LooksAtNamed (demands_file d)) (AfterDemands d) demands (Err (refusal_of error))
+    (subst (λ (n : Option (List ℕ)). Makes (store_over tells old between) (LooksAtNamed n) (Ok demands)) c.demands_file.ensures c.in-Ok.ensures.makes)
+    (then_settles tells between new (LooksAtNamed d.times_file) (λ (times : Option (List ℕ)) answer. answer ≡ or_refused (completed d demands times)) times (Err (refusal_of error))
+    (subst (λ (n : Option (List ℕ)). Makes (store_over tells between new) (LooksAtNamed n) (Ok times)) c.times_file.ensures.name c.in-Ok-read_named.ensures.makes)
+    (refusal_answers (completed d demands times) error given) (refusal_caused tells new new error)))

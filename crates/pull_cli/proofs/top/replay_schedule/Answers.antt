@@ -1,17 +1,37 @@
-use Rattle.pull_cli.specs.Outside.{reading}
-use Rattle.pull_cli.proofs.Plants.{replay_stop, replay_came, replay_caused}
+use Rattle.std.proofs.Common.{ℕ, List}
+use Rattle.std.specs.Prelude.{Err}
+use Rattle.line_core.specs.Schedule.{follow}
+use Rattle.plant_model.specs.declared.plant.Plant.{Plant}
+use Rattle.plant_model.specs.Graph.{graph}
+use Rattle.pull_cli.specs.Outcome.{answer_of}
+use Rattle.pull_cli.specs.Steps.{Settles, LooksAt}
+use Rattle.pull_cli.specs.Verdict.{OfLivePlant, OfSchedule, IsEnd}
+use Rattle.pull_cli.proofs.Commands.{end_caused}
+use Rattle.pull_cli.proofs.StepLemmas.{then_makes, then_settles, then_stops}
 use Rattle.pull_cli.proofs.top.replay_schedule.Goals as goal
 
-pub returns-in-Err-read_file-clause-comes : goal.returns-in-Err-read_file-clause-comes
-returns-in-Err-read_file-clause-comes g c =
-    replay_stop g.S.Store.tells (g.S.Store.files c.args.store.now) (g.S.Store.files c.read_line.new.store) (g.S.Store.read_faults c.args.store.now) (g.S.Store.read_faults c.read_line.new.store) (g.S.Store.read_faults c.read_file.new.store) (g.S.Store.taken c.read_line.new.store) (g.S.Store.taken c.read_file.new.store) (g.S.Store.files c.read_file.new.store)
-    (record { first = c.in-Ok.ensures.only_reads; second = c.in-Err-read_file.ensures.only_reads })
-    c.args.plant.now c.args.schedule.now c.in-Ok.line c.in-Err-read_file.stop c.in-Ok.ensures.reads c.in-Err-read_file.ensures.reads
+pub returns-in-Err : goal.returns-in-Err
+returns-in-Err g c =
+    rw c.said.ensures (then_stops g.S.Store.tells (g.S.Store.shown c.args.store.now) (g.S.Store.shown c.read_line.new.store) (OfLivePlant c.args.plant.now) (λ (p : Plant). OfSchedule p c.args.schedule.now) c.in-Err.stop c.in-Err.ensures.makes)
 
-pub returns-in-Ok-read_file-clause-comes : goal.returns-in-Ok-read_file-clause-comes
-returns-in-Ok-read_file-clause-comes g c =
+pub returns-in-Err-read_file : goal.returns-in-Err-read_file
+returns-in-Err-read_file g c =
+    let between = g.S.Store.shown c.read_line.new.store in
+    let new = g.S.Store.shown c.read_file.new.store in
+    let p = c.in-Ok.line.plant in
+    let stop = c.in-Err-read_file.stop in
+    rw c.said-in-Err-read_file.ensures
+    (then_makes g.S.Store.tells (g.S.Store.shown c.args.store.now) between new (OfLivePlant c.args.plant.now) (λ (p : Plant). OfSchedule p c.args.schedule.now) p (Err stop) c.in-Ok.ensures.makes
+    (then_stops g.S.Store.tells between new (LooksAt c.args.schedule.now) (λ (bytes : List ℕ). Settles (IsEnd p (follow (graph p) bytes))) stop c.in-Err-read_file.ensures.makes))
+
+pub returns-in-Ok-read_file : goal.returns-in-Ok-read_file
+returns-in-Ok-read_file g c =
+    let between = g.S.Store.shown c.read_line.new.store in
+    let new = g.S.Store.shown c.read_file.new.store in
+    let p = c.in-Ok.line.plant in
+    let bytes = c.in-Ok-read_file.bytes in
+    let answer = answer_of c.replay_line.result in
     let came = rw c.as_slice.ensures at c.replay_line.ensures in
-    replay_came g.S.Store.tells (g.S.Store.files c.args.store.now) (g.S.Store.files c.read_line.new.store) (g.S.Store.read_faults c.args.store.now) (g.S.Store.read_faults c.read_line.new.store) (g.S.Store.read_faults c.read_file.new.store) (g.S.Store.taken c.read_line.new.store) (g.S.Store.taken c.read_file.new.store) (g.S.Store.files c.read_file.new.store)
-    (record { first = c.in-Ok.ensures.only_reads; second = c.in-Ok-read_file.ensures.only_reads })
-    c.args.plant.now c.args.schedule.now c.in-Ok-read_file.bytes c.in-Ok.line c.replay_line.result c.in-Ok.ensures.reads c.in-Ok-read_file.ensures.reads
-    came (replay_caused (reading g.S.Store.tells g.S.Store.files g.S.Store.read_faults g.S.Store.taken c.args.store.now c.read_file.new.store) c.in-Ok.line.plant c.in-Ok-read_file.bytes c.replay_line.result came)
+    then_makes g.S.Store.tells (g.S.Store.shown c.args.store.now) between new (OfLivePlant c.args.plant.now) (λ (p : Plant). OfSchedule p c.args.schedule.now) p answer c.in-Ok.ensures.makes
+    (then_settles g.S.Store.tells between new (LooksAt c.args.schedule.now) (λ (bytes : List ℕ). IsEnd p (follow (graph p) bytes)) bytes answer c.in-Ok-read_file.ensures.makes came
+    (end_caused g.S.Store.tells new new p (follow (graph p) bytes) answer came))

@@ -3,4 +3,4 @@ use Rattle.line_io.proofs.mem_sink.MemSinkSink.put.Goals as goal
 
 pub returns-clause-front : goal.returns-clause-front
 returns-clause-front c =
-    puts_front_of_take _ _ _ c.args.piece.now _ (λ _. c.append-2.ensures.items)
+    puts_front_of_take _ _ c.args.piece.now _ c.append-2.ensures.items

@@ -12,9 +12,9 @@ returns-clause-flushed g c =
     ]
     in
     elim c.if-self.branch [
-      | then-self w ↦ rw (told, w.sink-is, w.failed-is, ← c.self.view_is, w.if-self.true) (pushed_dropped _ _ _ _ _)
+      | then-self w ↦ rw (told, w.sink-is, w.failed-is, ← c.self.view_is, w.if-self.true) (pushed_dropped _ _ _)
       | else-self w ↦
           let sent = w.put_all.ensures in
           rw (told, w.sink-is, w.failed-is, ← c.self.view_is, w.if-self.false, w.is_err-failed.ensures.value, ← w.bytes.ensures)
-          (pushed_sent _ _ _ _ _ w.bytes.result.now w.bytes.result.now _ w.put_all.result (sym (append-nil _)) sent.appended sent.front sent.cause sent.faults_stay_or_rise)
+          (pushed_sent _ _ w.bytes.result.now w.bytes.result.now _ w.put_all.result (sym (append-nil _)) sent.appended sent.front sent.cause sent.faults_stay_or_rise)
     ]

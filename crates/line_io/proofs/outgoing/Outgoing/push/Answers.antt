@@ -4,7 +4,7 @@ use Rattle.line_io.proofs.OutgoingLemmas.{pushed_none, pushed_after}
 use Rattle.line_io.proofs.outgoing.Outgoing.push.Goals as goal
 
 pub loop-rest-init : goal.loop-rest-init
-loop-rest-init g c = ([], refl, pushed_none _ _)
+loop-rest-init g c = ([], refl, pushed_none _)
 
 -- a part goes from the rest to what is done
 part_moves : (bytes done rest part later : List ℕ) (n : ℕ) → bytes ≡ done ++ rest → part ≡ take n rest → later ≡ drop n rest → bytes ≡ (done ++ part) ++ later

@@ -7,7 +7,7 @@ abbrev pub invariant-loop-rest : goal.invariant-loop-rest
 invariant-loop-rest g l =
     (done : List ℕ)
     × (l.bytes ≡ done ++ l.rest)
-    × Pushed g.K.Sink.tells (stream g.K.Sink.written g.K.Sink.faults l.initial.sink l.initial.self) (stream g.K.Sink.written g.K.Sink.faults l.sink l.self) done
+    × Pushed (stream (g.K.Sink.shown l.initial.sink) l.initial.self) (stream (g.K.Sink.shown l.sink) l.self) done
 
 abbrev pub decreases-loop-rest : goal.decreases-loop-rest
 decreases-loop-rest g l = length l.rest

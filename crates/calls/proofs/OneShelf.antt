@@ -1,0 +1,222 @@
+-- Stations whose queues all stand on one shelf.
+use Rattle.std.proofs.Common.{◌≡◌, ◌≢◌, ℕ, ◌+◌, ◌-◌, ◌<◌, ◌≤◌, ◌⊎◌, List, [], ◌∷◌, ◌++◌, length, get_or, set, map, take, refl, sym, ap, ◌∙◌, subst, arith, ⊎_elim, inl, inr, get_or-set_same, get_or-set_other, length-append}
+use Rattle.std.specs.Prelude.{Option, None, Some, IfSome, All, AllPairs}
+use Rattle.std.specs.List.{range_with_len}
+use Rattle.std.proofs.Math.ListN.{get_or-map}
+use Rattle.std.proofs.lemmas.List as list
+use Rattle.std.proofs.lemmas.List.{length-map, length-set, get_or_push, get_or_append_left}
+use Rattle.std.proofs.lemmas.List.Kept.{AllPairs-filter}
+use Rattle.std.proofs.lemmas.List.FromFn.{length-range_with_len, get_or-range_with_len}
+use Rattle.std.proofs.lemmas.Bool.{cases_eq}
+use Rattle.line_base.specs.declared.event.Parts.{Parts}
+use Rattle.line_base.specs.Roomy.{RoomyLog}
+use Rattle.card_queue.specs.Plain.{PlainQueue, plain_taken, plain_tokens}
+use Rattle.event_graph.specs.Network.{arc, arc_count, stations, jobs, ins, outs, EndsAt, StartsAt}
+use Rattle.event_graph.proofs.ArcNumbers.{All-ins, All-outs}
+use Rattle.station_step.specs.declared.ends.Inlet.{Inlet}
+use Rattle.station_step.specs.declared.ends.Outlet.{Outlet}
+use Rattle.station_step.specs.declared.ends.Inlet.TheVariants as inlet
+use Rattle.station_step.specs.declared.ends.Outlet.TheVariants as outlet
+use Rattle.station_step.specs.declared.input.Input.{Input}
+use Rattle.station_step.specs.Shelf.{queue_at}
+use Rattle.station_step.specs.Ends.{IsUntaken, IsUnfilled, HasRingRoom, inlet_queue, outlet_queue, bare_inlet, bare_outlet}
+use Rattle.station_step.specs.Input.{empty_handed, input_at, NoneTakes}
+use Rattle.station_step.specs.Station.{WorkStation, IsStation, IsSeated, AreApart, NonePuts, outlet_at, new_station, bare_input, bare_station}
+use Rattle.station_step.specs.Kept.{IsKept, IsFresh}
+use Rattle.station_step.proofs.OwnQueues.{Some-injective, inlet_queue-bare, outlet_queue-bare}
+use Rattle.calls.specs.OneShelf.{IsUnused, IsFreshShelf, IsLocal, IsMember, IsLine, local_inlets, local_outlets, local_input}
+
+-- ---- new ends
+
+pub untaken-local : (arcs : List ℕ) → All IsUntaken (local_inlets arcs)
+untaken-local arcs k d low =
+    subst IsUntaken (sym (list.get_or-map (λ (a : ℕ). inlet.Local a) arcs k 0 d (omega (arith, low, length-map arcs (λ (a : ℕ). inlet.Local a))))) tt
+
+pub unfilled-local : (arcs : List ℕ) → All IsUnfilled (local_outlets arcs)
+unfilled-local arcs k d low =
+    subst IsUnfilled (sym (list.get_or-map (λ (a : ℕ). outlet.Local a) arcs k 0 d (omega (arith, low, length-map arcs (λ (a : ℕ). outlet.Local a))))) tt
+
+outlet-local : (arcs : List ℕ) (k : ℕ) → outlet_at (local_outlets arcs) k ≡ outlet.Local (get_or arcs k 0)
+outlet-local arcs k = get_or-map (λ (a : ℕ). outlet.Local a) arcs k 0
+
+input-local : (arcs : List ℕ) (k : ℕ) → input_at (map empty_handed (local_inlets arcs)) k ≡ local_input (get_or arcs k 0)
+input-local arcs k =
+    get_or-map empty_handed (local_inlets arcs) k (inlet.Local 0)
+    ∙ ap empty_handed (get_or-map (λ (a : ℕ). inlet.Local a) arcs k 0)
+
+pub ring_room-local : (arcs : List ℕ) (more k : ℕ) → HasRingRoom more (outlet_at (local_outlets arcs) k)
+ring_room-local arcs more k = subst (HasRingRoom more) (sym (outlet-local arcs k)) tt
+
+bare-inputs : (arcs : List ℕ) → map bare_input (map empty_handed (local_inlets arcs)) ≡ map local_input arcs
+bare-inputs [] = refl
+bare-inputs (a ∷ arcs) = ap (λ (l : List Input). local_input a ∷ l) (bare-inputs arcs)
+
+bare-outlets : (arcs : List ℕ) → map bare_outlet (local_outlets arcs) ≡ local_outlets arcs
+bare-outlets [] = refl
+bare-outlets (a ∷ arcs) = ap (λ (l : List Outlet). outlet.Local a ∷ l) (bare-outlets arcs)
+
+-- the station that is made
+abbrev pub made_station : Parts → ℕ → RoomyLog → WorkStation
+made_station g t log = new_station g t (local_inlets (ins g t)) (local_outlets (outs g t)) log
+
+pub made-is : (g : Parts) (t : ℕ) (inlets : List Inlet) (outlets : List Outlet) (log : RoomyLog) (into out_of : List ℕ) (s : WorkStation) → s ≡ new_station g t inlets outlets log → inlets ≡ local_inlets into → outlets ≡ local_outlets out_of → into ≡ ins g t → out_of ≡ outs g t → s ≡ made_station g t log
+made-is g t inlets outlets log into out_of s made in_is out_is into_is out_of_is =
+    made
+    ∙ ap (λ (l : List Inlet). new_station g t l outlets log) (in_is ∙ ap local_inlets into_is)
+    ∙ ap (λ (l : List Outlet). new_station g t (local_inlets (ins g t)) l log) (out_is ∙ ap local_outlets out_of_is)
+
+pub made-local : (g : Parts) (t : ℕ) (log : RoomyLog) → IsLocal g t (made_station g t log)
+made-local g t log = record {
+  graph = refl;
+  number = refl;
+  inputs = bare-inputs (ins g t);
+  outlets = bare-outlets (outs g t);
+}
+
+pub made-fresh : (g : Parts) (t : ℕ) (log : RoomyLog) (shelf : List PlainQueue) → log.dates ≡ [] → IsFreshShelf g shelf → IsFresh shelf (made_station g t log)
+made-fresh g t log shelf none fresh =
+    let d : PlainQueue = record { initial = []; added = []; room = 0; takes = 0 } in
+    let input_there : (k : ℕ) → k < length (map empty_handed (local_inlets (ins g t))) → get_or (ins g t) k 0 < arc_count g =
+    λ k low.
+    (All-ins g t k 0 (omega (arith, low, length-map (local_inlets (ins g t)) empty_handed, length-map (ins g t) (λ (a : ℕ). inlet.Local a)))).0 in
+    let output_there : (k : ℕ) → k < length (local_outlets (outs g t)) → get_or (outs g t) k 0 < arc_count g =
+    λ k low. (All-outs g t k 0 (omega (arith, low, length-map (outs g t) (λ (a : ℕ). outlet.Local a)))).0 in
+    let unused : (q : ℕ) → q < arc_count g → IsUnused (jobs g) (queue_at shelf q) =
+    λ q low. fresh.unused q d (omega (arith, fresh.count)) in
+    record {
+      untaken = λ k low.
+          subst (λ (i : Input). IfSome (inlet_queue i.inlet) (λ q. plain_taken (queue_at shelf q) ≡ [])) (sym (input-local (ins g t) k))
+          (ap (λ n. take n (plain_tokens (queue_at shelf (get_or (ins g t) k 0)))) (unused (get_or (ins g t) k 0) (input_there k low)).1);
+      unfilled = λ k low.
+          subst (λ (o : Outlet). IfSome (outlet_queue o) (λ q. (queue_at shelf q).added ≡ [])) (sym (outlet-local (outs g t) k))
+          (unused (get_or (outs g t) k 0) (output_there k low)).0;
+      room = λ k low.
+          subst (λ (o : Outlet). IfSome (outlet_queue o) (λ q. jobs g ≤ length log.dates + (queue_at shelf q).room)) (sym (outlet-local (outs g t) k))
+          (omega (arith, (unused (get_or (outs g t) k 0) (output_there k low)).2));
+    }
+
+-- ---- a station at work
+
+takes-at : (g : Parts) (t : ℕ) (s : WorkStation) (k : ℕ) → IsLocal g t s → inlet_queue (input_at s.inputs k).inlet ≡ Some (get_or (ins g t) k 0)
+takes-at g t s k is =
+    let d : Input = local_input 0 in
+    let same : bare_input (input_at s.inputs k) ≡ local_input (get_or (ins g t) k 0) =
+    sym (get_or-map bare_input s.inputs k d) ∙ ap (λ (l : List Input). get_or l k d) is.inputs ∙ get_or-map local_input (ins g t) k 0 in
+    sym (inlet_queue-bare (input_at s.inputs k).inlet) ∙ ap (λ (i : Input). inlet_queue i.inlet) same
+
+puts-at : (g : Parts) (t : ℕ) (s : WorkStation) (k : ℕ) → IsLocal g t s → outlet_queue (outlet_at s.outlets k) ≡ Some (get_or (outs g t) k 0)
+puts-at g t s k is =
+    let d : Outlet = outlet.Local 0 in
+    let same : bare_outlet (outlet_at s.outlets k) ≡ outlet.Local (get_or (outs g t) k 0) =
+    sym (get_or-map bare_outlet s.outlets k d) ∙ ap (λ (l : List Outlet). get_or l k d) is.outlets ∙ outlet-local (outs g t) k in
+    sym (outlet_queue-bare (outlet_at s.outlets k)) ∙ ap outlet_queue same
+
+many-inputs : (g : Parts) (t : ℕ) (s : WorkStation) → IsLocal g t s → length s.inputs ≡ length (ins g t)
+many-inputs g t s is = sym (length-map s.inputs bare_input) ∙ ap length is.inputs ∙ length-map (ins g t) local_input
+
+many-outlets : (g : Parts) (t : ℕ) (s : WorkStation) → IsLocal g t s → length s.outlets ≡ length (outs g t)
+many-outlets g t s is =
+    sym (length-map s.outlets bare_outlet) ∙ ap length is.outlets ∙ length-map (outs g t) (λ (a : ℕ). outlet.Local a)
+
+distinct-range : (n : ℕ) → AllPairs (λ (a b : ℕ). a ≢ b) (range_with_len 0 n)
+distinct-range n i j d less low e =
+    let few = length-range_with_len 0 n in
+    absurd (omega (arith, e, get_or-range_with_len 0 n i d (omega (arith, few)), get_or-range_with_len 0 n j d (omega (arith, few))))
+
+distinct-ins : (g : Parts) (t : ℕ) → AllPairs (λ (a b : ℕ). a ≢ b) (ins g t)
+unfolding ins
+distinct-ins g t = AllPairs-filter (λ (a b : ℕ). a ≢ b) _ (range_with_len 0 (arc_count g)) (distinct-range (arc_count g))
+
+distinct-outs : (g : Parts) (t : ℕ) → AllPairs (λ (a b : ℕ). a ≢ b) (outs g t)
+unfolding outs
+distinct-outs g t = AllPairs-filter (λ (a b : ℕ). a ≢ b) _ (range_with_len 0 (arc_count g)) (distinct-range (arc_count g))
+
+within-some : (queue : Option ℕ) (q count : ℕ) → queue ≡ Some q → q < count → IfSome queue (λ r. r < count)
+within-some queue q count is low = subst (λ (o : Option ℕ). IfSome o (λ r. r < count)) (sym is) low
+
+pub seated-local : (g : Parts) (shelf : List PlainQueue) (t : ℕ) (s : WorkStation) → length shelf ≡ arc_count g → IsLocal g t s → IsSeated shelf s
+seated-local g shelf t s count is = record {
+  takes_within = λ k low.
+      within-some _ (get_or (ins g t) k 0) (length shelf) (takes-at g t s k is)
+      (omega (arith, count, (All-ins g t k 0 (omega (arith, low, many-inputs g t s is))).0));
+  takes_apart = λ j k less low q here there.
+      distinct-ins g t j k 0 less (omega (arith, low, many-inputs g t s is))
+      (Some-injective (sym (takes-at g t s j is) ∙ here) ∙ sym (Some-injective (sym (takes-at g t s k is) ∙ there)));
+  puts_within = λ k low.
+      within-some _ (get_or (outs g t) k 0) (length shelf) (puts-at g t s k is)
+      (omega (arith, count, (All-outs g t k 0 (omega (arith, low, many-outlets g t s is))).0));
+  puts_apart = λ j k less low q here there.
+      distinct-outs g t j k 0 less (omega (arith, low, many-outlets g t s is))
+      (Some-injective (sym (puts-at g t s j is) ∙ here) ∙ sym (Some-injective (sym (puts-at g t s k is) ∙ there)));
+}
+
+-- a station takes from queue q only where arc q ends at it
+none-takes : (g : Parts) (t q : ℕ) (s : WorkStation) → IsLocal g t s → (arc g q).to ≢ t → NoneTakes q s.inputs
+none-takes g t q s is other k low takes =
+    let same = Some-injective (sym (takes-at g t s k is) ∙ takes) in
+    other (ap (λ a. (arc g a).to) (sym same) ∙ (All-ins g t k 0 (omega (arith, low, many-inputs g t s is))).1)
+
+none-puts : (g : Parts) (t q : ℕ) (s : WorkStation) → IsLocal g t s → (arc g q).from ≢ t → NonePuts q s.outlets
+none-puts g t q s is other k low puts =
+    let same = Some-injective (sym (puts-at g t s k is) ∙ puts) in
+    other (ap (λ a. (arc g a).from) (sym same) ∙ (All-outs g t k 0 (omega (arith, low, many-outlets g t s is))).1)
+
+pub apart-local : (g : Parts) (t u : ℕ) (s other : WorkStation) → IsLocal g t s → IsLocal g u other → t ≢ u → AreApart s other
+apart-local g t u s other is also distinct = record {
+  takes = λ q.
+      ⊎_elim
+      (λ (e : (arc g q).to ≡ t). inr (none-takes g u q other also (λ clash. distinct (sym e ∙ clash))))
+      (λ (ne : (arc g q).to ≢ t). inl (none-takes g t q s is ne))
+      (cases_eq (arc g q).to t);
+  puts = λ q.
+      ⊎_elim
+      (λ (e : (arc g q).from ≡ t). inr (none-puts g u q other also (λ clash. distinct (sym e ∙ clash))))
+      (λ (ne : (arc g q).from ≢ t). inl (none-puts g t q s is ne))
+      (cases_eq (arc g q).from t);
+}
+
+-- a step leaves it a station of the line
+pub local-same : (g : Parts) (t : ℕ) (s s' : WorkStation) → bare_station s' ≡ bare_station s → IsLocal g t s → IsLocal g t s'
+local-same g t s s' same is = record {
+  graph = ap (λ (w : WorkStation). w.graph) same ∙ is.graph;
+  number = ap (λ (w : WorkStation). w.number) same ∙ is.number;
+  inputs = ap (λ (w : WorkStation). w.inputs) same ∙ is.inputs;
+  outlets = ap (λ (w : WorkStation). w.outlets) same ∙ is.outlets;
+}
+
+pub line-steps : (g : Parts) (old new : List PlainQueue) (line : List WorkStation) (t : ℕ) (s s' : WorkStation) → t < length line → IsLine g old line → s ≡ get_or line t s → length new ≡ length old → bare_station s' ≡ bare_station s → IsStation s' → IsKept new s' → ((other : WorkStation) → IsStation other → AreApart s other → IsKept old other → IsKept new other) → IsLine g new (set line t s')
+line-steps g old new line t s s' low is at count same station kept others =
+    let was : IsMember g old t s = subst (IsMember g old t) (sym at) (is.members t s low) in
+    let now : IsMember g new t s' = record { is_local = local-same g t s s' same was.is_local; station = station; kept = kept } in
+    record {
+      queues = count ∙ is.queues;
+      count = length-set line t s' ∙ is.count;
+      members = λ u d there.
+          let there' : u < length line = omega (arith, there, length-set line t s') in
+          ⊎_elim
+          (λ (e : u ≡ t).
+          subst (λ (n : ℕ). IsMember g new n (get_or (set line t s') n d)) (sym e)
+          (subst (IsMember g new t) (sym (get_or-set_same line t s' d low)) now))
+          (λ (ne : u ≢ t).
+          let member = is.members u d there' in
+          subst (IsMember g new u) (sym (get_or-set_other line t u s' d ne))
+          (record {
+            is_local = member.is_local;
+            station = member.station;
+            kept = others (get_or line u d) member.station (apart-local g t u s (get_or line u d) was.is_local member.is_local (λ e. ne (sym e))) member.kept;
+          }))
+          (cases_eq u t);
+    }
+
+pub members-more : (g : Parts) (shelf : List PlainQueue) (line line' : List WorkStation) (s : WorkStation) (a : ℕ) → line' ≡ line ++ s ∷ [] → length line ≡ a → ((t : ℕ) (d : WorkStation) → t < length line → IsMember g shelf t (get_or line t d)) → IsMember g shelf a s → (t : ℕ) (d : WorkStation) → t < length line' → IsMember g shelf t (get_or line' t d)
+members-more g shelf line line' s a pushed count before new t d low =
+    let longer : length line' ≡ a + 1 = ap length pushed ∙ length-append line (s ∷ []) ∙ ap (λ n. n + 1) count in
+    subst (λ (l : List WorkStation). IsMember g shelf t (get_or l t d)) (sym pushed)
+    (⊎_elim
+    (λ (e : t ≡ a).
+    subst (λ (n : ℕ). IsMember g shelf n (get_or (line ++ s ∷ []) n d)) (sym e)
+    (subst (IsMember g shelf a) (sym (get_or_push line s d a count)) new))
+    (λ (ne : t ≢ a).
+    let lower : t < length line = omega (arith, low, longer, count) in
+    subst (IsMember g shelf t) (sym (get_or_append_left line (s ∷ []) d t lower)) (before t d lower))
+    (cases_eq t a))

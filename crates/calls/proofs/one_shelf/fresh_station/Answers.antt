@@ -1,0 +1,50 @@
+use Rattle.std.proofs.Common.{◌≡◌, ◌<◌, ◌-◌, ℕ, List, [], subst, sym, ap, ◌∙◌, length, arith}
+use Rattle.std.specs.Prelude.{All, IfOk}
+use Rattle.line_base.specs.Roomy.{RoomyLog}
+use Rattle.line_base.specs.declared.event.Parts.{Parts}
+use Rattle.card_queue.specs.Plain.{PlainQueue}
+use Rattle.event_graph.specs.Network.{ins, outs, jobs}
+use Rattle.station_step.specs.declared.ends.Inlet.{Inlet}
+use Rattle.station_step.specs.declared.ends.Outlet.{Outlet}
+use Rattle.station_step.specs.Ends.{IsUntaken, IsUnfilled, HasRingRoom}
+use Rattle.station_step.specs.Station.{WorkStation, outlet_at, new_station}
+use Rattle.station_step.specs.Kept.{IsKept, IsFresh}
+use Rattle.calls.specs.OneShelf.{IsFreshShelf, IsLocal, local_inlets, local_outlets}
+use Rattle.calls.proofs.OneShelf.{untaken-local, unfilled-local, ring_room-local, made-is, made-local, made-fresh}
+use Rattle.calls.proofs.one_shelf.fresh_station.Goals as goal
+
+pub new-requires-2-clause-untaken : goal.new-requires-2-clause-untaken
+new-requires-2-clause-untaken c =
+    subst (λ (l : List Inlet). All IsUntaken l) (sym c.in_ok-inlets.ensures) (untaken-local c.ins.result.now)
+
+pub new-requires-2-clause-unfilled : goal.new-requires-2-clause-unfilled
+new-requires-2-clause-unfilled c =
+    subst (λ (l : List Outlet). All IsUnfilled l) (sym c.in_ok-outlets.ensures) (unfilled-local c.outs.result.now)
+
+pub new-requires-2-clause-ring_room : goal.new-requires-2-clause-ring_room
+new-requires-2-clause-ring_room c k low =
+    subst (λ (l : List Outlet). HasRingRoom (jobs c.args.live.now.graph - length c.in_ok-log.log.dates) (outlet_at l k)) (sym c.in_ok-outlets.ensures)
+    (ring_room-local c.outs.result.now (jobs c.args.live.now.graph - length c.in_ok-log.log.dates) k)
+
+pub returns-clause-is_local : goal.returns-clause-is_local
+returns-clause-is_local c =
+    let g = c.args.live.now.graph in
+    let t = c.args.t in
+    let log = c.in_ok-log.log in
+    let made =
+    made-is g t c.in_ok-inlets.inlets.items c.in_ok-outlets.outlets.items log c.ins.result.now c.outs.result.now c.in_ok-station.station c.in_ok-station.ensures.made c.in_ok-inlets.ensures c.in_ok-outlets.ensures
+    (c.ins.ensures.arcs ∙ ap (λ (h : Parts). ins h t) c.graph-graph.ensures.graph)
+    (c.outs.ensures.arcs ∙ ap (λ (h : Parts). outs h t) c.graph-graph.ensures.graph) in
+    subst (IsLocal g t) (sym made) (made-local g t log)
+
+pub returns-clause-kept : goal.returns-clause-kept
+returns-clause-kept c shelf fresh =
+    let g = c.args.live.now.graph in
+    let t = c.args.t in
+    let log = c.in_ok-log.log in
+    let made =
+    made-is g t c.in_ok-inlets.inlets.items c.in_ok-outlets.outlets.items log c.ins.result.now c.outs.result.now c.in_ok-station.station c.in_ok-station.ensures.made c.in_ok-inlets.ensures c.in_ok-outlets.ensures
+    (c.ins.ensures.arcs ∙ ap (λ (h : Parts). ins h t) c.graph-graph.ensures.graph)
+    (c.outs.ensures.arcs ∙ ap (λ (h : Parts). outs h t) c.graph-graph.ensures.graph) in
+    c.in_ok-station.ensures.kept shelf
+    (subst (IsFresh shelf) (sym made) (made-fresh g t log shelf (ap (λ (l : RoomyLog). l.dates) c.in_ok-log.ensures) fresh))

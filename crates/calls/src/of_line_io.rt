@@ -1,0 +1,213 @@
+use line_io::{
+    Failed, FileStore, Files, MemSink, MemStore, Outgoing, Sink, StdSink, Store, StoreError,
+    put_all,
+};
+use std::alloc::{AllocError, Global};
+use std::cell::Cell;
+use std::fmt::Display;
+use std::test::Fail;
+use std::{fs, io};
+
+/// The file `a` with this text.
+fn file_a(alloc: Global, text: &str) -> Result<Files, AllocError> {
+    let mut files = Files::new(alloc);
+    let _ = files.insert(
+        String::from_str(alloc, "a")?,
+        text.as_bytes().to_vec(alloc)?,
+    )?;
+    Ok(files)
+}
+
+#[test]
+fn a_store_in_memory_reads_whole_files_up_to_a_limit(rt: HostRuntime) -> Result<(), Fail> {
+    let alloc = rt.alloc();
+    let mut store = MemStore::new(alloc, file_a(alloc, "policy")?, vec![in alloc; 5]?);
+    let cases = [
+        ("a", 6, Ok(6)),
+        ("a", 5, Err(StoreError::TooLong)),
+        ("a", 0, Err(StoreError::TooLong)),
+        ("b", 6, Err(StoreError::Failed)),
+        ("a", 6, Err(StoreError::Failed)),
+        ("a", 99, Ok(6)),
+    ];
+    for (name, limit, length) in cases {
+        let read = store.read(alloc, name, limit).map(|bytes| bytes.len());
+        assert_eq!(rt; read, length);
+    }
+    Ok(())
+}
+
+#[test]
+fn a_write_gives_a_file_its_bytes(rt: HostRuntime) -> Result<(), Fail> {
+    let alloc = rt.alloc();
+    let mut store = MemStore::new(alloc, file_a(alloc, "old")?, vec![in alloc; 2]?);
+    store.write("b", b"newer")?;
+    assert_eq!(rt; store.write("a", b"newer"), Err(StoreError::Failed));
+    assert_eq!(rt; store.read(alloc, "a", 9)?.as_slice(), b"old".as_slice());
+    assert_eq!(rt; store.read(alloc, "b", 9)?.as_slice(), b"newer".as_slice());
+    Ok(())
+}
+
+#[test]
+fn a_torn_write_leaves_a_front_of_the_bytes(rt: HostRuntime) -> Result<(), Fail> {
+    let alloc = rt.alloc();
+    let cases: [(u32, &str, &[u8]); 4] = [
+        (0, "a", b""),
+        (2, "a", b"ne"),
+        (2, "b", b"ne"),
+        (9, "a", b"newer"),
+    ];
+    for (keep, name, left) in cases {
+        let mut store = MemStore::torn(alloc, file_a(alloc, "old")?, vec![in alloc; 1]?, keep);
+        assert_eq!(rt; store.write(name, b"newer"), Err(StoreError::Failed));
+        let held = store.files().get(name).ok_or("the file is gone")?;
+        assert_eq!(rt; held.as_slice(), left);
+    }
+    Ok(())
+}
+
+#[test]
+fn a_sink_in_memory_refuses_by_number_and_by_room(rt: HostRuntime) -> Result<(), Fail> {
+    let alloc = rt.alloc();
+    let cases: [(u32, u32, &[u8]); 5] = [
+        (9, 0, b"onesix"),
+        (9, 2, b"onetwsix"),
+        (9, 7, b"onetwosix"),
+        (5, 7, b"onetw"),
+        (8, 1, b"onetsix"),
+    ];
+    for (room, keep, written) in cases {
+        let mut sink = MemSink::new(alloc, room, vec![in alloc; 2]?, keep)?;
+        let _ = sink.put(b"one");
+        let _ = sink.put(b"two");
+        let _ = sink.put(b"six");
+        assert_eq!(rt; sink.written(), written);
+    }
+    Ok(())
+}
+
+/// Whether a text of that many bytes goes out where one put fails, and how much is written.
+fn put_whole(alloc: Global, length: usize, failing: u32) -> Result<(bool, usize), AllocError> {
+    let bytes = vec![in alloc; b'x'; length]?;
+    let mut sink = MemSink::new(alloc, 20_000, vec![in alloc; failing]?, 0)?;
+    let well = put_all(&mut sink, &bytes).is_ok();
+    Ok((well, sink.written().len()))
+}
+
+/// The same through a buffer, by parts of seven bytes.
+fn put_by_parts(alloc: Global, length: usize, failing: u32) -> Result<(bool, usize), AllocError> {
+    let bytes = vec![in alloc; b'x'; length]?;
+    let mut sink = MemSink::new(alloc, 20_000, vec![in alloc; failing]?, 0)?;
+    let mut out = Outgoing::new(alloc)?;
+    for part in bytes.chunks(7) {
+        out.push(&mut sink, part);
+    }
+    let well = out.finish(&mut sink).is_ok();
+    Ok((well, sink.written().len()))
+}
+
+#[test]
+fn long_texts_go_out_in_pieces_of_4096_bytes(rt: HostRuntime) -> Result<(), Fail> {
+    let cases = [
+        (0, 1, (true, 0)),
+        (252, 2, (true, 252)),
+        (4_096, 2, (true, 4_096)),
+        (4_097, 2, (false, 4_096)),
+        (12_288, 3, (false, 8_192)),
+        (12_288, 4, (true, 12_288)),
+    ];
+    for (length, failing, written) in cases {
+        assert_eq!(rt; put_whole(rt.alloc(), length, failing)?, written);
+        assert_eq!(rt; put_by_parts(rt.alloc(), length, failing)?, written);
+    }
+    Ok(())
+}
+
+#[test]
+fn numbers_go_out_where_they_stand(rt: HostRuntime) -> Result<(), Fail> {
+    let alloc = rt.alloc();
+    let cases: [(u64, &[u8]); 4] = [
+        (0, b"00"),
+        (1_000, b"10001000"),
+        (123_456_789, b"123456789123456789"),
+        (u64::MAX, b"1844674407370955161518446744073709551615"),
+    ];
+    for (number, twice) in cases {
+        for before in [0, 4_090, 4_095] {
+            let mut sink = MemSink::new(alloc, 20_000, Vec::new(alloc), 0)?;
+            let mut out = Outgoing::new(alloc)?;
+            out.push(&mut sink, &vec![in alloc; b'x'; before]?);
+            out.push_number(&mut sink, number);
+            out.push_wide_number(&mut sink, number.into());
+            assert_eq!(rt; out.finish(&mut sink), Ok(()));
+            assert_eq!(rt; sink.written().get(before..), Some(twice));
+        }
+    }
+    Ok(())
+}
+
+/// So many bytes, of which neighbours differ.
+fn numbered(alloc: Global, len: usize) -> Result<Vec<u8>, AllocError> {
+    (0..len).map(|n| (n % 251) as u8).collect(alloc)
+}
+
+#[test]
+fn a_file_of_the_machine_is_written_and_read(rt: HostRuntime) -> Result<(), Fail> {
+    let alloc = rt.alloc();
+    let own = format!(in alloc; "pull_{}.test", std::process::id(rt.process()))?;
+    let path = std::env::temp_dir(&rt)?.join(alloc, own.as_str())?;
+    let name = path.as_path().to_str().ok_or("not text")?;
+    let bytes = numbered(alloc, 40_000)?;
+    let mut store = FileStore::new(&rt);
+    store.write(name, &bytes)?;
+    assert!(rt; store.read(alloc, name, 40_000)? == bytes);
+    assert_eq!(rt;
+        store.read(alloc, name, 39_999).err(),
+        Some(StoreError::TooLong)
+    );
+    fs::remove_file(&rt, name)?;
+    assert_eq!(rt;
+        store.read(alloc, name, 40_000).err(),
+        Some(StoreError::Failed)
+    );
+    Ok(())
+}
+
+/// A printer that refuses what goes past its room.
+#[derive(Drop)]
+struct Printer {
+    printed: Cell<usize>,
+    room: usize,
+}
+
+impl Print for Printer {
+    fn print<D: Display + Drop>(&self, _value: D) -> io::Result<()> {
+        Err(io::ErrorKind::Unsupported.into())
+    }
+
+    fn println<D: Display + Drop>(&self, _value: D) -> io::Result<()> {
+        Err(io::ErrorKind::Unsupported.into())
+    }
+
+    fn write_all(&self, bytes: &[u8]) -> io::Result<()> {
+        let printed = self.printed.get().saturating_add(bytes.len());
+        if printed > self.room {
+            return Err(io::ErrorKind::StorageFull.into());
+        }
+        self.printed.set(printed);
+        Ok(())
+    }
+}
+
+#[test]
+fn standard_output_takes_pieces(rt: HostRuntime) -> Result<(), Fail> {
+    put_all(&mut StdSink::new(&rt), b"written through a sink\n")?;
+    let printer = Printer {
+        printed: Cell::new(0),
+        room: 8_191,
+    };
+    let bytes = vec![in rt.alloc(); b'x'; 8_192]?;
+    assert_eq!(rt; put_all(&mut StdSink::new(&printer), &bytes), Err(Failed));
+    assert_eq!(rt; printer.printed.get(), 4_096);
+    Ok(())
+}

@@ -1,0 +1,46 @@
+use crate::one_shelf::{fresh_line, fresh_shelf, step_at};
+use crate::plants::{live_of, plain, two_stages, two_stations};
+use event_graph::Arc;
+use live_check::rank;
+use station_step::Stepped;
+use std::test::Fail;
+
+// The release `cut` waits for the card of arc 9; the feed fires once for each of the three demands.
+#[test]
+fn a_step_fires_or_names_the_first_arc_without_a_token(rt: HostRuntime) -> Result<(), Fail> {
+    let live = live_of(rt.alloc(), &two_stages(rt.alloc())?)?;
+    assert_eq!(rt; live.graph().stations(), 6);
+    let mut shelf = fresh_shelf(rt.alloc(), live.graph())?;
+    let mut line = fresh_line(rt.alloc(), &live, &shelf)?;
+    let cut = step_at(&live, &mut shelf, &mut line, 1);
+    let first = step_at(&live, &mut shelf, &mut line, 0);
+    let second = step_at(&live, &mut shelf, &mut line, 0);
+    let third = step_at(&live, &mut shelf, &mut line, 0);
+    let fourth = step_at(&live, &mut shelf, &mut line, 0);
+    assert_eq!(rt; cut, Stepped::Blocked(9));
+    assert_eq!(rt; [first, second, third], [Stepped::Fired; 3]);
+    assert_eq!(rt; fourth, Stepped::Done);
+    Ok(())
+}
+
+// A token of the feed comes 4 later, and one that `a` gives back to itself 2 later and 3 more.
+#[test]
+fn dates_come_out_of_two_stations_with_their_delays(rt: HostRuntime) -> Result<(), Fail> {
+    let own = Arc {
+        worked: true,
+        ..plain(1, 1, 1)
+    };
+    let graph = two_stations(&rt, rt.alloc(), &[plain(0, 1, 0), own], &[4, 2])?;
+    let live = rank(rt.alloc(), graph).ok().ok_or("the graph isn't live")?;
+    assert_eq!(rt; live.graph().stations(), 2);
+    let mut shelf = fresh_shelf(rt.alloc(), live.graph())?;
+    let mut line = fresh_line(rt.alloc(), &live, &shelf)?;
+    let feed = step_at(&live, &mut shelf, &mut line, 0);
+    let a = step_at(&live, &mut shelf, &mut line, 1);
+    let feed_again = step_at(&live, &mut shelf, &mut line, 0);
+    let a_again = step_at(&live, &mut shelf, &mut line, 1);
+    assert_eq!(rt; [feed, a, feed_again, a_again], [Stepped::Fired; 4]);
+    assert_eq!(rt; line[1].log(), [4, 9].as_slice());
+    assert_eq!(rt; line[1].hand(0), None);
+    Ok(())
+}

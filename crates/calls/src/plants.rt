@@ -1,0 +1,89 @@
+//! The sample plants and graphs of the tests.
+ghost use Rattle.std.specs.Prelude.{◌≡◌, ◌≤◌, length, All, IfOk};
+ghost use Rattle.line_base.specs.declared.limits.TheConstants.{MAX_ARCS, MAX_CARDS, MAX_TIME};
+ghost use Rattle.event_graph.specs.Limits.{IsWithinLimits};
+ghost use Rattle.plant_model.specs.Graph.{graph};
+ghost use Rattle.plant_model.specs.Sound.{IsSound};
+
+use event_graph::{Arc, Graph, GraphError, Parts};
+use line_base::{Items, Label, MAX_ARCS, MAX_CARDS, MAX_TIME, Times};
+use line_graph::graph_of;
+use live_check::{Live, rank};
+use plant_file::{complete_draft, read_plant};
+use plant_model::Plant;
+use std::alloc::{AllocError, Global};
+use std::process::Abort;
+use std::test::Fail;
+
+/// Two stages under kanban, with a card each and three demands.
+const TWO_STAGES: &str = "\
+policy = \"kanban\"
+demands = [0, 2, 4]
+stage = [
+  { name = \"cut\", feeds = \"weld\", cards = 1, machine = [{ name = \"saw\", time = 3 }] },
+  { name = \"weld\", cards = 1, machine = [{ name = \"torch\", time = 5 }] },
+]
+";
+
+/// The plant of two stages: `cut` with the machine `saw`, and `weld` with the machine `torch`.
+pub fn two_stages(alloc: Global) -> Result<Plant, Fail>
+    ensures { IfOk result IsSound }
+{
+    let draft = read_plant(alloc, TWO_STAGES.as_bytes())?;
+    if draft.demands_file().is_some() || draft.times_file().is_some() {
+        return Err("the plant names a file".into());
+    }
+    Ok(complete_draft(alloc, draft, None, None)?)
+}
+
+/// The live graph of a plant.
+pub fn live_of(alloc: Global, plant: &Plant) -> Result<Live, Fail>
+    requires { IsSound plant.now }
+    ensures { IfOk result (λ live. live.graph ≡ graph plant.now) }
+{
+    let graph = graph_of(alloc, plant)?;
+    Ok(rank(alloc, graph).ok().ok_or("the graph isn't live")?)
+}
+
+/// An arc that isn't worked.
+pub fn plain(from: u32, to: u32, tokens: u32) -> Arc {
+    Arc {
+        from,
+        to,
+        tokens,
+        worked: false,
+    }
+}
+
+/// A feed with two demands of date 0 and a station `a` that takes 3 for each job, with these arcs.
+fn two_station_parts(alloc: Global, arcs: &[Arc], delays: &[u64]) -> Result<Parts, AllocError>
+    requires few { length arcs.now ≤ MAX_ARCS }
+    requires tokens { All (λ a. a.tokens ≤ MAX_CARDS) arcs.now }
+    requires for_each { length delays.now ≡ length arcs.now }
+    requires small { All (λ d. d ≤ MAX_TIME) delays.now }
+    ensures { IfOk result IsWithinLimits }
+{
+    Ok(Parts {
+        labels: Items::from_vec(vec![in alloc;
+            Label::of(alloc, b"feed")?,
+            Label::of(alloc, b"a")?,
+        ]?),
+        times: Items::from_vec(vec![in alloc; Times::Fixed(0), Times::Fixed(3)]?),
+        dates: Items::from_vec(vec![in alloc; 0, 0]?),
+        arcs: Items::from_vec(Vec::from_slice(alloc, arcs)?),
+        delays: Items::from_vec(Vec::from_slice(alloc, delays)?),
+    })
+}
+
+/// The graph of the two stations with these arcs, or the fault of its parts.
+pub fn two_stations(
+    rt: &impl Abort,
+    alloc: Global,
+    arcs: &[Arc],
+    delays: &[u64],
+) -> Result<Graph, GraphError> {
+    assert!(rt; arcs.len() <= MAX_ARCS as usize && delays.len() == arcs.len());
+    assert!(rt; arcs.iter().all(|arc| arc.tokens <= MAX_CARDS));
+    assert!(rt; delays.iter().all(|delay| *delay <= MAX_TIME));
+    Graph::build(alloc, two_station_parts(alloc, arcs, delays)?)
+}

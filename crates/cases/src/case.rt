@@ -1,0 +1,337 @@
+//! The cases of a file, as its lines make them.
+use crate::change::{Change, Edit};
+use crate::dates::row_of;
+use crate::directive::{Directive, Row, directive_of};
+use crate::reason::{BadLine, Reason};
+use crate::want::{After, Output, Want};
+use std::alloc::Global;
+
+/// A case: files, and commands that are run over them.
+#[derive(Drop)]
+pub struct Case {
+    /// Its title, which no other case of the file has.
+    pub title: String,
+    /// Its steps, in order.
+    pub steps: Vec<Step>,
+}
+
+/// A step of a case.
+#[derive(Drop)]
+pub struct Step {
+    /// The number of its line.
+    pub line: u64,
+    /// What is done.
+    pub act: Act,
+}
+
+/// What is done in a step.
+#[derive(Drop)]
+pub enum Act {
+    /// A file is changed.
+    Change(Change),
+    /// Commands are run.
+    Run(Run),
+}
+
+/// Commands, and what is wanted of each.
+#[derive(Drop)]
+pub struct Run {
+    /// The words of each command.
+    pub commands: Vec<Vec<String>>,
+    /// What fails.
+    pub faults: Faults,
+    /// What is wanted of each; no status where only the rows are run.
+    pub want: Want,
+    /// The files of the calls of the store, where each is to fail in turn.
+    pub each_fault: Option<Vec<String>>,
+    /// The runs over changed files.
+    pub rows: Vec<NumberedRow>,
+    /// Where a line of text goes.
+    block: Block,
+}
+
+/// A row of a table, and the number of its line.
+#[derive(Drop)]
+pub struct NumberedRow {
+    pub line: u64,
+    pub row: Row,
+}
+
+/// What fails in a run.
+#[derive(Clone, Copy)]
+pub struct Faults {
+    /// The call of the store, counted from 1; 0 for none.
+    pub store: u32,
+    /// How many bytes a failing write leaves; none where it leaves the file as it was.
+    pub tear: Option<u32>,
+    /// The put, counted from 1; 0 for none.
+    pub put: u32,
+    /// How many bytes of its piece the failing put keeps.
+    pub keep: u32,
+    /// How many bytes the sink takes.
+    pub room: u32,
+}
+
+/// The text that a run has begun.
+#[derive(Clone, Copy)]
+enum Block {
+    Output,
+    After,
+}
+
+/// How many bytes a sink takes where a case doesn't say it.
+const ROOM: u32 = 100_000;
+
+impl Faults {
+    /// Nothing fails.
+    pub fn none() -> Self {
+        Faults {
+            store: 0,
+            tear: None,
+            put: 0,
+            keep: 0,
+            room: ROOM,
+        }
+    }
+}
+
+impl Run {
+    /// A run of no command.
+    fn new(alloc: Global) -> Self {
+        Run {
+            commands: Vec::new(alloc),
+            faults: Faults::none(),
+            want: Want {
+                status: None,
+                output: Output::Whole(Vec::new(alloc)),
+                after: Vec::new(alloc),
+            },
+            each_fault: None,
+            rows: Vec::new(alloc),
+            block: Block::Output,
+        }
+    }
+
+    /// Adds lines to the text that has begun.
+    fn add_text(&mut self, lines: &[u8]) -> Result<(), Reason> {
+        match self.block {
+            Block::Output => match &mut self.want.output {
+                Output::Whole(text) | Output::End(text) | Output::Front(_, text) => {
+                    text.extend_from_slice(lines)?;
+                    Ok(())
+                }
+                Output::Copy(_) | Output::Rows(_) => Err(Reason::NoText),
+            },
+            Block::After => match self.want.after.last_mut() {
+                Some(after) => {
+                    after.bytes.extend_from_slice(lines)?;
+                    Ok(())
+                }
+                None => Err(Reason::NoText),
+            },
+        }
+    }
+
+    /// Does what a line says of it.
+    fn state(&mut self, line: u64, directive: Directive) -> Result<(), Reason> {
+        match directive {
+            Directive::FailStore(call) => self.faults.store = call,
+            Directive::Tear(keep) => self.faults.tear = Some(keep),
+            Directive::FailPut { number, keep } => {
+                self.faults.put = number;
+                self.faults.keep = keep;
+            }
+            Directive::Room(room) => self.faults.room = room,
+            Directive::EachFault(files) => self.each_fault = Some(files),
+            Directive::Status(status) => self.want.status = Some(status),
+            Directive::Output(output) => {
+                self.want.output = output;
+                self.block = Block::Output;
+            }
+            Directive::After { name, bytes } => {
+                self.want.after.push(After { name, bytes })?;
+                self.block = Block::After;
+            }
+            Directive::Row(row) => self.rows.push(NumberedRow { line, row })?,
+            _ => return Err(Reason::NoDirective),
+        }
+        Ok(())
+    }
+}
+
+/// What the last lines have begun.
+#[derive(Drop)]
+enum Open {
+    Nothing,
+    Change(u64, Change),
+    Run(u64, Run),
+}
+
+/// The cases of a file, as far as its lines have been followed.
+#[derive(Drop)]
+struct Builder {
+    alloc: Global,
+    cases: Vec<Case>,
+    open: Open,
+}
+
+/// The cases of the text of a file.
+pub fn cases_of(alloc: Global, text: &str) -> Result<Vec<Case>, BadLine> {
+    let mut builder = Builder {
+        alloc,
+        cases: Vec::new(alloc),
+        open: Open::Nothing,
+    };
+    let mut line = 0u64;
+    for text in text.lines() {
+        line = line.saturating_add(1);
+        if let Err(reason) = builder.follow(line, text) {
+            return Err(BadLine { line, reason });
+        }
+    }
+    match builder.close() {
+        Ok(()) => Ok(builder.cases),
+        Err(reason) => Err(BadLine { line, reason }),
+    }
+}
+
+impl Builder {
+    /// Follows a line.
+    fn follow(&mut self, line: u64, text: &str) -> Result<(), Reason> {
+        match directive_of(self.alloc, text)? {
+            Some(directive) => self.take(line, directive),
+            None => Ok(()),
+        }
+    }
+
+    /// Does what a line says.
+    fn take(&mut self, line: u64, directive: Directive) -> Result<(), Reason> {
+        match directive {
+            Directive::Case(title) => self.begin_case(title),
+            Directive::Like(title) => self.begin_like(title.as_str()),
+            Directive::File(change) => self.begin(Open::Change(line, change)),
+            Directive::Command(words) => self.add_command(line, words),
+            Directive::Text(text) => {
+                let mut lines = text.into_bytes();
+                lines.push(b'\n')?;
+                self.add_text(&lines)
+            }
+            Directive::Dates(row) => {
+                let row = row_of(self.alloc, row.as_str())?;
+                self.add_text(&row.lines)
+            }
+            directive => self.state(line, directive),
+        }
+    }
+
+    /// Does what a line says of the run that has begun.
+    fn state(&mut self, line: u64, directive: Directive) -> Result<(), Reason> {
+        match &mut self.open {
+            Open::Run(_, run) => run.state(line, directive),
+            _ => Err(Reason::NoCommand),
+        }
+    }
+
+    /// Ends what has begun.
+    fn close(&mut self) -> Result<(), Reason> {
+        let step = match std::mem::replace(&mut self.open, Open::Nothing) {
+            Open::Nothing => return Ok(()),
+            Open::Change(line, change) => Step {
+                line,
+                act: Act::Change(change),
+            },
+            Open::Run(line, run) => Step {
+                line,
+                act: Act::Run(run),
+            },
+        };
+        match self.cases.last_mut() {
+            Some(case) => {
+                case.steps.push(step)?;
+                Ok(())
+            }
+            None => Err(Reason::NoCase),
+        }
+    }
+
+    /// Ends what has begun, and begins this.
+    fn begin(&mut self, open: Open) -> Result<(), Reason> {
+        self.close()?;
+        self.open = open;
+        Ok(())
+    }
+
+    /// Begins a case.
+    fn begin_case(&mut self, title: String) -> Result<(), Reason> {
+        self.close()?;
+        let steps = Vec::new(self.alloc);
+        self.cases.push(Case { title, steps })?;
+        Ok(())
+    }
+
+    /// Begins a case with the files of an earlier one.
+    fn begin_like(&mut self, title: &str) -> Result<(), Reason> {
+        self.close()?;
+        let steps = self.files_of(title)?;
+        match self.cases.last_mut() {
+            Some(case) => {
+                case.steps = steps;
+                Ok(())
+            }
+            None => Err(Reason::NoCase),
+        }
+    }
+
+    /// The changes of files with which the case of this title begins.
+    fn files_of(&self, title: &str) -> Result<Vec<Step>, Reason> {
+        for case in self.cases.iter() {
+            if case.title.as_str() == title {
+                return first_changes(self.alloc, case);
+            }
+        }
+        Err(Reason::NoSuchCase)
+    }
+
+    /// Adds a command to the run of commands that stand one below the other, or begins a run.
+    fn add_command(&mut self, line: u64, words: Vec<String>) -> Result<(), Reason> {
+        if let Open::Run(_, run) = &mut self.open {
+            if run.want.status.is_none() && run.rows.is_empty() {
+                run.commands.push(words)?;
+                return Ok(());
+            }
+        }
+        let mut run = Run::new(self.alloc);
+        run.commands.push(words)?;
+        self.begin(Open::Run(line, run))
+    }
+
+    /// Adds lines to the text that has begun.
+    fn add_text(&mut self, lines: &[u8]) -> Result<(), Reason> {
+        match &mut self.open {
+            Open::Run(_, run) => run.add_text(lines),
+            Open::Change(_, change) => match &mut change.edit {
+                Edit::Hold(text) => {
+                    text.extend_from_slice(lines)?;
+                    Ok(())
+                }
+                _ => Err(Reason::NoText),
+            },
+            Open::Nothing => Err(Reason::NoText),
+        }
+    }
+}
+
+/// The changes of files before the first command of a case.
+fn first_changes(alloc: Global, case: &Case) -> Result<Vec<Step>, Reason> {
+    let mut steps = Vec::new(alloc);
+    for step in case.steps.iter() {
+        match &step.act {
+            Act::Change(change) => steps.push(Step {
+                line: step.line,
+                act: Act::Change(change.clone()?),
+            })?,
+            Act::Run(_) => break,
+        }
+    }
+    Ok(steps)
+}

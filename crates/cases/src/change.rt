@@ -1,0 +1,189 @@
+//! What a case does to the files of its store.
+use crate::draws::{Recipe, plant_of};
+use crate::reason::Reason;
+use crate::words::{Token, Words};
+use line_base::MAX_FILE_BYTES;
+use line_io::{Files, Store};
+use memchr::memmem;
+use std::alloc::Global;
+
+/// A change of a file.
+#[derive(Clone, Drop)]
+pub struct Change {
+    /// The name of the file.
+    pub name: String,
+    /// What becomes of it.
+    pub edit: Edit,
+}
+
+/// What becomes of a file.
+#[derive(Clone, Drop)]
+pub enum Edit {
+    /// It holds these bytes.
+    Hold(Vec<u8>),
+    /// It holds what a file in the folder of the case files holds.
+    Copy(String),
+    /// It holds so many spaces.
+    Spaces(u32),
+    /// It holds a plant that is drawn.
+    Draw(Recipe),
+    /// In the place of the first of these texts it has the other one, so many times over.
+    Replace {
+        old: Vec<u8>,
+        new: Vec<u8>,
+        times: u32,
+    },
+    /// It ends behind the first of these texts.
+    CutAfter(Vec<u8>),
+    /// It goes away.
+    Remove,
+}
+
+/// The change that the next words are: the name of a file and what becomes of it.
+pub fn change_of(alloc: Global, words: &mut Words) -> Result<Change, Reason> {
+    let name = words.name()?;
+    let edit = match words.next() {
+        None => Edit::Hold(Vec::new(alloc)),
+        Some(Token::Text(text)) => edit_of_text(text, words)?,
+        Some(Token::Word(word)) => edit_of_word(word.as_str(), words)?,
+    };
+    Ok(Change { name, edit })
+}
+
+/// The edit that begins with a text.
+fn edit_of_text(text: Vec<u8>, words: &mut Words) -> Result<Edit, Reason> {
+    if !words.passes("->") {
+        return Ok(Edit::Hold(text));
+    }
+    let new = words.text()?;
+    let times = if words.passes("times") {
+        words.number()?
+    } else {
+        1
+    };
+    Ok(Edit::Replace {
+        old: text,
+        new,
+        times,
+    })
+}
+
+/// The edit that begins with a word.
+fn edit_of_word(word: &str, words: &mut Words) -> Result<Edit, Reason> {
+    match word {
+        "gone" => Ok(Edit::Remove),
+        "from" => Ok(Edit::Copy(words.name()?)),
+        "spaces" => Ok(Edit::Spaces(words.number()?)),
+        "drawn" => Ok(Edit::Draw(recipe_of(words)?)),
+        "cut" => {
+            words.expect_word("after")?;
+            Ok(Edit::CutAfter(words.text()?))
+        }
+        _ => Err(Reason::NoDirective),
+    }
+}
+
+/// The recipe that the next words are.
+fn recipe_of(words: &mut Words) -> Result<Recipe, Reason> {
+    let stages = words.number()?;
+    let machines = words.number()?;
+    let demands = words.number()?;
+    Ok(Recipe {
+        stages,
+        machines,
+        demands,
+    })
+}
+
+/// Makes a change in some files. Others are read from the folder of the case files.
+pub fn apply<S: Store>(
+    alloc: Global,
+    change: &Change,
+    files: &mut Files,
+    folder: &mut S,
+) -> Result<(), Reason> {
+    let name = change.name.as_str();
+    let bytes = match &change.edit {
+        Edit::Hold(bytes) => bytes.clone()?,
+        Edit::Copy(file) => read_file(alloc, folder, file.as_str())?,
+        Edit::Spaces(count) => vec![in alloc; b' '; *count as usize]?,
+        Edit::Draw(recipe) => plant_of(alloc, *recipe)?.into_bytes(),
+        Edit::Replace { old, new, times } => {
+            replaced(alloc, held(files, name)?, old, new, *times)?
+        }
+        Edit::CutAfter(text) => cut_after(alloc, held(files, name)?, text)?,
+        Edit::Remove => {
+            let _ = files.remove(name);
+            return Ok(());
+        }
+    };
+    let _ = files.insert(change.name.clone()?, bytes)?;
+    Ok(())
+}
+
+/// What a file of the folder of the case files holds.
+pub fn read_file<S: Store>(alloc: Global, folder: &mut S, name: &str) -> Result<Vec<u8>, Reason> {
+    match folder.read(alloc, name, MAX_FILE_BYTES) {
+        Ok(bytes) => Ok(bytes),
+        Err(_) => Err(Reason::NoSuchFile),
+    }
+}
+
+/// What a file holds.
+pub fn held<'a>(files: &'a Files, name: &str) -> Result<&'a [u8], Reason> {
+    match files.get(name) {
+        Some(bytes) => Ok(bytes.as_slice()),
+        None => Err(Reason::NoSuchFile),
+    }
+}
+
+/// What stands before and behind the first of these texts.
+fn split_around<'a>(bytes: &'a [u8], text: &[u8]) -> Option<(&'a [u8], &'a [u8])> {
+    let at = memmem::find(bytes, text)?;
+    let end = at.checked_add(text.len())?;
+    Some((bytes.get(..at)?, bytes.get(end..)?))
+}
+
+/// The bytes with a text so many times over in the place of another.
+fn replaced(
+    alloc: Global,
+    bytes: &[u8],
+    old: &[u8],
+    new: &[u8],
+    times: u32,
+) -> Result<Vec<u8>, Reason> {
+    let (front, back) = split_around(bytes, old).ok_or(Reason::NoSuchText)?;
+    let mut edited = front.to_vec(alloc)?;
+    for number in 1..=times {
+        add_numbered(alloc, &mut edited, new, number)?;
+    }
+    edited.extend_from_slice(back)?;
+    Ok(edited)
+}
+
+/// Adds a text, in which the number stands in the place of `{}`.
+fn add_numbered(
+    alloc: Global,
+    bytes: &mut Vec<u8>,
+    text: &[u8],
+    number: u32,
+) -> Result<(), Reason> {
+    match split_around(text, b"{}") {
+        Some((front, back)) => {
+            bytes.extend_from_slice(front)?;
+            let digits = format!(in alloc; "{number}")?;
+            bytes.extend_from_slice(digits.as_bytes())?;
+            bytes.extend_from_slice(back)?;
+        }
+        None => bytes.extend_from_slice(text)?,
+    }
+    Ok(())
+}
+
+/// The bytes up to the end of the first of these texts.
+fn cut_after(alloc: Global, bytes: &[u8], text: &[u8]) -> Result<Vec<u8>, Reason> {
+    let (front, _) = split_around(bytes, text).ok_or(Reason::NoSuchText)?;
+    let mut cut = front.to_vec(alloc)?;
+    cut.extend_from_slice(text)?;
+    Ok(cut)
+}

@@ -1,0 +1,86 @@
+//! What is wanted of a run.
+use crate::dates::{Row, row_of};
+use crate::reason::Reason;
+use crate::words::Words;
+use std::alloc::Global;
+
+/// What is wanted of a run.
+#[derive(Drop)]
+pub struct Want {
+    /// The status that it ends with; none where nothing is wanted.
+    pub status: Option<u8>,
+    /// What it writes.
+    pub output: Output,
+    /// The files that it changes. All others stay.
+    pub after: Vec<After>,
+}
+
+/// What is wanted of what a run writes.
+#[derive(Drop)]
+pub enum Output {
+    /// It is this.
+    Whole(Vec<u8>),
+    /// It is what a file in the folder of the case files holds.
+    Copy(String),
+    /// It ends with this.
+    End(Vec<u8>),
+    /// It is the first bytes of this, so many.
+    Front(u32, Vec<u8>),
+    /// Its lines of these labels are these.
+    Rows(Vec<Row>),
+}
+
+/// A file after a run.
+#[derive(Drop)]
+pub struct After {
+    /// Its name.
+    pub name: String,
+    /// What it holds.
+    pub bytes: Vec<u8>,
+}
+
+/// What is wanted by the words that are left: a status, and the one line that is written, or rows of dates, each behind a
+/// colon.
+pub fn want_of(alloc: Global, words: &mut Words) -> Result<Want, Reason> {
+    let status = Some(words.status()?);
+    let output = if words.passes(":") {
+        Output::Rows(rows_of(alloc, words)?)
+    } else {
+        let mut line = joined(alloc, words)?;
+        line.push_str("\n")?;
+        Output::Whole(line.into_bytes())
+    };
+    Ok(Want {
+        status,
+        output,
+        after: Vec::new(alloc),
+    })
+}
+
+/// The rows of the words that are left, with a colon between two of them.
+fn rows_of(alloc: Global, words: &mut Words) -> Result<Vec<Row>, Reason> {
+    let mut rows = Vec::new(alloc);
+    for _ in 0..words.len() {
+        if words.len() == 0 {
+            break;
+        }
+        let row = joined(alloc, words)?;
+        rows.push(row_of(alloc, row.as_str())?)?;
+    }
+    Ok(rows)
+}
+
+/// The words up to the next colon, which is passed over, with a space behind each but the last.
+fn joined(alloc: Global, words: &mut Words) -> Result<String, Reason> {
+    let mut text = String::new(alloc);
+    for index in 0..words.len() {
+        if words.passes(":") {
+            break;
+        }
+        if index > 0 {
+            text.push_str(" ")?;
+        }
+        text.push_str(words.name()?.as_str())?;
+    }
+    Ok(text)
+}

@@ -1,0 +1,5 @@
+use Rattle.std.proofs.Common.{◌≡◌, take}
+use Rattle.line_core.proofs.parts.log_with_room.Given as goal
+
+abbrev pub invariant-loop-date : goal.invariant-loop-date
+invariant-loop-date l = l.log ≡ record { dates = take l.date-index l.dates; room = l.room }

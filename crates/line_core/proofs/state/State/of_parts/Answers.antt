@@ -1,0 +1,42 @@
+use Rattle.std.proofs.Common.{ap, ◌∙◌, sym, subst, length, arith}
+use Rattle.line_base.specs.declared.event.Parts.{Parts}
+use Rattle.line_base.specs.Roomy.{dates_of}
+use Rattle.event_graph.specs.Reached.{Reached}
+use Rattle.line_core.specs.Consistent.{state_of}
+use Rattle.line_core.specs.Parts.{state_refusals}
+use Rattle.line_core.proofs.PartsLemmas.{all_few, reached_logs, reached_exactly, run-with}
+use Rattle.line_core.proofs.state.State.of_parts.Goals as goal
+
+pub returns-in_err-check_parts-clause-exact : goal.returns-in_err-check_parts-clause-exact
+returns-in_err-check_parts-clause-exact c =
+    reached_exactly c.args.live.now c.graph.ensures.ranked c.args.logs c.args.places c.requires.parts
+
+pub with_room-requires-clause-few : goal.with_room-requires-clause-few
+with_room-requires-clause-few c k d low =
+    let none = ap (λ (g : Parts). state_refusals g (dates_of c.args.logs) (dates_of c.args.places)) (sym c.graph.ensures.graph) ∙ c.in_ok-check_parts.ensures in
+    omega (arith, all_few c.args.live.now c.graph.ensures.ranked c.args.logs c.args.places c.requires.parts none k d low, c.jobs.ensures.count, ap (λ (g : Parts). length g.dates) c.graph-2.ensures.graph)
+
+pub of_reached-requires-clause-reached : goal.of_reached-requires-clause-reached
+of_reached-requires-clause-reached c =
+    let g = c.args.live.now.graph in
+    let none = ap (λ (h : Parts). state_refusals h (dates_of c.args.logs) (dates_of c.args.places)) (sym c.graph.ensures.graph) ∙ c.in_ok-check_parts.ensures in
+    subst
+    (λ l. Reached g (state_of g l))
+    (sym c.in-Ok.ensures.dates)
+    (reached_logs c.args.live.now c.graph.ensures.ranked c.args.logs c.args.places c.requires.parts none)
+
+pub returns-in-Ok-clause-state : goal.returns-in-Ok-clause-state
+returns-in-Ok-clause-state c =
+    let g = c.args.live.now.graph in
+    let none = ap (λ (h : Parts). state_refusals h (dates_of c.args.logs) (dates_of c.args.places)) (sym c.graph.ensures.graph) ∙ c.in_ok-check_parts.ensures in
+    c.of_reached.ensures.state
+    ∙ ap (λ l. record { graph = g; state = state_of g l }) c.in-Ok.ensures.dates
+    ∙ sym (run-with c.args.live.now c.graph.ensures.ranked c.args.logs c.args.places c.requires.parts none)
+
+pub returns-in-Ok-clause-exact : goal.returns-in-Ok-clause-exact
+returns-in-Ok-clause-exact c =
+    reached_exactly c.args.live.now c.graph.ensures.ranked c.args.logs c.args.places c.requires.parts
+
+pub returns-clause-exact : goal.returns-clause-exact
+returns-clause-exact c =
+    reached_exactly c.args.live.now c.graph.ensures.ranked c.args.logs c.args.places c.requires.parts

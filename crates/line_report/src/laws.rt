@@ -1,0 +1,13 @@
+ghost use Rattle.plant_model.specs.declared.plant.Plant.{Plant};
+ghost use Rattle.plant_model.specs.Sound.{IsSound};
+ghost use Rattle.line_report.specs.Reported.{Reported};
+ghost use Rattle.line_report.specs.Laws.{HasOneReport, HaveOneText};
+
+/// The law *Schedules agree*, to the bytes: the least solutions of a plant's graph have one report, and any two reports of
+/// one plant have the same text. So a run comes to the same bytes in whatever order its stations fire.
+///
+/// It runs nothing: its contract is the law.
+pub fn schedules_agree()
+    ensures tables { (p : Plant) → IsSound p → HasOneReport p }
+    ensures reports { (r s : Reported) → HaveOneText r s }
+{}

@@ -1,0 +1,401 @@
+-- The crews of a line as teams, and a meeting among them.
+use Rattle.std.proofs.Common.{◌≡◌, ◌≢◌, ℕ, ◌+◌, ◌-◌, ◌<◌, ◌≤◌, List, [], map, length, get_or, set, refl, ap, ◌∙◌, sym, subst, arith, ⊎_elim}
+use Rattle.std.proofs.lemmas.Bool.{cases_eq}
+use Rattle.std.proofs.lemmas.List.{length-map, length-set, get_or-map, get_or-set_same, get_or-set_other, map-set}
+use Rattle.line_base.specs.declared.event.Parts.{Parts}
+use Rattle.event_graph.specs.Network.{stations, arc, arc_count, ins, outs}
+use Rattle.event_graph.specs.State.{State}
+use Rattle.live_check.specs.Order.{LiveGraph, IsRanked}
+use Rattle.station_step.specs.declared.ends.Outlet.{Outlet}
+use Rattle.station_step.specs.Ends.{AreEnds}
+use Rattle.station_step.specs.Input.{input_at}
+use Rattle.station_step.specs.Station.{WorkStation, outlet_at}
+use Rattle.line_workers.specs.Share.{worker_of, first_of}
+use Rattle.line_workers.specs.Team.{WorkTeam, IsTeam, member}
+use Rattle.line_workers.specs.Teams.{team_at, worker_at, station_of, place_in, input_on, outlet_on, IsJoined, AreTeams, IsMetOn, AreAllMet, state_among}
+use Rattle.line_workers.specs.Crew.{WorkCrew, IsCrew, with_team, teams_of}
+use Rattle.line_workers.specs.Work.{dates_of, turns_of, dates_made, turns_made, TeamWorked, TeamsWorked}
+use Rattle.line_workers.specs.Meeting.{MetAt, AreStill, MeetsOn}
+use Rattle.line_workers.specs.Crews.{crew_at, no_crew, live_of, graph_of, begun_of, AreCrews, IsSameCrew, AreSameCrews, IsMeeting}
+use Rattle.line_workers.proofs.Share.{first-le, next-above, first-rises, first-all, worker-below}
+use Rattle.line_workers.proofs.Places.{in-stands, out-stands}
+use Rattle.line_workers.proofs.Standing.{inputs-many, outlets-many}
+use Rattle.line_workers.proofs.Working.{idle_team, then_team, teams-worked, local_is_met}
+use Rattle.line_workers.proofs.Meeting.{meets_on}
+use Rattle.line_workers.proofs.Totals.{sum_by-map, of_worker, sum-among}
+use Rattle.line_core.specs.Consistent.{fired}
+use Rattle.line_workers.specs.Line.{turns_among}
+use Rattle.std.specs.List.{sum_by, sum, range_with_len}
+
+pub count-teams : (crews : List WorkCrew) → length (teams_of crews) ≡ length crews
+count-teams crews = length-map crews (λ (c : WorkCrew). c.team)
+
+pub team_at-crews : (crews : List WorkCrew) (w : ℕ) → w < length crews → team_at (teams_of crews) w ≡ (crew_at crews w).team
+team_at-crews crews w there = get_or-map (λ (c : WorkCrew). c.team) crews w no_crew (record { stations = []; shelf = [] }) there
+
+-- ---- all crews
+
+module _ (crews : List WorkCrew) (are : AreCrews crews) where
+  abbrev g : Parts
+  g = graph_of crews
+
+  first_there : 0 < length crews
+  first_there = omega (arith, are.some)
+
+  pub ranked : IsRanked (live_of crews)
+  ranked = (are.each 0 first_there).ranked
+
+  any : 1 ≤ stations (graph_of crews)
+  any = ranked.limits.some_station
+
+  pub graph-same : (w : ℕ) → w < length crews → (crew_at crews w).live.graph ≡ graph_of crews
+  graph-same w low = ap (λ (l : LiveGraph). l.graph) (are.lives w low)
+
+  first-is : (w : ℕ) → w < length crews → (crew_at crews w).first ≡ first_of (length crews) (stations (graph_of crews)) w
+  first-is w low =
+      let c = crew_at crews w in
+      (are.each w low).starts
+      ∙ ap (λ n. first_of n (stations c.live.graph) c.worker) (are.workers w low)
+      ∙ ap (λ gr. first_of (length crews) (stations gr) c.worker) (graph-same w low)
+      ∙ ap (first_of (length crews) (stations g)) (are.numbers w low)
+
+  size-is : (w : ℕ) → w < length crews → first_of (length crews) (stations (graph_of crews)) w + length (crew_at crews w).team.stations ≡ first_of (length crews) (stations (graph_of crews)) (w + 1)
+  size-is w low =
+      let c = crew_at crews w in
+      ap (λ n. n + length c.team.stations) (sym (first-is w low))
+      ∙ (are.each w low).ends
+      ∙ ap (λ n. first_of n (stations c.live.graph) (c.worker + 1)) (are.workers w low)
+      ∙ ap (λ gr. first_of (length crews) (stations gr) (c.worker + 1)) (graph-same w low)
+      ∙ ap (λ v. first_of (length crews) (stations g) (v + 1)) (are.numbers w low)
+
+  team-is : (w : ℕ) → w < length crews → IsTeam (graph_of crews) (begun_of crews) (first_of (length crews) (stations (graph_of crews)) w) (crew_at crews w).team
+  team-is w low =
+      let c = crew_at crews w in
+      subst (λ n. IsTeam g (begun_of crews) n c.team) (first-is w low) (
+      subst (λ b. IsTeam g b c.first c.team) (are.begun w low) (
+      subst (λ gr. IsTeam gr c.begun c.first c.team) (graph-same w low) (are.each w low).members))
+
+  pub crews_are_teams : AreTeams (graph_of crews) (begun_of crews) (teams_of crews)
+  crews_are_teams =
+      let count = count-teams crews in
+      record {
+        some = omega (arith, are.some, count);
+        sizes = λ w low.
+            let w_there : w < length crews = omega (arith, low, count) in
+            let First : ℕ → ℕ → ℕ = λ n v. first_of n (stations g) v in
+            ap (λ n. First n w + length (team_at (teams_of crews) w).stations) count
+            ∙ ap (λ (t : WorkTeam). First (length crews) w + length t.stations) (team_at-crews crews w w_there)
+            ∙ size-is w w_there
+            ∙ ap (λ n. First n (w + 1)) (sym count);
+        each = λ w low.
+            let w_there : w < length crews = omega (arith, low, count) in
+            subst (λ n. IsTeam g (begun_of crews) (first_of n (stations g) w) (team_at (teams_of crews) w)) (sym count) (
+            subst (IsTeam g (begun_of crews) (first_of (length crews) (stations g) w)) (sym (team_at-crews crews w w_there)) (team-is w w_there));
+        joined = are.joined;
+      }
+
+  -- where a station stands
+  module _ (t : ℕ) (there : t < stations (graph_of crews)) where
+    abbrev seat : ℕ
+    seat = worker_of (length crews) (stations (graph_of crews)) t
+
+    abbrev number : ℕ
+    number = t - first_of (length crews) (stations (graph_of crews)) (worker_of (length crews) (stations (graph_of crews)) t)
+
+    pub seat_there : worker_of (length crews) (stations (graph_of crews)) t < length crews
+    seat_there = worker-below (length crews) (stations g) are.some any t there
+
+    pub number_there : t - first_of (length crews) (stations (graph_of crews)) (worker_of (length crews) (stations (graph_of crews)) t) < length (crew_at crews (worker_of (length crews) (stations (graph_of crews)) t)).team.stations
+    number_there =
+        omega (arith, size-is seat seat_there, first-le (length crews) (stations g) are.some any t, next-above (length crews) (stations g) are.some any t)
+
+    pub seated : member (crew_at crews (worker_of (length crews) (stations (graph_of crews)) t)).team.stations (t - first_of (length crews) (stations (graph_of crews)) (worker_of (length crews) (stations (graph_of crews)) t)) ≡ station_of (graph_of crews) (teams_of crews) t
+    seated =
+        sym (
+        ap (λ n. member (team_at (teams_of crews) (worker_of n (stations g) t)).stations (t - first_of n (stations g) (worker_of n (stations g) t))) (count-teams crews)
+        ∙ ap (λ (u : WorkTeam). member u.stations number) (team_at-crews crews seat seat_there))
+
+    pub worker-is : worker_at (graph_of crews) (teams_of crews) t ≡ worker_of (length crews) (stations (graph_of crews)) t
+    worker-is = ap (λ n. worker_of n (stations g) t) (count-teams crews)
+
+  -- a station of a crew, by its number in the graph
+  pub of_seat : (w i : ℕ) → w < length crews → i < length (crew_at crews w).team.stations → (first_of (length crews) (stations (graph_of crews)) w + i < stations (graph_of crews)) × (station_of (graph_of crews) (teams_of crews) (first_of (length crews) (stations (graph_of crews)) w + i) ≡ member (crew_at crews w).team.stations i)
+  of_seat w i low low_i =
+      let T = stations g in
+      let n = length crews in
+      let t = first_of n T w + i in
+      let team_same = team_at-crews crews w low in
+      let w_teams : w < length (teams_of crews) = omega (arith, low, count-teams crews) in
+      let i_teams : i < length (team_at (teams_of crews) w).stations = omega (arith, low_i, ap (λ (u : WorkTeam). length u.stations) team_same) in
+      let within : t < T = omega (arith, size-is w low, low_i, first-rises n T are.some any (w + 1) n (omega (arith, low)), first-all n T are.some any) in (
+        within,
+        ap (λ m. station_of g (teams_of crews) (first_of m T w + i)) (sym (count-teams crews))
+            ∙ of_worker g (begun_of crews) (teams_of crews) any crews_are_teams dates_of w i w_teams i_teams
+            ∙ ap (λ (u : WorkTeam). member u.stations i) team_same,
+      )
+
+  -- ---- an arc
+
+  module _ (a : ℕ) (listed : a < arc_count (graph_of crews)) where
+    from_there : (arc g a).from < stations g
+    from_there = ranked.sound.starts_exist a listed
+
+    to_there : (arc g a).to < stations g
+    to_there = ranked.sound.ends_exist a listed
+
+    pub output_there : place_in (outs (graph_of crews) (arc (graph_of crews) a).from) a < length (member (crew_at crews (worker_of (length crews) (stations (graph_of crews)) (arc (graph_of crews) a).from)).team.stations ((arc (graph_of crews) a).from - first_of (length crews) (stations (graph_of crews)) (worker_of (length crews) (stations (graph_of crews)) (arc (graph_of crews) a).from))).outlets
+    output_there =
+        omega (arith, (out-stands g a listed).low, outlets-many g (begun_of crews) (teams_of crews) ranked.sound any crews_are_teams (arc g a).from from_there, ap (λ (s : WorkStation). length s.outlets) (seated (arc g a).from from_there))
+
+    pub input_there : place_in (ins (graph_of crews) (arc (graph_of crews) a).to) a < length (member (crew_at crews (worker_of (length crews) (stations (graph_of crews)) (arc (graph_of crews) a).to)).team.stations ((arc (graph_of crews) a).to - first_of (length crews) (stations (graph_of crews)) (worker_of (length crews) (stations (graph_of crews)) (arc (graph_of crews) a).to))).inputs
+    input_there =
+        omega (arith, (in-stands g a listed).low, inputs-many g (begun_of crews) (teams_of crews) ranked.sound any crews_are_teams (arc g a).to to_there, ap (λ (s : WorkStation). length s.inputs) (seated (arc g a).to to_there))
+
+    abbrev from_seat : ℕ
+    from_seat = worker_of (length crews) (stations (graph_of crews)) (arc (graph_of crews) a).from
+
+    abbrev to_seat : ℕ
+    to_seat = worker_of (length crews) (stations (graph_of crews)) (arc (graph_of crews) a).to
+
+    abbrev from_station : WorkStation
+    from_station = member (crew_at crews from_seat).team.stations ((arc (graph_of crews) a).from - first_of (length crews) (stations (graph_of crews)) from_seat)
+
+    abbrev to_station : WorkStation
+    to_station = member (crew_at crews to_seat).team.stations ((arc (graph_of crews) a).to - first_of (length crews) (stations (graph_of crews)) to_seat)
+
+    pub ends_there : worker_of (length crews) (stations (graph_of crews)) (arc (graph_of crews) a).from ≢ worker_of (length crews) (stations (graph_of crews)) (arc (graph_of crews) a).to → AreEnds (outlet_at (member (crew_at crews (worker_of (length crews) (stations (graph_of crews)) (arc (graph_of crews) a).from)).team.stations ((arc (graph_of crews) a).from - first_of (length crews) (stations (graph_of crews)) (worker_of (length crews) (stations (graph_of crews)) (arc (graph_of crews) a).from))).outlets (place_in (outs (graph_of crews) (arc (graph_of crews) a).from) a)) (input_at (member (crew_at crews (worker_of (length crews) (stations (graph_of crews)) (arc (graph_of crews) a).to)).team.stations ((arc (graph_of crews) a).to - first_of (length crews) (stations (graph_of crews)) (worker_of (length crews) (stations (graph_of crews)) (arc (graph_of crews) a).to))).inputs (place_in (ins (graph_of crews) (arc (graph_of crews) a).to) a)).inlet
+    ends_there apart =
+        let ring = (are.joined a listed).ring (λ same. apart (sym (worker-is (arc g a).from from_there) ∙ same ∙ worker-is (arc g a).to to_there)) in
+        subst (λ (s : WorkStation). AreEnds (outlet_at s.outlets (place_in (outs g (arc g a).from) a)) (input_at to_station.inputs (place_in (ins g (arc g a).to) a)).inlet) (sym (seated (arc g a).from from_there)) (
+        subst (λ (s : WorkStation). AreEnds (outlet_on g (teams_of crews) a) (input_at s.inputs (place_in (ins g (arc g a).to) a)).inlet) (sym (seated (arc g a).to to_there)) ring)
+
+    -- nothing happens at an arc inside one worker
+    pub stays_met : worker_of (length crews) (stations (graph_of crews)) (arc (graph_of crews) a).from ≡ worker_of (length crews) (stations (graph_of crews)) (arc (graph_of crews) a).to → MeetsOn (graph_of crews) (teams_of crews) (teams_of crews) a
+    stays_met same = record {
+      worked = record { count = refl; each = λ w low. idle_team (team_at (teams_of crews) w) };
+      still = record { logs = λ t there. refl; turns = λ t there. refl };
+      met = local_is_met g (begun_of crews) (teams_of crews) a (are.joined a listed) (worker-is (arc g a).from from_there ∙ same ∙ sym (worker-is (arc g a).to to_there));
+      others = λ b b_listed differ was. was;
+    }
+
+    module _ (new : List WorkCrew) (only : new ≡ set crews to_seat (crew_at new to_seat)) where
+      teams-new : teams_of new ≡ set (teams_of crews) to_seat (crew_at new to_seat).team
+      teams-new = ap teams_of only ∙ map-set (λ (c : WorkCrew). c.team) crews to_seat (crew_at new to_seat)
+
+      pub meets_there : MetAt (outlet_at from_station.outlets (place_in (outs (graph_of crews) (arc (graph_of crews) a).from) a)) ((arc (graph_of crews) a).to - first_of (length crews) (stations (graph_of crews)) to_seat) (place_in (ins (graph_of crews) (arc (graph_of crews) a).to) a) (crew_at crews to_seat).team (crew_at new to_seat).team → MeetsOn (graph_of crews) (teams_of crews) (teams_of new) a
+      meets_there met =
+          let teams = teams_of crews in
+          let to = (arc g a).to in
+          let team = (crew_at new to_seat).team in
+          let l = place_in (ins g to) a in
+          let Met : Outlet → ℕ → ℕ → WorkTeam → Type 0 = λ o n w old. MetAt o (to - first_of n (stations g) w) l old team in
+          let at_outlet : Met (outlet_on g teams a) (length crews) to_seat (crew_at crews to_seat).team =
+          subst (λ (s : WorkStation). Met (outlet_at s.outlets (place_in (outs g (arc g a).from) a)) (length crews) to_seat (crew_at crews to_seat).team) (seated (arc g a).from from_there) met in
+          let at_team : Met (outlet_on g teams a) (length crews) to_seat (team_at teams to_seat) =
+          subst (Met (outlet_on g teams a) (length crews) to_seat) (sym (team_at-crews crews to_seat (seat_there to to_there))) at_outlet in
+          let at_count : Met (outlet_on g teams a) (length teams) (worker_at g teams to) (team_at teams (worker_at g teams to)) =
+          subst (λ n. Met (outlet_on g teams a) n (worker_of n (stations g) to) (team_at teams (worker_of n (stations g) to))) (sym (count-teams crews)) at_team in
+          let same : set teams (worker_at g teams to) team ≡ teams_of new = ap (λ w. set teams w team) (worker-is to to_there) ∙ sym teams-new in
+          subst (λ (ts : List WorkTeam). MeetsOn g teams ts a) same (
+          meets_on g (begun_of crews) teams ranked.sound any crews_are_teams a listed team at_count)
+
+      pub same_there : IsSameCrew (crew_at crews to_seat) (crew_at new to_seat) → AreSameCrews crews new
+      same_there same =
+          let to = (arc g a).to in
+          let low_to = seat_there to to_there in
+          let Same : ℕ → Type 0 = λ v. IsSameCrew (crew_at crews v) (crew_at new v) in
+          record {
+            count = ap (λ (l : List WorkCrew). length l) only ∙ length-set crews to_seat (crew_at new to_seat);
+            each = λ v low.
+                ⊎_elim
+                (λ here. subst Same (sym here) same)
+                (λ apart.
+                let else : crew_at new v ≡ crew_at crews v =
+                ap (λ (l : List WorkCrew). crew_at l v) only ∙ get_or-set_other crews to_seat v (crew_at new to_seat) no_crew apart in
+                subst (IsSameCrew (crew_at crews v)) (sym else) (record { crew = are.each v low; frame = refl }))
+                (cases_eq v to_seat);
+          }
+
+  -- crews that are the same but for their teams, which have worked, are the crews of the line
+  pub crews-same : (new : List WorkCrew) → AreSameCrews crews new → TeamsWorked (teams_of crews) (teams_of new) → AreCrews new
+  crews-same new same worked =
+      let frame = λ (v : ℕ) (low : v < length crews). (same.each v low).frame in
+      let back = λ (v : ℕ) (low : v < length new). (let at : v < length crews = omega (arith, low, same.count) in at) in
+      let live_same : live_of new ≡ live_of crews = ap (λ (c : WorkCrew). c.live) (frame 0 first_there) in
+      let begun_same : begun_of new ≡ begun_of crews = ap (λ (c : WorkCrew). c.begun) (frame 0 first_there) in
+      let g_same = ap (λ (l : LiveGraph). l.graph) live_same in
+      let teams = teams-worked g (begun_of crews) (teams_of crews) (teams_of new) any crews_are_teams worked ranked.sound
+      (λ w low.
+      let w_there : w < length crews = omega (arith, low, count-teams crews) in
+      let w_new : w < length new = omega (arith, w_there, same.count) in
+      let c = crew_at new w in
+      let is = (same.each w w_there).crew in
+      let gr : c.live.graph ≡ g = ap (λ (d : WorkCrew). d.live.graph) (frame w w_there) ∙ graph-same w w_there in
+      let bg : c.begun ≡ begun_of crews = ap (λ (d : WorkCrew). d.begun) (frame w w_there) ∙ are.begun w w_there in
+      let f : c.first ≡ first_of (length (teams_of crews)) (stations g) w =
+      ap (λ (d : WorkCrew). d.first) (frame w w_there) ∙ first-is w w_there ∙ ap (λ n. first_of n (stations g) w) (sym (count-teams crews)) in
+      subst (IsTeam g (begun_of crews) (first_of (length (teams_of crews)) (stations g) w)) (sym (team_at-crews new w w_new)) (
+      subst (λ n. IsTeam g (begun_of crews) n c.team) f (
+      subst (λ b. IsTeam g b c.first c.team) bg (
+      subst (λ h. IsTeam h c.begun c.first c.team) gr is.members)))) in
+      record {
+        some = omega (arith, are.some, same.count);
+        each = λ v low. (same.each v (back v low)).crew;
+        workers = λ v low. ap (λ (c : WorkCrew). c.workers) (frame v (back v low)) ∙ are.workers v (back v low) ∙ sym same.count;
+        numbers = λ v low. ap (λ (c : WorkCrew). c.worker) (frame v (back v low)) ∙ are.numbers v (back v low);
+        lives = λ v low. ap (λ (c : WorkCrew). c.live) (frame v (back v low)) ∙ are.lives v (back v low) ∙ sym live_same;
+        begun = λ v low. ap (λ (c : WorkCrew). c.begun) (frame v (back v low)) ∙ are.begun v (back v low) ∙ sym begun_same;
+        joined =
+            subst (λ gr. (a : ℕ) → a < arc_count gr → IsJoined gr (begun_of new) (teams_of new) a) (sym g_same) (
+            subst (λ b. (a : ℕ) → a < arc_count g → IsJoined g b (teams_of new) a) (sym begun_same) teams.joined);
+      }
+
+-- what holds of six numbers holds of those that they are equal to
+along : (P : ℕ → ℕ → ℕ → ℕ → ℕ → ℕ → Type 0) (a b c d e f a' b' c' d' e' f' : ℕ) → a ≡ a' → b ≡ b' → c ≡ c' → d ≡ d' → e ≡ e' → f ≡ f' → P a b c d e f → P a' b' c' d' e' f'
+along P a b c d e f a' b' c' d' e' f' p q r s t u is =
+    subst (λ x. P x b' c' d' e' f') p (
+    subst (λ x. P a x c' d' e' f') q (
+    subst (λ x. P a b x d' e' f') r (
+    subst (λ x. P a b c x e' f') s (
+    subst (λ x. P a b c d x f') t (
+    subst (λ x. P a b c d e x) u is)))))
+
+-- where the two ends of arc a stand: worker, station in the team, and place among the station's arcs
+pub record IsFound (g : Parts) (workers a from i k to j l : ℕ) : Type 0 where
+  pub from_is : from ≡ worker_of workers (stations g) (arc g a).from
+  pub i_is : i ≡ (arc g a).from - first_of workers (stations g) (worker_of workers (stations g) (arc g a).from)
+  pub k_is : k ≡ place_in (outs g (arc g a).from) a
+  pub to_is : to ≡ worker_of workers (stations g) (arc g a).to
+  pub j_is : j ≡ (arc g a).to - first_of workers (stations g) (worker_of workers (stations g) (arc g a).to)
+  pub l_is : l ≡ place_in (ins g (arc g a).to) a
+
+-- what a meeting there takes
+pub record MayMeet (crews : List WorkCrew) (from i k to j l : ℕ) : Type 0 where
+  pub first : from < length crews
+  pub second : to < length crews
+  pub station : i < length (crew_at crews from).team.stations
+  pub output : k < length (member (crew_at crews from).team.stations i).outlets
+  pub other : j < length (crew_at crews to).team.stations
+  pub input : l < length (member (crew_at crews to).team.stations j).inputs
+  pub ends : from ≢ to → AreEnds (outlet_at (member (crew_at crews from).team.stations i).outlets k) (input_at (member (crew_at crews to).team.stations j).inputs l).inlet
+
+module _ (crews : List WorkCrew) (are : AreCrews crews) (live : LiveGraph) (made_for : live ≡ live_of crews) (a : ℕ) (listed : a < arc_count live.graph) (from i k to j l : ℕ) (found : IsFound live.graph (length crews) a from i k to j l) where
+  there_a : a < arc_count (graph_of crews)
+  there_a = subst (λ (v : LiveGraph). a < arc_count v.graph) made_for listed
+
+  found_here : IsFound (graph_of crews) (length crews) a from i k to j l
+  found_here = subst (λ (v : LiveGraph). IsFound v.graph (length crews) a from i k to j l) made_for found
+
+  pub may_meet : MayMeet crews from i k to j l
+  may_meet =
+      let f = found_here in
+      let g = graph_of crews in
+      let sound = (ranked crews are).sound in
+      along (MayMeet crews) _ _ _ _ _ _ from i k to j l (sym f.from_is) (sym f.i_is) (sym f.k_is) (sym f.to_is) (sym f.j_is) (sym f.l_is) (
+      record {
+        first = seat_there crews are (arc g a).from (sound.starts_exist a there_a);
+        second = seat_there crews are (arc g a).to (sound.ends_exist a there_a);
+        station = number_there crews are (arc g a).from (sound.starts_exist a there_a);
+        output = output_there crews are a there_a;
+        other = number_there crews are (arc g a).to (sound.ends_exist a there_a);
+        input = input_there crews are a there_a;
+        ends = ends_there crews are a there_a;
+      })
+
+  pub met_inside : from ≡ to → MeetsOn live.graph (teams_of crews) (teams_of crews) a
+  met_inside same =
+      let f = found_here in
+      subst (λ (v : LiveGraph). MeetsOn v.graph (teams_of crews) (teams_of crews) a) (sym made_for) (
+      stays_met crews are a there_a (sym f.from_is ∙ same ∙ f.to_is))
+
+  module _ (new : List WorkCrew) (only : new ≡ set crews to (crew_at new to)) where
+    only_here : new ≡ set crews (worker_of (length crews) (stations (graph_of crews)) (arc (graph_of crews) a).to) (crew_at new (worker_of (length crews) (stations (graph_of crews)) (arc (graph_of crews) a).to))
+    only_here = subst (λ t. new ≡ set crews t (crew_at new t)) found_here.to_is only
+
+    pub met_between : MetAt (outlet_at (member (crew_at crews from).team.stations i).outlets k) j l (crew_at crews to).team (crew_at new to).team → MeetsOn live.graph (teams_of crews) (teams_of new) a
+    met_between met =
+        let f = found_here in
+        let Met : ℕ → ℕ → ℕ → ℕ → ℕ → ℕ → Type 0 = λ from i k to j l. MetAt (outlet_at (member (crew_at crews from).team.stations i).outlets k) j l (crew_at crews to).team (crew_at new to).team in
+        subst (λ (v : LiveGraph). MeetsOn v.graph (teams_of crews) (teams_of new) a) (sym made_for) (
+        meets_there crews are a there_a new only_here (
+        along Met from i k to j l _ _ _ _ _ _ f.from_is f.i_is f.k_is f.to_is f.j_is f.l_is met))
+
+    pub same_after : IsSameCrew (crew_at crews to) (crew_at new to) → AreSameCrews crews new
+    same_after same =
+        same_there crews are a there_a new only_here (
+        subst (λ t. IsSameCrew (crew_at crews t) (crew_at new t)) found_here.to_is same)
+
+-- crews to which nothing happened
+pub crews-stay : (crews : List WorkCrew) → AreCrews crews → AreSameCrews crews crews
+crews-stay crews are = record { count = refl; each = λ v low. record { crew = are.each v low; frame = refl } }
+
+pub then_same : (crews mid new : List WorkCrew) → AreSameCrews crews mid → AreSameCrews mid new → AreSameCrews crews new
+then_same crews mid new first next = record {
+  count = next.count ∙ first.count;
+  each = λ v low.
+      let later = next.each v (omega (arith, low, first.count)) in
+      record {
+        crew = later.crew;
+        frame = later.frame ∙ ap (λ (c : WorkCrew). with_team c (crew_at new v).team) (first.each v low).frame;
+      };
+}
+
+-- ---- all arcs
+
+pub meeting_begins : (live : LiveGraph) (crews : List WorkCrew) → AreCrews crews → live ≡ live_of crews → IsMeeting live crews crews 0
+meeting_begins live crews are made_for = record {
+  whole = are;
+  live_is = made_for;
+  same = crews-stay crews are;
+  worked = record { count = refl; each = λ w low. idle_team (team_at (teams_of crews) w) };
+  still = record { logs = λ t there. refl; turns = λ t there. refl };
+  met = λ b low. absurd (omega arith);
+}
+
+pub teams-then : (old now next : List WorkTeam) → TeamsWorked old now → TeamsWorked now next → TeamsWorked old next
+teams-then old now next first later = record {
+  count = later.count ∙ first.count;
+  each = λ w low. then_team (team_at old w) (team_at now w) (team_at next w) (first.each w low) (later.each w (omega (arith, low, first.count)));
+}
+
+pub meeting_goes_on : (live : LiveGraph) (old now next : List WorkCrew) (a : ℕ) → IsMeeting live old now a → a < arc_count live.graph → AreSameCrews now next → MeetsOn live.graph (teams_of now) (teams_of next) a → IsMeeting live old next (a + 1)
+meeting_goes_on live old now next a inv listed same meets =
+    let first : 0 < length now = omega (arith, inv.whole.some) in
+    record {
+      whole = crews-same now inv.whole next same meets.worked;
+      live_is = inv.live_is ∙ sym (ap (λ (c : WorkCrew). c.live) (same.each 0 first).frame);
+      same = then_same old now next inv.same same;
+      worked = teams-then (teams_of old) (teams_of now) (teams_of next) inv.worked meets.worked;
+      still = record {
+        logs = λ t there. meets.still.logs t there ∙ inv.still.logs t there;
+        turns = λ t there. meets.still.turns t there ∙ inv.still.turns t there;
+      };
+      met = λ b low.
+          ⊎_elim
+          (λ here. subst (IsMetOn live.graph (teams_of next)) (sym here) meets.met)
+          (λ apart. let before : b < a = omega arith in meets.others b (omega (arith, before, listed)) apart (inv.met b before))
+          (cases_eq b a);
+    }
+
+-- ---- totals
+
+pub dates-total : (crews : List WorkCrew) → AreCrews crews → sum_by (λ (crew : WorkCrew). dates_made crew.team) crews ≡ fired (state_among (graph_of crews) (teams_of crews))
+unfolding state_among
+dates-total crews are =
+    let g = graph_of crews in
+    let R = range_with_len 0 (stations g) in
+    let station = station_of g (teams_of crews) in
+    sym (sum_by-map dates_made (λ (c : WorkCrew). c.team) crews)
+    ∙ sym (sum-among g (begun_of crews) (teams_of crews) (ranked crews are).limits.some_station (crews_are_teams crews are) dates_of)
+    ∙ sum_by-map dates_of station R
+    ∙ sym (sum_by-map length (λ t. (station t).log.dates) R)
+
+pub turns-total : (crews : List WorkCrew) → AreCrews crews → sum_by (λ (crew : WorkCrew). turns_made crew.team) crews ≡ sum (turns_among (graph_of crews) (teams_of crews))
+turns-total crews are =
+    let g = graph_of crews in
+    let R = range_with_len 0 (stations g) in
+    let station = station_of g (teams_of crews) in
+    sym (sum_by-map turns_made (λ (c : WorkCrew). c.team) crews)
+    ∙ sym (sum-among g (begun_of crews) (teams_of crews) (ranked crews are).limits.some_station (crews_are_teams crews are) turns_of)
+    ∙ sum_by-map turns_of station R
+    ∙ sym (sum_by-map (λ (n : ℕ). n) (λ t. turns_of (station t)) R)

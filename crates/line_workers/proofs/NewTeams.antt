@@ -1,0 +1,585 @@
+-- Teams whose stations took the ends that were laid for them: what a line begins with.
+use Rattle.std.proofs.Common.{◌≡◌, ◌≢◌, ℕ, zero, suc, ◌+◌, ◌-◌, ◌<◌, ◌≤◌, List, [], ◌++◌, Option, Some, None, Result, Ok, Err, IfOk, Vec, Global, ◌⊎◌, inl, inr, map, take, length, get_or, refl, sym, ap, ◌∙◌, subst, arith, ⊎_elim}
+use Rattle.std.specs.Prelude.{IfSome}
+use Rattle.std.specs.declared.alloc.AllocError.{AllocError}
+use Rattle.std.proofs.lemmas.Bool.{cases_eq}
+use Rattle.std.proofs.lemmas.List.{length-map, get_or-map, take_all, take-append-drop, append-nil}
+use Rattle.line_base.specs.declared.event.Parts.{Parts}
+use Rattle.card_queue.specs.Plain.{PlainQueue, plain_taken}
+use Rattle.event_graph.specs.Network.{stations, jobs, arc, arc_count, ins, outs, IsGraph}
+use Rattle.event_graph.specs.State.{State, log, place}
+use Rattle.event_graph.proofs.ArcNumbers.{All-ins, All-outs}
+use Rattle.station_step.specs.declared.ends.Inlet.{Inlet}
+use Rattle.station_step.specs.declared.ends.Outlet.{Outlet}
+use Rattle.station_step.specs.declared.ends.Inlet.TheVariants as inlet
+use Rattle.station_step.specs.declared.ends.Outlet.TheVariants as outlet
+use Rattle.station_step.specs.declared.input.Input.{Input}
+use Rattle.station_step.specs.Shelf.{queue_at}
+use Rattle.station_step.specs.Ends.{inlet_taken, inlet_known, inlet_queue, outlet_queue, AreEnds, HasRingRoom, IsUntaken, IsUnfilled}
+use Rattle.station_step.specs.Input.{input_at, empty_handed, NoneTakes}
+use Rattle.station_step.specs.Station.{WorkStation, IsSeated, NonePuts, outlet_at}
+use Rattle.station_step.specs.Kept.{IsFresh}
+use Rattle.line_workers.specs.Share.{worker_of, first_of}
+use Rattle.line_workers.specs.Team.{WorkTeam, IsMember, IsTeam, member}
+use Rattle.line_workers.specs.Teams.{team_at, station_of, shelf_of, place_in, input_on, outlet_on, outlet_initial, outlet_tokens, ShareQueue, IsJoined, AreTeams, IsMetOn, AreAllMet, HaveBegun}
+use Rattle.line_workers.specs.Making.{room_on, new_queue, HasRing, HasPlain, QueueEnds, outlets_at, inlets_at, shelf_at, first_ins, first_outs, outlet_of, inlet_of, putter, taker, HasEnds, AreLaid, AreFit, AreFitFrom, IsNewStation, AreNewTeams}
+use Rattle.line_workers.proofs.Share.{first-le, next-above, worker_is, worker-below, first-all, first-rises}
+use Rattle.line_workers.proofs.ArcOrder.{first_ins-below, first_ins-all, first_outs-all, rank-ins, rank-outs, place_in-ins, place_in-outs}
+use Rattle.line_workers.proofs.LaidEnds.{ring-no_queue, ring-no_queue_in, plain-outlet, queue-within}
+
+-- ---- the ends of an arc, by their kinds
+
+module _ (g : Parts) (begun : State) (a : ℕ) where
+  ring-room : (o : Outlet) (i : Inlet) → HasRing g begun a o i → HasRingRoom (room_on g begun a) o
+  ring-room (outlet.Ring put) (inlet.Ring take) has = omega (arith, ap length has.added, has.room)
+  ring-room (outlet.Ring put) (inlet.Local r) has = absurd has
+  ring-room (outlet.Local q) (inlet.Ring take) has = absurd has
+  ring-room (outlet.Local q) (inlet.Local r) has = absurd has
+
+  ring-unfilled : (o : Outlet) (i : Inlet) → HasRing g begun a o i → IsUnfilled o
+  ring-unfilled (outlet.Ring put) (inlet.Ring take) has = has.added
+  ring-unfilled (outlet.Ring put) (inlet.Local r) has = absurd has
+  ring-unfilled (outlet.Local q) (inlet.Ring take) has = absurd has
+  ring-unfilled (outlet.Local q) (inlet.Local r) has = absurd has
+
+  ring-untaken : (o : Outlet) (i : Inlet) → HasRing g begun a o i → IsUntaken i
+  ring-untaken (outlet.Ring put) (inlet.Ring take) has = has.taken
+  ring-untaken (outlet.Ring put) (inlet.Local r) has = absurd has
+  ring-untaken (outlet.Local q) (inlet.Ring take) has = absurd has
+  ring-untaken (outlet.Local q) (inlet.Local r) has = absurd has
+
+  ring-ends : (o : Outlet) (i : Inlet) → HasRing g begun a o i → AreEnds o i
+  ring-ends (outlet.Ring put) (inlet.Ring take) has = has.ends
+  ring-ends (outlet.Ring put) (inlet.Local r) has = absurd has
+  ring-ends (outlet.Local q) (inlet.Ring take) has = absurd has
+  ring-ends (outlet.Local q) (inlet.Local r) has = absurd has
+
+  ring-initial : (shelf : List PlainQueue) (o : Outlet) (i : Inlet) → HasRing g begun a o i → outlet_initial shelf o ≡ place begun a
+  ring-initial shelf (outlet.Ring put) (inlet.Ring take) has = has.initial
+  ring-initial shelf (outlet.Ring put) (inlet.Local r) has = absurd has
+  ring-initial shelf (outlet.Local q) (inlet.Ring take) has = absurd has
+  ring-initial shelf (outlet.Local q) (inlet.Local r) has = absurd has
+
+  ring-met : (shelf other : List PlainQueue) (o : Outlet) (i : Inlet) → HasRing g begun a o i → inlet_taken other i ++ inlet_known other i ≡ outlet_tokens shelf o
+  ring-met shelf other (outlet.Ring put) (inlet.Ring take) has =
+      ap (λ l. l ++ take.known) has.taken
+      ∙ has.known
+      ∙ sym (append-nil (place begun a))
+      ∙ ap (λ l. l ++ []) (sym has.initial)
+      ∙ ap (λ l. put.initial ++ l) (sym has.added)
+  ring-met shelf other (outlet.Ring put) (inlet.Local r) has = absurd has
+  ring-met shelf other (outlet.Local q) (inlet.Ring take) has = absurd has
+  ring-met shelf other (outlet.Local q) (inlet.Local r) has = absurd has
+
+  module _ (shelf : List PlainQueue) where
+    plain-room : (more : ℕ) (o : Outlet) (i : Inlet) → HasPlain g begun shelf a o i → HasRingRoom more o
+    plain-room more (outlet.Local q) (inlet.Local r) has = tt
+    plain-room more (outlet.Local q) (inlet.Ring take) has = absurd has
+    plain-room more (outlet.Ring put) (inlet.Ring take) has = absurd has
+    plain-room more (outlet.Ring put) (inlet.Local r) has = absurd has
+
+    plain-unfilled : (o : Outlet) (i : Inlet) → HasPlain g begun shelf a o i → IsUnfilled o
+    plain-unfilled (outlet.Local q) (inlet.Local r) has = tt
+    plain-unfilled (outlet.Local q) (inlet.Ring take) has = absurd has
+    plain-unfilled (outlet.Ring put) (inlet.Ring take) has = absurd has
+    plain-unfilled (outlet.Ring put) (inlet.Local r) has = absurd has
+
+    plain-untaken : (o : Outlet) (i : Inlet) → HasPlain g begun shelf a o i → IsUntaken i
+    plain-untaken (outlet.Local q) (inlet.Local r) has = tt
+    plain-untaken (outlet.Local q) (inlet.Ring take) has = absurd has
+    plain-untaken (outlet.Ring put) (inlet.Ring take) has = absurd has
+    plain-untaken (outlet.Ring put) (inlet.Local r) has = absurd has
+
+    plain-shared : (o : Outlet) (i : Inlet) → HasPlain g begun shelf a o i → ShareQueue o i
+    plain-shared (outlet.Local q) (inlet.Local r) has = sym has.same
+    plain-shared (outlet.Local q) (inlet.Ring take) has = absurd has
+    plain-shared (outlet.Ring put) (inlet.Ring take) has = absurd has
+    plain-shared (outlet.Ring put) (inlet.Local r) has = absurd has
+
+    plain-initial : (o : Outlet) (i : Inlet) → HasPlain g begun shelf a o i → outlet_initial shelf o ≡ place begun a
+    plain-initial (outlet.Local q) (inlet.Local r) has = ap (λ (p : PlainQueue). p.initial) has.queue
+    plain-initial (outlet.Local q) (inlet.Ring take) has = absurd has
+    plain-initial (outlet.Ring put) (inlet.Ring take) has = absurd has
+    plain-initial (outlet.Ring put) (inlet.Local r) has = absurd has
+
+    plain-met : (o : Outlet) (i : Inlet) → HasPlain g begun shelf a o i → inlet_taken shelf i ++ inlet_known shelf i ≡ outlet_tokens shelf o
+    plain-met (outlet.Local q) (inlet.Local r) has =
+        take-append-drop (queue_at shelf r).takes ((queue_at shelf r).initial ++ (queue_at shelf r).added)
+        ∙ ap (λ n. (queue_at shelf n).initial ++ (queue_at shelf n).added) has.same
+    plain-met (outlet.Local q) (inlet.Ring take) has = absurd has
+    plain-met (outlet.Ring put) (inlet.Ring take) has = absurd has
+    plain-met (outlet.Ring put) (inlet.Local r) has = absurd has
+
+    plain-queue : (q : ℕ) (o : Outlet) (i : Inlet) → HasPlain g begun shelf a o i → outlet_queue o ≡ Some q → queue_at shelf q ≡ new_queue g begun a
+    plain-queue q (outlet.Local p) (inlet.Local r) has same =
+        let at : q ≡ p = cc in
+        ap (queue_at shelf) at ∙ has.queue
+    plain-queue q (outlet.Local p) (inlet.Ring take) has same = absurd has
+    plain-queue q (outlet.Ring put) (inlet.Ring take) has same = absurd has
+    plain-queue q (outlet.Ring put) (inlet.Local r) has same = absurd has
+
+if_some : (o : Option ℕ) (P : ℕ → Type 0) → ((q : ℕ) → o ≡ Some q → P q) → IfSome o P
+if_some None P holds = tt
+if_some (Some q) P holds = holds q refl
+
+-- ---- the ends of an arc
+
+module _ (g : Parts) (begun : State) (workers : ℕ) (ends : QueueEnds) (a : ℕ) (has : HasEnds g begun workers ends a) where
+  abbrev out_end : Outlet
+  out_end = outlet_of g ends a
+
+  abbrev in_end : Inlet
+  in_end = inlet_of g ends a
+
+  abbrev own_shelf : List PlainQueue
+  own_shelf = shelf_at ends (putter g workers a)
+
+  end-room : HasRingRoom (room_on g begun a) out_end
+  end-room =
+      ⊎_elim
+      (λ one. plain-room g begun a own_shelf (room_on g begun a) out_end in_end (has.shelf one))
+      (λ two. ring-room g begun a out_end in_end (has.ring two))
+      (cases_eq (putter g workers a) (taker g workers a))
+
+  end-unfilled : IsUnfilled out_end
+  end-unfilled =
+      ⊎_elim
+      (λ one. plain-unfilled g begun a own_shelf out_end in_end (has.shelf one))
+      (λ two. ring-unfilled g begun a out_end in_end (has.ring two))
+      (cases_eq (putter g workers a) (taker g workers a))
+
+  end-untaken : IsUntaken in_end
+  end-untaken =
+      ⊎_elim
+      (λ one. plain-untaken g begun a own_shelf out_end in_end (has.shelf one))
+      (λ two. ring-untaken g begun a out_end in_end (has.ring two))
+      (cases_eq (putter g workers a) (taker g workers a))
+
+  end-queue : (q : ℕ) → outlet_queue out_end ≡ Some q → queue_at own_shelf q ≡ new_queue g begun a
+  end-queue q same =
+      ⊎_elim
+      (λ one. plain-queue g begun a own_shelf q out_end in_end (has.shelf one) same)
+      (λ two. absurd (ring-no_queue g begun a q out_end in_end (has.ring two) same))
+      (cases_eq (putter g workers a) (taker g workers a))
+
+  -- an inlet on a queue of the shelf is that of an arc inside one worker
+  end-inside : (q : ℕ) → inlet_queue in_end ≡ Some q → putter g workers a ≡ taker g workers a
+  end-inside q same =
+      ⊎_elim
+      (λ one. one)
+      (λ two. absurd (ring-no_queue_in g begun a q out_end in_end (has.ring two) same))
+      (cases_eq (putter g workers a) (taker g workers a))
+
+  end-shared : (q : ℕ) → inlet_queue in_end ≡ Some q → outlet_queue out_end ≡ Some q
+  end-shared q same = plain-outlet g begun a q own_shelf out_end in_end (has.shelf (end-inside q same)) same
+
+  end-initial : outlet_initial own_shelf out_end ≡ place begun a
+  end-initial =
+      ⊎_elim
+      (λ one. plain-initial g begun a own_shelf out_end in_end (has.shelf one))
+      (λ two. ring-initial g begun a own_shelf out_end in_end (has.ring two))
+      (cases_eq (putter g workers a) (taker g workers a))
+
+  end-met : inlet_taken (shelf_at ends (taker g workers a)) in_end ++ inlet_known (shelf_at ends (taker g workers a)) in_end ≡ outlet_tokens own_shelf out_end
+  end-met =
+      ⊎_elim
+      (λ one.
+      ap (λ w. inlet_taken (shelf_at ends w) in_end ++ inlet_known (shelf_at ends w) in_end) (sym one)
+      ∙ plain-met g begun a own_shelf out_end in_end (has.shelf one))
+      (λ two. ring-met g begun a own_shelf (shelf_at ends (taker g workers a)) out_end in_end (has.ring two))
+      (cases_eq (putter g workers a) (taker g workers a))
+
+-- a search among the first n
+same_or_other : (o : Option ℕ) (q : ℕ) → (o ≡ Some q) ⊎ (o ≢ Some q)
+same_or_other None q = inr (λ same. cc)
+same_or_other (Some p) q =
+    ⊎_elim
+    (λ same. inl (ap Some same))
+    (λ other. inr (λ same. let at : p ≡ q = cc in other at))
+    (cases_eq p q)
+
+found_or_none : (f : ℕ → Option ℕ) (q n : ℕ) → ((k : ℕ) → k < n → f k ≢ Some q) ⊎ ((k : ℕ) × (k < n) × (f k ≡ Some q))
+found_or_none f q zero = inl (λ k low _. absurd (omega arith))
+found_or_none f q (suc n) =
+    ⊎_elim
+    (λ none.
+    ⊎_elim
+    (λ here. inr (n, omega arith, here))
+    (λ other.
+    inl (λ k low.
+    ⊎_elim (λ last same. other (ap f (sym last) ∙ same)) (λ before. none k (omega arith)) (cases_eq k n)))
+    (same_or_other (f n) q))
+    (λ found. inr (found.0, omega (arith, found.1), found.2))
+    (found_or_none f q n)
+
+-- ---- the ends of a station
+
+module _ (g : Parts) (begun : State) (workers : ℕ) (ends : QueueEnds) (graph : IsGraph g) (laid : AreLaid g begun workers ends (arc_count g)) where
+  -- the arc whose inlet stands at a place of a station
+  record IsInletAt (t k a : ℕ) : Type 0 where
+    listed : a < arc_count g
+    station : (arc g a).to ≡ t
+    is : inlet_of g ends a ≡ get_or (inlets_at ends t) k (inlet.Local 0)
+    place : length (first_ins g a t) ≡ k
+
+  record IsOutletAt (t k a : ℕ) : Type 0 where
+    listed : a < arc_count g
+    station : (arc g a).from ≡ t
+    is : outlet_of g ends a ≡ outlet_at (outlets_at ends t) k
+    place : length (first_outs g a t) ≡ k
+
+  inlets-count : (t : ℕ) → t < stations g → length (inlets_at ends t) ≡ length (ins g t)
+  inlets-count t there = laid.inlets t there ∙ ap length (first_ins-all g t)
+
+  outlets-count : (t : ℕ) → t < stations g → length (outlets_at ends t) ≡ length (outs g t)
+  outlets-count t there = laid.outlets t there ∙ ap length (first_outs-all g t)
+
+  inlet-at : (t k : ℕ) → t < stations g → k < length (inlets_at ends t) → IsInletAt t k (get_or (ins g t) k 0)
+  inlet-at t k there low =
+      let listed : k < length (ins g t) = omega (arith, inlets-count t there) in
+      let a = get_or (ins g t) k 0 in
+      let at = All-ins g t k 0 listed in
+      let stands = rank-ins g t k listed in
+      record {
+        listed = at.0;
+        station = at.1;
+        is = ap (λ u. get_or (inlets_at ends u) (length (first_ins g a u)) (inlet.Local 0)) at.1 ∙ ap (λ i. get_or (inlets_at ends t) i (inlet.Local 0)) stands;
+        place = stands;
+      }
+
+  outlet-at : (t k : ℕ) → t < stations g → k < length (outlets_at ends t) → IsOutletAt t k (get_or (outs g t) k 0)
+  outlet-at t k there low =
+      let listed : k < length (outs g t) = omega (arith, outlets-count t there) in
+      let a = get_or (outs g t) k 0 in
+      let at = All-outs g t k 0 listed in
+      let stands = rank-outs g t k listed in
+      record {
+        listed = at.0;
+        station = at.1;
+        is = ap (λ u. outlet_at (outlets_at ends u) (length (first_outs g a u))) at.1 ∙ ap (outlet_at (outlets_at ends t)) stands;
+        place = stands;
+      }
+
+  -- the ends that are laid are those that the stations need
+  pub laid_fit : (t : ℕ) → t < stations g → AreFit g begun t (outlets_at ends t) (inlets_at ends t)
+  laid_fit t there = record {
+    an_outlet_each = outlets-count t there;
+    an_inlet_each = inlets-count t there;
+    room = λ k low.
+        let at = outlet-at t k there low in
+        let a = get_or (outs g t) k 0 in
+        subst (λ (o : Outlet). HasRingRoom (jobs g - length (log begun t)) o) at.is (
+        subst (λ (u : ℕ). HasRingRoom (jobs g - length (log begun u)) (outlet_of g ends a)) at.station (
+        end-room g begun workers ends a (laid.each a at.listed)));
+    unfilled = λ k low.
+        let at = outlet-at t k there low in
+        let a = get_or (outs g t) k 0 in
+        subst IsUnfilled at.is (end-unfilled g begun workers ends a (laid.each a at.listed));
+    untaken = λ k low.
+        let at = inlet-at t k there low in
+        let a = get_or (ins g t) k 0 in
+        subst IsUntaken at.is (end-untaken g begun workers ends a (laid.each a at.listed));
+  }
+
+  pub laid_fit_from : AreFitFrom g begun 0 ends
+  laid_fit_from = record {
+    outlet_lists = laid.outlet_lists;
+    inlet_lists = laid.inlet_lists;
+    each = λ t _ there. laid_fit t there;
+  }
+
+  -- an arc whose two ends worker w has on queue q of its shelf
+  record Uses (w q a : ℕ) : Type 0 where
+    listed : a < arc_count g
+    worker : putter g workers a ≡ w
+    queue : outlet_queue (outlet_of g ends a) ≡ Some q
+
+  one_arc : (w q a b : ℕ) → Uses w q a → Uses w q b → a ≡ b
+  one_arc w q a b first then =
+      laid.apart a b q first.listed then.listed (first.worker ∙ sym then.worker) first.queue then.queue
+
+  uses-there : (w q a : ℕ) → Uses w q a → q < length (shelf_at ends w)
+  uses-there w q a uses =
+      omega (arith, queue-within g begun workers ends a q (laid.each a uses.listed) uses.queue, ap (λ v. length (shelf_at ends v)) uses.worker)
+
+  uses-queue : (w q a : ℕ) → Uses w q a → queue_at (shelf_at ends w) q ≡ new_queue g begun a
+  uses-queue w q a uses =
+      ap (λ v. queue_at (shelf_at ends v) q) (sym uses.worker) ∙ end-queue g begun workers ends a (laid.each a uses.listed) q uses.queue
+
+  -- ---- a new station
+
+  module _ (t w : ℕ) (s : WorkStation) (there : t < stations g) (owned : worker_of workers (stations g) t ≡ w) (new : IsNewStation g begun t (outlets_at ends t) (inlets_at ends t) s) where
+    inputs-count : length s.inputs ≡ length (inlets_at ends t)
+    inputs-count = ap length new.inputs ∙ length-map (inlets_at ends t) empty_handed
+
+    inlet-is : (k : ℕ) → k < length s.inputs → (input_at s.inputs k).inlet ≡ inlet_of g ends (get_or (ins g t) k 0)
+    inlet-is k low =
+        let here : k < length (inlets_at ends t) = omega (arith, inputs-count) in
+        let at = inlet-at t k there here in
+        ap (λ l. (input_at l k).inlet) new.inputs
+        ∙ ap (λ (i : Input). i.inlet) (get_or-map empty_handed (inlets_at ends t) k (inlet.Local 0) (record { inlet = inlet.Local 0; hand = None }) here)
+        ∙ sym at.is
+
+    outlet-is : (k : ℕ) → k < length s.outlets → outlet_at s.outlets k ≡ outlet_of g ends (get_or (outs g t) k 0)
+    outlet-is k low =
+        let here : k < length (outlets_at ends t) = omega (arith, ap length new.outlets) in
+        let at = outlet-at t k there here in
+        ap (λ l. outlet_at l k) new.outlets ∙ sym at.is
+
+    takes-uses : (k q : ℕ) → k < length s.inputs → inlet_queue (input_at s.inputs k).inlet ≡ Some q → Uses w q (get_or (ins g t) k 0)
+    takes-uses k q low same =
+        let a = get_or (ins g t) k 0 in
+        let at = inlet-at t k there (omega (arith, inputs-count)) in
+        let has = laid.each a at.listed in
+        let queue : inlet_queue (inlet_of g ends a) ≡ Some q = ap inlet_queue (sym (inlet-is k low)) ∙ same in
+        record {
+          listed = at.listed;
+          worker = end-inside g begun workers ends a has q queue ∙ ap (worker_of workers (stations g)) at.station ∙ owned;
+          queue = end-shared g begun workers ends a has q queue;
+        }
+
+    puts-uses : (k q : ℕ) → k < length s.outlets → outlet_queue (outlet_at s.outlets k) ≡ Some q → Uses w q (get_or (outs g t) k 0)
+    puts-uses k q low same =
+        let a = get_or (outs g t) k 0 in
+        let at = outlet-at t k there (omega (arith, ap length new.outlets)) in
+        record {
+          listed = at.listed;
+          worker = ap (worker_of workers (stations g)) at.station ∙ owned;
+          queue = ap outlet_queue (sym (outlet-is k low)) ∙ same;
+        }
+
+    takes-one : (j k q : ℕ) → j < k → k < length s.inputs → inlet_queue (input_at s.inputs j).inlet ≡ Some q → inlet_queue (input_at s.inputs k).inlet ≢ Some q
+    takes-one j k q before low at_j at_k =
+        let first : j < length s.inputs = omega arith in
+        let same = one_arc w q (get_or (ins g t) j 0) (get_or (ins g t) k 0) (takes-uses j q first at_j) (takes-uses k q low at_k) in
+        let left = inlet-at t j there (omega (arith, inputs-count)) in
+        let right = inlet-at t k there (omega (arith, inputs-count)) in
+        omega (arith, left.place, right.place, ap (λ a. length (first_ins g a t)) same)
+
+    puts-one : (j k q : ℕ) → j < k → k < length s.outlets → outlet_queue (outlet_at s.outlets j) ≡ Some q → outlet_queue (outlet_at s.outlets k) ≢ Some q
+    puts-one j k q before low at_j at_k =
+        let first : j < length s.outlets = omega arith in
+        let same = one_arc w q (get_or (outs g t) j 0) (get_or (outs g t) k 0) (puts-uses j q first at_j) (puts-uses k q low at_k) in
+        let left = outlet-at t j there (omega (arith, ap length new.outlets)) in
+        let right = outlet-at t k there (omega (arith, ap length new.outlets)) in
+        omega (arith, left.place, right.place, ap (λ a. length (first_outs g a t)) same)
+
+    new-seated : IsSeated (shelf_at ends w) s
+    new-seated = record {
+      takes_within = λ k low. if_some (inlet_queue (input_at s.inputs k).inlet) (λ q. q < length (shelf_at ends w)) (λ q same. uses-there w q (get_or (ins g t) k 0) (takes-uses k q low same));
+      takes_apart = λ j k before low q. takes-one j k q before low;
+      puts_within = λ k low. if_some (outlet_queue (outlet_at s.outlets k)) (λ q. q < length (shelf_at ends w)) (λ q same. uses-there w q (get_or (outs g t) k 0) (puts-uses k q low same));
+      puts_apart = λ j k before low q. puts-one j k q before low;
+    }
+
+    new-fresh : IsFresh (shelf_at ends w) s
+    new-fresh = record {
+      untaken = λ k low.
+          if_some (inlet_queue (input_at s.inputs k).inlet) (λ q. plain_taken (queue_at (shelf_at ends w) q) ≡ []) (λ q same.
+          ap plain_taken (uses-queue w q (get_or (ins g t) k 0) (takes-uses k q low same)));
+      unfilled = λ k low.
+          if_some (outlet_queue (outlet_at s.outlets k)) (λ q. (queue_at (shelf_at ends w) q).added ≡ []) (λ q same.
+          ap (λ (p : PlainQueue). p.added) (uses-queue w q (get_or (outs g t) k 0) (puts-uses k q low same)));
+      room = λ k low.
+          if_some (outlet_queue (outlet_at s.outlets k)) (λ q. jobs s.graph ≤ s.made + (queue_at (shelf_at ends w) q).room) (λ q same.
+          let a = get_or (outs g t) k 0 in
+          let at = outlet-at t k there (omega (arith, ap length new.outlets)) in
+          let room = ap (λ (p : PlainQueue). p.room) (uses-queue w q a (puts-uses k q low same)) in
+          omega (arith, room, ap jobs new.graph, new.made, ap (λ u. length (log begun u)) at.station));
+    }
+
+    new-member : IsMember g begun t (shelf_at ends w) s
+    new-member = record {
+      graph = new.graph;
+      number = new.number;
+      station = new.station;
+      seated = new-seated;
+      kept = new.kept (shelf_at ends w) new-fresh;
+      made = new.made;
+      begins = ap (λ l. take s.made l) new.dates ∙ take_all s.made (log begun t) (omega (arith, new.made));
+    }
+
+  -- ---- two new stations of a worker
+
+  takes-apart : (t u w : ℕ) (s r : WorkStation) (t_there : t < stations g) (u_there : u < stations g) (t_owned : worker_of workers (stations g) t ≡ w) (u_owned : worker_of workers (stations g) u ≡ w) (t_new : IsNewStation g begun t (outlets_at ends t) (inlets_at ends t) s) (u_new : IsNewStation g begun u (outlets_at ends u) (inlets_at ends u) r) → t ≢ u → (q : ℕ) → NoneTakes q s.inputs ⊎ NoneTakes q r.inputs
+  takes-apart t u w s r t_there u_there t_owned u_owned t_new u_new other q =
+      ⊎_elim
+      (λ none. inl none)
+      (λ found.
+      inr (λ k low same.
+      let j = found.0 in
+      let a = get_or (ins g t) j 0 in
+      let b = get_or (ins g u) k 0 in
+      let one = one_arc w q a b (takes-uses t w s t_there t_owned t_new j q found.1 found.2) (takes-uses u w r u_there u_owned u_new k q low same) in
+      let left = inlet-at t j t_there (omega (arith, found.1, inputs-count t w s t_there t_owned t_new)) in
+      let right = inlet-at u k u_there (omega (arith, inputs-count u w r u_there u_owned u_new)) in
+      other (sym left.station ∙ ap (λ n. (arc g n).to) one ∙ right.station)))
+      (found_or_none (λ k. inlet_queue (input_at s.inputs k).inlet) q (length s.inputs))
+
+  puts-apart : (t u w : ℕ) (s r : WorkStation) (t_there : t < stations g) (u_there : u < stations g) (t_owned : worker_of workers (stations g) t ≡ w) (u_owned : worker_of workers (stations g) u ≡ w) (t_new : IsNewStation g begun t (outlets_at ends t) (inlets_at ends t) s) (u_new : IsNewStation g begun u (outlets_at ends u) (inlets_at ends u) r) → t ≢ u → (q : ℕ) → NonePuts q s.outlets ⊎ NonePuts q r.outlets
+  puts-apart t u w s r t_there u_there t_owned u_owned t_new u_new other q =
+      ⊎_elim
+      (λ none. inl none)
+      (λ found.
+      inr (λ k low same.
+      let j = found.0 in
+      let a = get_or (outs g t) j 0 in
+      let b = get_or (outs g u) k 0 in
+      let one = one_arc w q a b (puts-uses t w s t_there t_owned t_new j q found.1 found.2) (puts-uses u w r u_there u_owned u_new k q low same) in
+      let left = outlet-at t j t_there (omega (arith, found.1, ap length t_new.outlets)) in
+      let right = outlet-at u k u_there (omega (arith, ap length u_new.outlets)) in
+      other (sym left.station ∙ ap (λ n. (arc g n).from) one ∙ right.station)))
+      (found_or_none (λ k. outlet_queue (outlet_at s.outlets k)) q (length s.outlets))
+
+-- ---- all teams
+
+module _ (g : Parts) (begun : State) (ends : QueueEnds) (teams : List WorkTeam) (graph : IsGraph g) (any : 1 ≤ stations g) (some : 1 ≤ length teams) (laid : AreLaid g begun (length teams) ends (arc_count g)) (new : AreNewTeams g begun (length teams) ends teams) where
+  abbrev first : ℕ → ℕ
+  first w = first_of (length teams) (stations g) w
+
+  abbrev owner : ℕ → ℕ
+  owner t = worker_of (length teams) (stations g) t
+
+  -- station i of worker w
+  member-there : (w i : ℕ) → w < length teams → i < length (team_at teams w).stations → first w + i < stations g
+  member-there w i low i_low =
+      let rises = first-rises (length teams) (stations g) some any (w + 1) (length teams) (omega arith) in
+      omega (arith, (new w low).size, rises, first-all (length teams) (stations g) some any)
+
+  member-owner : (w i : ℕ) → w < length teams → i < length (team_at teams w).stations → owner (first w + i) ≡ w
+  member-owner w i low i_low =
+      worker_is (length teams) (stations g) some any w (first w + i) (omega arith) (omega (arith, (new w low).size))
+
+  team-is : (w : ℕ) → w < length teams → IsTeam g begun (first w) (team_at teams w)
+  team-is w low =
+      let made = (new w low).stations.each in
+      record {
+        members = λ i i_low.
+            subst (λ (l : List PlainQueue). IsMember g begun (first w + i) l (member (team_at teams w).stations i)) (sym (new w low).shelf) (
+            new-member g begun (length teams) ends graph laid (first w + i) w (member (team_at teams w).stations i) (member-there w i low i_low) (member-owner w i low i_low) (made i i_low));
+        apart = λ i j i_low j_low other.
+            let t = first w + i in
+            let u = first w + j in
+            let s = member (team_at teams w).stations i in
+            let r = member (team_at teams w).stations j in
+            let two : t ≢ u = (λ same. other (omega arith)) in
+            record {
+              takes = takes-apart g begun (length teams) ends graph laid t u w s r (member-there w i low i_low) (member-there w j low j_low) (member-owner w i low i_low) (member-owner w j low j_low) (made i i_low) (made j j_low) two;
+              puts = puts-apart g begun (length teams) ends graph laid t u w s r (member-there w i low i_low) (member-there w j low j_low) (member-owner w i low i_low) (member-owner w j low j_low) (made i i_low) (made j j_low) two;
+            };
+      }
+
+  owner-below : (t : ℕ) → t < stations g → owner t < length teams
+  owner-below t there = worker-below (length teams) (stations g) some any t there
+
+  -- station t of the graph
+  station-new : (t : ℕ) → t < stations g → IsNewStation g begun t (outlets_at ends t) (inlets_at ends t) (station_of g teams t)
+  station-new t there =
+      let w = owner t in
+      let low = owner-below t there in
+      let from_first = first-le (length teams) (stations g) some any t in
+      let before_next = next-above (length teams) (stations g) some any t in
+      let i = t - first w in
+      let i_low : i < length (team_at teams w).stations = omega (arith, from_first, before_next, (new w low).size) in
+      let at : first w + i ≡ t = omega (arith, from_first) in
+      subst (λ (u : ℕ). IsNewStation g begun u (outlets_at ends u) (inlets_at ends u) (member (team_at teams w).stations i)) at (
+      (new w low).stations.each i i_low)
+
+  shelf-is : (t : ℕ) → t < stations g → shelf_of g teams t ≡ shelf_at ends (owner t)
+  shelf-is t there = (new (owner t) (owner-below t there)).shelf
+
+  -- ---- arcs
+
+  outlet_on-is : (a : ℕ) → a < arc_count g → outlet_on g teams a ≡ outlet_of g ends a
+  outlet_on-is a listed =
+      let t = (arc g a).from in
+      let there = graph.starts_exist a listed in
+      ap (λ l. outlet_at l (place_in (outs g t) a)) (station-new t there).outlets
+      ∙ ap (outlet_at (outlets_at ends t)) (place_in-outs g a listed)
+
+  input_on-is : (a : ℕ) → a < arc_count g → (input_on g teams a).inlet ≡ inlet_of g ends a
+  input_on-is a listed =
+      let t = (arc g a).to in
+      let there = graph.ends_exist a listed in
+      let k = length (first_ins g a t) in
+      let low : k < length (inlets_at ends t) = omega (arith, laid.inlets t there, first_ins-below g a (arc_count g) listed) in
+      ap (λ l. (input_at l (place_in (ins g t) a)).inlet) (station-new t there).inputs
+      ∙ ap (λ n. (input_at (map empty_handed (inlets_at ends t)) n).inlet) (place_in-ins g a listed)
+      ∙ ap (λ (i : Input). i.inlet) (get_or-map empty_handed (inlets_at ends t) k (inlet.Local 0) (record { inlet = inlet.Local 0; hand = None }) low)
+
+  joined : (a : ℕ) → a < arc_count g → IsJoined g begun teams a
+  joined a listed =
+      let has = laid.each a listed in
+      let out_is = outlet_on-is a listed in
+      let in_is = input_on-is a listed in
+      record {
+        ring = λ two.
+            subst (λ (o : Outlet). AreEnds o (input_on g teams a).inlet) (sym out_is) (
+            subst (λ (i : Inlet). AreEnds (outlet_of g ends a) i) (sym in_is) (
+            ring-ends g begun a (outlet_of g ends a) (inlet_of g ends a) (has.ring two)));
+        shelf = λ one.
+            subst (λ (o : Outlet). ShareQueue o (input_on g teams a).inlet) (sym out_is) (
+            subst (λ (i : Inlet). ShareQueue (outlet_of g ends a) i) (sym in_is) (
+            plain-shared g begun a (shelf_at ends (putter g (length teams) a)) (outlet_of g ends a) (inlet_of g ends a) (has.shelf one)));
+        initial =
+            ap (λ l. outlet_initial l (outlet_on g teams a)) (shelf-is (arc g a).from (graph.starts_exist a listed))
+            ∙ ap (outlet_initial (shelf_at ends (putter g (length teams) a))) out_is
+            ∙ end-initial g begun (length teams) ends a has;
+      }
+
+  pub new_are_teams : AreTeams g begun teams
+  new_are_teams = record {
+    some = some;
+    sizes = λ w low. (new w low).size;
+    each = team-is;
+    joined = joined;
+  }
+
+  met : (a : ℕ) → a < arc_count g → IsMetOn g teams a
+  met a listed =
+      let has = laid.each a listed in
+      let out_is = outlet_on-is a listed in
+      let in_is = input_on-is a listed in
+      let to_shelf = shelf-is (arc g a).to (graph.ends_exist a listed) in
+      let from_shelf = shelf-is (arc g a).from (graph.starts_exist a listed) in
+      ap (λ l. inlet_taken l (input_on g teams a).inlet ++ inlet_known l (input_on g teams a).inlet) to_shelf
+      ∙ ap (λ i. inlet_taken (shelf_at ends (taker g (length teams) a)) i ++ inlet_known (shelf_at ends (taker g (length teams) a)) i) in_is
+      ∙ end-met g begun (length teams) ends a has
+      ∙ ap (λ o. outlet_tokens (shelf_at ends (putter g (length teams) a)) o) (sym out_is)
+      ∙ ap (λ l. outlet_tokens l (outlet_on g teams a)) (sym from_shelf)
+
+  pub new_are_met : AreAllMet g teams
+  new_are_met = met
+
+  pub new_have_begun : HaveBegun g begun teams
+  new_have_begun = record {
+    logs = λ t there. (station-new t there).dates;
+    turns = λ t there. (station-new t there).turns;
+  }
+
+-- ---- as the code has them
+
+-- what holds of the teams of a worker each, however many there are
+pub record HaveAll (g : Parts) (begun : State) (teams : List WorkTeam) : Type 0 where
+  pub teams_are : AreTeams g begun teams
+  pub met : AreAllMet g teams
+  pub begun_are : HaveBegun g begun teams
+
+pub all_new : (g : Parts) (begun : State) (workers : ℕ) (ends : QueueEnds) (teams : List WorkTeam) → IsGraph g → 1 ≤ stations g → 1 ≤ workers → AreLaid g begun workers ends (arc_count g) → length teams ≡ workers → AreNewTeams g begun workers ends teams → HaveAll g begun teams
+all_new g begun workers ends teams graph any some laid count new =
+    let some_team : 1 ≤ length teams = omega arith in
+    let laid_for = subst (λ (w : ℕ). AreLaid g begun w ends (arc_count g)) (sym count) laid in
+    let new_for = subst (λ (w : ℕ). AreNewTeams g begun w ends teams) (sym count) new in
+    record {
+      teams_are = new_are_teams g begun ends teams graph any some_team laid_for new_for;
+      met = new_are_met g begun ends teams graph any some_team laid_for new_for;
+      begun_are = new_have_begun g begun ends teams graph any some_team laid_for new_for;
+    }
+
+pub all_new_ok : (g : Parts) (begun : State) (workers : ℕ) (ends : QueueEnds) (r : Result (Vec WorkTeam Global) AllocError) → IsGraph g → 1 ≤ stations g → 1 ≤ workers → AreLaid g begun workers ends (arc_count g) → IfOk r (λ teams. length teams.items ≡ workers) → IfOk r (λ teams. AreNewTeams g begun workers ends teams.items) → IfOk r (λ teams. HaveAll g begun teams.items)
+all_new_ok g begun workers ends (Ok teams) graph any some laid count new = all_new g begun workers ends teams.items graph any some laid count new
+all_new_ok g begun workers ends (Err e) graph any some laid count new = tt
+
+pub if_ok : {T E : Type 0} (r : Result T E) (P Q : T → Type 0) → ((x : T) → P x → Q x) → IfOk r P → IfOk r Q
+if_ok (Ok x) P Q gives has = gives x has
+if_ok (Err e) P Q gives has = tt

@@ -1,0 +1,13 @@
+use Rattle.std.proofs.Common.{◌≡◌, ◌<◌, length, ap, ◌∙◌, sym, subst, arith}
+use Rattle.event_graph.specs.Network.{arc_count}
+use Rattle.line_workers.proofs.AllCrews.{meeting_begins, meeting_goes_on}
+use Rattle.line_workers.proofs.crews.meet_all.Goals as goal
+
+pub loop-a-init : goal.loop-a-init
+loop-a-init c = meeting_begins c.args.live.now c.args.crews.now c.requires.crews c.requires.made_for
+
+pub loop-a-preserved : goal.loop-a-preserved
+loop-a-preserved c =
+    let listed : c.loop-a.a < arc_count c.args.live.now.graph =
+    omega (arith, c.loop-a-test.true, ap length c.arcs.ensures.arcs, ap arc_count c.graph.ensures.graph) in
+    meeting_goes_on c.args.live.now c.args.crews.now c.loop-a.crews c.meet_on.new.crews c.loop-a.a c.loop-a.invariant listed c.meet_on.ensures.same c.meet_on.ensures.met

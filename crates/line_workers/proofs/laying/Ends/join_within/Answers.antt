@@ -1,0 +1,14 @@
+use Rattle.std.proofs.Common.{false, get_or, subst}
+use Rattle.event_graph.specs.Network.{IsGraph}
+use Rattle.line_workers.proofs.LaidEnds.{laid_plain_read, arc-read, on_ok}
+use Rattle.line_workers.proofs.laying.Ends.join_within.Goals as goal
+
+pub returns : goal.returns
+returns c =
+    let g = c.args.live.now.graph in
+    let read = get_or c.arcs.result.now c.args.a (record { from = 0; to = 0; tokens = 0; worked = false }) in
+    let graph = subst IsGraph c.graph.ensures.graph c.arcs.ensures.graph in
+    let same = arc-read g c.graph.result.now c.arcs.result.now c.args.a c.arcs.ensures.arcs c.graph.ensures.graph in
+    on_ok c.lay.result _ _ (
+    laid_plain_read g c.args.state.now.state c.args.workers c.args.self.now c.shelve.new.self c.lay.new.self c.args.a c.args.worker c.in_ok-number.number read c.in_ok-new_plain.field-0 graph c.requires.arc same c.requires.laid c.requires.worker c.requires.puts c.requires.takes c.in_ok-new_plain.ensures c.in_ok-number.ensures.number c.in_ok-number.ensures.shelved)
+    c.lay.ensures

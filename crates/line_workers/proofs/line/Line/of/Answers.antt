@@ -1,0 +1,18 @@
+use Rattle.std.proofs.Common.{◌≡◌, sym, subst}
+use Rattle.line_base.specs.declared.event.Parts.{Parts}
+use Rattle.event_graph.specs.Reached.{Reached}
+use Rattle.line_workers.proofs.Lines.{at_rest_is_line, new_at_rest, new_stands}
+use Rattle.line_workers.proofs.line.Line.of.Goals as goal
+
+pub invariant_of-result : goal.invariant_of-result
+invariant_of-result c =
+    let reached = subst (λ (g : Parts). Reached g c.args.state.now.state) (sym c.requires.made_for) c.fired-made.ensures.reached.reached in
+    new_at_rest c.args.live.now c.args.state.now.state c.args.workers c.in_ok-crews.crews.items c.fired-made.result c.in_ok-crews.ensures reached c.requires.few c.fired-made.ensures.fired
+
+pub returns-clause-stands : goal.returns-clause-stands
+returns-clause-stands c =
+    let reached = subst (λ (g : Parts). Reached g c.args.state.now.state) (sym c.requires.made_for) c.fired-made.ensures.reached.reached in
+    new_stands c.args.live.now c.args.state.now.state c.args.workers c.in_ok-crews.crews.items c.fired-made.result c.in_ok-crews.ensures reached c.requires.few c.fired-made.ensures.fired
+
+pub returns-clause-line : goal.returns-clause-line
+returns-clause-line c = at_rest_is_line c.in_ok-crews.crews.items c.fired-made.result (invariant_of-result c)

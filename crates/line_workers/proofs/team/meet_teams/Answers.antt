@@ -1,0 +1,15 @@
+use Rattle.std.proofs.Common.{◌≡◌, ◌<◌, length, ap, sym, subst, arith}
+use Rattle.station_step.specs.Station.{WorkStation}
+use Rattle.line_workers.specs.Team.{WorkTeam, IsTeam}
+use Rattle.line_workers.proofs.Stepping.{team-met}
+use Rattle.line_workers.proofs.team.meet_teams.Goals as goal
+
+pub returns-clause-team : goal.returns-clause-team
+returns-clause-team c =
+    let stations = c.to.inside.stations.items in
+    let e = c.meet_at.ensures in
+    let there : c.args.j < length stations = omega (arith, c.requires.to, ap (λ (t : WorkTeam). length t.stations) c.to.view_is) in
+    λ g begun first is.
+    team-met g begun first stations c.to.inside.shelf c.args.j c.index_mut-2.result.now c.meet_at.new.to there c.index_mut-2.ensures.value
+    e.bare (ap (λ (s : WorkStation). s.log) e.to) e.station (e.kept c.to.inside.shelf)
+    (subst (IsTeam g begun first) (sym c.to.view_is) is)

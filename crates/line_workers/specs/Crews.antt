@@ -1,0 +1,103 @@
+-- The crews of one line.
+use Rattle.std.specs.Prelude.{◌≡◌, ℕ, ◌^◌, ◌<◌, ◌≤◌, List, [], drop, length, slice_index_or}
+use Rattle.line_base.specs.declared.event.Parts.{Parts}
+use Rattle.event_graph.specs.Network.{arc_count}
+use Rattle.event_graph.specs.State.{State}
+use Rattle.live_check.specs.Order.{LiveGraph}
+use Rattle.line_workers.specs.Team.{WorkTeam, no_station}
+use Rattle.line_workers.specs.Teams.{team_at, IsJoined, IsMetOn, AreAllMet, HaveBegun}
+use Rattle.line_workers.specs.Crew.{WorkCrew, IsCrew, with_team, teams_of}
+use Rattle.line_workers.specs.Work.{HasBurst, HasBurstAlone, IsAlone, TurnsBelow, TeamsWorked}
+use Rattle.line_workers.specs.Meeting.{AreStill}
+
+-- stands for a crew past the end of a list
+abbrev pub no_crew : WorkCrew
+no_crew = record {
+  live = record { graph = no_station.graph; places = [] };
+  begun = record { logs = []; places = [] };
+  workers = 0;
+  worker = 0;
+  first = 0;
+  team = record { stations = []; shelf = [] };
+  target = 0;
+  order = [];
+  spare = record { logs = []; room = 0 };
+}
+
+-- the crew of worker w
+abbrev pub crew_at : List WorkCrew → ℕ → WorkCrew
+crew_at crews w = slice_index_or crews w no_crew
+
+-- what the line of these crews was made for, and the state with which it began
+abbrev pub live_of : List WorkCrew → LiveGraph
+live_of crews = (crew_at crews 0).live
+
+abbrev pub graph_of : List WorkCrew → Parts
+graph_of crews = (live_of crews).graph
+
+abbrev pub begun_of : List WorkCrew → State
+begun_of crews = (crew_at crews 0).begun
+
+-- all crews of one line, in order: each arc has its queue among them
+pub record AreCrews (crews : List WorkCrew) : Type 0 where
+  pub some : 1 ≤ length crews
+  pub each : (w : ℕ) → w < length crews → IsCrew (crew_at crews w)
+  pub workers : (w : ℕ) → w < length crews → (crew_at crews w).workers ≡ length crews
+  pub numbers : (w : ℕ) → w < length crews → (crew_at crews w).worker ≡ w
+  pub lives : (w : ℕ) → w < length crews → (crew_at crews w).live ≡ live_of crews
+  pub begun : (w : ℕ) → w < length crews → (crew_at crews w).begun ≡ begun_of crews
+  pub joined : (a : ℕ) → a < arc_count (graph_of crews) → IsJoined (graph_of crews) (begun_of crews) (teams_of crews) a
+
+-- the crew is the same but for its team
+pub record IsSameCrew (old new : WorkCrew) : Type 0 where
+  pub crew : IsCrew new
+  pub frame : new ≡ with_team old new.team
+
+-- each crew is the same but for its team
+pub record AreSameCrews (old new : List WorkCrew) : Type 0 where
+  pub count : length new ≡ length old
+  pub each : (w : ℕ) → w < length old → IsSameCrew (crew_at old w) (crew_at new w)
+
+-- what a crew did in a burst
+pub record CrewWorked (old new : WorkCrew) : Type 0 where
+  pub same : IsSameCrew old new
+  pub burst : HasBurst old.target old.team new.team
+  pub alone : (times : ℕ) → IsAlone old times → times ≤ old.target → HasBurstAlone times old new
+
+-- the crew is of the line that was made for this, and may work for a burst
+pub record IsReadyFor (live : LiveGraph) (c : WorkCrew) : Type 0 where
+  pub made_for : live ≡ c.live
+  pub turns : TurnsBelow (2 ^ 38) c.team
+
+-- the queues of the first so many arcs were met
+pub record IsMeeting (live : LiveGraph) (old now : List WorkCrew) (arcs : ℕ) : Type 0 where
+  pub whole : AreCrews now
+  pub live_is : live ≡ live_of now
+  pub same : AreSameCrews old now
+  pub worked : TeamsWorked (teams_of old) (teams_of now)
+  pub still : AreStill live.graph (teams_of old) (teams_of now)
+  pub met : (b : ℕ) → b < arcs → IsMetOn live.graph (teams_of now) b
+
+-- what a new crew is
+pub record IsNewCrew (live : LiveGraph) (begun : State) (workers worker : ℕ) (team : WorkTeam) (c : WorkCrew) : Type 0 where
+  pub crew : IsCrew c
+  pub live_is : c.live ≡ live
+  pub begun_is : c.begun ≡ begun
+  pub workers_are : c.workers ≡ workers
+  pub worker_is : c.worker ≡ worker
+  pub team_is : c.team ≡ team
+
+-- the crews of a line that begins with this state
+pub record AreNewCrews (live : LiveGraph) (begun : State) (workers : ℕ) (crews : List WorkCrew) : Type 0 where
+  pub count : length crews ≡ workers
+  pub whole : AreCrews crews
+  pub live_is : live_of crews ≡ live
+  pub begun_is : begun_of crews ≡ begun
+  pub met : AreAllMet live.graph (teams_of crews)
+  pub new : HaveBegun live.graph begun (teams_of crews)
+
+-- so many of them are made
+pub record AreMakingCrews (live : LiveGraph) (begun : State) (workers : ℕ) (teams left : List WorkTeam) (crews : List WorkCrew) (made : ℕ) : Type 0 where
+  pub count : length crews ≡ made
+  pub left_is : left ≡ drop made teams
+  pub each : (w : ℕ) → w < made → IsNewCrew live begun workers w (team_at teams w) (crew_at crews w)

@@ -1,0 +1,73 @@
+-- What contracts see of a line: what it was made for, the state that it stands for, and counts. Nothing of queues.
+use Rattle.std.specs.Prelude.{◌≡◌, ℕ, ◌+◌, ◌-◌, ◌*◌, ◌<◌, ◌≤◌, List, map, take, length, All}
+use Rattle.std.specs.List.{range_with_len}
+use Rattle.line_base.specs.declared.event.Parts.{Parts}
+use Rattle.event_graph.specs.Network.{stations}
+use Rattle.event_graph.specs.State.{State, log}
+use Rattle.live_check.specs.Order.{LiveGraph, IsRanked}
+use Rattle.line_core.specs.Consistent.{fired}
+use Rattle.line_core.specs.Run.{Run, IsReached}
+use Rattle.line_workers.specs.Team.{WorkTeam}
+use Rattle.line_workers.specs.Teams.{station_of, state_among, AreAllMet}
+use Rattle.line_workers.specs.Crew.{WorkCrew, teams_of}
+use Rattle.line_workers.specs.Work.{turns_of}
+use Rattle.line_workers.specs.Crews.{live_of, graph_of, AreCrews}
+
+-- what contracts see of a `Line`
+pub record WorkLine : Type 0 where
+  pub live : LiveGraph  -- the graph that it was made for, and the places of its stations
+  pub state : State  -- the state that it stands for
+  pub turns : List ℕ  -- how many steps each station has made
+  pub workers : ℕ
+  pub made : ℕ  -- how many firings had been made when the turns began to count
+
+-- the turns of the stations of some teams
+abbrev pub turns_among : Parts → List WorkTeam → List ℕ
+turns_among g teams = map (λ t. turns_of (station_of g teams t)) (range_with_len 0 (stations g))
+
+-- the line of these crews
+abbrev pub line_of : List WorkCrew → ℕ → WorkLine
+line_of crews made = record {
+  live = live_of crews;
+  state = state_among (graph_of crews) (teams_of crews);
+  turns = turns_among (graph_of crews) (teams_of crews);
+  workers = length crews;
+  made = made;
+}
+
+-- the run of a line: its graph and its state
+abbrev pub run_in : WorkLine → Run
+run_in l = record { graph = l.live.graph; state = l.state }
+
+-- how many firings the line has made since its turns began to count
+abbrev pub firings_of : WorkLine → ℕ
+firings_of l = fired l.state - l.made
+
+-- no station has made more than 16 turns for each firing
+abbrev pub KeepsPace : WorkLine → Type 0
+KeepsPace l = (l.made ≤ fired l.state) × All (λ turns. turns ≤ 16 * firings_of l) l.turns
+
+-- the crews of a line at rest: every queue was met
+pub record AreAtRest (crews : List WorkCrew) (made : ℕ) : Type 0 where
+  pub whole : AreCrews crews
+  pub few : length crews ≤ 16
+  pub met : AreAllMet (graph_of crews) (teams_of crews)
+  pub pace : KeepsPace (line_of crews made)
+
+-- what holds of each line: the graph is live, and firings lead to its state
+pub record IsLine (l : WorkLine) : Type 0 where
+  pub ranked : IsRanked l.live
+  pub reached : IsReached (run_in l)
+  pub pace : KeepsPace l
+
+-- each log has the dates that it had, and maybe more behind them
+abbrev pub LogsGrow : Parts → State → State → Type 0
+LogsGrow g old new = (t : ℕ) → t < stations g → take (length (log old t)) (log new t) ≡ log old t
+
+-- a new line of so many workers, which stands for this state
+pub record Stands (live : LiveGraph) (state : State) (workers : ℕ) (l : WorkLine) : Type 0 where
+  pub live_is : l.live ≡ live
+  pub state_is : l.state ≡ state
+  pub workers_are : l.workers ≡ workers
+  pub made_is : l.made ≡ fired state
+  pub no_turns : All (λ turns. turns ≡ 0) l.turns

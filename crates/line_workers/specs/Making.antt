@@ -1,0 +1,179 @@
+-- Making the teams: first a queue for each arc, its two ends laid down by station; then the stations, which take them.
+use Rattle.std.specs.Prelude.{◌≡◌, ◌≢◌, ℕ, ◌+◌, ◌-◌, ◌<◌, ◌≤◌, ◌==◌, List, [], ◌∷◌, ◌++◌, Some, map, length, filter, slice_index_or, slice_set}
+use Rattle.std.specs.List.{range_with_len}
+use Rattle.line_base.specs.declared.event.Parts.{Parts}
+use Rattle.card_queue.specs.Plain.{PlainQueue}
+use Rattle.card_queue.specs.Put.{PutEnd}
+use Rattle.card_queue.specs.Take.{TakeEnd}
+use Rattle.card_queue.specs.Queue.{IsQueue}
+use Rattle.event_graph.specs.Network.{stations, jobs, arc, ins, outs}
+use Rattle.event_graph.specs.State.{State, log, place}
+use Rattle.station_step.specs.declared.ends.Inlet.{Inlet}
+use Rattle.station_step.specs.declared.ends.Outlet.{Outlet}
+use Rattle.station_step.specs.declared.ends.Inlet.TheVariants as inlet
+use Rattle.station_step.specs.declared.ends.Outlet.TheVariants as outlet
+use Rattle.station_step.specs.Shelf.{queue_at}
+use Rattle.station_step.specs.Ends.{outlet_queue, IsUntaken, IsUnfilled, HasRingRoom}
+use Rattle.station_step.specs.Input.{empty_handed}
+use Rattle.station_step.specs.Station.{WorkStation, IsStation, outlet_at}
+use Rattle.station_step.specs.Kept.{IsFresh, IsKept}
+use Rattle.line_workers.specs.Share.{worker_of, first_of}
+use Rattle.line_workers.specs.Team.{WorkTeam, member}
+use Rattle.line_workers.specs.Teams.{team_at}
+
+-- ---- the queue of an arc
+
+-- how many tokens may be put on arc a: one for each date that the station where it starts has left to make
+abbrev pub room_on : Parts → State → ℕ → ℕ
+room_on g begun a = jobs g - length (log begun (arc g a).from)
+
+-- a queue that begins with the tokens on arc a
+abbrev pub new_queue : Parts → State → ℕ → PlainQueue
+new_queue g begun a = record { initial = place begun a; added = []; room = room_on g begun a; takes = 0 }
+
+-- the ends of a ring that begins with the tokens on arc a
+pub record IsNewRing (g : Parts) (begun : State) (a : ℕ) (put : PutEnd) (take : TakeEnd) : Type 0 where
+  pub ends : IsQueue put take
+  pub initial : put.initial ≡ place begun a
+  pub added : put.added ≡ []
+  pub room : put.room ≡ room_on g begun a
+  pub taken : take.taken ≡ []
+  pub known : take.known ≡ place begun a
+
+-- a queue on the shelf, with the same number at both ends
+pub record IsNewPlain (g : Parts) (begun : State) (shelf : List PlainQueue) (a q r : ℕ) : Type 0 where
+  pub same : r ≡ q
+  pub there : q < length shelf
+  pub queue : queue_at shelf q ≡ new_queue g begun a
+
+abbrev pub HasRing : Parts → State → ℕ → Outlet → Inlet → Type 0
+HasRing g begun a (outlet.Ring put) (inlet.Ring take) = IsNewRing g begun a put take
+HasRing g begun a _ _ = ⊥
+
+abbrev pub HasPlain : Parts → State → List PlainQueue → ℕ → Outlet → Inlet → Type 0
+HasPlain g begun shelf a (outlet.Local q) (inlet.Local r) = IsNewPlain g begun shelf a q r
+HasPlain g begun shelf a _ _ = ⊥
+
+-- ---- the ends by station
+
+-- for each station its outlets and its inlets, in the order of the arcs, and for each worker the queues of its shelf
+pub record QueueEnds : Type 0 where
+  pub outlets : List (List Outlet)
+  pub inlets : List (List Inlet)
+  pub shelves : List (List PlainQueue)
+
+abbrev pub outlets_at : QueueEnds → ℕ → List Outlet
+outlets_at ends t = slice_index_or ends.outlets t []
+
+abbrev pub inlets_at : QueueEnds → ℕ → List Inlet
+inlets_at ends t = slice_index_or ends.inlets t []
+
+abbrev pub shelf_at : QueueEnds → ℕ → List PlainQueue
+shelf_at ends w = slice_index_or ends.shelves w []
+
+module _ {X : Type 0} where
+  -- the lists with one more element at the end of list k
+  abbrev pub with_one : List (List X) → ℕ → X → List (List X)
+  with_one lists k x = slice_set lists k (slice_index_or lists k [] ++ x ∷ [])
+
+-- the ends with those of one more arc
+abbrev pub with_ends : QueueEnds → ℕ → ℕ → Outlet → Inlet → QueueEnds
+with_ends ends from to out into = record ends { outlets = with_one ends.outlets from out; inlets = with_one ends.inlets to into }
+
+-- of the first n arcs, those into station t, and those out of it
+unfoldable pub first_ins : Parts → ℕ → ℕ → List ℕ
+first_ins g n t = filter (λ a. (arc g a).to == t) (range_with_len 0 n)
+
+unfoldable pub first_outs : Parts → ℕ → ℕ → List ℕ
+first_outs g n t = filter (λ a. (arc g a).from == t) (range_with_len 0 n)
+
+-- the ends of arc a: as many arcs come before it at its station as stand before it there
+abbrev pub outlet_of : Parts → QueueEnds → ℕ → Outlet
+outlet_of g ends a = outlet_at (outlets_at ends (arc g a).from) (length (first_outs g a (arc g a).from))
+
+abbrev pub inlet_of : Parts → QueueEnds → ℕ → Inlet
+inlet_of g ends a = slice_index_or (inlets_at ends (arc g a).to) (length (first_ins g a (arc g a).to)) (inlet.Local 0)
+
+-- the workers that have the stations where arc a starts and where it ends
+abbrev pub putter : Parts → ℕ → ℕ → ℕ
+putter g workers a = worker_of workers (stations g) (arc g a).from
+
+abbrev pub taker : Parts → ℕ → ℕ → ℕ
+taker g workers a = worker_of workers (stations g) (arc g a).to
+
+-- arc a has its ends: those of a ring between two workers, else of a queue on the worker's shelf
+pub record HasEnds (g : Parts) (begun : State) (workers : ℕ) (ends : QueueEnds) (a : ℕ) : Type 0 where
+  pub ring : putter g workers a ≢ taker g workers a → HasRing g begun a (outlet_of g ends a) (inlet_of g ends a)
+  pub shelf : putter g workers a ≡ taker g workers a →
+      HasPlain g begun (shelf_at ends (putter g workers a)) a (outlet_of g ends a) (inlet_of g ends a)
+
+-- the first n arcs have their ends, and no two of them a queue of one shelf
+pub record AreLaid (g : Parts) (begun : State) (workers : ℕ) (ends : QueueEnds) (n : ℕ) : Type 0 where
+  pub outlet_lists : length ends.outlets ≡ stations g
+  pub inlet_lists : length ends.inlets ≡ stations g
+  pub shelves : length ends.shelves ≡ workers
+  pub outlets : (t : ℕ) → t < stations g → length (outlets_at ends t) ≡ length (first_outs g n t)
+  pub inlets : (t : ℕ) → t < stations g → length (inlets_at ends t) ≡ length (first_ins g n t)
+  pub queues : (w : ℕ) → length (shelf_at ends w) ≤ n
+  pub each : (a : ℕ) → a < n → HasEnds g begun workers ends a
+  pub apart : (a b q : ℕ) → a < n → b < n → putter g workers a ≡ putter g workers b →
+      outlet_queue (outlet_of g ends a) ≡ Some q → outlet_queue (outlet_of g ends b) ≡ Some q → a ≡ b
+
+-- ---- the stations, which take the ends
+
+-- the ends without those of station t
+abbrev pub without : QueueEnds → ℕ → QueueEnds
+without ends t = record ends { outlets = slice_set ends.outlets t []; inlets = slice_set ends.inlets t [] }
+
+-- these are new ends for the arcs of station t, with room for the dates that it has left to make
+pub record AreFit (g : Parts) (begun : State) (t : ℕ) (outlets : List Outlet) (inlets : List Inlet) : Type 0 where
+  pub an_outlet_each : length outlets ≡ length (outs g t)
+  pub an_inlet_each : length inlets ≡ length (ins g t)
+  pub room : (k : ℕ) → k < length outlets → HasRingRoom (jobs g - length (log begun t)) (outlet_at outlets k)
+  pub unfilled : (k : ℕ) → k < length outlets → IsUnfilled (outlet_at outlets k)
+  pub untaken : (k : ℕ) → k < length inlets → IsUntaken (slice_index_or inlets k (inlet.Local 0))
+
+-- station t with these ends, which goes on from its log
+pub record IsNewStation (g : Parts) (begun : State) (t : ℕ) (out : List Outlet) (into : List Inlet) (s : WorkStation) : Type 0 where
+  pub graph : s.graph ≡ g
+  pub number : s.number ≡ t
+  pub inputs : s.inputs ≡ map empty_handed into
+  pub outlets : s.outlets ≡ out
+  pub dates : s.log.dates ≡ log begun t
+  pub made : s.made ≡ length (log begun t)
+  pub turns : s.turns ≡ 0
+  pub station : IsStation s
+  pub kept : (shelf : List PlainQueue) → IsFresh shelf s → IsKept shelf s
+
+-- the ends that have not been taken from station t on, and the shelves from worker w on
+pub record SameStationsFrom (t : ℕ) (old new : QueueEnds) : Type 0 where
+  pub outlet_lists : length new.outlets ≡ length old.outlets
+  pub inlet_lists : length new.inlets ≡ length old.inlets
+  pub outlets : (u : ℕ) → t ≤ u → outlets_at new u ≡ outlets_at old u
+  pub inlets : (u : ℕ) → t ≤ u → inlets_at new u ≡ inlets_at old u
+
+pub record SameShelvesFrom (w : ℕ) (old new : QueueEnds) : Type 0 where
+  pub count : length new.shelves ≡ length old.shelves
+  pub shelves : (v : ℕ) → w ≤ v → shelf_at new v ≡ shelf_at old v
+
+-- these are the stations from the first on, with the ends that were laid for them
+pub record AreNewStations (g : Parts) (begun : State) (first : ℕ) (ends : QueueEnds) (made : List WorkStation) : Type 0 where
+  pub each : (i : ℕ) → i < length made →
+      IsNewStation g begun (first + i) (outlets_at ends (first + i)) (inlets_at ends (first + i)) (member made i)
+
+-- worker w's stations, and its shelf
+pub record IsNewTeam (g : Parts) (begun : State) (workers : ℕ) (ends : QueueEnds) (w : ℕ) (team : WorkTeam) : Type 0 where
+  pub size : first_of workers (stations g) w + length team.stations ≡ first_of workers (stations g) (w + 1)
+  pub stations : AreNewStations g begun (first_of workers (stations g) w) ends team.stations
+  pub shelf : team.shelf ≡ shelf_at ends w
+
+-- from station t on every station has its ends still
+pub record AreFitFrom (g : Parts) (begun : State) (t : ℕ) (ends : QueueEnds) : Type 0 where
+  pub outlet_lists : length ends.outlets ≡ stations g
+  pub inlet_lists : length ends.inlets ≡ stations g
+  pub each : (u : ℕ) → t ≤ u → u < stations g → AreFit g begun u (outlets_at ends u) (inlets_at ends u)
+
+-- a team for each worker
+abbrev pub AreNewTeams : Parts → State → ℕ → QueueEnds → List WorkTeam → Type 0
+AreNewTeams g begun workers ends teams =
+    (w : ℕ) → w < length teams → IsNewTeam g begun workers ends w (team_at teams w)

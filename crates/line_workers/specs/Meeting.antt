@@ -1,0 +1,31 @@
+-- What a meeting on one thread does: it makes known what was put, and changes nothing else.
+use Rattle.std.specs.Prelude.{◌≡◌, ◌≢◌, ℕ, ◌<◌, List, length, slice_set}
+use Rattle.line_base.specs.declared.event.Parts.{Parts}
+use Rattle.event_graph.specs.Network.{stations, arc_count}
+use Rattle.station_step.specs.declared.ends.Outlet.{Outlet}
+use Rattle.station_step.specs.Ends.{AreMet, unseen_inlet}
+use Rattle.station_step.specs.Input.{input_at}
+use Rattle.station_step.specs.Station.{WorkStation, IsStation, bare_station, with_inlet}
+use Rattle.line_workers.specs.Team.{WorkTeam, member}
+use Rattle.line_workers.specs.Teams.{station_of, IsMetOn}
+use Rattle.line_workers.specs.Work.{TeamsWorked, turns_of}
+
+-- input l of station j met this outlet
+pub record MetAt (outlet : Outlet) (j l : ℕ) (old new : WorkTeam) : Type 0 where
+  pub only : new ≡ record { stations = slice_set old.stations j (member new.stations j); shelf = old.shelf }
+  pub inlet : member new.stations j ≡ with_inlet (member old.stations j) l (input_at (member new.stations j).inputs l).inlet
+  pub unseen : unseen_inlet (input_at (member new.stations j).inputs l).inlet ≡ unseen_inlet (input_at (member old.stations j).inputs l).inlet
+  pub bare : bare_station (member new.stations j) ≡ bare_station (member old.stations j)
+  pub met : AreMet outlet (input_at (member new.stations j).inputs l).inlet
+
+-- no station made a date or a turn
+pub record AreStill (g : Parts) (old new : List WorkTeam) : Type 0 where
+  pub logs : (t : ℕ) → t < stations g → (station_of g new t).log ≡ (station_of g old t).log
+  pub turns : (t : ℕ) → t < stations g → turns_of (station_of g new t) ≡ turns_of (station_of g old t)
+
+-- the queue of arc a was met, and each that was met stays so
+pub record MeetsOn (g : Parts) (old new : List WorkTeam) (a : ℕ) : Type 0 where
+  pub worked : TeamsWorked old new
+  pub still : AreStill g old new
+  pub met : IsMetOn g new a
+  pub others : (b : ℕ) → b < arc_count g → b ≢ a → IsMetOn g old b → IsMetOn g new b

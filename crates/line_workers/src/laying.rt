@@ -1,0 +1,253 @@
+ghost use Rattle.std.specs.Prelude.{◌≡◌, ◌≢◌, ◌+◌, ◌<◌, ◌≤◌, ◌^◌, [], map, length, replicate, IfOk, OnOk, slice_set};
+ghost use Rattle.card_queue.specs.Plain.{PlainQueue};
+ghost use Rattle.event_graph.specs.Network.{stations, jobs, arc_count, IsGraph};
+ghost use Rattle.event_graph.specs.State.{place};
+ghost use Rattle.line_workers.specs.Making.{room_on, new_queue, HasRing, QueueEnds, outlets_at, inlets_at, shelf_at, with_one, with_ends, without, putter, taker, AreLaid};
+
+use crate::owner::worker_of;
+use card_queue::{Plain, queue};
+use line_base::Date;
+use line_core::State;
+use live_check::Live;
+use station_step::{Inlet, Outlet};
+use std::alloc::{AllocError, Global};
+use std::marker::Model;
+use std::mem;
+
+/// The ends of the queues of the arcs: for each station its outlets and its inlets, in the order of the arcs, and for
+/// each worker the queues of its shelf.
+#[derive(Drop)]
+pub(crate) struct Ends {
+    outlets: Vec<Vec<Outlet>>,
+    inlets: Vec<Vec<Inlet>>,
+    shelves: Vec<Vec<Plain>>,
+}
+
+impl Model for Ends {
+    ghost use Rattle.std.specs.Prelude.{map};
+    ghost use Rattle.line_workers.specs.Making.{QueueEnds};
+
+    ghost Value = { QueueEnds };
+
+    ghost view = { λ e. record {
+      outlets = map (λ l. l.items) e.outlets.items;
+      inlets = map (λ l. l.items) e.inlets.items;
+      shelves = map (λ l. l.items) e.shelves.items;
+    } };
+}
+
+/// The tokens on arc `a`, from the front to the back.
+fn tokens_on(alloc: Global, live: &Live, state: &State, a: u32) -> Result<Vec<Date>, AllocError>
+    requires made_for { live.now.graph ≡ state.now.graph }
+    requires arc { a < arc_count live.now.graph }
+    ensures tokens { IfOk result (λ tokens. tokens.items ≡ place state.now.state a) }
+    ensures few { length (place state.now.state a) + jobs live.now.graph < 2 ^ 32 }
+{
+    state.place(live, a).collect(alloc)
+}
+
+/// How many tokens may be put on arc `a`.
+fn room_on(live: &Live, state: &State, a: u32) -> u32
+    requires made_for { live.now.graph ≡ state.now.graph }
+    requires arc { a < arc_count live.now.graph }
+    ensures { result ≡ room_on live.now.graph state.now.state a }
+{
+    let graph = live.graph();
+    let arc = graph.arcs()[a as usize];
+    graph.jobs() - state.log(arc.from).len() as u32
+}
+
+/// A ring for arc `a`.
+fn new_ring(
+    alloc: Global,
+    live: &Live,
+    state: &State,
+    a: u32,
+) -> Result<(Outlet, Inlet), AllocError>
+    requires made_for { live.now.graph ≡ state.now.graph }
+    requires arc { a < arc_count live.now.graph }
+    ensures { IfOk result (λ ends. HasRing live.now.graph state.now.state a ends.0 ends.1) }
+{
+    let tokens = tokens_on(alloc, live, state, a)?;
+    let (put, take) = queue(alloc, &tokens, room_on(live, state, a))?;
+    Ok((Outlet::Ring(put), Inlet::Ring(take)))
+}
+
+/// A queue inside one worker for arc `a`.
+fn new_plain(alloc: Global, live: &Live, state: &State, a: u32) -> Result<Plain, AllocError>
+    requires made_for { live.now.graph ≡ state.now.graph }
+    requires arc { a < arc_count live.now.graph }
+    ensures { IfOk result (λ plain. plain ≡ new_queue live.now.graph state.now.state a) }
+{
+    let tokens = tokens_on(alloc, live, state, a)?;
+    Plain::new(alloc, &tokens, room_on(live, state, a))
+}
+
+/// So many empty lists.
+fn empty_lists<T: Drop>(alloc: Global, count: u32) -> Result<Vec<Vec<T>>, AllocError>
+    ensures { IfOk result (λ lists. map (λ l. l.items) lists.items ≡ replicate count []) }
+{
+    let mut lists = Vec::with_capacity(alloc, count as usize)?;
+    for _ in 0..count {
+        lists.push(Vec::new(alloc))?;
+    }
+    Ok(lists)
+}
+
+impl Ends {
+    /// No ends yet.
+    fn none(alloc: Global, stations: u32, workers: u32) -> Result<Ends, AllocError>
+        ensures outlets { IfOk result (λ ends. ends.outlets ≡ replicate stations []) }
+        ensures inlets { IfOk result (λ ends. ends.inlets ≡ replicate stations []) }
+        ensures shelves { IfOk result (λ ends. ends.shelves ≡ replicate workers []) }
+    {
+        Ok(Ends {
+            outlets: empty_lists(alloc, stations)?,
+            inlets: empty_lists(alloc, stations)?,
+            shelves: empty_lists(alloc, workers)?,
+        })
+    }
+
+    /// Lays down the ends of an arc between two stations.
+    fn lay(&mut self, from: u32, to: u32, outlet: Outlet, inlet: Inlet) -> Result<(), AllocError>
+        requires from { from < length self.old.outlets }
+        requires to { to < length self.old.inlets }
+        ensures { OnOk result (self.new ≡ with_ends self.old from to outlet inlet) }
+    {
+        self.outlets[from as usize].push(outlet)?;
+        self.inlets[to as usize].push(inlet)?;
+        Ok(())
+    }
+
+    /// Lays a queue on a worker's shelf, and tells its number there.
+    fn shelve(&mut self, worker: u32, plain: Plain) -> Result<u32, AllocError>
+        requires worker { worker < length self.old.shelves }
+        requires few { length (shelf_at self.old worker) < 2 ^ 32 }
+        ensures number { IfOk result (λ q. q ≡ length (shelf_at self.old worker)) }
+        ensures shelved { OnOk result (self.new ≡ record self.old { shelves = with_one self.old.shelves worker plain }) }
+    {
+        let number = self.shelves[worker as usize].len() as u32;
+        self.shelves[worker as usize].push(plain)?;
+        Ok(number)
+    }
+
+    /// Makes the queue of arc `a`, both of whose stations this worker has.
+    fn join_within(
+        &mut self,
+        alloc: Global,
+        live: &Live,
+        state: &State,
+        workers: u32,
+        a: u32,
+        worker: u32,
+    ) -> Result<(), AllocError>
+        requires made_for { live.now.graph ≡ state.now.graph }
+        requires arc { a < arc_count live.now.graph }
+        requires worker { worker < workers }
+        requires puts { putter live.now.graph workers a ≡ worker }
+        requires takes { taker live.now.graph workers a ≡ worker }
+        requires laid { AreLaid live.now.graph state.now.state workers self.old a }
+        ensures { OnOk result (AreLaid live.now.graph state.now.state workers self.new (a + 1)) }
+    {
+        let arc = live.graph().arcs()[a as usize];
+        let number = self.shelve(worker, new_plain(alloc, live, state, a)?)?;
+        self.lay(
+            arc.from,
+            arc.to,
+            Outlet::Local(number),
+            Inlet::Local(number),
+        )
+    }
+
+    /// Makes the ring of arc `a`, whose stations two workers have.
+    fn join_between(
+        &mut self,
+        alloc: Global,
+        live: &Live,
+        state: &State,
+        workers: u32,
+        a: u32,
+    ) -> Result<(), AllocError>
+        requires made_for { live.now.graph ≡ state.now.graph }
+        requires arc { a < arc_count live.now.graph }
+        requires two { putter live.now.graph workers a ≢ taker live.now.graph workers a }
+        requires laid { AreLaid live.now.graph state.now.state workers self.old a }
+        ensures { OnOk result (AreLaid live.now.graph state.now.state workers self.new (a + 1)) }
+    {
+        let arc = live.graph().arcs()[a as usize];
+        let (outlet, inlet) = new_ring(alloc, live, state, a)?;
+        self.lay(arc.from, arc.to, outlet, inlet)
+    }
+
+    /// Makes the queue of arc `a`, the next one.
+    fn join(
+        &mut self,
+        alloc: Global,
+        live: &Live,
+        state: &State,
+        workers: u32,
+        a: u32,
+    ) -> Result<(), AllocError>
+        requires made_for { live.now.graph ≡ state.now.graph }
+        requires some { 1 ≤ workers }
+        requires workers { workers ≤ 16 }
+        requires arc { a < arc_count live.now.graph }
+        requires laid { AreLaid live.now.graph state.now.state workers self.old a }
+        ensures { OnOk result (AreLaid live.now.graph state.now.state workers self.new (a + 1)) }
+    {
+        let graph = live.graph();
+        let stations = graph.stations();
+        let arc = graph.arcs()[a as usize];
+        let putter = worker_of(workers, stations, arc.from);
+        let taker = worker_of(workers, stations, arc.to);
+        if putter == taker {
+            self.join_within(alloc, live, state, workers, a, putter)
+        } else {
+            self.join_between(alloc, live, state, workers, a)
+        }
+    }
+
+    /// The ends of the queues of all arcs.
+    pub(crate) fn of(
+        alloc: Global,
+        live: &Live,
+        state: &State,
+        workers: u32,
+    ) -> Result<Ends, AllocError>
+        requires made_for { live.now.graph ≡ state.now.graph }
+        requires some { 1 ≤ workers }
+        requires workers { workers ≤ 16 }
+        ensures laid { IfOk result (λ ends. AreLaid live.now.graph state.now.state workers ends (arc_count live.now.graph)) }
+        ensures sound { OnOk result (IsGraph live.now.graph) }
+        ensures some_station { OnOk result (1 ≤ stations live.now.graph) }
+    {
+        let graph = live.graph();
+        let mut ends = Ends::none(alloc, graph.stations(), workers)?;
+        for a in 0..graph.arcs().len() as u32 {
+            ends.join(alloc, live, state, workers, a)?;
+        }
+        Ok(ends)
+    }
+
+    /// Takes the ends of station `t`. It takes no memory.
+    pub(crate) fn take_station(&mut self, alloc: Global, t: u32) -> (Vec<Outlet>, Vec<Inlet>)
+        requires outlets { t < length self.old.outlets }
+        requires inlets { t < length self.old.inlets }
+        ensures outlets { result.0.items ≡ outlets_at self.old t }
+        ensures inlets { result.1.items ≡ inlets_at self.old t }
+        ensures rest { self.new ≡ without self.old t }
+    {
+        let outlets = mem::replace(&mut self.outlets[t as usize], Vec::new(alloc));
+        let inlets = mem::replace(&mut self.inlets[t as usize], Vec::new(alloc));
+        (outlets, inlets)
+    }
+
+    /// Takes the queues of a worker's shelf. It takes no memory.
+    pub(crate) fn take_shelf(&mut self, alloc: Global, worker: u32) -> Vec<Plain>
+        requires { worker < length self.old.shelves }
+        ensures queues { result.items ≡ shelf_at self.old worker }
+        ensures rest { self.new ≡ record self.old { shelves = slice_set self.old.shelves worker [] } }
+    {
+        mem::replace(&mut self.shelves[worker as usize], Vec::new(alloc))
+    }
+}

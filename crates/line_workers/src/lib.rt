@@ -1,0 +1,21 @@
+//! An event graph that several workers run at once.
+#![tactic(auto)]
+
+ghost use Rattle.line_workers.specs.Teams.{AreTeams, AreAllMet, HaveBegun};
+
+mod counts;
+mod crew;
+mod crews;
+mod gate;
+mod laws;
+mod laying;
+mod line;
+mod making;
+mod order;
+mod owner;
+mod team;
+
+pub use crew::Crew;
+pub use gate::{FreeGate, Gate};
+pub use laws::logs_that_grow_from_a_state_are_reached;
+pub use line::{Burst, Line};

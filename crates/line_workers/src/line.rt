@@ -1,0 +1,136 @@
+ghost use Rattle.std.specs.Prelude.{◌≡◌, ◌+◌, ◌*◌, ◌<◌, ◌≤◌, ◌↔◌, ℕ, length, sum, min, IsTrue, IfOk, IfErr};
+ghost use Rattle.event_graph.specs.Network.{stations, jobs};
+ghost use Rattle.event_graph.specs.State.{log, start};
+ghost use Rattle.event_graph.specs.Firing.{CanFire};
+ghost use Rattle.line_core.specs.Consistent.{IsFinished, fired};
+ghost use Rattle.line_core.specs.Round.{HasFired};
+ghost use Rattle.line_workers.specs.Line.{IsLine, Stands, LogsGrow, run_in};
+
+use crate::crew::Crew;
+use crate::crews::{all_done, burst_of, crews_of, dates_of};
+use crate::gate::Gate;
+use line_core::State;
+use live_check::Live;
+use std::alloc::{AllocError, Global};
+use std::marker::Model;
+use std::thread::Threads;
+
+/// An event graph that several workers run at once, burst by burst. Between two bursts it stands for a state of the graph
+/// that firings reach: the log of each station, and on each arc the token in the hand that the arc fills, then the tokens
+/// that were put into its queue and not taken.
+///
+/// Each call that takes a `Live` takes the one that the line was made for.
+#[derive(Drop)]
+pub struct Line {
+    crews: Vec<Crew>,
+    // How many firings had been made when the turns of the stations began to count. Contracts alone read it.
+    made: u64,
+}
+
+impl Model for Line {
+    ghost use Rattle.line_workers.specs.Line.{WorkLine, line_of, AreAtRest};
+
+    ghost Value = { WorkLine };
+
+    ghost view = { λ l. line_of l.crews.items l.made };
+
+    ghost invariant = { λ l. AreAtRest l.crews.items l.made };
+}
+
+/// What came of a burst.
+#[derive(Clone, Copy, Debug, PartialEq, Eq)]
+pub struct Burst {
+    /// How many firings were made.
+    pub fired: u64,
+    /// How many steps were made.
+    pub steps: u64,
+}
+
+impl Line {
+    /// The line that goes on from a state.
+    fn of(alloc: Global, live: &Live, state: &State, workers: u32) -> Result<Line, AllocError>
+        requires made_for { live.now.graph ≡ state.now.graph }
+        requires some { 1 ≤ workers }
+        requires few { workers ≤ 16 }
+        ensures line { IfOk result IsLine }
+        ensures stands { IfOk result (Stands live.now state.now.state workers) }
+    {
+        let made = state.fired();
+        let crews = crews_of(alloc, live, state, workers)?;
+        Ok(Line { crews, made })
+    }
+
+    /// The line at the start: no station has fired. Station `t` belongs to worker `t * workers / stations`, rounded down.
+    /// It takes all memory of the run, and fails only for want of it.
+    pub fn prepare(alloc: Global, live: &Live, workers: u32) -> Result<Line, AllocError>
+        requires some { 1 ≤ workers }
+        requires few { workers ≤ 16 }
+        ensures line { IfOk result IsLine }
+        ensures stands { IfOk result (Stands live.now (start live.now.graph) workers) }
+    {
+        let state = State::start(alloc, live)?;
+        Line::of(alloc, live, &state, workers)
+    }
+
+    /// The line that goes on from a state, of which it keeps copies. Where memory runs out, the state is handed back
+    /// unchanged.
+    pub fn from_state(alloc: Global, live: &Live, state: State, workers: u32) -> Result<Line, State>
+        requires made_for { live.now.graph ≡ state.graph }
+        requires some { 1 ≤ workers }
+        requires few { workers ≤ 16 }
+        ensures line { IfOk result IsLine }
+        ensures stands { IfOk result (Stands live.now state.state workers) }
+        ensures handed_back { IfErr result (λ back. back ≡ state) }
+    {
+        match Line::of(alloc, live, &state, workers) {
+            Ok(line) => Ok(line),
+            Err(_) => Err(state),
+        }
+    }
+
+    /// How many firings made the state that the line stands for.
+    pub fn fired(&self) -> u64
+        ensures fired { result ≡ fired self.now.state }
+        ensures line { IsLine self.now }
+    {
+        dates_of(&self.crews)
+    }
+
+    /// Whether every station has fired once for each job.
+    pub fn finished(&self) -> bool
+        ensures finished { IsTrue result ↔ IsFinished self.now.live.graph self.now.state }
+        ensures line { IsLine self.now }
+    {
+        all_done(&self.crews)
+    }
+
+    /// Lets each worker go over its stations 16 times, or fewer where all of them are done before, each worker on a thread
+    /// of its own, and then lets the ends of every queue meet on this thread. One worker works on this thread. It takes no
+    /// memory and waits for no lock.
+    ///
+    /// Whatever the threads do meanwhile, the line stands for a state that firings reach. `fired` and `steps` are 0 exactly
+    /// where every station had fired once for each job.
+    pub fn burst<R: Threads + Sync, G: Gate>(&mut self, rt: &R, live: &Live, gate: &G) -> Burst
+        requires made_for { live.now ≡ self.old.live }
+
+        // The line stands for a reached state of its graph; dates come at the ends of logs.
+        ensures line { IsLine self.new }
+        ensures frame { self.new ≡ record self.old { state = self.new.state; turns = self.new.turns } }
+        ensures logs { LogsGrow self.old.live.graph self.old.state self.new.state }
+
+        // How many firings and steps were made, and which at least.
+        ensures fired { fired self.new.state ≡ fired self.old.state + result.fired }
+        ensures steps { sum self.new.turns ≡ sum self.old.turns + result.steps }
+        ensures at_most { result.fired ≤ result.steps }
+        ensures few { result.steps ≤ 16 * stations self.old.live.graph }
+        ensures ready { (t : ℕ) → CanFire self.old.live.graph self.old.state t → length (log self.old.state t) < length (log self.new.state t) }
+        ensures idle { (result.fired ≡ 0) ↔ IsFinished self.old.live.graph self.old.state }
+        ensures rest { IsFinished self.old.live.graph self.old.state → result.steps ≡ 0 }
+
+        // One worker, where all stations have fired as often, fires each of them with every step.
+        ensures alone { (times : ℕ) → self.old.workers ≡ 1 → HasFired (run_in self.old) times → HasFired (run_in self.new) (min (times + 16) (jobs self.old.live.graph)) }
+        ensures alone_steps { (times : ℕ) → self.old.workers ≡ 1 → HasFired (run_in self.old) times → result.steps ≡ result.fired }
+    {
+        burst_of(rt, &mut self.crews, live, gate)
+    }
+}

@@ -1,0 +1,46 @@
+ghost use Rattle.std.specs.Prelude.{◌≡◌, ℕ, ◌<◌, length};
+ghost use Rattle.line_base.specs.declared.event.Parts.{Parts};
+ghost use Rattle.event_graph.specs.State.{State};
+ghost use Rattle.station_step.specs.Ends.{AreEnds};
+ghost use Rattle.station_step.specs.Input.{input_at};
+ghost use Rattle.station_step.specs.Station.{outlet_at};
+ghost use Rattle.line_workers.specs.Team.{member, IsTeam};
+ghost use Rattle.line_workers.specs.Meeting.{MetAt};
+
+use station_step::{Shelf, Station, meet_at};
+use std::marker::Model;
+
+/// The stations of one worker, and the shelf with the queues between them.
+#[derive(Drop)]
+pub(crate) struct Team {
+    pub(crate) stations: Vec<Station>,
+    pub(crate) shelf: Shelf,
+}
+
+impl Model for Team {
+    ghost use Rattle.line_workers.specs.Team.{WorkTeam};
+
+    ghost Value = { WorkTeam };
+
+    ghost view = { λ t. record { stations = t.stations.items; shelf = t.shelf } };
+}
+
+/// Brings the two ends of a ring together: output `k` of station `i` of a team, and input `l` of station `j` of another. All
+/// that was put and not taken is then known there.
+pub(crate) fn meet_teams(from: &mut Team, i: u32, k: u32, to: &mut Team, j: u32, l: u32)
+    requires from { i < length from.old.stations }
+    requires output { k < length (member from.old.stations i).outlets }
+    requires to { j < length to.old.stations }
+    requires input { l < length (member to.old.stations j).inputs }
+    requires ends { AreEnds (outlet_at (member from.old.stations i).outlets k) (input_at (member to.old.stations j).inputs l).inlet }
+    ensures from { from.new ≡ from.old }
+    ensures met { MetAt (outlet_at (member from.old.stations i).outlets k) j l to.old to.new }
+    ensures team { (g : Parts) (begun : State) (first : ℕ) → IsTeam g begun first to.old → IsTeam g begun first to.new }
+{
+    meet_at(
+        &mut from.stations[i as usize],
+        k,
+        &mut to.stations[j as usize],
+        l,
+    );
+}

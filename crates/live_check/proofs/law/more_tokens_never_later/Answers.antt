@@ -1,5 +1,0 @@
-use Rattle.live_check.proofs.NeverLater.{never_later}
-use Rattle.live_check.proofs.law.more_tokens_never_later.Goals as goal
-
-pub returns : goal.returns
-returns c = never_later

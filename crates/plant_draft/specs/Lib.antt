@@ -1,0 +1,4 @@
+pub mod Code
+pub mod Columns
+pub mod Draft
+pub mod Reading

@@ -1,0 +1,62 @@
+ghost use Rattle.std.specs.Prelude.{◌≡◌, ◌≢◌, Some, None, MatchResult};
+ghost use Rattle.plant_model.specs.declared.error.PlantError.TheVariants.{NoMemory, NotToml};
+ghost use Rattle.toml.specs.View.{view};
+ghost use Rattle.plant_draft.specs.Draft.{IsSoundDraft};
+ghost use Rattle.plant_draft.specs.Code.{Builds};
+ghost use Rattle.plant_draft.specs.Reading.{AnswersReading, tree_of, tree_reading, reading};
+
+use crate::build::plant_of;
+use crate::columns::columns_of;
+use crate::draft::{Draft, DraftPlant};
+use crate::feeds::check_flow;
+use plant_model::PlantError;
+use plant_tree::{Class, check_tree, names_of_stages};
+use std::alloc::Global;
+use toml::Value;
+
+/// Reads the bytes of a plant file. The answer is what the file says, or the first of the refusals 1 to 9 of
+/// `PlantError`, each class tried over the whole file before the next. Want of memory may come before any of them.
+#[tactic(auto, unfolding(crate::specs::Reading::reading))]
+pub fn read_plant(alloc: Global, bytes: &[u8]) -> Result<Draft, PlantError>
+    ensures { AnswersReading result (reading bytes.now) }
+{
+    let top = tree_of(alloc, bytes)?;
+    read_tree(alloc, &top)
+}
+
+/// The tree of TOML that bytes are.
+fn tree_of(alloc: Global, bytes: &[u8]) -> Result<Value, PlantError>
+    ensures { MatchResult result (λ top. tree_of bytes.now ≡ Some (view top))
+        (λ e. e ≢ NoMemory → (tree_of bytes.now ≡ None) × (e ≡ NotToml)) }
+{
+    match toml::table_from_slice(alloc, bytes) {
+        Ok(top) => Ok(Value::Table(top)),
+        Err(error) if error.is_memory() => Err(PlantError::NoMemory),
+        Err(_) => Err(PlantError::NotToml),
+    }
+}
+
+/// Reads a tree as a plant file.
+#[tactic(auto, unfolding(crate::specs::Reading::tree_refusals))]
+fn read_tree(alloc: Global, top: &Value) -> Result<Draft, PlantError>
+    ensures { AnswersReading result (tree_reading (view top.now)) }
+{
+    check_tree(alloc, Class::UnknownKeys, top)?;
+    check_tree(alloc, Class::MissingKeys, top)?;
+    check_tree(alloc, Class::WrongTypes, top)?;
+    check_tree(alloc, Class::BadNames, top)?;
+    let names = names_of_stages(alloc, top)?;
+    check_tree(alloc, Class::OutOfRanges, top)?;
+    let plant = plant_of(alloc, &names, top)?;
+    check_flow(alloc, plant.stages.as_slice())?;
+    sealed(alloc, plant)
+}
+
+/// The draft of what a plant file says, where nothing is wrong with it.
+fn sealed(alloc: Global, plant: DraftPlant) -> Result<Draft, PlantError>
+    requires { IsSoundDraft plant }
+    ensures { Builds result plant }
+{
+    let columns = columns_of(alloc, &plant)?;
+    Ok(Draft { plant, columns })
+}

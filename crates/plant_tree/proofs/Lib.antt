@@ -1,0 +1,4 @@
+pub mod KeyLists
+pub mod NameLists
+pub mod Steps
+pub mod ValueLists

@@ -1,0 +1,11 @@
+use Rattle.std.proofs.Common.{arith}
+use Rattle.plant_model.proofs.Passes.{stops}
+use Rattle.toml.specs.View.{view}
+use Rattle.plant_tree.specs.Walk.{loop_refusals}
+use Rattle.plant_tree.proofs.check.check_loops.Goals as goal
+
+pub returns-in_err-check_loop : goal.returns-in_err-check_loop
+returns-in_err-check_loop c =
+    stops (λ k l. loop_refusals c.args.class k (view l))
+    c.args.loops.now c.loop-k.k c.index-loops-k.result
+    c.from_residual.result c.from_residual.ensures.1 c.loop-k.invariant (omega arith) c.index-loops-k.is c.in_err-check_loop.ensures

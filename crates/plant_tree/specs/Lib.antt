@@ -1,0 +1,4 @@
+pub mod Code
+pub mod Keys
+pub mod Readers
+pub mod Walk

@@ -1,0 +1,2 @@
+pub mod DeadCircuits
+pub mod Schedules

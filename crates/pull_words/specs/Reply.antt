@@ -1,0 +1,43 @@
+-- What a command may answer in words, and the status and the text of each reply.
+use Rattle.std.specs.Prelude.{ℕ, List, ◌++◌, codes, ⊤}
+use Rattle.pull_words.specs.DeadLine.{dead_line}
+use Rattle.pull_words.specs.PlantLine.{plant_reason}
+use Rattle.pull_words.specs.ScheduleLine.{schedule_line}
+use Rattle.pull_words.specs.Usage.{as_line, usage, version}
+use Rattle.pull_words.specs.declared.reply.Reply.{Reply}
+use Rattle.pull_words.specs.declared.reply.Reply.TheVariants.{Usage, Help, Version, Refused, Dead, StoreFault, NoMemory, TooLong, NotFollowed, Checked}
+
+-- the status that the program ends with
+abbrev pub status_of : Reply → ℕ
+status_of Usage = 2
+status_of Help = 0
+status_of Version = 0
+status_of (Refused error) = 3
+status_of (Dead labels) = 4
+status_of (StoreFault file) = 5
+status_of NoMemory = 9
+status_of (TooLong file) = 10
+status_of (NotFollowed refusal) = 11
+status_of (Checked text) = 0
+
+-- the bytes that it writes
+abbrev pub text_of : Reply → List ℕ
+text_of Usage = as_line (codes "pull: the words are no command")
+text_of Help = usage
+text_of Version = version
+text_of (Refused error) = as_line (codes "plant: " ++ plant_reason error)
+text_of (Dead labels) = as_line (dead_line labels)
+text_of (StoreFault file) = as_line (codes "store: " ++ file)
+text_of NoMemory = as_line (codes "memory")
+text_of (TooLong file) = as_line (codes "too long: " ++ file)
+text_of (NotFollowed refusal) = as_line (schedule_line refusal)
+text_of (Checked text) = text
+
+-- its text is known beforehand, so that writing it takes no memory
+abbrev pub IsFixed : Reply → Type 0
+IsFixed Usage = ⊤
+IsFixed Help = ⊤
+IsFixed Version = ⊤
+IsFixed NoMemory = ⊤
+IsFixed (Checked text) = ⊤
+IsFixed other = ⊥

@@ -1,0 +1,19 @@
+//! The words of `pull`: those after its name, as a command, and those that it answers, as a reply with its status and its
+//! text.
+#![tactic(auto)]
+
+mod check;
+mod dead;
+mod refusals;
+mod reply;
+mod schedule;
+mod usage;
+mod words;
+
+pub use check::check_text;
+pub use dead::dead_labels;
+pub use refusals::ScheduleRefusal;
+pub use reply::{OUT_OF_MEMORY, Reply};
+pub use schedule::schedule_reply;
+pub use usage::{USAGE, VERSION};
+pub use words::{Command, FileName, WordsError, read_words};

@@ -1,0 +1,56 @@
+-- A station and a shelf may go to another thread: each of their fields may. A search does not see through the fields that
+-- contracts alone read.
+use denote.Param.Send.{IsSend, sendable, view_send}
+use denote.Param.SendFields.{as_row_send, declared_send}
+use Rattle.std.proofs.Crossing.{crosses, Vec-send}
+use Rattle.card_queue.specs.contracts.plain.Plain as Plain
+use Rattle.card_queue.specs.contracts.plain.Plain.TheInside as PlainInside
+use Rattle.line_base.specs.contracts.log.Log as Log
+use Rattle.line_base.specs.contracts.log.Log.TheInside as LogInside
+use Rattle.station_step.specs.contracts.ends.Outlet as Outlet
+use Rattle.station_step.specs.contracts.input.Input as Input
+use Rattle.station_step.specs.contracts.shelf.Shelf as Shelf
+use Rattle.station_step.specs.contracts.shelf.Shelf.TheInside as ShelfInside
+use Rattle.station_step.specs.contracts.station.Station as Station
+use Rattle.station_step.specs.contracts.station.Station.TheInside as StationInside
+use Rattle.station_step.proofs.ends.Outlet.TheSendSync as OutletSent
+use Rattle.station_step.proofs.input.Input.TheSendSync as InputSent
+
+log_send : IsSend Log.the_row
+log_send = view_send LogInside.the_row _ _ _ _ (declared_send LogInside.the_type (search crosses, tt))
+
+plain_send : IsSend Plain.the_row
+plain_send =
+    view_send PlainInside.the_row _ _ _ _ (
+    declared_send PlainInside.the_type (search crosses, (search sendable, (search sendable, (search sendable, tt)))))
+
+pub shelf_send : IsSend Shelf.the_row
+shelf_send = view_send ShelfInside.the_row _ _ _ _ (declared_send ShelfInside.the_type (Vec-send Plain.the_row plain_send, tt))
+
+station_fields : IsSend StationInside.the_row
+station_fields =
+    declared_send StationInside.the_type (
+      search sendable,
+      (
+        Vec-send Input.the_row (as_row_send Input.the_field InputSent.the_field_send),
+        (
+          Vec-send _ (as_row_send Outlet.the_field OutletSent.the_field_send),
+          (
+            log_send,
+            (
+              search sendable,
+              (
+                search sendable,
+                (
+                  search crosses,
+                  tt,
+                ),
+              ),
+            ),
+          ),
+        ),
+      ),
+    )
+
+pub station_send : IsSend Station.the_row
+station_send = view_send StationInside.the_row _ _ _ _ station_fields

@@ -1,0 +1,6 @@
+pub mod OwnQueues
+pub mod Refilling
+pub mod Filling
+pub mod Dates
+pub mod Keeping
+pub mod Crossing

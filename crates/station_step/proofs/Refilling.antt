@@ -1,0 +1,79 @@
+-- The inputs of a station while its hands are refilled, one after the other.
+use Rattle.std.proofs.Common.{◌≡◌, ◌≢◌, ℕ, ◌+◌, ◌<◌, ◌≤◌, List, [], ◌++◌, length, set, map, sym, ap, ◌∙◌, subst, arith, ⊎_elim, get_or-set_same, get_or-set_other}
+use Rattle.std.specs.Prelude.{None, Some, IfNone, option_to_list}
+use Rattle.std.proofs.Math.Seq.{map-set_same}
+use Rattle.std.proofs.lemmas.Bool.{cases_eq}
+use Rattle.std.proofs.lemmas.List.{length-set}
+use Rattle.card_queue.specs.Plain.{PlainQueue}
+use Rattle.station_step.specs.declared.ends.Inlet.{Inlet}
+use Rattle.station_step.specs.declared.ends.Inlet.TheVariants.{Local}
+use Rattle.station_step.specs.declared.input.Input.{Input}
+use Rattle.station_step.specs.Shelf.{queue_at, OnlyTakes}
+use Rattle.station_step.specs.Ends.{inlet_queue}
+use Rattle.station_step.specs.Input.{input_at, IsRefilled, TakeApart}
+use Rattle.station_step.specs.Station.{bare_input}
+use Rattle.station_step.proofs.OwnQueues.{InletQueueStays, inlet_taken-same, inlet_known-same, inlet_queue-same, OnlyTakes-trans}
+
+-- the inputs below k are refilled, the others as they were
+pub record RefilledUpTo (k : ℕ) (old new : List PlainQueue) (before after : List Input) : Type 0 where
+  pub count : length after ≡ length before
+  pub same : map bare_input after ≡ map bare_input before
+  pub done : (j : ℕ) → j < k → IsRefilled old new (input_at before j) (input_at after j)
+  pub rest : (j : ℕ) → k ≤ j → input_at after j ≡ input_at before j
+  pub only_takes : OnlyTakes old new
+  pub others : (q : ℕ) → ((j : ℕ) → j < k → inlet_queue (input_at before j).inlet ≢ Some q) → queue_at new q ≡ queue_at old q
+
+-- a refilled input is one also where other queues changed later, or had changed before
+refilled-later : (old mid new : List PlainQueue) (before after : Input) → IsRefilled old mid before after → InletQueueStays mid new after.inlet → IsRefilled old new before after
+refilled-later old mid new before after is stays = record {
+  same = is.same;
+  taken = ap (λ xs. xs ++ option_to_list before.hand) (inlet_taken-same mid new after.inlet stays) ∙ is.taken;
+  full = is.full;
+  empty = is.empty;
+}
+
+refilled-earlier : (old mid new : List PlainQueue) (before after : Input) → IsRefilled mid new before after → InletQueueStays old mid before.inlet → IsRefilled old new before after
+refilled-earlier old mid new before after is stays = record {
+  same = is.same;
+  taken = is.taken ∙ ap (λ xs. xs ++ option_to_list after.hand) (inlet_taken-same old mid before.inlet stays);
+  full = is.full;
+  empty = subst (λ (xs : List ℕ). IfNone after.hand (option_to_list before.hand ++ xs ≡ [])) (inlet_known-same old mid before.inlet stays) is.empty;
+}
+
+-- the next input is refilled
+pub refilled_more : (k : ℕ) (old mid new : List PlainQueue) (before after : List Input) (input : Input) → TakeApart before → k < length after → RefilledUpTo k old mid before after → IsRefilled mid new (input_at after k) input → OnlyTakes mid new → ((q : ℕ) → inlet_queue (input_at after k).inlet ≢ Some q → queue_at new q ≡ queue_at mid q) → RefilledUpTo (k + 1) old new before (set after k input)
+refilled_more k old mid new before after input apart low up_to next only others =
+    let d : Input = record { inlet = Local 0; hand = None } in
+    let low_before : k < length before = omega (arith, up_to.count) in
+    let at_k = up_to.rest k (omega arith) in
+    let Goal : ℕ → Input → Type 0 = λ j i. IsRefilled old new (input_at before j) i in
+    let untouched : InletQueueStays old mid (input_at before k).inlet =
+    λ q is. up_to.others q (λ j lt holds. apart j k lt low_before q holds is) in
+    let new_one : IsRefilled old new (input_at before k) input =
+    refilled-earlier old mid new (input_at before k) input (subst (λ (i : Input). IsRefilled mid new i input) at_k next) untouched in
+    record {
+      count = length-set after k input ∙ up_to.count;
+      same = map-set_same bare_input after k input d (ap (λ (i : Inlet). record { inlet = i; hand = None }) next.same) ∙ up_to.same;
+      done = λ j lt.
+          ⊎_elim
+          (λ (e : j ≡ k).
+          subst (λ (n : ℕ). Goal n (input_at (set after k input) n)) (sym e)
+          (subst (Goal k) (sym (get_or-set_same after k input d low)) new_one))
+          (λ (ne : j ≢ k).
+          let below : j < k = omega arith in
+          let stays : InletQueueStays mid new (input_at after j).inlet =
+          λ q is.
+          others q
+          (λ clash.
+          apart j k below low_before q
+          (sym (inlet_queue-same (input_at before j).inlet (input_at after j).inlet (up_to.done j below).same) ∙ is)
+          (ap (λ (i : Input). inlet_queue i.inlet) (sym at_k) ∙ clash)) in
+          subst (Goal j) (sym (get_or-set_other after k j input d ne))
+          (refilled-later old mid new (input_at before j) (input_at after j) (up_to.done j below) stays))
+          (cases_eq j k);
+      rest = λ j le. get_or-set_other after k j input d (λ e. absurd (omega (arith, e))) ∙ up_to.rest j (omega arith);
+      only_takes = OnlyTakes-trans up_to.only_takes only;
+      others = λ q none.
+          others q (λ clash. none k (omega arith) (ap (λ (i : Input). inlet_queue i.inlet) (sym at_k) ∙ clash))
+          ∙ up_to.others q (λ j lt. none j (omega arith));
+    }

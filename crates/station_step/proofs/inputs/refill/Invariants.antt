@@ -1,0 +1,5 @@
+use Rattle.station_step.proofs.Refilling.{RefilledUpTo}
+use Rattle.station_step.proofs.inputs.refill.Given as goal
+
+abbrev pub invariant-loop-k : goal.invariant-loop-k
+invariant-loop-k l = RefilledUpTo l.k l.initial.shelf l.shelf l.initial.inputs.items l.inputs.items

@@ -1,0 +1,136 @@
+use Rattle.std.proofs.Common.{subst, ◌∙◌, sym, ap, ◌≡◌, ◌≢◌, ◌+◌, ◌++◌, ◌∷◌, [], ℕ, List, length, slice_index}
+use Rattle.std.specs.Prelude.{unwrap_or}
+use Rattle.line_base.specs.declared.event.Parts.{Parts}
+use Rattle.line_base.specs.Roomy.{RoomyLog, with_date}
+use Rattle.event_graph.specs.Network.{jobs, delay, outs}
+use Rattle.station_step.specs.Input.{input_at}
+use Rattle.station_step.specs.Ends.{outlet_added}
+use Rattle.station_step.specs.Station.{WorkStation, IsStation, IsSeated, outlet_at}
+use Rattle.station_step.specs.Kept.{IsKept, date_for, saturating}
+use Rattle.station_step.specs.Step.{MovesItsOwn, Grows}
+use Rattle.station_step.proofs.Keeping.{kept-waits, kept-fires, IsFiring, fired_station, station-fires, seated-same, own-waits, own-fires, grows-waits, grows-fires, kept-others, ready-others}
+use Rattle.station_step.specs.contracts.station.Station.{the_view}
+use Rattle.station_step.proofs.station.Station.step.Goals as goal
+
+pub returns-in-Some-clause-kept : goal.returns-in-Some-clause-kept
+returns-in-Some-clause-kept c =
+    let new = c.refill.new.shelf in
+    let full = c.refill.new.inputs.items in
+    subst (λ (s : WorkStation). IsKept c.args.shelf.now s → IsKept new (record (the_view c.self.inside) { inputs = full; turns = c.self.inside.turns + 1 })) c.self.view_is
+    (kept-waits c.args.shelf.now new (the_view c.self.inside) full (c.self.inside.turns + 1) c.self.invariant.an_input_each c.refill.ensures.count c.refill.ensures.each c.refill.ensures.only_takes)
+
+pub returns-in-Some-clause-grows : goal.returns-in-Some-clause-grows
+returns-in-Some-clause-grows c = grows-waits c.args.shelf.now c.refill.new.shelf c.refill.ensures.only_takes
+
+own_in_waiting : (c : goal.After-shared_slice_known-1) → MovesItsOwn c.args.self.now c.args.shelf.now c.refill.new.shelf
+own_in_waiting c =
+    subst (λ (s : WorkStation). MovesItsOwn s c.args.shelf.now c.refill.new.shelf) c.self.view_is
+    (own-waits (the_view c.self.inside) c.args.shelf.now c.refill.new.shelf c.refill.ensures.only_takes c.refill.ensures.others)
+
+pub returns-in-Some-clause-own : goal.returns-in-Some-clause-own
+returns-in-Some-clause-own c = own_in_waiting c
+
+pub returns-in-Some-clause-others : goal.returns-in-Some-clause-others
+returns-in-Some-clause-others c = kept-others c.args.shelf.now c.refill.new.shelf c.args.self.now (own_in_waiting c)
+
+pub returns-in-Some-clause-ready : goal.returns-in-Some-clause-ready
+returns-in-Some-clause-ready c =
+    ready-others c.args.shelf.now c.refill.new.shelf c.args.self.now (own_in_waiting c) (grows-waits c.args.shelf.now c.refill.new.shelf c.refill.ensures.only_takes)
+
+-- the firing, as the lemmas have it
+firing : (c : goal.After-add) → IsFiring c.args.shelf.now c.refill.new.shelf c.put_all.new.shelf (the_view c.self.inside) c.refill.new.inputs.items c.empty_hands.new.inputs.items c.put_all.new.outlets.items c.next_date-date.result
+firing c =
+    let s = the_view c.self.inside in
+    let full = c.refill.new.inputs.items in
+    let date = c.next_date-date.result in
+    let token : ℕ → ℕ = λ k. unwrap_or (input_at full k).hand 0 in
+    let graph : c.graph-graph.result.now ≡ s.graph =
+    c.graph-graph.ensures.graph ∙ c.requires.made_for ∙ sym (ap (λ (w : WorkStation). w.graph) c.self.view_is) in
+    let dated : date ≡ date_for c.graph-graph.result.now s.number (length c.dates.result.now + 1) token = c.next_date-date.ensures in
+    record {
+      full_count = c.refill.ensures.count;
+      empty_count = c.empty_hands.ensures.count;
+      outlet_count = c.put_all.ensures.count;
+      refilled = c.refill.ensures.each;
+      are_full = c.in_default.ensures.none;
+      inlets = c.empty_hands.ensures.inlets;
+      are_empty = c.empty_hands.ensures.hands;
+      date_is = dated
+          ∙ ap (λ (g : Parts). date_for g s.number (length c.dates.result.now + 1) token) graph
+          ∙ ap (λ (l : List ℕ). date_for s.graph s.number (length l + 1) token) c.dates.ensures;
+      outlets_same = c.put_all.ensures.same;
+      got = λ k low.
+          c.put_all.ensures.each k low
+          ∙ ap (λ (g : Parts). outlet_added c.refill.new.shelf (outlet_at s.outlets k) ++ saturating date (delay g (slice_index (outs g s.number) k)) ∷ []) graph;
+      only_takes = c.refill.ensures.only_takes;
+      only_puts = c.put_all.ensures.only_puts;
+    }
+
+-- dates were left to be made
+some_left : (c : goal.After-add) → length (the_view c.self.inside).log.dates ≢ jobs (the_view c.self.inside).graph
+some_left c all =
+    let graph : c.graph-graph.result.now ≡ (the_view c.self.inside).graph =
+    c.graph-graph.ensures.graph ∙ c.requires.made_for ∙ sym (ap (λ (w : WorkStation). w.graph) c.self.view_is) in
+    c.if-done-jobs.false (ap length c.dates.ensures ∙ all ∙ sym (ap jobs graph) ∙ sym c.jobs.ensures.count)
+
+-- the station after it
+fires_soundly : (c : goal.After-add) → IsStation (fired_station (the_view c.self.inside) c.empty_hands.new.inputs.items c.put_all.new.outlets.items c.next_date-date.result (c.self.inside.turns + 1))
+fires_soundly c =
+    station-fires c.args.shelf.now c.refill.new.shelf c.put_all.new.shelf (the_view c.self.inside) c.refill.new.inputs.items c.empty_hands.new.inputs.items c.put_all.new.outlets.items c.next_date-date.result (c.self.inside.turns + 1) c.self.invariant (some_left c) (firing c)
+
+-- with its log as the call leaves it
+abbrev with_log : (c : goal.After-add) → RoomyLog → WorkStation
+with_log c log = record (the_view c.self.inside) {
+  inputs = c.empty_hands.new.inputs.items;
+  outlets = c.put_all.new.outlets.items;
+  log = log;
+  turns = c.self.inside.turns + 1;
+}
+
+pub invariant_of-self-2 : goal.invariant_of-self-2
+invariant_of-self-2 c = subst (λ (log : RoomyLog). IsStation (with_log c log)) (sym c.add.ensures) (fires_soundly c)
+
+pub returns-clause-station : goal.returns-clause-station
+returns-clause-station c = subst (λ (log : RoomyLog). IsStation (with_log c log)) (sym c.add.ensures) (fires_soundly c)
+
+pub returns-clause-seated : goal.returns-clause-seated
+returns-clause-seated c =
+    let old = c.args.shelf.now in
+    let new = c.put_all.new.shelf in
+    let was : IsSeated old (the_view c.self.inside) = subst (IsSeated old) (sym c.self.view_is) c.requires.seated in
+    seated-same old new (the_view c.self.inside) (with_log c c.add.new.self)
+    (c.put_all.ensures.only_puts.count ∙ c.refill.ensures.only_takes.count)
+    (c.empty_hands.ensures.count ∙ c.refill.ensures.count)
+    c.put_all.ensures.count
+    (c.empty_hands.ensures.same ∙ c.refill.ensures.same)
+    c.put_all.ensures.same
+    was
+
+pub returns-clause-kept : goal.returns-clause-kept
+returns-clause-kept c =
+    let old = c.args.shelf.now in
+    let new = c.put_all.new.shelf in
+    let kept : IsKept old (the_view c.self.inside) → IsKept new (with_log c (with_date c.self.inside.log c.next_date-date.result)) =
+    kept-fires old c.refill.new.shelf new (the_view c.self.inside) c.refill.new.inputs.items c.empty_hands.new.inputs.items c.put_all.new.outlets.items c.next_date-date.result (c.self.inside.turns + 1) c.self.invariant (firing c) in
+    subst (λ (s : WorkStation). IsKept old s → IsKept new (with_log c c.add.new.self)) c.self.view_is
+    (subst (λ (log : RoomyLog). IsKept old (the_view c.self.inside) → IsKept new (with_log c log)) (sym c.add.ensures) kept)
+
+own_in_firing : (c : goal.After-add) → MovesItsOwn c.args.self.now c.args.shelf.now c.put_all.new.shelf
+own_in_firing c =
+    subst (λ (s : WorkStation). MovesItsOwn s c.args.shelf.now c.put_all.new.shelf) c.self.view_is
+    (own-fires (the_view c.self.inside) c.args.shelf.now c.refill.new.shelf c.put_all.new.shelf c.refill.ensures.only_takes c.refill.ensures.others c.put_all.ensures.only_puts c.put_all.ensures.others)
+
+grows_in_firing : (c : goal.After-add) → Grows c.args.shelf.now c.put_all.new.shelf
+grows_in_firing c = grows-fires c.args.shelf.now c.refill.new.shelf c.put_all.new.shelf c.refill.ensures.only_takes c.put_all.ensures.grows
+
+pub returns-clause-own : goal.returns-clause-own
+returns-clause-own c = own_in_firing c
+
+pub returns-clause-grows : goal.returns-clause-grows
+returns-clause-grows c = grows_in_firing c
+
+pub returns-clause-others : goal.returns-clause-others
+returns-clause-others c = kept-others c.args.shelf.now c.put_all.new.shelf c.args.self.now (own_in_firing c)
+
+pub returns-clause-ready : goal.returns-clause-ready
+returns-clause-ready c = ready-others c.args.shelf.now c.put_all.new.shelf c.args.self.now (own_in_firing c) (grows_in_firing c)

@@ -1,0 +1,6 @@
+pub mod Shelf
+pub mod Ends
+pub mod Input
+pub mod Station
+pub mod Kept
+pub mod Step

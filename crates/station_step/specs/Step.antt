@@ -1,0 +1,79 @@
+-- What a step of a station did, and when it answers what.
+use Rattle.std.specs.Prelude.{◌≡◌, ℕ, ◌+◌, ◌<◌, ⊤, List, [], None, IsSome, length, slice_index}
+use mathlib.Core.List.{IsPrefix}
+use Rattle.line_base.specs.Roomy.{with_date}
+use Rattle.card_queue.specs.Plain.{PlainQueue, plain_taken}
+use Rattle.event_graph.specs.Network.{jobs, ins}
+use Rattle.station_step.specs.declared.stepped.Stepped.{Stepped}
+use Rattle.station_step.specs.declared.stepped.Stepped.TheVariants.{Fired, Blocked, Done}
+use Rattle.station_step.specs.Shelf.{queue_at, unused, OnlyTakes}
+use Rattle.station_step.specs.Input.{input_at, tokens_known, IsRefilled, NoneTakes}
+use Rattle.station_step.specs.Station.{WorkStation, NonePuts}
+
+-- dates are left to be made, and each arc into the station has a token, in the hand or known to come next
+pub record IsReady (shelf : List PlainQueue) (s : WorkStation) : Type 0 where
+  pub more : length s.log.dates < jobs s.graph
+  pub tokens : (k : ℕ) → k < length s.inputs → 0 < length (tokens_known shelf (input_at s.inputs k))
+
+-- this arc, that of input k, had no token in the hand and none known; every input before it has its hand full now
+pub record IsBlockedAt (shelf : List PlainQueue) (before after : WorkStation) (arc k : ℕ) : Type 0 where
+  pub there : k < length before.inputs
+  pub arc_is : slice_index (ins before.graph before.number) k ≡ arc
+  pub none : tokens_known shelf (input_at before.inputs k) ≡ []
+  pub empty : (input_at after.inputs k).hand ≡ None
+  pub first : (j : ℕ) → j < k → IsSome (input_at after.inputs j).hand
+
+abbrev pub IsBlocked : List PlainQueue → WorkStation → WorkStation → ℕ → Type 0
+IsBlocked shelf before after arc = (k : ℕ) × IsBlockedAt shelf before after arc k
+
+-- the answer is that the station is done, or that it fired
+abbrev pub IsDone : Stepped → Type 0
+IsDone Fired = ⊥
+IsDone (Blocked _) = ⊥
+IsDone Done = ⊤
+
+abbrev pub HasFired : Stepped → Type 0
+HasFired Fired = ⊤
+HasFired (Blocked _) = ⊥
+HasFired Done = ⊥
+
+-- where the answer is that an arc is blocked, this holds of the arc
+abbrev pub IfBlocked : Stepped → (ℕ → Type 0) → Type 0
+IfBlocked Fired holds = ⊤
+IfBlocked (Blocked arc) holds = holds arc
+IfBlocked Done holds = ⊤
+
+-- one date more, and every hand empty
+pub record FiredOnce (before after : WorkStation) : Type 0 where
+  pub log : after.log ≡ with_date before.log (slice_index after.log.dates (length before.log.dates))
+  pub hands : (k : ℕ) → k < length before.inputs → (input_at after.inputs k).hand ≡ None
+
+-- no date more and nothing put; each empty hand took a token where one was known
+pub record OnlyRefilled (old new : List PlainQueue) (before after : WorkStation) : Type 0 where
+  pub log : after.log ≡ before.log
+  pub outlets : after.outlets ≡ before.outlets
+  pub puts : OnlyTakes old new
+  pub hands : (k : ℕ) → k < length before.inputs → IsRefilled old new (input_at before.inputs k) (input_at after.inputs k)
+
+-- nothing but one turn more
+pub record OnlyTurned (old new : List PlainQueue) (before after : WorkStation) : Type 0 where
+  pub shelf : new ≡ old
+  pub station : after ≡ record before { turns = before.turns + 1 }
+
+-- what changed, by the answer
+abbrev pub Did : Stepped → List PlainQueue → List PlainQueue → WorkStation → WorkStation → Type 0
+Did Fired old new before after = FiredOnce before after
+Did (Blocked _) old new before after = OnlyRefilled old new before after
+Did Done old new before after = OnlyTurned old new before after
+
+-- tokens were taken from the queues of the station's own inlets alone, and put on those of its own outlets alone
+pub record MovesItsOwn (s : WorkStation) (old new : List PlainQueue) : Type 0 where
+  pub count : length new ≡ length old
+  pub made : (q : ℕ) → unused (queue_at new q) ≡ unused (queue_at old q)
+  pub takes : (q : ℕ) → NoneTakes q s.inputs → (queue_at new q).takes ≡ (queue_at old q).takes
+  pub taken : (q : ℕ) → NoneTakes q s.inputs → plain_taken (queue_at new q) ≡ plain_taken (queue_at old q)
+  pub puts : (q : ℕ) → NonePuts q s.outlets → (queue_at new q).added ≡ (queue_at old q).added
+
+-- every queue has the tokens that were put on it before, and then those that were put since
+abbrev pub Grows : List PlainQueue → List PlainQueue → Type 0
+Grows old new = (q : ℕ) → IsPrefix (queue_at old q).added (queue_at new q).added

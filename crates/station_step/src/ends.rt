@@ -1,0 +1,70 @@
+ghost use Rattle.std.specs.Prelude.{◌≡◌, ◌≢◌, ℕ, ◌+◌, ◌<◌, ◌≤◌, ◌++◌, ◌∷◌, [], Some, length, IfSome, IfNone, option_to_list};
+ghost use mathlib.Core.List.{IsPrefix};
+ghost use Rattle.station_step.specs.Shelf.{queue_at, OnlyTakes, OnlyPuts};
+ghost use Rattle.station_step.specs.Ends.{inlet_taken, inlet_known, outlet_added, bare_inlet, bare_outlet, unseen_inlet, inlet_queue, outlet_queue, HasRingRoom, HasShelfRoom, AreEnds, AreMet};
+
+use crate::shelf::Shelf;
+use card_queue::{Put, Take};
+use line_base::Date;
+
+/// Where the tokens of an input come from: the end of a ring, or the queue with this number on the worker's shelf.
+#[derive(Drop)]
+pub enum Inlet {
+    Ring(Take),
+    Local(u32),
+}
+
+/// Where the tokens of an output go to: the end of a ring, or the queue with this number on the worker's shelf.
+#[derive(Drop)]
+pub enum Outlet {
+    Ring(Put),
+    Local(u32),
+}
+
+impl Inlet {
+    /// Takes the next token, if one is there. `None` comes only where none was known.
+    pub(crate) fn take(&mut self, shelf: &mut Shelf) -> Option<Date>
+        requires { IfSome (inlet_queue self.old) (λ q. q < length shelf.old) }
+        ensures same { bare_inlet self.new ≡ bare_inlet self.old }
+        ensures taken { inlet_taken shelf.new self.new ≡ inlet_taken shelf.old self.old ++ option_to_list result }
+        ensures none { IfNone result (inlet_known shelf.old self.old ≡ []) }
+        ensures only_takes { OnlyTakes shelf.old shelf.new }
+        ensures others { (q : ℕ) → inlet_queue self.old ≢ Some q → queue_at shelf.new q ≡ queue_at shelf.old q }
+    {
+        match self {
+            Inlet::Ring(take) => take.take(),
+            Inlet::Local(k) => shelf.take(*k),
+        }
+    }
+}
+
+impl Outlet {
+    /// Puts a token behind all others. It takes no memory.
+    pub(crate) fn put(&mut self, shelf: &mut Shelf, date: Date)
+        requires there { IfSome (outlet_queue self.old) (λ q. q < length shelf.old) }
+        requires ring_room { HasRingRoom 1 self.old }
+        requires shelf_room { HasShelfRoom shelf.old self.old }
+        ensures same { bare_outlet self.new ≡ bare_outlet self.old }
+        ensures added { outlet_added shelf.new self.new ≡ outlet_added shelf.old self.old ++ date ∷ [] }
+        ensures only_puts { OnlyPuts shelf.old shelf.new }
+        ensures others { (q : ℕ) → outlet_queue self.old ≢ Some q → queue_at shelf.new q ≡ queue_at shelf.old q }
+    {
+        match self {
+            Outlet::Ring(put) => put.put(date),
+            Outlet::Local(k) => shelf.put(*k, date),
+        }
+    }
+}
+
+/// Brings the two ends of one ring together on one thread.
+pub(crate) fn meet_ends(outlet: &mut Outlet, inlet: &mut Inlet)
+    requires { AreEnds outlet.old inlet.old }
+    ensures outlet { outlet.new ≡ outlet.old }
+    ensures same { unseen_inlet inlet.new ≡ unseen_inlet inlet.old }
+    ensures known { IsPrefix (inlet_known [] inlet.old) (inlet_known [] inlet.new) }
+    ensures met { AreMet outlet.new inlet.new }
+{
+    if let (Outlet::Ring(put), Inlet::Ring(take)) = (outlet, inlet) {
+        card_queue::meet(put, take);
+    }
+}

@@ -1,0 +1,17 @@
+//! One station of an event graph at work: it takes tokens into its hands, and fires where all of them are full.
+#![tactic(auto)]
+
+mod ends;
+mod input;
+mod inputs;
+mod outlets;
+mod shelf;
+mod station;
+mod stepped;
+mod threads;
+
+pub use ends::{Inlet, Outlet};
+pub use shelf::Shelf;
+pub use station::{Station, meet_at};
+pub use stepped::Stepped;
+pub use threads::stations_may_move_to_another_thread;

@@ -1,0 +1,208 @@
+ghost use Rattle.std.specs.Prelude.{◌≡◌, ℕ, ◌+◌, ◌-◌, ◌<◌, ◌≤◌, ◌^◌, ◌↔◌, List, [], All, length, IfOk};
+ghost use Rattle.card_queue.specs.Plain.{PlainQueue};
+ghost use Rattle.event_graph.specs.Network.{stations, jobs, ins, outs};
+ghost use mathlib.Core.List.{IsPrefix};
+ghost use Rattle.station_step.specs.Ends.{IsUntaken, IsUnfilled, HasRingRoom, inlet_known, unseen_inlet, AreEnds, AreMet};
+ghost use Rattle.station_step.specs.Input.{input_at};
+ghost use Rattle.station_step.specs.Station.{WorkStation, IsStation, IsSeated, MayPut, AreApart, outlet_at, bare_station, new_station, with_inlet};
+ghost use Rattle.station_step.specs.Kept.{IsKept, IsFresh};
+ghost use Rattle.station_step.specs.Step.{IsReady, IsDone, HasFired, IfBlocked, IsBlocked, Did, MovesItsOwn, Grows};
+
+use crate::ends::{Inlet, Outlet, meet_ends};
+use crate::input::Input;
+use crate::inputs::{empty_hands, first_empty, next_date, refill, with_empty_hands};
+use crate::outlets::put_all;
+use crate::shelf::Shelf;
+use crate::stepped::Stepped;
+use event_graph::Graph;
+use line_base::{Date, Log};
+use live_check::Live;
+use std::alloc::{AllocError, Global};
+use std::marker::Model;
+use std::snapshot::Snapshot;
+
+/// A station at work: its log of dates, the ends of its queues, and for each arc into it a hand, which holds the token
+/// that was taken for the next firing.
+///
+/// A station keeps the number of dates that its log was made with. Each call that takes a `Live` takes the one that the
+/// station was made for.
+#[derive(Drop)]
+pub struct Station {
+    number: u32,
+    inputs: Vec<Input>,
+    outlets: Vec<Outlet>,
+    log: Log,
+    made: u32,
+    turns: u64,
+    // The graph that the station was made for. Contracts alone read it.
+    graph: Snapshot<Graph>,
+}
+
+impl Model for Station {
+    ghost use Rattle.station_step.specs.Station.{WorkStation, IsStation};
+
+    ghost Value = { WorkStation };
+
+    ghost view = { λ s. record {
+      graph = s.graph.value;
+      number = s.number;
+      inputs = s.inputs.items;
+      outlets = s.outlets.items;
+      log = s.log;
+      made = s.made;
+      turns = s.turns;
+    } };
+
+    ghost invariant = { λ s. IsStation (record {
+      graph = s.graph.value;
+      number = s.number;
+      inputs = s.inputs.items;
+      outlets = s.outlets.items;
+      log = s.log;
+      made = s.made;
+      turns = s.turns;
+    }) };
+}
+
+impl Station {
+    /// The station `t` with these ends of its queues, in the order of the arcs into it and out of it, and the log that it
+    /// goes on with. Fails only for want of memory.
+    pub fn new(
+        alloc: Global,
+        live: &Live,
+        t: u32,
+        inlets: Vec<Inlet>,
+        outlets: Vec<Outlet>,
+        log: Log,
+    ) -> Result<Station, AllocError>
+        requires exists { t < stations live.now.graph }
+        requires an_inlet_each { length inlets.items ≡ length (ins live.now.graph t) }
+        requires an_outlet_each { length outlets.items ≡ length (outs live.now.graph t) }
+        requires few_dates { length log.dates ≤ jobs live.now.graph }
+        requires log_room { jobs live.now.graph ≤ log.room }
+        requires untaken { All IsUntaken inlets.items }
+        requires unfilled { All IsUnfilled outlets.items }
+        requires ring_room { (k : ℕ) → k < length outlets.items → HasRingRoom (jobs live.now.graph - length log.dates) (outlet_at outlets.items k) }
+        ensures made { IfOk result (λ s. s ≡ new_station live.now.graph t inlets.items outlets.items log) }
+        ensures station { IfOk result IsStation }
+        ensures kept { IfOk result (λ s. (shelf : List PlainQueue) → IsFresh shelf s → IsKept shelf s) }
+    {
+        let graph = live.graph();
+        let made = log.dates().len() as u32;
+        Ok(Station {
+            number: t,
+            inputs: with_empty_hands(alloc, inlets)?,
+            outlets,
+            log,
+            made,
+            turns: 0,
+            graph: Snapshot::of(graph),
+        })
+    }
+
+    /// Makes one step. Where the log has a date for each job it answers `Done` and takes nothing. Else it takes a token
+    /// into each empty hand whose queue gives one. Where all hands are then full, the station fires: the new date is the
+    /// greatest of the tokens, each with the job time where its arc is worked, and for the feed the demand date. It goes
+    /// to the end of the log and, later by the arc's delay, on every output; the hands are empty then. Else the answer
+    /// is `Blocked`, with the first arc that has no token, and the tokens taken stay in the hands. Sums saturate.
+    ///
+    /// It takes no memory, and looks at each of its queues once.
+    ///
+    /// Source of the rule: Baccelli, Cohen, Olsder and Quadrat, Synchronization and Linearity, on event graphs.
+    pub fn step(&mut self, live: &Live, shelf: &mut Shelf) -> Stepped
+        requires made_for { live.now.graph ≡ self.old.graph }
+        requires turns { self.old.turns < 2 ^ 40 }
+        requires seated { IsSeated shelf.old self.old }
+        requires may_put { MayPut shelf.old self.old }
+        ensures turns { self.new.turns ≡ self.old.turns + 1 }
+        ensures same { bare_station self.new ≡ bare_station self.old }
+        ensures station { IsStation self.new }
+        ensures seated { IsSeated shelf.new self.new }
+        ensures done { IsDone result ↔ (length self.old.log.dates ≡ jobs self.old.graph) }
+        ensures blocked { IfBlocked result (IsBlocked shelf.old self.old self.new) }
+        ensures fires { IsReady shelf.old self.old → HasFired result }
+        ensures did { Did result shelf.old shelf.new self.old self.new }
+        ensures kept { IsKept shelf.old self.old → IsKept shelf.new self.new }
+        ensures grows { Grows shelf.old shelf.new }
+        ensures own { MovesItsOwn self.old shelf.old shelf.new }
+        ensures others { (other : WorkStation) → IsStation other → AreApart self.old other → IsKept shelf.old other → IsKept shelf.new other }
+        ensures ready { (other : WorkStation) → AreApart self.old other → IsReady shelf.old other → IsReady shelf.new other }
+    {
+        self.turns += 1;
+        let graph = live.graph();
+        let done = self.log.dates().len() as u32;
+        if done == graph.jobs() {
+            return Stepped::Done;
+        }
+        refill(&mut self.inputs, shelf);
+        if let Some(k) = first_empty(&self.inputs) {
+            return Stepped::Blocked(graph.ins(self.number)[k]);
+        }
+        let date = next_date(graph, self.number, done + 1, &self.inputs);
+        empty_hands(&mut self.inputs);
+        put_all(graph, self.number, &mut self.outlets, shelf, date);
+        self.log.add(date);
+        Stepped::Fired
+    }
+
+    /// The dates of the station's firings, those of the log that it was made with first. It takes no memory.
+    pub fn log(&self) -> &[Date]
+        ensures log { result.now ≡ self.now.log.dates }
+        ensures station { IsStation self.now }
+    {
+        self.log.dates()
+    }
+
+    /// How many steps the station made since it was made, or since its turns were last cleared.
+    pub fn turns(&self) -> u64
+        ensures turns { result ≡ self.now.turns }
+        ensures station { IsStation self.now }
+    {
+        self.turns
+    }
+
+    /// The token in the hand of input `k`. `None` comes exactly where that hand is empty.
+    pub fn hand(&self, k: u32) -> Option<Date>
+        requires { k < length self.now.inputs }
+        ensures hand { result ≡ (input_at self.now.inputs k).hand }
+        ensures station { IsStation self.now }
+    {
+        self.inputs[k as usize].hand
+    }
+
+    /// Gives the log up. It takes no memory.
+    pub fn into_log(self) -> Log
+        ensures { result ≡ self.log }
+    {
+        self.log
+    }
+
+    /// Counts the turns from 0 again. Nothing else changes.
+    pub fn clear_turns(&mut self)
+        ensures turns { self.new ≡ record self.old { turns = 0 } }
+        ensures station { IsStation self.new }
+    {
+        self.turns = 0;
+    }
+}
+
+/// Brings the two ends of one ring together on one thread: output `k` of a station and input `j` of another. All that was
+/// put and not taken is then known. It takes no memory.
+pub fn meet_at(from: &mut Station, k: u32, to: &mut Station, j: u32)
+    requires output { k < length from.old.outlets }
+    requires input { j < length to.old.inputs }
+    requires ends { AreEnds (outlet_at from.old.outlets k) (input_at to.old.inputs j).inlet }
+    ensures from { from.new ≡ from.old }
+    ensures to { to.new ≡ with_inlet to.old j (input_at to.new.inputs j).inlet }
+    ensures same { unseen_inlet (input_at to.new.inputs j).inlet ≡ unseen_inlet (input_at to.old.inputs j).inlet }
+    ensures known { IsPrefix (inlet_known [] (input_at to.old.inputs j).inlet) (inlet_known [] (input_at to.new.inputs j).inlet) }
+    ensures met { AreMet (outlet_at from.new.outlets k) (input_at to.new.inputs j).inlet }
+    ensures bare { bare_station to.new ≡ bare_station to.old }
+    ensures station { IsStation to.new }
+    ensures kept { (shelf : List PlainQueue) → IsKept shelf to.old → IsKept shelf to.new }
+{
+    meet_ends(
+        &mut from.outlets[k as usize],
+        &mut to.inputs[j as usize].inlet,
+    );
+}
