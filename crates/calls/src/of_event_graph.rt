@@ -1,31 +1,36 @@
 use crate::plants::{plain, two_stations};
 use event_graph::{Arc, Graph, GraphError, Marking};
+use std::alloc::Global;
 use std::process::Abort;
 use std::test::Fail;
 
+/// Asserts the fault of two stations with these arcs, none of which has a delay.
+fn is_refused(rt: &impl Abort, alloc: Global, arcs: &[Arc], fault: GraphError) -> Result<(), Fail> {
+    let delays = vec![in alloc; 0; arcs.len()]?;
+    assert_eq!(rt; two_stations(rt, alloc, arcs, &delays).err(), Some(fault));
+    Ok(())
+}
+
 #[test]
-fn the_first_fault_is_named(rt: HostRuntime) {
-    let cases: [(&[Arc], GraphError); 6] = [
-        (&[plain(0, 5, 0)], GraphError::EndOutOfRange { arc: 0 }),
-        (
-            &[plain(1, 0, 1), plain(0, 1, 1), plain(2, 1, 1)],
-            GraphError::EndOutOfRange { arc: 2 },
-        ),
-        (
-            &[plain(0, 1, 1), plain(1, 0, 1), plain(0, 0, 1)],
-            GraphError::FeedInput { arc: 1 },
-        ),
-        (&[plain(1, 0, 1)], GraphError::FeedInput { arc: 0 }),
-        (&[], GraphError::NoInput { station: 1 }),
-        (
-            &[plain(0, 2, 1), plain(1, 2, 1)],
-            GraphError::EndOutOfRange { arc: 0 },
-        ),
-    ];
-    for (arcs, fault) in cases {
-        let built = two_stations(&rt, rt.alloc(), arcs, &[0, 0, 0][..arcs.len()]);
-        assert_eq!(rt; built.err(), Some(fault));
-    }
+fn the_first_arc_out_of_range_is_named(rt: HostRuntime) -> Result<(), Fail> {
+    let alone = GraphError::EndOutOfRange { arc: 0 };
+    is_refused(&rt, rt.alloc(), &[plain(0, 5, 0)], alone)?;
+    let arcs = [plain(1, 0, 1), plain(0, 1, 1), plain(2, 1, 1)];
+    let before_others = GraphError::EndOutOfRange { arc: 2 };
+    is_refused(&rt, rt.alloc(), &arcs, before_others)
+}
+
+#[test]
+fn the_first_arc_into_the_feed_is_named(rt: HostRuntime) -> Result<(), Fail> {
+    let arcs = [plain(0, 1, 1), plain(1, 0, 1), plain(0, 0, 1)];
+    let fault = GraphError::FeedInput { arc: 1 };
+    is_refused(&rt, rt.alloc(), &arcs, fault)
+}
+
+#[test]
+fn a_station_without_an_arc_into_it_is_named(rt: HostRuntime) -> Result<(), Fail> {
+    let fault = GraphError::NoInput { station: 1 };
+    is_refused(&rt, rt.alloc(), &[], fault)
 }
 
 #[test]
@@ -36,25 +41,26 @@ fn a_graph_tells_its_parts(rt: HostRuntime) -> Result<(), Fail> {
     };
     let arcs = [plain(0, 1, 0), own];
     let graph = two_stations(&rt, rt.alloc(), &arcs, &[4, 2])?;
-    tells_two_stations(&rt, &graph, &arcs);
+    tells_its_arcs(&rt, &graph, &arcs);
+    tells_its_stations(&rt, &graph);
     Ok(())
 }
 
-/// Asserts what a graph tells of the two stations, an arc from the feed with delay 4, and an own one with delay 2.
-fn tells_two_stations(rt: &impl Abort, graph: &Graph, arcs: &[Arc]) {
-    assert!(rt; graph.stations() == 2 && graph.jobs() == 2 && graph.arcs().len() == 2);
+/// Asserts what a graph tells of its two arcs, one from the feed with delay 4, and an own one with delay 2.
+fn tells_its_arcs(rt: &impl Abort, graph: &Graph, arcs: &[Arc]) {
     assert_eq!(rt; graph.arcs(), arcs);
-    assert_eq!(rt; graph.ins(0), [].as_slice());
-    assert_eq!(rt; graph.ins(1), [0, 1].as_slice());
-    assert_eq!(rt; graph.outs(0), [0].as_slice());
-    assert_eq!(rt; graph.outs(1), [1].as_slice());
+    assert!(rt; graph.arcs().len() == 2);
     assert_eq!(rt; [graph.tokens(0), graph.tokens(1)], [0, 1]);
     assert_eq!(rt; [graph.delay(0), graph.delay(1)], [4, 2]);
-    assert_eq!(rt;
-        [graph.time(0, 1), graph.time(1, 1), graph.time(1, 2)],
-        [0, 3, 3]
-    );
-    assert_eq!(rt; [graph.demand(1), graph.demand(2)], [0, 0]);
+}
+
+/// Asserts what a graph tells of the feed and of a station that takes 3 for each of two jobs.
+fn tells_its_stations(rt: &impl Abort, graph: &Graph) {
+    assert!(rt; graph.stations() == 2 && graph.jobs() == 2);
+    assert_eq!(rt; graph.ins(1), [0, 1].as_slice());
+    assert_eq!(rt; graph.outs(1), [1].as_slice());
+    assert_eq!(rt; [graph.time(0, 1), graph.time(1, 2)], [0, 3]);
+    assert_eq!(rt; graph.demand(2), 0);
     assert_eq!(rt; graph.label(0), b"feed".as_slice());
     assert_eq!(rt; graph.label(1), b"a".as_slice());
 }

@@ -48,21 +48,23 @@ fn a_write_gives_a_file_its_bytes(rt: HostRuntime) -> Result<(), Fail> {
     Ok(())
 }
 
+/// What is in a file after a write of `newer` that fails and keeps its first bytes, beside a file `a` that held `old`.
+fn torn(alloc: Global, name: &str, keep: u32) -> Result<Vec<u8>, Fail> {
+    let mut store = MemStore::torn(alloc, file_a(alloc, "old")?, vec![in alloc; 1]?, keep);
+    if store.write(name, b"newer").is_ok() {
+        return Err("the write went well".into());
+    }
+    let held = store.files().get(name).ok_or("the file is gone")?;
+    Ok(held.as_slice().to_vec(alloc)?)
+}
+
 #[test]
 fn a_torn_write_leaves_a_front_of_the_bytes(rt: HostRuntime) -> Result<(), Fail> {
     let alloc = rt.alloc();
-    let cases: [(u32, &str, &[u8]); 4] = [
-        (0, "a", b""),
-        (2, "a", b"ne"),
-        (2, "b", b"ne"),
-        (9, "a", b"newer"),
-    ];
-    for (keep, name, left) in cases {
-        let mut store = MemStore::torn(alloc, file_a(alloc, "old")?, vec![in alloc; 1]?, keep);
-        assert_eq!(rt; store.write(name, b"newer"), Err(StoreError::Failed));
-        let held = store.files().get(name).ok_or("the file is gone")?;
-        assert_eq!(rt; held.as_slice(), left);
-    }
+    assert_eq!(rt; torn(alloc, "a", 0)?.as_slice(), b"".as_slice());
+    assert_eq!(rt; torn(alloc, "a", 2)?.as_slice(), b"ne".as_slice());
+    assert_eq!(rt; torn(alloc, "b", 2)?.as_slice(), b"ne".as_slice());
+    assert_eq!(rt; torn(alloc, "a", 9)?.as_slice(), b"newer".as_slice());
     Ok(())
 }
 
@@ -151,6 +153,16 @@ fn numbered(alloc: Global, len: usize) -> Result<Vec<u8>, AllocError> {
     (0..len).map(|n| (n % 251) as u8).collect(alloc)
 }
 
+/// What a store of the machine reads of a file.
+fn read_of<R: std::rt::Files + Drop>(
+    rt: &R,
+    alloc: Global,
+    name: &str,
+    limit: u64,
+) -> Result<Vec<u8>, StoreError> {
+    FileStore::new(rt).read(alloc, name, limit)
+}
+
 #[test]
 fn a_file_of_the_machine_is_written_and_read(rt: HostRuntime) -> Result<(), Fail> {
     let alloc = rt.alloc();
@@ -158,16 +170,15 @@ fn a_file_of_the_machine_is_written_and_read(rt: HostRuntime) -> Result<(), Fail
     let path = std::env::temp_dir(&rt)?.join(alloc, own.as_str())?;
     let name = path.as_path().to_str().ok_or("not text")?;
     let bytes = numbered(alloc, 40_000)?;
-    let mut store = FileStore::new(&rt);
-    store.write(name, &bytes)?;
-    assert!(rt; store.read(alloc, name, 40_000)? == bytes);
+    FileStore::new(&rt).write(name, &bytes)?;
+    assert!(rt; read_of(&rt, alloc, name, 40_000)? == bytes);
     assert_eq!(rt;
-        store.read(alloc, name, 39_999).err(),
+        read_of(&rt, alloc, name, 39_999).err(),
         Some(StoreError::TooLong)
     );
     fs::remove_file(&rt, name)?;
     assert_eq!(rt;
-        store.read(alloc, name, 40_000).err(),
+        read_of(&rt, alloc, name, 40_000).err(),
         Some(StoreError::Failed)
     );
     Ok(())

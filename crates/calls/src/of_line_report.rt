@@ -1,8 +1,8 @@
 use crate::plants::{live_of, two_stages};
 use line_core::run;
 use line_io::MemSink;
-use line_report::{Report, SinkFault};
-use std::alloc::Global;
+use line_report::Report;
+use std::alloc::{AllocError, Global};
 use std::test::Fail;
 
 /// The report of the two stages.
@@ -13,18 +13,33 @@ fn report_of_two_stages(alloc: Global) -> Result<Report, Fail> {
     Ok(Report::new(alloc, plant, live, table)?)
 }
 
+/// Whether the report goes out whole.
+fn goes_out(report: &mut Report, sink: &mut MemSink) -> bool {
+    report.write(sink).is_ok()
+}
+
+/// What a sink with room for 1,000 bytes holds whose put of this number keeps only `keep` bytes, and whether the report went out whole.
+fn written(
+    alloc: Global,
+    report: &mut Report,
+    failing: u32,
+    keep: u32,
+) -> Result<(bool, Vec<u8>), AllocError> {
+    let mut sink = MemSink::new(alloc, 1_000, vec![in alloc; failing]?, keep)?;
+    let whole = goes_out(report, &mut sink);
+    Ok((whole, sink.written().to_vec(alloc)?))
+}
+
 #[test]
 fn a_report_begins_anew(rt: HostRuntime) -> Result<(), Fail> {
-    let alloc = rt.alloc();
-    let mut report = report_of_two_stages(alloc)?;
-    let mut torn = MemSink::new(alloc, 1_000, vec![in alloc; 1]?, 10)?;
-    assert_eq!(rt; report.write(&mut torn), Err(SinkFault));
-    assert_eq!(rt; torn.written(), b"feed 1 0\nf".as_slice());
+    let mut report = report_of_two_stages(rt.alloc())?;
+    let (whole, torn) = written(rt.alloc(), &mut report, 1, 10)?;
+    assert_eq!(rt; whole, false);
+    assert_eq!(rt; torn.as_slice(), b"feed 1 0\nf".as_slice());
     // The second put is to fail, so the report is one put.
-    let mut sink = MemSink::new(alloc, 1_000, vec![in alloc; 2]?, 0)?;
-    assert_eq!(rt; report.write(&mut sink), Ok(()));
-    assert_eq!(rt; sink.written().len(), 252);
-    assert!(rt; sink.written().starts_with(b"feed 1 0\nfeed 2 2\n"));
-    assert!(rt; sink.written().ends_with(b"waiting 9\nlast 15\n"));
+    let (whole, text) = written(rt.alloc(), &mut report, 2, 0)?;
+    assert_eq!(rt; (whole, text.len()), (true, 252));
+    assert!(rt; text.starts_with(b"feed 1 0\nfeed 2 2\n"));
+    assert!(rt; text.ends_with(b"waiting 9\nlast 15\n"));
     Ok(())
 }

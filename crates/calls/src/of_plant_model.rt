@@ -3,6 +3,7 @@ use crate::plants::two_stages;
 use line_base::{Date, Items, Name, Times};
 use plant_model::{CardLoop, Machine, Plant, PlantError, Policy, Stage};
 use std::alloc::{AllocError, Global};
+use std::process::Abort;
 use std::test::Fail;
 
 /// What may differ from the sound plant: stage `cut`, which feeds stage `weld`, with a machine `m` each.
@@ -93,72 +94,102 @@ fn line_of(alloc: Global, error: &PlantError) -> Result<String, AllocError> {
     format!(in alloc; "{kind}: {place}")
 }
 
-#[test]
-fn each_class_names_its_place(rt: HostRuntime) -> Result<(), Fail> {
-    let a = SOUND;
-    let cases = [
-        (
-            Parts {
-                names: [b"cut", b"feed"],
-                ..a
-            },
-            "bad name: stage[2].name",
-        ),
-        (
-            Parts {
-                names: [b"cut", b"cut"],
-                ..a
-            },
-            "name twice: stage[2].name",
-        ),
-        (
-            Parts {
-                times: &[3, 1_000_000_001],
-                ..a
-            },
-            "out of range: stage[1].machine[1].times[2]",
-        ),
-        (Parts { demands: &[], ..a }, "out of range: demands"),
-        (
-            Parts {
-                feeds: Some(0),
-                ..a
-            },
-            "feeds no later: stage[1].feeds",
-        ),
-        (Parts { feeds: None, ..a }, "two finals: stage[1]"),
-        (Parts { times: &[3], ..a }, "times: stage[1].machine[1]"),
-        (
-            Parts {
-                demands: &[4, 2, 2],
-                ..a
-            },
-            "demand order: 2",
-        ),
-        (Parts { stock: 3, ..a }, "too few cards: stage[1].cards"),
-        (
-            Parts {
-                card_loop: (1, 0),
-                ..a
-            },
-            "not downstream: loop[1]",
-        ),
-        (
-            Parts {
-                card_loop: (2, 2),
-                ..a
-            },
-            "not downstream: loop[1]",
-        ),
-        (Parts { loops: 65, ..a }, "too large: loops"),
-    ];
-    plant_of(rt.alloc(), &a)?.check(rt.alloc())?;
-    for (parts, line) in cases {
-        let plant = plant_of(rt.alloc(), &parts)?;
-        let error = plant.check(rt.alloc()).err().ok_or(line)?;
-        assert_eq!(rt; line_of(rt.alloc(), &error)?.as_str(), line);
+/// The line of the refusal of these parts, or `sound`.
+fn said_of(alloc: Global, parts: &Parts) -> Result<String, Fail> {
+    match plant_of(alloc, parts)?.check(alloc) {
+        Ok(()) => Ok(String::from_str(alloc, "sound")?),
+        Err(error) => Ok(line_of(alloc, &error)?),
     }
+}
+
+/// Asserts what is said of these parts.
+fn says(rt: &impl Abort, alloc: Global, parts: &Parts, line: &str) -> Result<(), Fail> {
+    assert_eq!(rt; said_of(alloc, parts)?.as_str(), line);
     Ok(())
+}
+
+#[test]
+fn a_sound_plant_is_accepted(rt: HostRuntime) -> Result<(), Fail> {
+    says(&rt, rt.alloc(), &SOUND, "sound")
+}
+
+#[test]
+fn names_are_refused_at_their_place(rt: HostRuntime) -> Result<(), Fail> {
+    let bad = Parts {
+        names: [b"cut", b"feed"],
+        ..SOUND
+    };
+    says(&rt, rt.alloc(), &bad, "bad name: stage[2].name")?;
+    let twice = Parts {
+        names: [b"cut", b"cut"],
+        ..SOUND
+    };
+    says(&rt, rt.alloc(), &twice, "name twice: stage[2].name")
+}
+
+#[test]
+fn numbers_are_refused_at_their_place(rt: HostRuntime) -> Result<(), Fail> {
+    let late = Parts {
+        times: &[3, 1_000_000_001],
+        ..SOUND
+    };
+    says(
+        &rt,
+        rt.alloc(),
+        &late,
+        "out of range: stage[1].machine[1].times[2]",
+    )?;
+    let empty = Parts {
+        demands: &[],
+        ..SOUND
+    };
+    says(&rt, rt.alloc(), &empty, "out of range: demands")
+}
+
+#[test]
+fn stages_that_feed_wrongly_are_refused_at_their_place(rt: HostRuntime) -> Result<(), Fail> {
+    let own = Parts {
+        feeds: Some(0),
+        ..SOUND
+    };
+    says(&rt, rt.alloc(), &own, "feeds no later: stage[1].feeds")?;
+    let none = Parts {
+        feeds: None,
+        ..SOUND
+    };
+    says(&rt, rt.alloc(), &none, "two finals: stage[1]")
+}
+
+#[test]
+fn dates_and_times_that_do_not_fit_are_refused_at_their_place(rt: HostRuntime) -> Result<(), Fail> {
+    let few = Parts {
+        times: &[3],
+        ..SOUND
+    };
+    says(&rt, rt.alloc(), &few, "times: stage[1].machine[1]")?;
+    let back = Parts {
+        demands: &[4, 2, 2],
+        ..SOUND
+    };
+    says(&rt, rt.alloc(), &back, "demand order: 2")
+}
+
+#[test]
+fn cards_and_loops_that_do_not_fit_are_refused_at_their_place(rt: HostRuntime) -> Result<(), Fail> {
+    let few = Parts { stock: 3, ..SOUND };
+    says(&rt, rt.alloc(), &few, "too few cards: stage[1].cards")?;
+    let up = Parts {
+        card_loop: (1, 0),
+        ..SOUND
+    };
+    says(&rt, rt.alloc(), &up, "not downstream: loop[1]")?;
+    let nowhere = Parts {
+        card_loop: (2, 2),
+        ..SOUND
+    };
+    says(&rt, rt.alloc(), &nowhere, "not downstream: loop[1]")?;
+    let many = Parts { loops: 65, ..SOUND };
+    says(&rt, rt.alloc(), &many, "too large: loops")
 }
 
 #[test]
