@@ -4,3 +4,4 @@ pub mod Mapped
 pub mod Places
 pub mod Greatest
 pub mod GreatestTerms
+pub mod Sizes

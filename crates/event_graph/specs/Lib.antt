@@ -10,6 +10,7 @@ pub mod Firing
 pub mod Reached
 pub mod Circuit
 pub mod Live
+pub mod Varying
 pub mod Faults
 pub mod Lists
 pub mod Laws

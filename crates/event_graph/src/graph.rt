@@ -1,12 +1,13 @@
-ghost use Rattle.std.specs.Prelude.{◌≡◌, ℕ, ◌≤◌, ◌<◌, All, IfOk, OnOk, IfErr, slice_index_or};
+ghost use Rattle.std.specs.Prelude.{◌≡◌, ℕ, ◌≤◌, ◌<◌, All, IfOk, OnOk, IfErr, slice_index_or, IsTrue, ◌↔◌};
 ghost use Rattle.event_graph.specs.Network.{stations, jobs, arc_count, arc, time, demand, delay, label, ins, outs, IsGraph, EndsAt, StartsAt};
 ghost use Rattle.event_graph.specs.Limits.{IsWithinLimits};
 ghost use Rattle.event_graph.specs.Faults.{IsFirstFault};
+ghost use Rattle.event_graph.specs.Varying.{Varies};
 
 use crate::checks::{check_ends, check_feed, check_inputs};
 use crate::error::GraphError;
 use crate::lists::{ArcLists, End, arcs_by_station};
-use line_base::{Arc, Date, Parts};
+use line_base::{Arc, Date, Parts, Times};
 use std::alloc::Global;
 use std::marker::Model;
 
@@ -122,6 +123,19 @@ impl Graph {
         ensures limits { IsWithinLimits self.now }
     {
         self.parts.times.as_slice()[t as usize].at(n)
+    }
+
+    /// Whether station `t` has a list of times, with one for each job.
+    pub fn varies(&self, t: u32) -> bool
+        requires { t < stations self.now }
+        ensures varies { IsTrue result ↔ Varies self.now t }
+        ensures graph { IsGraph self.now }
+        ensures limits { IsWithinLimits self.now }
+    {
+        match self.parts.times.as_slice()[t as usize] {
+            Times::Each(_) => true,
+            Times::Fixed(_) => false,
+        }
     }
 
     /// The demand date of job `n`, in the plant's unit.

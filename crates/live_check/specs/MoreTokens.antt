@@ -9,6 +9,7 @@ use Rattle.line_base.specs.declared.event.Arc.{Arc}
 use Rattle.line_base.specs.declared.event.Parts.{Parts}
 use Rattle.event_graph.specs.Network.{IsGraph, arc, arc_count, stations}
 use Rattle.event_graph.specs.Live.{IsLive}
+pub use Rattle.event_graph.specs.Varying.{IsList}
 use Rattle.event_graph.specs.Table.{Table}
 use Rattle.event_graph.specs.Least.{IsLeast, IsNowhereAbove}
 
@@ -26,11 +27,6 @@ pub record HasMoreTokens (few many : Parts) : Type 0 where
   pub dates : many.dates ≡ few.dates
   pub delays : many.delays ≡ few.delays
   pub arcs : AllZip KeepsArc few.arcs many.arcs
-
--- the job times are a list, with one for each job
-abbrev pub IsList : Times → Type 0
-IsList (Fixed time) = ⊥
-IsList (Each times) = Unit {0}
 
 -- the station has an arc to itself with one token
 pub record HasOwnToken (g : Parts) (t : ℕ) : Type 0 where

@@ -1,0 +1,12 @@
+pub mod Walks
+pub mod Telescoping
+pub mod Dates
+pub mod Circuits
+pub mod Weighed
+pub mod Growing
+pub mod Trails
+pub mod Offers
+pub mod Passes
+pub mod Rounds
+pub mod Ratios
+pub mod Certified

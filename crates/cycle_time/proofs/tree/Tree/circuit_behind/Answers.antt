@@ -1,0 +1,51 @@
+use Rattle.std.proofs.Common.{◌≡◌, ◌≢◌, ◌≤◌, ◌<◌, sym, ap, ◌∙◌, subst, arith, get_or, length, reverse, drop, vec_len}
+use Rattle.event_graph.specs.Network.{arc_count, stations}
+use Rattle.cycle_time.specs.Search.{IsHeavy}
+use Rattle.cycle_time.proofs.Trails.{trail_reaches, trail_heavy, trail_more_read, step_read, entry_read}
+use Rattle.cycle_time.proofs.tree.Tree.circuit_behind.Goals as goal
+
+pub returns-then-entry-arcs : goal.returns-then-entry-arcs
+returns-then-entry-arcs c = λ w grown.
+    (let g = c.args.graph.now in
+    let p = c.args.self.now in
+    let trail = c.loop-arcs.invariant.trail in
+    let all = c.stations-stations.ensures in
+    let arcs = ap (λ xs. length xs) c.arcs-arcs.ensures.arcs in
+    let fresh = sym (step_read g p c.loop-arcs.path.items c.loop-arcs.left.items c.args.t c.loop-arcs.at c.index.result.now trail c.index.ensures) ∙ (c.loop-arcs-test.true ∙ all.count) in
+    let entry = entry_read g p c.loop-arcs.at c.index-entry.result.now c.self.inside.entries.items c.requires.entry_for_each trail.here (ap (λ (q : _). q.entries) c.self.view_is) c.index-entry.ensures in
+    let free : arc_count g ≤ get_or p.entries c.loop-arcs.at 0 = omega (arith, arcs, entry, c.if-entry-arcs.true) in
+    trail_reaches g w p c.loop-arcs.path.items c.loop-arcs.left.items c.args.t c.loop-arcs.at all.graph grown trail fresh free)
+
+pub loop-arcs-preserved : goal.loop-arcs-preserved
+loop-arcs-preserved c =
+    let g = c.args.graph.now in
+    let p = c.args.self.now in
+    let all = c.stations-stations.ensures in
+    let trail = c.loop-arcs.invariant.trail in
+    let arcs = ap (λ xs. length xs) c.arcs-arcs.ensures.arcs in
+    let steps : vec_len c.loop-arcs.path ≡ length c.loop-arcs.path.items = omega arith in
+    let fresh = sym (step_read g p c.loop-arcs.path.items c.loop-arcs.left.items c.args.t c.loop-arcs.at c.index.result.now trail c.index.ensures) ∙ (c.loop-arcs-test.true ∙ all.count) in
+    let entry = entry_read g p c.loop-arcs.at c.index-entry.result.now c.self.inside.entries.items c.requires.entry_for_each trail.here (ap (λ (q : _). q.entries) c.self.view_is) c.index-entry.ensures in
+    let exists : c.index-entry.result.now < arc_count g = omega (arith, arcs, c.if-entry-arcs.false) in
+    record {
+      trail =
+          rw (c.push_reserved.ensures.items, c.arcs-arcs.ensures.arcs)
+          (trail_more_read g p c.loop-arcs.path.items c.loop-arcs.left.items c.args.t c.loop-arcs.at c.index-entry.result.now c.len.result all.graph trail fresh exists entry c.requires.enter (c.len.ensures ∙ steps));
+      room = omega (arith, c.loop-arcs.invariant.room, c.push_reserved.ensures.capacity);
+    }
+
+pub returns : goal.returns
+returns c = λ w grown.
+    (let g = c.args.graph.now in
+    let p = c.args.self.now in
+    let all = c.stations-stations.ensures in
+    let trail = c.loop-arcs.invariant.trail in
+    let path = c.loop-arcs.path.items in
+    let left = c.loop-arcs.left.items in
+    let at = c.loop-arcs.at in
+    let first = step_read g p path left c.args.t at c.index.result.now trail c.index.ensures in
+    let second = step_read g p path left c.args.t at c.index-2.result.now trail c.index-2.ensures in
+    let seen : get_or left at 0 ≢ stations g = λ same. c.loop-arcs-test.false (first ∙ (same ∙ sym all.count)) in
+    let heavy = trail_heavy g w p path left c.args.t at grown trail seen in
+    let is = c.in_ok-circuit.ensures ∙ (ap (λ xs. reverse (drop c.index-2.result.now xs)) c.deref.ensures.value ∙ ap (λ k. reverse (drop k path)) second) in
+    subst (IsHeavy g w) (sym is) heavy)

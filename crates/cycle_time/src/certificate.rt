@@ -1,0 +1,36 @@
+use line_base::Items;
+use std::fmt;
+
+/// The cycle time of an event graph, with what shows that no circuit has a greater ratio of time to tokens.
+///
+/// Source: Baccelli, Cohen, Olsder and Quadrat, Synchronization and Linearity, on maximum cycle means.
+#[derive(Drop)]
+pub struct Certificate {
+    /// The time of the ratio, in the plant's unit.
+    pub time: u64,
+    /// The tokens of the ratio, at least 1.
+    pub cards: u64,
+    /// The numbers of the arcs of one circuit of that ratio, in order; none where the graph has no circuit.
+    pub circuit: Items<u32>,
+    /// One number a station: no arc leads to one that is below that of its start, plus `cards` times the arc's job time and
+    /// delay, less `time` times its tokens.
+    pub potentials: Items<i128>,
+}
+
+/// Why a graph has no cycle time.
+#[derive(Clone, Copy, Debug, PartialEq, Eq)]
+pub enum CycleError {
+    /// This station, the first such, has a list of times.
+    Varying { station: u32 },
+    /// Memory ran out.
+    NoMemory,
+}
+
+impl fmt::Display for CycleError {
+    fn fmt<W: fmt::Write>(&self, f: &mut fmt::Formatter<W>) -> fmt::Result {
+        match self {
+            CycleError::Varying { station } => write!(f, "station {station} has a list of times"),
+            CycleError::NoMemory => f.write_str("memory ran out"),
+        }
+    }
+}

@@ -1,0 +1,109 @@
+ghost use Rattle.std.specs.Prelude.{◌≡◌, ◌≢◌, ℕ, ◌+◌, ◌*◌, ◌<◌, ◌≤◌, length, All, AllPairs, IsTrue, ◌↔◌};
+ghost use Rattle.std.specs.List.{Contains};
+ghost use Rattle.event_graph.specs.Network.{arc_count, delay};
+ghost use Rattle.event_graph.specs.Term.{work};
+ghost use Rattle.event_graph.specs.Circuit.{IsWalk, IsCircuit, starting_stations, tokens_on, time_along};
+
+use event_graph::Graph;
+
+/// Whether the arcs lead from this station, one after the other, back to it.
+fn lead_back(graph: &Graph, arcs: &[u32], start: u32) -> bool
+    requires { All (λ a. a < arc_count graph.now) arcs.now }
+    ensures { IsTrue result ↔ IsWalk graph.now start arcs.now start }
+{
+    let all = graph.arcs();
+    let mut at = start;
+    for a in arcs {
+        let arc = all[*a as usize];
+        if arc.from != at {
+            return false;
+        }
+        at = arc.to;
+    }
+    at == start
+}
+
+/// Whether one of the arcs starts at this station.
+fn leave(graph: &Graph, arcs: &[u32], station: u32) -> bool
+    requires { All (λ a. a < arc_count graph.now) arcs.now }
+    ensures { IsTrue result ↔ Contains (starting_stations graph.now arcs.now) station }
+{
+    let all = graph.arcs();
+    for a in arcs {
+        if all[*a as usize].from == station {
+            return true;
+        }
+    }
+    false
+}
+
+/// Whether no two of the arcs start at the same station.
+fn leave_distinct(graph: &Graph, arcs: &[u32]) -> bool
+    requires { All (λ a. a < arc_count graph.now) arcs.now }
+    ensures { IsTrue result ↔ AllPairs (λ t u. t ≢ u) (starting_stations graph.now arcs.now) }
+{
+    let all = graph.arcs();
+    for (place, a) in arcs.iter().enumerate() {
+        if leave(graph, &arcs[..place], all[*a as usize].from) {
+            return false;
+        }
+    }
+    true
+}
+
+/// Whether the arcs are a circuit: at least one, each from where the one before ends, the first from where the last ends,
+/// through distinct stations.
+pub fn is_circuit(graph: &Graph, arcs: &[u32]) -> bool
+    requires { All (λ a. a < arc_count graph.now) arcs.now }
+    ensures { IsTrue result ↔ IsCircuit graph.now arcs.now }
+{
+    let Some(first) = arcs.first() else {
+        return false;
+    };
+    let start = graph.arcs()[*first as usize].from;
+    lead_back(graph, arcs, start) && leave_distinct(graph, arcs)
+}
+
+/// The job times and delays along the arcs, in the plant's unit.
+pub fn time_of(graph: &Graph, arcs: &[u32]) -> u64
+    requires exist { All (λ a. a < arc_count graph.now) arcs.now }
+    requires few { length arcs.now ≤ 512 }
+    ensures time { result ≡ time_along graph.now arcs.now }
+    ensures small { result ≤ length arcs.now * 2_000_000_000 }
+{
+    let mut time = 0;
+    for a in arcs {
+        time += time_on(graph, *a);
+    }
+    time
+}
+
+/// The job time and the delay of an arc, in the plant's unit.
+pub fn time_on(graph: &Graph, a: u32) -> u64
+    requires exists { a < arc_count graph.now }
+    ensures time { result ≡ work graph.now a 1 + delay graph.now a }
+    ensures small { result ≤ 2_000_000_000 }
+{
+    let arc = graph.arcs()[a as usize];
+    let delay = graph.delay(a);
+    if arc.worked {
+        graph.time(arc.to, 1) + delay
+    } else {
+        delay
+    }
+}
+
+/// How many tokens the arcs hold at the start.
+pub fn tokens_of(graph: &Graph, arcs: &[u32]) -> u64
+    requires exist { All (λ a. a < arc_count graph.now) arcs.now }
+    requires few { length arcs.now ≤ 512 }
+    ensures tokens { result ≡ tokens_on graph.now arcs.now }
+    ensures small { result ≤ length arcs.now * 10_000 }
+{
+    let all = graph.arcs();
+    let mut tokens = 0;
+    for a in arcs {
+        tokens += u64::from(all[*a as usize].tokens);
+    }
+    tokens
+}

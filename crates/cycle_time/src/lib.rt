@@ -1,0 +1,18 @@
+//! The cycle time of an event graph: the greatest ratio of job times and delays to tokens over its circuits, with a
+//! certificate that anybody can check.
+#![tactic(auto)]
+
+mod acceptance;
+mod certificate;
+mod circuit;
+mod cycling;
+mod finding;
+mod laws;
+mod ratio;
+mod tree;
+mod weights;
+
+pub use acceptance::accept;
+pub use certificate::{Certificate, CycleError};
+pub use cycling::cycle;
+pub use laws::{certificates_bound_every_ratio, circuits_hold_back_dates, potentials_bound_dates};

@@ -1,0 +1,95 @@
+ghost use Rattle.std.specs.Prelude.{◌≡◌, ◌*◌, ◌<◌, ◌≤◌, length, slice_index, IfOk};
+ghost use Rattle.event_graph.specs.Network.{arc_count};
+ghost use Rattle.cycle_time.specs.Search.{gain, loss, IsModest, AreWeights};
+
+use crate::circuit::time_on;
+use event_graph::Graph;
+use std::alloc::{AllocError, Global};
+use std::marker::Model;
+
+/// What arcs count for in a search.
+#[derive(Clone, Copy)]
+pub enum Weighing {
+    /// One each, so that every circuit counts.
+    PerArc,
+    /// The cards times their job times and delays, less the time times their tokens.
+    AtRatio { time: u64, cards: u64 },
+}
+
+/// What each arc adds to a walk, and what it takes away.
+#[derive(Drop)]
+pub struct Weights {
+    weighing: Weighing,
+    gains: Vec<u64>,
+    losses: Vec<u64>,
+}
+
+impl Model for Weights {
+    ghost use Rattle.cycle_time.specs.Search.{Weighed};
+
+    ghost Value = { Weighed };
+
+    ghost view = { λ w. record { weighing = w.weighing; gained = w.gains.items; lost = w.losses.items } };
+}
+
+/// What arc `a` adds to a walk.
+fn gain_of(graph: &Graph, weighing: Weighing, a: u32) -> u64
+    requires exists { a < arc_count graph.now }
+    requires modest { IsModest weighing }
+    ensures gain { result ≡ gain graph.now weighing a }
+{
+    match weighing {
+        Weighing::PerArc => 1,
+        Weighing::AtRatio { cards, .. } => cards * time_on(graph, a),
+    }
+}
+
+/// What arc `a` takes away from a walk.
+fn loss_of(graph: &Graph, weighing: Weighing, a: u32) -> u64
+    requires exists { a < arc_count graph.now }
+    requires modest { IsModest weighing }
+    ensures loss { result ≡ loss graph.now weighing a }
+{
+    match weighing {
+        Weighing::PerArc => 0,
+        Weighing::AtRatio { time, .. } => time * u64::from(graph.tokens(a)),
+    }
+}
+
+impl Weights {
+    /// The weights of the arcs.
+    pub fn of(alloc: Global, graph: &Graph, weighing: Weighing) -> Result<Weights, AllocError>
+        requires { IsModest weighing }
+        ensures weights { IfOk result (AreWeights graph.now) }
+        ensures weighing { IfOk result (λ weights. weights.weighing ≡ weighing) }
+    {
+        let arcs = graph.arcs().len();
+        let mut gains = Vec::with_capacity(alloc, arcs)?;
+        let mut losses = Vec::with_capacity(alloc, arcs)?;
+        for a in 0..arcs as u32 {
+            gains.push_reserved(gain_of(graph, weighing, a));
+            losses.push_reserved(loss_of(graph, weighing, a));
+        }
+        Ok(Weights {
+            weighing,
+            gains,
+            losses,
+        })
+    }
+
+    /// What arc `a` adds.
+    pub fn gain(&self, a: u32) -> u64
+        requires { a < length self.now.gained }
+        ensures { result ≡ slice_index self.now.gained a }
+    {
+        self.gains[a as usize]
+    }
+
+    /// What arc `a` takes away.
+    pub fn loss(&self, a: u32) -> u64
+        requires { a < length self.now.lost }
+        ensures { result ≡ slice_index self.now.lost a }
+    {
+        self.losses[a as usize]
+    }
+}
