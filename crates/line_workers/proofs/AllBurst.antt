@@ -1,22 +1,20 @@
 -- A burst of all crews: what each did, and then the meeting.
-use Rattle.std.proofs.Common.{◌≡◌, ◌≢◌, ℕ, ◌+◌, ◌-◌, ◌<◌, ◌≤◌, List, [], ◌∷◌, take, min, length, get_or, refl, ap, ◌∙◌, sym, subst, arith}
+use Rattle.std.proofs.Common.{◌≡◌, ℕ, ◌+◌, ◌-◌, ◌<◌, ◌≤◌, List, [], ◌∷◌, take, min, length, refl, ap, ◌∙◌, sym, subst, arith}
 use Rattle.line_base.specs.declared.event.Parts.{Parts}
 use Rattle.line_base.specs.Roomy.{RoomyLog}
 use Rattle.event_graph.specs.Network.{stations, jobs, arc_count}
-use Rattle.live_check.specs.Order.{LiveGraph}
 use Rattle.card_queue.specs.Plain.{PlainQueue}
 use Rattle.station_step.specs.Station.{WorkStation}
 use Rattle.station_step.specs.Step.{IsReady}
 use Rattle.line_workers.specs.Share.{worker_of, first_of}
 use Rattle.line_workers.specs.Team.{WorkTeam, member}
-use Rattle.line_workers.specs.Teams.{team_at, worker_at, station_of, shelf_of, IsJoined, AreAllMet}
-use Rattle.line_workers.specs.Crew.{WorkCrew, IsCrew, teams_of}
+use Rattle.line_workers.specs.Teams.{team_at, station_of, shelf_of, IsJoined, AreAllMet}
+use Rattle.line_workers.specs.Crew.{WorkCrew, teams_of}
 use Rattle.line_workers.specs.Work.{dates_of, turns_of, HasWorked, HasBurst, HasBurstAlone, IsAlone, AllDone, TeamWorked, TeamsWorked}
 use Rattle.line_workers.specs.Meeting.{AreStill}
-use Rattle.line_workers.specs.Crews.{crew_at, live_of, graph_of, begun_of, AreCrews, IsSameCrew, AreSameCrews, CrewWorked}
-use Rattle.line_workers.specs.Burst.{StationBurst, AllMade, EachMade, TurnsAsDates, CrewsBurst}
-use Rattle.line_workers.proofs.Alone.{all-stations}
-use Rattle.line_workers.proofs.AllCrews.{count-teams, team_at-crews, ranked, graph-same, seat_there, number_there, seated, of_seat, crews-same, then_same}
+use Rattle.line_workers.specs.Crews.{crew_at, graph_of, begun_of, AreCrews, AreSameCrews, CrewWorked}
+use Rattle.line_workers.specs.Burst.{AllMade, EachMade, CrewsBurst}
+use Rattle.line_workers.proofs.AllCrews.{count-teams, team_at-crews, graph-same, seat_there, number_there, seated, of_seat, crews-same, then_same}
 
 -- the team of the only crew
 single : (crews : List WorkCrew) → length crews ≡ 1 → teams_of crews ≡ (crew_at crews 0).team ∷ []

@@ -1,10 +1,9 @@
 -- The crews of a line as teams, and a meeting among them.
-use Rattle.std.proofs.Common.{◌≡◌, ◌≢◌, ℕ, ◌+◌, ◌-◌, ◌<◌, ◌≤◌, List, [], map, length, get_or, set, refl, ap, ◌∙◌, sym, subst, arith, ⊎_elim}
+use Rattle.std.proofs.Common.{◌≡◌, ◌≢◌, ℕ, ◌+◌, ◌-◌, ◌<◌, ◌≤◌, List, [], length, set, refl, ap, ◌∙◌, sym, subst, arith, ⊎_elim}
 use Rattle.std.proofs.lemmas.Bool.{cases_eq}
-use Rattle.std.proofs.lemmas.List.{length-map, length-set, get_or-map, get_or-set_same, get_or-set_other, map-set}
+use Rattle.std.proofs.lemmas.List.{length-map, length-set, get_or-map, get_or-set_other, map-set}
 use Rattle.line_base.specs.declared.event.Parts.{Parts}
 use Rattle.event_graph.specs.Network.{stations, arc, arc_count, ins, outs}
-use Rattle.event_graph.specs.State.{State}
 use Rattle.live_check.specs.Order.{LiveGraph, IsRanked}
 use Rattle.station_step.specs.declared.ends.Outlet.{Outlet}
 use Rattle.station_step.specs.Ends.{AreEnds}
@@ -12,10 +11,10 @@ use Rattle.station_step.specs.Input.{input_at}
 use Rattle.station_step.specs.Station.{WorkStation, outlet_at}
 use Rattle.line_workers.specs.Share.{worker_of, first_of}
 use Rattle.line_workers.specs.Team.{WorkTeam, IsTeam, member}
-use Rattle.line_workers.specs.Teams.{team_at, worker_at, station_of, place_in, input_on, outlet_on, IsJoined, AreTeams, IsMetOn, AreAllMet, state_among}
-use Rattle.line_workers.specs.Crew.{WorkCrew, IsCrew, with_team, teams_of}
-use Rattle.line_workers.specs.Work.{dates_of, turns_of, dates_made, turns_made, TeamWorked, TeamsWorked}
-use Rattle.line_workers.specs.Meeting.{MetAt, AreStill, MeetsOn}
+use Rattle.line_workers.specs.Teams.{team_at, worker_at, station_of, place_in, outlet_on, IsJoined, AreTeams, IsMetOn, state_among}
+use Rattle.line_workers.specs.Crew.{WorkCrew, with_team, teams_of}
+use Rattle.line_workers.specs.Work.{dates_of, turns_of, dates_made, turns_made, TeamsWorked}
+use Rattle.line_workers.specs.Meeting.{MetAt, MeetsOn}
 use Rattle.line_workers.specs.Crews.{crew_at, no_crew, live_of, graph_of, begun_of, AreCrews, IsSameCrew, AreSameCrews, IsMeeting}
 use Rattle.line_workers.proofs.Share.{first-le, next-above, first-rises, first-all, worker-below}
 use Rattle.line_workers.proofs.Places.{in-stands, out-stands}
@@ -59,7 +58,7 @@ module _ (crews : List WorkCrew) (are : AreCrews crews) where
       ∙ ap (λ gr. first_of (length crews) (stations gr) c.worker) (graph-same w low)
       ∙ ap (first_of (length crews) (stations g)) (are.numbers w low)
 
-  size-is : (w : ℕ) → w < length crews → first_of (length crews) (stations (graph_of crews)) w + length (crew_at crews w).team.stations ≡ first_of (length crews) (stations (graph_of crews)) (w + 1)
+  pub size-is : (w : ℕ) → w < length crews → first_of (length crews) (stations (graph_of crews)) w + length (crew_at crews w).team.stations ≡ first_of (length crews) (stations (graph_of crews)) (w + 1)
   size-is w low =
       let c = crew_at crews w in
       ap (λ n. n + length c.team.stations) (sym (first-is w low))

@@ -1,24 +1,19 @@
 -- The one crew of its line: in the order of the places each station finds its tokens, round by round.
-use Rattle.std.proofs.Common.{◌≡◌, ◌≢◌, ℕ, ◌+◌, ◌-◌, ◌*◌, ◌<◌, ◌≤◌, List, [], ◌∷◌, length, get_or, refl, ap, ◌∙◌, sym, subst, arith, ⊎_elim}
+use Rattle.std.proofs.Common.{◌≡◌, ◌≢◌, ℕ, ◌+◌, ◌-◌, ◌<◌, ◌≤◌, List, [], ◌∷◌, length, get_or, refl, ap, ◌∙◌, sym, subst, arith, ⊎_elim}
 use Rattle.std.proofs.lemmas.Bool.{cases_lt}
 use Rattle.std.proofs.lemmas.List.{get_or-set_other}
-use Rattle.line_base.specs.declared.event.Parts.{Parts}
 use Rattle.event_graph.specs.Network.{stations, jobs, arc, arc_count}
-use Rattle.event_graph.specs.State.{State, log}
-use Rattle.event_graph.specs.Firing.{CanFire}
-use Rattle.event_graph.specs.Reached.{Reached}
-use Rattle.live_check.specs.Order.{IsRanked, LiveGraph}
-use Rattle.line_core.specs.Run.{IsReached}
+use Rattle.event_graph.specs.State.{log}
 use Rattle.line_core.specs.Round.{IsInRound}
 use Rattle.line_core.proofs.RoundLemmas.{can_fire_next}
 use Rattle.line_core.proofs.Runs.{is_reached}
 use Rattle.station_step.specs.Station.{WorkStation}
 use Rattle.station_step.specs.Step.{IsReady}
-use Rattle.line_workers.specs.Share.{worker_of, first_of}
+use Rattle.line_workers.specs.Share.{first_of}
 use Rattle.line_workers.specs.Team.{WorkTeam, IsTeam, member, no_station}
 use Rattle.line_workers.specs.Teams.{team_at, worker_at, station_of, shelf_of, place_in, IsJoined, AreTeams, AreAllMet, state_among}
-use Rattle.line_workers.specs.Crew.{WorkCrew, IsCrew, IsOrder, with_team}
-use Rattle.line_workers.specs.Work.{dates_of, HasWorked, TeamWorked, TeamsWorked, SteppedAt, IsSweeping, IsAlone}
+use Rattle.line_workers.specs.Crew.{WorkCrew, IsCrew, with_team}
+use Rattle.line_workers.specs.Work.{dates_of, TeamWorked, TeamsWorked, SteppedAt, IsSweeping, IsAlone}
 use Rattle.line_workers.proofs.Share.{first-zero, first-all, worker-below}
 use Rattle.line_workers.proofs.Standing.{stands_for_reached, log-among, can_fire_is_ready}
 use Rattle.line_workers.proofs.Sweeping.{listed-at_place, place-of_listed}

@@ -1,12 +1,11 @@
 -- Sweep after sweep of a burst.
-use Rattle.std.proofs.Common.{◌≡◌, ℕ, ◌+◌, ◌<◌, ◌≤◌, ◌⊎◌, min, List, length, get_or, add-zero, refl, ap, ◌∙◌, sym, subst, arith, ⊎_elim, inl, inr}
+use Rattle.std.proofs.Common.{◌≡◌, ℕ, ◌+◌, ◌<◌, ◌≤◌, min, length, add-zero, refl, ap, ◌∙◌, sym, subst, arith, ⊎_elim, inl, inr}
 use Rattle.std.proofs.lemmas.Bool.{cases_eq}
-use Rattle.event_graph.specs.Network.{stations, jobs}
-use Rattle.station_step.specs.Station.{WorkStation}
+use Rattle.event_graph.specs.Network.{jobs}
 use Rattle.station_step.specs.Step.{IsReady}
-use Rattle.line_workers.specs.Team.{WorkTeam, member}
+use Rattle.line_workers.specs.Team.{member}
 use Rattle.line_workers.specs.Crew.{WorkCrew, IsCrew, with_team}
-use Rattle.line_workers.specs.Work.{dates_of, TeamWorked, HasSwept, AllDone, IsAlone, HasBurst, HasBurstAlone, IsBursting}
+use Rattle.line_workers.specs.Work.{dates_of, HasSwept, AllDone, IsAlone, HasBurst, HasBurstAlone, IsBursting}
 use Rattle.line_workers.proofs.Alone.{all-stations}
 use Rattle.line_workers.proofs.Working.{idle_team, then_team, dates-le}
 

@@ -1,9 +1,8 @@
 -- How many stations a crew has, and how many dates and turns they can have made.
-use Rattle.std.proofs.Common.{◌≡◌, ℕ, ◌+◌, ◌*◌, ◌<◌, ◌≤◌, List, length, get_or, refl, ap, ◌∙◌, sym, subst, arith}
+use Rattle.std.proofs.Common.{ℕ, ◌+◌, ◌<◌, ◌≤◌, length, ap, arith}
 use Rattle.line_base.specs.declared.limits.TheConstants.{MAX_STATIONS, MAX_DEMANDS}
 use Rattle.event_graph.specs.Network.{stations, jobs}
-use Rattle.line_workers.specs.Share.{first_of}
-use Rattle.line_workers.specs.Team.{WorkTeam, member}
+use Rattle.line_workers.specs.Team.{member}
 use Rattle.line_workers.specs.Crew.{WorkCrew, IsCrew}
 use Rattle.line_workers.specs.Work.{dates_of}
 use Rattle.line_workers.proofs.Share.{first-rises, first-all}
@@ -25,3 +24,7 @@ dates-few c i is low =
 
 pub target-few : (c : WorkCrew) → IsCrew c → c.target ≤ MAX_DEMANDS
 target-few c is = omega (arith, is.target, is.ranked.limits.few_jobs)
+
+-- its list for the logs has room for those of its own stations
+pub spare_fits : (c : WorkCrew) → IsCrew c → length c.spare.logs + length c.team.stations ≤ c.spare.room
+spare_fits c is = omega (arith, ap length is.spare, is.spare_room, crew-within c is)

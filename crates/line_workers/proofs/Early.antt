@@ -1,19 +1,17 @@
 -- Dates that are at most what the tokens of their arcs ask are early: by induction over the job number, then the place.
-use Rattle.std.proofs.Common.{◌≡◌, ℕ, zero, suc, ◌+◌, ◌-◌, ◌*◌, ◌<◌, ◌≤◌, List, [], length, get_or, ap, ◌∙◌, sym, subst, arith, ⊎_elim}
-use Rattle.std.specs.List.{All}
+use Rattle.std.proofs.Common.{◌≡◌, ℕ, zero, suc, ◌+◌, ◌-◌, ◌*◌, ◌<◌, ◌≤◌, List, [], length, get_or, ap, arith, ⊎_elim}
 use Rattle.std.proofs.Math.Nat.{mul-le-mul_right}
 use Rattle.std.proofs.lemmas.Bool.{cases_lt, cases_eq}
 use Rattle.std.proofs.lemmas.List.{get_or_past}
 use Rattle.line_base.specs.declared.limits.TheConstants.{MAX_TIME, MAX_DEMAND_DATE}
 use Rattle.line_base.specs.declared.event.Parts.{Parts}
-use Rattle.event_graph.specs.Network.{stations, jobs, arc, arc_count, demand, delay, ins, IsGraph}
+use Rattle.event_graph.specs.Network.{stations, jobs, arc, arc_count, demand, ins, IsGraph}
 use Rattle.event_graph.specs.Limits.{IsWithinLimits}
-use Rattle.event_graph.specs.Term.{work}
 use Rattle.event_graph.specs.State.{State}
 use Rattle.event_graph.proofs.ArcNumbers.{All-ins}
 use Rattle.live_check.specs.Order.{IsUpward}
 use Rattle.line_core.specs.Consistent.{all_tokens, LATEST_DATE}
-use Rattle.line_core.proofs.Consistency.{asked, date_by_tokens, by_tokens-le, HasHeld}
+use Rattle.line_core.proofs.Consistency.{date_by_tokens, by_tokens-le, HasHeld}
 use Rattle.line_core.proofs.Bounds.{delay-small, work-small, latest_after}
 use Rattle.line_core.proofs.Runs.{length-tokens, token-initial, token-put}
 use Rattle.line_workers.specs.Grown.{log_in}

@@ -1,19 +1,19 @@
 -- Logs that have grown from a reached state are those of a reached state: by `Early` none of their sums was capped, so
 -- that each date is the one that the equations give.
-use Rattle.std.proofs.Common.{◌≡◌, ◌≢◌, ℕ, ◌+◌, ◌-◌, ◌<◌, ◌≤◌, Bool, true, false, cond, eqb, min, max, List, [], ◌∷◌, ◌++◌, map, drop, take, length, get_or, refl, ap, ◌∙◌, sym, subst, arith, ⊎_elim, length-append}
-use Rattle.std.specs.List.{All, range_with_len}
+use Rattle.std.proofs.Common.{◌≡◌, ℕ, ◌+◌, ◌-◌, ◌<◌, ◌≤◌, Bool, true, false, cond, eqb, max, List, [], ◌∷◌, ◌++◌, map, drop, length, get_or, refl, ap, ◌∙◌, sym, subst, arith, ⊎_elim, length-append}
+use Rattle.std.specs.List.{range_with_len}
 use Rattle.std.proofs.lemmas.Bool.{cases_lt}
 use Rattle.std.proofs.lemmas.List.{length-take, length-drop, length-map, get_or-take, get_or-drop, get_or_append_left, get_or-append_right, get_or-map, ext_get_or}
 use Rattle.std.proofs.lemmas.List.FromFn.{fill_by_all, length-map-range_with_len}
 use Rattle.line_base.specs.declared.event.Parts.{Parts}
-use Rattle.event_graph.specs.Network.{stations, jobs, arc, arc_count, demand, delay, ins}
+use Rattle.event_graph.specs.Network.{stations, arc, arc_count, demand, delay, ins}
 use Rattle.event_graph.specs.Term.{work}
 use Rattle.event_graph.specs.State.{State, log, place}
 use Rattle.event_graph.specs.Firing.{greatest}
 use Rattle.event_graph.specs.Reached.{Reached}
 use Rattle.event_graph.proofs.ArcNumbers.{All-ins}
 use Rattle.live_check.specs.Order.{IsRanked, LiveGraph}
-use Rattle.line_core.specs.Consistent.{all_tokens, tokens_left, due_date, state_of, IsConsistent, LATEST_DATE}
+use Rattle.line_core.specs.Consistent.{all_tokens, tokens_left, state_of, IsConsistent, LATEST_DATE}
 use Rattle.event_graph.proofs.Greatest.{le-greatest, greatest-le, greatest-same}
 use Rattle.line_core.proofs.Consistency.{asked, date_by_tokens, due_date-by_tokens, HasHeld, reached_is_consistent}
 use Rattle.line_core.proofs.Bounds.{delay-small, work-small}
@@ -21,7 +21,7 @@ use Rattle.line_core.proofs.Runs.{length-tokens, token-initial, token-put}
 use Rattle.line_core.proofs.Unwinding.{place-state_of, consistent_is_reached}
 use Rattle.station_step.specs.Kept.{saturating, date_for}
 use Rattle.line_workers.specs.Grown.{log_in, made_at, tokens_put, token_on, HasGrown}
-use Rattle.line_workers.proofs.Early.{bare, IsAtMostAsked, asked_is_early}
+use Rattle.line_workers.proofs.Early.{bare, asked_is_early}
 
 -- ---- dates by tokens
 

@@ -25,3 +25,6 @@ pub mod LineBurst
 pub mod Ordering
 pub mod NewCrews
 pub mod Lines
+pub mod LogsGiven
+pub mod TurnsCleared
+pub mod AfterSweeps

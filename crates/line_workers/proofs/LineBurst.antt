@@ -7,26 +7,24 @@ use Rattle.std.proofs.lemmas.List.FromFn.{map-range_with_len_more, length-map-ra
 use Rattle.std.proofs.lemmas.List.Sums.{sum_by_push}
 use Rattle.line_base.specs.declared.event.Parts.{Parts}
 use Rattle.event_graph.specs.Network.{stations, jobs}
-use Rattle.event_graph.specs.State.{State, log}
+use Rattle.event_graph.specs.State.{log}
 use Rattle.event_graph.specs.Firing.{CanFire}
 use Rattle.event_graph.specs.Reached.{Reached}
 use Rattle.live_check.specs.Order.{LiveGraph, IsRanked}
 use Rattle.line_core.specs.Consistent.{IsConsistent, IsFinished, fired}
-use Rattle.line_core.specs.Run.{Run, IsReached}
 use Rattle.line_core.specs.Round.{HasFired}
 use Rattle.line_core.proofs.Consistency.{reached_is_consistent}
 use Rattle.line_core.proofs.Bounds.{fired-le}
 use Rattle.line_core.proofs.Progress.{some_can_fire}
 use Rattle.line_core.proofs.Runs.{is_reached}
-use Rattle.station_step.specs.Station.{WorkStation}
 use Rattle.line_workers.specs.Team.{WorkTeam, member}
 use Rattle.line_workers.specs.Share.{worker_of, first_of}
 use Rattle.line_workers.specs.Teams.{station_of, AreTeams, AreAllMet, state_among}
 use Rattle.line_workers.specs.Crew.{WorkCrew, teams_of}
 use Rattle.line_workers.specs.Work.{dates_of, turns_of, TurnsBelow}
-use Rattle.line_workers.specs.Crews.{crew_at, no_crew, live_of, graph_of, begun_of, AreCrews, AreSameCrews}
-use Rattle.line_workers.specs.Burst.{StationBurst, AllMade, EachMade, CrewsBurst}
-use Rattle.line_workers.specs.Line.{WorkLine, turns_among, line_of, run_in, firings_of, KeepsPace, AreAtRest, IsLine, LogsGrow}
+use Rattle.line_workers.specs.Crews.{crew_at, no_crew, live_of, graph_of, begun_of, AreCrews}
+use Rattle.line_workers.specs.Burst.{AllMade, EachMade, CrewsBurst}
+use Rattle.line_workers.specs.Line.{WorkLine, turns_among, line_of, run_in, KeepsPace, AreAtRest, IsLine, LogsGrow}
 use Rattle.line_workers.proofs.AllCrews.{ranked, crews_are_teams, seat_there, number_there, seated, of_seat}
 use Rattle.line_workers.proofs.Standing.{log-among, stands_for_reached, can_fire_is_ready}
 

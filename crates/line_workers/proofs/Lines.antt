@@ -1,6 +1,6 @@
 -- A line at rest stands for a reached state; a new one for the state that it was made from.
-use Rattle.std.proofs.Common.{◌≡◌, ℕ, ◌+◌, ◌-◌, ◌*◌, ◌<◌, ◌≤◌, List, [], map, length, get_or, zero-add, refl, ap, ◌∙◌, sym, subst, arith}
-use Rattle.std.specs.List.{range_with_len, All}
+use Rattle.std.proofs.Common.{◌≡◌, ℕ, ◌+◌, ◌-◌, ◌<◌, ◌≤◌, List, [], length, zero-add, ap, ◌∙◌, sym, subst, arith}
+use Rattle.std.specs.List.{All}
 use Rattle.std.proofs.lemmas.List.FromFn.{fill_by_all, length-map-range_with_len, get_or-map-range_with_len}
 use Rattle.line_base.specs.declared.event.Parts.{Parts}
 use Rattle.event_graph.specs.Network.{stations, jobs}
@@ -11,14 +11,12 @@ use Rattle.line_core.specs.Consistent.{state_of, IsConsistent, IsFinished, fired
 use Rattle.line_core.proofs.Consistency.{reached_is_consistent}
 use Rattle.line_core.proofs.Runs.{is_reached}
 use Rattle.line_core.proofs.Unwinding.{state_of-logs}
-use Rattle.station_step.specs.Station.{WorkStation}
 use Rattle.line_workers.specs.Share.{worker_of, first_of}
-use Rattle.line_workers.specs.Team.{WorkTeam, member}
-use Rattle.line_workers.specs.Teams.{station_of, state_among, AreTeams, AreAllMet, HaveBegun}
+use Rattle.line_workers.specs.Teams.{station_of, state_among, AreAllMet}
 use Rattle.line_workers.specs.Crew.{WorkCrew, teams_of}
 use Rattle.line_workers.specs.Work.{dates_of, turns_of, AllDone}
 use Rattle.line_workers.specs.Crews.{crew_at, live_of, graph_of, begun_of, AreCrews, AreNewCrews}
-use Rattle.line_workers.specs.Line.{WorkLine, line_of, turns_among, AreAtRest, IsLine, KeepsPace, Stands}
+use Rattle.line_workers.specs.Line.{line_of, turns_among, AreAtRest, IsLine, Stands}
 use Rattle.line_workers.proofs.Standing.{stands_for_reached, state_among-is, log-among}
 use Rattle.line_workers.proofs.AllCrews.{ranked, crews_are_teams, graph-same, seat_there, number_there, seated, of_seat}
 
@@ -108,7 +106,7 @@ module _ (live : LiveGraph) (begun : State) (workers : ℕ) (crews : List WorkCr
 -- ---- the end
 
 module _ (crews : List WorkCrew) (are : AreCrews crews) where
-  target-of : (w : ℕ) → w < length crews → (crew_at crews w).target ≡ jobs (graph_of crews)
+  pub target-of : (w : ℕ) → w < length crews → (crew_at crews w).target ≡ jobs (graph_of crews)
   target-of w low = (are.each w low).target ∙ ap jobs (graph-same crews are w low)
 
   log-of : (t : ℕ) → t < stations (graph_of crews) → log (state_among (graph_of crews) (teams_of crews)) t ≡ (station_of (graph_of crews) (teams_of crews) t).log.dates

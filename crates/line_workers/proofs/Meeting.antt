@@ -1,5 +1,5 @@
 -- A meeting at one arc between two workers.
-use Rattle.std.proofs.Common.{◌≡◌, ◌≢◌, ℕ, ◌+◌, ◌-◌, ◌<◌, ◌≤◌, ◌⊎◌, List, [], ◌++◌, take, length, get_or, set, refl, ap, ◌∙◌, sym, subst, arith, ⊎_elim, inl, inr}
+use Rattle.std.proofs.Common.{◌≡◌, ◌≢◌, ℕ, ◌-◌, ◌<◌, ◌≤◌, List, [], ◌++◌, take, length, get_or, set, refl, ap, ◌∙◌, sym, subst, arith, ⊎_elim}
 use Rattle.std.proofs.lemmas.Bool.{cases_eq}
 use Rattle.std.proofs.lemmas.List.{length-set, get_or-set_same, get_or-set_other, take_all}
 use Rattle.line_base.specs.declared.event.Parts.{Parts}
@@ -14,14 +14,14 @@ use Rattle.station_step.specs.declared.ends.Outlet.TheVariants as outlet
 use Rattle.station_step.specs.declared.input.Input.{Input}
 use Rattle.station_step.specs.Ends.{inlet_taken, inlet_known, AreMet}
 use Rattle.station_step.specs.Input.{input_at}
-use Rattle.station_step.specs.Station.{WorkStation, outlet_at, with_inlet, bare_station}
+use Rattle.station_step.specs.Station.{WorkStation, outlet_at}
 use Rattle.line_workers.specs.Share.{worker_of, first_of}
-use Rattle.line_workers.specs.Team.{WorkTeam, IsTeam, member, no_station}
-use Rattle.line_workers.specs.Teams.{team_at, worker_at, station_of, shelf_of, place_in, input_on, outlet_on, outlet_tokens, AreTeams, IsMetOn}
+use Rattle.line_workers.specs.Team.{WorkTeam, member, no_station}
+use Rattle.line_workers.specs.Teams.{team_at, worker_at, station_of, shelf_of, place_in, input_on, outlet_on, outlet_tokens, AreTeams}
 use Rattle.line_workers.specs.Work.{dates_of, turns_of, HasWorked, IsSameShelf, TeamWorked, TeamsWorked}
-use Rattle.line_workers.specs.Meeting.{MetAt, AreStill, MeetsOn}
+use Rattle.line_workers.specs.Meeting.{MetAt, MeetsOn}
 use Rattle.line_workers.proofs.Share.{first-le, next-above, worker-below}
-use Rattle.line_workers.proofs.Places.{StandsIn, in-stands, out-stands}
+use Rattle.line_workers.proofs.Places.{in-stands}
 use Rattle.line_workers.proofs.Working.{idle, idle_shelf, idle_team}
 
 abbrev no_team : WorkTeam

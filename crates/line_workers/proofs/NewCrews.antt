@@ -1,16 +1,15 @@
 -- The crews of a new line, one after the other.
-use Rattle.std.proofs.Common.{◌≡◌, ℕ, ◌+◌, ◌<◌, ◌≤◌, List, [], ◌∷◌, ◌++◌, drop, take, length, get_or, refl, ap, ◌∙◌, sym, subst, arith, ⊎_elim, length-append, zero-add, add-zero}
+use Rattle.std.proofs.Common.{◌≡◌, ℕ, ◌+◌, ◌<◌, ◌≤◌, List, [], ◌∷◌, ◌++◌, drop, length, get_or, refl, ap, ◌∙◌, sym, subst, arith, ⊎_elim, length-append, add-zero}
 use Rattle.std.proofs.lemmas.Bool.{cases_lt}
 use Rattle.std.proofs.lemmas.List.{get_or-drop, get_or_append_left, get_or_push, length-drop, drop-drop, get_or_default, ext_get_or}
-use Rattle.line_base.specs.declared.event.Parts.{Parts}
 use Rattle.event_graph.specs.Network.{stations, arc_count}
 use Rattle.event_graph.specs.State.{State}
 use Rattle.live_check.specs.Order.{LiveGraph}
 use Rattle.line_workers.specs.Share.{first_of}
 use Rattle.line_workers.specs.Team.{WorkTeam, IsTeam}
 use Rattle.line_workers.specs.Teams.{team_at, IsJoined, AreTeams, AreAllMet, HaveBegun}
-use Rattle.line_workers.specs.Crew.{WorkCrew, IsCrew, teams_of}
-use Rattle.line_workers.specs.Crews.{crew_at, no_crew, live_of, begun_of, AreCrews, IsNewCrew, AreNewCrews, AreMakingCrews}
+use Rattle.line_workers.specs.Crew.{WorkCrew, teams_of}
+use Rattle.line_workers.specs.Crews.{crew_at, no_crew, live_of, begun_of, IsNewCrew, AreNewCrews, AreMakingCrews}
 use Rattle.line_workers.proofs.AllCrews.{count-teams, team_at-crews}
 
 module _ (live : LiveGraph) (begun : State) (workers : ℕ) (teams : List WorkTeam) (count : length teams ≡ workers) (are : AreTeams live.graph begun teams) where

@@ -1,5 +1,5 @@
 -- Where an arc stands in the lists of its stations.
-use Rattle.std.proofs.Common.{◌≡◌, ◌≢◌, ℕ, ◌+◌, ◌<◌, ◌≤◌, eqb, List, length, get_or, refl, ap, ◌∙◌, sym, arith, zero-add}
+use Rattle.std.proofs.Common.{◌≡◌, ◌≢◌, ℕ, ◌<◌, ◌≤◌, eqb, List, length, get_or, refl, ap, ◌∙◌, sym, arith}
 use Rattle.std.specs.List.{AllPairs, Contains, range_with_len}
 use Rattle.std.proofs.lemmas.Bool.{eq-eqb, ne_eqb}
 use Rattle.std.proofs.lemmas.List.{get_or_default}

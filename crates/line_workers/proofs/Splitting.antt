@@ -1,5 +1,5 @@
 -- A list in two parts, one element of which was changed.
-use Rattle.std.proofs.Common.{◌≡◌, ℕ, ◌+◌, ◌-◌, ◌<◌, ◌≤◌, List, ◌++◌, length, get_or, set, refl, ap, ◌∙◌, sym, arith}
+use Rattle.std.proofs.Common.{◌≡◌, ℕ, ◌-◌, ◌<◌, List, ◌++◌, length, get_or, set, ap, ◌∙◌, sym, arith}
 use Rattle.std.proofs.lemmas.List.{set-get_or, set-append_left, set-append_right, get_or_append_left, get_or-append_right}
 use Rattle.line_workers.specs.Crew.{WorkCrew}
 

@@ -1,15 +1,15 @@
 -- What the teams of a line stand for, where every queue was met: a state that firings reach.
-use Rattle.std.proofs.Common.{◌≡◌, ◌≢◌, ℕ, ◌+◌, ◌-◌, ◌<◌, ◌≤◌, cond, eqb, List, [], ◌++◌, map, drop, take, length, get_or, refl, ap, ◌∙◌, sym, subst, arith, length-append, zero-add}
+use Rattle.std.proofs.Common.{◌≡◌, ℕ, ◌+◌, ◌-◌, ◌<◌, ◌≤◌, cond, eqb, List, [], ◌++◌, map, drop, take, length, get_or, refl, ap, ◌∙◌, sym, subst, arith, length-append, zero-add}
 use Rattle.std.specs.Prelude.{option_to_list}
 use Rattle.std.specs.List.{range_with_len}
 use Rattle.std.proofs.Math.Seq.{drop-append_seam}
-use Rattle.std.proofs.lemmas.List.{length-map, length-drop, get_or_append_left, drop-drop, drop-append-le}
+use Rattle.std.proofs.lemmas.List.{get_or_append_left, drop-drop, drop-append-le}
 use Rattle.std.proofs.lemmas.List.FromFn.{length-range_with_len, get_or-range_with_len, length-map-range_with_len, get_or-map-range_with_len, fill_by_all}
 use Rattle.line_base.specs.declared.event.Parts.{Parts}
 use Rattle.card_queue.specs.Plain.{PlainQueue}
 use Rattle.event_graph.specs.Network.{stations, jobs, arc, arc_count, demand, delay, ins, outs, IsGraph}
 use Rattle.event_graph.specs.Term.{work}
-use Rattle.event_graph.specs.State.{State, log, place}
+use Rattle.event_graph.specs.State.{State, place}
 use Rattle.event_graph.specs.Firing.{CanFire}
 use Rattle.event_graph.specs.Reached.{Reached}
 use Rattle.event_graph.proofs.ArcNumbers.{All-ins}
@@ -20,15 +20,15 @@ use Rattle.station_step.specs.declared.ends.Outlet.{Outlet}
 use Rattle.station_step.specs.declared.ends.Outlet.TheVariants as outlet
 use Rattle.station_step.specs.Ends.{inlet_taken, inlet_known, outlet_added}
 use Rattle.station_step.specs.Input.{input_at, IsHeld, tokens_known}
-use Rattle.station_step.specs.Station.{WorkStation, outlet_at, firings}
-use Rattle.station_step.specs.Kept.{saturating, asked, date_for, token_for, sent}
+use Rattle.station_step.specs.Station.{firings}
+use Rattle.station_step.specs.Kept.{saturating, asked, date_for, token_for}
 use Rattle.station_step.specs.Step.{IsReady}
 use Rattle.line_workers.specs.Grown.{log_in, made_at, tokens_put, token_on, HasGrown}
-use Rattle.line_workers.specs.Share.{worker_of, first_of}
-use Rattle.line_workers.specs.Team.{WorkTeam, IsMember, member}
-use Rattle.line_workers.specs.Teams.{team_at, worker_at, station_of, shelf_of, place_in, input_on, outlet_on, outlet_initial, outlet_tokens, AreTeams, AreAllMet, place_of, state_among}
+use Rattle.line_workers.specs.Share.{first_of}
+use Rattle.line_workers.specs.Team.{WorkTeam, IsMember}
+use Rattle.line_workers.specs.Teams.{worker_at, station_of, shelf_of, place_in, input_on, outlet_on, outlet_initial, outlet_tokens, AreTeams, AreAllMet, place_of, state_among}
 use Rattle.line_workers.proofs.Share.{first-le, next-above, worker-below}
-use Rattle.line_workers.proofs.Places.{place_in-at, distinct-ins, StandsIn, in-stands, out-stands}
+use Rattle.line_workers.proofs.Places.{place_in-at, distinct-ins, in-stands, out-stands}
 use Rattle.line_workers.proofs.Grown.{grown_is_reached, tokens_put-held}
 
 -- ---- dates

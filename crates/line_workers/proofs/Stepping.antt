@@ -1,18 +1,15 @@
 -- A step of one station among those of a team.
-use Rattle.std.proofs.Common.{◌≡◌, ◌≢◌, ℕ, ◌+◌, ◌-◌, ◌<◌, ◌≤◌, ◌⊎◌, List, [], ◌∷◌, ◌++◌, map, take, drop, length, get_or, set, refl, ap, ◌∙◌, sym, subst, arith, ⊎_elim, inl, inr, length-append}
-use Rattle.std.specs.Prelude.{Some}
+use Rattle.std.proofs.Common.{◌≡◌, ◌≢◌, ℕ, ◌+◌, ◌<◌, ◌≤◌, List, [], ◌∷◌, ◌++◌, map, take, length, get_or, set, refl, ap, ◌∙◌, sym, subst, arith, ⊎_elim, inl, inr, length-append}
 use Rattle.std.proofs.lemmas.Bool.{cases_eq}
-use Rattle.std.proofs.lemmas.List.{length-map, length-set, length-drop, get_or_read, get_or-set_same, get_or-set_other, take-append-le, take_all, take_at}
+use Rattle.std.proofs.lemmas.List.{length-map, length-set, get_or_read, get_or-set_same, get_or-set_other, take-append-le, take_all}
 use Rattle.line_base.specs.declared.event.Parts.{Parts}
-use Rattle.line_base.specs.Roomy.{RoomyLog, with_date}
+use Rattle.line_base.specs.Roomy.{RoomyLog}
 use Rattle.card_queue.specs.Plain.{PlainQueue}
 use Rattle.event_graph.specs.Network.{stations}
-use Rattle.event_graph.specs.State.{State, log}
-use Rattle.station_step.specs.declared.ends.Outlet.{Outlet}
-use Rattle.station_step.specs.declared.input.Input.{Input}
+use Rattle.event_graph.specs.State.{State}
 use Rattle.station_step.specs.declared.stepped.Stepped.{Stepped}
 use Rattle.station_step.specs.declared.stepped.Stepped.TheVariants.{Fired, Blocked, Done}
-use Rattle.station_step.specs.Ends.{bare_inlet, inlet_queue, outlet_queue, bare_outlet}
+use Rattle.station_step.specs.Ends.{bare_outlet}
 use Rattle.station_step.specs.Input.{NoneTakes, input_at}
 use Rattle.station_step.specs.Station.{WorkStation, IsStation, IsSeated, AreApart, NonePuts, bare_station, bare_input, outlet_at}
 use Rattle.station_step.specs.Kept.{IsKept}
@@ -21,7 +18,7 @@ use Rattle.station_step.proofs.Keeping.{seated-same}
 use Rattle.station_step.proofs.OwnQueues.{input-same, outlet-same, inlet_queue-same, outlet_queue-same}
 use Rattle.line_workers.specs.Team.{WorkTeam, IsMember, IsTeam, member, no_station}
 use Rattle.line_workers.specs.Crew.{WorkCrew, IsCrew, IsOrder, with_team}
-use Rattle.line_workers.specs.Work.{dates_of, HasWorked, IsSameShelf, SteppedAt}
+use Rattle.line_workers.specs.Work.{dates_of, HasWorked, SteppedAt}
 
 -- ---- a station that is the same but for what it took, put and made
 
@@ -201,6 +198,7 @@ crew-with_team c team is members count = record {
   ranked = is.ranked;
   reached = is.reached;
   exists = is.exists;
+  few = is.few;
   starts = is.starts;
   ends = ap (λ n. c.first + n) count ∙ is.ends;
   members = members;

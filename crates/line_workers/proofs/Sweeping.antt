@@ -1,18 +1,17 @@
 -- Going over the stations of a team in an order that lists each once.
-use Rattle.std.proofs.Common.{◌≡◌, ◌≢◌, ℕ, ◌+◌, ◌<◌, ◌≤◌, ◌⊎◌, eqb, inl, inr, List, length, get_or, set, refl, ap, ◌∙◌, sym, subst, arith, ⊎_elim}
+use Rattle.std.proofs.Common.{◌≡◌, ◌≢◌, ℕ, ◌+◌, ◌<◌, ◌≤◌, ◌⊎◌, eqb, inl, inr, List, length, get_or, refl, ap, ◌∙◌, sym, subst, arith, ⊎_elim}
 use Rattle.std.specs.List.{AllPairs}
 use Rattle.std.proofs.lemmas.Bool.{cases_lt, cases_eq, eqb-true}
-use Rattle.std.proofs.lemmas.List.{get_or_default, get_or-set_same, get_or-set_other, length-set}
+use Rattle.std.proofs.lemmas.List.{get_or_default, get_or-set_other, length-set}
 use Rattle.std.proofs.lemmas.List.Sums.{passes_at_first}
-use Rattle.card_queue.specs.Plain.{PlainQueue}
 use Rattle.station_step.specs.Station.{WorkStation}
 use Rattle.station_step.specs.Step.{IsReady}
 use Rattle.line_workers.specs.Team.{WorkTeam, member, no_station}
 use Rattle.line_workers.specs.Teams.{place_in}
 use Rattle.line_workers.specs.Crew.{IsOrder}
-use Rattle.line_workers.specs.Work.{dates_of, HasWorked, TeamWorked, SteppedAt, IsSweeping, HasSwept}
+use Rattle.line_workers.specs.Work.{dates_of, HasWorked, SteppedAt, IsSweeping, HasSwept}
 use Rattle.line_workers.proofs.Places.{place_in-at}
-use Rattle.line_workers.proofs.Working.{idle, idle_team, then_worked, then_shelf}
+use Rattle.line_workers.proofs.Working.{idle_team, then_worked, then_shelf}
 
 module _ (places : List ℕ) (first count : ℕ) (order : List ℕ) (is : IsOrder places first count order) where
   distinct-order : AllPairs (λ x y. x ≢ y) order

@@ -1,5 +1,5 @@
 -- Sums over all stations of a line, team by team.
-use Rattle.std.proofs.Common.{◌≡◌, ℕ, zero, suc, ◌+◌, ◌-◌, ◌<◌, ◌≤◌, List, [], ◌∷◌, ◌++◌, map, take, length, get_or, refl, ap, ◌∙◌, sym, subst, arith, zero-add, add-zero, add_assoc}
+use Rattle.std.proofs.Common.{◌≡◌, ℕ, zero, suc, ◌+◌, ◌-◌, ◌<◌, ◌≤◌, List, [], ◌∷◌, map, take, length, refl, ap, ◌∙◌, sym, arith, zero-add, add-zero, add_assoc}
 use Rattle.std.specs.List.{sum_by, range_with_len}
 use Rattle.std.proofs.lemmas.List.{take_more, take_all}
 use Rattle.std.proofs.lemmas.List.FromFn.{map-range_with_len_more, fill_by_all}
@@ -8,7 +8,7 @@ use Rattle.line_base.specs.declared.event.Parts.{Parts}
 use Rattle.event_graph.specs.Network.{stations}
 use Rattle.event_graph.specs.State.{State}
 use Rattle.station_step.specs.Station.{WorkStation}
-use Rattle.line_workers.specs.Share.{worker_of, first_of}
+use Rattle.line_workers.specs.Share.{first_of}
 use Rattle.line_workers.specs.Team.{WorkTeam, member, no_station}
 use Rattle.line_workers.specs.Teams.{team_at, worker_at, station_of, AreTeams}
 use Rattle.line_workers.proofs.Share.{worker_is, first-zero, first-all}
@@ -40,7 +40,7 @@ sum_from f h k a (suc n) same =
     ∙ ap (λ s. sum_by f (map h (range_with_len 0 a)) + s) (sym (ap (λ m. sum_by f (map k (range_with_len 0 m))) one ∙ sum_map f k n))
 
 -- the stations of a list by their numbers
-by_number : (xs : List WorkStation) → xs ≡ map (member xs) (range_with_len 0 (length xs))
+pub by_number : (xs : List WorkStation) → xs ≡ map (member xs) (range_with_len 0 (length xs))
 by_number xs = fill_by_all (member xs) xs (length xs) no_station refl (λ k low. refl)
 
 -- ---- team by team

@@ -1,19 +1,17 @@
 -- Teams that have worked are teams of the same line.
-use Rattle.std.proofs.Common.{◌≡◌, ◌≢◌, ℕ, ◌+◌, ◌-◌, ◌<◌, ◌≤◌, List, [], ◌∷◌, ◌++◌, take, drop, length, get_or, refl, ap, ◌∙◌, sym, subst, arith, ⊎_elim}
-use Rattle.std.proofs.lemmas.Bool.{cases_lt}
+use Rattle.std.proofs.Common.{◌≡◌, ℕ, ◌+◌, ◌-◌, ◌<◌, ◌≤◌, List, ◌++◌, take, length, refl, ap, ◌∙◌, sym, subst, arith}
 use Rattle.std.proofs.lemmas.List.{take-append-drop, take-take, take_all, length-take}
 use Rattle.line_base.specs.declared.event.Parts.{Parts}
 use Rattle.card_queue.specs.Plain.{PlainQueue, plain_tokens}
 use Rattle.event_graph.specs.Network.{stations, arc, arc_count, ins, outs, IsGraph}
-use Rattle.event_graph.specs.State.{State, place}
+use Rattle.event_graph.specs.State.{State}
 use Rattle.station_step.specs.declared.ends.Inlet.{Inlet}
 use Rattle.station_step.specs.declared.ends.Outlet.{Outlet}
 use Rattle.station_step.specs.declared.ends.Inlet.TheVariants as inlet
 use Rattle.station_step.specs.declared.ends.Outlet.TheVariants as outlet
 use Rattle.station_step.specs.Shelf.{queue_at}
 use Rattle.station_step.specs.Ends.{bare_inlet, bare_outlet, inlet_taken, inlet_known, AreEnds}
-use Rattle.station_step.specs.Input.{input_at}
-use Rattle.station_step.specs.Station.{WorkStation, bare_station, outlet_at}
+use Rattle.station_step.specs.Station.{WorkStation}
 use Rattle.station_step.proofs.OwnQueues.{input-same, outlet-same}
 use Rattle.line_workers.specs.Share.{worker_of, first_of}
 use Rattle.line_workers.specs.Team.{WorkTeam, IsTeam, member}

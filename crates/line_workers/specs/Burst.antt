@@ -2,7 +2,6 @@
 use Rattle.std.specs.Prelude.{◌≡◌, ℕ, ◌+◌, ◌<◌, ◌≤◌, List, take, min, length}
 use Rattle.line_base.specs.declared.event.Parts.{Parts}
 use Rattle.event_graph.specs.Network.{stations, jobs}
-use Rattle.station_step.specs.Station.{WorkStation}
 use Rattle.station_step.specs.Step.{IsReady}
 use Rattle.line_workers.specs.Team.{WorkTeam}
 use Rattle.line_workers.specs.Teams.{station_of, shelf_of, AreAllMet}

@@ -1,6 +1,5 @@
 -- What contracts see of a crew: a worker's team, the line that it belongs to, and the order in which its stations step.
-use Rattle.std.specs.Prelude.{◌≡◌, ℕ, ◌+◌, ◌<◌, ◌≤◌, List, [], map, length, slice_index, slice_index_or}
-use Rattle.line_base.specs.declared.event.Parts.{Parts}
+use Rattle.std.specs.Prelude.{◌≡◌, ℕ, ◌+◌, ◌<◌, ◌≤◌, List, [], map, length, slice_index}
 use Rattle.line_base.specs.Roomy.{RoomyLogs}
 use Rattle.event_graph.specs.Network.{stations, jobs}
 use Rattle.event_graph.specs.State.{State}
@@ -34,6 +33,7 @@ pub record IsCrew (c : WorkCrew) : Type 0 where
   pub ranked : IsRanked c.live
   pub reached : Reached c.live.graph c.begun
   pub exists : c.worker < c.workers
+  pub few : c.workers ≤ 16
   pub starts : c.first ≡ first_of c.workers (stations c.live.graph) c.worker
   pub ends : c.first + length c.team.stations ≡ first_of c.workers (stations c.live.graph) (c.worker + 1)
   pub members : IsTeam c.live.graph c.begun c.first c.team

@@ -9,5 +9,7 @@ pub mod Meeting
 pub mod Crews
 pub mod Burst
 pub mod Line
+pub mod Close
+pub mod Gather
 pub mod Making
 pub mod Laws

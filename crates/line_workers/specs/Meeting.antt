@@ -1,11 +1,11 @@
 -- What a meeting on one thread does: it makes known what was put, and changes nothing else.
-use Rattle.std.specs.Prelude.{◌≡◌, ◌≢◌, ℕ, ◌<◌, List, length, slice_set}
+use Rattle.std.specs.Prelude.{◌≡◌, ◌≢◌, ℕ, ◌<◌, List, slice_set}
 use Rattle.line_base.specs.declared.event.Parts.{Parts}
 use Rattle.event_graph.specs.Network.{stations, arc_count}
 use Rattle.station_step.specs.declared.ends.Outlet.{Outlet}
 use Rattle.station_step.specs.Ends.{AreMet, unseen_inlet}
 use Rattle.station_step.specs.Input.{input_at}
-use Rattle.station_step.specs.Station.{WorkStation, IsStation, bare_station, with_inlet}
+use Rattle.station_step.specs.Station.{bare_station, with_inlet}
 use Rattle.line_workers.specs.Team.{WorkTeam, member}
 use Rattle.line_workers.specs.Teams.{station_of, IsMetOn}
 use Rattle.line_workers.specs.Work.{TeamsWorked, turns_of}

@@ -1,8 +1,7 @@
 -- What stations do at work: the dates of a log stay, and more come behind them.
-use Rattle.std.specs.Prelude.{◌≡◌, ◌≢◌, ℕ, ◌+◌, ◌<◌, ◌≤◌, ◌⊎◌, min, List, [], ◌∷◌, take, length, slice_index, slice_set, sum_by}
-use Rattle.line_base.specs.declared.event.Parts.{Parts}
+use Rattle.std.specs.Prelude.{◌≡◌, ◌≢◌, ℕ, ◌+◌, ◌<◌, ◌≤◌, ◌⊎◌, min, List, [], ◌∷◌, take, length, slice_set, sum_by}
 use Rattle.card_queue.specs.Plain.{PlainQueue}
-use Rattle.event_graph.specs.Network.{jobs, arc_count}
+use Rattle.event_graph.specs.Network.{arc_count}
 use Rattle.station_step.specs.Shelf.{queue_at, unused}
 use Rattle.station_step.specs.Station.{WorkStation, bare_station}
 use Rattle.station_step.specs.Step.{IsReady}

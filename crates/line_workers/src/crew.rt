@@ -1,4 +1,4 @@
-ghost use Rattle.std.specs.Prelude.{◌≡◌, ◌+◌, ◌<◌, ◌≤◌, ◌^◌, ℕ, length, slice_index, if◌then◌else◌, IsTrue, ◌↔◌, IfOk};
+ghost use Rattle.std.specs.Prelude.{◌≡◌, ◌+◌, ◌<◌, ◌≤◌, ◌^◌, ◌++◌, ℕ, length, map, slice_index, if◌then◌else◌, IsTrue, ◌↔◌, IfOk, OnOk};
 ghost use Rattle.std.specs.List.{Any};
 ghost use Rattle.event_graph.specs.Network.{jobs, stations};
 ghost use Rattle.event_graph.specs.Reached.{Reached};
@@ -10,13 +10,16 @@ ghost use Rattle.line_workers.specs.Team.{member, IsTeam};
 ghost use Rattle.line_workers.specs.Crews.{IsSameCrew};
 ghost use Rattle.line_workers.specs.Meeting.{MetAt};
 ghost use Rattle.line_workers.specs.Crew.{IsCrew, with_team};
+ghost use Rattle.line_workers.specs.Close.{log_of, copy_of};
+ghost use Rattle.line_workers.specs.Gather.{cleared_crew};
 ghost use Rattle.line_workers.specs.Work.{dates_of, turns_of, dates_made, turns_made, SteppedAt, HasSwept, HasBurst, HasBurstAlone, AllDone, TurnsBelow, IsAlone};
 
+use crate::closing::{copy_logs, give_logs};
 use crate::counts::{all_done, dates_made, most_turns, turns_made};
 use crate::gate::Gate;
 use crate::order::order_of;
 use crate::owner::first_of;
-use crate::team::{Team, meet_teams};
+use crate::team::{Team, clear_team, meet_teams};
 use line_base::Logs;
 use line_core::State;
 use live_check::Live;
@@ -236,5 +239,48 @@ impl Crew {
         ensures met { MetAt (outlet_at (member self.old.team.stations i).outlets k) j l to.old.team to.new.team }
     {
         meet_teams(&mut self.team, i, k, &mut to.team, j, l);
+    }
+
+    /// Where the line takes its memory from.
+    pub(crate) fn alloc(&self) -> Global {
+        self.alloc
+    }
+
+    /// Gives up the logs of the crew's stations, in the list that the crew has for them. It takes no memory.
+    pub(crate) fn into_logs(self) -> Logs
+        ensures logs { result.logs ≡ map log_of self.team.stations }
+        ensures room { result.room ≡ self.spare.room }
+        ensures crew { IsCrew self }
+    {
+        let Crew {
+            team,
+            mut spare,
+            ..
+        } = self;
+        give_logs(team.stations, &mut spare);
+        spare
+    }
+
+    /// Gives up the logs of the crew's stations, behind those of a list. It takes no memory.
+    pub(crate) fn give_logs(self, logs: &mut Logs)
+        requires { length logs.old.logs + length self.team.stations ≤ logs.old.room }
+        ensures { logs.new ≡ record logs.old { logs = logs.old.logs ++ map log_of self.team.stations } }
+    {
+        give_logs(self.team.stations, logs);
+    }
+
+    /// Copies the logs of the crew's stations behind those of a list, each with room for a date of each job.
+    pub(crate) fn copy_logs(&self, alloc: Global, logs: &mut Logs) -> Result<(), AllocError>
+        requires { length logs.old.logs + length self.now.team.stations ≤ logs.old.room }
+        ensures { OnOk result (logs.new ≡ record logs.old { logs = logs.old.logs ++ map (copy_of self.now.target) self.now.team.stations }) }
+    {
+        copy_logs(alloc, &self.team.stations, self.target, logs)
+    }
+
+    /// Counts the turns of the crew's stations from 0 again. Nothing else changes.
+    pub(crate) fn clear_turns(&mut self)
+        ensures { self.new ≡ cleared_crew self.old }
+    {
+        clear_team(&mut self.team);
     }
 }

@@ -14,8 +14,10 @@ ghost use Rattle.line_workers.specs.Teams.{place_in, state_among, AreAllMet};
 ghost use Rattle.line_workers.specs.Crew.{WorkCrew, teams_of};
 ghost use Rattle.line_workers.specs.Work.{TurnsBelow, TeamsWorked};
 ghost use Rattle.line_workers.specs.Meeting.{MetAt, AreStill, MeetsOn};
+ghost use Rattle.line_workers.specs.Gather.{Gathers};
 ghost use Rattle.line_workers.specs.Crews.{crew_at, live_of, graph_of, AreCrews, AreSameCrews, IsSameCrew, CrewWorked, IsReadyFor, AreNewCrews};
 
+use crate::clearing::clear_crews;
 use crate::crew::Crew;
 use crate::gate::Gate;
 use crate::line::Burst;
@@ -299,4 +301,16 @@ pub(crate) fn all_done(crews: &[Crew]) -> bool
         }
     }
     true
+}
+
+/// Brings the crews of a line together after their sweeps: the turns of the stations count from 0 again, and the ends of
+/// every queue meet. Answers how many firings have been made.
+pub(crate) fn gather_crews(crews: &mut [Crew], live: &Live) -> u64
+    requires crews { AreCrews crews.old }
+    requires made_for { live.now ≡ live_of crews.old }
+    ensures { Gathers live.now crews.old crews.new result }
+{
+    clear_crews(crews);
+    meet_all(crews, live);
+    dates_of(crews)
 }

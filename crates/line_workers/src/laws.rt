@@ -1,4 +1,4 @@
-ghost use Rattle.line_workers.specs.Laws.{GrownIsReached};
+ghost use Rattle.line_workers.specs.Laws.{GrownIsReached, SweptCrewsAreCrews, SweepsLetLogsGrow, SweepsFollowSweeps};
 
 /// A law of the definitions: logs that grow from a reached state, each new date by its station's own equation with
 /// saturating sums over the tokens that were put on its arcs, are the logs of a reached state.
@@ -7,4 +7,20 @@ ghost use Rattle.line_workers.specs.Laws.{GrownIsReached};
 /// dates in every order of its firings.
 pub fn logs_that_grow_from_a_state_are_reached()
     ensures { GrownIsReached }
+{}
+
+/// A law of the definitions: the crews that a line hands out are the crews of one line still after any sweeps of each, so
+/// that `Line::gather` takes them.
+pub fn swept_crews_are_crews()
+    ensures { SweptCrewsAreCrews }
+{}
+
+/// A law of the definitions: sweeps add dates at the ends of the logs of all stations, and change no earlier one.
+pub fn sweeps_let_logs_grow()
+    ensures { SweepsLetLogsGrow }
+{}
+
+/// A law of the definitions: what a crew is after some sweeps and then some more, it is after sweeps.
+pub fn sweeps_follow_sweeps()
+    ensures { SweepsFollowSweeps }
 {}

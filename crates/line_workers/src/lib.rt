@@ -1,8 +1,8 @@
 //! An event graph that several workers run at once.
 #![tactic(auto)]
 
-ghost use Rattle.line_workers.specs.Teams.{AreTeams, AreAllMet, HaveBegun};
-
+mod clearing;
+mod closing;
 mod counts;
 mod crew;
 mod crews;
@@ -17,5 +17,8 @@ mod team;
 
 pub use crew::Crew;
 pub use gate::{FreeGate, Gate};
-pub use laws::logs_that_grow_from_a_state_are_reached;
+pub use laws::{
+    logs_that_grow_from_a_state_are_reached, sweeps_follow_sweeps, sweeps_let_logs_grow,
+    swept_crews_are_crews,
+};
 pub use line::{Burst, Line};

@@ -1,13 +1,20 @@
-ghost use Rattle.std.specs.Prelude.{◌≡◌, ◌+◌, ◌*◌, ◌<◌, ◌≤◌, ◌↔◌, ℕ, length, sum, min, IsTrue, IfOk, IfErr};
+ghost use Rattle.std.specs.Prelude.{◌≡◌, ◌+◌, ◌*◌, ◌^◌, ◌<◌, ◌≤◌, ◌↔◌, ℕ, length, sum, min, All, IsTrue, IfOk, IfErr};
 ghost use Rattle.event_graph.specs.Network.{stations, jobs};
 ghost use Rattle.event_graph.specs.State.{log, start};
 ghost use Rattle.event_graph.specs.Firing.{CanFire};
+ghost use Rattle.event_graph.specs.Table.{date_in};
+ghost use Rattle.event_graph.specs.Least.{IsLeast};
 ghost use Rattle.line_core.specs.Consistent.{IsFinished, fired};
 ghost use Rattle.line_core.specs.Round.{HasFired};
-ghost use Rattle.line_workers.specs.Line.{IsLine, Stands, LogsGrow, run_in};
+ghost use Rattle.line_core.specs.Run.{IsReached};
+ghost use Rattle.line_workers.specs.Crews.{live_of, AreCrews};
+ghost use Rattle.line_workers.specs.Work.{TurnsBelow};
+ghost use Rattle.line_workers.specs.Gather.{logs_in};
+ghost use Rattle.line_workers.specs.Line.{IsLine, Stands, LogsGrow, run_in, line_of};
 
+use crate::closing::{copies_of, logs_of};
 use crate::crew::Crew;
-use crate::crews::{all_done, burst_of, crews_of, dates_of};
+use crate::crews::{all_done, burst_of, crews_of, dates_of, gather_crews};
 use crate::gate::Gate;
 use line_core::State;
 use live_check::Live;
@@ -132,5 +139,51 @@ impl Line {
         ensures alone_steps { (times : ℕ) → self.old.workers ≡ 1 → HasFired (run_in self.old) times → result.steps ≡ result.fired }
     {
         burst_of(rt, &mut self.crews, live, gate)
+    }
+
+    /// A copy of the state that the line stands for. It can go on firing by itself: it takes the room of all later firings.
+    pub fn state(&self, alloc: Global, live: &Live) -> Result<State, AllocError>
+        requires made_for { live.now ≡ self.now.live }
+        ensures state { IfOk result (λ state. state ≡ run_in self.now) }
+        ensures reached { IfOk result IsReached }
+        ensures line { IsLine self.now }
+    {
+        let logs = copies_of(alloc, live, &self.crews)?;
+        Ok(State::of_reached(alloc, live, logs))
+    }
+
+    /// The state that the line stands for, with the very logs of its stations. It takes no memory.
+    pub fn close(self, live: &Live) -> State
+        requires made_for { live.now ≡ self.live }
+        ensures state { result ≡ run_in self }
+        ensures reached { IsReached result }
+        ensures least { IsFinished self.live.graph self.state → IsLeast self.live.graph (date_in result.state.logs) }
+    {
+        let alloc = self.crews[0].alloc();
+        let logs = logs_of(self.crews);
+        State::of_reached(alloc, live, logs)
+    }
+
+    /// The crews of the line, in the order of the workers. It takes no memory.
+    pub fn crews(self) -> Vec<Crew>
+        ensures crews { AreCrews result.items }
+        ensures line { line_of result.items self.made ≡ self }
+        ensures turns { All (λ crew. TurnsBelow (2 ^ 38) crew.team) result.items }
+    {
+        self.crews
+    }
+
+    /// The line of these crews, all those of one line, in order. The ends of every queue meet on this thread, and the turns
+    /// of the stations count from 0 again. It takes no memory.
+    pub fn gather(live: &Live, crews: Vec<Crew>) -> Line
+        requires crews { AreCrews crews.items }
+        requires made_for { live.now ≡ live_of crews.items }
+        ensures line { IsLine result }
+        ensures logs { result.state.logs ≡ logs_in crews.items }
+        ensures stands { Stands live.now result.state (length crews.items) result }
+    {
+        let mut crews = crews;
+        let made = gather_crews(&mut crews, live);
+        Line { crews, made }
     }
 }

@@ -5,6 +5,7 @@ ghost use Rattle.line_workers.specs.Share.{first_of};
 ghost use Rattle.line_workers.specs.Teams.{AreTeams, AreAllMet, HaveBegun};
 ghost use Rattle.line_workers.specs.Making.{outlets_at, inlets_at, without, AreFitFrom, IsNewStation, AreNewStations, IsNewTeam, AreNewTeams, SameStationsFrom, SameShelvesFrom};
 
+use crate::closing::log_with;
 use crate::laying::Ends;
 use crate::owner::first_of;
 use crate::team::Team;
@@ -20,14 +21,9 @@ fn log_of(alloc: Global, live: &Live, state: &State, t: u32) -> Result<Log, Allo
     requires station { t < stations live.now.graph }
     ensures dates { IfOk result (λ copy. copy.dates ≡ log state.now.state t) }
     ensures room { IfOk result (λ copy. copy.room ≡ jobs live.now.graph) }
-    ensures few { OnOk result (length (log state.now.state t) ≤ jobs live.now.graph) }
+    ensures few { length (log state.now.state t) ≤ jobs live.now.graph }
 {
-    let dates = state.log(t);
-    let mut copy = Log::new(alloc, live.graph().jobs())?;
-    for date in dates {
-        copy.add(*date);
-    }
-    Ok(copy)
+    log_with(alloc, state.log(t), live.graph().jobs())
 }
 
 /// Station `t`, which takes its ends and goes on from its log.

@@ -6,7 +6,9 @@ ghost use Rattle.station_step.specs.Input.{input_at};
 ghost use Rattle.station_step.specs.Station.{outlet_at};
 ghost use Rattle.line_workers.specs.Team.{member, IsTeam};
 ghost use Rattle.line_workers.specs.Meeting.{MetAt};
+ghost use Rattle.line_workers.specs.Gather.{cleared_team};
 
+use crate::clearing::clear_stations;
 use station_step::{Shelf, Station, meet_at};
 use std::marker::Model;
 
@@ -43,4 +45,11 @@ pub(crate) fn meet_teams(from: &mut Team, i: u32, k: u32, to: &mut Team, j: u32,
         &mut to.stations[j as usize],
         l,
     );
+}
+
+/// Counts the turns of a team's stations from 0 again. Nothing else changes.
+pub(crate) fn clear_team(team: &mut Team)
+    ensures { team.new ≡ cleared_team team.old }
+{
+    clear_stations(&mut team.stations);
 }

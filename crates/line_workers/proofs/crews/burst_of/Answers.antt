@@ -1,4 +1,4 @@
-use Rattle.std.proofs.Common.{◌≡◌, ◌≤◌, List, ap, ◌∙◌, sym, subst, arith}
+use Rattle.std.proofs.Common.{ap, ◌∙◌, arith}
 use Rattle.std.specs.List.{sum}
 use Rattle.live_check.specs.Order.{LiveGraph}
 use Rattle.line_core.specs.Consistent.{fired}

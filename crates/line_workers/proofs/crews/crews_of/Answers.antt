@@ -1,10 +1,8 @@
-use Rattle.std.proofs.Common.{◌≡◌, ◌+◌, ◌<◌, ◌≤◌, List, [], length, get_or, ap, ◌∙◌, sym, subst, arith}
-use Rattle.line_base.specs.declared.event.Parts.{Parts}
-use Rattle.line_workers.specs.Team.{WorkTeam}
+use Rattle.std.proofs.Common.{◌≡◌, ◌+◌, List, ◌∙◌, sym, subst, arith}
 use Rattle.line_workers.specs.Teams.{team_at}
 use Rattle.line_workers.specs.Crew.{WorkCrew}
 use Rattle.line_workers.specs.Crews.{AreMakingCrews}
-use Rattle.line_workers.proofs.NewCrews.{making_begins, making_goes_on, next-team, some-left, team-fits, team-size, new_crews}
+use Rattle.line_workers.proofs.NewCrews.{making_begins, making_goes_on, next-team, new_crews}
 use Rattle.line_workers.proofs.crews.crews_of.Goals as goal
 
 pub loop-worker-init : goal.loop-worker-init

@@ -1,6 +1,6 @@
-use Rattle.std.proofs.Common.{◌≡◌, ◌≤◌, List, take, length, ap, ◌∙◌, sym, arith}
+use Rattle.std.proofs.Common.{List, ap, ◌∙◌}
 use Rattle.std.specs.List.{sum_by}
-use Rattle.std.proofs.lemmas.List.{take_all, take_more}
+use Rattle.std.proofs.lemmas.List.{take_all}
 use Rattle.line_workers.specs.Crew.{WorkCrew}
 use Rattle.line_workers.specs.Work.{dates_made}
 use Rattle.line_workers.proofs.AllCrews.{dates-total}

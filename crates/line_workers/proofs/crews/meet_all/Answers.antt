@@ -1,4 +1,4 @@
-use Rattle.std.proofs.Common.{◌≡◌, ◌<◌, length, ap, ◌∙◌, sym, subst, arith}
+use Rattle.std.proofs.Common.{◌<◌, length, ap, arith}
 use Rattle.event_graph.specs.Network.{arc_count}
 use Rattle.line_workers.proofs.AllCrews.{meeting_begins, meeting_goes_on}
 use Rattle.line_workers.proofs.crews.meet_all.Goals as goal

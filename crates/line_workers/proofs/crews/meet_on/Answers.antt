@@ -1,8 +1,8 @@
-use Rattle.std.proofs.Common.{◌≡◌, ◌<◌, ◌-◌, length, ap, ◌∙◌, sym, subst, arith}
+use Rattle.std.proofs.Common.{◌≡◌, ◌-◌, length, ap, ◌∙◌}
 use Rattle.line_base.specs.declared.event.Arc.{Arc}
 use Rattle.event_graph.specs.Network.{stations, arc}
 use Rattle.line_workers.specs.Share.{worker_of, first_of}
-use Rattle.line_workers.proofs.AllCrews.{IsFound, MayMeet, may_meet, met_inside, met_between, same_after, crews-stay}
+use Rattle.line_workers.proofs.AllCrews.{IsFound, may_meet, met_inside, met_between, same_after, crews-stay}
 use Rattle.line_workers.proofs.crews.meet_on.Goals as goal
 
 pub returns-then-from-to-clause-same : goal.returns-then-from-to-clause-same

@@ -1,5 +1,4 @@
-use Rattle.std.proofs.Common.{◌≡◌, ◌≤◌, ℕ, ◌<◌, ◌≢◌, get_or}
-use Rattle.line_workers.specs.Teams.{place_in}
+use Rattle.std.proofs.Common.{◌≡◌, ℕ, ◌<◌, ◌≢◌, get_or}
 use Rattle.line_workers.proofs.crews.place_in.Given as goal
 
 abbrev pub invariant-loop-x : goal.invariant-loop-x

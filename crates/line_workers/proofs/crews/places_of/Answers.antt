@@ -1,9 +1,9 @@
-use Rattle.std.proofs.Common.{ℕ, List, ◌≡◌, ◌≤◌, ◌<◌, length, ap, ◌∙◌, subst, sym, arith}
+use Rattle.std.proofs.Common.{ℕ, List, ◌≡◌, ◌<◌, length, ap, ◌∙◌, subst, sym, arith}
 use Rattle.line_base.specs.declared.event.Arc.{Arc}
 use Rattle.line_base.specs.declared.event.Parts.{Parts}
-use Rattle.event_graph.specs.Network.{arc, arc_count, ins, outs}
+use Rattle.event_graph.specs.Network.{arc, ins, outs}
 use Rattle.line_workers.specs.Teams.{place_in}
-use Rattle.line_workers.proofs.Places.{StandsIn, in-stands, out-stands, ins-few, outs-few}
+use Rattle.line_workers.proofs.Places.{in-stands, out-stands, ins-few, outs-few}
 use Rattle.line_workers.proofs.crews.places_of.Goals as goal
 
 pub place_in-out-requires-clause-there : goal.place_in-out-requires-clause-there

@@ -1,6 +1,6 @@
-use Rattle.std.proofs.Common.{◌≡◌, ◌≤◌, ap, ◌∙◌, arith}
+use Rattle.std.proofs.Common.{◌≤◌, ap, ◌∙◌, arith}
 use Rattle.event_graph.specs.Network.{stations}
-use Rattle.line_workers.specs.Share.{worker_of, first_of}
+use Rattle.line_workers.specs.Share.{first_of}
 use Rattle.line_workers.proofs.Share.{first-le}
 use Rattle.line_workers.proofs.crews.seat_of.Goals as goal
 

@@ -1,8 +1,3 @@
-use Rattle.line_workers.proofs.Standing.{stands_for_reached}
-use Rattle.line_workers.proofs.Alone.{next-ready}
-use Rattle.line_workers.proofs.Meeting.{meets_on}
-use Rattle.line_workers.specs.Crews.{AreCrews}
-use Rattle.line_workers.proofs.Sweeping.{swept}
 use Rattle.line_workers.proofs.Grown.{grown_is_reached}
 use Rattle.line_workers.proofs.laws.logs_that_grow_from_a_state_are_reached.Goals as goal
 

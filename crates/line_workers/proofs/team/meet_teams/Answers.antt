@@ -1,4 +1,4 @@
-use Rattle.std.proofs.Common.{◌≡◌, ◌<◌, length, ap, sym, subst, arith}
+use Rattle.std.proofs.Common.{◌<◌, length, ap, sym, subst, arith}
 use Rattle.station_step.specs.Station.{WorkStation}
 use Rattle.line_workers.specs.Team.{WorkTeam, IsTeam}
 use Rattle.line_workers.proofs.Stepping.{team-met}

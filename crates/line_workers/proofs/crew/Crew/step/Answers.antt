@@ -1,4 +1,4 @@
-use Rattle.std.proofs.Common.{ℕ, ◌≡◌, ◌<◌, ◌+◌, ◌^◌, length, set, true, false, cond, sym, ap, ◌∙◌, subst, arith, add-zero}
+use Rattle.std.proofs.Common.{ℕ, ◌<◌, ◌^◌, length, set, sym, ap, ◌∙◌, subst, arith}
 use Rattle.std.proofs.lemmas.Bool.{cond-true, cond-false}
 use Rattle.std.proofs.lemmas.List.{get_or-set_same}
 use Rattle.live_check.specs.Order.{LiveGraph}
@@ -6,8 +6,8 @@ use Rattle.station_step.specs.Station.{WorkStation}
 use Rattle.station_step.specs.Step.{HasFired}
 use Rattle.station_step.proofs.Keeping.{kept-may_put}
 use Rattle.line_workers.specs.contracts.crew.Crew.{the_view}
-use Rattle.line_workers.specs.Team.{WorkTeam, IsMember, no_station, member}
-use Rattle.line_workers.specs.Crew.{WorkCrew, IsCrew, with_team}
+use Rattle.line_workers.specs.Team.{no_station}
+use Rattle.line_workers.specs.Crew.{WorkCrew}
 use Rattle.line_workers.specs.Work.{dates_of, SteppedAt}
 use Rattle.line_workers.proofs.Stepping.{IsStep, gains-did, more-did, none-did, crew-after, member-in, found-in, count-in}
 use Rattle.line_workers.proofs.crew.Crew.step.Goals as goal

@@ -1,8 +1,6 @@
-use Rattle.std.proofs.Common.{ℕ, ◌≡◌, ◌+◌, ◌<◌, ◌≤◌, List, length, get_or, true, false, cond, sym, ap, ◌∙◌, subst, arith}
-use Rattle.std.proofs.lemmas.Bool.{cond-true, cond-false}
-use Rattle.line_workers.specs.contracts.crew.Crew.{the_view}
+use Rattle.std.proofs.Common.{ℕ, ◌≡◌, ◌+◌, ◌<◌, List, length, get_or, sym, ap, ◌∙◌, subst, arith}
 use Rattle.line_workers.specs.Crew.{WorkCrew, IsCrew, with_team}
-use Rattle.line_workers.specs.Work.{dates_made, SteppedAt, IsSweeping, IsAlone}
+use Rattle.line_workers.specs.Work.{SteppedAt, IsSweeping, IsAlone}
 use Rattle.line_workers.proofs.Sweeping.{sweeping_goes_on}
 use Rattle.line_workers.proofs.Alone.{alone_goes_on, alone_swept}
 use Rattle.line_workers.proofs.crew.Crew.sweep.Goals as goal

@@ -1,11 +1,11 @@
-use Rattle.std.proofs.Common.{◌≡◌, ◌^◌, List, ap, ◌∙◌, sym, subst, arith}
+use Rattle.std.proofs.Common.{◌^◌, ap, ◌∙◌, sym, subst, arith}
 use Rattle.std.specs.List.{All}
 use Rattle.std.proofs.lemmas.List.{with_items_is}
 use Rattle.line_workers.specs.Crew.{WorkCrew}
 use Rattle.line_workers.specs.Work.{TurnsBelow}
 use Rattle.line_workers.specs.Crews.{live_of}
 use Rattle.line_workers.specs.Line.{WorkLine}
-use Rattle.line_workers.proofs.LineBurst.{LineBurst, turns-low, line_after}
+use Rattle.line_workers.proofs.LineBurst.{turns-low, line_after}
 use Rattle.line_workers.proofs.line.Line.burst.Goals as goal
 
 pub burst_of-requires-clause-turns : goal.burst_of-requires-clause-turns

@@ -1,6 +1,6 @@
-use Rattle.std.proofs.Common.{◌≡◌, List, IsTrue, ◌↔◌, ap, ◌∙◌, sym, subst}
+use Rattle.std.proofs.Common.{List, IsTrue, ◌↔◌, subst}
 use Rattle.line_core.specs.Consistent.{IsFinished}
-use Rattle.line_workers.specs.Line.{WorkLine, IsLine, line_of}
+use Rattle.line_workers.specs.Line.{WorkLine, IsLine}
 use Rattle.line_workers.specs.Crew.{WorkCrew, teams_of}
 use Rattle.line_workers.specs.Crews.{graph_of}
 use Rattle.line_workers.specs.Teams.{state_among}

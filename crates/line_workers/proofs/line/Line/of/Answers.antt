@@ -1,4 +1,4 @@
-use Rattle.std.proofs.Common.{◌≡◌, sym, subst}
+use Rattle.std.proofs.Common.{sym, subst}
 use Rattle.line_base.specs.declared.event.Parts.{Parts}
 use Rattle.event_graph.specs.Reached.{Reached}
 use Rattle.line_workers.proofs.Lines.{at_rest_is_line, new_at_rest, new_stands}

@@ -1,0 +1,270 @@
+-- Crews whose stations count their turns from 0 again: nothing else is changed.
+use Rattle.std.proofs.Common.{◌≡◌, ℕ, zero, suc, ◌+◌, ◌-◌, ◌<◌, ◌≤◌, List, [], ◌∷◌, map, length, refl, ap, ◌∙◌, sym, subst, arith, zero-add}
+use Rattle.std.specs.List.{range_with_len, All}
+use Rattle.std.proofs.lemmas.List.{length-map, get_or-map}
+use Rattle.std.proofs.lemmas.List.FromFn.{fill_by_all, length-map-range_with_len, get_or-map-range_with_len}
+use Rattle.std.proofs.lemmas.Simd.{map-map}
+use Rattle.line_base.specs.declared.event.Parts.{Parts}
+use Rattle.line_base.specs.Roomy.{RoomyLog}
+use Rattle.card_queue.specs.Plain.{PlainQueue}
+use Rattle.event_graph.specs.Network.{stations, arc, arc_count, ins, outs}
+use Rattle.event_graph.specs.State.{State}
+use Rattle.live_check.specs.Order.{LiveGraph}
+use Rattle.station_step.specs.declared.ends.Inlet.{Inlet}
+use Rattle.station_step.specs.declared.ends.Outlet.{Outlet}
+use Rattle.station_step.specs.declared.input.Input.{Input}
+use Rattle.station_step.specs.Ends.{AreEnds}
+use Rattle.station_step.specs.Input.{input_at}
+use Rattle.station_step.specs.Station.{WorkStation, IsStation, AreApart, outlet_at}
+use Rattle.line_workers.specs.Share.{worker_of, first_of}
+use Rattle.line_workers.specs.Team.{WorkTeam, IsMember, IsTeam, member}
+use Rattle.line_workers.specs.Teams.{team_at, worker_at, station_of, shelf_of, place_in, input_on, outlet_on, outlet_initial, ShareQueue, IsJoined, AreAllMet, state_among}
+use Rattle.line_workers.specs.Crew.{WorkCrew, IsCrew, teams_of}
+use Rattle.line_workers.specs.Work.{turns_of, TeamsWorked}
+use Rattle.line_workers.specs.Meeting.{AreStill}
+use Rattle.line_workers.specs.Crews.{crew_at, no_crew, live_of, graph_of, begun_of, AreCrews, AreSameCrews}
+use Rattle.line_workers.specs.Line.{line_of, turns_among, AreAtRest, Stands}
+use Rattle.line_workers.specs.Gather.{cleared, cleared_team, cleared_crew, logs_in, Gathers}
+use Rattle.line_core.specs.Consistent.{fired}
+use Rattle.line_workers.proofs.Stepping.{crew-with_team}
+use Rattle.line_workers.proofs.AllCrews.{crews-same}
+
+-- ---- one station
+
+station_cleared : (s : WorkStation) → IsStation s → IsStation (cleared s)
+station_cleared s is = record {
+  exists = is.exists;
+  an_input_each = is.an_input_each;
+  an_outlet_each = is.an_outlet_each;
+  made = is.made;
+  few_dates = is.few_dates;
+  log_room = is.log_room;
+  ring_room = is.ring_room;
+}
+
+member_cleared : (g : Parts) (begun : State) (t : ℕ) (shelf : List PlainQueue) (s : WorkStation) → IsMember g begun t shelf s → IsMember g begun t shelf (cleared s)
+member_cleared g begun t shelf s is = record {
+  graph = is.graph;
+  number = is.number;
+  station = station_cleared s is.station;
+  seated = record {
+    takes_within = is.seated.takes_within;
+    takes_apart = is.seated.takes_apart;
+    puts_within = is.seated.puts_within;
+    puts_apart = is.seated.puts_apart;
+  };
+  kept = record { held = is.kept.held; dates = is.kept.dates; added = is.kept.added; room = is.kept.room };
+  made = is.made;
+  begins = is.begins;
+}
+
+-- ---- a team
+
+member-cleared : (xs : List WorkStation) (i : ℕ) → member (map cleared xs) i ≡ cleared (member xs i)
+member-cleared [] i = refl
+member-cleared (s ∷ xs) zero = refl
+member-cleared (s ∷ xs) (suc i) = member-cleared xs i
+
+team_cleared : (g : Parts) (begun : State) (first : ℕ) (team : WorkTeam) → IsTeam g begun first team → IsTeam g begun first (cleared_team team)
+team_cleared g begun first team is =
+    let many = length-map team.stations cleared in
+    let Apart : WorkStation → WorkStation → Type 0 = AreApart in
+    record {
+      members = λ i low.
+          let s = member team.stations i in
+          subst (IsMember g begun (first + i) team.shelf) (sym (member-cleared team.stations i)) (
+          member_cleared g begun (first + i) team.shelf s (is.members i (omega (arith, low, many))));
+      apart = λ i j low_i low_j differ.
+          let was = is.apart i j (omega (arith, low_i, many)) (omega (arith, low_j, many)) differ in
+          let here : AreApart (cleared (member team.stations i)) (cleared (member team.stations j)) = record { takes = was.takes; puts = was.puts } in
+          subst (λ (s : WorkStation). AreApart s (member (map cleared team.stations) j)) (sym (member-cleared team.stations i)) (
+          subst (λ (s : WorkStation). AreApart (cleared (member team.stations i)) s) (sym (member-cleared team.stations j)) here);
+    }
+
+-- ---- all teams
+
+team_at-cleared : (teams : List WorkTeam) (w : ℕ) → team_at (map cleared_team teams) w ≡ cleared_team (team_at teams w)
+team_at-cleared [] w = refl
+team_at-cleared (t ∷ teams) zero = refl
+team_at-cleared (t ∷ teams) (suc w) = team_at-cleared teams w
+
+module _ (g : Parts) (teams : List WorkTeam) where
+  worker-cleared : (t : ℕ) → worker_at g (map cleared_team teams) t ≡ worker_at g teams t
+  worker-cleared t = ap (λ n. worker_of n (stations g) t) (length-map teams cleared_team)
+
+  pub station-cleared : (t : ℕ) → station_of g (map cleared_team teams) t ≡ cleared (station_of g teams t)
+  station-cleared t =
+      let w = worker_at g teams t in
+      let i = t - first_of (length teams) (stations g) w in
+      ap (λ n. member (team_at (map cleared_team teams) (worker_of n (stations g) t)).stations (t - first_of n (stations g) (worker_of n (stations g) t))) (length-map teams cleared_team)
+      ∙ ap (λ (team : WorkTeam). member team.stations i) (team_at-cleared teams w)
+      ∙ member-cleared (team_at teams w).stations i
+
+  shelf-cleared : (t : ℕ) → shelf_of g (map cleared_team teams) t ≡ shelf_of g teams t
+  shelf-cleared t =
+      ap (λ w. (team_at (map cleared_team teams) w).shelf) (worker-cleared t)
+      ∙ ap (λ (team : WorkTeam). team.shelf) (team_at-cleared teams (worker_at g teams t))
+
+  outlet-cleared : (a : ℕ) → outlet_on g (map cleared_team teams) a ≡ outlet_on g teams a
+  outlet-cleared a = ap (λ (s : WorkStation). outlet_at s.outlets (place_in (outs g (arc g a).from) a)) (station-cleared (arc g a).from)
+
+  input-cleared : (a : ℕ) → input_on g (map cleared_team teams) a ≡ input_on g teams a
+  input-cleared a = ap (λ (s : WorkStation). input_at s.inputs (place_in (ins g (arc g a).to) a)) (station-cleared (arc g a).to)
+
+  joined_cleared : (begun : State) (a : ℕ) → IsJoined g begun teams a → IsJoined g begun (map cleared_team teams) a
+  joined_cleared begun a is =
+      let out = outlet-cleared a in
+      let into = ap (λ (i : Input). i.inlet) (input-cleared a) in
+      record {
+        ring = λ apart.
+            subst (λ (o : Outlet). AreEnds o (input_on g (map cleared_team teams) a).inlet) (sym out) (
+            subst (λ (i : Inlet). AreEnds (outlet_on g teams a) i) (sym into) (
+            is.ring (λ same. apart (worker-cleared (arc g a).from ∙ same ∙ sym (worker-cleared (arc g a).to)))));
+        shelf = λ same.
+            subst (λ (o : Outlet). ShareQueue o (input_on g (map cleared_team teams) a).inlet) (sym out) (
+            subst (λ (i : Inlet). ShareQueue (outlet_on g teams a) i) (sym into) (
+            is.shelf (sym (worker-cleared (arc g a).from) ∙ same ∙ worker-cleared (arc g a).to)));
+        initial =
+            ap (outlet_initial (shelf_of g (map cleared_team teams) (arc g a).from)) out
+            ∙ ap (λ shelf. outlet_initial shelf (outlet_on g teams a)) (shelf-cleared (arc g a).from)
+            ∙ is.initial;
+      }
+
+-- ---- all crews
+
+pub crew_cleared : (c : WorkCrew) → IsCrew c → IsCrew (cleared_crew c)
+crew_cleared c is =
+    crew-with_team c (cleared_team c.team) is (team_cleared c.live.graph c.begun c.first c.team is.members) (length-map c.team.stations cleared)
+
+-- the crews of a line are at most 16
+pub crews-few : (crews : List WorkCrew) → AreCrews crews → length crews ≤ 16
+crews-few crews are =
+    let first : 0 < length crews = omega (arith, are.some) in
+    omega (arith, (are.each 0 first).few, are.workers 0 first)
+
+module _ (crews : List WorkCrew) where
+  pub teams-cleared : teams_of (map cleared_crew crews) ≡ map cleared_team (teams_of crews)
+  teams-cleared =
+      map-map (λ (c : WorkCrew). c.team) cleared_crew crews ∙ sym (map-map cleared_team (λ (c : WorkCrew). c.team) crews)
+
+  module _ (are : AreCrews crews) where
+    at : (w : ℕ) → w < length crews → crew_at (map cleared_crew crews) w ≡ cleared_crew (crew_at crews w)
+    at w low = get_or-map cleared_crew crews w no_crew no_crew low
+
+    first : 0 < length crews
+    first = omega (arith, are.some)
+
+    pub live-cleared : live_of (map cleared_crew crews) ≡ live_of crews
+    live-cleared = ap (λ (c : WorkCrew). c.live) (at 0 first)
+
+    begun-cleared : begun_of (map cleared_crew crews) ≡ begun_of crews
+    begun-cleared = ap (λ (c : WorkCrew). c.begun) (at 0 first)
+
+    pub crews_cleared : AreCrews (map cleared_crew crews)
+    crews_cleared =
+        let many = length-map crews cleared_crew in
+        let within = λ (w : ℕ) (low : w < length (map cleared_crew crews)). (let h : w < length crews = omega (arith, low, many) in h) in
+        record {
+          some = omega (arith, are.some, many);
+          each = λ w low. subst IsCrew (sym (at w (within w low))) (crew_cleared (crew_at crews w) (are.each w (within w low)));
+          workers = λ w low. ap (λ (c : WorkCrew). c.workers) (at w (within w low)) ∙ are.workers w (within w low) ∙ sym many;
+          numbers = λ w low. ap (λ (c : WorkCrew). c.worker) (at w (within w low)) ∙ are.numbers w (within w low);
+          lives = λ w low. ap (λ (c : WorkCrew). c.live) (at w (within w low)) ∙ are.lives w (within w low) ∙ sym live-cleared;
+          begun = λ w low. ap (λ (c : WorkCrew). c.begun) (at w (within w low)) ∙ are.begun w (within w low) ∙ sym begun-cleared;
+          joined =
+              subst (λ (l : LiveGraph). (a : ℕ) → a < arc_count l.graph → IsJoined l.graph (begun_of (map cleared_crew crews)) (teams_of (map cleared_crew crews)) a) (sym live-cleared) (
+              subst (λ b. (a : ℕ) → a < arc_count (graph_of crews) → IsJoined (graph_of crews) b (teams_of (map cleared_crew crews)) a) (sym begun-cleared) (
+              subst (λ (ts : List WorkTeam). (a : ℕ) → a < arc_count (graph_of crews) → IsJoined (graph_of crews) (begun_of crews) ts a) (sym teams-cleared) (
+              λ a listed. joined_cleared (graph_of crews) (teams_of crews) (begun_of crews) a (are.joined a listed))));
+        }
+
+-- ---- a meeting after that
+
+module _ (crews : List WorkCrew) (are : AreCrews crews) (new : List WorkCrew) (same : AreSameCrews (map cleared_crew crews) new) (worked : TeamsWorked (teams_of (map cleared_crew crews)) (teams_of new)) (still : AreStill (graph_of crews) (teams_of (map cleared_crew crews)) (teams_of new)) (met : AreAllMet (graph_of crews) (teams_of new)) (made : ℕ) (made_is : made ≡ fired (state_among (graph_of new) (teams_of new))) where
+  abbrev g : Parts
+  g = graph_of crews
+
+  many : length new ≡ length crews
+  many = same.count ∙ length-map crews cleared_crew
+
+  some : 0 < length (map cleared_crew crews)
+  some = omega (arith, are.some, length-map crews cleared_crew)
+
+  pub live-gathered : live_of new ≡ live_of crews
+  live-gathered = ap (λ (c : WorkCrew). c.live) (same.each 0 some).frame ∙ live-cleared crews are
+
+  log-gathered : (t : ℕ) → t < stations (graph_of crews) → (station_of (graph_of crews) (teams_of new) t).log ≡ (station_of (graph_of crews) (teams_of crews) t).log
+  log-gathered t there =
+      still.logs t there
+      ∙ ap (λ (ts : List WorkTeam). (station_of g ts t).log) (teams-cleared crews)
+      ∙ ap (λ (s : WorkStation). s.log) (station-cleared g (teams_of crews) t)
+
+  turns-gathered : (t : ℕ) → t < stations (graph_of crews) → turns_of (station_of (graph_of crews) (teams_of new) t) ≡ 0
+  turns-gathered t there =
+      still.turns t there
+      ∙ ap (λ (ts : List WorkTeam). turns_of (station_of g ts t)) (teams-cleared crews)
+      ∙ ap turns_of (station-cleared g (teams_of crews) t)
+
+  logs-here : (state_among g (teams_of new)).logs ≡ (state_among g (teams_of crews)).logs
+  unfolding state_among
+  logs-here =
+      fill_by_all (λ t. (station_of g (teams_of crews) t).log.dates) (map (λ t. (station_of g (teams_of new) t).log.dates) (range_with_len 0 (stations g))) (stations g) []
+      (length-map-range_with_len (λ t. (station_of g (teams_of new) t).log.dates) 0 (stations g))
+      (λ t there.
+      get_or-map-range_with_len (λ u. (station_of g (teams_of new) u).log.dates) 0 (stations g) t t [] there (zero-add t)
+      ∙ ap (λ (l : RoomyLog). l.dates) (log-gathered t there))
+
+  pub logs-gathered : (line_of new made).state.logs ≡ logs_in crews
+  logs-gathered = ap (λ (l : LiveGraph). (state_among l.graph (teams_of new)).logs) live-gathered ∙ logs-here
+
+  no-turns : All (λ turns. turns ≡ 0) (turns_among (graph_of new) (teams_of new))
+  no-turns =
+      subst (λ (l : LiveGraph). All (λ turns. turns ≡ 0) (turns_among l.graph (teams_of new))) (sym live-gathered) (
+      λ t d low.
+      let U : ℕ → ℕ = λ u. turns_of (station_of g (teams_of new) u) in
+      let there : t < stations g = omega (arith, low, length-map-range_with_len U 0 (stations g)) in
+      get_or-map-range_with_len U 0 (stations g) t t d there (zero-add t) ∙ turns-gathered t there)
+
+  pub gathered_at_rest : AreAtRest new made
+  gathered_at_rest = record {
+    whole = crews-same (map cleared_crew crews) (crews_cleared crews are) new same worked;
+    few = omega (arith, many, crews-few crews are);
+    met = subst (λ (l : LiveGraph). AreAllMet l.graph (teams_of new)) (sym live-gathered) met;
+    pace = (omega (arith, made_is), λ t d low. omega (arith, no-turns t d low));
+  }
+
+  pub gathered_stands : Stands (live_of crews) (line_of new made).state (length crews) (line_of new made)
+  gathered_stands = record {
+    live_is = live-gathered;
+    state_is = refl;
+    workers_are = many;
+    made_is = made_is;
+    no_turns = no-turns;
+  }
+
+-- ---- all of it
+
+pub crews_of_line : (live : LiveGraph) (crews lent : List WorkCrew) → AreCrews crews → live ≡ live_of crews → lent ≡ map cleared_crew crews → AreCrews lent × (live ≡ live_of lent)
+crews_of_line live crews lent are made_for is = (
+  subst AreCrews (sym is) (crews_cleared crews are),
+  made_for ∙ sym (live-cleared crews are) ∙ ap live_of (sym is),
+)
+
+pub gathers : (live : LiveGraph) (crews lent new : List WorkCrew) (made : ℕ) → AreCrews crews → live ≡ live_of crews → lent ≡ map cleared_crew crews → AreSameCrews lent new → TeamsWorked (teams_of lent) (teams_of new) → AreStill live.graph (teams_of lent) (teams_of new) → AreAllMet live.graph (teams_of new) → made ≡ fired (state_among (graph_of new) (teams_of new)) → Gathers live crews new made
+gathers live crews lent new made are made_for lent_is same worked still met made_is =
+    let same' = subst (λ (l : List WorkCrew). AreSameCrews l new) lent_is same in
+    let worked' = subst (λ (l : List WorkCrew). TeamsWorked (teams_of l) (teams_of new)) lent_is worked in
+    let still' = subst (λ (l : LiveGraph). AreStill l.graph (teams_of (map cleared_crew crews)) (teams_of new)) made_for (subst (λ (l : List WorkCrew). AreStill live.graph (teams_of l) (teams_of new)) lent_is still) in
+    let met' = subst (λ (l : LiveGraph). AreAllMet l.graph (teams_of new)) made_for met in
+    let there : Gathers (live_of crews) crews new made = record {
+      rest = gathered_at_rest crews are new same' worked' still' met' made made_is;
+      logs = logs-gathered crews are new same' worked' still' met' made made_is;
+      stands = gathered_stands crews are new same' worked' still' met' made made_is;
+    } in
+    subst (λ (l : LiveGraph). Gathers l crews new made) (sym made_for) there
+
+-- the crews after the meeting are those of the line
+pub crews_met : (live : LiveGraph) (crews lent new : List WorkCrew) → AreCrews crews → live ≡ live_of crews → lent ≡ map cleared_crew crews → AreSameCrews lent new → TeamsWorked (teams_of lent) (teams_of new) → AreCrews new × (length new ≤ 16)
+crews_met live crews lent new are made_for lent_is same worked =
+    let whole = crews-same lent (crews_of_line live crews lent are made_for lent_is).0 new same worked in
+    (whole, crews-few new whole)

@@ -1,0 +1,37 @@
+-- The logs of all stations of a line, in the order of their numbers: those with which the line is closed, and copies of them.
+use Rattle.std.specs.Prelude.{◌≡◌, ℕ, ◌≤◌, List, map, length}
+use Rattle.std.specs.List.{range_with_len}
+use Rattle.line_base.specs.declared.event.Parts.{Parts}
+use Rattle.line_base.specs.Roomy.{RoomyLog, RoomyLogs}
+use Rattle.event_graph.specs.Network.{stations, jobs}
+use Rattle.station_step.specs.Station.{WorkStation}
+use Rattle.line_workers.specs.Share.{first_of}
+use Rattle.line_workers.specs.Team.{WorkTeam}
+use Rattle.line_workers.specs.Teams.{station_of}
+use Rattle.line_workers.specs.Crew.{WorkCrew, teams_of}
+use Rattle.line_workers.specs.Crews.{graph_of}
+
+-- the log of a station
+abbrev pub log_of : WorkStation → RoomyLog
+log_of s = s.log
+
+-- a copy of the log of a station, with room for so many dates
+abbrev pub copy_of : ℕ → WorkStation → RoomyLog
+copy_of room s = record { dates = s.log.dates; room = room }
+
+-- what this gives of each of the first so many stations
+abbrev pub first_logs : (WorkStation → RoomyLog) → Parts → List WorkTeam → ℕ → List RoomyLog
+first_logs of g teams count = map (λ t. of (station_of g teams t)) (range_with_len 0 count)
+
+-- the logs of all stations
+abbrev pub logs_among : Parts → List WorkTeam → List RoomyLog
+logs_among g teams = first_logs log_of g teams (stations g)
+
+-- copies of the logs of all stations, each with room for a date of each job
+abbrev pub copies_among : Parts → List WorkTeam → List RoomyLog
+copies_among g teams = first_logs (copy_of (jobs g)) g teams (stations g)
+
+-- these are what this gives of the stations of the first so many crews, with room for those of all
+pub record AreGiven (of : WorkStation → RoomyLog) (crews : List WorkCrew) (count : ℕ) (given : RoomyLogs) : Type 0 where
+  pub logs : given.logs ≡ first_logs of (graph_of crews) (teams_of crews) (first_of (length crews) (stations (graph_of crews)) count)
+  pub room : stations (graph_of crews) ≤ given.room
