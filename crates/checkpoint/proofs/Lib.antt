@@ -1,0 +1,8 @@
+mod Examples
+pub mod Writing
+pub mod Filling
+pub mod WordBytes
+pub mod ReadDates
+pub mod Unique
+pub mod ReadLines
+pub mod OneState

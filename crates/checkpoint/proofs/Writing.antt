@@ -1,0 +1,165 @@
+-- Texts that are written part by part: what is written, with what is left, is the whole.
+use Rattle.std.proofs.Common.{◌≡◌, ℕ, ◌+◌, ◌<◌, ◌≤◌, List, [], ◌∷◌, ◌++◌, length, drop, get_or, cond, filter, sym, ap, ◌∙◌, refl, append_assoc, append-nil, map-id, arith}
+use Rattle.std.specs.Prelude.{codes, decimal, nat_lt, Result, Ok, Err, is_ok, IfOk, ⊤}
+use Rattle.std.proofs.lemmas.Bool.{lt-ltb, le-ltb}
+use Rattle.std.specs.List.{flat_map, range_with_len}
+use Rattle.std.proofs.lemmas.List.{drop_more, get_or-drop, drop-drop, drop_all}
+use Rattle.std.proofs.lemmas.List.Concat.{flat_map-append}
+use Rattle.std.proofs.lemmas.List.Elements.{filter-append}
+use Rattle.std.proofs.lemmas.List.FromFn.{map-range_with_len_more, get_or-map-range_with_len, length-map-range_with_len}
+use Rattle.line_core.specs.Parts.{list_at}
+use Rattle.checkpoint.specs.declared.format.Format.{Format}
+use Rattle.line_base.specs.declared.event.Parts.{Parts}
+use Rattle.event_graph.specs.Network.{arc_count, delay, stations, label}
+use Rattle.checkpoint.specs.Text.{date_word, date_words, dates_text, delayed_arcs, delay_words, delays_line, station_words, place_words, station_lines, place_lines, Line, Fixed, Dated, filled}
+
+-- one more date
+pub words_step : (format : Format) (written spaced dated whole : List ℕ) (before date : ℕ) (dates : List ℕ) → written ++ date_words format before (date ∷ dates) ≡ whole → spaced ≡ written ++ codes " " → dated ≡ spaced ++ date_word format before date → dated ++ date_words format date dates ≡ whole
+unfolding date_words
+words_step format written spaced dated whole before date dates h space word =
+    ap (λ l. l ++ date_words format date dates) (word ∙ ap (λ l. l ++ date_word format before date) space)
+    ∙ append_assoc (written ++ codes " ") (date_word format before date) (date_words format date dates)
+    ∙ append_assoc written (codes " ") (date_word format before date ++ date_words format date dates)
+    ∙ h
+
+-- no date is left
+pub words_end : (format : Format) (written whole : List ℕ) (before : ℕ) → written ++ date_words format before [] ≡ whole → written ≡ whole
+unfolding date_words
+words_end format written whole before h = sym (append-nil written) ∙ h
+
+-- the number of the dates, their words, and the end of the line
+pub dates_written : (format : Format) (start counted written ended : List ℕ) (dates : List ℕ) → counted ≡ start ++ decimal (length dates) → written ≡ counted ++ date_words format 0 dates → ended ≡ written ++ codes "\n" → ended ≡ start ++ dates_text format dates
+unfolding dates_text
+dates_written format start counted written ended dates count words end =
+    end
+    ∙ ap (λ l. l ++ codes "\n") (words ∙ ap (λ l. l ++ date_words format 0 dates) count)
+    ∙ append_assoc (start ++ decimal (length dates)) (date_words format 0 dates) (codes "\n")
+    ∙ append_assoc start (decimal (length dates)) (date_words format 0 dates ++ codes "\n")
+
+-- the words of the dates from number i on
+pub words_at : (format : Format) (before : ℕ) (dates : List ℕ) (i : ℕ) → i < length dates → date_words format before (drop i dates) ≡ date_words format before (get_or dates i 0 ∷ drop (i + 1) dates)
+words_at format before dates i low = ap (date_words format before) (drop_more dates i 0 low)
+
+-- the lines from number k on, where this one has dates
+pub filled_at : (format : Format) (lns : List Line) (lists : List (List ℕ)) (k : ℕ) (words : List ℕ) → k < length lns → get_or lns k (Fixed []) ≡ Dated words → filled format (drop k lns) (drop k lists) ≡ words ++ (dates_text format (list_at lists k) ++ filled format (drop (k + 1) lns) (drop (k + 1) lists))
+unfolding filled
+filled_at format lns lists k words low line =
+    ap (λ l. filled format l (drop k lists)) (drop_more lns k (Fixed []) low ∙ ap (λ l. l ∷ drop (k + 1) lns) line)
+    ∙ ap (λ l. words ++ (dates_text format l ++ filled format (drop (k + 1) lns) (drop 1 (drop k lists)))) (get_or-drop k lists 0 [] ∙ ap (λ n. get_or lists n []) (add_zero k))
+    ∙ ap (λ l. words ++ (dates_text format (list_at lists k) ++ filled format (drop (k + 1) lns) l)) (drop-drop 1 k lists)
+  where
+    add_zero : (n : ℕ) → n + 0 ≡ n
+    add_zero n = omega arith
+
+-- one more line is written
+pub line_step : (format : Format) (lns : List Line) (lists : List (List ℕ)) (k : ℕ) (words before written after whole : List ℕ) → k < length lns → get_or lns k (Fixed []) ≡ Dated words → before ++ filled format (drop k lns) (drop k lists) ≡ whole → written ≡ before ++ words → after ≡ written ++ dates_text format (list_at lists k) → after ++ filled format (drop (k + 1) lns) (drop (k + 1) lists) ≡ whole
+line_step format lns lists k words before written after whole low line h w d =
+    let rest = filled format (drop (k + 1) lns) (drop (k + 1) lists) in
+    let text = dates_text format (list_at lists k) in
+    ap (λ l. l ++ rest) (d ∙ ap (λ l. l ++ text) w)
+    ∙ append_assoc (before ++ words) text rest
+    ∙ append_assoc before words (text ++ rest)
+    ∙ ap (λ l. before ++ l) (sym (filled_at format lns lists k words low line))
+    ∙ h
+
+-- no line is left
+pub lines_end : (format : Format) (lns : List Line) (lists : List (List ℕ)) (k : ℕ) (written whole : List ℕ) → length lns ≤ k → written ++ filled format (drop k lns) (drop k lists) ≡ whole → written ≡ whole
+unfolding filled
+lines_end format lns lists k written whole past h =
+    sym (append-nil written) ∙ ap (λ l. written ++ filled format l (drop k lists)) (sym (drop_all k lns past)) ∙ h
+
+-- one more number
+pub range_more : (n : ℕ) → range_with_len 0 (n + 1) ≡ range_with_len 0 n ++ n ∷ []
+range_more n = sym (map-id _) ∙ map-range_with_len_more (λ k. k) 0 n n (zero_plus n) ∙ ap (λ l. l ++ n ∷ []) (map-id _)
+  where
+    zero_plus : (m : ℕ) → 0 + m ≡ m
+    zero_plus m = omega arith
+
+-- ---- the arcs with a delay
+
+unfoldable pub delayed_below : Parts → ℕ → List ℕ
+delayed_below g n = filter (λ a. nat_lt 0 (delay g a)) (range_with_len 0 n)
+
+pub delayed_below-all : (g : Parts) → delayed_below g (arc_count g) ≡ delayed_arcs g
+unfolding delayed_below delayed_arcs
+delayed_below-all g = refl
+
+pub delayed_below-0 : (g : Parts) → delayed_below g 0 ≡ []
+unfolding delayed_below
+delayed_below-0 g = refl
+
+pub delayed_below-yes : (g : Parts) (n : ℕ) → 0 < delay g n → delayed_below g (n + 1) ≡ delayed_below g n ++ n ∷ []
+unfolding delayed_below
+delayed_below-yes g n late =
+    ap (filter (λ a. nat_lt 0 (delay g a))) (range_more n)
+    ∙ filter-append (λ a. nat_lt 0 (delay g a)) (range_with_len 0 n) (n ∷ [])
+    ∙ ap (λ b. filter (λ a. nat_lt 0 (delay g a)) (range_with_len 0 n) ++ cond b (n ∷ []) []) (lt-ltb 0 (delay g n) late)
+
+pub delayed_below-no : (g : Parts) (n : ℕ) → delay g n ≤ 0 → delayed_below g (n + 1) ≡ delayed_below g n
+unfolding delayed_below
+delayed_below-no g n none =
+    ap (filter (λ a. nat_lt 0 (delay g a))) (range_more n)
+    ∙ filter-append (λ a. nat_lt 0 (delay g a)) (range_with_len 0 n) (n ∷ [])
+    ∙ ap (λ b. filter (λ a. nat_lt 0 (delay g a)) (range_with_len 0 n) ++ cond b (n ∷ []) []) (le-ltb 0 (delay g n) none)
+    ∙ append-nil _
+
+-- the words of the arcs with a delay below n, and of the next
+pub delay_words-more : (g : Parts) (n : ℕ) → 0 < delay g n → flat_map (delay_words g) (delayed_below g (n + 1)) ≡ flat_map (delay_words g) (delayed_below g n) ++ delay_words g n
+delay_words-more g n late =
+    ap (flat_map (delay_words g)) (delayed_below-yes g n late)
+    ∙ flat_map-append (delay_words g) (delayed_below g n) (n ∷ [])
+    ∙ ap (λ l. flat_map (delay_words g) (delayed_below g n) ++ l) (append-nil (delay_words g n))
+
+pub delay_words-same : (g : Parts) (n : ℕ) → delay g n ≤ 0 → flat_map (delay_words g) (delayed_below g (n + 1)) ≡ flat_map (delay_words g) (delayed_below g n)
+delay_words-same g n none = ap (flat_map (delay_words g)) (delayed_below-no g n none)
+
+-- the parts of the line of the delays
+pub delays_written : (g : Parts) (start named counted written : List ℕ) → named ≡ start ++ codes "delays " → counted ≡ named ++ decimal (length (delayed_arcs g)) → written ≡ counted ++ flat_map (delay_words g) (delayed_arcs g) → written ++ codes "\n" ≡ start ++ delays_line g
+unfolding delays_line
+delays_written g start named counted written name count words =
+    let delays = flat_map (delay_words g) (delayed_arcs g) in
+    let number = decimal (length (delayed_arcs g)) in
+    ap (λ l. l ++ codes "\n") (words ∙ ap (λ l. l ++ delays) (count ∙ ap (λ l. l ++ number) name))
+    ∙ append_assoc ((start ++ codes "delays ") ++ number) delays (codes "\n")
+    ∙ append_assoc (start ++ codes "delays ") number (delays ++ codes "\n")
+    ∙ append_assoc start (codes "delays ") (number ++ (delays ++ codes "\n"))
+
+-- ---- the lines of stations and arcs
+
+pub length-station_lines : (g : Parts) → length (station_lines g) ≡ stations g
+unfolding station_lines
+length-station_lines g = length-map-range_with_len (λ t. Dated (station_words g t)) 0 (stations g)
+
+pub station_line_at : (g : Parts) (t : ℕ) → t < stations g → get_or (station_lines g) t (Fixed []) ≡ Dated (station_words g t)
+unfolding station_lines
+station_line_at g t there = get_or-map-range_with_len (λ k. Dated (station_words g k)) 0 (stations g) t t (Fixed []) there (omega arith)
+
+pub length-place_lines : (g : Parts) → length (place_lines g) ≡ arc_count g
+unfolding place_lines
+length-place_lines g = length-map-range_with_len (λ a. Dated (place_words a)) 0 (arc_count g)
+
+pub place_line_at : (g : Parts) (a : ℕ) → a < arc_count g → get_or (place_lines g) a (Fixed []) ≡ Dated (place_words a)
+unfolding place_lines
+place_line_at g a there = get_or-map-range_with_len (λ k. Dated (place_words k)) 0 (arc_count g) a a (Fixed []) there (omega arith)
+
+pub station_words_written : (g : Parts) (t : ℕ) (start named labelled spaced label' : List ℕ) → named ≡ start ++ codes "station " → labelled ≡ named ++ label' → spaced ≡ labelled ++ codes " " → label' ≡ label g t → spaced ≡ start ++ station_words g t
+unfolding station_words
+station_words_written g t start named labelled spaced label' name text space is =
+    space
+    ∙ ap (λ l. l ++ codes " ") (text ∙ ap (λ l. l ++ label') name ∙ ap (λ l. (start ++ codes "station ") ++ l) is)
+    ∙ append_assoc (start ++ codes "station ") (label g t) (codes " ")
+    ∙ append_assoc start (codes "station ") (label g t ++ codes " ")
+
+pub place_words_written : (a : ℕ) (start named numbered spaced : List ℕ) → named ≡ start ++ codes "place " → numbered ≡ named ++ decimal a → spaced ≡ numbered ++ codes " " → spaced ≡ start ++ place_words a
+unfolding place_words
+place_words_written a start named numbered spaced name text space =
+    space
+    ∙ ap (λ l. l ++ codes " ") (text ∙ ap (λ l. l ++ decimal a) name)
+    ∙ append_assoc (start ++ codes "place ") (decimal a) (codes " ")
+    ∙ append_assoc start (codes "place ") (decimal a ++ codes " ")
+
+-- ---- the end of a function that writes
+
+pub ok_appended : {E : Type 0} (r : Result ⊤ E) (new old tail want : List ℕ) → new ≡ cond (is_ok r) (old ++ tail) old → old ++ tail ≡ want → IfOk r (λ _. new ≡ want)
+ok_appended (Ok x) new old tail want is h = is ∙ h
+ok_appended (Err e) new old tail want is h = tt

@@ -1,0 +1,106 @@
+ghost use Rattle.std.specs.Prelude.{◌≡◌};
+ghost use Rattle.checkpoint.specs.Refusals.{of_state_error};
+
+use line_core::StateError;
+use thiserror::Error;
+
+/// Why bytes are no checkpoint of a state that firings reach. Lines, jobs and tokens are counted from 1, stations and arcs
+/// from 0, dates are in the plant's unit.
+#[derive(Clone, Copy, Debug, PartialEq, Eq, Error)]
+pub enum CheckpointError {
+    /// This line, the first such, is not of the form.
+    #[error("line {number} is no line of a checkpoint")]
+    Line {
+        /// Which line.
+        number: u64,
+    },
+    /// The log of this station, the first such, has more dates than there are jobs.
+    #[error("station {station} has {have} dates of {limit}")]
+    Count {
+        /// Which station.
+        station: u32,
+        /// How many dates its log has.
+        have: u64,
+        /// How many jobs there are.
+        limit: u64,
+    },
+    /// The place of this arc, the first such, has another number of tokens than the logs leave there.
+    #[error("arc {arc} has {have} tokens, needs {need}")]
+    Marking {
+        /// Which arc.
+        arc: u32,
+        /// How many tokens it has.
+        have: u64,
+        /// How many the logs leave there.
+        need: i64,
+    },
+    /// This date, the first such, isn't the one that the equations of the graph give over the logs.
+    #[error("job {job} of station {station} has date {have}, needs {need}")]
+    Date {
+        /// Which station.
+        station: u32,
+        /// Which job.
+        job: u32,
+        /// The date that the log has.
+        have: u64,
+        /// The date that the equations give.
+        need: u64,
+    },
+    /// This token, the first such, isn't the one that the logs leave on the arc.
+    #[error("token {token} of arc {arc} has date {have}, needs {need}")]
+    PlaceDate {
+        /// Which arc.
+        arc: u32,
+        /// Which token.
+        token: u32,
+        /// The date that the place has.
+        have: u64,
+        /// The date that the logs leave there.
+        need: u64,
+    },
+    /// Memory ran out.
+    #[error("memory ran out")]
+    NoMemory,
+}
+
+impl From<StateError> for CheckpointError {
+    ghost from_gives = { λ refusal error. error ≡ of_state_error refusal };
+
+    fn from(refusal: StateError) -> Self {
+        match refusal {
+            StateError::Count {
+                station,
+                have,
+                limit,
+            } => CheckpointError::Count {
+                station,
+                have,
+                limit,
+            },
+            StateError::Marking { arc, have, need } => CheckpointError::Marking { arc, have, need },
+            StateError::Date {
+                station,
+                job,
+                have,
+                need,
+            } => CheckpointError::Date {
+                station,
+                job,
+                have,
+                need,
+            },
+            StateError::PlaceDate {
+                arc,
+                token,
+                have,
+                need,
+            } => CheckpointError::PlaceDate {
+                arc,
+                token,
+                have,
+                need,
+            },
+            StateError::NoMemory => CheckpointError::NoMemory,
+        }
+    }
+}

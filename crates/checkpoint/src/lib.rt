@@ -1,0 +1,17 @@
+//! The text of a state of a line: written, and read back exactly.
+#![tactic(auto)]
+
+mod error;
+mod format;
+mod laws;
+mod lists;
+mod log;
+mod read;
+mod reader;
+mod words;
+mod writer;
+
+pub use error::CheckpointError;
+pub use laws::texts_of_different_states_differ;
+pub use read::read_state;
+pub use writer::write_state;

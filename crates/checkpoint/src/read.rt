@@ -1,0 +1,122 @@
+ghost use Rattle.std.specs.Prelude.{◌≡◌, ℕ, ◌^◌, ◌<◌, [], length, List, IfOk, IfErr, OnOk};
+ghost use Rattle.line_base.specs.Roomy.{dates_of};
+ghost use Rattle.line_core.specs.ArcTokens.{HasRoom};
+ghost use Rattle.line_core.specs.Parts.{AreParts};
+ghost use Rattle.line_core.specs.Run.{IsReached};
+ghost use Rattle.checkpoint.specs.declared.format.Format.TheVariants.{Differences};
+ghost use Rattle.checkpoint.specs.Text.{lines, filled, delayed_arcs, IsReadFor, IsTextOf, AreGiven};
+ghost use Rattle.checkpoint.specs.Reading.{HasRead, head_count, end_from};
+ghost use Rattle.checkpoint.specs.Answers.{state_in, Tells, FindsStates};
+
+use crate::error::CheckpointError;
+use crate::format::Format;
+use crate::lists::{read_places, read_stations};
+use crate::reader::Reader;
+use crate::writer::{has_delays, put_delays};
+use event_graph::Graph;
+use line_base::{Logs, Places};
+use line_core::State;
+use live_check::Live;
+use std::alloc::Global;
+
+/// Reads the line of the delays, which is the graph's.
+fn read_delays(reader: &mut Reader, alloc: Global, graph: &Graph) -> Result<(), CheckpointError>
+    requires short { length reader.old.text < 2 ^ 32 }
+    requires read { HasRead Differences graph.now 1 [] reader.old }
+    ensures read { OnOk result (HasRead Differences graph.now 2 [] reader.new) }
+    ensures refused { IfErr result (Tells graph.now reader.old.text) }
+    ensures text { reader.new.text ≡ reader.old.text }
+{
+    let mut expected = Vec::new(alloc);
+    let Ok(()) = put_delays(&mut expected, graph) else {
+        return Err(CheckpointError::NoMemory);
+    };
+    if !reader.pass(expected.as_slice()) {
+        return Err(CheckpointError::Line { number: 2 });
+    }
+    Ok(())
+}
+
+/// Reads the first lines: which format the text has, and in format 2 the delays.
+fn read_head(reader: &mut Reader, alloc: Global, graph: &Graph) -> Result<Format, CheckpointError>
+    requires short { length reader.old.text < 2 ^ 32 }
+    requires fresh { reader.old.rest ≡ reader.old.text }
+    ensures read { IfOk result (λ format. HasRead format graph.now (head_count format) [] reader.new) }
+    ensures readable { IfOk result (λ format. IsReadFor format graph.now) }
+    ensures refused { IfErr result (Tells graph.now reader.old.text) }
+    ensures text { reader.new.text ≡ reader.old.text }
+{
+    if reader.pass(b"pull-checkpoint 2\n") {
+        return match read_delays(reader, alloc, graph) {
+            Ok(()) => Ok(Format::Differences),
+            Err(error) => Err(error),
+        };
+    }
+    if has_delays(graph) {
+        return Err(CheckpointError::Line { number: 1 });
+    }
+    if !reader.pass(b"pull-checkpoint 1\n") {
+        return Err(CheckpointError::Line { number: 1 });
+    }
+    Ok(Format::Dates)
+}
+
+/// Reads the last line, behind which nothing stands.
+fn read_end(reader: &mut Reader, graph: &Graph, format: Format) -> Result<(), CheckpointError>
+    requires short { length reader.old.text < 2 ^ 32 }
+    requires readable { IsReadFor format graph.now }
+    requires read { (lists : List (List ℕ)) × HasRead format graph.now (end_from format graph.now) lists reader.old }
+    ensures read { OnOk result ((lists : List (List ℕ))
+        → HasRead format graph.now (end_from format graph.now) lists reader.old
+        → reader.old.text ≡ filled format (lines format graph.now) lists) }
+    ensures refused { IfErr result (Tells graph.now reader.old.text) }
+{
+    let before = format.head_lines() + u64::from(graph.stations()) + graph.arcs().len() as u64;
+    if !reader.pass(b"end\n") {
+        return Err(CheckpointError::Line { number: before + 1 });
+    }
+    if !reader.rest().is_empty() {
+        return Err(CheckpointError::Line { number: before + 2 });
+    }
+    Ok(())
+}
+
+/// Reads the logs and the places of a text.
+fn read_parts(
+    reader: &mut Reader,
+    alloc: Global,
+    graph: &Graph,
+) -> Result<(Logs, Places), CheckpointError>
+    requires short { length reader.old.text < 2 ^ 32 }
+    requires fresh { reader.old.rest ≡ reader.old.text }
+    ensures read { IfOk result (λ parts. IsTextOf graph.now (state_in parts.0 parts.1) reader.old.text) }
+    ensures parts { IfOk result (λ parts. AreParts graph.now parts.0 parts.1) }
+    ensures places_given { IfOk result (λ parts. AreGiven (dates_of parts.1)) }
+    ensures room { IfOk result (λ parts. HasRoom graph.now parts.0) }
+    ensures refused { IfErr result (Tells graph.now reader.old.text) }
+{
+    let format = read_head(reader, alloc, graph)?;
+    let logs = read_stations(reader, alloc, graph, format)?;
+    let places = read_places(reader, alloc, graph, format)?;
+    read_end(reader, graph, format)?;
+    Ok((logs, places))
+}
+
+/// The state whose text these bytes are: fewer than 2^32 bytes, in format 2, or in format 1 where no arc of the graph has
+/// a delay. The state can go on firing: it takes the room of all later firings.
+///
+/// Every other answer but want of memory is the first thing that is wrong with the bytes. The first line that is not of
+/// the form is refused; where each line is of it, the logs and places that they say are refused as `State::of_parts`
+/// refuses them.
+pub fn read_state(alloc: Global, live: &Live, bytes: &[u8]) -> Result<State, CheckpointError>
+    requires { length bytes.now < 2 ^ 32 }
+    ensures made_for { IfOk result (λ state. state.graph ≡ live.now.graph) }
+    ensures text { IfOk result (λ state. IsTextOf live.now.graph state.state bytes.now) }
+    ensures reached { IfOk result IsReached }
+    ensures found { FindsStates live.now.graph bytes.now result }
+    ensures refused { IfErr result (Tells live.now.graph bytes.now) }
+{
+    let mut reader = Reader::new(bytes);
+    let (logs, places) = read_parts(&mut reader, alloc, live.graph())?;
+    Ok(State::of_roomy_parts(alloc, live, logs, &places)?)
+}

@@ -1,0 +1,64 @@
+//! The words of dates.
+ghost use Rattle.std.specs.Prelude.{◌≡◌, ℕ, ◌-◌, ◌<◌, ◌≤◌, ◌∷◌, decimal, IfSome, Some};
+ghost use Rattle.line_core.specs.Parts.{LATEST_GIVEN};
+ghost use Rattle.checkpoint.specs.declared.format.Format.TheVariants.{Differences};
+ghost use Rattle.checkpoint.specs.Text.{date_word};
+
+use crate::format::Format;
+use line_base::{Date, number_of};
+
+/// The latest date that a text may give.
+pub const LAST_DATE: Date = 1_000_000_000_000_000_000;
+
+/// The date that is so much earlier than another one, as a text says it.
+fn earlier(text: &[u8], before: Date) -> Option<Date>
+    ensures read { IfSome result (λ date. text.now ≡ decimal (before - date)) }
+    ensures earlier { IfSome result (λ date. date < before) }
+    ensures told { (date : ℕ) → date < before → text.now ≡ decimal (before - date) → result ≡ Some date }
+{
+    let less = number_of(text, before)?;
+    if less == 0 {
+        return None;
+    }
+    Some(before - less)
+}
+
+/// The date that is so much later than another one, as a text says it.
+fn later(text: &[u8], before: Date) -> Option<Date>
+    requires { before ≤ LATEST_GIVEN }
+    ensures read { IfSome result (λ date. text.now ≡ decimal (date - before)) }
+    ensures later { IfSome result (λ date. before ≤ date) }
+    ensures given { IfSome result (λ date. date ≤ LATEST_GIVEN) }
+    ensures told { (date : ℕ) → before ≤ date → date ≤ LATEST_GIVEN → text.now ≡ decimal (date - before)
+        → result ≡ Some date }
+{
+    let more = number_of(text, LAST_DATE - before)?;
+    Some(before + more)
+}
+
+/// The date whose difference from another one is this word.
+fn date_by_difference(word: &[u8], before: Date) -> Option<Date>
+    requires { before ≤ LATEST_GIVEN }
+    ensures read { IfSome result (λ date. word.now ≡ date_word Differences before date) }
+    ensures given { IfSome result (λ date. date ≤ LATEST_GIVEN) }
+    ensures told { (date : ℕ) → date ≤ LATEST_GIVEN → word.now ≡ date_word Differences before date
+        → result ≡ Some date }
+{
+    match word.strip_prefix(b"-") {
+        Some(text) => earlier(text, before),
+        None => later(word, before),
+    }
+}
+
+/// The date whose word in a text of this format this is, where the date `before` stands in front of it.
+pub fn date_of(word: &[u8], format: Format, before: Date) -> Option<Date>
+    requires { before ≤ LATEST_GIVEN }
+    ensures read { IfSome result (λ date. word.now ≡ date_word format before date) }
+    ensures given { IfSome result (λ date. date ≤ LATEST_GIVEN) }
+    ensures told { (date : ℕ) → date ≤ LATEST_GIVEN → word.now ≡ date_word format before date → result ≡ Some date }
+{
+    match format {
+        Format::Dates => number_of(word, LAST_DATE),
+        Format::Differences => date_by_difference(word, before),
+    }
+}
