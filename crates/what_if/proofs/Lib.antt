@@ -1,0 +1,14 @@
+pub mod Bits
+pub mod SlotOrder
+pub mod Rows
+pub mod Terms
+pub mod Least
+pub mod Readers
+pub mod Sums
+pub mod Inputs
+pub mod Keeping
+pub mod Walks
+pub mod Settling
+pub mod Beginning
+pub mod Reading
+pub mod Lines

@@ -1,0 +1,34 @@
+use Rattle.std.proofs.Common.{ap, subst, arith}
+use Rattle.event_graph.specs.Network.{stations, jobs}
+use Rattle.live_check.specs.Order.{LiveGraph}
+use Rattle.what_if.specs.Page.{Page, slot, mark_count}
+use Rattle.what_if.specs.Edits.{IsEdit}
+use Rattle.what_if.proofs.Readers.{count_of-set}
+use Rattle.what_if.proofs.Reading.{time_edit-station}
+use Rattle.what_if.proofs.edits.follow_edit.Goals as goal
+
+pub set_time-requires-clause-not_the_feed : goal.set_time-requires-clause-not_the_feed
+set_time-requires-clause-not_the_feed c =
+    let valid = subst (IsEdit c.args.live.now.graph) c.in-Time.is c.requires.valid in
+    (time_edit-station c.args.live.now.graph c.in-Time.station c.in-Time.job c.in-Time.time valid).0
+
+pub set_time-requires-clause-date : goal.set_time-requires-clause-date
+set_time-requires-clause-date c =
+    let g = c.args.live.now.graph in
+    let valid = subst (IsEdit g) c.in-Time.is c.requires.valid in
+    let there = (time_edit-station g c.in-Time.station c.in-Time.job c.in-Time.time valid).1 in
+    record {
+      station = omega (arith, there, ap (λ (l : LiveGraph). stations l.graph) c.requires.made_for);
+      from_one = valid.from_one;
+      job = omega (arith, valid.job, ap (λ (l : LiveGraph). jobs l.graph) c.requires.made_for);
+    }
+
+pub returns-in-Time-clause-marks : goal.returns-in-Time-clause-marks
+returns-in-Time-clause-marks c =
+    let p = c.args.sheet.now in
+    omega (arith, ap (λ (q : Page). mark_count q) c.set_time.ensures.retimed, count_of-set p.marks (slot p.live c.in-Time.station c.in-Time.job))
+
+pub returns-then-fits-clause-marks : goal.returns-then-fits-clause-marks
+returns-then-fits-clause-marks c =
+    let p = c.args.sheet.now in
+    omega (arith, ap (λ (q : Page). mark_count q) c.set_demand.ensures.redemanded, count_of-set p.marks (slot p.live 0 c.in-Demand.job))

@@ -1,0 +1,38 @@
+use Rattle.std.proofs.Common.{ℕ, ◌+◌, length, sym, ap, subst, ◌∙◌}
+use Rattle.std.specs.Prelude.{Option, MatchOption}
+use Rattle.live_check.specs.Order.{LiveGraph}
+use Rattle.what_if.specs.Marks.{HasNone, IsFirstFrom}
+use Rattle.what_if.specs.Page.{Page, IsDate, slot}
+use Rattle.what_if.proofs.Settling.{IsSettling, goes_on, no_mark, is_solved}
+use Rattle.what_if.proofs.sheet.Sheet.settle.Goals as goal
+
+pub loop-next-preserved : goal.loop-next-preserved
+loop-next-preserved c =
+    let old = c.args.self.now in
+    let p = c.loop-next.self in
+    let h = c.loop-next.invariant in
+    let at = c.in-Some.at in
+    let t = c.date_at_slot-t.result.0 in
+    let n = c.date_at_slot-t.result.1 in
+    let first = subst (λ (o : Option ℕ). MatchOption o (HasNone p.marks h.settled.from (length p.marks)) (IsFirstFrom p.marks h.settled.from)) c.in-Some.is h.settled.next_is in
+    let date = subst (λ (l : LiveGraph). IsDate l.graph t n) h.made_for c.date_at_slot-t.ensures.date in
+    let slot_is = ap (λ l. slot l t n) (sym h.made_for) ∙ c.date_at_slot-t.ensures.slot in
+    let settling = subst (λ (q : Page). IsSettling old q (at + 1)) (sym c.evaluate.ensures.evaluated) (goes_on old p h.settled.from at t n h.settled.settling first date slot_is) in
+    record {
+      settled = record { from = at + 1; settling = settling; next_is = c.first_marked-next-in-Some.ensures.first };
+      made_for = h.made_for ∙ h.settled.settling.inputs.live ∙ sym settling.inputs.live;
+    }
+
+pub returns-clause-none_marked : goal.returns-clause-none_marked
+returns-clause-none_marked c =
+    let p = c.loop-next.self in
+    let h = c.loop-next.invariant.settled in
+    let none = subst (λ (o : Option ℕ). MatchOption o (HasNone p.marks h.from (length p.marks)) (IsFirstFrom p.marks h.from)) c.in_default.is h.next_is in
+    no_mark c.args.self.now p h.from h.settling none
+
+pub returns-clause-solved : goal.returns-clause-solved
+returns-clause-solved c =
+    let p = c.loop-next.self in
+    let h = c.loop-next.invariant.settled in
+    let none = subst (λ (o : Option ℕ). MatchOption o (HasNone p.marks h.from (length p.marks)) (IsFirstFrom p.marks h.from)) c.in_default.is h.next_is in
+    is_solved c.args.self.now p h.from h.settling none

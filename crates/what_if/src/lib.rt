@@ -1,0 +1,18 @@
+//! What-if: which dates of a run change when job times and demand dates are edited, without a new run.
+#![tactic(auto)]
+
+mod copies;
+mod edit;
+mod edits;
+mod marking;
+mod marks;
+mod reader;
+mod row;
+mod settle;
+mod sheet;
+mod slots;
+mod words;
+
+pub use edit::Edit;
+pub use edits::{RefusedLine, follow_edits};
+pub use sheet::Sheet;

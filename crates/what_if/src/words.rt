@@ -1,0 +1,42 @@
+ghost use Rattle.std.specs.Prelude.{◌≡◌, ◌==◌, ◌≤◌, length, take, drop, MatchOption};
+ghost use Rattle.std.specs.List.{position_or_len};
+ghost use Rattle.what_if.specs.Edits.{IsSplit, HasNoSpace};
+
+/// Where the first space of a text stands, or else the length of the text.
+fn word_end(text: &[u8]) -> usize
+    ensures { result ≡ position_or_len (λ byte. byte == 32) text.now }
+{
+    for (at, byte) in text.iter().enumerate() {
+        if *byte == b' ' {
+            return at;
+        }
+    }
+    text.len()
+}
+
+/// The first bytes of a text.
+pub fn front(text: &[u8], count: usize) -> &[u8]
+    requires { count ≤ length text.now }
+    ensures { result.now ≡ take count text.now }
+{
+    &text[..count]
+}
+
+/// What stands behind the first bytes of a text.
+pub fn behind(text: &[u8], count: usize) -> &[u8]
+    requires { count ≤ length text.now }
+    ensures { result.now ≡ drop count text.now }
+{
+    &text[count..]
+}
+
+/// The word before the first space of a text, and what stands behind that space.
+pub fn split_word(text: &[u8]) -> Option<(&[u8], &[u8])>
+    ensures { MatchOption result (HasNoSpace text.now) (λ parts. IsSplit text.now parts.0.now parts.1.now) }
+{
+    let end = word_end(text);
+    if end == text.len() {
+        return None;
+    }
+    Some((front(text, end), behind(text, end + 1)))
+}
