@@ -1,0 +1,74 @@
+-- The steps of the search for the least count, and its ends.
+use Rattle.std.proofs.Common.{◌≡◌, ℕ, ◌+◌, ◌<◌, ◌≤◌, true, List, length, refl, subst, arith}
+use Rattle.std.proofs.lemmas.List.Elements.{All-filter, filter_passes}
+use Rattle.line_base.specs.declared.limits.TheConstants.{MAX_CARDS}
+use Rattle.plant_model.specs.declared.plant.Policy.{Policy}
+use Rattle.plant_model.specs.declared.plant.Policy.TheVariants.{Kanban, Conwip, BaseStock, Extended}
+use Rattle.plant_model.specs.declared.plant.Plant.{Plant}
+use Rattle.plant_model.specs.Line.{stage_at, stage_numbers, is_first, first_stages, path_stock, line_cards}
+use Rattle.plant_model.specs.Graph.{graph}
+use Rattle.plant_model.specs.Sound.{IsSound}
+use Rattle.plant_model.proofs.SoundPlants.{IsSoundStage-sound, HasSoundSizes-sound, path_stock-has_cards}
+use Rattle.event_graph.proofs.Greatest.{greatest-le}
+use Rattle.line_core.proofs.Existence.{has_least}
+use Rattle.line_graph.proofs.RowLists.{All-range}
+use Rattle.line_graph.proofs.Inputs.{IsGraph-graph}
+use Rattle.card_sizing.specs.declared.sizing.Below.{Below}
+use Rattle.card_sizing.specs.declared.sizing.Below.TheVariants.{Job, Dead}
+use Rattle.card_sizing.specs.Sized.{has_single_count, sized, lowest_under, lowest}
+use Rattle.card_sizing.specs.Serving.{Serves, IsLateWith}
+use Rattle.card_sizing.specs.DeadLabels.{AreDead}
+use Rattle.card_sizing.specs.Sizing.{NoneServesBelow, IsSearch}
+use Rattle.card_sizing.proofs.SizedSound.{sound_sized}
+use Rattle.card_sizing.proofs.Serving.{serves_more, dead_not_live}
+
+-- the lowest count is within the limit
+pub lowest_within : (p : Plant) → IsSound p → lowest p ≤ MAX_CARDS
+unfolding lowest
+lowest_within p sound = by_policy p.policy refl
+  where
+    by_policy : (policy : Policy) → p.policy ≡ policy → lowest_under policy p ≤ MAX_CARDS
+    by_policy Kanban is = omega arith
+    by_policy (Conwip cards) is =
+        let n = length p.stages in
+        let firsts = first_stages p in
+        let inside = All-filter (is_first p) (λ i. i < n) (stage_numbers p) (All-range (λ i. i < n) n (λ i below. below)) in
+        let passes = filter_passes (is_first p) (stage_numbers p) in
+        let few : cards ≤ MAX_CARDS = subst (λ (policy : Policy). line_cards policy ≤ MAX_CARDS) is (HasSoundSizes-sound p sound).few_line_cards in
+        let most = greatest-le (path_stock p) firsts cards (λ k d below. path_stock-has_cards p _ cards sound is (inside k d below) (passes k d below)) in
+        omega (arith, most)
+    by_policy BaseStock is = omega arith
+    by_policy Extended is =
+        greatest-le (λ i. (stage_at p i).stock) (stage_numbers p) MAX_CARDS (All-range (λ i. (stage_at p i).stock ≤ MAX_CARDS) (length p.stages) (λ i below. (IsSoundStage-sound p i sound below).little_stock))
+
+module _ (p : Plant) (sound : IsSound p) (single : has_single_count p ≡ true) (may : ℕ) where
+  -- a count with which a job is late doesn't serve
+  late_not_serves : (c job wait : ℕ) → IsLateWith p may c job wait → Serves p may c → ⊥
+  late_not_serves c job wait late serves =
+      let sound_c = sound_sized p c sound single serves.enough serves.within in
+      let x = has_least (graph (sized p c)) (IsGraph-graph (sized p c) sound_c) serves.live in
+      let first = late.waits x.0 x.1 in
+      omega (arith, first.waits, first.longer, serves.waits x.0 x.1 job first.from_one first.exists)
+
+  -- what doesn't serve has none below that serves
+  none_below : (c : ℕ) → c ≤ MAX_CARDS → (Serves p may c → ⊥) → NoneServesBelow p may (c + 1)
+  none_below c few not d below serves = not (serves_more p sound single may d c serves (omega arith) few)
+
+  -- one step further, where `middle` doesn't serve
+  pub search_late : (low high middle job wait : ℕ) (below : Below) → IsSearch p may low high below → low ≤ middle → middle < high → IsLateWith p may middle job wait → IsSearch p may (middle + 1) high (Job job wait)
+  search_late low high middle job wait below search after before late = record {
+    ordered = omega arith;
+    enough = omega (arith, search.enough);
+    none = none_below middle (omega (arith, search.serves.within)) (late_not_serves middle job wait late);
+    why = (omega (arith, search.enough), subst (λ (c : ℕ). IsLateWith p may c job wait) (omega arith) late);
+    serves = search.serves;
+  }
+
+  pub search_dead : (low high middle : ℕ) (labels : List (List ℕ)) (below : Below) → IsSearch p may low high below → low ≤ middle → middle < high → AreDead (graph (sized p middle)) labels → IsSearch p may (middle + 1) high (Dead labels)
+  search_dead low high middle labels below search after before dead = record {
+    ordered = omega arith;
+    enough = omega (arith, search.enough);
+    none = none_below middle (omega (arith, search.serves.within)) (λ serves. dead_not_live (graph (sized p middle)) labels dead serves.live);
+    why = (omega (arith, search.enough), subst (λ (c : ℕ). AreDead (graph (sized p c)) labels) (omega arith) dead);
+    serves = search.serves;
+  }

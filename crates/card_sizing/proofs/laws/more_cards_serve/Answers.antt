@@ -1,0 +1,5 @@
+use Rattle.card_sizing.proofs.Serving.{serves_more}
+use Rattle.card_sizing.proofs.laws.more_cards_serve.Goals as goal
+
+pub returns : goal.returns
+returns c = serves_more

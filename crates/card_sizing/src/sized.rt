@@ -1,0 +1,146 @@
+//! A copy of a plant with another count of cards.
+ghost use Rattle.std.specs.Prelude.{◌≡◌, ◌≤◌, map, IfOk};
+ghost use Rattle.plant_model.specs.declared.plant.Plant.{Plant};
+ghost use Rattle.card_sizing.specs.Sized.{policy_with, cards_under, stage_with, sized};
+
+use line_base::{Items, Name, NameError, Times};
+use plant_model::{CardLoop, Machine, Plant, Policy, Stage};
+use std::alloc::{AllocError, Global};
+
+/// A copy of the plant with `count` cards at each stage under kanban and extended kanban, and for the line under CONWIP. Under
+/// base stock it is a copy of the plant as it is.
+#[tactic(auto, unfolding(crate::specs::Sized::sized))]
+pub fn sized_plant(alloc: Global, plant: &Plant, count: u32) -> Result<Plant, AllocError>
+    ensures { IfOk result (λ copy. copy ≡ sized plant.now count) }
+{
+    Ok(Plant {
+        policy: policy_with(plant.policy, count),
+        stages: copy_of_stages(alloc, plant.policy, plant.stages.as_slice(), count)?,
+        loops: copy_of_loops(alloc, plant.loops.as_slice())?,
+        card_time: plant.card_time,
+        demands: copy_of_numbers(alloc, &plant.demands)?,
+        observe: copy_of_numbers(alloc, &plant.observe)?,
+    })
+}
+
+/// The policy, with `count` cards for the line.
+fn policy_with(policy: Policy, count: u32) -> Policy
+    ensures { result ≡ policy_with count policy }
+{
+    match policy {
+        Policy::Conwip(_) => Policy::Conwip(count),
+        Policy::Kanban | Policy::BaseStock | Policy::Extended => policy,
+    }
+}
+
+/// The cards of a stage that has `own` cards, where `count` are given to the stages that have cards.
+fn cards_under(policy: Policy, count: u32, own: u32) -> u32
+    ensures { result ≡ cards_under policy count own }
+{
+    match policy {
+        Policy::Kanban | Policy::Extended => count,
+        Policy::Conwip(_) | Policy::BaseStock => own,
+    }
+}
+
+/// A copy of the stages.
+fn copy_of_stages(
+    alloc: Global,
+    policy: Policy,
+    stages: &[Stage],
+    count: u32,
+) -> Result<Items<Stage>, AllocError>
+    ensures { IfOk result (λ copy. copy ≡ map (stage_with policy count) stages.now) }
+{
+    let mut copy = Vec::with_capacity(alloc, stages.len())?;
+    for stage in stages {
+        copy.push(copy_of_stage(alloc, policy, stage, count)?)?;
+    }
+    Ok(Items::from_vec(copy))
+}
+
+/// A copy of a stage.
+fn copy_of_stage(
+    alloc: Global,
+    policy: Policy,
+    stage: &Stage,
+    count: u32,
+) -> Result<Stage, AllocError>
+    ensures { IfOk result (λ copy. copy ≡ stage_with policy count stage.now) }
+{
+    Ok(Stage {
+        name: copy_of_name(alloc, &stage.name)?,
+        feeds: stage.feeds,
+        cards: cards_under(policy, count, stage.cards),
+        stock: stage.stock,
+        travel: stage.travel,
+        card_time: stage.card_time,
+        machines: copy_of_machines(alloc, stage.machines.as_slice())?,
+    })
+}
+
+/// A copy of the machines of a stage.
+fn copy_of_machines(alloc: Global, machines: &[Machine]) -> Result<Items<Machine>, AllocError>
+    ensures { IfOk result (λ copy. copy ≡ machines.now) }
+{
+    let mut copy = Vec::with_capacity(alloc, machines.len())?;
+    for machine in machines {
+        copy.push(copy_of_machine(alloc, machine)?)?;
+    }
+    Ok(Items::from_vec(copy))
+}
+
+/// A copy of a machine.
+fn copy_of_machine(alloc: Global, machine: &Machine) -> Result<Machine, AllocError>
+    ensures { IfOk result (λ copy. copy ≡ machine.now) }
+{
+    Ok(Machine {
+        name: copy_of_name(alloc, &machine.name)?,
+        servers: machine.servers,
+        times: copy_of_times(alloc, &machine.times)?,
+    })
+}
+
+/// A copy of job times.
+fn copy_of_times(alloc: Global, times: &Times) -> Result<Times, AllocError>
+    ensures { IfOk result (λ copy. copy ≡ times.now) }
+{
+    match times {
+        Times::Fixed(time) => Ok(Times::Fixed(*time)),
+        Times::Each(each) => Ok(Times::Each(copy_of_numbers(alloc, each)?)),
+    }
+}
+
+/// A copy of a name.
+fn copy_of_name(alloc: Global, name: &Name) -> Result<Name, AllocError>
+    ensures { IfOk result (λ copy. copy ≡ name.now) }
+{
+    match Name::of(alloc, name.text()) {
+        Ok(copy) => Ok(copy),
+        Err(NameError::NoMemory) => Err(AllocError),
+        Err(NameError::BadName) => unreachable!(),
+    }
+}
+
+/// A copy of the loops.
+fn copy_of_loops(alloc: Global, loops: &[CardLoop]) -> Result<Items<CardLoop>, AllocError>
+    ensures { IfOk result (λ copy. copy ≡ loops.now) }
+{
+    let mut copy = Vec::with_capacity(alloc, loops.len())?;
+    for card_loop in loops {
+        copy.push(CardLoop {
+            first: card_loop.first,
+            last: card_loop.last,
+            cards: card_loop.cards,
+            card_time: card_loop.card_time,
+        })?;
+    }
+    Ok(Items::from_vec(copy))
+}
+
+/// A copy of dates or times.
+fn copy_of_numbers(alloc: Global, numbers: &Items<u64>) -> Result<Items<u64>, AllocError>
+    ensures { IfOk result (λ copy. copy ≡ numbers.now) }
+{
+    Ok(Items::from_vec(Vec::from_slice(alloc, numbers.as_slice())?))
+}
