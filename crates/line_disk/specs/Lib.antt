@@ -1,0 +1,3 @@
+pub mod DiskView
+pub mod Memory
+pub mod MemDisk

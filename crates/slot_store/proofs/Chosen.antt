@@ -1,0 +1,93 @@
+-- The slot that a save writes to lies beside the one that holds the content.
+use Rattle.std.proofs.Common.{◌≡◌, ℕ, ◌+◌, ◌==◌, Bool, true, false, cond, List, refl, sym, ◌∙◌, ap, subst, Option, Some, None}
+use Rattle.line_disk.specs.DiskView.{Image, bytes_at}
+use Rattle.slot_store.specs.Layout.{start_of, header_at, is_open, Saved, content_from, saved_in, next, newer, bytes_of, content, newer_by, newer_header, target_by}
+use Rattle.slot_store.specs.Crash.{other, number_after, IsTarget}
+use Rattle.slot_store.specs.declared.header.Header.{Header}
+use Rattle.slot_store.specs.declared.header.Slot.{Slot}
+use Rattle.slot_store.specs.declared.header.Slot.TheVariants.{Zero, One}
+use Rattle.slot_store.specs.declared.target.Target.{Target}
+
+abbrev by_head : Bool → Header → List ℕ → Option Saved
+by_head is_open header bytes = cond is_open (Some (record { number = header.number; content = bytes })) None
+
+-- of what the two slots hold, what the one beside this holds
+abbrev beside : Slot → Option Saved → Option Saved → Option Saved
+beside Zero zero one = one
+beside One zero one = zero
+
+record IsBeside (saved : Option Saved) (target : Target) (zero one : Option Saved) : Type 0 where
+  pub kept : bytes_of saved ≡ bytes_of (beside target.slot zero one)
+  pub number_is : target.number ≡ number_after (beside target.slot zero one)
+
+both_open : (after : Bool) (zero one : Header) (a b : List ℕ) → IsBeside (cond after (by_head true one b) (by_head true zero a)) (target_by (newer_by true true after zero one) zero one) (by_head true zero a) (by_head true one b)
+both_open true zero one a b = record { kept = refl; number_is = refl }
+both_open false zero one a b = record { kept = refl; number_is = refl }
+
+chosen_by : (z o : Bool) (zero one : Header) (a b : List ℕ) → IsBeside (newer (by_head z zero a) (by_head o one b)) (target_by (newer_by z o (one.number == next zero.number) zero one) zero one) (by_head z zero a) (by_head o one b)
+chosen_by false false zero one a b = record { kept = refl; number_is = refl }
+chosen_by false true zero one a b = record { kept = refl; number_is = refl }
+chosen_by true false zero one a b = record { kept = refl; number_is = refl }
+chosen_by true true zero one a b = both_open (one.number == next zero.number) zero one a b
+
+beside-other : (image : Image) (room : ℕ) (slot : Slot) → beside slot (saved_in image room Zero) (saved_in image room One) ≡ saved_in image room (other slot)
+beside-other image room Zero = refl
+beside-other image room One = refl
+
+pub chosen : (image : Image) (room : ℕ) → IsTarget image room (target_by (newer_header room (header_at image (start_of room Zero)) (header_at image (start_of room One))) (header_at image (start_of room Zero)) (header_at image (start_of room One)))
+chosen image room =
+    let zero = header_at image (start_of room Zero) in
+    let one = header_at image (start_of room One) in
+    let target = target_by (newer_header room zero one) zero one in
+    let by = chosen_by (is_open room zero) (is_open room one) zero one (content_from image (start_of room Zero)) (content_from image (start_of room One)) in
+    record {
+      kept = by.kept ∙ ap bytes_of (beside-other image room target.slot);
+      number_is = by.number_is ∙ ap number_after (beside-other image room target.slot);
+    }
+
+some_same : {A : Type 0} {x y : A} → Some x ≡ Some y → x ≡ y
+some_same e = cc
+
+none_some : {A : Type 0} {x : A} → None ≡ Some x → ⊥
+none_some e = cc
+
+-- of what belongs to the two slots, what belongs to this one
+pick : {A : Type 0} → Slot → A → A → A
+pick Zero zero one = zero
+pick One zero one = one
+
+record IsNewest (saved : Option Saved) (zero one : Header) (a b : List ℕ) (found : Slot × Header) : Type 0 where
+  pub content_is : bytes_of saved ≡ Some (pick found.0 a b)
+  pub head_is : found.1 ≡ pick found.0 zero one
+
+both_newest : (after : Bool) (zero one : Header) (a b : List ℕ) (found : Slot × Header) → newer_by true true after zero one ≡ Some found → IsNewest (cond after (by_head true one b) (by_head true zero a)) zero one a b found
+unfolding pick
+both_newest true zero one a b found is = subst (λ f. IsNewest (by_head true one b) zero one a b f) (some_same is) (record { content_is = refl; head_is = refl })
+both_newest false zero one a b found is = subst (λ f. IsNewest (by_head true zero a) zero one a b f) (some_same is) (record { content_is = refl; head_is = refl })
+
+newest_by : (z o : Bool) (zero one : Header) (a b : List ℕ) (found : Slot × Header) → newer_by z o (one.number == next zero.number) zero one ≡ Some found → IsNewest (newer (by_head z zero a) (by_head o one b)) zero one a b found
+unfolding pick
+newest_by false false zero one a b found is = absurd (none_some is)
+newest_by false true zero one a b found is = subst (λ f. IsNewest (by_head true one b) zero one a b f) (some_same is) (record { content_is = refl; head_is = refl })
+newest_by true false zero one a b found is = subst (λ f. IsNewest (by_head true zero a) zero one a b f) (some_same is) (record { content_is = refl; head_is = refl })
+newest_by true true zero one a b found is = both_newest (one.number == next zero.number) zero one a b found is
+
+pick-content : (image : Image) (room : ℕ) (slot : Slot) → pick slot (content_from image (start_of room Zero)) (content_from image (start_of room One)) ≡ content_from image (start_of room slot)
+unfolding pick
+pick-content image room Zero = refl
+pick-content image room One = refl
+
+pick-head : (image : Image) (room : ℕ) (slot : Slot) → pick slot (header_at image (start_of room Zero)) (header_at image (start_of room One)) ≡ header_at image (start_of room slot)
+unfolding pick
+pick-head image room Zero = refl
+pick-head image room One = refl
+
+-- the content is what stands in the newer slot, as long as its head says
+pub newest : (image : Image) (room : ℕ) (slot : Slot) (header : Header) → newer_header room (header_at image (start_of room Zero)) (header_at image (start_of room One)) ≡ Some (slot, header) → content image room ≡ Some (bytes_at image (start_of room slot + 16) header.length)
+newest image room slot header is =
+    let zero = header_at image (start_of room Zero) in
+    let one = header_at image (start_of room One) in
+    let by = newest_by (is_open room zero) (is_open room one) zero one (content_from image (start_of room Zero)) (content_from image (start_of room One)) (slot, header) is in
+    by.content_is
+    ∙ ap (λ (xs : List ℕ). Some xs) (pick-content image room slot)
+    ∙ ap (λ (h : Header). let v : Option (List ℕ) = Some (bytes_at image (start_of room slot + 16) h.length) in v) (sym (by.head_is ∙ pick-head image room slot))

@@ -1,0 +1,36 @@
+ghost use Rattle.std.specs.Prelude.{◌≡◌};
+ghost use Rattle.slot_store.specs.declared.error.SlotError.TheVariants.{DiskFault, NoMemory};
+ghost use Rattle.line_disk.specs.declared.disk.DiskError.TheVariants.{Failed};
+
+use line_disk::DiskError;
+use thiserror::Error;
+
+/// Why a save or a load gave up.
+#[derive(Clone, Copy, Debug, PartialEq, Eq, Error)]
+pub enum SlotError {
+    /// The bytes are longer than the room of a slot; `have` is their number. The disk is untouched.
+    #[error("the content has {have} bytes, more than a slot has room for")]
+    TooLong { have: u64 },
+    /// A call of the disk failed; its count of faults rose.
+    #[error("the disk failed")]
+    DiskFault,
+    /// No slot is open.
+    #[error("nothing is saved")]
+    NoneSaved,
+    /// There was no memory for it.
+    #[error("out of memory")]
+    NoMemory,
+}
+
+impl From<DiskError> for SlotError {
+    ghost use Rattle.slot_store.specs.Errors.{error_of};
+
+    ghost from_gives = { λ error e. e ≡ error_of error };
+
+    fn from(error: DiskError) -> Self {
+        match error {
+            DiskError::Failed => SlotError::DiskFault,
+            DiskError::NoMemory => SlotError::NoMemory,
+        }
+    }
+}

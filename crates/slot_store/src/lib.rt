@@ -1,0 +1,12 @@
+//! Bytes that outlive a crash: each save goes into the older of two slots of a disk, and counts once its gate is open.
+#![tactic(auto)]
+
+mod error;
+mod header;
+mod saving;
+mod slots;
+mod target;
+
+pub use error::SlotError;
+pub use header::MAX_ROOM;
+pub use slots::Slots;

@@ -1,0 +1,87 @@
+//! What a save writes, in three parts. Each says what a crash leaves while it runs.
+ghost use Rattle.std.specs.Prelude.{◌≡◌, ◌⊎◌, ◌∷◌, ◌+◌, ◌≤◌, Some, length, IsTrue, IfOk, OnOk, IsErrOf};
+ghost use Rattle.std.specs.Int.{w64, to_be_bytes};
+ghost use Rattle.line_disk.specs.DiskView.{MayLeave, LeavesOnly, held_now};
+ghost use Rattle.line_io.specs.Faults.{Rose};
+ghost use Rattle.slot_store.specs.Crash.{SameContent, TellsGate, IsClosed, IsStaged, IsReady, IsSaved, IsKeptOrNew, bytes_now, staged_in};
+ghost use Rattle.slot_store.specs.Layout.{header_at, newer_header, start_of, content, target_by};
+
+use crate::header::{HEADER, MAX_ROOM, OPEN};
+use crate::target::Target;
+use line_disk::{Disk, DiskError};
+
+/// The gate of a slot that is not open.
+const CLOSED: u8 = 0;
+
+/// Closes the gate of the target where it is open. A crash leaves the content as it is.
+pub fn close_gate<D: Disk>(disk: &mut D, room: u64, target: Target) -> Result<(), DiskError>
+    requires room { room ≤ MAX_ROOM }
+    requires ready { IsTrue D.tells → IsReady (D.shown disk.old) room target }
+    requires gate { IsTrue D.tells → TellsGate (bytes_now (D.shown disk.old)) room target }
+    ensures any_moment { IsTrue D.tells → LeavesOnly (D.shown disk.old) (D.shown disk.new)
+        (SameContent (bytes_now (D.shown disk.old)) room) }
+    ensures ready { OnOk result (IsTrue D.tells → IsReady (D.shown disk.new) room target) }
+    ensures closed { OnOk result (IsTrue D.tells → IsClosed (bytes_now (D.shown disk.new)) room target) }
+    ensures cause { IsErrOf result DiskError.Failed → Rose (D.shown disk.old).faults (D.shown disk.new).faults }
+    ensures faults_stay_or_rise { (D.shown disk.old).faults ≤ (D.shown disk.new).faults }
+{
+    if !target.gate_is_open {
+        return Ok(());
+    }
+    disk.write_at(target.slot.start(room), &[CLOSED])?;
+    disk.sync()
+}
+
+// The number and the length of a content, as they stand behind the gate.
+fn number_and_length(number: u8, length: u64) -> [u8; 9]
+    ensures { result ≡ number ∷ to_be_bytes w64 length }
+{
+    let [a, b, c, d, e, f, g, h] = length.to_be_bytes();
+    [number, a, b, c, d, e, f, g, h]
+}
+
+/// Writes the number, the length and the content behind the closed gate. A crash leaves the content as it is.
+pub fn write_content<D: Disk>(
+    disk: &mut D,
+    room: u64,
+    target: Target,
+    bytes: &[u8],
+) -> Result<(), DiskError>
+    requires room { room ≤ MAX_ROOM }
+    requires fits { length bytes.now ≤ room }
+    requires ready { IsTrue D.tells → IsReady (D.shown disk.old) room target }
+    requires closed { IsTrue D.tells → IsClosed (bytes_now (D.shown disk.old)) room target }
+    ensures any_moment { IsTrue D.tells → LeavesOnly (D.shown disk.old) (D.shown disk.new)
+        (SameContent (bytes_now (D.shown disk.old)) room) }
+    ensures ready { OnOk result (IsTrue D.tells → IsReady (D.shown disk.new) room target) }
+    ensures staged { OnOk result (IsTrue D.tells → IsStaged (bytes_now (D.shown disk.new)) room target bytes.now) }
+    ensures cause { IsErrOf result DiskError.Failed → Rose (D.shown disk.old).faults (D.shown disk.new).faults }
+    ensures faults_stay_or_rise { (D.shown disk.old).faults ≤ (D.shown disk.new).faults }
+{
+    let start = target.slot.start(room);
+    disk.write_at(
+        start + 1,
+        &number_and_length(target.number, bytes.len() as u64),
+    )?;
+    disk.write_at(start + HEADER, bytes)?;
+    disk.sync()
+}
+
+/// Opens the gate before what was written. A crash leaves the content as it was, or what was written; after `Ok` it
+/// leaves the latter.
+pub fn open_gate<D: Disk>(disk: &mut D, room: u64, target: Target) -> Result<(), DiskError>
+    requires room { room ≤ MAX_ROOM }
+    requires ready { IsTrue D.tells → IsReady (D.shown disk.old) room target }
+    requires staged { IsTrue D.tells → IsStaged (bytes_now (D.shown disk.old)) room target
+        (staged_in (bytes_now (D.shown disk.old)) room target) }
+    requires fits { IsTrue D.tells → length (staged_in (bytes_now (D.shown disk.old)) room target) ≤ room }
+    ensures any_moment { IsTrue D.tells → LeavesOnly (D.shown disk.old) (D.shown disk.new)
+        (IsKeptOrNew (bytes_now (D.shown disk.old)) room (staged_in (bytes_now (D.shown disk.old)) room target)) }
+    ensures saved { OnOk result (IsTrue D.tells → IsSaved (held_now (D.shown disk.new)) room
+        (staged_in (bytes_now (D.shown disk.old)) room target)) }
+    ensures cause { IsErrOf result DiskError.Failed → Rose (D.shown disk.old).faults (D.shown disk.new).faults }
+    ensures faults_stay_or_rise { (D.shown disk.old).faults ≤ (D.shown disk.new).faults }
+{
+    disk.write_at(target.slot.start(room), &[OPEN])?;
+    disk.sync()
+}
