@@ -1,0 +1,63 @@
+-- The definitions at seed 7, against numbers that were worked out by hand.
+use Rattle.std.specs.Prelude.{◌≡◌, ℕ, List, [], ◌∷◌, None, Some, codes, refl}
+use Rattle.std.specs.Fmt.{digits}
+use Rattle.line_base.specs.declared.times.Times.TheVariants.{Fixed}
+use Rattle.plant_model.specs.declared.plant.Machine.{Machine}
+use Rattle.big_plant.specs.Generator.{next_state, state_after, draw}
+use Rattle.big_plant.specs.Big.{stage_of, stage_from, machines_from, date_from, dates_from}
+
+first_draw : draw 7 1 ≡ 1_059_165_278
+unfolding draw state_after next_state
+first_draw = refl
+
+-- a machine with a time for every job
+abbrev machine : List ℕ → ℕ → ℕ → Machine
+machine name servers time = record { name = name; servers = servers; times = Fixed time }
+
+-- of the draws 1059165278, 2052263231, 1946856753, 585718673, 572045545, 297257219, 865189864, 691615764
+first_stage :
+    stage_of 7 0
+    ≡ record {
+      name = codes "s1";
+      feeds = Some 1;
+      cards = 6;
+      stock = 2;
+      travel = 0;
+      card_time = 0;
+      machines = machine (codes "a") 1 14 ∷ machine (codes "b") 2 20 ∷ machine (codes "c") 2 5 ∷ [];
+    }
+unfolding stage_from machines_from draw state_after next_state digits
+first_stage = refl
+
+fourth_stage :
+    stage_of 7 3
+    ≡ record {
+      name = codes "s4";
+      feeds = Some 8;
+      cards = 2;
+      stock = 1;
+      travel = 0;
+      card_time = 0;
+      machines = machine (codes "a") 3 6 ∷ machine (codes "b") 1 13 ∷ machine (codes "c") 2 18 ∷ [];
+    }
+unfolding stage_from machines_from draw state_after next_state digits
+fourth_stage = refl
+
+last_stage :
+    stage_of 7 11
+    ≡ record {
+      name = codes "s12";
+      feeds = None;
+      cards = 7;
+      stock = 3;
+      travel = 0;
+      card_time = 0;
+      machines = machine (codes "a") 1 2 ∷ machine (codes "b") 2 15 ∷ machine (codes "c") 2 19 ∷ [];
+    }
+unfolding stage_from machines_from draw state_after next_state digits
+last_stage = refl
+
+-- the draws 97 to 99 modulo 30 are 5, 6 and 15
+first_dates : dates_from (state_after 96 7) 3 ≡ 5 ∷ 11 ∷ 26 ∷ []
+unfolding dates_from date_from draw state_after next_state
+first_dates = refl
