@@ -1,0 +1,101 @@
+-- Lists of words, each with the command that the definition makes of it, or none.
+use Rattle.std.proofs.Common.{refl, ◌≡◌, ◌<◌, ◌^◌, ℕ, true, List, [], ◌∷◌, length, Some, None, decimal, sym, rules, lit<}
+use Rattle.std.specs.Prelude.{codes}
+use Rattle.std.specs.Char.{is_ascii_digit}
+use Rattle.std.specs.List.{list_all}
+use Rattle.std.specs.Str.Parse.{digits_value}
+use Rattle.std.proofs.lemmas.Str.Parse.{IsNumeralModel, numerals_by_value}
+use Rattle.line_base.specs.Text.{starts_plainly}
+use Rattle.line_base.proofs.Numbers.{decimal-read}
+use Rattle.command_words.specs.Numbers.{number_in}
+use Rattle.command_words.specs.Options.{with_flag, with_value, options_after}
+use Rattle.command_words.specs.Settings.{asked}
+use Rattle.command_words.specs.Words.{after_big, after_resume, after_replay, after_whatif, after_cards, plant_command, after_plant_word, command_of}
+use Rattle.command_words.specs.declared.command.Command.TheVariants.{Run, Replay, Big, Resume, RunSlots, ResumeSlots, Cards, WhatIf, Help}
+
+own : IsNumeralModel (λ ds. list_all is_ascii_digit ds ≡ true) (digits_value 10)
+own = numerals_by_value _ (search rules)
+
+-- digits that begin plainly are what is written of their value
+decimal-digits : (ds : List ℕ) → list_all is_ascii_digit ds ≡ true → starts_plainly ds ≡ true → 0 < length ds
+    → digits_value 10 ds < 2 ^ 64 → decimal (digits_value 10 ds) ≡ ds
+decimal-digits ds digits plain some small = sym (decimal-read ds plain (some, own.to ds digits) small)
+
+decimal-0 : decimal 0 ≡ codes "0"
+decimal-0 = decimal-digits (codes "0") refl refl (lit< tt) (lit< tt)
+
+decimal-2 : decimal 2 ≡ codes "2"
+decimal-2 = decimal-digits (codes "2") refl refl (lit< tt) (lit< tt)
+
+decimal-16 : decimal 16 ≡ codes "16"
+decimal-16 = decimal-digits (codes "16") refl refl (lit< tt) (lit< tt)
+
+decimal-17 : decimal 17 ≡ codes "17"
+decimal-17 = decimal-digits (codes "17") refl refl (lit< tt) (lit< tt)
+
+greatest : decimal 18_446_744_073_709_551_615 ≡ codes "18446744073709551615"
+greatest = decimal-digits (codes "18446744073709551615") refl refl (lit< tt) (lit< tt)
+
+-- words that are a command
+commands : (command_of (codes "run" ∷ codes "a.toml" ∷ []) ≡ Some (Run (codes "a.toml") 1 None))
+    × (command_of (codes "run" ∷ codes "a.toml" ∷ codes "--stop-after" ∷ codes "0" ∷ codes "--save" ∷ codes "c.ckpt" ∷ [])
+    ≡ Some (Run (codes "a.toml") 1 (Some (record { after = 0; save = codes "c.ckpt" }))))
+    × (command_of (codes "run" ∷ codes "a.toml" ∷ codes "--workers" ∷ codes "16" ∷ codes "--save" ∷ codes "c.ckpt" ∷ codes "--stop-after" ∷ codes "2" ∷ [])
+    ≡ Some (Run (codes "a.toml") 16 (Some (record { after = 2; save = codes "c.ckpt" }))))
+    × (command_of (codes "run" ∷ codes "a.toml" ∷ codes "--slots" ∷ codes "--every" ∷ codes "2" ∷ [])
+    ≡ Some (RunSlots (codes "a.toml") 2 1))
+    × (command_of (codes "resume" ∷ codes "a.toml" ∷ codes "c.ckpt" ∷ codes "--workers" ∷ codes "2" ∷ [])
+    ≡ Some (Resume (codes "a.toml") (codes "c.ckpt") 2))
+    × (command_of (codes "resume" ∷ codes "a.toml" ∷ codes "--slots" ∷ []) ≡ Some (ResumeSlots (codes "a.toml") 1))
+    × (command_of (codes "big" ∷ codes "18446744073709551615" ∷ []) ≡ Some (Big 18_446_744_073_709_551_615 1))
+    × (command_of (codes "cards" ∷ codes "a.toml" ∷ codes "0" ∷ []) ≡ Some (Cards (codes "a.toml") 0))
+    × (command_of (codes "replay" ∷ codes "a.toml" ∷ codes "s.txt" ∷ []) ≡ Some (Replay (codes "a.toml") (codes "s.txt")))
+    × (command_of (codes "whatif" ∷ codes "a.toml" ∷ codes "e.txt" ∷ []) ≡ Some (WhatIf (codes "a.toml") (codes "e.txt")))
+    × (command_of (codes "--help" ∷ []) ≡ Some Help)
+unfolding number_in with_flag with_value options_after asked after_big after_resume after_replay after_whatif after_cards plant_command after_plant_word
+commands = (
+  refl,
+  rw decimal-0 refl,
+  rw (decimal-16, decimal-2) refl,
+  rw decimal-2 refl,
+  rw decimal-2 refl,
+  refl,
+  rw greatest refl,
+  rw decimal-0 refl,
+  refl,
+  refl,
+  refl,
+)
+
+-- the words are no command
+abbrev IsNone : List (List ℕ) → Type 0
+IsNone words = command_of words ≡ None
+
+-- words that are none
+others : IsNone (codes "--help" ∷ codes "run" ∷ [])
+    × IsNone (codes "run" ∷ [])
+    × IsNone (codes "run" ∷ codes "a.toml" ∷ codes "--workers" ∷ codes "17" ∷ [])
+    × IsNone (codes "run" ∷ codes "a.toml" ∷ codes "--workers" ∷ codes "02" ∷ [])
+    × IsNone (codes "run" ∷ codes "a.toml" ∷ codes "--every" ∷ codes "0" ∷ codes "--slots" ∷ [])
+    × IsNone (codes "run" ∷ codes "a.toml" ∷ codes "--workers" ∷ codes "2" ∷ codes "--workers" ∷ codes "2" ∷ [])
+    × IsNone (codes "run" ∷ codes "a.toml" ∷ codes "--save" ∷ codes "c.ckpt" ∷ [])
+    × IsNone (codes "resume" ∷ codes "a.toml" ∷ codes "c.ckpt" ∷ codes "--slots" ∷ [])
+    × IsNone (codes "check" ∷ codes "a.toml" ∷ codes "--workers" ∷ codes "2" ∷ [])
+    × IsNone (codes "run" ∷ codes "--workers" ∷ codes "2" ∷ codes "a.toml" ∷ [])
+    × IsNone (codes "run" ∷ codes "c.ckpt" ∷ [])
+    × IsNone (codes "resume" ∷ codes "a.toml" ∷ codes "b.toml" ∷ [])
+unfolding number_in with_flag with_value options_after asked after_big after_resume after_replay after_whatif after_cards plant_command after_plant_word
+others = (
+  refl,
+  refl,
+  rw decimal-17 refl,
+  rw decimal-2 refl,
+  rw decimal-0 refl,
+  rw decimal-2 refl,
+  refl,
+  refl,
+  refl,
+  refl,
+  refl,
+  refl,
+)

@@ -1,0 +1,5 @@
+pub mod Numbers
+pub mod Options
+pub mod Settings
+pub mod Usage
+pub mod Words

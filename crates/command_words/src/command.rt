@@ -1,0 +1,115 @@
+ghost use Rattle.std.specs.Prelude.{◌≡◌};
+ghost use Rattle.command_words.specs.declared.command.WordsError.TheVariants.{NoMemory};
+
+use crate::file_name::FileName;
+use std::alloc::AllocError;
+use thiserror::Error;
+
+/// Where a run stops before its end: at the first burst's end where so many firings are made.
+#[derive(Debug, Drop)]
+pub struct Stop {
+    /// The firings, 0 to 1,000,000.
+    pub after: u64,
+    /// The checkpoint that is written then.
+    pub save: FileName,
+}
+
+/// What the words after the program's name ask for.
+#[derive(Debug, Drop)]
+pub enum Command {
+    /// `run PLANT [--workers W] [--stop-after N --save FILE]`: the report of the plant, or a checkpoint of its run.
+    Run {
+        /// The plant file.
+        plant: FileName,
+        /// The workers, 1 to 16.
+        workers: u32,
+        /// Where the run stops, if it doesn't go to its end.
+        stop: Option<Stop>,
+    },
+    /// `check PLANT`: that the plant is live, and its card circuits.
+    Check {
+        /// The plant file.
+        plant: FileName,
+    },
+    /// `replay PLANT SCHEDULE`: the report of the plant, by the firings of a schedule.
+    Replay {
+        /// The plant file.
+        plant: FileName,
+        /// The schedule file.
+        schedule: FileName,
+    },
+    /// `big SEED [--workers W]`: the summary of the large plant of a seed.
+    Big {
+        /// The seed of the plant.
+        seed: u64,
+        /// The workers, 1 to 16.
+        workers: u32,
+    },
+    /// `resume PLANT FILE [--workers W]`: the report of the plant, from a checkpoint on.
+    Resume {
+        /// The plant file.
+        plant: FileName,
+        /// The checkpoint file.
+        saved: FileName,
+        /// The workers, 1 to 16.
+        workers: u32,
+    },
+    /// `cycle PLANT`: the cycle time of the plant, with a critical circuit and the potentials.
+    Cycle {
+        /// The plant file.
+        plant: FileName,
+    },
+    /// `run PLANT --every N --slots [--workers W]`: the report of the plant, with checkpoints into the slots on the way.
+    RunSlots {
+        /// The plant file.
+        plant: FileName,
+        /// The firings between two checkpoints, 1 to 1,000,000.
+        every: u64,
+        /// The workers, 1 to 16.
+        workers: u32,
+    },
+    /// `resume PLANT --slots [--workers W]`: the report of the plant, from the newest slot on.
+    ResumeSlots {
+        /// The plant file.
+        plant: FileName,
+        /// The workers, 1 to 16.
+        workers: u32,
+    },
+    /// `cards PLANT WAIT`: the least count of cards with which no job waits longer.
+    Cards {
+        /// The plant file.
+        plant: FileName,
+        /// The longest wait of a job, 0 to 10^16 of the plant's unit of time.
+        wait: u64,
+    },
+    /// `whatif PLANT EDITS`: the dates that edits of job times and demand dates change.
+    WhatIf {
+        /// The plant file.
+        plant: FileName,
+        /// The edits file.
+        edits: FileName,
+    },
+    /// `--help`: how the program is used.
+    Help,
+    /// `--version`: the name and version of the program.
+    Version,
+}
+
+/// Why words gave no command.
+#[derive(Clone, Copy, Debug, PartialEq, Eq, Error)]
+pub enum WordsError {
+    /// The words are no command.
+    #[error("the words are no command")]
+    Usage,
+    /// Memory ran out.
+    #[error("out of memory")]
+    NoMemory,
+}
+
+impl From<AllocError> for WordsError {
+    ghost from_gives = { λ _ e. e ≡ NoMemory };
+
+    fn from(_: AllocError) -> Self {
+        WordsError::NoMemory
+    }
+}

@@ -1,0 +1,18 @@
+//! The words after the program's name, as a command with its operands and its options.
+#![tactic(auto)]
+
+mod command;
+mod file_name;
+mod first;
+mod limits;
+mod number;
+mod options;
+mod settings;
+mod usage;
+mod words;
+
+pub use command::{Command, Stop, WordsError};
+pub use file_name::FileName;
+pub use limits::{MAX_FIRINGS, MAX_WAIT, limits_are_those_of_the_definitions};
+pub use usage::{USAGE, usage_is_that_of_the_definitions};
+pub use words::read_words;

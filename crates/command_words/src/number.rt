@@ -1,0 +1,22 @@
+ghost use Rattle.std.specs.Prelude.{◌≡◌, ◌≤◌, IfSome};
+ghost use Rattle.line_base.specs.Limits.{most_workers};
+ghost use Rattle.command_words.specs.Numbers.{number_in};
+
+use line_base::{MAX_WORKERS, number_of};
+
+/// The number that a word is, where it is one from `least` to `most`.
+pub fn number_in(word: &str, least: u64, most: u64) -> Option<u64>
+    ensures read { result ≡ number_in least most word.now }
+    ensures small { IfSome result (λ number. number ≤ most) }
+{
+    let number = number_of(word.as_bytes(), most)?;
+    if number < least { None } else { Some(number) }
+}
+
+/// The number of workers that a word is.
+pub fn workers_in(word: &str) -> Option<u32>
+    ensures { result ≡ number_in 1 most_workers word.now }
+{
+    let workers = number_in(word, 1, MAX_WORKERS as u64)?;
+    Some(workers as u32)
+}

@@ -1,0 +1,106 @@
+ghost use Rattle.std.specs.Prelude.{◌≡◌, option_map};
+ghost use Rattle.command_words.specs.Options.{seen, none_given, with_flag, with_value, options_after, takes_no_value, texts};
+
+use crate::first::first_word;
+use crate::limits::MAX_FIRINGS;
+use crate::number::{number_in, workers_in};
+use line_base::is_checkpoint_name;
+
+/// What the options of a command give.
+#[derive(Clone, Copy)]
+pub struct Options<'a> {
+    /// The value of `--workers`.
+    pub workers: Option<u32>,
+    /// The value of `--stop-after`.
+    pub stop_after: Option<u64>,
+    /// The value of `--save`.
+    pub save: Option<&'a str>,
+    /// The value of `--every`.
+    pub every: Option<u64>,
+    /// Whether `--slots` is given.
+    pub slots: bool,
+}
+
+impl<'a> Options<'a> {
+    /// No option.
+    fn none() -> Self
+        ensures { seen result ≡ none_given }
+    {
+        Options {
+            workers: None,
+            stop_after: None,
+            save: None,
+            every: None,
+            slots: false,
+        }
+    }
+}
+
+/// Whether an option takes no value.
+fn takes_no_value(name: &str) -> bool
+    ensures { result ≡ takes_no_value name.now }
+{
+    name == "--slots"
+}
+
+/// The options with one more that takes no value.
+#[tactic(auto, unfolding(crate::specs::Options::with_flag))]
+fn with_flag<'a>(given: Options<'a>, name: &str) -> Option<Options<'a>>
+    ensures { option_map seen result ≡ with_flag (seen given.entry) name.now }
+{
+    match name {
+        "--slots" if !given.slots => Some(Options {
+            slots: true,
+            ..given
+        }),
+        _ => None,
+    }
+}
+
+/// The options with one more that takes a value.
+#[tactic(auto, unfolding(crate::specs::Options::with_value))]
+fn with_value<'a>(given: Options<'a>, name: &str, word: &'a str) -> Option<Options<'a>>
+    ensures { option_map seen result ≡ with_value (seen given.entry) name.now word.now }
+{
+    match name {
+        "--workers" if given.workers.is_none() => Some(Options {
+            workers: Some(workers_in(word)?),
+            ..given
+        }),
+        "--stop-after" if given.stop_after.is_none() => Some(Options {
+            stop_after: Some(number_in(word, 0, MAX_FIRINGS)?),
+            ..given
+        }),
+        "--save" if given.save.is_none() && is_checkpoint_name(word.as_bytes()) => Some(Options {
+            save: Some(word),
+            ..given
+        }),
+        "--every" if given.every.is_none() => Some(Options {
+            every: Some(number_in(word, 1, MAX_FIRINGS)?),
+            ..given
+        }),
+        _ => None,
+    }
+}
+
+/// The options that words add to those that are given.
+#[tactic(auto, unfolding(crate::specs::Options::options_after))]
+fn options_after<'a>(given: Options<'a>, words: &'a [String]) -> Option<Options<'a>>
+    ensures { option_map seen result ≡ options_after (seen given.entry) (texts words.now) }
+{
+    let Some((name, rest)) = first_word(words) else {
+        return Some(given);
+    };
+    if takes_no_value(name) {
+        return options_after(with_flag(given, name)?, rest);
+    }
+    let (word, rest) = first_word(rest)?;
+    options_after(with_value(given, name, word)?, rest)
+}
+
+/// The options that words are.
+pub fn options_of<'a>(words: &'a [String]) -> Option<Options<'a>>
+    ensures { option_map seen result ≡ options_after none_given (texts words.now) }
+{
+    options_after(Options::none(), words)
+}

@@ -1,0 +1,66 @@
+ghost use Rattle.std.specs.Prelude.{◌≡◌, option_map, unwrap_or};
+ghost use Rattle.command_words.specs.Options.{seen, texts};
+ghost use Rattle.command_words.specs.Settings.{way_of, way_seen, asked, settings_seen};
+
+use crate::options::{Options, options_of};
+
+/// How a line runs.
+#[derive(Clone, Copy)]
+pub enum Mode<'a> {
+    /// To the end.
+    Whole,
+    /// To the first burst's end at which so many firings are made.
+    Stopped {
+        /// The firings.
+        after: u64,
+        /// The checkpoint that is written then.
+        save: &'a str,
+    },
+    /// To the end, with a checkpoint into a slot each time that so many firings are made.
+    Saving {
+        /// The firings between two checkpoints.
+        every: u64,
+    },
+    /// From the newest slot to the end.
+    FromSlots,
+}
+
+/// What the options of a command ask for.
+#[derive(Clone, Copy)]
+pub struct Settings<'a> {
+    /// The number of workers, 1 where none is given.
+    pub workers: u32,
+    /// How the line runs.
+    pub mode: Mode<'a>,
+}
+
+/// The settings of the options that words are.
+#[tactic(auto, unfolding(crate::specs::Settings::asked))]
+pub fn settings_of<'a>(words: &'a [String]) -> Option<Settings<'a>>
+    ensures { option_map settings_seen result ≡ asked (texts words.now) }
+{
+    let options = options_of(words)?;
+    let mode = mode_of(options)?;
+    Some(Settings {
+        workers: options.workers.unwrap_or(1),
+        mode,
+    })
+}
+
+/// The mode that options ask for beside the workers.
+fn mode_of<'a>(options: Options<'a>) -> Option<Mode<'a>>
+    ensures { option_map way_seen result ≡ way_of (seen options.entry) }
+{
+    match (
+        options.stop_after,
+        options.save,
+        options.every,
+        options.slots,
+    ) {
+        (None, None, None, false) => Some(Mode::Whole),
+        (Some(after), Some(save), None, false) => Some(Mode::Stopped { after, save }),
+        (None, None, Some(every), true) => Some(Mode::Saving { every }),
+        (None, None, None, true) => Some(Mode::FromSlots),
+        _ => None,
+    }
+}

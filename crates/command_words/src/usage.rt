@@ -1,0 +1,44 @@
+ghost use Rattle.std.specs.Prelude.{◌≡◌};
+ghost use Rattle.command_words.specs.Usage.{usage};
+
+/// What `--help` shows.
+pub const USAGE: &str = "\
+pull run PLANT                             writes the report of the plant
+pull run PLANT --stop-after N --save FILE  stops after N firings, and writes the checkpoint FILE
+pull run PLANT --every N --slots           writes the report, and a checkpoint into a slot each N firings
+pull resume PLANT FILE                     writes the report, from the checkpoint FILE on
+pull resume PLANT --slots                  writes the report, from the newest slot on
+pull check PLANT                           writes whether the plant is live, and its card circuits
+pull replay PLANT SCHEDULE                 writes the report, by the firings of a schedule
+pull cycle PLANT                           writes the cycle time, a critical circuit and the potentials
+pull cards PLANT WAIT                      writes the least cards with which no job waits longer than WAIT
+pull whatif PLANT EDITS                    writes the dates that edits of times and demand dates change
+pull big SEED                              writes the summary of the large plant of a seed
+pull --help                                writes this text
+pull --version                             writes the name and version
+
+run, resume and big take --workers W too, from 1 to 16; it is 1 where it isn't given
+
+status 0   done
+status 1   the words are no UTF-8
+status 2   the words are no command
+status 3   the plant is refused
+status 4   the plant has a circuit without a token
+status 5   a file can't be read or written
+status 6   the output can't be written
+status 7   the checkpoint is of no run of the plant
+status 8   a machine has a list of times, and so the plant no cycle time
+status 9   out of memory
+status 10  a file is longer than 64 MiB, or a checkpoint longer than 160 MiB
+status 11  the schedule can't be followed
+status 12  the slots can't be read or written
+status 13  no count of cards keeps the wait
+status 14  nothing is saved in the slots
+status 16  the edits can't be followed
+status 17  the plant has no single count of cards
+";
+
+/// The text is that of the definitions.
+pub fn usage_is_that_of_the_definitions()
+    ensures { USAGE.now ≡ usage }
+{}
