@@ -1,11 +1,14 @@
 //! What no case file reaches: public calls that the top call doesn't make, or whose answers it doesn't show, each once, with
-//! its answer compared. There is a module for each crate below, named `of_` and the crate.
+//! its answer compared. There is a module for each crate below, named `of_` and the crate. Stations, lines and what stands
+//! beside them are in the crate `line_calls`.
 #![tactic(auto)]
 
 #[cfg(test)]
 mod of_card_queue;
 #[cfg(test)]
 mod of_circuit_sums;
+#[cfg(test)]
+mod of_command_words;
 #[cfg(test)]
 mod of_event_graph;
 #[cfg(test)]
@@ -22,9 +25,3 @@ mod of_live_check;
 mod of_plant_file;
 #[cfg(test)]
 mod of_plant_model;
-#[cfg(test)]
-mod of_station_step;
-#[cfg(test)]
-mod one_shelf;
-#[cfg(test)]
-mod plants;

@@ -1,6 +1,6 @@
-use crate::plants::{live_of, two_stages};
 use circuit_sums::{CircuitKind, bound_of, card_circuits, sum};
 use event_graph::Marking;
+use sample_plants::{live_of, two_stages};
 use std::test::Fail;
 
 #[test]

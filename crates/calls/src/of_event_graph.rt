@@ -1,5 +1,5 @@
-use crate::plants::{plain, two_stations};
 use event_graph::{Arc, Graph, GraphError, Marking};
+use sample_plants::{plain, two_stations};
 use std::alloc::Global;
 use std::process::Abort;
 use std::test::Fail;
@@ -7,7 +7,7 @@ use std::test::Fail;
 /// Asserts the fault of two stations with these arcs, none of which has a delay.
 fn is_refused(rt: &impl Abort, alloc: Global, arcs: &[Arc], fault: GraphError) -> Result<(), Fail> {
     let delays = vec![in alloc; 0; arcs.len()]?;
-    assert_eq!(rt; two_stations(rt, alloc, arcs, &delays).err(), Some(fault));
+    assert_eq!(rt; two_stations(alloc, arcs, &delays)?.err(), Some(fault));
     Ok(())
 }
 
@@ -40,7 +40,7 @@ fn a_graph_tells_its_parts(rt: HostRuntime) -> Result<(), Fail> {
         ..plain(1, 1, 1)
     };
     let arcs = [plain(0, 1, 0), own];
-    let graph = two_stations(&rt, rt.alloc(), &arcs, &[4, 2])?;
+    let graph = two_stations(rt.alloc(), &arcs, &[4, 2])??;
     tells_its_arcs(&rt, &graph, &arcs);
     tells_its_stations(&rt, &graph);
     Ok(())

@@ -1,11 +1,11 @@
 ghost use Rattle.std.specs.Prelude.{◌≡◌};
 ghost use Rattle.event_graph.specs.Network.{stations, arc_count};
 
-use crate::plants::{live_of, plain, two_stages, two_stations};
 use event_graph::Arc;
 use line_base::Date;
 use line_core::{FireError, State, replay, run};
 use live_check::{Live, rank};
+use sample_plants::{live_of, plain, two_stages, two_stations};
 use std::process::Abort;
 use std::test::Fail;
 
@@ -18,7 +18,7 @@ fn delays_keep_tokens_back(rt: HostRuntime) -> Result<(), Fail> {
     let arcs = [plain(0, 1, 0), own];
     let cases: [(u64, Date, [Date; 2]); 2] = [(2, 6, [4, 9]), (0, 4, [4, 7])];
     for (delay, back, dates) in cases {
-        let graph = two_stations(&rt, rt.alloc(), &arcs, &[4, delay])?;
+        let graph = two_stations(rt.alloc(), &arcs, &[4, delay])??;
         assert!(rt; graph.stations() == 2 && graph.arcs().len() == 2);
         let live = rank(rt.alloc(), graph).ok().ok_or("not live")?;
         let state = State::start(rt.alloc(), &live)?;

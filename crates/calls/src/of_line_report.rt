@@ -1,7 +1,7 @@
-use crate::plants::{live_of, two_stages};
 use line_core::run;
 use line_io::MemSink;
 use line_report::Report;
+use sample_plants::{live_of, two_stages};
 use std::alloc::{AllocError, Global};
 use std::test::Fail;
 

@@ -1,4 +1,4 @@
-use crate::plants::{live_of, two_stages};
+use sample_plants::{live_of, two_stages};
 use std::test::Fail;
 
 #[test]

@@ -1,7 +1,7 @@
 //! The refusals of a plant as a value, one a class, each of a plant that only just isn't sound.
-use crate::plants::two_stages;
 use line_base::{Date, Items, Name, Times};
 use plant_model::{CardLoop, Machine, Plant, PlantError, Policy, Stage};
+use sample_plants::two_stages;
 use std::alloc::{AllocError, Global};
 use std::process::Abort;
 use std::test::Fail;

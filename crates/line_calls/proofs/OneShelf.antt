@@ -24,7 +24,7 @@ use Rattle.station_step.specs.Input.{empty_handed, input_at, NoneTakes}
 use Rattle.station_step.specs.Station.{WorkStation, IsStation, IsSeated, AreApart, NonePuts, outlet_at, new_station, bare_input, bare_station}
 use Rattle.station_step.specs.Kept.{IsKept, IsFresh}
 use Rattle.station_step.proofs.OwnQueues.{Some-injective, inlet_queue-bare, outlet_queue-bare}
-use Rattle.calls.specs.OneShelf.{IsUnused, IsFreshShelf, IsLocal, IsMember, IsLine, local_inlets, local_outlets, local_input}
+use Rattle.line_calls.specs.OneShelf.{IsUnused, IsFreshShelf, IsLocal, IsMember, IsLine, local_inlets, local_outlets, local_input}
 
 -- ---- new ends
 

@@ -1,4 +1,6 @@
 //! The sample plants and graphs of the tests.
+#![tactic(auto)]
+
 ghost use Rattle.std.specs.Prelude.{◌≡◌, ◌≤◌, length, All, IfOk};
 ghost use Rattle.line_base.specs.declared.limits.TheConstants.{MAX_ARCS, MAX_CARDS, MAX_TIME};
 ghost use Rattle.event_graph.specs.Limits.{IsWithinLimits};
@@ -12,7 +14,6 @@ use live_check::{Live, rank};
 use plant_file::{complete_draft, read_plant};
 use plant_model::Plant;
 use std::alloc::{AllocError, Global};
-use std::process::Abort;
 use std::test::Fail;
 
 /// Two stages under kanban, with a card each and three demands.
@@ -25,15 +26,59 @@ stage = [
 ]
 ";
 
-/// The plant of two stages: `cut` with the machine `saw`, and `weld` with the machine `torch`.
-pub fn two_stages(alloc: Global) -> Result<Plant, Fail>
+/// The same two stages with forty demands.
+const FORTY_JOBS: &str = "\
+policy = \"kanban\"
+demands = [
+  0, 2, 4, 6, 8, 10, 12, 14, 16, 18, 20, 22, 24, 26, 28, 30, 32, 34, 36, 38,
+  40, 42, 44, 46, 48, 50, 52, 54, 56, 58, 60, 62, 64, 66, 68, 70, 72, 74, 76, 78,
+]
+stage = [
+  { name = \"cut\", feeds = \"weld\", cards = 1, machine = [{ name = \"saw\", time = 3 }] },
+  { name = \"weld\", cards = 1, machine = [{ name = \"torch\", time = 5 }] },
+]
+";
+
+/// The two stages with a way between them, and a way back for a card.
+const TWO_STAGES_APART: &str = "\
+policy = \"kanban\"
+demands = [0, 2, 4]
+stage = [
+  { name = \"cut\", feeds = \"weld\", cards = 1, travel = 4, card_time = 1, machine = [{ name = \"saw\", time = 3 }] },
+  { name = \"weld\", cards = 1, machine = [{ name = \"torch\", time = 5 }] },
+]
+";
+
+/// The plant of a plant file that names no other file.
+fn plant_of(alloc: Global, file: &str) -> Result<Plant, Fail>
     ensures { IfOk result IsSound }
 {
-    let draft = read_plant(alloc, TWO_STAGES.as_bytes())?;
+    let draft = read_plant(alloc, file.as_bytes())?;
     if draft.demands_file().is_some() || draft.times_file().is_some() {
         return Err("the plant names a file".into());
     }
     Ok(complete_draft(alloc, draft, None, None)?)
+}
+
+/// The plant of two stages: `cut` with the machine `saw`, and `weld` with the machine `torch`.
+pub fn two_stages(alloc: Global) -> Result<Plant, Fail>
+    ensures { IfOk result IsSound }
+{
+    plant_of(alloc, TWO_STAGES)
+}
+
+/// The plant of two stages with forty demands.
+pub fn forty_jobs(alloc: Global) -> Result<Plant, Fail>
+    ensures { IfOk result IsSound }
+{
+    plant_of(alloc, FORTY_JOBS)
+}
+
+/// The plant of two stages in which a part takes 4 from `cut` to `weld`, and a card of `cut` 1 on its way back.
+pub fn two_stages_apart(alloc: Global) -> Result<Plant, Fail>
+    ensures { IfOk result IsSound }
+{
+    plant_of(alloc, TWO_STAGES_APART)
 }
 
 /// The live graph of a plant.
@@ -75,15 +120,20 @@ fn two_station_parts(alloc: Global, arcs: &[Arc], delays: &[u64]) -> Result<Part
     })
 }
 
-/// The graph of the two stations with these arcs, or the fault of its parts.
+/// The graph of the two stations with these arcs, or the fault of its parts. It fails where they are above the limits.
 pub fn two_stations(
-    rt: &impl Abort,
     alloc: Global,
     arcs: &[Arc],
     delays: &[u64],
-) -> Result<Graph, GraphError> {
-    assert!(rt; arcs.len() <= MAX_ARCS as usize && delays.len() == arcs.len());
-    assert!(rt; arcs.iter().all(|arc| arc.tokens <= MAX_CARDS));
-    assert!(rt; delays.iter().all(|delay| *delay <= MAX_TIME));
-    Graph::build(alloc, two_station_parts(alloc, arcs, delays)?)
+) -> Result<Result<Graph, GraphError>, Fail> {
+    if arcs.len() > MAX_ARCS as usize || delays.len() != arcs.len() {
+        return Err("as many delays as arcs, and few".into());
+    }
+    if !arcs.iter().all(|arc| arc.tokens <= MAX_CARDS) {
+        return Err("too many tokens".into());
+    }
+    if !delays.iter().all(|delay| *delay <= MAX_TIME) {
+        return Err("too long a delay".into());
+    }
+    Ok(Graph::build(alloc, two_station_parts(alloc, arcs, delays)?))
 }

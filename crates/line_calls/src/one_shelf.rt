@@ -4,7 +4,7 @@ ghost use Rattle.card_queue.specs.Plain.{PlainQueue};
 ghost use Rattle.event_graph.specs.Network.{stations};
 ghost use Rattle.station_step.specs.Station.{IsStation};
 ghost use Rattle.station_step.specs.Kept.{IsKept};
-ghost use Rattle.calls.specs.OneShelf.{IsFreshShelf, IsLocal, IsLine, local_inlets, local_outlets};
+ghost use Rattle.line_calls.specs.OneShelf.{IsFreshShelf, IsLocal, IsLine, local_inlets, local_outlets};
 
 use card_queue::Plain;
 use event_graph::Graph;

@@ -2,9 +2,9 @@ use Rattle.std.proofs.Common.{◌≡◌, ◌<◌, ℕ, List, subst, sym, ap, ◌
 use Rattle.std.proofs.lemmas.List.{get_or_default}
 use Rattle.station_step.specs.Station.{WorkStation}
 use Rattle.station_step.proofs.Keeping.{kept-may_put}
-use Rattle.calls.specs.OneShelf.{IsLine, IsMember}
-use Rattle.calls.proofs.OneShelf.{seated-local, line-steps}
-use Rattle.calls.proofs.one_shelf.step_at.Goals as goal
+use Rattle.line_calls.specs.OneShelf.{IsLine, IsMember}
+use Rattle.line_calls.proofs.OneShelf.{seated-local, line-steps}
+use Rattle.line_calls.proofs.one_shelf.step_at.Goals as goal
 
 there : (c : goal.After-step-arg-1) → c.args.t < length c.args.line.now.items
 there c = omega (arith, c.requires.is_line.count, c.requires.exists)

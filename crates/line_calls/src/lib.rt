@@ -1,0 +1,20 @@
+//! What no case file reaches, of stations, lines and what stands beside them: each public call once, with its answer
+//! compared. There is a module for each crate below, named `of_` and the crate; the other crates are in `calls`.
+#![tactic(auto)]
+
+#[cfg(test)]
+mod of_big_plant;
+#[cfg(test)]
+mod of_card_sizing;
+#[cfg(test)]
+mod of_cycle_time;
+#[cfg(test)]
+mod of_line_disk;
+#[cfg(test)]
+mod of_line_workers;
+#[cfg(test)]
+mod of_station_step;
+#[cfg(test)]
+mod of_what_if;
+#[cfg(test)]
+mod one_shelf;

@@ -1,0 +1,130 @@
+ghost use Rattle.std.specs.Prelude.{IfOk};
+ghost use Rattle.plant_model.specs.Sound.{IsSound};
+
+use card_sizing::{Below, Sizing, SizingError, least_cards};
+use plant_file::{complete_draft, read_plant};
+use plant_model::Plant;
+use sample_plants::live_of;
+use std::alloc::Global;
+use std::test::Fail;
+
+/// Two stages under kanban.
+const KANBAN: &str = "\
+policy = \"kanban\"
+demands = [0, 2, 4]
+stage = [
+  { name = \"cut\", feeds = \"weld\", cards = 1, machine = [{ name = \"saw\", time = 3 }] },
+  { name = \"weld\", cards = 1, machine = [{ name = \"torch\", time = 5 }] },
+]
+";
+
+/// They under CONWIP, with a part in stock after the second stage.
+const CONWIP: &str = "\
+policy = \"conwip\"
+cards = 2
+demands = [0, 2, 4]
+stage = [
+  { name = \"cut\", feeds = \"weld\", machine = [{ name = \"saw\", time = 3 }] },
+  { name = \"weld\", stock = 1, machine = [{ name = \"torch\", time = 5 }] },
+]
+";
+
+/// They under CONWIP, with no stock.
+const NO_STOCK: &str = "\
+policy = \"conwip\"
+cards = 2
+demands = [0, 2, 4]
+stage = [
+  { name = \"cut\", feeds = \"weld\", machine = [{ name = \"saw\", time = 3 }] },
+  { name = \"weld\", machine = [{ name = \"torch\", time = 5 }] },
+]
+";
+
+/// They by base stock.
+const BASE_STOCK: &str = "\
+policy = \"base-stock\"
+demands = [0, 2, 4]
+stage = [
+  { name = \"cut\", feeds = \"weld\", stock = 1, machine = [{ name = \"saw\", time = 3 }] },
+  { name = \"weld\", stock = 1, machine = [{ name = \"torch\", time = 5 }] },
+]
+";
+
+/// The plant of this text, which names no file.
+fn plant_of(alloc: Global, text: &str) -> Result<Plant, Fail>
+    ensures { IfOk result IsSound }
+{
+    let draft = read_plant(alloc, text.as_bytes())?;
+    if draft.demands_file().is_some() || draft.times_file().is_some() {
+        return Err("the plant names a file".into());
+    }
+    Ok(complete_draft(alloc, draft, None, None)?)
+}
+
+/// The least cards of the plant of this text, or why there are none.
+fn least(alloc: Global, text: &str, wait: u64) -> Result<Result<Sizing, SizingError>, Fail> {
+    let plant = plant_of(alloc, text)?;
+    let live = live_of(alloc, &plant)?;
+    let _live = live.graph();
+    Ok(least_cards(alloc, &plant, wait))
+}
+
+/// The job that waits longer with one card less, and its wait.
+fn job_below(sizing: &Sizing) -> Option<(u32, u64)> {
+    match &sizing.below {
+        Below::Job { job, wait } => Some((*job, *wait)),
+        Below::Lowest | Below::Dead { .. } => None,
+    }
+}
+
+/// The labels of the circuit that has no token with one card less, each with a space before it.
+fn dead_below(alloc: Global, sizing: &Sizing) -> Result<Vec<u8>, Fail> {
+    let mut text = Vec::new(alloc);
+    if let Below::Dead { labels } = &sizing.below {
+        for label in labels.as_slice() {
+            text.push(b' ')?;
+            text.extend_from_slice(label.text())?;
+        }
+    }
+    Ok(text)
+}
+
+#[test]
+fn the_job_that_waits_with_one_card_less_is_named(rt: HostRuntime) -> Result<(), Fail> {
+    let at_once = least(rt.alloc(), KANBAN, 0)??;
+    let soon = least(rt.alloc(), KANBAN, 5)??;
+    assert_eq!(rt; [at_once.cards, soon.cards], [3, 2]);
+    assert_eq!(rt; job_below(&at_once), Some((3, 1)));
+    assert_eq!(rt; job_below(&soon), Some((3, 6)));
+    Ok(())
+}
+
+// Without a card both stages are dead; which of them is named is free.
+#[test]
+fn the_circuit_that_is_dead_with_one_card_less_is_named(rt: HostRuntime) -> Result<(), Fail> {
+    let sizing = least(rt.alloc(), KANBAN, 6)??;
+    let dead = dead_below(rt.alloc(), &sizing)?;
+    let dead = dead.as_slice();
+    assert_eq!(rt; sizing.cards, 1);
+    assert!(rt;
+        dead == b" cut cut.saw weld".as_slice() || dead == b" weld weld.torch deliver".as_slice()
+    );
+    Ok(())
+}
+
+#[test]
+fn the_stock_has_a_card_each(rt: HostRuntime) -> Result<(), Fail> {
+    let sizing = least(rt.alloc(), CONWIP, 1000)??;
+    assert_eq!(rt; sizing.cards, 1);
+    assert!(rt; matches!(&sizing.below, Below::Lowest));
+    Ok(())
+}
+
+#[test]
+fn no_count_serves_and_no_single_count(rt: HostRuntime) -> Result<(), Fail> {
+    let late = least(rt.alloc(), NO_STOCK, 9)?.err();
+    let none = least(rt.alloc(), BASE_STOCK, 1000)?.err();
+    assert_eq!(rt; late, Some(SizingError::NoCount { job: 2, wait: 11 }));
+    assert_eq!(rt; none, Some(SizingError::NoSingleCount));
+    Ok(())
+}
