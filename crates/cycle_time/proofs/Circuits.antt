@@ -7,7 +7,7 @@ use Rattle.line_base.specs.declared.event.Parts.{Parts}
 use Rattle.event_graph.specs.Network.{arc, arc_count, time}
 use Rattle.event_graph.specs.Term.{work}
 use Rattle.event_graph.specs.Circuit.{IsWalk, IsCircuit, starting_stations}
-use Rattle.cycle_time.proofs.Walks.{walk_push, walk_take}
+use Rattle.event_graph.proofs.Walks.{walk_push, walk_take}
 
 -- the arcs of a walk lead to one station
 pub walk_ends : (g : Parts) (s t u : ℕ) (arcs : List ℕ) → IsWalk g s arcs t → IsWalk g s arcs u → t ≡ u

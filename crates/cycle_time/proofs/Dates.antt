@@ -25,7 +25,7 @@ use Rattle.cycle_time.specs.declared.certificate.Certificate.{Certificate}
 use Rattle.cycle_time.specs.Weight.{potential}
 use Rattle.cycle_time.specs.Certificate.{IsCertificate, NoneVaries}
 use Rattle.cycle_time.specs.Dates.{most_tokens, NoneIsNegative, latest, BoundsDates, HoldsBack}
-use Rattle.cycle_time.proofs.Walks.{walk_take, walk_drop}
+use Rattle.event_graph.proofs.Walks.{walk_take, walk_drop}
 use Rattle.cycle_time.proofs.Telescoping.{time_along-cons, tokens_on-cons}
 
 -- where the times of a station are no list, it takes as long for each job

@@ -9,7 +9,7 @@ use Rattle.event_graph.specs.Network.{IsGraph, arc, arc_count, stations}
 use Rattle.event_graph.specs.Circuit.{IsWalk}
 use Rattle.cycle_time.specs.declared.weights.Weighing.{Weighing}
 use Rattle.cycle_time.specs.Search.{gain, loss, gains, losses, Potentials, AreEntries, IsGrown, IsBest, raised}
-use Rattle.cycle_time.proofs.Walks.{walk_push}
+use Rattle.event_graph.proofs.Walks.{walk_push}
 use Rattle.cycle_time.proofs.Weighed.{gains-cons, losses-cons}
 
 -- no station has an entry, and each potential is 0

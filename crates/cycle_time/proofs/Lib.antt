@@ -1,4 +1,3 @@
-pub mod Walks
 pub mod Telescoping
 pub mod Dates
 pub mod Circuits

@@ -1,23 +1,27 @@
 -- Back along entries: the way ends at a station without one, or comes back to a station that it left, and what lies between is
 -- a circuit that gains more than it loses.
-use Rattle.std.proofs.Common.{◌≡◌, ◌≢◌, ℕ, zero, suc, ◌+◌, ◌-◌, ◌*◌, ◌<◌, ◌≤◌, cond, eqb, List, [], ◌∷◌, ◌++◌, length, set, get_or, map, drop, reverse, replicate, count_by, refl, sym, ap, ◌∙◌, subst, inl, inr, add-zero, mul-one, arith, length-drop}
+use Rattle.std.proofs.Common.{◌≡◌, ◌≢◌, ℕ, zero, suc, ◌+◌, ◌-◌, ◌<◌, ◌≤◌, List, [], ◌∷◌, ◌++◌, length, set, get_or, map, drop, reverse, replicate, refl, sym, ap, ◌∙◌, subst, inl, inr, arith, length-drop}
 use Rattle.std.specs.List.{All, sum_by}
-use Rattle.std.proofs.lemmas.Bool.{cases_lt, cases_eq, eq-eqb, ne_eqb}
-use Rattle.std.proofs.lemmas.List.{length-set, length-replicate, length-map, length-reverse, get_or-replicate, get_or-set_same, get_or-set_other, get_or-map, get_or-drop, get_or-reverse, length_push, get_or_push, get_or_append_left, get_or_read}
+use Rattle.std.proofs.lemmas.Bool.{cases_lt}
+use Rattle.std.proofs.lemmas.List.{length-map, length-reverse, get_or-map, get_or-drop, get_or-reverse, length_push, get_or_push, get_or_append_left, get_or_read}
 use Rattle.std.proofs.lemmas.List.Elements.{All-head, All-tail, All-push, All-drop, All-from_get_or}
-use Rattle.std.proofs.lemmas.List.Folds.{sum_by-replicate}
-use Rattle.std.proofs.lemmas.List.Sums.{sum_by-set, get_or-le-sum_by}
 use Rattle.std.proofs.lemmas.List.Sorted.{sum_by-IsPermutation, IsPermutation-reverse}
 use Rattle.std.proofs.lemmas.Grind.{reverse_onto}
 use Rattle.line_base.specs.declared.event.Parts.{Parts}
 use Rattle.event_graph.specs.Network.{IsGraph, arc, arc_count, stations}
 use Rattle.event_graph.specs.Circuit.{IsWalk, IsCircuit}
 use Rattle.cycle_time.specs.declared.weights.Weighing.{Weighing}
-use Rattle.cycle_time.specs.Search.{gain, loss, gains, losses, Potentials, AreEntries, IsGrown, IsHeavy, IsSoonReached, Enter, IsBackWalk, IsTrail}
-use Rattle.cycle_time.proofs.Walks.{walk_push}
+use Rattle.cycle_time.specs.Search.{gain, loss, gains, losses, Potentials, AreEntries, IsGrown, IsHeavy, IsSoonReached, Enter}
+use Rattle.event_graph.proofs.Walks.{walk_push}
+use Rattle.event_graph.proofs.LeftSteps.{AreLeftSteps, left_steps-none, left_steps-room, left_steps-more}
 use Rattle.cycle_time.proofs.Weighed.{gains-cons, losses-cons}
 
 -- ---- walks back
+
+-- the arcs lead from station t, each back to where it starts, to station s
+abbrev pub IsBackWalk : Parts → ℕ → List ℕ → ℕ → Type 0
+IsBackWalk g t [] s = t ≡ s
+IsBackWalk g t (a ∷ arcs) s = (a < arc_count g) × ((arc g a).to ≡ t) × IsBackWalk g (arc g a).from arcs s
 
 back_push : (g : Parts) (t s a : ℕ) (path : List ℕ) → IsBackWalk g t path s → a < arc_count g → (arc g a).to ≡ s → IsBackWalk g t (path ++ a ∷ []) (arc g a).from
 back_push g t s a [] walk exists to = (exists, to ∙ sym walk, refl)
@@ -65,59 +69,42 @@ All-reverse P xs all =
 
 -- ---- trails
 
+-- the station at which an arc ends, which a trail leaves by it
+abbrev pub ends : Parts → ℕ → ℕ
+ends g a = (arc g a).to
+
+-- a walk back along entries: each station that it left, and at which step
+pub record IsTrail (g : Parts) (p : Potentials) (path left : List ℕ) (start at : ℕ) : Type 0 where
+  pub walk : IsBackWalk g start path at
+  pub entries : AreEntries g p.entries path
+  pub here : at < stations g
+  pub next : (k : ℕ) → k + 1 < length path → (arc g (get_or path k 0)).from ≡ (arc g (get_or path (k + 1) 0)).to
+  pub last : (k : ℕ) → k + 1 ≡ length path → (arc g (get_or path k 0)).from ≡ at
+  pub steps : AreLeftSteps (stations g) (ends g) path left
+
 pub trail_none : (g : Parts) (p : Potentials) (start : ℕ) → start < stations g → IsTrail g p [] (replicate (stations g) (stations g)) start start
-trail_none g p start here =
-    let T = stations g in
-    record {
-      walk = refl;
-      entries = λ k d below. absurd (omega (arith, below));
-      here = here;
-      left_for_each = length-replicate T T;
-      left_once = λ k below. absurd (omega (arith, below));
-      next = λ k below. absurd (omega (arith, below));
-      last = λ k below. absurd (omega (arith, below));
-      step_of = λ t exists seen. absurd (seen (get_or-replicate T t T 0 exists));
-      left_at = λ t exists seen. absurd (seen (get_or-replicate T t T 0 exists));
-      unseen =
-          (let each : cond (eqb T T) 1 0 ≡ 1 = ap {B = ℕ} (λ b. cond b 1 0) (eq-eqb T T refl) in
-          add-zero (count_by (λ step. eqb step T) (replicate T T)) ∙ (sum_by-replicate (λ step. cond (eqb step T) 1 0) T T ∙ (ap (λ c. T * c) each ∙ mul-one T)));
-    }
+trail_none g p start here = record {
+  walk = refl;
+  entries = λ k d below. absurd (omega (arith, below));
+  here = here;
+  next = λ k below. absurd (omega (arith, below));
+  last = λ k below. absurd (omega (arith, below));
+  steps = left_steps-none (stations g) (ends g);
+}
 
 -- at a station that it has not left, the trail has room for one more arc
 pub trail_room : (g : Parts) (p : Potentials) (path left : List ℕ) (start at : ℕ) → IsTrail g p path left start at → get_or left at 0 ≡ stations g → length path < stations g
-trail_room g p path left start at h fresh =
-    let T = stations g in
-    let term = get_or-le-sum_by (λ step. cond (eqb step T) 1 0) left at 0 (omega (arith, h.left_for_each, h.here)) in
-    let one : cond (eqb (get_or left at 0) T) 1 0 ≡ 1 = ap {B = ℕ} (λ b. cond b 1 0) (eq-eqb (get_or left at 0) T fresh) in
-    omega (arith, h.unseen, term, one)
+trail_room g p path left start at h fresh = left_steps-room (stations g) (ends g) path left at h.steps h.here fresh
 
 pub trail_more : (g : Parts) (p : Potentials) (path left : List ℕ) (start at a : ℕ) → IsGraph g → IsTrail g p path left start at → get_or left at 0 ≡ stations g → a < arc_count g → a ≡ get_or p.entries at 0 → (arc g a).to ≡ at → IsTrail g p (path ++ a ∷ []) (set left at (length path)) start (arc g a).from
 trail_more g p path left start at a graph h fresh exists entry to =
-    let T = stations g in
     let n = length path in
-    let room = trail_room g p path left start at h fresh in
-    let here : at < length left = omega (arith, h.left_for_each, h.here) in
     let path' = path ++ a ∷ [] in
-    let left' = set left at n in
-    let own : get_or left' at 0 ≡ n = get_or-set_same left at n 0 here in
-    let other : (t : ℕ) → t ≢ at → get_or left' t 0 ≡ get_or left t 0 = λ t apart. get_or-set_other left at t n 0 apart in
     let old : (k : ℕ) → k < n → get_or path' k 0 ≡ get_or path k 0 = λ k below. get_or_append_left path (a ∷ []) 0 k below in
-    let end : get_or path' n 0 ≡ a = get_or_push path a 0 n refl in
     record {
       walk = back_push g start at a path h.walk exists to;
       entries = All-push (λ b. get_or p.entries (arc g b).to 0 ≡ b) path a h.entries (ap (λ u. get_or p.entries u 0) to ∙ sym entry);
       here = graph.starts_exist a exists;
-      left_for_each = length-set left at n ∙ h.left_for_each;
-      left_once = λ k below.
-          elim (cases_lt k n) [
-            | inl before ↦
-                (let t = (arc g (get_or path k 0)).to in
-                let apart : t ≢ at = λ same. omega (arith, h.left_once k before, ap (λ u. get_or left u 0) same, fresh, room) in
-                ap (λ b. get_or left' (arc g b).to 0) (old k before) ∙ (other t apart ∙ h.left_once k before))
-            | inr past ↦
-                (let e : n ≡ k = omega (arith, length_push path a) in
-                ap (λ b. get_or left' (arc g b).to 0) (get_or_push path a 0 k e) ∙ (ap (λ u. get_or left' u 0) to ∙ (own ∙ e)))
-          ];
       next = λ k below.
           elim (cases_lt (k + 1) n) [
             | inl before ↦
@@ -127,25 +114,7 @@ trail_more g p path left start at a graph h fresh exists entry to =
                 ap (λ b. (arc g b).from) (old k (omega arith)) ∙ (h.last k e ∙ (sym to ∙ sym (ap (λ b. (arc g b).to) (get_or_push path a 0 (k + 1) (sym e))))))
           ];
       last = λ k end_at. ap (λ b. (arc g b).from) (get_or_push path a 0 k (omega (arith, length_push path a)));
-      step_of = λ t there seen.
-          elim (cases_eq t at) [
-            | inl same ↦ omega (arith, ap (λ u. get_or left' u 0) same, own, length_push path a)
-            | inr apart ↦ omega (arith, other t apart, h.step_of t there (λ e. seen (other t apart ∙ e)), length_push path a)
-          ];
-      left_at = λ t there seen.
-          elim (cases_eq t at) [
-            | inl same ↦
-                ap (λ u. (arc g (get_or path' (get_or left' u 0) 0)).to) same ∙ (ap (λ k. (arc g (get_or path' k 0)).to) own ∙ (ap (λ b. (arc g b).to) end ∙ (to ∙ sym same)))
-            | inr apart ↦
-                (let seen_before : get_or left t 0 ≢ T = λ e. seen (other t apart ∙ e) in
-                ap (λ k. (arc g (get_or path' k 0)).to) (other t apart) ∙ (ap (λ b. (arc g b).to) (old (get_or left t 0) (h.step_of t there seen_before)) ∙ h.left_at t there seen_before))
-          ];
-      unseen =
-          (let f : ℕ → ℕ = λ step. cond (eqb step T) 1 0 in
-          let moved = sum_by-set f left at n 0 here in
-          let before : f (get_or left at 0) ≡ 1 = ap {B = ℕ} (λ b. cond b 1 0) (eq-eqb (get_or left at 0) T fresh) in
-          let after : f n ≡ 0 = ap {B = ℕ} (λ b. cond b 1 0) (ne_eqb n T (λ e. omega (arith, e, room))) in
-          omega (arith, h.unseen, moved, before, after, length_push path a));
+      steps = left_steps-more (stations g) (ends g) path left at a h.steps h.here fresh to;
     }
 
 -- back at a station that it left, its last arcs from there, turned round, are a circuit
@@ -153,18 +122,18 @@ pub trail_circuit : (g : Parts) (p : Potentials) (path left : List ℕ) (start a
 trail_circuit g p path left start at h seen =
     let k = get_or left at 0 in
     let n = length path in
-    let below : k < n = h.step_of at h.here seen in
+    let below : k < n = h.steps.step_of at h.here seen in
     let from = λ (b : ℕ). (arc g b).from in
     let rest = drop k path in
     let many : length rest ≡ n - k = length-drop k path in
     let whole : length (reverse rest) ≡ n - k = length-reverse rest ∙ many in
     let ways_on : (m : ℕ) → m + 1 < n → get_or left (from (get_or path m 0)) 0 ≡ m + 1 =
-    λ m on. ap (λ t. get_or left t 0) (h.next m on) ∙ h.left_once (m + 1) on in
+    λ m on. ap (λ t. get_or left t 0) (h.next m on) ∙ h.steps.left_once (m + 1) on in
     let way_back : (m : ℕ) → m + 1 ≡ n → get_or left (from (get_or path m 0)) 0 ≡ k = λ m end. ap (λ t. get_or left t 0) (h.last m end) in
     record {
       some = omega (arith, below, whole);
       base = at;
-      closed = (let P : ℕ → Type 0 = λ t. IsBackWalk g t rest at in back_walk g at at rest (subst P (h.left_at at h.here seen) (back_drop g start at k path h.walk below)));
+      closed = (let P : ℕ → Type 0 = λ t. IsBackWalk g t rest at in back_walk g at at rest (subst P (h.steps.left_at at h.here seen) (back_drop g start at k path h.walk below)));
       distinct = λ i j d before within same.
           (let j_in : j < length (reverse rest) = omega (arith, within, length-map (reverse rest) from) in
           let i_in : i < length (reverse rest) = omega (arith, before, j_in) in
@@ -193,7 +162,7 @@ trail_heavy g w p path left start at grown h seen =
     record {
       circuit = circuit;
       heavier = grown.heavier circuit.base (reverse rest) circuit.some circuit.closed entries;
-      few = omega (arith, h.unseen, length-reverse rest, length-drop k path);
+      few = omega (arith, h.steps.unseen, length-reverse rest, length-drop k path);
       exist = All-reverse (λ b. b < arc_count g) rest (All-drop (λ b. b < arc_count g) k path exist);
     }
 
@@ -211,7 +180,7 @@ trail_reaches g w p path left start at graph grown h fresh free =
 -- ---- the step at which a station was left, and its entry, as they are read
 
 pub step_read : (g : Parts) (p : Potentials) (path left : List ℕ) (start at step : ℕ) → IsTrail g p path left start at → step ≡ get_or left at step → step ≡ get_or left at 0
-step_read g p path left start at step h read = get_or_read left at step (omega (arith, h.left_for_each, h.here)) read 0
+step_read g p path left start at step h read = get_or_read left at step (omega (arith, h.steps.left_for_each, h.here)) read 0
 
 pub entry_read : (g : Parts) (p : Potentials) (at entry : ℕ) (entries : List ℕ) → length p.entries ≡ stations g → at < stations g → entries ≡ p.entries → entry ≡ get_or entries at entry → entry ≡ get_or p.entries at 0
 entry_read g p at entry entries each here is read =

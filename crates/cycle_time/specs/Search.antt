@@ -1,7 +1,7 @@
 -- The search for heavier walks, for the functions that make it: potentials grow arc by arc, each station keeps the arc that
 -- gave it its potential, and a circuit of such arcs weighs more than 0.
 -- Source: the method of Bellman and Ford for longest walks, with a look for circuits among the arcs that it keeps.
-use Rattle.std.specs.Prelude.{◌≡◌, ◌≢◌, ℕ, ◌+◌, ◌-◌, ◌*◌, ◌<◌, ◌≤◌, ◌==◌, ◌⊎◌, List, [], ◌∷◌, length, sum_by, slice_index, slice_set, count_by, All}
+use Rattle.std.specs.Prelude.{◌≡◌, ℕ, ◌+◌, ◌-◌, ◌*◌, ◌<◌, ◌≤◌, ◌⊎◌, List, length, sum_by, slice_index, slice_set, All}
 use Rattle.line_base.specs.declared.event.Parts.{Parts}
 use Rattle.event_graph.specs.Network.{stations, arc_count, arc, delay, EndsAt}
 use Rattle.event_graph.specs.Term.{work}
@@ -170,24 +170,6 @@ pub record IsSoonReached (g : Parts) (w : Weighing) (p : Potentials) (t : ℕ) :
 abbrev pub Enter : Parts → Potentials → Type 0
 Enter g p =
     (t : ℕ) → t < stations g → slice_index p.entries t < arc_count g → (arc g (slice_index p.entries t)).to ≡ t
-
--- the arcs lead from station t, each back to where it starts, to station s
-abbrev pub IsBackWalk : Parts → ℕ → List ℕ → ℕ → Type 0
-IsBackWalk g t [] s = t ≡ s
-IsBackWalk g t (a ∷ arcs) s = (a < arc_count g) × ((arc g a).to ≡ t) × IsBackWalk g (arc g a).from arcs s
-
--- a walk back along entries: each station that it left, and at which step
-pub record IsTrail (g : Parts) (p : Potentials) (path left : List ℕ) (start at : ℕ) : Type 0 where
-  pub walk : IsBackWalk g start path at
-  pub entries : AreEntries g p.entries path
-  pub here : at < stations g
-  pub left_for_each : length left ≡ stations g
-  pub left_once : (k : ℕ) → k < length path → slice_index left (arc g (slice_index path k)).to ≡ k
-  pub next : (k : ℕ) → k + 1 < length path → (arc g (slice_index path k)).from ≡ (arc g (slice_index path (k + 1))).to
-  pub last : (k : ℕ) → k + 1 ≡ length path → (arc g (slice_index path k)).from ≡ at
-  pub step_of : (t : ℕ) → t < stations g → slice_index left t ≢ stations g → slice_index left t < length path
-  pub left_at : (t : ℕ) → t < stations g → slice_index left t ≢ stations g → (arc g (slice_index path (slice_index left t))).to ≡ t
-  pub unseen : count_by (λ step. step == stations g) left + length path ≡ stations g
 
 -- walks of at most n arcs come to no more than the potentials of their ends
 abbrev pub CoversWalks : Parts → Weighing → Potentials → ℕ → Type 0

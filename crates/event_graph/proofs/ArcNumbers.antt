@@ -1,10 +1,10 @@
 -- Lemmas on the lists of arcs into and out of a station.
-use Rattle.std.proofs.Common.{◌≡◌, ◌≢◌, ℕ, zero, suc, ◌+◌, ◌<◌, ◌≤◌, Bool, true, false, cond, eqb, List, [], ◌∷◌, ◌++◌, map, length, get_or, set, replicate, refl, sym, ap, zero-add, ◌∙◌, subst, arith, ⊎_elim, inl, inr}
+use Rattle.std.proofs.Common.{◌≡◌, ◌≢◌, ℕ, ◌+◌, ◌<◌, ◌≤◌, false, cond, eqb, List, [], ◌∷◌, ◌++◌, map, length, get_or, set, replicate, refl, sym, ap, zero-add, ◌∙◌, arith, ⊎_elim, inl, inr}
 use Rattle.std.specs.List.{filter, range_with_len, All, Contains}
 use Rattle.std.proofs.lemmas.Bool.{eqb-true, eq-eqb, ne_eqb, cases_eq, cases_lt}
-use Rattle.std.proofs.lemmas.List.{map-id, append-nil, get_or-set_same, get_or-set_other, length-set, get_or-replicate, length-replicate}
+use Rattle.std.proofs.lemmas.List.{append-nil, get_or-set_same, get_or-set_other, length-set, get_or-replicate, length-replicate}
 use Rattle.std.proofs.lemmas.List.Elements.{All-filter, filter_passes, All-contains}
-use Rattle.std.proofs.lemmas.List.FromFn.{length-range_with_len, get_or-range_with_len, length-map-range_with_len, get_or-map-range_with_len, fill_by_all, filter_of_map_range_with_len_more}
+use Rattle.std.proofs.lemmas.List.FromFn.{length-map-range_with_len, get_or-map-range_with_len, fill_by_all}
 use Rattle.line_base.specs.declared.event.Arc.{Arc}
 use Rattle.line_base.specs.declared.event.Parts.{Parts}
 use Rattle.event_graph.specs.declared.lists.End.{End}
@@ -12,61 +12,34 @@ use Rattle.event_graph.specs.declared.lists.End.TheVariants.{Start, Finish}
 use Rattle.event_graph.specs.Network.{stations, arc_count, arc, ins, outs, EndsAt, StartsAt, IsGraph}
 use Rattle.event_graph.specs.Faults.{HasNone, NamesNoStation, EntersFeed, LacksInput}
 use Rattle.event_graph.specs.Lists.{station_at, lists_at}
+use Rattle.event_graph.proofs.Ranges.{Contains-filter-range, All-range, filter-range_more}
 
--- an element that passes a test is kept by the filter
-Contains-filter : {X : Type 0} (p : X → Bool) (xs : List X) (k : ℕ) (x : X) → k < length xs → get_or xs k x ≡ x → p x ≡ true → Contains (filter p xs) x
-Contains-filter p [] k x h e t = absurd (omega arith)
-Contains-filter p (y ∷ ys) zero x h e t =
-    subst (λ (b : Bool). Contains (cond b (y ∷ filter p ys) (filter p ys)) x) (sym (ap p e ∙ t)) (0, omega arith, e)
-Contains-filter {X} p (y ∷ ys) (suc k) x h e t =
-    let later : Contains (filter p ys) x = Contains-filter p ys k x (omega arith) e t in
-    elim (p y) as (λ b. Contains (cond b (y ∷ filter p ys) (filter p ys)) x) [
-      | true ↦ (suc later.0, omega arith, later.2)
-      | false ↦ later
-    ]
+module _ (g : Parts) (end : ℕ → ℕ) (t : ℕ) where
+  Contains-at_end : (a : ℕ) → a < arc_count g → end a ≡ t → Contains (filter (λ b. eqb (end b) t) (range_with_len 0 (arc_count g))) a
+  Contains-at_end a there e = Contains-filter-range (λ b. eqb (end b) t) (arc_count g) a there (eq-eqb (end a) t e)
 
--- each number below n is listed at its own place
-Contains-range_with_len : (n a : ℕ) → a < n → Contains (range_with_len 0 n) a
-Contains-range_with_len n a h =
-    (a, rw length-range_with_len h, get_or-range_with_len 0 n a a h ∙ zero-add a)
-
--- the numbers below n pass a test of being below n
-All-range_with_len : (n : ℕ) → All (λ a. a < n) (range_with_len 0 n)
-All-range_with_len n k d h =
-    let low : k < n = rw length-range_with_len at h in
-    rw (get_or-range_with_len 0 n k d low, zero-add k) low
-
-filter-range_with_len_more : (p : ℕ → Bool) (n : ℕ) → filter p (range_with_len 0 (n + 1)) ≡ filter p (range_with_len 0 n) ++ cond (p n) (n ∷ []) []
-filter-range_with_len_more p n =
-    rw (map-id (range_with_len 0 (n + 1)), map-id (range_with_len 0 n)) at (filter_of_map_range_with_len_more p (λ (k : ℕ). k) 0 n n (zero-add n))
+  All-at_end : All (λ a. (a < arc_count g) × (end a ≡ t)) (filter (λ b. eqb (end b) t) (range_with_len 0 (arc_count g)))
+  All-at_end k d low =
+      let numbers = range_with_len 0 (arc_count g) in
+      (All-filter (λ b. eqb (end b) t) (λ a. a < arc_count g) numbers (All-range (arc_count g)) k d low, eqb-true _ _ (filter_passes (λ b. eqb (end b) t) numbers k d low))
 
 -- an arc that ends at a station is listed there, and an arc that starts there too
 pub Contains-ins : (g : Parts) (t a : ℕ) → a < arc_count g → (arc g a).to ≡ t → Contains (ins g t) a
 unfolding ins
-Contains-ins g t a h e =
-    let at = Contains-range_with_len (arc_count g) a h in
-    Contains-filter (λ b. eqb (arc g b).to t) (range_with_len 0 (arc_count g)) at.0 a at.1 at.2 (eq-eqb _ _ e)
+Contains-ins g t a there e = Contains-at_end g (λ b. (arc g b).to) t a there e
 
 pub Contains-outs : (g : Parts) (t a : ℕ) → a < arc_count g → (arc g a).from ≡ t → Contains (outs g t) a
 unfolding outs
-Contains-outs g t a h e =
-    let at = Contains-range_with_len (arc_count g) a h in
-    Contains-filter (λ b. eqb (arc g b).from t) (range_with_len 0 (arc_count g)) at.0 a at.1 at.2 (eq-eqb _ _ e)
+Contains-outs g t a there e = Contains-at_end g (λ b. (arc g b).from) t a there e
 
 -- each arc that is listed as an input exists and ends at the station, and as an output starts there
 pub All-ins : (g : Parts) (t : ℕ) → All (EndsAt g t) (ins g t)
 unfolding ins
-All-ins g t k d h =
-    let test = λ (a : ℕ). eqb (arc g a).to t in
-    let there = All-filter test (λ a. a < arc_count g) (range_with_len 0 (arc_count g)) (All-range_with_len (arc_count g)) in
-    (there k d h, eqb-true _ _ (filter_passes test (range_with_len 0 (arc_count g)) k d h))
+All-ins g t = All-at_end g (λ b. (arc g b).to) t
 
 pub All-outs : (g : Parts) (t : ℕ) → All (StartsAt g t) (outs g t)
 unfolding outs
-All-outs g t k d h =
-    let test = λ (a : ℕ). eqb (arc g a).from t in
-    let there = All-filter test (λ a. a < arc_count g) (range_with_len 0 (arc_count g)) (All-range_with_len (arc_count g)) in
-    (there k d h, eqb-true _ _ (filter_passes test (range_with_len 0 (arc_count g)) k d h))
+All-outs g t = All-at_end g (λ b. (arc g b).from) t
 
 -- what holds of each listed input holds of each arc that ends at the station
 pub each_input : (g : Parts) (t : ℕ) (P : ℕ → Type 0) → All P (ins g t) → (a : ℕ) → a < arc_count g → (arc g a).to ≡ t → P a
@@ -105,7 +78,7 @@ length-first_lists end g n = length-map-range_with_len (first_arcs_at end g n) 0
 
 first_arcs_at-more : (end : End) (g : Parts) (n t : ℕ) → first_arcs_at end g (n + 1) t ≡ first_arcs_at end g n t ++ cond (eqb (station_at end (arc g n)) t) (n ∷ []) []
 unfolding first_arcs_at
-first_arcs_at-more end g n t = filter-range_with_len_more (λ a. eqb (station_at end (arc g a)) t) n
+first_arcs_at-more end g n t = filter-range_more (λ a. eqb (station_at end (arc g a)) t) n
 
 -- one more arc goes to the list of the station at its end
 pub first_lists-more : (end : End) (g : Parts) (n s : ℕ) (lists : List (List ℕ)) → lists ≡ first_lists end g n → s ≡ station_at end (arc g n) → s < stations g → set lists s (get_or lists s [] ++ n ∷ []) ≡ first_lists end g (n + 1)
@@ -186,3 +159,12 @@ graph_from_no_fault g ends feed inputs = record {
 pub station_at-read : (end : End) (g : Parts) (arcs : List Arc) (a s : ℕ) → arcs ≡ g.arcs → s ≡ station_at end (get_or arcs a (record { from = 0; to = 0; tokens = 0; worked = false })) → s ≡ station_at end (arc g a)
 station_at-read end g arcs a s same read =
     read ∙ ap (λ l. station_at end (get_or l a (record { from = 0; to = 0; tokens = 0; worked = false }))) same
+
+-- the list of a station as it is read from the lists of all stations, of a graph that is seen as g
+pub lists_at-ins : (g seen : Parts) (lists : List (List ℕ)) (t : ℕ) → lists ≡ lists_at Finish seen → seen ≡ g → t < stations g → (t < length lists) × (get_or lists t [] ≡ ins g t)
+lists_at-ins g seen lists t are is there =
+    let of_g = are ∙ ap (lists_at Finish) is in (omega (arith, ap length of_g, length-lists_at Finish g), ap (λ l. get_or l t []) of_g ∙ get_or-ins g t there)
+
+pub lists_at-outs : (g seen : Parts) (lists : List (List ℕ)) (t : ℕ) → lists ≡ lists_at Start seen → seen ≡ g → t < stations g → (t < length lists) × (get_or lists t [] ≡ outs g t)
+lists_at-outs g seen lists t are is there =
+    let of_g = are ∙ ap (lists_at Start) is in (omega (arith, ap length of_g, length-lists_at Start g), ap (λ l. get_or l t []) of_g ∙ get_or-outs g t there)

@@ -1,9 +1,10 @@
 -- Lemmas on the greatest value of a function on a list.
-use Rattle.std.proofs.Common.{◌≡◌, ℕ, zero, suc, ◌<◌, ◌≤◌, max, List, [], ◌∷◌, length, get_or, refl, ap, ◌∙◌, inl, inr, arith}
-use Rattle.std.specs.List.{All}
+use Rattle.std.proofs.Common.{◌≡◌, ℕ, zero, suc, ◌+◌, ◌<◌, ◌≤◌, max, List, [], ◌∷◌, ◌++◌, length, get_or, refl, ap, ◌∙◌, inl, inr, arith}
+use Rattle.std.specs.List.{All, range_with_len}
 use Rattle.std.proofs.lemmas.Bool.{cases_lt}
 use Rattle.std.proofs.lemmas.List.Elements.{All-head, All-tail}
 use Rattle.event_graph.specs.Firing.{greatest}
+use Rattle.event_graph.proofs.Ranges.{range-more}
 
 -- no value is above it
 pub le-greatest : (f : ℕ → ℕ) (xs : List ℕ) → All (λ x. f x ≤ greatest f xs) xs
@@ -39,3 +40,13 @@ greatest-one f (x ∷ (y ∷ ys)) some =
       | inl later ↦ (suc rest.0, omega (arith, rest.1), omega (arith, rest.2))
       | inr first ↦ (0, omega arith, omega arith)
     ]
+
+-- on a list with one element more
+pub greatest-push : (f : ℕ → ℕ) (xs : List ℕ) (y : ℕ) → greatest f (xs ++ y ∷ []) ≡ max (greatest f xs) (f y)
+unfolding greatest
+greatest-push f [] y = omega arith
+greatest-push f (x ∷ xs) y = let rest = greatest-push f xs y in omega arith
+
+-- on the numbers below n + 1
+pub greatest-range : (f : ℕ → ℕ) (n : ℕ) → greatest f (range_with_len 0 (n + 1)) ≡ max (greatest f (range_with_len 0 n)) (f n)
+greatest-range f n = ap (greatest f) (range-more n) ∙ greatest-push f (range_with_len 0 n) n

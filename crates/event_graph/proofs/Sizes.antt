@@ -1,5 +1,5 @@
 -- The numbers of a graph within the limits.
-use Rattle.std.proofs.Common.{◌≡◌, ℕ, ◌-◌, ◌<◌, ◌≤◌, length, get_or, List, false, sym, subst, arith, ⊎_elim}
+use Rattle.std.proofs.Common.{ℕ, ◌-◌, ◌≤◌, length, get_or, List, false, sym, subst, arith, ⊎_elim}
 use Rattle.std.specs.List.{All}
 use Rattle.std.proofs.lemmas.Bool.{cases_lt, cond_both}
 use Rattle.std.proofs.lemmas.List.{get_or_past}

@@ -1,9 +1,9 @@
 -- Counts over a range of numbers, and what a count of 0 or more than 0 says.
-use Rattle.std.proofs.Common.{◌≡◌, ℕ, zero, suc, ◌+◌, ◌<◌, ◌≤◌, Bool, true, false, cond, ◌&&◌, List, [], ◌∷◌, ◌++◌, get_or, filter, count_by, refl, sym, ap, ◌∙◌, subst, inl, inr, zero-add, arith}
-use Rattle.std.specs.List.{sum_by, range_with_len, Contains}
-use Rattle.std.proofs.lemmas.Bool.{cases_Bool, false≢true}
-use Rattle.std.proofs.lemmas.List.FromFn.{length-range_with_len, get_or-range_with_len, map-range_with_len_more}
-use Rattle.std.proofs.lemmas.List.{map-id}
+use Rattle.std.proofs.Common.{◌≡◌, ℕ, zero, suc, ◌+◌, ◌<◌, ◌≤◌, Bool, true, false, cond, ◌&&◌, List, [], ◌∷◌, get_or, filter, count_by, refl, sym, ap, ◌∙◌, inl, inr, zero-add, arith}
+use Rattle.std.specs.List.{sum_by, range_with_len}
+use Rattle.std.proofs.lemmas.Bool.{cases_Bool}
+use Rattle.std.proofs.lemmas.List.FromFn.{length-range_with_len, get_or-range_with_len}
+use Rattle.event_graph.proofs.Ranges.{range-more}
 use Rattle.std.proofs.lemmas.List.Sums.{sum_by-cons, sum_by_push, get_or-le-sum_by}
 
 zero_test : (b : Bool) → cond b 1 0 ≤ 0 → b ≡ false
@@ -56,26 +56,6 @@ some_passes p a (suc n) some =
           (later.0, omega (arith, later.1), later.2))
     ]
 
-kept_behind : (b : Bool) (y : ℕ) (zs : List ℕ) (x : ℕ) → Contains zs x → Contains (cond b (y ∷ zs) zs) x
-kept_behind true y zs x (k, below, is) = (suc k, omega arith, is)
-kept_behind false y zs x found = found
-
-kept_in_front : (b : Bool) (y : ℕ) (zs : List ℕ) → b ≡ true → Contains (cond b (y ∷ zs) zs) y
-kept_in_front true y zs passes = (0, omega arith, refl)
-kept_in_front false y zs passes = absurd (false≢true passes)
-
--- an element that passes stays in a filter
-pub Contains-filter : (q : ℕ → Bool) (xs : List ℕ) (x : ℕ) → Contains xs x → q x ≡ true → Contains (filter q xs) x
-Contains-filter q [] x (k, below, is) passes = absurd (omega (arith, below))
-Contains-filter q (y ∷ ys) x (zero, below, is) passes =
-    subst (λ (z : ℕ). Contains (filter q (y ∷ ys)) z) is (kept_in_front (q y) y (filter q ys) (ap q is ∙ passes))
-Contains-filter q (y ∷ ys) x (suc k, below, is) passes =
-    kept_behind (q y) y (filter q ys) x (Contains-filter q ys x (k, omega arith, is) passes)
-
--- a range with one more number
-pub range_more : (n : ℕ) → range_with_len 0 (n + 1) ≡ range_with_len 0 n ++ n ∷ []
-range_more n =
-    sym (map-id (range_with_len 0 (n + 1))) ∙ (map-range_with_len_more (λ (k : ℕ). k) 0 n n (zero-add n) ∙ ap (λ ks. ks ++ n ∷ []) (map-id (range_with_len 0 n)))
-
+-- a count over a range with one more number
 pub count_by-range_more : (p : ℕ → Bool) (n : ℕ) → count_by p (range_with_len 0 (n + 1)) ≡ count_by p (range_with_len 0 n) + cond (p n) 1 0
-count_by-range_more p n = ap (count_by p) (range_more n) ∙ sum_by_push (λ k. cond (p k) 1 0) (range_with_len 0 n) n
+count_by-range_more p n = ap (count_by p) (range-more n) ∙ sum_by_push (λ k. cond (p k) 1 0) (range_with_len 0 n) n

@@ -8,8 +8,8 @@ use Rattle.event_graph.specs.Network.{IsGraph, arc, arc_count, stations}
 use Rattle.event_graph.specs.Live.{IsLive}
 use Rattle.live_check.specs.Order.{HasOrder}
 use Rattle.live_check.specs.Ranking.{Ranks, with_next, IsFalling, from_end}
-use Rattle.live_check.specs.DeadCircuit.{IsDeadCircuit, LeadsOn, IsStuck, IsStuckWalk}
-use Rattle.live_check.proofs.StuckWalks.{walk_none, walk_room, walk_more, walk_closed}
+use Rattle.live_check.specs.DeadCircuit.{IsDeadCircuit, LeadsOn, IsStuck}
+use Rattle.live_check.proofs.StuckWalks.{IsStuckWalk, walk_none, walk_room, walk_more, walk_closed}
 use Rattle.live_check.proofs.RankSteps.{has_room, next_falls, start_falls}
 use Rattle.live_check.proofs.Upward.{falling_upward}
 

@@ -3,8 +3,7 @@
 use Rattle.std.specs.Prelude.{◌≡◌, ℕ, ◌≤◌, ◌<◌, slice_index_or}
 use Rattle.std.specs.List.{AllZip}
 use Rattle.std.specs.List.Sorted.{IsNonDecreasing}
-use Rattle.line_base.specs.declared.times.Times.{Times}
-use Rattle.line_base.specs.declared.times.Times.TheVariants.{Fixed, Each}
+use Rattle.line_base.specs.declared.times.Times.TheVariants.{Fixed}
 use Rattle.line_base.specs.declared.event.Arc.{Arc}
 use Rattle.line_base.specs.declared.event.Parts.{Parts}
 use Rattle.event_graph.specs.Network.{IsGraph, arc, arc_count, stations}

@@ -1,6 +1,6 @@
 use Rattle.std.proofs.Common.{◌≤◌, ◌-◌, length, vec_capacity}
 use Rattle.event_graph.specs.Network.{stations}
-use Rattle.live_check.specs.DeadCircuit.{IsStuckWalk}
+use Rattle.live_check.proofs.StuckWalks.{IsStuckWalk}
 use Rattle.live_check.proofs.circuit.dead_circuit.Given as goal
 
 abbrev pub invariant-loop-arcs : goal.invariant-loop-arcs

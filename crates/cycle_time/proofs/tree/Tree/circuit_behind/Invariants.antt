@@ -1,6 +1,6 @@
 use Rattle.std.proofs.Common.{◌≤◌, ◌-◌, length, vec_capacity}
 use Rattle.event_graph.specs.Network.{stations}
-use Rattle.cycle_time.specs.Search.{IsTrail}
+use Rattle.cycle_time.proofs.Trails.{IsTrail}
 use Rattle.cycle_time.proofs.tree.Tree.circuit_behind.Given as goal
 
 abbrev pub invariant-loop-arcs : goal.invariant-loop-arcs
