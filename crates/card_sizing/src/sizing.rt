@@ -13,6 +13,8 @@ use crate::trying::{Tried, try_count};
 use line_base::{Items, Label, MAX_CARDS};
 use plant_model::Plant;
 use std::alloc::{AllocError, Global};
+use std::error::Error;
+use std::fmt;
 
 /// The least count of cards that serves, and why one less doesn't.
 #[derive(Drop)]
@@ -45,6 +47,18 @@ pub enum SizingError {
     /// Memory ran out.
     NoMemory,
 }
+
+impl fmt::Display for SizingError {
+    fn fmt<W: fmt::Write>(&self, f: &mut fmt::Formatter<W>) -> fmt::Result {
+        match self {
+            SizingError::NoSingleCount => f.write_str("no single count"),
+            SizingError::NoCount { job, wait } => { write!(f, "no count: job {job} waits {wait}") }
+            SizingError::NoMemory => f.write_str("memory"),
+        }
+    }
+}
+
+impl Error for SizingError {}
 
 impl From<AllocError> for SizingError {
     ghost use Rattle.card_sizing.specs.declared.sizing.SizingError.TheVariants.{NoMemory};

@@ -1,4 +1,5 @@
 use line_base::Items;
+use std::error::Error;
 use std::fmt;
 
 /// The cycle time of an event graph, with what shows that no circuit has a greater ratio of time to tokens.
@@ -29,8 +30,10 @@ pub enum CycleError {
 impl fmt::Display for CycleError {
     fn fmt<W: fmt::Write>(&self, f: &mut fmt::Formatter<W>) -> fmt::Result {
         match self {
-            CycleError::Varying { station } => write!(f, "station {station} has a list of times"),
-            CycleError::NoMemory => f.write_str("memory ran out"),
+            CycleError::Varying { station } => write!(f, "varying: station {station}"),
+            CycleError::NoMemory => f.write_str("memory"),
         }
     }
 }
+
+impl Error for CycleError {}

@@ -1,3 +1,4 @@
+use std::error::Error;
 use std::fmt;
 
 /// Why a station didn't fire.
@@ -8,6 +9,17 @@ pub enum FireError {
     /// The place of this arc, the first of the station's input places without a token, is empty.
     Empty { arc: u32 },
 }
+
+impl fmt::Display for FireError {
+    fn fmt<W: fmt::Write>(&self, f: &mut fmt::Formatter<W>) -> fmt::Result {
+        match self {
+            FireError::Done => f.write_str("the station is done"),
+            FireError::Empty { arc } => write!(f, "the station waits for a token of arc {arc}"),
+        }
+    }
+}
+
+impl Error for FireError {}
 
 /// Why a schedule wasn't followed to its end. Lines are counted from 1.
 #[derive(Clone, Copy, Debug, PartialEq, Eq)]
@@ -23,6 +35,26 @@ pub enum ReplayError {
     /// Memory ran out.
     NoMemory,
 }
+
+impl fmt::Display for ReplayError {
+    fn fmt<W: fmt::Write>(&self, f: &mut fmt::Formatter<W>) -> fmt::Result {
+        match self {
+            ReplayError::NoStation { line } => write!(f, "line {line} is no station"),
+            ReplayError::Done { line, station } => {
+                write!(f, "line {line}: station {station} is done")
+            }
+            ReplayError::Empty { line, arc } => {
+                write!(f, "line {line}: the station waits for a token of arc {arc}")
+            }
+            ReplayError::Unfinished { station, have } => {
+                write!(f, "station {station} made {have}")
+            }
+            ReplayError::NoMemory => f.write_str("memory"),
+        }
+    }
+}
+
+impl Error for ReplayError {}
 
 /// Why logs and places are no state that firings reach: the first thing that is wrong with them. Stations and arcs are
 /// counted from 0, jobs and tokens from 1, dates are in the plant's unit. Each kind is tried whole before the next, by
@@ -67,29 +99,25 @@ impl fmt::Display for StateError {
                 station,
                 have,
                 limit,
-            } => write!(f, "station {station} has {have} dates of {limit}"),
+            } => write!(f, "station {station} has {have} of {limit}"),
             StateError::Marking { arc, have, need } => {
-                write!(f, "arc {arc} has {have} tokens, needs {need}")
+                write!(f, "place {arc} has {have} tokens, needs {need}")
             }
             StateError::Date {
                 station,
                 job,
                 have,
                 need,
-            } => write!(
-                f,
-                "job {job} of station {station} has date {have}, needs {need}"
-            ),
+            } => write!(f, "station {station} {job} has date {have}, needs {need}"),
             StateError::PlaceDate {
                 arc,
                 token,
                 have,
                 need,
-            } => write!(
-                f,
-                "token {token} of arc {arc} has date {have}, needs {need}"
-            ),
-            StateError::NoMemory => f.write_str("memory ran out"),
+            } => write!(f, "place {arc} token {token} has date {have}, needs {need}"),
+            StateError::NoMemory => f.write_str("memory"),
         }
     }
 }
+
+impl Error for StateError {}
