@@ -103,6 +103,10 @@ module _ (n : ℕ) (f : ℕ → List StateError) where
   pub each_none : ((i : ℕ) → i < n → f i ≡ []) → each_below n f ≡ []
   each_none none = none_below_all n (omega arith) (none_upto n (omega arith) none)
 
+-- the exit of a `?` at number i
+pub handed_on_at : {refusal : StateError} (n : ℕ) (f : ℕ → List StateError) (i : ℕ) (r : Result ⊤ StateError) → IsErrAnd r (λ e. e ≡ refusal) → i < n → first (f i) ≡ Some refusal → NoneBelow n f i → AnswersFirst r (each_below n f)
+handed_on_at n f i r was low found before = handed_on r (each_below n f) was (found_at n f i _ low found before)
+
 none_of_map : (f : ℕ → List StateError) (xs : List ℕ) → flat_map f xs ≡ [] → All (λ x. f x ≡ []) xs
 none_of_map f [] none k d low = absurd (omega arith)
 none_of_map f (x ∷ xs) none zero d low = append-none_left (f x) (flat_map f xs) none
@@ -116,3 +120,6 @@ none_each n f none i low =
     (λ x. f x ≡ [])
     (here n f i low)
     (none_of_map f (range_with_len 0 n) none i 0 (omega (arith, low, length-range_with_len 0 n)))
+
+-- for loops that refuse by the first number that gives a refusal
+pub ruleset first_refusals = (none_below_0, none_below_next, none_below_all, handed_on_at)

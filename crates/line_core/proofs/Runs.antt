@@ -5,6 +5,7 @@ use Rattle.std.proofs.lemmas.Bool.{cases_lt, cases_eq, ne_eqb, cond-false, cond-
 use Rattle.std.proofs.lemmas.List.{get_or-map, length-map, map-set, length-drop, get_or_past, get_or_append_left, get_or-append_right, get_or-replicate, length-replicate, get_or-set_same, get_or-set_other, take_all, drop-map, drop-append-le, drop_all, drop-drop}
 use Rattle.std.proofs.lemmas.List.FromFn.{fill_by_all}
 use Rattle.std.proofs.lemmas.List.Sums.{sum_by-cons}
+use Rattle.line_base.specs.declared.event.Arc.{Arc}
 use Rattle.line_base.specs.declared.event.Parts.{Parts}
 use Rattle.line_base.specs.Roomy.{RoomyLog, RoomyLogs, log_at, dates_of, with_date}
 use Rattle.event_graph.specs.Network.{stations, jobs, arc, arc_count, demand, delay, time, ins, IsGraph}
@@ -46,6 +47,11 @@ get_or-dates_of logs t =
 
 pub log-state_in : (g : Parts) (logs : RoomyLogs) (t : ℕ) → log (state_in g logs) t ≡ (log_at logs t).dates
 log-state_in g logs t = ap (λ l. get_or l t []) (logs-state_of g (dates_of logs)) ∙ get_or-dates_of logs t
+
+-- the dates of the log where arc a starts, as they are read
+pub dates_read : (g : Parts) (logs : RoomyLogs) (a : ℕ) (x : Arc) (log : RoomyLog) (dates : List ℕ) → dates ≡ log.dates → log ≡ log_at logs x.from → x ≡ arc g a → dates ≡ get_or (dates_of logs) (arc g a).from []
+dates_read g logs a x log dates read at is =
+    read ∙ ap (λ (l : RoomyLog). l.dates) at ∙ ap (λ (y : Arc). (log_at logs y.from).dates) is ∙ sym (get_or-dates_of logs (arc g a).from)
 
 -- a log of these dates with this room
 abbrev pub log_of : ℕ → List ℕ → RoomyLog

@@ -27,6 +27,23 @@ find-later p xs i d low fails =
 pub find-past : {X : Type 0} (p : X → Bool) (xs : List X) (i : ℕ) → length xs ≤ i → find p (drop i xs) ≡ None
 find-past p xs i past = ap (find p) (drop_all i xs past)
 
+-- the first number below n that passes
+module _ (p : ℕ → Bool) (n : ℕ) where
+  number_at : (t : ℕ) → t < n → get_or (range_with_len 0 n) t 0 ≡ t
+  number_at t low = get_or-range_with_len 0 n t 0 low ∙ omega arith
+
+  pub find-number_here : (t : ℕ) → t < n → p t ≡ true → Some t ≡ find p (drop t (range_with_len 0 n))
+  find-number_here t low found =
+      ap Some (sym (number_at t low))
+      ∙ sym (find-here p (range_with_len 0 n) t 0 (omega (arith, low, length-range_with_len 0 n)) (ap p (number_at t low) ∙ found))
+
+  pub find-number_later : (t : ℕ) → t < n → p t ≡ false → find p (drop (t + 1) (range_with_len 0 n)) ≡ find p (drop t (range_with_len 0 n))
+  find-number_later t low fails =
+      find-later p (range_with_len 0 n) t 0 (omega (arith, low, length-range_with_len 0 n)) (ap p (number_at t low) ∙ fails)
+
+  pub find-number_past : (t : ℕ) → n ≤ t → None ≡ find p (drop t (range_with_len 0 n))
+  find-number_past t past = sym (find-past p (range_with_len 0 n) t (omega (arith, past, length-range_with_len 0 n)))
+
 -- where the first element fails the test, the rest is searched; where it passes, it is found
 find-none_first : {X : Type 0} (b : Bool) (x : X) (rest : Option X) → cond b (Some x) rest ≡ None → b ≡ false
 find-none_first true x rest none = cc

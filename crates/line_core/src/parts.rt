@@ -50,6 +50,7 @@ fn check_log(graph: &Graph, logs: &Logs, station: u32) -> Result<(), StateError>
 }
 
 /// Refuses the first log that is longer than there are jobs.
+#[tactic(auto, using(crate::proofs::FirstRefusals::first_refusals))]
 fn check_logs(graph: &Graph, logs: &Logs) -> Result<(), StateError>
     requires { length logs.now.logs ≡ stations graph.now }
     ensures { AnswersFirst result (long_logs graph.now (dates_of logs.now)) }
@@ -82,6 +83,7 @@ fn check_marking(graph: &Graph, logs: &Logs, places: &Places, arc: u32) -> Resul
 }
 
 /// Refuses the first place with another number of tokens than the logs leave there.
+#[tactic(auto, using(crate::proofs::FirstRefusals::first_refusals))]
 fn check_markings(graph: &Graph, logs: &Logs, places: &Places) -> Result<(), StateError>
     requires parts { AreParts graph.now logs.now places.now }
     requires few { long_logs graph.now (dates_of logs.now) ≡ [] }
@@ -186,6 +188,7 @@ fn check_date(
 }
 
 /// Refuses the first date of a station that isn't the one of its equation over the logs.
+#[tactic(auto, using(crate::proofs::FirstRefusals::first_refusals), unfolding(crate::specs::Parts::wrong_dates_at))]
 fn check_dates_at(graph: &Graph, logs: &Logs, station: u32) -> Result<(), StateError>
     requires early { All (All (λ date. date ≤ LATEST_GIVEN)) (dates_of logs.now) }
     requires a_log_each { length logs.now.logs ≡ stations graph.now }
@@ -202,6 +205,7 @@ fn check_dates_at(graph: &Graph, logs: &Logs, station: u32) -> Result<(), StateE
 }
 
 /// Refuses the first date that isn't the one of its equation over the logs.
+#[tactic(auto, using(crate::proofs::FirstRefusals::first_refusals))]
 fn check_dates(graph: &Graph, logs: &Logs) -> Result<(), StateError>
     requires early { All (All (λ date. date ≤ LATEST_GIVEN)) (dates_of logs.now) }
     requires a_log_each { length logs.now.logs ≡ stations graph.now }
@@ -241,6 +245,7 @@ fn check_tokens_on(graph: &Graph, logs: &Logs, places: &Places, arc: u32) -> Res
 }
 
 /// Refuses the first token that isn't the one that the logs leave there.
+#[tactic(auto, using(crate::proofs::FirstRefusals::first_refusals))]
 fn check_tokens(graph: &Graph, logs: &Logs, places: &Places) -> Result<(), StateError>
     requires parts { AreParts graph.now logs.now places.now }
     requires few { long_logs graph.now (dates_of logs.now) ≡ [] }

@@ -29,12 +29,9 @@ fn station_with(graph: &Graph, text: &[u8]) -> Option<u32>
 fn line_end(text: &[u8]) -> usize
     ensures { result ≡ position_or_len (λ byte. byte == 10) text.now }
 {
-    for (at, byte) in text.iter().enumerate() {
-        if *byte == b'\n' {
-            return at;
-        }
-    }
-    text.len()
+    text.iter()
+        .position(|byte| *byte == b'\n')
+        .unwrap_or(text.len())
 }
 
 /// What stands behind the first bytes of a text.

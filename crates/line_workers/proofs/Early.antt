@@ -12,7 +12,8 @@ use Rattle.event_graph.proofs.ArcNumbers.{All-ins}
 use Rattle.live_check.specs.Order.{IsUpward}
 use Rattle.line_core.specs.Consistent.{all_tokens, LATEST_DATE}
 use Rattle.line_core.proofs.Consistency.{date_by_tokens, by_tokens-le, HasHeld}
-use Rattle.line_core.proofs.Bounds.{delay-small, work-small, latest_after}
+use Rattle.event_graph.proofs.Sizes.{delay-small, work-small}
+use Rattle.line_core.proofs.Bounds.{latest_after}
 use Rattle.line_core.proofs.Runs.{length-tokens, token-initial, token-put}
 use Rattle.line_workers.specs.Grown.{log_in}
 

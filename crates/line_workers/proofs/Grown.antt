@@ -16,7 +16,7 @@ use Rattle.live_check.specs.Order.{IsRanked, LiveGraph}
 use Rattle.line_core.specs.Consistent.{all_tokens, tokens_left, state_of, IsConsistent, LATEST_DATE}
 use Rattle.event_graph.proofs.Greatest.{le-greatest, greatest-le, greatest-same}
 use Rattle.line_core.proofs.Consistency.{asked, date_by_tokens, due_date-by_tokens, HasHeld, reached_is_consistent}
-use Rattle.line_core.proofs.Bounds.{delay-small, work-small}
+use Rattle.event_graph.proofs.Sizes.{delay-small, work-small}
 use Rattle.line_core.proofs.Runs.{length-tokens, token-initial, token-put}
 use Rattle.line_core.proofs.Unwinding.{place-state_of, consistent_is_reached}
 use Rattle.station_step.specs.Kept.{saturating, date_for}

@@ -18,7 +18,7 @@ use Rattle.event_graph.proofs.Greatest.{le-greatest, greatest-le}
 use Rattle.live_check.specs.Order.{LiveGraph, IsRanked}
 use Rattle.line_core.specs.Consistent.{due_date}
 use Rattle.line_core.specs.Run.{Dates, IsLeastTable}
-use Rattle.line_core.proofs.Bounds.{time-small}
+use Rattle.event_graph.proofs.Sizes.{time-small}
 use Rattle.what_if.specs.Marks.{is_at}
 use Rattle.what_if.specs.Edited.{times_of, inputs_of, edited}
 use Rattle.what_if.specs.Page.{Page, IsDate}

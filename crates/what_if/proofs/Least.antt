@@ -13,7 +13,7 @@ use Rattle.event_graph.specs.Solves.{Solves}
 use Rattle.event_graph.specs.Least.{IsLeast}
 use Rattle.live_check.specs.Order.{LiveGraph, IsUpward}
 use Rattle.line_core.specs.Consistent.{due_date}
-use Rattle.line_core.proofs.Bounds.{work-small, delay-small}
+use Rattle.event_graph.proofs.Sizes.{work-small, delay-small}
 use Rattle.what_if.specs.Edited.{Inputs, edited}
 use Rattle.what_if.specs.Page.{IsDate, slot}
 use Rattle.what_if.specs.Sheet.{latest_at}

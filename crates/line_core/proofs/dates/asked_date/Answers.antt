@@ -1,7 +1,7 @@
 use Rattle.std.proofs.Common.{◌+◌, sym, ap, ◌∙◌, arith}
 use Rattle.line_base.specs.declared.event.Arc.{Arc}
 use Rattle.event_graph.specs.Network.{time}
-use Rattle.line_core.proofs.Bounds.{time-small}
+use Rattle.event_graph.proofs.Sizes.{time-small}
 use Rattle.line_core.proofs.Runs.{work-worked, work-plain}
 use Rattle.line_core.proofs.dates.asked_date.Goals as goal
 

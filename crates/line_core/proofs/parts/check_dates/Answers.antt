@@ -1,29 +1,8 @@
-use Rattle.std.proofs.Common.{◌<◌, ◌≤◌, arith}
+use Rattle.std.proofs.Common.{arith}
 use Rattle.line_base.specs.Roomy.{dates_of}
-use Rattle.event_graph.specs.Network.{stations}
-use Rattle.line_core.specs.Parts.{wrong_dates_at}
-use Rattle.line_core.proofs.FirstRefusals.{none_below_0, none_below_next, none_below_all, found_at, handed_on}
 use Rattle.line_core.proofs.PartsLemmas.{few_from}
 use Rattle.line_core.proofs.parts.check_dates.Goals as goal
-
-pub loop-station-init : goal.loop-station-init
-loop-station-init c = none_below_0 (stations c.args.graph.now) (wrong_dates_at c.args.graph.now (dates_of c.args.logs.now))
 
 pub check_dates_at-requires-clause-few : goal.check_dates_at-requires-clause-few
 check_dates_at-requires-clause-few c =
     few_from c.args.graph.now (dates_of c.args.logs.now) c.requires.few c.loop-station.station (omega (arith, c.stations-station-end.ensures.count, c.loop-station-test.true))
-
-pub returns-in_err-check_dates_at : goal.returns-in_err-check_dates_at
-returns-in_err-check_dates_at c =
-    let low : c.loop-station.station < (stations c.args.graph.now) = omega (arith, c.stations-station-end.ensures.count, c.loop-station-test.true) in
-    handed_on c.from_residual.result _ c.from_residual.ensures.1 (found_at (stations c.args.graph.now) (wrong_dates_at c.args.graph.now (dates_of c.args.logs.now)) c.loop-station.station _ low c.in_err-check_dates_at.ensures c.loop-station.invariant)
-
-pub loop-station-preserved : goal.loop-station-preserved
-loop-station-preserved c =
-    let low : c.loop-station.station < (stations c.args.graph.now) = omega (arith, c.stations-station-end.ensures.count, c.loop-station-test.true) in
-    none_below_next (stations c.args.graph.now) (wrong_dates_at c.args.graph.now (dates_of c.args.logs.now)) c.loop-station.station low c.in_ok-check_dates_at.ensures c.loop-station.invariant
-
-pub returns : goal.returns
-returns c =
-    let past : (stations c.args.graph.now) ≤ c.loop-station.station = omega (arith, c.stations-station-end.ensures.count, c.loop-station-test.false) in
-    none_below_all (stations c.args.graph.now) (wrong_dates_at c.args.graph.now (dates_of c.args.logs.now)) c.loop-station.station past c.loop-station.invariant

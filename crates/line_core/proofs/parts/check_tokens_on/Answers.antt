@@ -2,11 +2,12 @@ use Rattle.std.proofs.Common.{ap, ◌∙◌, sym, ◌≡◌, ◌<◌, ◌≤◌,
 use Rattle.line_base.specs.declared.event.Arc.{Arc}
 use Rattle.line_base.specs.Roomy.{dates_of}
 use Rattle.event_graph.specs.Network.{stations, arc}
+use Rattle.line_core.specs.Consistent.{tokens_left}
 use Rattle.line_core.specs.Parts.{list_at, wrong_token, wrong_tokens_on}
 use Rattle.line_core.proofs.FirstRefusals.{none_below_0, none_below_next, none_below_all, found_at}
 use Rattle.line_core.proofs.PartsLemmas.{few_from, marked_from, token-left, wrong_token-first, wrong_token-none}
 use Rattle.line_core.proofs.parts.check_tokens_on.Goals as goal
-use Rattle.line_core.proofs.parts.check_tokens_on.Goals.{After-dates_at-dates}
+use Rattle.line_core.proofs.parts.check_tokens_on.Goals.{After-dates_at-dates, After-token_date-need}
 
 -- how many tokens the arc has, and how many the station where it ends took
 few_taken : (c : After-dates_at-dates) → length c.dates_at.result.now ≤ 20_000
@@ -42,32 +43,33 @@ pub overflow_add-taken-in-loop-token : goal.overflow_add-taken-in-loop-token
 overflow_add-taken-in-loop-token c =
     omega (arith, few (goal.at.overflow_add-taken-in-loop-token c).After-dates_at-dates, few_taken (goal.at.overflow_add-taken-in-loop-token c).After-dates_at-dates, c.loop-token-test.true)
 
+-- what a token needs is the date that the logs leave there
+need_is : (c : After-token_date-need) → length c.dates_at-dates.result.now + length c.dates_at.result.now ≡ (arc c.args.graph.now c.args.arc).tokens + length (list_at (dates_of c.args.logs.now) (arc c.args.graph.now c.args.arc).from) → c.token_date-need.result ≡ get_or (tokens_left c.args.graph.now (dates_of c.args.logs.now) c.args.arc) c.loop-token.token 0
+need_is c held_here =
+    let logs = dates_of c.args.logs.now in
+    let taken = ap length c.dates_at.ensures ∙ ap (λ (x : Arc). length (list_at logs x.to)) c.arc_at.ensures.arc in
+    c.token_date-need.ensures.date ∙ token-left c.args.graph.now logs c.args.arc (length c.dates_at.result.now) c.loop-token.token taken (omega (arith, held_here, c.loop-token-test.true))
+
 pub returns-then-have-need : goal.returns-then-have-need
 unfolding wrong_tokens_on
 returns-then-have-need c =
-    let before = (goal.at.returns-then-have-need c).After-dates_at-dates in
+    let at = goal.at.returns-then-have-need c in
     let g = c.args.graph.now in
     let logs = dates_of c.args.logs.now in
     let places = dates_of c.args.places.now in
     let token = c.loop-token.token in
-    let taken = c.dates_at.ensures in
     let low : token < length (list_at places c.args.arc) = omega (arith, c.loop-token-test.true, ap length c.dates_at-dates.ensures) in
-    let need = c.token_date-need.ensures.date ∙ token-left g logs c.args.arc (length c.dates_at.result.now) token (ap length taken ∙ ap (λ (x : Arc). length (list_at logs x.to)) c.arc_at.ensures.arc) (omega (arith, held before, c.loop-token-test.true)) in
     found_at (length (list_at places c.args.arc)) (wrong_token g logs places c.args.arc) token _ low (
-    wrong_token-first g logs places c.args.arc token _ _ (ap (λ l. get_or l token 0) c.dates_at-dates.ensures) need c.if-have-need.true) c.loop-token.invariant
+    wrong_token-first g logs places c.args.arc token _ _ (ap (λ l. get_or l token 0) c.dates_at-dates.ensures) (need_is at.After-token_date-need (held at.After-dates_at-dates)) c.if-have-need.true) c.loop-token.invariant
 
 pub loop-token-preserved : goal.loop-token-preserved
 loop-token-preserved c =
-    let before = (goal.at.loop-token-preserved c).After-dates_at-dates in
-    let g = c.args.graph.now in
-    let logs = dates_of c.args.logs.now in
+    let at = goal.at.loop-token-preserved c in
     let places = dates_of c.args.places.now in
     let token = c.loop-token.token in
-    let taken = c.dates_at.ensures in
     let low : token < length (list_at places c.args.arc) = omega (arith, c.loop-token-test.true, ap length c.dates_at-dates.ensures) in
-    let need = c.token_date-need.ensures.date ∙ token-left g logs c.args.arc (length c.dates_at.result.now) token (ap length taken ∙ ap (λ (x : Arc). length (list_at logs x.to)) c.arc_at.ensures.arc) (omega (arith, held before, c.loop-token-test.true)) in
-    none_below_next (length (list_at places c.args.arc)) (wrong_token g logs places c.args.arc) token low (
-    wrong_token-none g logs places c.args.arc token (sym (ap (λ l. get_or l token 0) c.dates_at-dates.ensures) ∙ c.if-have-need.false ∙ need)) c.loop-token.invariant
+    none_below_next (length (list_at places c.args.arc)) (wrong_token c.args.graph.now (dates_of c.args.logs.now) places c.args.arc) token low (
+    wrong_token-none c.args.graph.now (dates_of c.args.logs.now) places c.args.arc token (sym (ap (λ l. get_or l token 0) c.dates_at-dates.ensures) ∙ c.if-have-need.false ∙ need_is at.After-token_date-need (held at.After-dates_at-dates))) c.loop-token.invariant
 
 pub returns : goal.returns
 unfolding wrong_tokens_on

@@ -1,5 +1,5 @@
 use Rattle.std.proofs.Common.{arith}
-use Rattle.line_core.proofs.Bounds.{delay-small}
+use Rattle.event_graph.proofs.Sizes.{delay-small}
 use Rattle.line_core.proofs.parts.token_date.Goals as goal
 
 pub overflow_add-result : goal.overflow_add-result

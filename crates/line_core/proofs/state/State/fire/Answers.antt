@@ -10,6 +10,7 @@ use Rattle.line_core.specs.Run.{Run, IsRunWithRoom}
 use Rattle.line_core.proofs.Runs.{state_in, consistent}
 use Rattle.line_core.proofs.Searches.{can_fire}
 use Rattle.line_core.proofs.state.State.fire.Goals as goal
+use Rattle.line_core.proofs.state.State.fire.Goals.{In-None}
 
 -- a station that passed both tests can fire
 can_at : (given g : Parts) (logs : RoomyLogs) (t count most : ℕ) → given ≡ g → IsRunWithRoom g logs → t < stations g → count ≡ length (log (state_in given logs) t) → most ≡ jobs given → count ≢ most → first_empty given (state_in given logs) t ≡ None → CanFire g (state_in g logs) t
@@ -17,20 +18,15 @@ can_at given g logs t count most same held there counted all more none =
     let full : length (log (state_in g logs) t) ≢ jobs g = λ e. more (counted ∙ ap (λ h. length (log (state_in h logs) t)) same ∙ e ∙ sym (ap jobs same) ∙ sym all) in
     can_fire g (state_in g logs) (consistent g logs held) t there full (ap (λ h. first_empty h (state_in h logs) t) (sym same) ∙ none)
 
-pub fire_ready-requires-clause-can : goal.fire_ready-requires-clause-can
-fire_ready-requires-clause-can c =
-    let g = c.self.inside.graph.value in
-    let logs = c.self.inside.logs in
+ready : (c : In-None) → CanFire c.args.self.now.graph c.args.self.now.state c.args.t
+ready c =
     let same = c.graph-graph.ensures.graph ∙ c.requires.made_for ∙ sym (ap (λ (r : Run). r.graph) c.self.view_is) in
-    let there : c.args.t < stations g = omega (arith, ap (λ (r : Run). stations r.graph) c.self.view_is, c.requires.station) in
-    let can = can_at c.graph-graph.result.now g logs c.args.t c.count_at.result c.jobs.result same c.self.invariant there c.count_at.ensures.count c.jobs.ensures.count c.if-count_at-jobs.false (sym c.first_empty.ensures ∙ c.in-None.is) in
-    subst (λ (r : Run). CanFire r.graph r.state c.args.t) c.self.view_is can
+    let there : c.args.t < stations c.self.inside.graph.value = omega (arith, ap (λ (r : Run). stations r.graph) c.self.view_is, c.requires.station) in
+    subst (λ (r : Run). CanFire r.graph r.state c.args.t) c.self.view_is (
+    can_at c.graph-graph.result.now c.self.inside.graph.value c.self.inside.logs c.args.t c.count_at.result c.jobs.result same c.self.invariant there c.count_at.ensures.count c.jobs.ensures.count c.if-count_at-jobs.false (sym c.first_empty.ensures ∙ c.in-None.is))
+
+pub fire_ready-requires-clause-can : goal.fire_ready-requires-clause-can
+fire_ready-requires-clause-can c = ready (goal.at.fire_ready-requires-clause-can c).In-None
 
 pub returns-in-None-clause-could : goal.returns-in-None-clause-could
-returns-in-None-clause-could c =
-    let g = c.self.inside.graph.value in
-    let logs = c.self.inside.logs in
-    let same = c.graph-graph.ensures.graph ∙ c.requires.made_for ∙ sym (ap (λ (r : Run). r.graph) c.self.view_is) in
-    let there : c.args.t < stations g = omega (arith, ap (λ (r : Run). stations r.graph) c.self.view_is, c.requires.station) in
-    let can = can_at c.graph-graph.result.now g logs c.args.t c.count_at.result c.jobs.result same c.self.invariant there c.count_at.ensures.count c.jobs.ensures.count c.if-count_at-jobs.false (sym c.first_empty.ensures ∙ c.in-None.is) in
-    subst (λ (r : Run). CanFire r.graph r.state c.args.t) c.self.view_is can
+returns-in-None-clause-could c = ready (goal.at.returns-in-None-clause-could c).In-None

@@ -5,7 +5,7 @@ use Rattle.event_graph.specs.Network.{arc, time, delay}
 use Rattle.event_graph.specs.Table.{date_in}
 use Rattle.event_graph.specs.Term.{work}
 use Rattle.live_check.specs.Order.{LiveGraph}
-use Rattle.line_core.proofs.Bounds.{delay-small}
+use Rattle.event_graph.proofs.Sizes.{delay-small}
 use Rattle.what_if.specs.Page.{graph_of, IsDate, date_at}
 use Rattle.what_if.proofs.Inputs.{delay-edited}
 use Rattle.what_if.proofs.Keeping.{date-early}

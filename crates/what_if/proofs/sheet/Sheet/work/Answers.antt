@@ -1,6 +1,6 @@
 use Rattle.std.proofs.Common.{◌<◌, sym, ◌∙◌, arith, length}
 use Rattle.std.proofs.lemmas.Bool.{cond-true}
-use Rattle.line_core.proofs.Bounds.{time-small}
+use Rattle.event_graph.proofs.Sizes.{time-small}
 use Rattle.event_graph.specs.Network.{time}
 use Rattle.what_if.specs.Page.{graph_of}
 use Rattle.what_if.proofs.Inputs.{time-edited}
