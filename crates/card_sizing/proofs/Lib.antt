@@ -1,7 +1,6 @@
 pub mod SizedStages
 pub mod SizedSound
 pub mod Serving
-pub mod DeadCircuits
 pub mod Searches
 pub mod Most
 mod Examples

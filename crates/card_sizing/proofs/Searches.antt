@@ -17,7 +17,7 @@ use Rattle.card_sizing.specs.declared.sizing.Below.{Below}
 use Rattle.card_sizing.specs.declared.sizing.Below.TheVariants.{Job, Dead}
 use Rattle.card_sizing.specs.Sized.{has_single_count, sized, lowest_under, lowest}
 use Rattle.card_sizing.specs.Serving.{Serves, IsLateWith}
-use Rattle.card_sizing.specs.DeadLabels.{AreDead}
+use Rattle.line_graph.specs.DeadLabels.{AreDead}
 use Rattle.card_sizing.specs.Sizing.{NoneServesBelow, IsSearch}
 use Rattle.card_sizing.proofs.SizedSound.{sound_sized}
 use Rattle.card_sizing.proofs.Serving.{serves_more, dead_not_live}

@@ -20,15 +20,11 @@ use Rattle.line_graph.proofs.MoreCards.{cards_never_later}
 use Rattle.card_sizing.specs.Sized.{has_single_count, sized, lowest}
 use Rattle.card_sizing.specs.Serving.{wait_of, wait_until, NoneWaitsLonger, IsFirstLate, Serves, IsLateWith}
 use Rattle.card_sizing.specs.Laws.{MoreCardsServe}
-use Rattle.card_sizing.specs.DeadLabels.{AreDead}
+use Rattle.line_graph.specs.DeadLabels.{AreDead}
 use Rattle.card_sizing.proofs.SizedStages.{differ-sized, more-sized, most-sized}
 use Rattle.card_sizing.proofs.SizedSound.{sound_sized}
 
 -- ---- the graph of a sized plant
-
-pub labels-graph : (p : Plant) → (graph p).labels ≡ labels p
-unfolding graph
-labels-graph p = refl
 
 jobs-graph : (p : Plant) → jobs (graph p) ≡ length p.demands
 unfolding graph

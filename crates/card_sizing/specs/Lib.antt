@@ -1,6 +1,5 @@
 pub mod Sized
 pub mod Serving
 pub mod Laws
-pub mod DeadLabels
 pub mod Trying
 pub mod Sizing

@@ -9,7 +9,7 @@ use Rattle.card_sizing.specs.declared.sizing.SizingError.{SizingError}
 use Rattle.card_sizing.specs.declared.sizing.SizingError.TheVariants.{NoSingleCount, NoCount, NoMemory}
 use Rattle.card_sizing.specs.Sized.{has_single_count, sized, lowest}
 use Rattle.card_sizing.specs.Serving.{Serves, IsLateWith}
-use Rattle.card_sizing.specs.DeadLabels.{AreDead}
+use Rattle.line_graph.specs.DeadLabels.{AreDead}
 
 -- no count below c serves
 abbrev pub NoneServesBelow : Plant → ℕ → ℕ → Type 0

@@ -6,7 +6,7 @@ use Rattle.card_sizing.specs.declared.trying.Tried.{Tried}
 use Rattle.card_sizing.specs.declared.trying.Tried.TheVariants.{Enough, Late, NotLive}
 use Rattle.card_sizing.specs.Sized.{sized}
 use Rattle.card_sizing.specs.Serving.{Serves, IsLateWith}
-use Rattle.card_sizing.specs.DeadLabels.{AreDead}
+use Rattle.line_graph.specs.DeadLabels.{AreDead}
 
 -- the count serves, or the line is live and this job is the first that waits longer than it may, or this circuit has no token
 abbrev pub Tells : Plant → ℕ → ℕ → Tried → Type 0

@@ -1,7 +1,6 @@
 //! The least number of cards with which no job waits longer than it may.
 #![tactic(auto)]
 
-mod dead;
 mod laws;
 mod lowest;
 mod sized;

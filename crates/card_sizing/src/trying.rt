@@ -5,12 +5,11 @@ ghost use Rattle.plant_model.specs.Sound.{IsSound};
 ghost use Rattle.card_sizing.specs.Sized.{has_single_count, lowest};
 ghost use Rattle.card_sizing.specs.Trying.{Tells};
 
-use crate::dead::dead_labels;
 use crate::sized::sized_plant;
 use crate::waits::{LateJob, first_late};
 use line_base::{Items, Label};
 use line_core::run;
-use line_graph::graph_of;
+use line_graph::{dead_labels, graph_of};
 use live_check::{NotLive, rank};
 use plant_model::Plant;
 use std::alloc::{AllocError, Global};
@@ -38,7 +37,7 @@ pub fn try_count(alloc: Global, plant: &Plant, may: u64, count: u32) -> Result<T
     let live = match rank(alloc, graph_of(alloc, &sized)?) {
         Ok(live) => live,
         Err(NotLive::Dead { graph, arcs }) => {
-            let labels = dead_labels(alloc, &sized, &graph, arcs.as_slice())?;
+            let labels = dead_labels(alloc, &graph, arcs.as_slice())?;
             return Ok(Tried::NotLive { labels });
         }
         Err(NotLive::NoMemory { .. }) => return Err(AllocError),

@@ -1,4 +1,5 @@
 ghost use Rattle.std.specs.Prelude.{◌≡◌, ℕ, ◌≤◌, ◌<◌, All, IfOk, OnOk, IfErr, slice_index_or, IsTrue, ◌↔◌};
+ghost use Rattle.line_base.specs.Text.{is_label};
 ghost use Rattle.event_graph.specs.Network.{stations, jobs, arc_count, arc, time, demand, delay, label, ins, outs, IsGraph, EndsAt, StartsAt};
 ghost use Rattle.event_graph.specs.Limits.{IsWithinLimits};
 ghost use Rattle.event_graph.specs.Faults.{IsFirstFault};
@@ -154,6 +155,7 @@ impl Graph {
     pub fn label(&self, t: u32) -> &[u8]
         requires { t < stations self.now }
         ensures text { result.now ≡ label self.now t }
+        ensures rule { IsTrue (is_label result.now) }
         ensures graph { IsGraph self.now }
         ensures limits { IsWithinLimits self.now }
     {

@@ -1,9 +1,9 @@
 -- The graph of a sound plant is an event graph: the ends of its arcs exist, no arc enters the feed, and each other station
 -- has an arc in.
-use Rattle.std.proofs.Common.{◌≡◌, ℕ, zero, suc, ◌+◌, ◌-◌, ◌<◌, ◌≤◌, Bool, true, false, cond, eqb, [], ◌∷◌, ◌++◌, length, get_or, Option, None, Some, inl, inr, refl, sym, ap, ◌∙◌, subst, arith}
+use Rattle.std.proofs.Common.{◌≡◌, ℕ, ◌+◌, ◌-◌, ◌<◌, ◌≤◌, Bool, true, false, cond, eqb, [], ◌∷◌, ◌++◌, length, get_or, Option, None, Some, refl, ap, ◌∙◌, arith}
 use Rattle.std.specs.List.{Contains, flat_map, list_any}
 use Rattle.std.specs.Option.{option_map_or}
-use Rattle.std.proofs.lemmas.Bool.{cases_lt, eq-eqb, eqb-true, not-false}
+use Rattle.std.proofs.lemmas.Bool.{eq-eqb, eqb-true, not-false}
 use Rattle.std.proofs.lemmas.List.{get_or-map, get_or_default}
 use Rattle.std.proofs.lemmas.List.Folds.{Any-from_list_any}
 use Rattle.std.proofs.lemmas.List.Elements.{All-get_or, Contains-append_left, Contains-append_right}
@@ -17,11 +17,11 @@ use Rattle.plant_model.specs.Graph.{Row, worked, plain, onward, machine_rows, st
 use Rattle.plant_model.specs.Sound.{IsSound}
 use Rattle.event_graph.specs.Network.{arc_count, arc, IsGraph}
 use Rattle.plant_model.proofs.SoundPlants.{IsSoundStage-sound}
-use Rattle.plant_model.proofs.LayoutStations.{release-next, release-all}
 use Rattle.line_graph.proofs.RowLists.{Contains-map-range, Contains-map-filter, Contains-flat_map-range, Contains-head, Contains-tail}
 use Rattle.line_graph.proofs.PolicyRows.{policy_rows-kanban, policy_rows-base_stock, policy_rows-extended, policy_rows-conwip}
 use Rattle.line_graph.proofs.Sizes.{stations-graph, arc_count-graph}
 use Rattle.line_graph.proofs.SmallRows.{IsSmallRow, rows-small}
+use Rattle.line_graph.proofs.EachStation.{each_station}
 
 -- some row enters the station
 abbrev pub HasInput : Plant → ℕ → Type 0
@@ -111,33 +111,18 @@ release-input p i sound below = by_policy p.policy refl
         let h = Contains-flat_map-range both (length p.stages) i (demand_row p i) below (Contains-head (demand_row p i) (card_row p ((stage_at p i).cards - starting p i) i ∷ [])) in
         (demand_row p i, in_policy p (demand_row p i) (rw (policy_rows-extended p is) h), refl)
 
--- a station before release n, but the feed, is a release or a machine of one of the first n stages
-stage-input : (p : Plant) (n t : ℕ) → IsSound p → n ≤ length p.stages → 1 ≤ t → t < release p n → HasInput p t
-stage-input p zero t sound few some below = absurd (omega arith)
-stage-input p (suc n) t sound few some below =
-    elim (cases_lt t (release p n)) [
-      | inl before ↦ stage-input p n t sound (omega arith) some before
-      | inr after ↦
-          let e : n + 1 ≡ suc n = omega arith in
-          let end = subst (λ m. t < release p m) (sym e) below in
-          let ends = release-next p n (omega arith) in
-          elim (cases_lt (release p n) t) [
-            | inl machine ↦
-                let j = t - release p n - 1 in
-                let is : machine_station p n j ≡ t = omega arith in
-                subst (HasInput p) is (machine-input p n j (omega arith) (omega arith))
-            | inr release_n ↦
-                let is : release p n ≡ t = omega arith in
-                subst (HasInput p) is (release-input p n sound (omega arith))
-          ]
-    ]
-
+-- each station but the feed has an arc in
 station-input : (p : Plant) (t : ℕ) → IsSound p → 1 ≤ t → t < station_count p → HasInput p t
 station-input p t sound some below =
-    elim (cases_lt t (deliver p)) [
-      | inl before ↦ stage-input p (length p.stages) t sound (omega arith) some (rw release-all before)
-      | inr after ↦ let is : deliver p ≡ t = omega arith in subst (HasInput p) is (deliver-input p)
-    ]
+    each_station p
+    (λ u. 1 ≤ u → HasInput p u)
+    (λ none. absurd (omega arith))
+    (λ i there h. release-input p i sound there)
+    (λ i j there inside h. machine-input p i j there inside)
+    (λ h. deliver-input p)
+    t
+    below
+    some
 
 -- arc a of the graph is that of row a
 pub arc-graph : (p : Plant) (a : ℕ) (d : Row) → a < length (rows p) → arc (graph p) a ≡ (get_or (rows p) a d).arc

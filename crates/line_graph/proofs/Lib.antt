@@ -4,6 +4,7 @@ pub mod GraphRows
 pub mod SmallRows
 pub mod Sizes
 pub mod WithinLimits
+pub mod EachStation
 pub mod Inputs
 pub mod SolvesRows
 pub mod SharedRows
@@ -16,3 +17,4 @@ pub mod OwnTokens
 pub mod RowPairs
 pub mod CardlessPlants
 pub mod MoreCards
+pub mod DeadCircuits

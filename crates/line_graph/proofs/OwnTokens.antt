@@ -1,7 +1,6 @@
 -- Each station of a plant's graph with a list of times has an arc to itself with one token.
-use Rattle.std.proofs.Common.{◌≡◌, ℕ, zero, suc, ◌+◌, ◌-◌, ◌<◌, ◌≤◌, List, [], ◌∷◌, ◌++◌, length, get_or, take, refl, sym, ap, ◌∙◌, subst, inl, inr, arith}
+use Rattle.std.proofs.Common.{◌≡◌, ℕ, suc, ◌+◌, ◌<◌, List, [], ◌∷◌, ◌++◌, length, get_or, take, refl, ap, ◌∙◌, subst, arith}
 use Rattle.std.specs.List.{flat_map, Contains}
-use Rattle.std.proofs.lemmas.Bool.{cases_lt}
 use Rattle.std.proofs.lemmas.List.{get_or_append_left, length-map}
 use Rattle.std.proofs.Math.Seq.{get_or-append_seam}
 use Rattle.std.proofs.lemmas.List.Concat.{length-flat_map, get_or-flat_map}
@@ -11,12 +10,13 @@ use Rattle.plant_model.specs.declared.plant.Stage.{Stage}
 use Rattle.plant_model.specs.declared.plant.Plant.{Plant}
 use Rattle.plant_model.specs.Line.{no_stage, stage_at, machine_at, stations_of, release, machine_station, deliver, station_count}
 use Rattle.plant_model.specs.Graph.{Row, worked, plain, onward, rows, stage_times, times, graph}
-use Rattle.plant_model.proofs.LayoutStations.{release-next, release-all, release-below}
+use Rattle.plant_model.proofs.LayoutStations.{release-below}
 use Rattle.event_graph.specs.Network.{arc}
 use Rattle.live_check.specs.MoreTokens.{IsList, HasOwnToken, ListsKeepOrder}
 use Rattle.line_graph.proofs.RowLists.{Contains-head, Contains-tail}
 use Rattle.line_graph.proofs.Sizes.{sum_by-same, stations-graph, arc_count-graph}
 use Rattle.line_graph.proofs.Inputs.{in_machines, arc-graph}
+use Rattle.line_graph.proofs.EachStation.{each_station}
 
 -- ---- each machine has an arc to itself with one token
 
@@ -75,32 +75,16 @@ time-feed : (p : Plant) → get_or (times p) 0 (Fixed 0) ≡ Fixed 0
 unfolding times
 time-feed p = refl
 
-stage-keeps : (p : Plant) (n t : ℕ) → n ≤ length p.stages → t < release p n → KeepsOrder p t
-stage-keeps p zero t few below = let e : 0 ≡ t = omega arith in subst (KeepsOrder p) e (fixed-keeps p 0 (time-feed p))
-stage-keeps p (suc n) t few below =
-    elim (cases_lt t (release p n)) [
-      | inl before ↦ stage-keeps p n t (omega arith) before
-      | inr after ↦
-          let e : n + 1 ≡ suc n = omega arith in
-          let end = subst (λ m. t < release p m) (sym e) below in
-          let ends = release-next p n (omega arith) in
-          elim (cases_lt (release p n) t) [
-            | inl machine ↦
-                let j = t - release p n - 1 in
-                let is : machine_station p n j ≡ t = omega arith in
-                subst (KeepsOrder p) is (λ list. machine-own p n j (omega arith) (omega arith))
-            | inr release_n ↦
-                let is : release p n ≡ t = omega arith in
-                subst (KeepsOrder p) is (fixed-keeps p (release p n) (time-release p n (omega arith)))
-          ]
-    ]
-
 station-keeps : (p : Plant) (t : ℕ) → t < station_count p → KeepsOrder p t
 station-keeps p t below =
-    elim (cases_lt t (deliver p)) [
-      | inl before ↦ stage-keeps p (length p.stages) t (omega arith) (rw release-all before)
-      | inr after ↦ let is : deliver p ≡ t = omega arith in subst (KeepsOrder p) is (fixed-keeps p (deliver p) (time-deliver p))
-    ]
+    each_station p
+    (KeepsOrder p)
+    (fixed-keeps p 0 (time-feed p))
+    (λ i there. fixed-keeps p (release p i) (time-release p i there))
+    (λ i j there inside list. machine-own p i j there inside)
+    (fixed-keeps p (deliver p) (time-deliver p))
+    t
+    below
 
 times-graph : (p : Plant) → (graph p).times ≡ times p
 unfolding graph

@@ -2,12 +2,14 @@
 #![tactic(auto)]
 
 mod arcs;
+mod dead;
 mod delays;
 mod graph;
 mod labels;
 mod laws;
 mod times;
 
+pub use dead::dead_labels;
 pub use graph::graph_of;
 pub use labels::station_labels;
 pub use laws::{

@@ -20,7 +20,7 @@ use Rattle.plant_file.specs.Finish.{completed}
 use Rattle.plant_file.specs.PlantOfFiles.{bytes_of, plant_of_reading, plant_of}
 use Rattle.plant_draft.specs.Reading.{reading}
 use Rattle.pull_words.specs.CheckText.{check_text}
-use Rattle.pull_words.specs.DeadLine.{AreDead}
+use Rattle.line_graph.specs.DeadLabels.{AreDead}
 use Rattle.pull_words.specs.ScheduleRefusals.{reply_of}
 use Rattle.pull_words.specs.declared.reply.Reply.{Reply}
 use Rattle.pull_words.specs.declared.reply.Reply.TheVariants.{Refused, Dead, StoreFault, NoMemory, TooLong, NotFollowed, Checked}

@@ -11,7 +11,7 @@ use Rattle.plant_model.specs.declared.plant.Plant.{Plant}
 use Rattle.plant_model.specs.Graph.{graph}
 use Rattle.plant_file.specs.PlantOfFiles.{plant_of}
 use Rattle.pull_words.specs.CheckText.{check_text}
-use Rattle.pull_words.specs.DeadLine.{AreDead}
+use Rattle.line_graph.specs.DeadLabels.{AreDead}
 use Rattle.pull_words.specs.Reply.{status_of, text_of, IsFixed}
 use Rattle.pull_words.specs.Words.{command_of}
 use Rattle.pull_words.specs.declared.reply.Reply.{Reply}

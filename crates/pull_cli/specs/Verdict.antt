@@ -17,7 +17,7 @@ use Rattle.line_core.specs.Schedule.{follow}
 use Rattle.line_core.specs.declared.error.ReplayError.{ReplayError}
 use Rattle.line_report.specs.declared.report.Report.{Report}
 use Rattle.pull_words.specs.CheckText.{check_text}
-use Rattle.pull_words.specs.DeadLine.{AreDead}
+use Rattle.line_graph.specs.DeadLabels.{AreDead}
 use Rattle.pull_words.specs.ScheduleRefusals.{reply_of}
 use Rattle.pull_words.specs.declared.reply.Reply.{Reply}
 use Rattle.pull_words.specs.declared.reply.Reply.TheVariants.{Help, Version, Refused, Dead, Checked}

@@ -1,2 +1,1 @@
-pub mod DeadCircuits
 pub mod Schedules

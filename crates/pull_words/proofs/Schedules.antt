@@ -1,13 +1,12 @@
 -- The stations and arcs that the refusal of a schedule names are those of the graph.
-use Rattle.std.proofs.Common.{◌≡◌, ℕ, ◌+◌, ◌<◌, Bool, true, false, cond, List, [], ◌∷◌, length, refl, ap, sym, ◌∙◌, subst, eqb, arith}
-use Rattle.std.specs.Prelude.{Option, Some, None, Result, Ok, Err, IfErr, IfSome, All, find}
+use Rattle.std.proofs.Common.{◌≡◌, ℕ, ◌+◌, ◌<◌, Bool, true, false, cond, List, [], ◌∷◌, length, subst, eqb}
+use Rattle.std.specs.Prelude.{Option, Some, None, Result, Ok, Err, IfErr, IfSome, find}
 use Rattle.std.specs.List.{AllByRecursion, range_with_len}
 use Rattle.std.specs.Str.Lines.{strip_carriage_return}
 use Rattle.std.proofs.lemmas.List.Elements.{recursion_from_All}
 use Rattle.line_base.specs.declared.event.Parts.{Parts}
 use Rattle.event_graph.specs.Network.{stations, jobs, arc_count, ins}
 use Rattle.event_graph.specs.State.{State, log, start}
-use Rattle.event_graph.specs.Firing.{after}
 use Rattle.event_graph.proofs.ArcNumbers.{All-ins}
 use Rattle.line_graph.proofs.RowLists.{All-range}
 use Rattle.line_core.specs.declared.error.ReplayError.{ReplayError}

@@ -1,10 +1,6 @@
 -- The line of a plant that isn't live: the stations of one circuit without a token.
-use Rattle.std.specs.Prelude.{◌≡◌, ℕ, ◌≤◌, List, ◌∷◌, ◌++◌, length, take, drop, map, slice_index, All, codes}
+use Rattle.std.specs.Prelude.{ℕ, List, ◌∷◌, ◌++◌, codes}
 use Rattle.std.specs.List.{flat_map}
-use Rattle.line_base.specs.declared.event.Parts.{Parts}
-use Rattle.event_graph.specs.Network.{label}
-use Rattle.event_graph.specs.Circuit.{starting_stations}
-use Rattle.live_check.specs.DeadCircuit.{IsDeadCircuit}
 
 -- a label with a space before it
 abbrev pub spaced : List ℕ → List ℕ
@@ -13,18 +9,3 @@ spaced label = 32 ∷ label
 -- the labels of the stations
 abbrev pub dead_line : List (List ℕ) → List ℕ
 dead_line labels = codes "dead:" ++ flat_map spaced labels
-
--- the stations of a circuit, turned round so that the one with the least number is the first
-pub record IsTurned (stations turned : List ℕ) : Type 0 where
-  pub at : ℕ
-  pub turned_is : turned ≡ drop at stations ++ take at stations
-  pub least_first : All (λ t. slice_index turned 0 ≤ t) turned
-
--- the labels are those of the stations along a circuit of the graph that holds no token, from the one with the least
--- number on
-pub record AreDead (g : Parts) (labels : List (List ℕ)) : Type 0 where
-  pub arcs : List ℕ
-  pub dead : IsDeadCircuit g arcs
-  pub stations : List ℕ
-  pub turned : IsTurned (starting_stations g arcs) stations
-  pub named : labels ≡ map (label g) stations

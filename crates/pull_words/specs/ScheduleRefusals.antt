@@ -1,5 +1,5 @@
 -- What a schedule that can't be followed comes to.
-use Rattle.std.specs.Prelude.{ℕ, ◌<◌, ⊤}
+use Rattle.std.specs.Prelude.{◌<◌, ⊤}
 use Rattle.line_base.specs.declared.event.Parts.{Parts}
 use Rattle.event_graph.specs.Network.{stations, jobs, arc_count, arc, label}
 use Rattle.line_core.specs.declared.error.ReplayError.{ReplayError}

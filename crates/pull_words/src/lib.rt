@@ -3,7 +3,6 @@
 #![tactic(auto)]
 
 mod check;
-mod dead;
 mod refusals;
 mod reply;
 mod schedule;
@@ -11,7 +10,7 @@ mod usage;
 mod words;
 
 pub use check::check_text;
-pub use dead::dead_labels;
+pub use line_graph::dead_labels;
 pub use refusals::ScheduleRefusal;
 pub use reply::{OUT_OF_MEMORY, Reply};
 pub use schedule::schedule_reply;

@@ -3,7 +3,7 @@ ghost use Rattle.pull_words.specs.PlantLine.{at_place, with_counts, plant_reason
 ghost use Rattle.pull_words.specs.DeadLine.{dead_line};
 ghost use Rattle.pull_words.specs.ScheduleLine.{schedule_line};
 
-use line_base::Items;
+use line_base::{Items, Label};
 use plant_model::PlantError;
 use std::alloc::{AllocError, Global};
 
@@ -91,13 +91,13 @@ fn with_counts(
 }
 
 /// The labels of a circuit without a token, as its line shows them.
-pub fn dead_line(alloc: Global, labels: &[Items<u8>]) -> Result<Vec<u8>, AllocError>
+pub fn dead_line(alloc: Global, labels: &[Label]) -> Result<Vec<u8>, AllocError>
     ensures { IfOk result (λ text. text.items ≡ dead_line labels.now) }
 {
     let mut text = Vec::from_slice(alloc, b"dead:")?;
     for label in labels {
         text.push(b' ')?;
-        text.extend_from_slice(label.as_slice())?;
+        text.extend_from_slice(label.text())?;
     }
     Ok(text)
 }

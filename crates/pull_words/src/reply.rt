@@ -7,7 +7,7 @@ ghost use Rattle.pull_words.specs.declared.reply.Reply.TheVariants.{NoMemory};
 use crate::refusals::{ScheduleRefusal, dead_line, plant_reason, schedule_line};
 use crate::usage::{USAGE, VERSION};
 use crate::words::FileName;
-use line_base::Items;
+use line_base::{Items, Label};
 use plant_model::PlantError;
 use std::alloc::{AllocError, Global};
 use std::borrow::CowSlice;
@@ -32,7 +32,7 @@ pub enum Reply {
     /// The plant's graph has a circuit without a token.
     Dead {
         /// The labels of the circuit's stations.
-        labels: Items<Items<u8>>,
+        labels: Items<Label>,
     },
     /// A file couldn't be read.
     StoreFault {

@@ -1,22 +1,16 @@
 use Rattle.std.proofs.Common.{sym, ap, ◌∙◌, subst}
-use Rattle.line_base.specs.declared.event.Parts.{Parts}
 use Rattle.plant_model.specs.Sound.{IsSound}
 use Rattle.plant_model.specs.Graph.{graph}
 use Rattle.event_graph.specs.Live.{IsLive}
 use Rattle.line_core.specs.Run.{Dates}
 use Rattle.card_sizing.proofs.SizedSound.{sound_sized}
-use Rattle.card_sizing.proofs.Serving.{labels-graph, serves_from, late_from}
+use Rattle.card_sizing.proofs.Serving.{serves_from, late_from}
 use Rattle.card_sizing.proofs.trying.try_count.Goals as goal
 use Rattle.card_sizing.proofs.trying.try_count.Goals.{in-Some, in-None}
 
 pub graph_of-requires : goal.graph_of-requires
 graph_of-requires c =
     subst IsSound (sym c.in_ok-sized.ensures) (sound_sized c.args.plant.now c.args.count c.requires.sound c.requires.single c.requires.enough c.requires.few)
-
-pub dead_labels-requires-clause-labels : goal.dead_labels-requires-clause-labels
-dead_labels-requires-clause-labels c =
-    let back = rw c.in-Err-Dead.field-0-is at c.in-Err-Dead.ensures.handed_back in
-    ap (λ (g : Parts). g.labels) (back ∙ c.in_ok-graph_of.ensures.graph) ∙ labels-graph c.in_ok-sized.sized
 
 pub returns : goal.returns
 returns c =

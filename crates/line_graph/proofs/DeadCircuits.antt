@@ -5,10 +5,10 @@ use Rattle.std.specs.List.{AllByRecursion}
 use Rattle.std.proofs.lemmas.List.{get_or_append_left, get_or-drop, length-drop, map-append}
 use Rattle.std.proofs.lemmas.List.Elements.{All-from_recursion, All-append, All-drop, All-take}
 use Rattle.line_base.specs.declared.event.Parts.{Parts}
-use Rattle.event_graph.specs.Network.{arc_count, arc}
+use Rattle.event_graph.specs.Network.{arc_count, arc, label}
 use Rattle.event_graph.specs.Circuit.{IsWalk, starting_stations}
 use Rattle.live_check.specs.DeadCircuit.{IsDeadCircuit}
-use Rattle.card_sizing.specs.DeadLabels.{label_at, IsTurned, AreDead}
+use Rattle.line_graph.specs.DeadLabels.{IsTurned, AreDead}
 
 walk_exists : (g : Parts) (t u : ℕ) (arcs : List ℕ) → IsWalk g t arcs u → AllByRecursion (λ a. a < arc_count g) arcs
 walk_exists g t u [] walk = tt
@@ -32,11 +32,11 @@ is_turned xs k low least =
     }
 
 -- the labels of the two parts of the stations, one after the other
-pub are_dead : (g : Parts) (arcs : List ℕ) (stations : List ℕ) (k : ℕ) (first second : List (List ℕ)) → IsDeadCircuit g arcs → stations ≡ starting_stations g arcs → k < length stations → All (λ n. get_or stations k 0 ≤ n) stations → first ≡ map (label_at g.labels) (drop k stations) → second ≡ first ++ map (label_at g.labels) (take k stations) → AreDead g second
+pub are_dead : (g : Parts) (arcs : List ℕ) (stations : List ℕ) (k : ℕ) (first second : List (List ℕ)) → IsDeadCircuit g arcs → stations ≡ starting_stations g arcs → k < length stations → All (λ n. get_or stations k 0 ≤ n) stations → first ≡ map (label g) (drop k stations) → second ≡ first ++ map (label g) (take k stations) → AreDead g second
 are_dead g arcs stations k first second dead along low least first_is second_is = record {
   arcs = arcs;
   dead = dead;
   stations = drop k stations ++ take k stations;
   turned = subst (λ v. IsTurned v (drop k stations ++ take k stations)) along (is_turned stations k low least);
-  named = second_is ∙ ap (λ v. v ++ map (label_at g.labels) (take k stations)) first_is ∙ sym (map-append (label_at g.labels) (drop k stations) (take k stations));
+  named = second_is ∙ ap (λ v. v ++ map (label g) (take k stations)) first_is ∙ sym (map-append (label g) (drop k stations) (take k stations));
 }

@@ -1,7 +1,7 @@
 use Rattle.std.proofs.Common.{List, ℕ, ◌++◌, ap, ◌∙◌, map}
 use Rattle.event_graph.specs.Network.{label}
-use Rattle.pull_words.proofs.DeadCircuits.{arcs_exist, are_dead}
-use Rattle.pull_words.proofs.dead.dead_labels.Goals as goal
+use Rattle.line_graph.proofs.DeadCircuits.{arcs_exist, are_dead}
+use Rattle.line_graph.proofs.dead.dead_labels.Goals as goal
 
 pub stations_along-requires : goal.stations_along-requires
 stations_along-requires c = arcs_exist c.args.graph.now c.args.arcs.now c.requires

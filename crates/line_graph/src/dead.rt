@@ -2,18 +2,15 @@ ghost use Rattle.std.specs.Prelude.{◌≡◌, ◌<◌, ◌≤◌, ◌++◌, len
 ghost use Rattle.event_graph.specs.Network.{stations, arc_count, label};
 ghost use Rattle.event_graph.specs.Circuit.{starting_stations};
 ghost use Rattle.live_check.specs.DeadCircuit.{IsDeadCircuit};
-ghost use Rattle.pull_words.specs.DeadLine.{AreDead};
+ghost use Rattle.line_graph.specs.DeadLabels.{AreDead};
 
 use event_graph::Graph;
-use line_base::Items;
+use line_base::{Items, Label};
 use std::alloc::{AllocError, Global};
 
-/// The labels of the stations along a circuit without a token, from the one with the least number on.
-pub fn dead_labels(
-    alloc: Global,
-    graph: &Graph,
-    arcs: &[u32],
-) -> Result<Items<Items<u8>>, AllocError>
+/// The labels of the stations along a circuit without a token, in the order of its arcs, from the station with the least
+/// number on.
+pub fn dead_labels(alloc: Global, graph: &Graph, arcs: &[u32]) -> Result<Items<Label>, AllocError>
     requires { IsDeadCircuit graph.now arcs.now }
     ensures { IfOk result (AreDead graph.now) }
 {
@@ -57,7 +54,7 @@ fn place_of_least(numbers: &[u32]) -> usize
 /// Adds the labels of some stations.
 fn add_labels(
     alloc: Global,
-    labels: &mut Vec<Items<u8>>,
+    labels: &mut Vec<Label>,
     graph: &Graph,
     list: &[u32],
 ) -> Result<(), AllocError>
@@ -65,7 +62,7 @@ fn add_labels(
     ensures { OnOk result (labels.new.items ≡ labels.old.items ++ map (label graph.now) list.now) }
 {
     for t in list {
-        labels.push(Items::from_vec(Vec::from_slice(alloc, graph.label(*t))?))?;
+        labels.push(Label::of(alloc, graph.label(*t))?)?;
     }
     Ok(())
 }

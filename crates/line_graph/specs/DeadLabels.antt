@@ -1,12 +1,9 @@
 -- The stations along a circuit without a token, by their labels.
-use Rattle.std.specs.Prelude.{◌≡◌, ℕ, ◌≤◌, List, [], ◌++◌, take, drop, map, slice_index, slice_index_or, All}
+use Rattle.std.specs.Prelude.{◌≡◌, ℕ, ◌≤◌, List, ◌++◌, take, drop, map, slice_index, All}
 use Rattle.line_base.specs.declared.event.Parts.{Parts}
+use Rattle.event_graph.specs.Network.{label}
 use Rattle.event_graph.specs.Circuit.{starting_stations}
 use Rattle.live_check.specs.DeadCircuit.{IsDeadCircuit}
-
--- the label with this number
-abbrev pub label_at : List (List ℕ) → ℕ → List ℕ
-label_at labels t = slice_index_or labels t []
 
 -- the stations of a circuit, turned round so that the one with the least number is the first
 pub record IsTurned (stations turned : List ℕ) : Type 0 where
@@ -14,10 +11,11 @@ pub record IsTurned (stations turned : List ℕ) : Type 0 where
   pub turned_is : turned ≡ drop at stations ++ take at stations
   pub least_first : All (λ t. slice_index turned 0 ≤ t) turned
 
--- the labels are those of the stations along a circuit of the graph that holds no token, from the one with the least number on
+-- the labels are those of the stations along a circuit of the graph that holds no token, from the one with the least
+-- number on
 pub record AreDead (g : Parts) (labels : List (List ℕ)) : Type 0 where
   pub arcs : List ℕ
   pub dead : IsDeadCircuit g arcs
   pub stations : List ℕ
   pub turned : IsTurned (starting_stations g arcs) stations
-  pub named : labels ≡ map (label_at g.labels) stations
+  pub named : labels ≡ map (label g) stations
