@@ -1,17 +1,10 @@
--- The greatest value of a function on numbers, one number more.
-use Rattle.std.proofs.Common.{◌≡◌, ℕ, ◌+◌, max, Bool, true, false, cond, List, [], ◌∷◌, ◌++◌, ap, ◌∙◌, arith}
+-- The greatest value of a function on the numbers that pass a test, one number more.
+use Rattle.std.proofs.Common.{◌≡◌, ℕ, ◌+◌, max, Bool, true, false, cond, [], ◌∷◌, ◌++◌, ap, ◌∙◌}
 use Rattle.std.specs.List.{filter, range_with_len}
 use Rattle.std.proofs.lemmas.List.{append-nil}
 use Rattle.event_graph.specs.Firing.{greatest}
-use Rattle.plant_model.proofs.RowLists.{range-more, filter-range_more}
-
-greatest-push : (f : ℕ → ℕ) (xs : List ℕ) (y : ℕ) → greatest f (xs ++ y ∷ []) ≡ max (greatest f xs) (f y)
-unfolding greatest
-greatest-push f [] y = omega arith
-greatest-push f (x ∷ xs) y = let rest = greatest-push f xs y in omega arith
-
-pub greatest-range : (f : ℕ → ℕ) (n : ℕ) → greatest f (range_with_len 0 (n + 1)) ≡ max (greatest f (range_with_len 0 n)) (f n)
-greatest-range f n = ap (greatest f) (range-more n) ∙ greatest-push f (range_with_len 0 n) n
+use Rattle.event_graph.proofs.Greatest.{greatest-push}
+use Rattle.event_graph.proofs.Ranges.{filter-range_more}
 
 -- one number more, which passes the test, or doesn't
 pub greatest-passing : (f : ℕ → ℕ) (test : ℕ → Bool) (n : ℕ) → test n ≡ true → greatest f (filter test (range_with_len 0 (n + 1))) ≡ max (greatest f (filter test (range_with_len 0 n))) (f n)

@@ -152,21 +152,20 @@ module _ (p : Plant) (c : ℕ) (sound : IsSound p) where
       let head = both-nil _ _ top.first (both-nil _ _ (line-in_range p.policy c few) (both-nil _ _ top.third (both-nil _ _ top.fourth (both-nil _ _ top.fifth (empty-kept _ f p.stages top.sixth))))) in
       both-nil _ _ head (both-nil _ _ stages loops)
 
-  feeds-sized : all_feeds_not_later (sized p c) ≡ []
+  -- what is refused of a stage by the number of stages and by what the count leaves
+  each-sized : (refused : ℕ → ℕ → Stage → List PlantError) → ((n i : ℕ) (s : Stage) → refused n i s ≡ [] → refused n i (stage_with p.policy c s) ≡ []) → each (refused (length p.stages)) p.stages ≡ [] → each (refused (length (sized p c).stages)) (sized p c).stages ≡ []
   unfolding sized
-  feeds-sized =
+  each-sized refused kept none =
       let f = stage_with p.policy c in
       let n = length p.stages in
-      let all = each_from-kept (feeds_not_later n) (feeds_not_later n) f 0 p.stages (λ i s none. none) parts.later in
-      subst (λ (m : ℕ). each (feeds_not_later m) (map f p.stages) ≡ []) (sym (length-map p.stages f)) all
+      subst (λ (m : ℕ). each (refused m) (map f p.stages) ≡ []) (sym (length-map p.stages f)) (
+      each_from-kept (refused n) (refused n) f 0 p.stages (kept n) none)
+
+  feeds-sized : all_feeds_not_later (sized p c) ≡ []
+  feeds-sized = each-sized feeds_not_later (λ n i s none. none) parts.later
 
   finals-sized : second_finals (sized p c) ≡ []
-  unfolding sized
-  finals-sized =
-      let f = stage_with p.policy c in
-      let n = length p.stages in
-      let all = each_from-kept (second_final n) (second_final n) f 0 p.stages (λ i s none. none) parts.one_final in
-      subst (λ (m : ℕ). each (second_final m) (map f p.stages) ≡ []) (sym (length-map p.stages f)) all
+  finals-sized = each-sized second_final (λ n i s none. none) parts.one_final
 
   times-sized : times_counts (sized p c) ≡ []
   unfolding sized

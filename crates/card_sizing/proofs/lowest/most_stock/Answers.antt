@@ -2,9 +2,9 @@ use Rattle.std.proofs.Common.{◌≡◌, ℕ, ◌+◌, refl, ap, ◌∙◌, arit
 use Rattle.std.specs.List.{range_with_len}
 use Rattle.std.proofs.lemmas.List.{get_or_default}
 use Rattle.event_graph.specs.Firing.{greatest}
+use Rattle.event_graph.proofs.Greatest.{greatest-range}
 use Rattle.plant_model.specs.declared.plant.Stage.{Stage}
 use Rattle.plant_model.specs.Line.{no_stage, stage_at}
-use Rattle.card_sizing.proofs.Most.{greatest-range}
 use Rattle.card_sizing.proofs.lowest.most_stock.Goals as goal
 
 pub loop-stage-init : goal.loop-stage-init
