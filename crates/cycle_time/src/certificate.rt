@@ -1,4 +1,8 @@
+ghost use Rattle.std.specs.Prelude.{◌≡◌};
+ghost use Rattle.cycle_time.specs.declared.certificate.CycleError.TheVariants.{NoMemory};
+
 use line_base::Items;
+use std::alloc::AllocError;
 use std::error::Error;
 use std::fmt;
 
@@ -37,3 +41,11 @@ impl fmt::Display for CycleError {
 }
 
 impl Error for CycleError {}
+
+impl From<AllocError> for CycleError {
+    ghost from_gives = { λ _ e. e ≡ NoMemory };
+
+    fn from(_error: AllocError) -> Self {
+        CycleError::NoMemory
+    }
+}

@@ -103,8 +103,5 @@ pub fn cycle(alloc: Global, live: &Live) -> Result<Certificate, CycleError>
     if let Some(station) = first_varying(live.graph()) {
         return Err(CycleError::Varying { station });
     }
-    match certificate_of(alloc, live) {
-        Ok(certificate) => Ok(certificate),
-        Err(_) => Err(CycleError::NoMemory),
-    }
+    Ok(certificate_of(alloc, live)?)
 }

@@ -33,6 +33,7 @@ impl Model for Weights {
 }
 
 /// What arc `a` adds to a walk.
+#[tactic(auto, unfolding(crate::specs::Search::gain))]
 fn gain_of(graph: &Graph, weighing: Weighing, a: u32) -> u64
     requires exists { a < arc_count graph.now }
     requires modest { IsModest weighing }
@@ -45,6 +46,7 @@ fn gain_of(graph: &Graph, weighing: Weighing, a: u32) -> u64
 }
 
 /// What arc `a` takes away from a walk.
+#[tactic(auto, unfolding(crate::specs::Search::loss))]
 fn loss_of(graph: &Graph, weighing: Weighing, a: u32) -> u64
     requires exists { a < arc_count graph.now }
     requires modest { IsModest weighing }

@@ -1,3 +1,4 @@
+use std::alloc::AllocError;
 use std::error::Error;
 use std::fmt;
 
@@ -55,6 +56,17 @@ impl fmt::Display for ReplayError {
 }
 
 impl Error for ReplayError {}
+
+impl From<AllocError> for ReplayError {
+    ghost use Rattle.std.specs.Prelude.{◌≡◌};
+    ghost use Rattle.line_core.specs.declared.error.ReplayError.TheVariants.{NoMemory};
+
+    ghost from_gives = { λ _ e. e ≡ NoMemory };
+
+    fn from(_error: AllocError) -> Self {
+        ReplayError::NoMemory
+    }
+}
 
 /// Why logs and places are no state that firings reach: the first thing that is wrong with them. Stations and arcs are
 /// counted from 0, jobs and tokens from 1, dates are in the plant's unit. Each kind is tried whole before the next, by
@@ -121,3 +133,14 @@ impl fmt::Display for StateError {
 }
 
 impl Error for StateError {}
+
+impl From<AllocError> for StateError {
+    ghost use Rattle.std.specs.Prelude.{◌≡◌};
+    ghost use Rattle.line_core.specs.declared.error.StateError.TheVariants.{NoMemory};
+
+    ghost from_gives = { λ _ e. e ≡ NoMemory };
+
+    fn from(_error: AllocError) -> Self {
+        StateError::NoMemory
+    }
+}

@@ -121,9 +121,7 @@ pub fn replay(alloc: Global, live: &Live, schedule: &[u8]) -> Result<State, Repl
     ensures reached { IfOk result IsReached }
     ensures refused { IfErr result (IsRefusal live.now.graph schedule.now) }
 {
-    let Ok(mut state) = State::start(alloc, live) else {
-        return Err(ReplayError::NoMemory);
-    };
+    let mut state = State::start(alloc, live)?;
     follow_lines(&mut state, live, schedule)?;
     ended(state, live)
 }

@@ -218,10 +218,8 @@ impl State {
         ensures exact { IsReachedExactly live.now.graph (dates_of logs) (dates_of places) }
     {
         check_parts(live.graph(), &logs, &places)?;
-        match with_room(alloc, &logs, live.graph().jobs()) {
-            Ok(logs) => Ok(State::of_reached(alloc, live, logs)),
-            Err(_) => Err(StateError::NoMemory),
-        }
+        let logs = with_room(alloc, &logs, live.graph().jobs())?;
+        Ok(State::of_reached(alloc, live, logs))
     }
 
     /// The state with these logs, which have the room of all later firings, and these places, as `of_parts` answers it.

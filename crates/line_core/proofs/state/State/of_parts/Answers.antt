@@ -22,21 +22,21 @@ of_reached-requires-clause-reached c =
     let none = ap (λ (h : Parts). state_refusals h (dates_of c.args.logs) (dates_of c.args.places)) (sym c.graph.ensures.graph) ∙ c.in_ok-check_parts.ensures in
     subst
     (λ l. Reached g (state_of g l))
-    (sym c.in-Ok.ensures.dates)
+    (sym c.in_ok-logs.ensures.dates)
     (reached_logs c.args.live.now c.graph.ensures.ranked c.args.logs c.args.places c.requires.parts none)
 
-pub returns-in-Ok-clause-state : goal.returns-in-Ok-clause-state
-returns-in-Ok-clause-state c =
+pub returns-clause-state : goal.returns-clause-state
+returns-clause-state c =
     let g = c.args.live.now.graph in
     let none = ap (λ (h : Parts). state_refusals h (dates_of c.args.logs) (dates_of c.args.places)) (sym c.graph.ensures.graph) ∙ c.in_ok-check_parts.ensures in
     c.of_reached.ensures.state
-    ∙ ap (λ l. record { graph = g; state = state_of g l }) c.in-Ok.ensures.dates
+    ∙ ap (λ l. record { graph = g; state = state_of g l }) c.in_ok-logs.ensures.dates
     ∙ sym (run-with c.args.live.now c.graph.ensures.ranked c.args.logs c.args.places c.requires.parts none)
-
-pub returns-in-Ok-clause-exact : goal.returns-in-Ok-clause-exact
-returns-in-Ok-clause-exact c =
-    reached_exactly c.args.live.now c.graph.ensures.ranked c.args.logs c.args.places c.requires.parts
 
 pub returns-clause-exact : goal.returns-clause-exact
 returns-clause-exact c =
+    reached_exactly c.args.live.now c.graph.ensures.ranked c.args.logs c.args.places c.requires.parts
+
+pub returns-in_err-logs-clause-exact : goal.returns-in_err-logs-clause-exact
+returns-in_err-logs-clause-exact c =
     reached_exactly c.args.live.now c.graph.ensures.ranked c.args.logs c.args.places c.requires.parts
