@@ -3,7 +3,7 @@ use Rattle.std.proofs.Common.{◌≡◌, ℕ, ◌+◌, max, Bool, true, false, c
 use Rattle.std.specs.List.{filter, range_with_len}
 use Rattle.std.proofs.lemmas.List.{append-nil}
 use Rattle.event_graph.specs.Firing.{greatest}
-use Rattle.event_graph.proofs.Greatest.{greatest-push}
+use Rattle.event_graph.proofs.Greatest.{greatest-push, greatest-range}
 use Rattle.event_graph.proofs.Ranges.{filter-range_more}
 
 -- one number more, which passes the test, or doesn't
@@ -15,3 +15,6 @@ greatest-passing f test n passes =
 pub greatest-failing : (f : ℕ → ℕ) (test : ℕ → Bool) (n : ℕ) → test n ≡ false → greatest f (filter test (range_with_len 0 (n + 1))) ≡ greatest f (filter test (range_with_len 0 n))
 greatest-failing f test n fails =
     ap (greatest f) (filter-range_more test n ∙ ap (λ b. filter test (range_with_len 0 n) ++ cond b (n ∷ []) []) fails ∙ append-nil (filter test (range_with_len 0 n)))
+
+-- for loops that keep the greatest value so far
+pub ruleset greatest_more = (greatest-range, greatest-passing, greatest-failing)

@@ -32,6 +32,7 @@ pub fn lowest_count(alloc: Global, plant: &Plant) -> Result<u32, AllocError>
 }
 
 /// The most stock of a stage.
+#[tactic(auto, using(crate::proofs::Most::greatest_more), unfolding(event_graph::specs::Firing::greatest))]
 fn most_stock(plant: &Plant) -> u32
     ensures { result ≡ most_stock plant.now }
 {
@@ -43,6 +44,7 @@ fn most_stock(plant: &Plant) -> u32
 }
 
 /// The most stock on the path of a first stage.
+#[tactic(auto, using(crate::proofs::Most::greatest_more), unfolding(event_graph::specs::Firing::greatest))]
 fn most_path_stock(layout: &Layout) -> u32
     requires { IsSound layout.now }
     ensures { result ≡ most_path_stock layout.now }

@@ -5,7 +5,7 @@ use Rattle.line_base.specs.declared.limits.TheConstants.{MAX_CARDS, MAX_TIME}
 use Rattle.plant_model.specs.declared.plant.CardLoop.{CardLoop}
 use Rattle.plant_model.specs.declared.plant.Plant.{Plant}
 use Rattle.plant_model.specs.Line.{stage_at, machine_station, station_count, receiver, starting}
-use Rattle.plant_model.specs.Graph.{Row, worked, plain, onward, card_row, demand_row, line_card_row, loop_row, rows}
+use Rattle.plant_model.specs.Graph.{Row, worked, plain, onward, card_row, demand_row, line_card_row, loop_row, feed_row, rows}
 use Rattle.plant_model.specs.Sound.{IsSound}
 use Rattle.std.specs.List.{All}
 use Rattle.plant_model.proofs.SoundPlants.{HasSoundSizes-sound, IsSoundStage-sound, IsSoundMachine-sound, IsSoundLoop-sound}
@@ -21,6 +21,9 @@ pub record IsSmallRow (p : Plant) (r : Row) : Type 0 where
   pub short_delay : r.delay ≤ MAX_TIME
 
 module _ (p : Plant) (sound : IsSound p) where
+  small_row : (r : Row) → r.arc.from < station_count p → r.arc.to < station_count p → 1 ≤ r.arc.to → r.arc.tokens ≤ MAX_CARDS → r.delay ≤ MAX_TIME → IsSmallRow p r
+  small_row r from to no_feed few_tokens short_delay = record { from = from; to = to; no_feed = no_feed; few_tokens = few_tokens; short_delay = short_delay }
+
   card_row-small : (free i : ℕ) → i < length p.stages → free ≤ MAX_CARDS → IsSmallRow p (card_row p free i)
   card_row-small free i below few =
       let stage = IsSoundStage-sound p i sound below in
@@ -94,27 +97,9 @@ module _ (p : Plant) (sound : IsSound p) where
       let some = (IsSoundStage-sound p i sound below).some_machine in
       let last = last_machine-below p i below in
       record {
-        entry = record {
-          from = omega arith;
-          to = omega arith;
-          no_feed = omega arith;
-          few_tokens = omega arith;
-          short_delay = omega arith;
-        };
-        servers = λ j inside. record {
-          from = omega arith;
-          to = omega arith;
-          no_feed = omega arith;
-          few_tokens = (IsSoundMachine-sound p i j sound below inside).few_servers;
-          short_delay = omega arith;
-        };
-        order = λ j inside. record {
-          from = omega arith;
-          to = omega arith;
-          no_feed = omega arith;
-          few_tokens = omega arith;
-          short_delay = omega arith;
-        };
+        entry = small_row _ (omega arith) (omega arith) (omega arith) (omega arith) (omega arith);
+        servers = λ j inside. small_row _ (omega arith) (omega arith) (omega arith) (IsSoundMachine-sound p i j sound below inside).few_servers (omega arith);
+        order = λ j inside. small_row _ (omega arith) (omega arith) (omega arith) (omega arith) (omega arith);
         onward = λ j inside. onward-small i j below inside;
       }
 
@@ -133,13 +118,7 @@ module _ (p : Plant) (sound : IsSound p) where
   rows-small =
       All-rows (IsSmallRow p) p (record {
         stages = stage_rows-small;
-        feed = record {
-          from = omega arith;
-          to = omega arith;
-          no_feed = omega arith;
-          few_tokens = omega arith;
-          short_delay = omega arith;
-        };
+        feed = small_row (feed_row p) (omega arith) (omega arith) (omega arith) (omega arith) (omega arith);
         policy = policy_rows-small;
         loops = loop_row-small;
       })
