@@ -2,7 +2,7 @@
 use Rattle.std.specs.Prelude.{◌≡◌, ℕ, List, [], ◌∷◌, None, Some, codes, refl}
 use Rattle.std.specs.Fmt.{digits}
 use Rattle.line_base.specs.declared.times.Times.TheVariants.{Fixed}
-use Rattle.plant_model.specs.declared.plant.Machine.{Machine}
+use Rattle.plant_model.specs.Stages.{Machine, one_server}
 use Rattle.big_plant.specs.Generator.{next_state, state_after, draw}
 use Rattle.big_plant.specs.Big.{stage_of, stage_from, machines_from, date_from, dates_from}
 
@@ -12,7 +12,7 @@ first_draw = refl
 
 -- a machine with a time for every job
 abbrev machine : List ℕ → ℕ → ℕ → Machine
-machine name servers time = record { name = name; servers = servers; times = Fixed time }
+machine name servers time = record (one_server name (Fixed time)) { servers = servers }
 
 -- of the draws 1059165278, 2052263231, 1946856753, 585718673, 572045545, 297257219, 865189864, 691615764
 first_stage :

@@ -1,7 +1,7 @@
 -- The machines of a stage, one stage more, one date more.
 use Rattle.std.proofs.Common.{◌≡◌, ℕ, zero, suc, ◌+◌, ◌*◌, ◌≤◌, [], ◌∷◌, ◌++◌, codes, refl, sym, ap, ◌∙◌, arith}
 use Rattle.std.proofs.lemmas.List.FromFn.{map-range_with_len_more}
-use Rattle.plant_model.specs.declared.plant.Machine.{Machine}
+use Rattle.plant_model.specs.Stages.{Machine}
 use Rattle.big_plant.specs.Generator.{state_after, draw_below}
 use Rattle.big_plant.specs.Big.{machine_from, machines_from, stage_from, stage_of, stages_of, date_from, dates_from}
 use Rattle.big_plant.proofs.Draws.{state_after-add, draw_below-after, draw_below-lt}

@@ -8,7 +8,7 @@ use Rattle.std.proofs.lemmas.List.FromFn.{length-range_with_len, get_or-range_wi
 use Rattle.line_base.specs.declared.event.Arc.{Arc}
 use Rattle.plant_model.specs.declared.plant.Policy.{Policy}
 use Rattle.plant_model.specs.declared.plant.Policy.TheVariants.{Extended}
-use Rattle.plant_model.specs.declared.plant.Stage.{Stage}
+use Rattle.plant_model.specs.Stages.{Stage}
 use Rattle.plant_model.specs.declared.plant.Plant.{Plant}
 use Rattle.plant_model.specs.Line.{no_stage, no_machine, stage_at, machine_at, machine_station, receiver, starting, stock_under}
 use Rattle.plant_model.specs.Graph.{Row, worked, plain, onward, feed_row, rows, graph}

@@ -6,14 +6,13 @@ use Rattle.std.specs.Prelude.{ℕ, zero, suc, ◌+◌, ◌*◌, ◌==◌, if◌t
 use Rattle.std.specs.List.{range_with_len}
 use Rattle.line_base.specs.declared.times.Times.TheVariants.{Fixed}
 use Rattle.plant_model.specs.declared.plant.Policy.TheVariants.{Extended}
-use Rattle.plant_model.specs.declared.plant.Machine.{Machine}
-use Rattle.plant_model.specs.declared.plant.Stage.{Stage}
+use Rattle.plant_model.specs.Stages.{Machine, Stage, one_server}
 use Rattle.plant_model.specs.declared.plant.Plant.{Plant}
 use Rattle.big_plant.specs.Generator.{state_after, draw_below}
 
 -- the machine with this name, of two draws from state s
 abbrev pub machine_from : ℕ → List ℕ → Machine
-machine_from s name = record { name = name; servers = 1 + draw_below s 1 3; times = Fixed (1 + draw_below s 2 20) }
+machine_from s name = record (one_server name (Fixed (1 + draw_below s 2 20))) { servers = 1 + draw_below s 1 3 }
 
 -- the machines `a`, `b` and `c`, of two draws each from state s
 unfoldable pub machines_from : ℕ → List Machine

@@ -109,9 +109,8 @@ fn drawn_machine(
     let servers = 1 + generator.draw_below(3);
     let time = 1 + u64::from(generator.draw_below(20));
     Ok(Machine {
-        name: name_of(alloc, name)?,
         servers,
-        times: Times::Fixed(time),
+        ..Machine::of(name_of(alloc, name)?, Times::Fixed(time))
     })
 }
 

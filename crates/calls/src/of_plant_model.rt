@@ -59,11 +59,8 @@ fn plant_of(alloc: Global, parts: &Parts) -> Result<Plant, Fail> {
 
 /// A stage with this name, which feeds this one.
 fn stage_of(alloc: Global, parts: &Parts, name: &[u8], feeds: Option<u32>) -> Result<Stage, Fail> {
-    let machine = Machine {
-        name: Name::of(alloc, b"m")?,
-        servers: 1,
-        times: Times::Each(Items::from_vec(Vec::from_slice(alloc, parts.times)?)),
-    };
+    let times = Times::Each(Items::from_vec(Vec::from_slice(alloc, parts.times)?));
+    let machine = Machine::of(Name::of(alloc, b"m")?, times);
     Ok(Stage {
         name: Name::of(alloc, name)?,
         feeds,

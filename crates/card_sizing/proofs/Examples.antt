@@ -3,7 +3,7 @@ use Rattle.std.specs.Prelude.{◌≡◌, ℕ, true, false, List, [], ◌∷◌, 
 use Rattle.line_base.specs.declared.times.Times.TheVariants.{Fixed}
 use Rattle.plant_model.specs.declared.plant.Policy.{Policy}
 use Rattle.plant_model.specs.declared.plant.Policy.TheVariants.{Kanban, Conwip, BaseStock, Extended}
-use Rattle.plant_model.specs.declared.plant.Stage.{Stage}
+use Rattle.plant_model.specs.Stages.{Stage, one_server}
 use Rattle.plant_model.specs.declared.plant.CardLoop.{CardLoop}
 use Rattle.plant_model.specs.declared.plant.Plant.{Plant}
 use Rattle.event_graph.specs.Firing.{greatest}
@@ -21,7 +21,7 @@ stage name to cards stock time =
       stock = stock;
       travel = 0;
       card_time = 0;
-      machines = record { name = codes "m"; servers = 1; times = Fixed time } ∷ [];
+      machines = one_server (codes "m") (Fixed time) ∷ [];
     }
 
 -- `left` and `right` feed `top`, with these cards and this stock at each

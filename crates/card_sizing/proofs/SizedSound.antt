@@ -9,10 +9,10 @@ use Rattle.line_base.specs.declared.limits.TheConstants.{MAX_STAGES, MAX_STATION
 use Rattle.plant_model.specs.declared.error.PlantError.{PlantError}
 use Rattle.plant_model.specs.declared.plant.Policy.{Policy}
 use Rattle.plant_model.specs.declared.plant.Policy.TheVariants.{Kanban, Conwip, BaseStock, Extended}
-use Rattle.plant_model.specs.declared.plant.Stage.{Stage}
+use Rattle.plant_model.specs.Stages.{Stage}
 use Rattle.plant_model.specs.declared.plant.CardLoop.{CardLoop}
 use Rattle.plant_model.specs.declared.plant.Plant.{Plant}
-use Rattle.plant_model.specs.declared.place.Table.TheVariants.{InStage, InLoop}
+use Rattle.plant_model.specs.declared.place.FileTable.TheVariants.{InStage, InLoop}
 use Rattle.plant_model.specs.Place.{key_of}
 use Rattle.plant_model.specs.Line.{no_stage, stage_at, stage_numbers, station_count, stock_under, starting, feeds, is_first, first_stages, path, up_to, is_downstream, path_stock, stock_between}
 use Rattle.plant_model.specs.Refusals.{refuse_if, each_from, each, bad_name, bad_names, stage_name_twice, names_twice, machine_name_twice, above, empty, element_above, cards_out_of_range, top_out_of_range, stage_out_of_range, machine_out_of_range, out_of_range, feeds_not_later, all_feeds_not_later, second_final, second_finals, stage_times_count, times_counts, demand_order, too_few, too_few_in_line, too_few_in_stage, too_few_under, is_loop, too_few_in_loop, too_few_cards, not_downstream, loops_not_downstream, larger, too_large, parts_refusals, whole_refusals, refusals}

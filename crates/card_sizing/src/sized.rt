@@ -3,7 +3,7 @@ ghost use Rattle.std.specs.Prelude.{◌≡◌, ◌≤◌, map, IfOk};
 ghost use Rattle.plant_model.specs.declared.plant.Plant.{Plant};
 ghost use Rattle.card_sizing.specs.Sized.{policy_with, cards_under, stage_with, sized};
 
-use line_base::{Items, Name, NameError, Times};
+use line_base::Items;
 use plant_model::{CardLoop, Machine, Plant, Policy, Stage};
 use std::alloc::{AllocError, Global};
 
@@ -18,8 +18,8 @@ pub fn sized_plant(alloc: Global, plant: &Plant, count: u32) -> Result<Plant, Al
         stages: copy_of_stages(alloc, plant.policy, plant.stages.as_slice(), count)?,
         loops: copy_of_loops(alloc, plant.loops.as_slice())?,
         card_time: plant.card_time,
-        demands: copy_of_numbers(alloc, &plant.demands)?,
-        observe: copy_of_numbers(alloc, &plant.observe)?,
+        demands: plant.demands.copy(alloc)?,
+        observe: plant.observe.copy(alloc)?,
     })
 }
 
@@ -69,7 +69,7 @@ fn copy_of_stage(
     ensures { IfOk result (λ copy. copy ≡ stage_with policy count stage.now) }
 {
     Ok(Stage {
-        name: copy_of_name(alloc, &stage.name)?,
+        name: stage.name.copy(alloc)?,
         feeds: stage.feeds,
         cards: cards_under(policy, count, stage.cards),
         stock: stage.stock,
@@ -85,41 +85,9 @@ fn copy_of_machines(alloc: Global, machines: &[Machine]) -> Result<Items<Machine
 {
     let mut copy = Vec::with_capacity(alloc, machines.len())?;
     for machine in machines {
-        copy.push(copy_of_machine(alloc, machine)?)?;
+        copy.push(machine.copy(alloc)?)?;
     }
     Ok(Items::from_vec(copy))
-}
-
-/// A copy of a machine.
-fn copy_of_machine(alloc: Global, machine: &Machine) -> Result<Machine, AllocError>
-    ensures { IfOk result (λ copy. copy ≡ machine.now) }
-{
-    Ok(Machine {
-        name: copy_of_name(alloc, &machine.name)?,
-        servers: machine.servers,
-        times: copy_of_times(alloc, &machine.times)?,
-    })
-}
-
-/// A copy of job times.
-fn copy_of_times(alloc: Global, times: &Times) -> Result<Times, AllocError>
-    ensures { IfOk result (λ copy. copy ≡ times.now) }
-{
-    match times {
-        Times::Fixed(time) => Ok(Times::Fixed(*time)),
-        Times::Each(each) => Ok(Times::Each(copy_of_numbers(alloc, each)?)),
-    }
-}
-
-/// A copy of a name.
-fn copy_of_name(alloc: Global, name: &Name) -> Result<Name, AllocError>
-    ensures { IfOk result (λ copy. copy ≡ name.now) }
-{
-    match Name::of(alloc, name.text()) {
-        Ok(copy) => Ok(copy),
-        Err(NameError::NoMemory) => Err(AllocError),
-        Err(NameError::BadName) => unreachable!(),
-    }
 }
 
 /// A copy of the loops.
@@ -136,11 +104,4 @@ fn copy_of_loops(alloc: Global, loops: &[CardLoop]) -> Result<Items<CardLoop>, A
         })?;
     }
     Ok(Items::from_vec(copy))
-}
-
-/// A copy of dates or times.
-fn copy_of_numbers(alloc: Global, numbers: &Items<u64>) -> Result<Items<u64>, AllocError>
-    ensures { IfOk result (λ copy. copy ≡ numbers.now) }
-{
-    Ok(Items::from_vec(Vec::from_slice(alloc, numbers.as_slice())?))
 }

@@ -2,7 +2,7 @@
 -- the policy's, the loops'.
 use Rattle.std.specs.Prelude.{ℕ, ◌+◌, ◌*◌, List, length, take, map, sum_by, count_by}
 use Rattle.std.specs.List.{range_with_len, flat_map}
-use Rattle.plant_model.specs.declared.plant.Stage.{Stage}
+use Rattle.plant_model.specs.Stages.{Stage}
 use Rattle.plant_model.specs.declared.plant.Plant.{Plant}
 use Rattle.plant_model.specs.Line.{stage_at, is_first, path, up_to}
 use Rattle.plant_model.specs.Graph.{policy_rows}

@@ -17,7 +17,7 @@ use Rattle.std.proofs.lemmas.List.Sums.{count_by-le-length, length-filter}
 use Rattle.std.proofs.Math.Seq.{drop-append_seam, take-append_seam}
 use Rattle.demand_feed.proofs.Reading.{length-strip_bom}
 use Rattle.demand_feed.specs.Records.{Record, records_of}
-use Rattle.demand_feed.specs.Rows.{HoldsRows, Placed, Reading, field_in, first_bad, is_header, jobs, lacks_number, number_at, numbers_of, rows_of, unless_bad}
+use Rattle.demand_feed.specs.Rows.{HoldsRows, Placed, Held, field_in, first_bad, is_header, jobs, lacks_number, number_at, numbers_of, rows_of, unless_bad}
 use Rattle.demand_feed.specs.Field.{decimal_up_to, is_decimal, number_in, without_blanks}
 use Rattle.demand_feed.specs.JobTimes.{cut_rows}
 
@@ -103,7 +103,7 @@ pub Accepted-held : (used : List ℕ) (most : ℕ) (records : List Record) (numb
     → HoldsRows (rows_of used most records) numbers count → Accepted used most records numbers count
 Accepted-held used most records numbers count held = by (rows_of used most records) refl held
   where
-    by : (read : Reading (List (List ℕ))) → rows_of used most records ≡ read → HoldsRows read numbers count → Accepted used most records numbers count
+    by : (read : Held (List (List ℕ))) → rows_of used most records ≡ read → HoldsRows read numbers count → Accepted used most records numbers count
     by (Ok rows) e h =
         let good = rows_of-rows used most records rows e in
         record { rows = rows; told = e; good = good.0; few = omega (arith, h.1, good.1); joined = h.0; counted = h.1 }

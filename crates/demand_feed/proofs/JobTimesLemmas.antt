@@ -1,10 +1,10 @@
 -- Where a number of a table stands among the numbers row after row.
-use Rattle.std.proofs.Common.{◌≡◌, ◌∙◌, ◌≤◌, ◌<◌, ◌+◌, ◌-◌, ◌*◌, ℕ, zero, suc, List, Result, Ok, Err, eqb, map, length, drop, get_or, refl, sym, ap, inl, inr, arith}
+use Rattle.std.proofs.Common.{◌≡◌, ◌∙◌, ◌≤◌, ◌<◌, ◌+◌, ◌-◌, ◌*◌, ℕ, zero, suc, List, Result, Ok, Err, eqb, map, length, drop, take, ◌++◌, [], ◌∷◌, get_or, refl, sym, ap, inl, inr, arith}
 use Rattle.std.specs.List.{All, AllByRecursion, Contains, concat, position_or_len}
 use Rattle.std.specs.List.Sorted.{IsBinarySearchResult, IsStrictlyIncreasing}
 use Rattle.std.specs.Ordering.{nat_cmp}
 use Rattle.std.proofs.lemmas.Bool.{cases_lt, eq-eqb, ne_eqb}
-use Rattle.std.proofs.lemmas.List.{get_or-drop, get_or-take, get_or_default}
+use Rattle.std.proofs.lemmas.List.{get_or-drop, get_or-take, get_or_default, length-map, take_more, take_all}
 use Rattle.std.proofs.lemmas.List.Elements.{All-nil, All-cons, All-take, All-drop}
 use Rattle.std.proofs.lemmas.List.Kept.{AllPairs-from_increasing}
 use Rattle.std.proofs.lemmas.List.Sorted.{searched}
@@ -14,7 +14,7 @@ use Rattle.demand_feed.specs.Records.{records_of}
 use Rattle.demand_feed.specs.Rows.{HoldsRows, rows_of}
 use Rattle.demand_feed.specs.Times.{times_of, under_columns}
 use Rattle.demand_feed.proofs.GoodRows.{Accepted-held, All-concat-rows, IsRow, cut_rows-concat, length-concat-rows}
-use Rattle.demand_feed.specs.JobTimes.{IsFilled, JobTimes, cut_rows, field_of, number_for, job_times}
+use Rattle.demand_feed.specs.JobTimes.{IsFilled, JobTimes, cut_rows, field_of, number_for, numbers_in, job_times}
 
 pub length-cut_rows : (width count : ℕ) (numbers : List ℕ) → length (cut_rows width count numbers) ≡ count
 unfolding cut_rows
@@ -98,6 +98,34 @@ pub field_of-place : (table : JobTimes) (columns : List ℕ) (jobs : ℕ) (times
 field_of-place table columns jobs times job shown place column seen kept exists same inside found =
     let count : length table.rows ≡ jobs = rw (← seen) (length-cut_rows (length columns) jobs times) in
     rw (same, ← seen) (sym (numbers_in-cut_rows columns column jobs times (job - 1) place (omega (arith, exists)) (rw same at inside) (sym (rw same at found))))
+
+-- a column has a time for each job
+length-numbers_in : (table : JobTimes) (columns : List ℕ) (jobs : ℕ) (times : List ℕ) (column : ℕ) → job_times columns jobs times ≡ table → length (numbers_in table column) ≡ jobs
+length-numbers_in table columns jobs times column seen =
+    rw (← seen) (length-map (cut_rows (length columns) jobs times) (number_for columns column) ∙ length-cut_rows (length columns) jobs times)
+
+-- the times of all jobs are the column's
+pub numbers_in-all : (table : JobTimes) (columns : List ℕ) (jobs : ℕ) (times : List ℕ) (job column : ℕ) → job_times columns jobs times ≡ table
+    → jobs ≤ job → take job (numbers_in table column) ≡ numbers_in table column
+numbers_in-all table columns jobs times job column seen past =
+    take_all job (numbers_in table column) (omega (arith, length-numbers_in table columns jobs times column seen))
+
+-- the place of one more job is one among all times; `shown` are the table's columns
+pub place-within-column : (columns : List ℕ) (jobs : ℕ) (times : List ℕ) (job : ℕ) (shown : List ℕ) (place : ℕ) → IsFilled columns jobs times
+    → job < jobs → shown ≡ columns → place < length shown → job * length shown + place < length times
+place-within-column columns jobs times job shown place kept below same inside =
+    rw (same, kept.filled) (place-within jobs (length columns) job place below (rw same at inside))
+
+-- one more time of a column
+pub numbers_in-more : (table : JobTimes) (columns : List ℕ) (jobs : ℕ) (times : List ℕ) (job : ℕ) (shown : List ℕ) (place column : ℕ)
+    → job_times columns jobs times ≡ table → job < jobs → shown ≡ columns → place < length shown → place ≡ position_or_len (λ other. eqb other column) shown
+    → take (job + 1) (numbers_in table column) ≡ take job (numbers_in table column) ++ get_or times (job * length shown + place) 0 ∷ []
+numbers_in-more table columns jobs times job shown place column seen below same inside found =
+    let count = length-numbers_in table columns jobs times column seen in
+    let here : get_or (numbers_in table column) job 0 ≡ get_or times (job * length shown + place) 0 =
+    rw (same, ← seen) (numbers_in-cut_rows columns column jobs times job place below (rw same at inside) (sym (rw same at found))) in
+    take_more (numbers_in table column) job 0 (omega (arith, count))
+    ∙ ap (λ (time : ℕ). take job (numbers_in table column) ++ time ∷ []) here
 
 -- good rows, joined, make a table
 IsFilled-rows : (columns kept numbers : List ℕ) (jobs : ℕ) (rows : List (List ℕ)) → kept ≡ columns → IsStrictlyIncreasing columns

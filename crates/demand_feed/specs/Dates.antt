@@ -3,18 +3,18 @@ use Rattle.std.specs.Prelude.{ℕ, List, [], ◌∷◌, Ok, Err}
 use Rattle.std.specs.List.{concat}
 use Rattle.line_base.specs.Limits.{last_demand}
 use Rattle.demand_feed.specs.Records.{records_of}
-use Rattle.demand_feed.specs.Rows.{Reading, rows_of}
+use Rattle.demand_feed.specs.Rows.{Held, rows_of}
 
 -- the used column of a demand file: the first
 abbrev pub date_column : List ℕ
 date_column = 1 ∷ []
 
 -- the rows joined, which have one date each; a file without a date is refused with the number 0
-abbrev pub joined_dates : Reading (List (List ℕ)) → Reading (List ℕ)
+abbrev pub joined_dates : Held (List (List ℕ)) → Held (List ℕ)
 joined_dates (Ok []) = Err 0
 joined_dates (Ok (row ∷ rows)) = Ok (concat (row ∷ rows))
 joined_dates (Err place) = Err place
 
 -- the dates of a demand file in its order, or the number of its first bad record
-abbrev pub dates_of : List ℕ → Reading (List ℕ)
+abbrev pub dates_of : List ℕ → Held (List ℕ)
 dates_of file = joined_dates (rows_of date_column last_demand (records_of file))

@@ -43,19 +43,19 @@ abbrev pub numbers_of : List ℕ → ℕ → Record → List ℕ
 numbers_of used most fields = filter_map (number_at most fields) used
 
 -- what is read of a file: what it holds, or the place of its first bad record
-abbrev pub Reading : Type 0 → Type 0
-Reading A = Result A ℕ
+abbrev pub Held : Type 0 → Type 0
+Held A = Result A ℕ
 
-abbrev pub unless_bad : {A : Type 0} → Option ℕ → A → Reading A
+abbrev pub unless_bad : {A : Type 0} → Option ℕ → A → Held A
 unless_bad None held = Ok held
 unless_bad (Some place) held = Err place
 
 -- the numbers of each job in turn, or the place of the first bad record
-abbrev pub rows_of : List ℕ → ℕ → List Record → Reading (List (List ℕ))
+abbrev pub rows_of : List ℕ → ℕ → List Record → Held (List (List ℕ))
 rows_of used most records =
     unless_bad (first_bad used most records) (map (λ row. numbers_of used most row.1) (jobs used records))
 
 -- these numbers and this count are of the rows that a file holds
-abbrev pub HoldsRows : Reading (List (List ℕ)) → List ℕ → ℕ → Type 0
+abbrev pub HoldsRows : Held (List (List ℕ)) → List ℕ → ℕ → Type 0
 HoldsRows (Ok rows) numbers count = (numbers ≡ concat rows) × (count ≡ length rows)
 HoldsRows (Err place) numbers count = ⊥

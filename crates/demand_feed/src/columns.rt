@@ -3,13 +3,13 @@ ghost use Rattle.std.specs.List.{position_or_len};
 ghost use Rattle.std.specs.List.Sorted.{IsStrictlyIncreasing};
 ghost use Rattle.line_base.specs.declared.limits.TheConstants.{MAX_COLUMN, MAX_FILE_BYTES, MAX_TIME};
 ghost use Rattle.demand_feed.specs.FeedError.{TellsBadRecord};
-ghost use Rattle.demand_feed.specs.JobTimes.{field_of};
+ghost use Rattle.demand_feed.specs.JobTimes.{field_of, numbers_in};
 ghost use Rattle.demand_feed.specs.Times.{times_of};
 
 use crate::error::FeedError;
 use crate::rows::{Rows, read_rows};
 use line_base::{MAX_COLUMN, MAX_FILE_BYTES, MAX_TIME};
-use std::alloc::Global;
+use std::alloc::{AllocError, Global};
 use std::marker::Model;
 
 /// The job times in some columns of a times file. Contracts see the columns, and for each job the
@@ -52,6 +52,21 @@ impl Columns {
         let columns = self.columns.as_slice();
         let place = place_of(columns, column);
         self.times[(job as usize - 1) * columns.len() + place]
+    }
+
+    /// The times in one of the columns, job by job, in the plant's unit of time. Columns count from 1. The column is looked
+    /// for once.
+    pub fn column(&self, alloc: Global, column: u32) -> Result<Vec<u64>, AllocError>
+        requires { Contains self.now.columns column }
+        ensures { IfOk result (λ times. times.items ≡ numbers_in self.now column) }
+    {
+        let columns = self.columns.as_slice();
+        let place = place_of(columns, column);
+        let mut times = Vec::with_capacity(alloc, self.jobs as usize)?;
+        for job in 0..self.jobs as usize {
+            times.push(self.times[job * columns.len() + place])?;
+        }
+        Ok(times)
     }
 }
 

@@ -2,23 +2,27 @@ ghost use Rattle.std.specs.Prelude.{◌≡◌};
 ghost use Rattle.demand_feed.specs.declared.error.FeedError.TheVariants.{NoMemory};
 
 use std::alloc::AllocError;
+use thiserror::Error;
 
 /// Why a csv file gave no dates or times.
-#[derive(Clone, Copy, Debug, PartialEq, Eq)]
+#[derive(Clone, Copy, Debug, PartialEq, Eq, Error)]
 pub enum FeedError {
     /// The first record that lacks a number within the limit in a used field. Records count from 1
     /// as they stand in the file, a header among them; 0 stands for a demand file without a date.
+    #[error("bad record {number}")]
     BadRecord {
         /// Which record.
         number: u64,
     },
     /// Memory ran out.
+    #[error("out of memory")]
     NoMemory,
 }
 
 impl From<AllocError> for FeedError {
     ghost from_gives = { λ _ error. error ≡ NoMemory };
 
+    /// Want of memory.
     fn from(_error: AllocError) -> FeedError {
         FeedError::NoMemory
     }

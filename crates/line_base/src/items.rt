@@ -1,5 +1,6 @@
-ghost use Rattle.std.specs.Prelude.{◌≡◌, length, IsTrue, [], ◌↔◌};
+ghost use Rattle.std.specs.Prelude.{◌≡◌, length, IsTrue, IfOk, [], ◌↔◌};
 
+use std::alloc::{AllocError, Global};
 use std::marker::Model;
 
 /// A list that contracts see as the list of its elements, whatever room it has.
@@ -50,5 +51,15 @@ impl<T> Items<T> {
         ensures { IsTrue result ↔ (self.now ≡ []) }
     {
         self.elements.is_empty()
+    }
+}
+
+impl Items<u64> {
+    /// A copy of the list.
+    pub fn copy(&self, alloc: Global) -> Result<Self, AllocError>
+        ensures { IfOk result (λ copy. copy ≡ self.now) }
+    {
+        let elements = Vec::from_slice(alloc, self.elements.as_slice())?;
+        Ok(Items { elements })
     }
 }

@@ -18,6 +18,6 @@ pub use limits::{
     MAX_TIME, MAX_WORKERS, limits_are_those_of_the_definitions,
 };
 pub use log::{Log, Logs, Places};
-pub use name::{Label, Name, NameError, is_checkpoint_name, is_file_name};
+pub use name::{Label, Name, NameError, is_checkpoint_name, is_file_name, is_name};
 pub use number::{digits, number_of};
 pub use times::{Date, Times};

@@ -1,9 +1,11 @@
 ghost use Rattle.std.specs.Prelude.{◌≡◌, ◌≤◌, IsTrue, IfOk, IsErrOf, ◌↔◌, false};
 ghost use Rattle.std.specs.List.{list_all};
+ghost use Rattle.line_base.specs.declared.name.NameError.TheVariants.{NoMemory};
 ghost use Rattle.line_base.specs.Text.{is_between, is_letter, is_name_byte, is_file_byte, is_name, is_label, ends_in_ckpt, may_name_file, is_file_name, is_checkpoint_name};
 
 use std::alloc::{AllocError, Global};
 use std::marker::Model;
+use thiserror::Error;
 
 /// The name of a stage or of a machine: 1 to 24 characters of `a-z 0-9 _ -`, the first a letter.
 #[derive(Drop)]
@@ -23,12 +25,23 @@ impl Model for Name {
 }
 
 /// Why a text gave no name.
-#[derive(Clone, Copy, Debug, PartialEq, Eq)]
+#[derive(Clone, Copy, Debug, PartialEq, Eq, Error)]
 pub enum NameError {
     /// The text breaks the rule of names.
+    #[error("a name is 1 to 24 characters of a-z 0-9 _ -, the first a letter")]
     BadName,
     /// Memory ran out.
+    #[error("out of memory")]
     NoMemory,
+}
+
+impl From<AllocError> for NameError {
+    ghost from_gives = { λ _ e. e ≡ NoMemory };
+
+    /// Want of memory.
+    fn from(_: AllocError) -> Self {
+        NameError::NoMemory
+    }
 }
 
 impl Name {
@@ -37,13 +50,21 @@ impl Name {
         ensures named { IfOk result (λ name. name ≡ text.now) }
         ensures refused { IsErrOf result NameError.BadName ↔ (is_name text.now ≡ false) }
     {
-        if !keeps_name_rule(text) {
+        if !is_name(text) {
             return Err(NameError::BadName);
         }
-        match Vec::from_slice(alloc, text) {
-            Ok(text) => Ok(Name { text }),
-            Err(_) => Err(NameError::NoMemory),
-        }
+        Ok(Name {
+            text: Vec::from_slice(alloc, text)?,
+        })
+    }
+
+    /// A copy of the name.
+    pub fn copy(&self, alloc: Global) -> Result<Self, AllocError>
+        ensures { IfOk result (λ copy. copy ≡ self.now) }
+    {
+        Ok(Name {
+            text: Vec::from_slice(alloc, self.text.as_slice())?,
+        })
     }
 
     /// The text of the name, in ASCII.
@@ -92,8 +113,8 @@ impl Label {
     }
 }
 
-/// Whether a text keeps the rule of names.
-fn keeps_name_rule(text: &[u8]) -> bool
+/// Whether a text is a name: 1 to 24 characters of `a-z 0-9 _ -`, the first a letter.
+pub fn is_name(text: &[u8]) -> bool
     ensures { result ≡ is_name text.now }
 {
     let [first, ..] = text else {

@@ -1,6 +1,7 @@
-ghost use Rattle.std.specs.Prelude.{◌≡◌, ◌≤◌, length};
+ghost use Rattle.std.specs.Prelude.{◌≡◌, ◌≤◌, IfOk};
 
 use crate::items::Items;
+use std::alloc::{AllocError, Global};
 
 /// A date, or a length of time, in the plant's unit: a whole number from 0 on.
 pub type Date = u64;
@@ -25,6 +26,16 @@ impl Times {
         match self {
             Times::Fixed(time) => *time,
             Times::Each(times) => times.as_slice().get(job as usize - 1).copied().unwrap_or(0),
+        }
+    }
+
+    /// A copy of the job times.
+    pub fn copy(&self, alloc: Global) -> Result<Self, AllocError>
+        ensures { IfOk result (λ copy. copy ≡ self.now) }
+    {
+        match self {
+            Times::Fixed(time) => Ok(Times::Fixed(*time)),
+            Times::Each(times) => Ok(Times::Each(times.copy(alloc)?)),
         }
     }
 }

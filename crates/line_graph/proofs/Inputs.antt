@@ -10,7 +10,7 @@ use Rattle.std.proofs.lemmas.List.Elements.{All-get_or, Contains-append_left, Co
 use Rattle.line_base.specs.declared.event.Arc.{Arc}
 use Rattle.plant_model.specs.declared.plant.Policy.{Policy}
 use Rattle.plant_model.specs.declared.plant.Policy.TheVariants.{Kanban, Conwip, BaseStock, Extended}
-use Rattle.plant_model.specs.declared.plant.Stage.{Stage}
+use Rattle.plant_model.specs.Stages.{Stage}
 use Rattle.plant_model.specs.declared.plant.Plant.{Plant}
 use Rattle.plant_model.specs.Line.{no_stage, stage_at, machine_at, stage_numbers, machine_numbers, release, machine_station, deliver, station_count, receiver, starting, feeds, is_first}
 use Rattle.plant_model.specs.Graph.{Row, worked, plain, onward, machine_rows, stage_rows, feed_row, card_row, demand_row, line_card_row, policy_rows, loop_rows, rows, graph}

@@ -8,7 +8,7 @@ use Rattle.std.proofs.lemmas.List.Sorted.{IsNonDecreasingBy-from_all_adjacent}
 use Rattle.line_base.specs.declared.limits.TheConstants.{MAX_CARDS, MAX_TIME, MAX_DEMAND_DATE}
 use Rattle.line_base.specs.declared.times.Times.{Times}
 use Rattle.line_base.specs.declared.times.Times.TheVariants.{Fixed, Each}
-use Rattle.plant_model.specs.declared.plant.Stage.{Stage}
+use Rattle.plant_model.specs.Stages.{Stage}
 use Rattle.plant_model.specs.declared.plant.Plant.{Plant}
 use Rattle.plant_model.specs.Line.{no_stage, no_machine, stage_at, machine_at}
 use Rattle.plant_model.specs.Graph.{rows, stage_times, times, graph}

@@ -4,7 +4,7 @@
 use Rattle.std.specs.Prelude.{◌≡◌, ℕ, ◌<◌, ◌≤◌, map, length, slice_index_or}
 use Rattle.plant_model.specs.declared.plant.Policy.{Policy}
 use Rattle.plant_model.specs.declared.plant.Policy.TheVariants.{Kanban, Conwip, BaseStock, Extended}
-use Rattle.plant_model.specs.declared.plant.Stage.{Stage}
+use Rattle.plant_model.specs.Stages.{Stage}
 use Rattle.plant_model.specs.declared.plant.CardLoop.{CardLoop}
 use Rattle.plant_model.specs.declared.plant.Plant.{Plant}
 use Rattle.plant_model.specs.Line.{stage_at, line_cards}

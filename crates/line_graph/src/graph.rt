@@ -38,7 +38,7 @@ fn parts_of(alloc: Global, plant: &Plant) -> Result<Parts, AllocError>
     Ok(Parts {
         labels: Items::from_vec(station_labels(alloc, plant)?),
         times: Items::from_vec(station_times(alloc, plant)?),
-        dates: Items::from_vec(Vec::from_slice(alloc, plant.demands.as_slice())?),
+        dates: plant.demands.copy(alloc)?,
         arcs: Items::from_vec(line_arcs(alloc, plant)?),
         delays: Items::from_vec(line_delays(alloc, plant)?),
     })

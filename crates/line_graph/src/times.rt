@@ -1,7 +1,7 @@
 ghost use Rattle.std.specs.Prelude.{◌≡◌, ◌++◌, IfOk, OnOk};
 ghost use Rattle.plant_model.specs.Graph.{times, stage_times};
 
-use line_base::{Items, Times};
+use line_base::Times;
 use plant_model::{Plant, Stage};
 use std::alloc::{AllocError, Global};
 
@@ -25,20 +25,7 @@ fn add_stage_times(alloc: Global, stage: &Stage, all: &mut Vec<Times>) -> Result
 {
     all.push(Times::Fixed(0))?;
     for machine in stage.machines.as_slice() {
-        all.push(copy_of(alloc, &machine.times)?)?;
+        all.push(machine.times.copy(alloc)?)?;
     }
     Ok(())
-}
-
-/// A copy of job times.
-fn copy_of(alloc: Global, times: &Times) -> Result<Times, AllocError>
-    ensures { IfOk result (λ copy. copy ≡ times.now) }
-{
-    match times {
-        Times::Fixed(time) => Ok(Times::Fixed(*time)),
-        Times::Each(list) => Ok(Times::Each(Items::from_vec(Vec::from_slice(
-            alloc,
-            list.as_slice(),
-        )?))),
-    }
 }

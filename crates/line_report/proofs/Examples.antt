@@ -3,7 +3,7 @@ use Rattle.std.specs.Prelude.{◌≡◌, ℕ, List, [], ◌∷◌, ◌++◌, Opt
 use Rattle.std.specs.Fmt.{digits}
 use Rattle.line_base.specs.declared.times.Times.TheVariants.{Fixed}
 use Rattle.plant_model.specs.declared.plant.Policy.TheVariants.{Kanban}
-use Rattle.plant_model.specs.declared.plant.Stage.{Stage}
+use Rattle.plant_model.specs.Stages.{Stage, one_server}
 use Rattle.plant_model.specs.declared.plant.Plant.{Plant}
 use Rattle.plant_model.specs.Graph.{graph, labels}
 use Rattle.event_graph.specs.Table.{date_in}
@@ -21,7 +21,7 @@ stage name to machine time =
       stock = 0;
       travel = 0;
       card_time = 0;
-      machines = record { name = machine; servers = 1; times = Fixed time } ∷ [];
+      machines = one_server machine (Fixed time) ∷ [];
     }
 
 -- `cut` with `saw` feeds `weld` with `torch`

@@ -9,7 +9,7 @@ use Rattle.std.proofs.lemmas.List.{get_or_default}
 use Rattle.std.proofs.lemmas.List.Folds.{Any-from_list_any}
 use Rattle.plant_model.specs.declared.plant.Policy.{Policy}
 use Rattle.plant_model.specs.declared.plant.Policy.TheVariants.{Kanban, Conwip, BaseStock, Extended}
-use Rattle.plant_model.specs.declared.plant.Stage.{Stage}
+use Rattle.plant_model.specs.Stages.{Stage}
 use Rattle.plant_model.specs.declared.plant.Plant.{Plant}
 use Rattle.plant_model.specs.Line.{no_stage, stage_at, release, deliver, next, receiver, stock_under, starting, line_cards, feeds, is_first, path_stock}
 use Rattle.plant_model.specs.Graph.{card_row, line_card_row, rows, graph}

@@ -1,7 +1,7 @@
 -- A walk over the stages of a plant, which counts their stations.
 use Rattle.std.proofs.Common.{◌≡◌, ℕ, ◌+◌, ◌<◌, ◌≤◌, List, length, take, get_or, ap, ◌∙◌, arith}
 use Rattle.std.proofs.lemmas.List.{get_or-take, get_or_default, length-take}
-use Rattle.plant_model.specs.declared.plant.Stage.{Stage}
+use Rattle.plant_model.specs.Stages.{Stage}
 use Rattle.plant_model.specs.declared.plant.Plant.{Plant}
 use Rattle.plant_model.specs.Line.{no_stage, stage_at, release}
 use Rattle.plant_model.specs.Sound.{IsSound}

@@ -3,14 +3,14 @@ use Rattle.std.proofs.Common.{◌≡◌, ℕ, ◌+◌, Bool, true, List, [], ◌
 use Rattle.std.specs.List.{list_all}
 use Rattle.std.proofs.lemmas.Bool.{and_from}
 use Rattle.line_base.specs.declared.limits.TheConstants.{MAX_OBSERVE_DATE}
-use Rattle.plant_model.specs.declared.place.Table.TheVariants.{Top, InStage}
-use Rattle.plant_model.specs.Refusals.{each_from, each}
+use Rattle.plant_model.specs.declared.place.FileTable.TheVariants.{Top, InStage}
+use Rattle.plant_model.specs.Refusals.{each_from, each, feeds_not_later_in, second_finals_in}
 use Rattle.plant_model.proofs.NoRefusals.{append-nil_left, append-nil_right, each-none}
 use Rattle.toml.specs.Data.{Data, get}
 use Rattle.plant_tree.specs.declared.keys.Class.{Class}
 use Rattle.plant_tree.specs.declared.keys.Class.TheVariants.{MissingKeys, BadNames, OutOfRanges}
 use Rattle.plant_tree.specs.declared.keys.Kind.TheVariants.{StageText}
-use Rattle.plant_draft.specs.Draft.{IsSoundDraft, is_sound_stage, is_sound_machine, is_sound_loop, all_feeds_not_later, second_finals}
+use Rattle.plant_draft.specs.Draft.{IsSoundDraft, is_sound_stage, is_sound_machine, is_sound_loop}
 use Rattle.plant_tree.specs.Readers.{tables_at, text_at, stage_names}
 use Rattle.plant_tree.specs.Keys.{Key, optional, top_keys, stage_keys, has_stage_cards}
 use Rattle.plant_tree.specs.Walk.{walk, names_twice, key_refusals, table_refusals, stage_refusals}
@@ -56,7 +56,7 @@ stages_of_walk class top h =
     (append-nil_right (table_refusals class Top top (top_keys top)) _ h)
 
 -- a tree in which nothing is refused says a sound draft
-pub sound_draft : (top : Data) → walk MissingKeys top ≡ [] → walk BadNames top ≡ [] → names_twice top ≡ [] → walk OutOfRanges top ≡ [] → all_feeds_not_later (draft_of top).stages ≡ [] → second_finals (draft_of top).stages ≡ [] → IsSoundDraft (draft_of top)
+pub sound_draft : (top : Data) → walk MissingKeys top ≡ [] → walk BadNames top ≡ [] → names_twice top ≡ [] → walk OutOfRanges top ≡ [] → feeds_not_later_in (draft_of top).stages ≡ [] → second_finals_in (draft_of top).stages ≡ [] → IsSoundDraft (draft_of top)
 sound_draft top missing bad twice out feeds finals =
     let demands = each-none (λ _ k. key_refusals OutOfRanges Top top k) (top_keys top) 2 no_key (omega arith) (top_of_walk OutOfRanges top out) in
     let there = each-none (λ _ k. key_refusals MissingKeys Top top k) (top_keys top) 7 no_key (omega arith) (top_of_walk MissingKeys top missing) in

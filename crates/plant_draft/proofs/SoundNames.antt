@@ -5,11 +5,11 @@ use Rattle.std.specs.List.{list_any}
 use Rattle.std.proofs.lemmas.Bool.{eqb-true, eq-eqb, ne_eqb, eqb-false}
 use Rattle.plant_model.specs.declared.error.PlantError.{PlantError}
 use Rattle.plant_model.specs.declared.error.PlantError.TheVariants.{NameTwice}
-use Rattle.plant_model.specs.declared.place.Table.TheVariants.{InMachine}
+use Rattle.plant_model.specs.declared.place.FileTable.TheVariants.{InMachine}
 use Rattle.plant_model.specs.Place.{key_of}
 use Rattle.plant_model.specs.Refusals.{each_from, each, refuse_if}
 use Rattle.toml.specs.Data.{Data}
-use Rattle.plant_draft.specs.Draft as draft
+use Rattle.plant_model.specs.Refusals as model
 use Rattle.plant_tree.specs.Walk as tree
 use Rattle.plant_tree.specs.Readers.{name_in, tables_at, stage_names}
 use Rattle.plant_draft.specs.Reading.{machine_of, stage_of, draft_of}
@@ -38,19 +38,19 @@ each_from-same : {X : Type 0} (f g : ℕ → X → List PlantError) → ((i : �
 each_from-same f g h k [] = refl
 each_from-same f g h k (x ∷ xs) = rw (h k x, each_from-same f g h (k + 1) xs) refl
 
-machine_names : (i : ℕ) (ms : List Data) → each (draft.machine_name_twice i (map machine_of ms)) (map machine_of ms) ≡ tree.machine_names_twice i ms
+machine_names : (i : ℕ) (ms : List Data) → each (model.machine_name_twice i (map machine_of ms)) (map machine_of ms) ≡ tree.machine_names_twice i ms
 machine_names i ms =
-    each_map (draft.machine_name_twice i (map machine_of ms)) machine_of ms
+    each_map (model.machine_name_twice i (map machine_of ms)) machine_of ms
     ∙ each_from-same _ _ (λ j m. ap (λ b. refuse_if b (NameTwice (key_of (InMachine i j) (codes "name")))) (any_take (λ o. o.name) machine_of (λ x. refl) (name_in m) j ms)) 0 ms
 
-stage_name : (names : List (List ℕ)) (stages : List Data) (i : ℕ) (s : Data) → draft.stage_name_twice (map (stage_of names) stages) i (stage_of names s) ≡ tree.stage_name_twice (take i (map name_in stages)) i s
+stage_name : (names : List (List ℕ)) (stages : List Data) (i : ℕ) (s : Data) → model.stage_name_twice (map (stage_of names) stages) i (stage_of names s) ≡ tree.stage_name_twice (take i (map name_in stages)) i s
 stage_name names stages i s =
     rw (any_take (λ o. o.name) (stage_of names) (λ x. refl) (name_in s) i stages, machine_names i (tables_at (codes "machine") s))
     refl
 
 -- the names of a draft are refused where those of its tree are
-pub names_twice-draft : (top : Data) → draft.names_twice (draft_of top).stages ≡ tree.names_twice top
+pub names_twice-draft : (top : Data) → model.names_twice_in (draft_of top).stages ≡ tree.names_twice top
 names_twice-draft top =
     let stages = tables_at (codes "stage") top in
-    each_map (draft.stage_name_twice (draft_of top).stages) (stage_of (stage_names top)) stages
+    each_map (model.stage_name_twice (draft_of top).stages) (stage_of (stage_names top)) stages
     ∙ each_from-same _ _ (stage_name (stage_names top) stages) 0 stages

@@ -2,8 +2,7 @@
 use Rattle.std.specs.Prelude.{◌≡◌, ℕ, ◌<◌, ◌≤◌, Bool, false, ◌||◌, List, length, slice_index_or}
 use Rattle.std.specs.List.{list_any}
 use Rattle.line_base.specs.Limits.{last_column}
-use Rattle.plant_draft.specs.declared.draft.DraftMachine.{DraftMachine}
-use Rattle.plant_draft.specs.declared.draft.DraftStage.{DraftStage}
+use Rattle.plant_draft.specs.Draft.{DraftMachine, DraftStage}
 use Rattle.plant_draft.specs.declared.draft.DraftPlant.{DraftPlant}
 use Rattle.plant_draft.specs.Draft.{uses, is_used}
 

@@ -1,25 +1,28 @@
 -- What a draft says beyond its fields: the files that it names, the columns that its machines use, and when it is sound.
-use Rattle.std.specs.Prelude.{◌≡◌, ℕ, ◌+◌, Bool, true, false, not, ◌&&◌, ◌==◌, nat_lt, nat_le, List, [], ◌∷◌, ◌++◌, length, filter, take, Option, None, Some, is_none, is_some, IsTrue, codes, bytes_eq}
-use Rattle.std.specs.Option.{option_map_or}
+use Rattle.std.specs.Prelude.{◌≡◌, ℕ, Bool, true, false, not, ◌&&◌, ◌==◌, nat_le, List, [], filter, Option, None, Some, is_some, IsTrue}
 use Rattle.std.specs.List.{list_all, list_any, range_with_len}
 use Rattle.line_base.specs.Limits.{most_cards, longest_time, last_column, last_demand, last_observed}
 use Rattle.line_base.specs.Text.{is_between}
-use Rattle.plant_model.specs.declared.error.PlantError.{PlantError}
-use Rattle.plant_model.specs.declared.error.PlantError.TheVariants.{NameTwice, FeedsNotLater, TwoFinals}
-use Rattle.plant_model.specs.declared.place.Table.TheVariants.{InStage, InMachine}
 use Rattle.plant_model.specs.declared.plant.Policy.{Policy}
 use Rattle.plant_model.specs.declared.plant.Policy.TheVariants.{Kanban, Conwip, BaseStock, Extended}
-use Rattle.plant_model.specs.Place.{place_of, key_of}
-use Rattle.plant_model.specs.Refusals.{refuse_if, each, is_reserved}
+use Rattle.plant_model.specs.declared.plant.Machine.{Machine as MachineOf}
+use Rattle.plant_model.specs.declared.plant.Stage.{Stage as StageOf}
+use Rattle.plant_model.specs.Refusals.{is_reserved, names_twice_in, feeds_not_later_in, second_finals_in}
 use Rattle.plant_tree.specs.Readers.{is_filled}
 use Rattle.plant_draft.specs.declared.draft.DraftDemands.{DraftDemands}
 use Rattle.plant_draft.specs.declared.draft.DraftDemands.TheVariants.{Given, File}
 use Rattle.plant_draft.specs.declared.draft.DraftTimes.{DraftTimes}
 use Rattle.plant_draft.specs.declared.draft.DraftTimes.TheVariants.{Column, Fixed, Each}
-use Rattle.plant_draft.specs.declared.draft.DraftMachine.{DraftMachine}
-use Rattle.plant_draft.specs.declared.draft.DraftStage.{DraftStage}
 use Rattle.plant_draft.specs.declared.draft.DraftLoop.{DraftLoop}
 use Rattle.plant_draft.specs.declared.draft.DraftPlant.{DraftPlant}
+
+-- a machine of a plant file
+abbrev pub DraftMachine : Type 0
+DraftMachine = MachineOf DraftTimes
+
+-- a stage of a plant file
+abbrev pub DraftStage : Type 0
+DraftStage = StageOf DraftTimes
 
 -- the name of the demand file, if the dates stand in one
 abbrev pub file_of : DraftDemands → Option (List ℕ)
@@ -83,45 +86,6 @@ abbrev pub are_sound_demands : DraftDemands → Bool
 are_sound_demands (Given dates) = is_filled dates && are_up_to last_demand dates
 are_sound_demands (File name) = true
 
--- 6, of machine j of stage i: an earlier machine of the stage has its name
-abbrev pub machine_name_twice : ℕ → List DraftMachine → ℕ → DraftMachine → List PlantError
-machine_name_twice i machines j m =
-    refuse_if
-    (list_any (λ other. bytes_eq other.name m.name) (take j machines))
-    (NameTwice (key_of (InMachine i j) (codes "name")))
-
--- 6, of stage i: an earlier stage has its name; then of its machines
-abbrev pub stage_name_twice : List DraftStage → ℕ → DraftStage → List PlantError
-stage_name_twice stages i s =
-    refuse_if
-    (list_any (λ other. bytes_eq other.name s.name) (take i stages))
-    (NameTwice (key_of (InStage i) (codes "name")))
-    ++ each (machine_name_twice i s.machines) s.machines
-
--- 6: an earlier stage, or an earlier machine of the same stage, has the name
-abbrev pub names_twice : List DraftStage → List PlantError
-names_twice stages = each (stage_name_twice stages) stages
-
--- 8, of stage i, where there are `count` stages: `feeds` is there and names no later one
-abbrev pub feeds_not_later : ℕ → ℕ → DraftStage → List PlantError
-feeds_not_later count i s =
-    option_map_or
-    (λ j. refuse_if (not (nat_lt i j && nat_lt j count)) (FeedsNotLater (key_of (InStage i) (codes "feeds"))))
-    s.feeds
-    []
-
--- 8: a stage feeds no later stage
-abbrev pub all_feeds_not_later : List DraftStage → List PlantError
-all_feeds_not_later stages = each (feeds_not_later (length stages)) stages
-
--- 9, of stage i, where there are `count` stages: it isn't the last and has no `feeds`
-abbrev pub second_final : ℕ → ℕ → DraftStage → List PlantError
-second_final count i s = refuse_if (is_none s.feeds && nat_lt (i + 1) count) (TwoFinals (place_of (InStage i)))
-
--- 9: a stage other than the last feeds none
-abbrev pub second_finals : List DraftStage → List PlantError
-second_finals stages = each (second_final (length stages)) stages
-
 -- a draft in which nothing is wrong by itself
 pub record IsSoundDraft (d : DraftPlant) : Type 0 where
   pub policy : IsTrue (is_sound_policy d.policy)
@@ -131,9 +95,9 @@ pub record IsSoundDraft (d : DraftPlant) : Type 0 where
   pub filled : IsTrue (is_filled d.stages)
   pub stages : IsTrue (list_all is_sound_stage d.stages)
   pub loops : IsTrue (list_all is_sound_loop d.loops)
-  pub names : names_twice d.stages ≡ []
-  pub feeds : all_feeds_not_later d.stages ≡ []
-  pub finals : second_finals d.stages ≡ []
+  pub names : names_twice_in d.stages ≡ []
+  pub feeds : feeds_not_later_in d.stages ≡ []
+  pub finals : second_finals_in d.stages ≡ []
   pub times_file : is_some d.times_file ≡ is_filled (columns_of d)
 
 -- a sound draft, beside the columns that its machines use

@@ -14,12 +14,11 @@ use Rattle.plant_draft.specs.declared.draft.DraftDemands.{DraftDemands}
 use Rattle.plant_draft.specs.declared.draft.DraftDemands.TheVariants.{Given, File}
 use Rattle.plant_draft.specs.declared.draft.DraftTimes.{DraftTimes}
 use Rattle.plant_draft.specs.declared.draft.DraftTimes.TheVariants.{Column, Fixed, Each}
-use Rattle.plant_draft.specs.declared.draft.DraftMachine.{DraftMachine}
-use Rattle.plant_draft.specs.declared.draft.DraftStage.{DraftStage}
+use Rattle.plant_draft.specs.Draft.{DraftMachine, DraftStage}
 use Rattle.plant_draft.specs.declared.draft.DraftLoop.{DraftLoop}
 use Rattle.plant_draft.specs.declared.draft.DraftPlant.{DraftPlant}
 use Rattle.plant_tree.specs.declared.keys.Class.TheVariants.{UnknownKeys, MissingKeys, WrongTypes, BadNames, OutOfRanges}
-use Rattle.plant_draft.specs.Draft.{all_feeds_not_later, second_finals}
+use Rattle.plant_model.specs.Refusals.{feeds_not_later_in, second_finals_in}
 use Rattle.plant_tree.specs.Readers.{has, text_of, text_at, tables_at, number_at, numbers_at, name_in, stage_names}
 use Rattle.plant_tree.specs.Keys.{policy_word, has_column}
 use Rattle.plant_tree.specs.Walk.{walk, names_twice}
@@ -110,7 +109,7 @@ tree_refusals top =
     ++ (walk BadNames top
     ++ (names_twice top
     ++ (walk OutOfRanges top
-    ++ (all_feeds_not_later (draft_of top).stages ++ second_finals (draft_of top).stages))))))
+    ++ (feeds_not_later_in (draft_of top).stages ++ second_finals_in (draft_of top).stages))))))
 
 -- the draft where nothing is refused, and else the first refusal
 abbrev pub draft_or_first : List PlantError → DraftPlant → Result DraftPlant PlantError

@@ -268,14 +268,12 @@ fn loops_of(
 fn push<T: Drop>(list: &mut Vec<T>, element: T) -> Result<(), AllocError>
     ensures { OnOk result (list.new.items ≡ list.old.items ++ element ∷ []) }
 {
-    match list.push(element) {
-        Ok(()) => Ok(()),
-        Err(_) => Err(AllocError),
-    }
+    list.push(element)?;
+    Ok(())
 }
 
 /// What a plant file says whose stages have these names.
-pub(crate) fn plant_of(
+pub(crate) fn draft_of(
     alloc: Global,
     names: &Names<'_>,
     top: &Value,

@@ -3,8 +3,8 @@ ghost use Rattle.std.specs.List.Sorted.{IsStrictlyIncreasing};
 ghost use Rattle.line_base.specs.declared.limits.TheConstants.{MAX_COLUMN};
 ghost use Rattle.plant_draft.specs.Draft.{demands_file, columns_of, IsSoundDraft};
 
-use line_base::{Date, Items, Name};
-use plant_model::{Policy, Text};
+use line_base::{Date, Items};
+use plant_model::{Machine, Policy, Stage, Text};
 use std::marker::Model;
 
 /// Where the demand dates of a plant stand.
@@ -27,35 +27,11 @@ pub enum DraftTimes {
     Each(Items<u64>),
 }
 
-/// A machine of a plant file.
-#[derive(Drop)]
-pub struct DraftMachine {
-    /// Its name.
-    pub name: Name,
-    /// How many jobs it works on at once; 1 where the key is absent.
-    pub servers: u32,
-    /// Its job times.
-    pub times: DraftTimes,
-}
+/// A machine of a plant file: 1 server where the key is absent.
+pub type DraftMachine = Machine<DraftTimes>;
 
-/// A stage of a plant file. A number that is absent is 0.
-#[derive(Drop)]
-pub struct DraftStage {
-    /// Its name.
-    pub name: Name,
-    /// The number of the stage that it feeds, counted from 0; none where the key is absent.
-    pub feeds: Option<u32>,
-    /// Its cards.
-    pub cards: u32,
-    /// Its starting stock.
-    pub stock: u32,
-    /// How long a part moves from its last machine to what it feeds, in the plant's unit.
-    pub travel: u64,
-    /// How long its card moves back, in the plant's unit.
-    pub card_time: u64,
-    /// Its machines, in order.
-    pub machines: Items<DraftMachine>,
-}
+/// A stage of a plant file. A number that is absent is 0, and it feeds none where that key is absent.
+pub type DraftStage = Stage<DraftTimes>;
 
 /// A loop of cards of a plant file.
 #[derive(Drop)]

@@ -4,7 +4,6 @@
 mod build;
 mod columns;
 mod draft;
-mod feeds;
 mod read;
 
 pub use draft::{Draft, DraftDemands, DraftLoop, DraftMachine, DraftPlant, DraftStage, DraftTimes};

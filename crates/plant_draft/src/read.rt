@@ -5,11 +5,10 @@ ghost use Rattle.plant_draft.specs.Draft.{IsSoundDraft};
 ghost use Rattle.plant_draft.specs.Code.{Builds};
 ghost use Rattle.plant_draft.specs.Reading.{AnswersReading, tree_of, tree_reading, reading};
 
-use crate::build::plant_of;
+use crate::build::draft_of;
 use crate::columns::columns_of;
 use crate::draft::{Draft, DraftPlant};
-use crate::feeds::check_flow;
-use plant_model::PlantError;
+use plant_model::{PlantError, check_flow};
 use plant_tree::{Class, check_tree, names_of_stages};
 use std::alloc::Global;
 use toml::Value;
@@ -47,7 +46,7 @@ fn read_tree(alloc: Global, top: &Value) -> Result<Draft, PlantError>
     check_tree(alloc, Class::BadNames, top)?;
     let names = names_of_stages(alloc, top)?;
     check_tree(alloc, Class::OutOfRanges, top)?;
-    let plant = plant_of(alloc, &names, top)?;
+    let plant = draft_of(alloc, &names, top)?;
     check_flow(alloc, plant.stages.as_slice())?;
     sealed(alloc, plant)
 }

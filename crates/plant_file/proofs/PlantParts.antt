@@ -13,8 +13,8 @@ use Rattle.line_base.specs.Text.{is_between}
 use Rattle.line_base.specs.declared.limits.TheConstants.{MAX_CARDS, MAX_TIME, MAX_COLUMN, MAX_DEMAND_DATE, MAX_OBSERVE_DATE}
 use Rattle.demand_feed.specs.JobTimes.{JobTimes, number_for, numbers_in}
 use Rattle.plant_model.specs.declared.error.PlantError.{PlantError}
-use Rattle.plant_model.specs.declared.place.Table.{Table}
-use Rattle.plant_model.specs.declared.place.Table.TheVariants.{InStage, InMachine, InLoop}
+use Rattle.plant_model.specs.declared.place.FileTable.{FileTable}
+use Rattle.plant_model.specs.declared.place.FileTable.TheVariants.{InStage, InMachine, InLoop}
 use Rattle.plant_model.specs.Place.{key_of}
 use Rattle.plant_model.specs.declared.plant.Policy.{Policy}
 use Rattle.plant_model.specs.declared.plant.Policy.TheVariants.{Kanban, Conwip, BaseStock, Extended}
@@ -23,11 +23,9 @@ use Rattle.plant_draft.specs.declared.draft.DraftDemands.{DraftDemands}
 use Rattle.plant_draft.specs.declared.draft.DraftDemands.TheVariants.{Given, File}
 use Rattle.plant_draft.specs.declared.draft.DraftTimes.{DraftTimes}
 use Rattle.plant_draft.specs.declared.draft.DraftTimes.TheVariants.{Column, Fixed, Each}
-use Rattle.plant_draft.specs.declared.draft.DraftMachine.{DraftMachine}
-use Rattle.plant_draft.specs.declared.draft.DraftStage.{DraftStage}
+use Rattle.plant_draft.specs.Draft.{DraftMachine, DraftStage}
 use Rattle.plant_draft.specs.declared.draft.DraftLoop.{DraftLoop}
 use Rattle.plant_draft.specs.declared.draft.DraftPlant.{DraftPlant}
-use Rattle.plant_draft.specs.Draft as draft
 use Rattle.plant_tree.specs.Readers.{is_filled}
 use Rattle.plant_draft.specs.Draft.{IsSoundDraft, file_of, demands_file, columns_of, is_used, uses, are_up_to, are_sound_times, is_sound_machine, is_sound_stage, is_sound_loop, is_sound_policy, are_sound_demands}
 use Rattle.plant_file.specs.Finish.{HasColumn, HasColumns, IsWithinLimit, dates_with, times_with, machine_with, stage_with, loop_with, plant_with}
@@ -190,35 +188,35 @@ list_any-map test g [] = refl
 list_any-map test g (x ∷ xs) = ap (λ rest. test (g x) || rest) (list_any-map test g xs)
 
 -- 6, of machines
-machine_names-same : (table : Option JobTimes) (i : ℕ) (machines : List DraftMachine) (j : ℕ) (m : DraftMachine) → machine_name_twice i (map (machine_with table) machines) j (machine_with table m) ≡ draft.machine_name_twice i machines j m
+machine_names-same : (table : Option JobTimes) (i : ℕ) (machines : List DraftMachine) (j : ℕ) (m : DraftMachine) → machine_name_twice i (map (machine_with table) machines) j (machine_with table m) ≡ machine_name_twice i machines j m
 machine_names-same table i machines j m =
     rw (take-map (machine_with table) j machines, list_any-map (λ other. bytes_eq other.name m.name) (machine_with table) (take j machines)) refl
 
-stage_names-same : (table : Option JobTimes) (stages : List DraftStage) (i : ℕ) (s : DraftStage) → stage_name_twice (map (stage_with table) stages) i (stage_with table s) ≡ draft.stage_name_twice stages i s
+stage_names-same : (table : Option JobTimes) (stages : List DraftStage) (i : ℕ) (s : DraftStage) → stage_name_twice (map (stage_with table) stages) i (stage_with table s) ≡ stage_name_twice stages i s
 stage_names-same table stages i s =
     rw (
       take-map (stage_with table) i stages,
       list_any-map (λ other. bytes_eq other.name s.name) (stage_with table) (take i stages),
-      each_from-map (machine_name_twice i (map (machine_with table) s.machines)) (draft.machine_name_twice i s.machines) (machine_with table) 0 s.machines (machine_names-same table i s.machines),
+      each_from-map (machine_name_twice i (map (machine_with table) s.machines)) (machine_name_twice i s.machines) (machine_with table) 0 s.machines (machine_names-same table i s.machines),
     )
     refl
 
 names_twice-none : (d : DraftPlant) (dates : Option (List ℕ)) (table : Option JobTimes) → IsSoundDraft d → names_twice (plant_with d dates table) ≡ []
 names_twice-none d dates table sound =
-    each_from-map (stage_name_twice (map (stage_with table) d.stages)) (draft.stage_name_twice d.stages) (stage_with table) 0 d.stages (stage_names-same table d.stages)
+    each_from-map (stage_name_twice (map (stage_with table) d.stages)) (stage_name_twice d.stages) (stage_with table) 0 d.stages (stage_names-same table d.stages)
     ∙ sound.names
 
 -- 8 and 9
 feeds-none : (d : DraftPlant) (dates : Option (List ℕ)) (table : Option JobTimes) → IsSoundDraft d → all_feeds_not_later (plant_with d dates table) ≡ []
 feeds-none d dates table sound =
     ap (λ count. each (feeds_not_later count) (map (stage_with table) d.stages)) (length-map d.stages (stage_with table))
-    ∙ each_from-map (feeds_not_later (length d.stages)) (draft.feeds_not_later (length d.stages)) (stage_with table) 0 d.stages (λ i s. refl)
+    ∙ each_from-map (feeds_not_later (length d.stages)) (feeds_not_later (length d.stages)) (stage_with table) 0 d.stages (λ i s. refl)
     ∙ sound.feeds
 
 finals-none : (d : DraftPlant) (dates : Option (List ℕ)) (table : Option JobTimes) → IsSoundDraft d → second_finals (plant_with d dates table) ≡ []
 finals-none d dates table sound =
     ap (λ count. each (second_final count) (map (stage_with table) d.stages)) (length-map d.stages (stage_with table))
-    ∙ each_from-map (second_final (length d.stages)) (draft.second_final (length d.stages)) (stage_with table) 0 d.stages (λ i s. refl)
+    ∙ each_from-map (second_final (length d.stages)) (second_final (length d.stages)) (stage_with table) 0 d.stages (λ i s. refl)
     ∙ sound.finals
 
 -- a number of a row, or the 0 past its end, is within the limit of the row
@@ -248,7 +246,7 @@ numbers-none place limit numbers h =
     each_from-tested (element_above place limit) (λ n. nat_le n limit) 0 numbers h (λ i n test. above-tested _ limit n test)
 
 -- 7, of job times
-times-none : (machine : Table) (table : Option JobTimes) (t : DraftTimes) → IfSome table IsWithinLimit → are_sound_times t ≡ true → times_out_of_range machine (times_with table t) ≡ []
+times-none : (machine : FileTable) (table : Option JobTimes) (t : DraftTimes) → IfSome table IsWithinLimit → are_sound_times t ≡ true → times_out_of_range machine (times_with table t) ≡ []
 times-none machine table (Column column) low h = column-none _ table column low
 times-none machine table (Fixed time) low h = above-tested _ MAX_TIME time h
 times-none machine table (Each times) low h = numbers-none _ MAX_TIME times h

@@ -7,21 +7,19 @@ use Rattle.line_base.specs.declared.times.Times.{Times}
 use Rattle.line_base.specs.declared.times.Times.TheVariants as made
 use Rattle.plant_model.specs.declared.error.PlantError.{PlantError}
 use Rattle.plant_model.specs.declared.error.PlantError.TheVariants.{BadRecord, NoMemory}
-use Rattle.plant_model.specs.declared.plant.Machine.{Machine}
-use Rattle.plant_model.specs.declared.plant.Stage.{Stage}
+use Rattle.plant_model.specs.Stages.{Machine, Stage, with_times}
 use Rattle.plant_model.specs.declared.plant.CardLoop.{CardLoop}
 use Rattle.plant_model.specs.declared.plant.Plant.{Plant}
 use Rattle.plant_model.specs.Refusals.{whole_refusals}
 use Rattle.demand_feed.specs.Dates.{dates_of}
 use Rattle.demand_feed.specs.JobTimes.{JobTimes, numbers_in}
-use Rattle.demand_feed.specs.Rows.{Reading}
+use Rattle.demand_feed.specs.Rows.{Held}
 use Rattle.demand_feed.specs.Times.{times_of}
 use Rattle.plant_draft.specs.declared.draft.DraftDemands.{DraftDemands}
 use Rattle.plant_draft.specs.declared.draft.DraftDemands.TheVariants.{Given, File}
 use Rattle.plant_draft.specs.declared.draft.DraftTimes.{DraftTimes}
 use Rattle.plant_draft.specs.declared.draft.DraftTimes.TheVariants.{Column, Fixed, Each}
-use Rattle.plant_draft.specs.declared.draft.DraftMachine.{DraftMachine}
-use Rattle.plant_draft.specs.declared.draft.DraftStage.{DraftStage}
+use Rattle.plant_draft.specs.Draft.{DraftMachine, DraftStage}
 use Rattle.plant_draft.specs.declared.draft.DraftLoop.{DraftLoop}
 use Rattle.plant_draft.specs.declared.draft.DraftPlant.{DraftPlant}
 use Rattle.plant_draft.specs.Draft.{demands_file, columns_of}
@@ -53,7 +51,7 @@ times_with table (Each times) = made.Each times
 
 -- a machine with its job times
 abbrev pub machine_with : Option JobTimes → DraftMachine → Machine
-machine_with table m = record { name = m.name; servers = m.servers; times = times_with table m.times }
+machine_with table m = with_times m (times_with table m.times)
 
 -- a stage with its machines
 abbrev pub stage_with : Option JobTimes → DraftStage → Stage
@@ -100,16 +98,16 @@ abbrev pub finished : DraftPlant → Option (List ℕ) → Option JobTimes → R
 finished d dates table = plant_or_first (whole_refusals (plant_with d dates table)) (plant_with d dates table)
 
 -- 10, of a file: the number of its first bad record
-abbrev pub bad_record : {A : Type 0} → List ℕ → Reading A → List PlantError
+abbrev pub bad_record : {A : Type 0} → List ℕ → Held A → List PlantError
 bad_record file (Ok held) = []
 bad_record file (Err number) = BadRecord file number ∷ []
 
 -- 10, of a file that may not be used, by what is read of its bytes
-abbrev pub bad_record_in : {A : Type 0} → (List ℕ → Reading A) → Option (List ℕ) → Option (List ℕ) → List PlantError
+abbrev pub bad_record_in : {A : Type 0} → (List ℕ → Held A) → Option (List ℕ) → Option (List ℕ) → List PlantError
 bad_record_in read name bytes = option_map_or (λ bs. bad_record (unwrap_or name []) (read bs)) bytes []
 
 -- what is read of the bytes of a file that may not be used, where no record is bad
-abbrev pub held_in : {A : Type 0} → (List ℕ → Reading A) → Option (List ℕ) → Option A
+abbrev pub held_in : {A : Type 0} → (List ℕ → Held A) → Option (List ℕ) → Option A
 held_in read bytes = option_and_then (λ bs. result_ok (read bs)) bytes
 
 -- 10: a record of the demand file, or then of the times file, can't be used

@@ -1,8 +1,7 @@
 //! A draft becomes a plant, once the files that it names have been read.
-ghost use Rattle.std.specs.Prelude.{◌≡◌, ◌≢◌, ◌≤◌, ◌<◌, [], ◌∷◌, ℕ, List, Option, All, Contains, Ok, IfErr, IfOk, IfSome, map, is_some, option_map, option_copied, length, vec_len};
+ghost use Rattle.std.specs.Prelude.{◌≡◌, ◌≢◌, ◌≤◌, ◌<◌, [], ◌∷◌, ℕ, List, Option, All, Ok, IfErr, IfOk, IfSome, map, is_some, option_map, option_copied, length, vec_len};
 ghost use Rattle.line_base.specs.declared.limits.TheConstants.{MAX_DEMAND_DATE, MAX_FILE_BYTES};
 ghost use Rattle.demand_feed.specs.Dates.{dates_of};
-ghost use Rattle.demand_feed.specs.JobTimes.{numbers_in};
 ghost use Rattle.demand_feed.specs.Times.{times_of};
 ghost use Rattle.plant_model.specs.Sound.{IsSound};
 ghost use Rattle.plant_draft.specs.Draft.{demands_file, columns_of};
@@ -139,8 +138,8 @@ fn plant_with(
     let Ok(count) = u32::try_from(draft.stages.len()) else {
         return Err(PlantError::NoMemory);
     };
-    let jobs = jobs_in(&table);
-    let stages = stages_with(alloc, draft.stages, table.as_ref(), jobs)?;
+    keeps_limit(&table);
+    let stages = stages_with(alloc, draft.stages, table.as_ref())?;
     let loops = loops_with(alloc, draft.loops, count)?;
     Ok(Plant {
         policy: draft.policy,
@@ -152,14 +151,12 @@ fn plant_with(
     })
 }
 
-/// How many jobs the times file has, if there is one.
-fn jobs_in(table: &Option<Columns>) -> u32
-    ensures count { IfSome table.now (λ t. result ≡ length t.rows) }
-    ensures limit { IfSome table.now IsWithinLimit }
+/// No time of a times file is above its limit, as its count of jobs tells.
+fn keeps_limit(table: &Option<Columns>)
+    ensures { IfSome table.now IsWithinLimit }
 {
-    match table {
-        Some(table) => table.records(),
-        None => 0,
+    if let Some(table) = table {
+        let _ = table.records();
     }
 }
 
@@ -208,15 +205,13 @@ fn stages_with(
     alloc: Global,
     stages: Items<DraftStage>,
     table: Option<&Columns>,
-    jobs: u32,
 ) -> Result<Items<Stage>, AllocError>
-    requires columns { All (HasColumns (option_copied table)) stages }
-    requires jobs { IfSome (option_copied table) (λ t. jobs ≡ length t.rows) }
+    requires { All (HasColumns (option_copied table)) stages }
     ensures { IfOk result (λ made. made ≡ map (stage_with (option_copied table.entry)) stages) }
 {
     let mut made = Vec::with_capacity(alloc, stages.len())?;
     for stage in stages.into_vec() {
-        made.push(stage_with(alloc, stage, table, jobs)?)?;
+        made.push(stage_with(alloc, stage, table)?)?;
     }
     Ok(Items::from_vec(made))
 }
@@ -226,13 +221,11 @@ fn stage_with(
     alloc: Global,
     stage: DraftStage,
     table: Option<&Columns>,
-    jobs: u32,
 ) -> Result<Stage, AllocError>
-    requires columns { HasColumns (option_copied table) stage }
-    requires jobs { IfSome (option_copied table) (λ t. jobs ≡ length t.rows) }
+    requires { HasColumns (option_copied table) stage }
     ensures { IfOk result (λ made. made ≡ stage_with (option_copied table.entry) stage) }
 {
-    let machines = machines_with(alloc, stage.machines, table, jobs)?;
+    let machines = machines_with(alloc, stage.machines, table)?;
     Ok(Stage {
         name: stage.name,
         feeds: stage.feeds,
@@ -249,20 +242,15 @@ fn machines_with(
     alloc: Global,
     machines: Items<DraftMachine>,
     table: Option<&Columns>,
-    jobs: u32,
 ) -> Result<Items<Machine>, AllocError>
-    requires columns { All (λ m. HasColumn (option_copied table) m.times) machines }
-    requires jobs { IfSome (option_copied table) (λ t. jobs ≡ length t.rows) }
+    requires { All (λ m. HasColumn (option_copied table) m.times) machines }
     ensures { IfOk result (λ made. made ≡ map (machine_with (option_copied table.entry)) machines) }
 {
     let mut made = Vec::with_capacity(alloc, machines.len())?;
     for machine in machines.into_vec() {
-        let times = times_with(alloc, machine.times, table, jobs)?;
-        made.push(Machine {
-            name: machine.name,
-            servers: machine.servers,
-            times,
-        })?;
+        let (times, machine) = machine.split();
+        let times = times_with(alloc, times, table)?;
+        made.push(machine.with_times(times))?;
     }
     Ok(Items::from_vec(made))
 }
@@ -272,10 +260,8 @@ fn times_with(
     alloc: Global,
     times: DraftTimes,
     table: Option<&Columns>,
-    jobs: u32,
 ) -> Result<Times, AllocError>
-    requires columns { HasColumn (option_copied table) times }
-    requires jobs { IfSome (option_copied table) (λ t. jobs ≡ length t.rows) }
+    requires { HasColumn (option_copied table) times }
     ensures { IfOk result (λ made. made ≡ times_with (option_copied table.entry) times) }
 {
     match times {
@@ -283,23 +269,10 @@ fn times_with(
         DraftTimes::Each(times) => Ok(Times::Each(times)),
         DraftTimes::Column(column) => {
             let times = match table {
-                Some(table) => column_of(alloc, table, jobs, column)?,
+                Some(table) => table.column(alloc, column)?,
                 None => Vec::new(alloc),
             };
             Ok(Times::Each(Items::from_vec(times)))
         }
     }
-}
-
-/// The numbers of a column of a table of so many jobs, job by job.
-fn column_of(alloc: Global, table: &Columns, jobs: u32, column: u32) -> Result<Vec<u64>, AllocError>
-    requires column { Contains table.now.columns column }
-    requires jobs { jobs ≡ length table.now.rows }
-    ensures { IfOk result (λ times. times.items ≡ numbers_in table.now column) }
-{
-    let mut times = Vec::with_capacity(alloc, jobs as usize)?;
-    for job in 0..jobs {
-        times.push(table.field(job + 1, column))?;
-    }
-    Ok(times)
 }

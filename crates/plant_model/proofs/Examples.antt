@@ -5,8 +5,7 @@ use Rattle.line_base.specs.declared.times.Times.TheVariants.{Fixed, Each}
 use Rattle.plant_model.specs.declared.error.PlantError.TheVariants.{OutOfRange, TimesCount, DemandOrder, TooFewCards, LoopNotDownstream}
 use Rattle.plant_model.specs.declared.plant.Policy.{Policy}
 use Rattle.plant_model.specs.declared.plant.Policy.TheVariants.{Kanban, Conwip, BaseStock, Extended}
-use Rattle.plant_model.specs.declared.plant.Stage.{Stage}
-use Rattle.plant_model.specs.declared.plant.Machine.{Machine}
+use Rattle.plant_model.specs.Stages.{Machine, Stage, one_server}
 use Rattle.plant_model.specs.declared.plant.CardLoop.{CardLoop}
 use Rattle.plant_model.specs.declared.plant.Plant.{Plant}
 use Rattle.plant_model.specs.Line.{path, first_stages}
@@ -15,7 +14,7 @@ use Rattle.plant_model.specs.Refusals.{refusals, parts_refusals, whole_refusals}
 
 -- a machine with one server
 abbrev machine : List ℕ → ℕ → Machine
-machine name time = record { name = name; servers = 1; times = Fixed time }
+machine name time = one_server name (Fixed time)
 
 -- a stage with one machine
 abbrev stage : List ℕ → Option ℕ → ℕ → ℕ → Machine → Stage
@@ -175,7 +174,7 @@ cell =
             stock = 0;
             travel = 0;
             card_time = 0;
-            machines = machine (codes "a") 3 ∷ record { name = codes "b"; servers = 2; times = Fixed 4 } ∷ [];
+            machines = machine (codes "a") 3 ∷ record (machine (codes "b") 4) { servers = 2 } ∷ [];
           }
           ∷ [];
       loops = [];
@@ -237,7 +236,7 @@ mill times =
     record {
       policy = BaseStock;
       stages =
-          stage (codes "mill") None 0 0 (record { name = codes "m"; servers = 2; times = Each times })
+          stage (codes "mill") None 0 0 (record (one_server (codes "m") (Each times)) { servers = 2 })
           ∷ [];
       loops = [];
       card_time = 0;

@@ -10,7 +10,7 @@ use Rattle.std.proofs.lemmas.Grind.{get_or-set_at}
 use Rattle.std.proofs.lemmas.List.Sums.{sum_by-cons}
 use Rattle.plant_model.specs.declared.path_table.PathRow.{PathRow}
 use Rattle.plant_model.specs.declared.plant.Plant.{Plant}
-use Rattle.plant_model.specs.declared.plant.Stage.{Stage}
+use Rattle.plant_model.specs.Stages.{Stage}
 use Rattle.plant_model.specs.Line.{no_stage, next, starting, feeds, up_to, is_downstream, path_stock, stock_between}
 use Rattle.plant_model.specs.Paths.{no_row, row_at, IsPathRow, ArePathRows, AreFedMarks, IsPathTable}
 use Rattle.plant_model.specs.Refusals.{all_feeds_not_later}

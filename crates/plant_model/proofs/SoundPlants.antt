@@ -8,7 +8,7 @@ use Rattle.plant_model.specs.declared.plant.Policy.{Policy}
 use Rattle.plant_model.specs.declared.plant.Policy.TheVariants.{Kanban, Conwip, BaseStock, Extended}
 use Rattle.plant_model.specs.declared.plant.CardLoop.{CardLoop}
 use Rattle.plant_model.specs.declared.plant.Plant.{Plant}
-use Rattle.plant_model.specs.declared.place.Table.TheVariants.{InStage, InMachine, InLoop}
+use Rattle.plant_model.specs.declared.place.FileTable.TheVariants.{InStage, InMachine, InLoop}
 use Rattle.plant_model.specs.Place.{key_of}
 use Rattle.plant_model.specs.Line.{stock_under, starting, no_stage, no_machine, stage_at, machine_at, station_count, next, line_cards, is_first, is_downstream, path_stock, stock_between}
 use Rattle.plant_model.specs.Refusals.{too_few, above, larger, refusals, parts_refusals, whole_refusals, each, empty, out_of_range, top_out_of_range, stage_out_of_range, loop_out_of_range, machine_out_of_range, times_out_of_range, cards_out_of_range, element_above, all_feeds_not_later, second_finals, times_counts, stage_times_count, machine_times_count, times_count, demand_order, falling_date, too_few_cards, too_few_under, too_few_in_line, too_few_in_stage, too_few_in_loop, loops_not_downstream, not_downstream, is_loop, too_large}

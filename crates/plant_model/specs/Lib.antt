@@ -1,3 +1,4 @@
+pub mod Stages
 pub mod Line
 pub mod Paths
 pub mod Graph

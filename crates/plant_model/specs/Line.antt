@@ -6,8 +6,7 @@ use Rattle.std.specs.List.{range_with_len, list_any}
 use Rattle.line_base.specs.declared.times.Times.TheVariants.{Fixed}
 use Rattle.plant_model.specs.declared.plant.Policy.{Policy}
 use Rattle.plant_model.specs.declared.plant.Policy.TheVariants.{Kanban, Conwip, BaseStock, Extended}
-use Rattle.plant_model.specs.declared.plant.Machine.{Machine}
-use Rattle.plant_model.specs.declared.plant.Stage.{Stage}
+use Rattle.plant_model.specs.Stages.{Machine, Stage, one_server}
 use Rattle.plant_model.specs.declared.plant.Plant.{Plant}
 
 -- what stands where a number names no stage
@@ -20,7 +19,7 @@ stage_at p i = slice_index_or p.stages i no_stage
 
 -- what stands where a number names no machine
 abbrev pub no_machine : Machine
-no_machine = record { name = []; servers = 0; times = Fixed 0 }
+no_machine = record (one_server [] (Fixed 0)) { servers = 0 }
 
 -- machine j of stage i
 abbrev pub machine_at : Plant → ℕ → ℕ → Machine

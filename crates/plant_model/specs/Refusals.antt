@@ -10,13 +10,14 @@ use Rattle.plant_model.specs.declared.error.PlantError.{PlantError}
 use Rattle.plant_model.specs.declared.error.PlantError.TheVariants.{BadName, NameTwice, OutOfRange, FeedsNotLater, TwoFinals, TimesCount, DemandOrder, TooFewCards, LoopNotDownstream, TooLarge, NoMemory}
 use Rattle.plant_model.specs.declared.plant.Policy.{Policy}
 use Rattle.plant_model.specs.declared.plant.Policy.TheVariants.{Kanban, Conwip, BaseStock, Extended}
-use Rattle.plant_model.specs.declared.plant.Machine.{Machine}
-use Rattle.plant_model.specs.declared.plant.Stage.{Stage}
+use Rattle.plant_model.specs.declared.plant.Machine.{Machine as MachineOf}
+use Rattle.plant_model.specs.declared.plant.Stage.{Stage as StageOf}
+use Rattle.plant_model.specs.Stages.{Machine, Stage}
 use Rattle.plant_model.specs.declared.plant.CardLoop.{CardLoop}
 use Rattle.plant_model.specs.declared.plant.Plant.{Plant}
 use Rattle.plant_model.specs.Line.{station_count, is_first, is_downstream, path_stock, stock_between}
-use Rattle.plant_model.specs.declared.place.Table.{Table}
-use Rattle.plant_model.specs.declared.place.Table.TheVariants.{InStage, InMachine, InLoop}
+use Rattle.plant_model.specs.declared.place.FileTable.{FileTable}
+use Rattle.plant_model.specs.declared.place.FileTable.TheVariants.{InStage, InMachine, InLoop}
 use Rattle.plant_model.specs.Place.{at, place_of, key_of}
 
 -- the refusal, where the test gives true
@@ -45,23 +46,27 @@ abbrev pub bad_names : Plant → List PlantError
 bad_names p = each bad_name p.stages
 
 -- 6, of machine j of stage i
-abbrev pub machine_name_twice : ℕ → List Machine → ℕ → Machine → List PlantError
+abbrev pub machine_name_twice : {T : Type 0} → ℕ → List (MachineOf T) → ℕ → MachineOf T → List PlantError
 machine_name_twice i machines j m =
     refuse_if
     (list_any (λ other. bytes_eq other.name m.name) (take j machines))
     (NameTwice (key_of (InMachine i j) (codes "name")))
 
 -- 6, of stage i: its name, then those of its machines
-abbrev pub stage_name_twice : List Stage → ℕ → Stage → List PlantError
+abbrev pub stage_name_twice : {T : Type 0} → List (StageOf T) → ℕ → StageOf T → List PlantError
 stage_name_twice stages i s =
     refuse_if
     (list_any (λ other. bytes_eq other.name s.name) (take i stages))
     (NameTwice (key_of (InStage i) (codes "name")))
     ++ each (machine_name_twice i s.machines) s.machines
 
+-- 6, of stages: an earlier one, or an earlier machine of the stage, has the name
+abbrev pub names_twice_in : {T : Type 0} → List (StageOf T) → List PlantError
+names_twice_in stages = each (stage_name_twice stages) stages
+
 -- 6: an earlier stage, or an earlier machine of the stage, has the name
 abbrev pub names_twice : Plant → List PlantError
-names_twice p = each (stage_name_twice p.stages) p.stages
+names_twice p = names_twice_in p.stages
 
 -- a number above its limit
 abbrev pub above : List ℕ → ℕ → ℕ → List PlantError
@@ -94,7 +99,7 @@ top_out_of_range p =
     ++ empty (codes "stage") p.stages))))
 
 -- 7, of job times
-abbrev pub times_out_of_range : Table → Times → List PlantError
+abbrev pub times_out_of_range : FileTable → Times → List PlantError
 times_out_of_range machine (Fixed time) = above (key_of machine (codes "time")) longest_time time
 times_out_of_range machine (Each times) = each (element_above (key_of machine (codes "times")) longest_time) times
 
@@ -124,27 +129,35 @@ abbrev pub out_of_range : Plant → List PlantError
 out_of_range p = top_out_of_range p ++ (each stage_out_of_range p.stages ++ each loop_out_of_range p.loops)
 
 -- 8, of stage i, where there are `count` stages
-abbrev pub feeds_not_later : ℕ → ℕ → Stage → List PlantError
+abbrev pub feeds_not_later : {T : Type 0} → ℕ → ℕ → StageOf T → List PlantError
 feeds_not_later count i s =
     option_map_or
     (λ j. refuse_if (not (nat_lt i j && nat_lt j count)) (FeedsNotLater (key_of (InStage i) (codes "feeds"))))
     s.feeds
     []
 
+-- 8, of stages: one feeds a stage that isn't there or stands no later
+abbrev pub feeds_not_later_in : {T : Type 0} → List (StageOf T) → List PlantError
+feeds_not_later_in stages = each (feeds_not_later (length stages)) stages
+
 -- 8: a stage feeds a stage that isn't there or stands no later
 abbrev pub all_feeds_not_later : Plant → List PlantError
-all_feeds_not_later p = each (feeds_not_later (length p.stages)) p.stages
+all_feeds_not_later p = feeds_not_later_in p.stages
 
 -- 9, of stage i, where there are `count` stages
-abbrev pub second_final : ℕ → ℕ → Stage → List PlantError
+abbrev pub second_final : {T : Type 0} → ℕ → ℕ → StageOf T → List PlantError
 second_final count i s = refuse_if (is_none s.feeds && nat_lt (i + 1) count) (TwoFinals (place_of (InStage i)))
+
+-- 9, of stages: one other than the last feeds none
+abbrev pub second_finals_in : {T : Type 0} → List (StageOf T) → List PlantError
+second_finals_in stages = each (second_final (length stages)) stages
 
 -- 9: a stage other than the last feeds none
 abbrev pub second_finals : Plant → List PlantError
-second_finals p = each (second_final (length p.stages)) p.stages
+second_finals p = second_finals_in p.stages
 
 -- 11, of the job times of a machine
-abbrev pub times_count : ℕ → Table → Times → List PlantError
+abbrev pub times_count : ℕ → FileTable → Times → List PlantError
 times_count jobs machine (Fixed time) = []
 times_count jobs machine (Each times) =
     refuse_if (not (length times == jobs)) (TimesCount (place_of machine) (length times) jobs)

@@ -13,6 +13,8 @@ mod sizes;
 use crate::error::PlantError;
 use crate::path_table::PathTable;
 use crate::plant::Plant;
+pub use feeds::check_flow;
+pub use names::is_reserved;
 use std::alloc::Global;
 
 impl Plant {
@@ -47,8 +49,7 @@ fn check_parts(alloc: Global, plant: &Plant) -> Result<(), PlantError>
     names::check_reserved(alloc, plant)?;
     names::check_repeated(alloc, plant)?;
     ranges::check_ranges(alloc, plant)?;
-    feeds::check_feeds(alloc, plant)?;
-    feeds::check_finals(alloc, plant)
+    check_flow(alloc, plant.stages.as_slice())
 }
 
 /// Whether nothing is wrong with a plant as a whole.

@@ -10,8 +10,9 @@ mod place;
 mod plant;
 mod text;
 
+pub use check::{check_flow, is_reserved};
 pub use error::PlantError;
 pub use layout::{FEED, Layout};
-pub use place::{Table, element_place, key_place, table_place};
+pub use place::{FileTable, element_place, key_place, table_place};
 pub use plant::{CardLoop, Machine, Plant, Policy, Stage};
 pub use text::Text;

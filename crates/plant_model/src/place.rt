@@ -6,7 +6,7 @@ use std::alloc::{AllocError, Global};
 
 /// A table of a plant file. Stages, machines and loops are numbered from 0 here, and from 1 in the text of a place.
 #[derive(Clone, Copy, Debug, PartialEq, Eq)]
-pub enum Table {
+pub enum FileTable {
     /// The top of the file.
     Top,
     /// A stage.
@@ -18,21 +18,26 @@ pub enum Table {
 }
 
 /// The place of a table, as `stage[2].machine[1]`; that of the top is empty.
-pub fn table_place(alloc: Global, table: Table) -> Result<Text, AllocError>
+pub fn table_place(alloc: Global, table: FileTable) -> Result<Text, AllocError>
     ensures { IfOk result (λ place. place ≡ place_of table) }
 {
     Ok(Text::from_string(write_table(alloc, table)?))
 }
 
 /// The place of a key of a table, as `stage[2].machine[1].time`.
-pub fn key_place(alloc: Global, table: Table, key: &str) -> Result<Text, AllocError>
+pub fn key_place(alloc: Global, table: FileTable, key: &str) -> Result<Text, AllocError>
     ensures { IfOk result (λ place. place ≡ key_of table key.now) }
 {
     Ok(Text::from_string(write_key(alloc, table, key)?))
 }
 
 /// The place of element `k` of a list at a key, as `demands[3]`.
-pub fn element_place(alloc: Global, table: Table, key: &str, k: usize) -> Result<Text, AllocError>
+pub fn element_place(
+    alloc: Global,
+    table: FileTable,
+    key: &str,
+    k: usize,
+) -> Result<Text, AllocError>
     ensures { IfOk result (λ place. place ≡ at (key_of table key.now) k) }
 {
     let list = write_key(alloc, table, key)?;
@@ -40,25 +45,25 @@ pub fn element_place(alloc: Global, table: Table, key: &str, k: usize) -> Result
 }
 
 /// The text of a table's place.
-fn write_table(alloc: Global, table: Table) -> Result<String, AllocError>
+fn write_table(alloc: Global, table: FileTable) -> Result<String, AllocError>
     ensures { IfOk result (λ text. string_bytes text ≡ place_of table) }
 {
     match table {
-        Table::Top => Ok(String::new(alloc)),
-        Table::InStage(i) => write_element(alloc, "stage", i),
-        Table::InMachine(i, j) => {
+        FileTable::Top => Ok(String::new(alloc)),
+        FileTable::InStage(i) => write_element(alloc, "stage", i),
+        FileTable::InMachine(i, j) => {
             let stage = write_element(alloc, "stage", i)?;
             write_element(alloc, &format!(in alloc; "{stage}.machine")?, j)
         }
-        Table::InLoop(k) => write_element(alloc, "loop", k),
+        FileTable::InLoop(k) => write_element(alloc, "loop", k),
     }
 }
 
 /// The text of a key's place.
-fn write_key(alloc: Global, table: Table, key: &str) -> Result<String, AllocError>
+fn write_key(alloc: Global, table: FileTable, key: &str) -> Result<String, AllocError>
     ensures { IfOk result (λ text. string_bytes text ≡ key_of table key.now) }
 {
-    if table == Table::Top {
+    if table == FileTable::Top {
         return String::from_str(alloc, key);
     }
     let table = write_table(alloc, table)?;

@@ -1,4 +1,8 @@
+ghost use Rattle.std.specs.Prelude.{◌≡◌, IfOk};
+ghost use Rattle.plant_model.specs.Stages.{one_server, with_times};
+
 use line_base::{Date, Items, Name, Times};
+use std::alloc::{AllocError, Global};
 
 /// How the releases of a line are held back (Dallery and Liberopoulos 2000 for the idea of each).
 #[derive(Clone, Copy, Debug, PartialEq, Eq)]
@@ -13,20 +17,78 @@ pub enum Policy {
     Extended,
 }
 
-/// A machine of a stage.
+/// A machine of a stage. The job times of a plant are the numbers themselves; a plant that is still to be read has in their
+/// place where they stand.
 #[derive(Drop)]
-pub struct Machine {
+pub struct Machine<T = Times> {
     /// Its name, which no other machine of the stage has.
     pub name: Name,
     /// How many jobs it works on at once.
     pub servers: u32,
     /// Its job times.
-    pub times: Times,
+    pub times: T,
+}
+
+impl<T> Machine<T> {
+    /// A machine with one server. It takes no memory.
+    pub fn of(name: Name, times: T) -> Self
+        ensures { result ≡ one_server name times }
+    {
+        Machine {
+            name,
+            servers: 1,
+            times,
+        }
+    }
+
+    /// The job times, and the machine without them. It takes no memory.
+    pub fn split(self) -> (T, Machine<()>)
+        ensures times { result.0 ≡ self.times }
+        ensures machine { result.1 ≡ with_times self tt }
+    {
+        let Machine {
+            name,
+            servers,
+            times,
+        } = self;
+        let machine = Machine {
+            name,
+            servers,
+            times: (),
+        };
+        (times, machine)
+    }
+}
+
+impl Machine<()> {
+    /// The machine with these job times. It takes no memory.
+    pub fn with_times<T>(self, times: T) -> Machine<T>
+        ensures { result ≡ with_times self times }
+    {
+        Machine {
+            name: self.name,
+            servers: self.servers,
+            times,
+        }
+    }
+}
+
+impl Machine {
+    /// A copy of the machine.
+    pub fn copy(&self, alloc: Global) -> Result<Self, AllocError>
+        ensures { IfOk result (λ copy. copy ≡ self.now) }
+    {
+        Ok(Machine {
+            name: self.name.copy(alloc)?,
+            servers: self.servers,
+            times: self.times.copy(alloc)?,
+        })
+    }
 }
 
 /// A stage of a line: a release, and then its machines, one after the other.
 #[derive(Drop)]
-pub struct Stage {
+pub struct Stage<T = Times> {
     /// Its name, which no other stage has.
     pub name: Name,
     /// The number of the stage that it feeds, a later one; `None` for the final stage.
@@ -40,7 +102,7 @@ pub struct Stage {
     /// How long its card moves back under kanban and extended kanban, in the plant's unit.
     pub card_time: u64,
     /// Its machines, in order.
-    pub machines: Items<Machine>,
+    pub machines: Items<Machine<T>>,
 }
 
 /// A loop of cards round the stages from `first` to `last`.

@@ -3,7 +3,7 @@ use Rattle.std.proofs.Common.{◌≡◌, ℕ, not, ◌&&◌, ◌||◌, List, [],
 use Rattle.std.specs.Prelude.{bytes_eq, codes, take}
 use Rattle.std.specs.List.{list_any}
 use Rattle.plant_model.specs.declared.error.PlantError.{PlantError}
-use Rattle.plant_model.specs.declared.place.Table.{Table}
+use Rattle.plant_model.specs.declared.place.FileTable.{FileTable}
 use Rattle.plant_model.specs.Refusals.{each_from, each}
 use Rattle.toml.specs.Data.{Data}
 use Rattle.toml.specs.View.{view}
@@ -28,7 +28,7 @@ each_from_map f g k (x ∷ xs) = ap (λ rest. f k (g x) ++ rest) (each_from_map 
 pub each_map : {X Y : Type 0} (f : ℕ → Y → List PlantError) (g : X → Y) (xs : List X) → each f (map g xs) ≡ each (λ i x. f i (g x)) xs
 each_map f g xs = each_from_map f g 0 xs
 
-pub keys_refusals_map : (class : Class) (table : Table) (d : Data) (keys : List Key) → keys_refusals class table d (keys_of keys) ≡ each (λ _ k. key_refusals class table d (key_seen k)) keys
+pub keys_refusals_map : (class : Class) (table : FileTable) (d : Data) (keys : List Key) → keys_refusals class table d (keys_of keys) ≡ each (λ _ k. key_refusals class table d (key_seen k)) keys
 keys_refusals_map class table d keys = each_map (λ _ k. key_refusals class table d k) key_seen keys
 
 pub each_views : (f : ℕ → Data → List PlantError) (vs : List Value) → each f (views vs) ≡ each (λ i v. f i (view v)) vs

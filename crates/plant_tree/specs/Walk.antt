@@ -7,8 +7,8 @@ use Rattle.std.specs.Option.{option_map_or}
 use Rattle.line_base.specs.Text.{is_between, is_name, is_file_name}
 use Rattle.plant_model.specs.declared.error.PlantError.{PlantError}
 use Rattle.plant_model.specs.declared.error.PlantError.TheVariants.{UnknownKey, Missing, WrongType, BadName, NameTwice, OutOfRange}
-use Rattle.plant_model.specs.declared.place.Table.{Table}
-use Rattle.plant_model.specs.declared.place.Table.TheVariants.{Top, InStage, InMachine, InLoop}
+use Rattle.plant_model.specs.declared.place.FileTable.{FileTable}
+use Rattle.plant_model.specs.declared.place.FileTable.TheVariants.{Top, InStage, InMachine, InLoop}
 use Rattle.plant_model.specs.Place.{at, key_of}
 use Rattle.plant_model.specs.Refusals.{refuse_if, each, is_reserved}
 use Rattle.toml.specs.Data.{Data, integer, Members, no_members, member, get}
@@ -29,11 +29,11 @@ abbrev pub shown : List ℕ → List ℕ
 shown key = if list_all is_plain key then key else codes "?"
 
 -- 2, of a member of a table with these keys
-abbrev pub unknown_key : Table → List Key → List ℕ → List PlantError
+abbrev pub unknown_key : FileTable → List Key → List ℕ → List PlantError
 unknown_key table keys name = refuse_if (not (is_allowed keys name)) (UnknownKey (key_of table (shown name)))
 
 -- 2, of all members of a table with these keys
-abbrev pub unknown_keys : Table → List Key → Members → List PlantError
+abbrev pub unknown_keys : FileTable → List Key → Members → List PlantError
 unknown_keys table keys no_members = []
 unknown_keys table keys (member name value rest) = unknown_key table keys name ++ unknown_keys table keys rest
 
@@ -120,17 +120,17 @@ absence_refusals BadNames required place = []
 absence_refusals OutOfRanges required place = []
 
 -- what a class refuses of a key of a table
-abbrev pub key_refusals : Class → Table → Data → Key → List PlantError
+abbrev pub key_refusals : Class → FileTable → Data → Key → List PlantError
 key_refusals class table d key =
     let place = key_of table key.name in
     option_map_or (value_refusals class key.kind place) (get key.name d) (absence_refusals class key.required place)
 
 -- what a class refuses of the keys of a table
-abbrev pub keys_refusals : Class → Table → Data → List Key → List PlantError
+abbrev pub keys_refusals : Class → FileTable → Data → List Key → List PlantError
 keys_refusals class table d keys = each (λ _ key. key_refusals class table d key) keys
 
 -- what a class refuses of a table
-abbrev pub table_refusals : Class → Table → Data → List Key → List PlantError
+abbrev pub table_refusals : Class → FileTable → Data → List Key → List PlantError
 table_refusals UnknownKeys table d keys = unknown_keys table keys (members_in d)
 table_refusals MissingKeys table d keys = keys_refusals MissingKeys table d keys
 table_refusals WrongTypes table d keys = keys_refusals WrongTypes table d keys
@@ -159,7 +159,7 @@ walk class top =
     ++ each (loop_refusals class) (tables_at (codes "loop") top))
 
 -- 6, of a name that comes after these
-abbrev pub name_twice : Table → List (List ℕ) → List ℕ → List PlantError
+abbrev pub name_twice : FileTable → List (List ℕ) → List ℕ → List PlantError
 name_twice table before name = refuse_if (list_any (bytes_eq name) before) (NameTwice (key_of table (codes "name")))
 
 -- 6, of machine j of stage i, whose machines have these names

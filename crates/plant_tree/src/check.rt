@@ -18,7 +18,7 @@ use crate::values::{
     elements_of, is_list_of_numbers, is_list_of_tables, is_number, is_text, is_within, tables_at,
     tables_of, text_of, value_at,
 };
-use plant_model::{PlantError, Table, element_place, key_place};
+use plant_model::{FileTable, PlantError, element_place, key_place};
 use std::alloc::Global;
 use toml::Value;
 
@@ -27,7 +27,7 @@ use toml::Value;
 pub fn check_tree(alloc: Global, class: Class, top: &Value) -> Result<(), PlantError>
     ensures { AnswersFirst result (walk class (view top.now)) }
 {
-    check_table(alloc, class, Table::Top, top, &top_keys(top))?;
+    check_table(alloc, class, FileTable::Top, top, &top_keys(top))?;
     check_stages(alloc, class, has_stage_cards(top), tables_at(top, "stage"))?;
     check_loops(alloc, class, tables_at(top, "loop"))
 }
@@ -60,7 +60,7 @@ fn check_stage(
     check_table(
         alloc,
         class,
-        Table::InStage(i),
+        FileTable::InStage(i),
         stage,
         &stage_keys(with_cards),
     )?;
@@ -95,7 +95,7 @@ fn check_machine(
     check_table(
         alloc,
         class,
-        Table::InMachine(i, j),
+        FileTable::InMachine(i, j),
         machine,
         &machine_keys(machine),
     )
@@ -115,7 +115,7 @@ fn check_loops(alloc: Global, class: Class, loops: &[Value]) -> Result<(), Plant
 fn check_loop(alloc: Global, class: Class, k: usize, card_loop: &Value) -> Result<(), PlantError>
     ensures { AnswersFirst result (loop_refusals class k (view card_loop.now)) }
 {
-    check_table(alloc, class, Table::InLoop(k), card_loop, &loop_keys())
+    check_table(alloc, class, FileTable::InLoop(k), card_loop, &loop_keys())
 }
 
 /// The first refusal of the class in a table with these keys.
@@ -123,7 +123,7 @@ fn check_loop(alloc: Global, class: Class, k: usize, card_loop: &Value) -> Resul
 fn check_table(
     alloc: Global,
     class: Class,
-    table: Table,
+    table: FileTable,
     value: &Value,
     keys: &[Key],
 ) -> Result<(), PlantError>
@@ -141,7 +141,7 @@ fn check_table(
 fn check_keys(
     alloc: Global,
     class: Class,
-    table: Table,
+    table: FileTable,
     value: &Value,
     keys: &[Key],
 ) -> Result<(), PlantError>
@@ -158,7 +158,7 @@ fn check_keys(
 fn check_key(
     alloc: Global,
     class: Class,
-    table: Table,
+    table: FileTable,
     value: &Value,
     key: &Key,
 ) -> Result<(), PlantError>
@@ -171,7 +171,7 @@ fn check_key(
 }
 
 /// The refusal of the class of a key that isn't there.
-fn check_absence(alloc: Global, class: Class, table: Table, key: &Key) -> Result<(), PlantError>
+fn check_absence(alloc: Global, class: Class, table: FileTable, key: &Key) -> Result<(), PlantError>
     ensures { AnswersFirst result
         (absence_refusals class key.now.required (key_of table key.now.name.now)) }
 {
@@ -186,7 +186,7 @@ fn check_absence(alloc: Global, class: Class, table: Table, key: &Key) -> Result
 fn check_value(
     alloc: Global,
     class: Class,
-    table: Table,
+    table: FileTable,
     key: &Key,
     value: &Value,
 ) -> Result<(), PlantError>
@@ -202,7 +202,7 @@ fn check_value(
 }
 
 /// Whether what stands at a key is of its kind.
-fn check_type(alloc: Global, table: Table, key: &Key, value: &Value) -> Result<(), PlantError>
+fn check_type(alloc: Global, table: FileTable, key: &Key, value: &Value) -> Result<(), PlantError>
     ensures { AnswersFirst result
         (refused_type key.now.kind (key_of table key.now.name.now) (view value.now)) }
 {
@@ -227,7 +227,7 @@ fn has_kind(kind: Kind, value: &Value) -> bool
 }
 
 /// Whether the text at a key keeps the rule of what it names.
-fn check_name(alloc: Global, table: Table, key: &Key, value: &Value) -> Result<(), PlantError>
+fn check_name(alloc: Global, table: FileTable, key: &Key, value: &Value) -> Result<(), PlantError>
     ensures { AnswersFirst result
         (refused_name key.now.kind (key_of table key.now.name.now) (view value.now)) }
 {
@@ -239,7 +239,7 @@ fn check_name(alloc: Global, table: Table, key: &Key, value: &Value) -> Result<(
 }
 
 /// Whether what stands at a key is within its limits.
-fn check_range(alloc: Global, table: Table, key: &Key, value: &Value) -> Result<(), PlantError>
+fn check_range(alloc: Global, table: FileTable, key: &Key, value: &Value) -> Result<(), PlantError>
     ensures { AnswersFirst result
         (out_of_range key.now.kind (key_of table key.now.name.now) (view value.now)) }
 {
@@ -262,7 +262,7 @@ fn check_range(alloc: Global, table: Table, key: &Key, value: &Value) -> Result<
 /// Whether a list of numbers has an element, where it may not be empty, and each number is at most its limit.
 fn check_list(
     alloc: Global,
-    table: Table,
+    table: FileTable,
     name: &str,
     most: u64,
     may_be_empty: bool,
@@ -284,7 +284,7 @@ fn has_right_size(may_be_empty: bool, elements: &[Value]) -> bool
 }
 
 /// Refuses what stands at a key, unless the test gives true.
-fn refuse_unless(alloc: Global, table: Table, name: &str, test: bool) -> Result<(), PlantError>
+fn refuse_unless(alloc: Global, table: FileTable, name: &str, test: bool) -> Result<(), PlantError>
     ensures { AnswersFirst result (out_unless test (key_of table name.now)) }
 {
     if test {
@@ -307,7 +307,7 @@ fn may_be_number(value: &Value, least: u64, most: u64) -> bool
 /// Whether each number of a list is at most its limit, and none is below 0.
 fn check_numbers(
     alloc: Global,
-    table: Table,
+    table: FileTable,
     name: &str,
     most: u64,
     numbers: &[Value],

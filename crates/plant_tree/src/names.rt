@@ -8,7 +8,7 @@ ghost use Rattle.plant_tree.specs.Walk.{name_twice, machine_name_twice, stage_na
 
 use crate::values::{tables_at, text_at};
 use indexmap::IndexSet;
-use plant_model::{PlantError, Table, key_place};
+use plant_model::{FileTable, PlantError, key_place};
 use std::alloc::{AllocError, Global};
 use std::marker::Model;
 use toml::Value;
@@ -43,10 +43,8 @@ impl<'a> Names<'a> {
         ensures differs { IfOk result (λ is_new. is_new ≡ not (list_any (bytes_eq name.now) self.old)) }
         ensures added { result ≡ Ok true → self.new ≡ self.old ++ name.now ∷ [] }
     {
-        match self.set.insert_full(name) {
-            Ok((_, is_new)) => Ok(is_new),
-            Err(_) => Err(AllocError),
-        }
+        let (_, is_new) = self.set.insert_full(name)?;
+        Ok(is_new)
     }
 
     /// The number of a name; none where it isn't among these. It takes no memory.
@@ -108,7 +106,7 @@ fn add_stage<'a>(
     ensures first { AnswersFirst result (stage_name_twice names.old i (view stage.now)) }
     ensures added { OnOk result (names.new ≡ names.old ++ name_in (view stage.now) ∷ []) }
 {
-    add_name(alloc, names, Table::InStage(i), text_at(stage, "name"))?;
+    add_name(alloc, names, FileTable::InStage(i), text_at(stage, "name"))?;
     check_machine_names(alloc, i, tables_at(stage, "machine"))
 }
 
@@ -122,7 +120,7 @@ fn check_machine_names(alloc: Global, i: usize, machines: &[Value]) -> Result<()
         add_name(
             alloc,
             &mut names,
-            Table::InMachine(i, j),
+            FileTable::InMachine(i, j),
             text_at(machine, "name"),
         )?;
     }
@@ -133,7 +131,7 @@ fn check_machine_names(alloc: Global, i: usize, machines: &[Value]) -> Result<()
 fn add_name<'a>(
     alloc: Global,
     names: &mut Names<'a>,
-    table: Table,
+    table: FileTable,
     name: &'a str,
 ) -> Result<(), PlantError>
     ensures first { AnswersFirst result (name_twice table names.old name.now) }

@@ -1,11 +1,10 @@
 ghost use Rattle.std.specs.Prelude.{◌≡◌};
 ghost use Rattle.std.specs.List.{list_all};
-ghost use Rattle.line_base.specs.Text.{is_name, is_name_byte};
-ghost use Rattle.plant_model.specs.Refusals.{is_reserved};
 ghost use Rattle.plant_tree.specs.Walk.{keeps_name_rule, is_policy, is_plain, shown};
 
 use crate::keys::Kind;
-use line_base::is_file_name;
+use line_base::{is_file_name, is_name};
+use plant_model::is_reserved;
 
 /// Whether a text keeps the rule of what it names.
 pub(crate) fn keeps_name_rule(kind: Kind, text: &str) -> bool
@@ -22,37 +21,6 @@ pub(crate) fn keeps_name_rule(kind: Kind, text: &str) -> bool
         | Kind::Numbers { .. }
         | Kind::Tables { .. } => true,
     }
-}
-
-/// Whether a text is a name: 1 to 24 characters of `a-z 0-9 _ -`, the first a letter.
-fn is_name(text: &[u8]) -> bool
-    ensures { result ≡ is_name text.now }
-{
-    let [first, ..] = text else {
-        return false;
-    };
-    text.len() <= 24 && first.is_ascii_lowercase() && has_name_bytes(text)
-}
-
-/// Whether each byte of a text may stand in a name.
-fn has_name_bytes(text: &[u8]) -> bool
-    ensures { result ≡ list_all is_name_byte text.now }
-{
-    text.iter().all(|byte| is_in_names(*byte))
-}
-
-/// Whether a byte may stand in a name.
-fn is_in_names(byte: u8) -> bool
-    ensures { result ≡ is_name_byte byte }
-{
-    matches!(byte, b'a'..=b'z' | b'0'..=b'9' | b'_' | b'-')
-}
-
-/// Whether a name is one that no stage may have.
-fn is_reserved(name: &[u8]) -> bool
-    ensures { result ≡ is_reserved name.now }
-{
-    name == b"feed".as_slice() || name == b"deliver".as_slice()
 }
 
 /// Whether a text is one of the four words for a policy.

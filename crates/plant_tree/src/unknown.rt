@@ -9,14 +9,14 @@ ghost use Rattle.plant_tree.specs.Walk.{unknown_key, unknown_keys};
 
 use crate::keys::Key;
 use crate::rules::shown;
-use plant_model::{PlantError, Table, key_place};
+use plant_model::{FileTable, PlantError, key_place};
 use std::alloc::Global;
 use toml::Value;
 
 /// The first key of a table that isn't one of these, or that another key excludes.
 pub(crate) fn check_known(
     alloc: Global,
-    table: Table,
+    table: FileTable,
     value: &Value,
     keys: &[Key],
 ) -> Result<(), PlantError>
@@ -31,7 +31,7 @@ pub(crate) fn check_known(
 /// The first of the members of a table whose key isn't one of these, or is excluded.
 fn check_members(
     alloc: Global,
-    table: Table,
+    table: FileTable,
     members: &toml::Table,
     keys: &[Key],
 ) -> Result<(), PlantError>
@@ -44,7 +44,7 @@ fn check_members(
 }
 
 /// Whether a key is one of these, and not excluded.
-fn check_member(alloc: Global, table: Table, name: &str, keys: &[Key]) -> Result<(), PlantError>
+fn check_member(alloc: Global, table: FileTable, name: &str, keys: &[Key]) -> Result<(), PlantError>
     ensures { AnswersFirst result (unknown_key table (keys_of keys.now) name.now) }
 {
     if is_allowed(keys, name) {

@@ -4,7 +4,7 @@ ghost use Rattle.plant_model.specs.Refusals.{AnswersFirst, each, too_few, too_fe
 
 use crate::error::PlantError;
 use crate::path_table::PathTable;
-use crate::place::{Table, key_place, table_place};
+use crate::place::{FileTable, key_place, table_place};
 use crate::plant::{CardLoop, Policy, Stage};
 use std::alloc::Global;
 
@@ -52,7 +52,7 @@ fn check_path(
     if !paths.is_first(i) {
         return Ok(());
     }
-    check_count(alloc, Table::Top, u64::from(cards), paths.stock(i))
+    check_count(alloc, FileTable::Top, u64::from(cards), paths.stock(i))
 }
 
 /// Whether each stage has as many cards as starting stock.
@@ -69,7 +69,7 @@ fn check_stages(alloc: Global, stages: &[Stage]) -> Result<(), PlantError>
 fn check_stage(alloc: Global, i: usize, stage: &Stage) -> Result<(), PlantError>
     ensures { AnswersFirst result (too_few_in_stage i stage.now) }
 {
-    let table = Table::InStage(i);
+    let table = FileTable::InStage(i);
     check_count(alloc, table, u64::from(stage.cards), u64::from(stage.stock))
 }
 
@@ -93,7 +93,12 @@ fn check_loop(
     ensures { AnswersFirst result (too_few_in_loop paths.now k card_loop.now) }
 {
     match stock_of_loop(paths, card_loop) {
-        Some(stock) => check_count(alloc, Table::InLoop(k), u64::from(card_loop.cards), stock),
+        Some(stock) => check_count(
+            alloc,
+            FileTable::InLoop(k),
+            u64::from(card_loop.cards),
+            stock,
+        ),
         None => Ok(()),
     }
 }
@@ -111,7 +116,7 @@ fn stock_of_loop(paths: &PathTable, card_loop: &CardLoop) -> Option<u64>
 }
 
 /// Whether there are as many cards at a table as starting stock.
-fn check_count(alloc: Global, table: Table, cards: u64, stock: u64) -> Result<(), PlantError>
+fn check_count(alloc: Global, table: FileTable, cards: u64, stock: u64) -> Result<(), PlantError>
     ensures { AnswersFirst result (too_few (key_of table (codes "cards")) cards stock) }
 {
     if stock <= cards {
@@ -147,6 +152,6 @@ fn check_loop_downstream(
     if stock_of_loop(paths, card_loop).is_some() {
         return Ok(());
     }
-    let place = table_place(alloc, Table::InLoop(k))?;
+    let place = table_place(alloc, FileTable::InLoop(k))?;
     Err(PlantError::LoopNotDownstream { place })
 }

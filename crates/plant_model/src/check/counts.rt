@@ -2,7 +2,7 @@ ghost use Rattle.std.specs.Prelude.{◌≡◌, ◌<◌, length};
 ghost use Rattle.plant_model.specs.Refusals.{AnswersFirst, each, times_count, machine_times_count, stage_times_count, times_counts, falling_date, demand_order};
 
 use crate::error::PlantError;
-use crate::place::{Table, table_place};
+use crate::place::{FileTable, table_place};
 use crate::plant::{Machine, Plant, Stage};
 use line_base::{Date, Times};
 use std::alloc::Global;
@@ -22,7 +22,7 @@ fn check_stage(alloc: Global, jobs: usize, i: usize, stage: &Stage) -> Result<()
     ensures { AnswersFirst result (stage_times_count jobs i stage.now) }
 {
     for (j, machine) in stage.machines.as_slice().iter().enumerate() {
-        check_machine(alloc, jobs, Table::InMachine(i, j), &machine.times)?;
+        check_machine(alloc, jobs, FileTable::InMachine(i, j), &machine.times)?;
     }
     Ok(())
 }
@@ -31,7 +31,7 @@ fn check_stage(alloc: Global, jobs: usize, i: usize, stage: &Stage) -> Result<()
 fn check_machine(
     alloc: Global,
     jobs: usize,
-    machine: Table,
+    machine: FileTable,
     times: &Times,
 ) -> Result<(), PlantError>
     ensures { AnswersFirst result (times_count jobs machine times.now) }

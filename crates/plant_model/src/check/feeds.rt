@@ -1,16 +1,24 @@
-ghost use Rattle.std.specs.Prelude.{◌≡◌, ◌<◌};
-ghost use Rattle.plant_model.specs.Refusals.{AnswersFirst, feeds_not_later, all_feeds_not_later, second_final, second_finals};
+ghost use Rattle.std.specs.Prelude.{◌≡◌, ◌<◌, ◌++◌};
+ghost use Rattle.plant_model.specs.Refusals.{AnswersFirst, feeds_not_later, feeds_not_later_in, second_final, second_finals_in};
 
 use crate::error::PlantError;
-use crate::place::{Table, key_place, table_place};
-use crate::plant::{Plant, Stage};
+use crate::place::{FileTable, key_place, table_place};
+use crate::plant::Stage;
 use std::alloc::Global;
 
-/// Whether each stage that feeds one feeds a later one.
-pub(crate) fn check_feeds(alloc: Global, plant: &Plant) -> Result<(), PlantError>
-    ensures { AnswersFirst result (all_feeds_not_later plant.now) }
+/// Whether each stage that feeds one feeds a later one, and then whether no stage but the last feeds none. The error is the
+/// first of the refusals 8 and 9 of `PlantError`; want of memory may come before any of them.
+pub fn check_flow<T>(alloc: Global, stages: &[Stage<T>]) -> Result<(), PlantError>
+    ensures { AnswersFirst result (feeds_not_later_in stages.now ++ second_finals_in stages.now) }
 {
-    let stages = plant.stages.as_slice();
+    check_feeds(alloc, stages)?;
+    check_finals(alloc, stages)
+}
+
+/// Whether each stage that feeds one feeds a later one.
+fn check_feeds<T>(alloc: Global, stages: &[Stage<T>]) -> Result<(), PlantError>
+    ensures { AnswersFirst result (feeds_not_later_in stages.now) }
+{
     for (i, stage) in stages.iter().enumerate() {
         check_stage_feeds(alloc, stages.len(), i, stage)?;
     }
@@ -18,7 +26,12 @@ pub(crate) fn check_feeds(alloc: Global, plant: &Plant) -> Result<(), PlantError
 }
 
 /// Whether stage `i` of so many feeds a later one, if it feeds one.
-fn check_stage_feeds(alloc: Global, count: usize, i: usize, stage: &Stage) -> Result<(), PlantError>
+fn check_stage_feeds<T>(
+    alloc: Global,
+    count: usize,
+    i: usize,
+    stage: &Stage<T>,
+) -> Result<(), PlantError>
     ensures { AnswersFirst result (feeds_not_later count i stage.now) }
 {
     let Some(fed) = stage.feeds else {
@@ -28,15 +41,14 @@ fn check_stage_feeds(alloc: Global, count: usize, i: usize, stage: &Stage) -> Re
     if i < fed && fed < count {
         return Ok(());
     }
-    let place = key_place(alloc, Table::InStage(i), "feeds")?;
+    let place = key_place(alloc, FileTable::InStage(i), "feeds")?;
     Err(PlantError::FeedsNotLater { place })
 }
 
 /// Whether no stage but the last feeds none.
-pub(crate) fn check_finals(alloc: Global, plant: &Plant) -> Result<(), PlantError>
-    ensures { AnswersFirst result (second_finals plant.now) }
+fn check_finals<T>(alloc: Global, stages: &[Stage<T>]) -> Result<(), PlantError>
+    ensures { AnswersFirst result (second_finals_in stages.now) }
 {
-    let stages = plant.stages.as_slice();
     for (i, stage) in stages.iter().enumerate() {
         check_stage_final(alloc, stages.len(), i, stage)?;
     }
@@ -44,13 +56,18 @@ pub(crate) fn check_finals(alloc: Global, plant: &Plant) -> Result<(), PlantErro
 }
 
 /// Whether stage `i` of so many feeds one, if it isn't the last.
-fn check_stage_final(alloc: Global, count: usize, i: usize, stage: &Stage) -> Result<(), PlantError>
+fn check_stage_final<T>(
+    alloc: Global,
+    count: usize,
+    i: usize,
+    stage: &Stage<T>,
+) -> Result<(), PlantError>
     requires { i < count }
     ensures { AnswersFirst result (second_final count i stage.now) }
 {
     if stage.feeds.is_some() || i + 1 == count {
         return Ok(());
     }
-    let place = table_place(alloc, Table::InStage(i))?;
+    let place = table_place(alloc, FileTable::InStage(i))?;
     Err(PlantError::TwoFinals { place })
 }

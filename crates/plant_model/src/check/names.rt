@@ -3,7 +3,7 @@ ghost use Rattle.std.specs.List.{list_any};
 ghost use Rattle.plant_model.specs.Refusals.{AnswersFirst, bad_name, bad_names, is_reserved, machine_name_twice, stage_name_twice, names_twice};
 
 use crate::error::PlantError;
-use crate::place::{Table, key_place};
+use crate::place::{FileTable, key_place};
 use crate::plant::{Machine, Plant, Stage};
 use line_base::Name;
 use std::alloc::Global;
@@ -25,12 +25,12 @@ fn check_stage_reserved(alloc: Global, i: usize, stage: &Stage) -> Result<(), Pl
     if !is_reserved(stage.name.text()) {
         return Ok(());
     }
-    let place = key_place(alloc, Table::InStage(i), "name")?;
+    let place = key_place(alloc, FileTable::InStage(i), "name")?;
     Err(PlantError::BadName { place })
 }
 
 /// Whether a name is one that no stage may have.
-fn is_reserved(name: &[u8]) -> bool
+pub fn is_reserved(name: &[u8]) -> bool
     ensures { result ≡ is_reserved name.now }
 {
     name == b"feed".as_slice() || name == b"deliver".as_slice()
@@ -58,7 +58,7 @@ fn check_stage_repeated(
     ensures { AnswersFirst result (stage_name_twice stages.now i stage.now) }
 {
     if has_stage(&stages[..i], &stage.name) {
-        let place = key_place(alloc, Table::InStage(i), "name")?;
+        let place = key_place(alloc, FileTable::InStage(i), "name")?;
         return Err(PlantError::NameTwice { place });
     }
     let machines = stage.machines.as_slice();
@@ -82,7 +82,7 @@ fn check_machine_repeated(
     if !has_machine(&machines[..j], &machine.name) {
         return Ok(());
     }
-    let place = key_place(alloc, Table::InMachine(i, j), "name")?;
+    let place = key_place(alloc, FileTable::InMachine(i, j), "name")?;
     Err(PlantError::NameTwice { place })
 }
 

@@ -3,7 +3,7 @@ ghost use Rattle.plant_model.specs.Place.{key_of};
 ghost use Rattle.plant_model.specs.Refusals.{AnswersFirst, each, above, element_above, empty, cards_out_of_range, top_out_of_range, times_out_of_range, machine_out_of_range, stage_out_of_range, loop_out_of_range, out_of_range};
 
 use crate::error::PlantError;
-use crate::place::{Table, element_place, key_place};
+use crate::place::{FileTable, element_place, key_place};
 use crate::plant::{CardLoop, Machine, Plant, Policy, Stage};
 use line_base::{Items, MAX_CARDS, MAX_DEMAND_DATE, MAX_OBSERVE_DATE, MAX_TIME, Times};
 use std::alloc::Global;
@@ -21,24 +21,30 @@ pub(crate) fn check_ranges(alloc: Global, plant: &Plant) -> Result<(), PlantErro
 fn check_top(alloc: Global, plant: &Plant) -> Result<(), PlantError>
     ensures { AnswersFirst result (top_out_of_range plant.now) }
 {
-    check_number(alloc, Table::Top, "card_time", MAX_TIME, plant.card_time)?;
+    check_number(
+        alloc,
+        FileTable::Top,
+        "card_time",
+        MAX_TIME,
+        plant.card_time,
+    )?;
     check_line_cards(alloc, plant.policy)?;
-    check_filled(alloc, Table::Top, "demands", &plant.demands)?;
+    check_filled(alloc, FileTable::Top, "demands", &plant.demands)?;
     check_numbers(
         alloc,
-        Table::Top,
+        FileTable::Top,
         "demands",
         MAX_DEMAND_DATE,
         &plant.demands,
     )?;
     check_numbers(
         alloc,
-        Table::Top,
+        FileTable::Top,
         "observe",
         MAX_OBSERVE_DATE,
         &plant.observe,
     )?;
-    check_filled(alloc, Table::Top, "stage", &plant.stages)
+    check_filled(alloc, FileTable::Top, "stage", &plant.stages)
 }
 
 /// Whether the cards of CONWIP are within their limit.
@@ -46,7 +52,7 @@ fn check_line_cards(alloc: Global, policy: Policy) -> Result<(), PlantError>
     ensures { AnswersFirst result (cards_out_of_range policy) }
 {
     match policy {
-        Policy::Conwip(cards) => check_cards(alloc, Table::Top, "cards", cards),
+        Policy::Conwip(cards) => check_cards(alloc, FileTable::Top, "cards", cards),
         Policy::Kanban | Policy::BaseStock | Policy::Extended => Ok(()),
     }
 }
@@ -65,7 +71,7 @@ fn check_stages(alloc: Global, stages: &[Stage]) -> Result<(), PlantError>
 fn check_stage(alloc: Global, i: usize, stage: &Stage) -> Result<(), PlantError>
     ensures { AnswersFirst result (stage_out_of_range i stage.now) }
 {
-    let table = Table::InStage(i);
+    let table = FileTable::InStage(i);
     check_number(alloc, table, "card_time", MAX_TIME, stage.card_time)?;
     check_cards(alloc, table, "cards", stage.cards)?;
     check_filled(alloc, table, "machine", &stage.machines)?;
@@ -88,13 +94,13 @@ fn check_machines(alloc: Global, i: usize, machines: &[Machine]) -> Result<(), P
 fn check_machine(alloc: Global, i: usize, j: usize, machine: &Machine) -> Result<(), PlantError>
     ensures { AnswersFirst result (machine_out_of_range i j machine.now) }
 {
-    let table = Table::InMachine(i, j);
+    let table = FileTable::InMachine(i, j);
     check_cards(alloc, table, "servers", machine.servers)?;
     check_times(alloc, table, &machine.times)
 }
 
 /// Whether job times are within their limit.
-fn check_times(alloc: Global, machine: Table, times: &Times) -> Result<(), PlantError>
+fn check_times(alloc: Global, machine: FileTable, times: &Times) -> Result<(), PlantError>
     ensures { AnswersFirst result (times_out_of_range machine times.now) }
 {
     match times {
@@ -117,13 +123,13 @@ fn check_loops(alloc: Global, loops: &[CardLoop]) -> Result<(), PlantError>
 fn check_loop(alloc: Global, k: usize, card_loop: &CardLoop) -> Result<(), PlantError>
     ensures { AnswersFirst result (loop_out_of_range k card_loop.now) }
 {
-    let table = Table::InLoop(k);
+    let table = FileTable::InLoop(k);
     check_number(alloc, table, "card_time", MAX_TIME, card_loop.card_time)?;
     check_cards(alloc, table, "cards", card_loop.cards)
 }
 
 /// Whether a count of cards, of stock or of servers is within its limit.
-fn check_cards(alloc: Global, table: Table, key: &str, count: u32) -> Result<(), PlantError>
+fn check_cards(alloc: Global, table: FileTable, key: &str, count: u32) -> Result<(), PlantError>
     ensures { AnswersFirst result (above (key_of table key.now) MAX_CARDS count) }
 {
     check_number(alloc, table, key, u64::from(MAX_CARDS), u64::from(count))
@@ -132,7 +138,7 @@ fn check_cards(alloc: Global, table: Table, key: &str, count: u32) -> Result<(),
 /// Whether a number is at most its limit.
 fn check_number(
     alloc: Global,
-    table: Table,
+    table: FileTable,
     key: &str,
     limit: u64,
     number: u64,
@@ -149,7 +155,7 @@ fn check_number(
 /// Whether each number of a list is at most its limit.
 fn check_numbers(
     alloc: Global,
-    table: Table,
+    table: FileTable,
     key: &str,
     limit: u64,
     numbers: &Items<u64>,
@@ -168,7 +174,7 @@ fn check_numbers(
 /// Whether a list has an element.
 fn check_filled<T>(
     alloc: Global,
-    table: Table,
+    table: FileTable,
     key: &str,
     items: &Items<T>,
 ) -> Result<(), PlantError>

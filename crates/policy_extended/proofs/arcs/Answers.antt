@@ -1,6 +1,6 @@
 use Rattle.std.proofs.Common.{◌≡◌, ◌<◌, ◌≤◌, ◌∷◌, [], ◌++◌, length, get_or, subst, sym, ap, ◌∙◌, arith}
 use Rattle.std.proofs.lemmas.List.{get_or_default, append_assoc}
-use Rattle.plant_model.specs.declared.plant.Stage.{Stage}
+use Rattle.plant_model.specs.Stages.{Stage}
 use Rattle.plant_model.specs.Line.{no_stage, stage_at, starting}
 use Rattle.plant_model.specs.Graph.{demand_row, card_row}
 use Rattle.plant_model.proofs.SoundPlants.{starting-has_cards}

@@ -1,5 +1,5 @@
 use Rattle.std.proofs.Common.{◌≡◌, length, sym, ap, ◌∙◌, subst, arith}
-use Rattle.plant_model.specs.declared.plant.Stage.{Stage}
+use Rattle.plant_model.specs.Stages.{Stage}
 use Rattle.plant_model.proofs.Soundness.{IsSound-FeedsLater}
 use Rattle.circuit_sums.proofs.Listings.{AreFirstAmong, AreFirstAmong-none, AreFirstAmong-some, AreFirstAmong-all}
 use Rattle.circuit_sums.proofs.first.first_flags.Goals.{in-Some, in_default}

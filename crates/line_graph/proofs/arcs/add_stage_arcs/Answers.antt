@@ -1,5 +1,5 @@
 use Rattle.std.proofs.Common.{length, refl, ap, ◌∙◌, arith}
-use Rattle.plant_model.specs.declared.plant.Stage.{Stage}
+use Rattle.plant_model.specs.Stages.{Stage}
 use Rattle.plant_model.specs.Line.{release, machine_station}
 use Rattle.plant_model.specs.Graph.{worked}
 use Rattle.plant_model.proofs.SoundPlants.{IsSoundStage-sound}

@@ -1,6 +1,6 @@
 use Rattle.std.proofs.Common.{◌≡◌, ◌+◌, ◌∷◌, [], ◌++◌, length, true, false, sym, ap, ◌∙◌}
 use Rattle.std.proofs.lemmas.Bool.{eq-eqb, ne_eqb}
-use Rattle.plant_model.specs.declared.plant.Stage.{Stage}
+use Rattle.plant_model.specs.Stages.{Stage}
 use Rattle.plant_model.specs.Line.{stage_at}
 use Rattle.plant_model.specs.Graph.{delays_of, machine_rows, onward}
 use Rattle.line_graph.proofs.Joined.{append-three, machine_more, onward-delay}

@@ -7,6 +7,6 @@ returns c =
     graph-parts c.args.plant.now _
     (c.from_vec.ensures ∙ c.in_ok-station_labels.ensures)
     (c.from_vec-2.ensures ∙ c.in_ok-station_times.ensures)
-    (c.from_vec-3.ensures ∙ (c.in_ok-from_slice.ensures.items ∙ c.as_slice.ensures))
-    (c.from_vec-4.ensures ∙ c.in_ok-line_arcs.ensures)
-    (c.from_vec-5.ensures ∙ c.in_ok-line_delays.ensures)
+    c.in_ok-copy.ensures
+    (c.from_vec-3.ensures ∙ c.in_ok-line_arcs.ensures)
+    (c.from_vec-4.ensures ∙ c.in_ok-line_delays.ensures)

@@ -1,6 +1,6 @@
 use Rattle.plant_draft.proofs.MarkSteps.{MarksRest}
 use Rattle.plant_draft.specs.Draft.{uses}
-use Rattle.plant_draft.specs.declared.draft.DraftMachine.{DraftMachine}
+use Rattle.plant_draft.specs.Draft.{DraftMachine}
 use Rattle.plant_draft.proofs.columns.mark_machines.Given as goal
 
 abbrev pub invariant-loop-machine : goal.invariant-loop-machine

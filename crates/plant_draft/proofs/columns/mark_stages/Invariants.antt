@@ -1,6 +1,6 @@
 use Rattle.plant_draft.proofs.MarkSteps.{MarksRest}
 use Rattle.plant_draft.specs.Columns.{is_used_by}
-use Rattle.plant_draft.specs.declared.draft.DraftStage.{DraftStage}
+use Rattle.plant_draft.specs.Draft.{DraftStage}
 use Rattle.plant_draft.proofs.columns.mark_stages.Given as goal
 
 abbrev pub invariant-loop-stage : goal.invariant-loop-stage

@@ -1,7 +1,8 @@
 use Rattle.std.proofs.Common.{◌≡◌, ◌++◌, [], ap, sym, subst, ◌∙◌}
 use Rattle.plant_model.proofs.NoRefusals.{append-nil_left, append-nil_right}
 use Rattle.toml.specs.View.{view}
-use Rattle.plant_draft.specs.Draft.{IsSoundDraft, all_feeds_not_later, second_finals}
+use Rattle.plant_model.specs.Refusals.{feeds_not_later_in, second_finals_in}
+use Rattle.plant_draft.specs.Draft.{IsSoundDraft}
 use Rattle.plant_draft.specs.Reading.{tree_refusals, draft_of}
 use Rattle.plant_draft.proofs.Trees.{stops_reading, stops_last}
 use Rattle.plant_draft.proofs.SoundDrafts.{sound_draft}
@@ -56,8 +57,8 @@ sealed-requires c =
     let top = view c.args.top.now in
     let same : c.as_slice.result.now ≡ (draft_of top).stages =
     c.as_slice.ensures ∙ ap (λ plant. plant.stages) c.in_ok-plant.ensures in
-    let flow : all_feeds_not_later (draft_of top).stages ++ second_finals (draft_of top).stages ≡ [] =
+    let flow : feeds_not_later_in (draft_of top).stages ++ second_finals_in (draft_of top).stages ≡ [] =
     rw (← same) c.in_ok-check_flow.ensures in
     subst IsSoundDraft (sym c.in_ok-plant.ensures)
     (sound_draft top c.in_ok-check_tree-2.ensures c.in_ok-check_tree-4.ensures c.in_ok-names.ensures.0 c.in_ok-check_tree-5.ensures
-    (append-nil_left (all_feeds_not_later (draft_of top).stages) _ flow) (append-nil_right (all_feeds_not_later (draft_of top).stages) _ flow))
+    (append-nil_left (feeds_not_later_in (draft_of top).stages) _ flow) (append-nil_right (feeds_not_later_in (draft_of top).stages) _ flow))

@@ -22,10 +22,3 @@ returns-in_err-check_ranges c =
     rw (c.in_ok-check_reserved.ensures, c.in_ok-check_repeated.ensures)
     (stops_among c.from_residual-in_err-check_ranges.result _ _ _ c.from_residual-in_err-check_ranges.ensures.1 refl
     c.in_err-check_ranges.ensures)
-
-pub returns-in_err-check_feeds : goal.returns-in_err-check_feeds
-unfolding parts_refusals
-returns-in_err-check_feeds c =
-    rw (c.in_ok-check_reserved.ensures, c.in_ok-check_repeated.ensures, c.in_ok-check_ranges.ensures)
-    (stops_among c.from_residual-in_err-check_feeds.result _ _ _ c.from_residual-in_err-check_feeds.ensures.1 refl
-    c.in_err-check_feeds.ensures)

@@ -4,4 +4,4 @@ use Rattle.plant_model.proofs.Passes.{Passed}
 use Rattle.plant_model.proofs.check.feeds.check_feeds.Given as goal
 
 abbrev pub invariant-loop-i : goal.invariant-loop-i
-invariant-loop-i l = Passed (feeds_not_later (length l.stages)) l.stages l.i
+invariant-loop-i g l = Passed (feeds_not_later (length l.stages)) l.stages l.i

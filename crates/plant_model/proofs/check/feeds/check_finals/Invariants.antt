@@ -4,4 +4,4 @@ use Rattle.plant_model.proofs.Passes.{Passed}
 use Rattle.plant_model.proofs.check.feeds.check_finals.Given as goal
 
 abbrev pub invariant-loop-i : goal.invariant-loop-i
-invariant-loop-i l = Passed (second_final (length l.stages)) l.stages l.i
+invariant-loop-i g l = Passed (second_final (length l.stages)) l.stages l.i

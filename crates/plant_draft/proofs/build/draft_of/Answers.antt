@@ -1,7 +1,7 @@
 use Rattle.std.proofs.Common.{refl}
 use Rattle.plant_draft.specs.Reading.{stage_of, loop_of}
 use Rattle.plant_tree.proofs.ValueLists.{map_views}
-use Rattle.plant_draft.proofs.build.plant_of.Goals as goal
+use Rattle.plant_draft.proofs.build.draft_of.Goals as goal
 
 pub returns : goal.returns
 returns c =

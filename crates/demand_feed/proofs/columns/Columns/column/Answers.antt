@@ -1,0 +1,17 @@
+use Rattle.std.proofs.Common.{◌∙◌, sym, arith}
+use Rattle.std.proofs.lemmas.List.{get_or_default}
+use Rattle.demand_feed.proofs.JobTimesLemmas.{numbers_in-all, numbers_in-more, place-within-column}
+use Rattle.demand_feed.proofs.columns.Columns.column.Goals as goal
+
+pub loop-job-preserved : goal.loop-job-preserved
+loop-job-preserved c =
+    let same = c.as_slice-columns.ensures.value in
+    let place = c.place_of-place.ensures in
+    let inside = place-within-column _ _ _ c.loop-job.job _ _ c.self.invariant c.loop-job-test.true same place.within in
+    let read = c.index.ensures ∙ get_or_default c.self.inside.times.items _ _ 0 inside in
+    let more = numbers_in-more _ _ _ _ c.loop-job.job _ _ _ c.self.view_is c.loop-job-test.true same place.within place.place in
+    c.in_ok-push.ensures.items ∙ rw (c.loop-job.invariant, read) (sym more)
+
+pub returns : goal.returns
+returns c =
+    c.loop-job.invariant ∙ numbers_in-all _ _ _ _ c.loop-job.job _ c.self.view_is (omega (arith, c.loop-job-test.false))
