@@ -16,7 +16,7 @@ use Rattle.plant_model.specs.Sound.{IsSound}
 use Rattle.plant_model.proofs.LayoutStations.{receiver-above}
 use Rattle.event_graph.specs.Network.{arc, stations}
 use Rattle.event_graph.specs.Live.{IsLive}
-use Rattle.line_graph.proofs.RowLists.{All-range}
+use Rattle.line_base.proofs.RangeLists.{All-range}
 use Rattle.line_graph.proofs.GraphRows.{EachPolicyRow, EachStageRow, All-rows}
 use Rattle.line_graph.proofs.Sizes.{arc_count-graph}
 use Rattle.line_graph.proofs.Inputs.{arc-graph, IsGraph-graph}

@@ -4,7 +4,7 @@ use Rattle.std.specs.List.{filter, range_with_len}
 use Rattle.std.proofs.lemmas.List.{append-nil}
 use Rattle.event_graph.specs.Firing.{greatest}
 use Rattle.event_graph.proofs.Greatest.{greatest-push, greatest-range}
-use Rattle.event_graph.proofs.Ranges.{filter-range_more}
+use Rattle.line_base.proofs.RangeLists.{filter-range_more}
 
 -- one number more, which passes the test, or doesn't
 pub greatest-passing : (f : ℕ → ℕ) (test : ℕ → Bool) (n : ℕ) → test n ≡ true → greatest f (filter test (range_with_len 0 (n + 1))) ≡ max (greatest f (filter test (range_with_len 0 n))) (f n)

@@ -11,7 +11,7 @@ use Rattle.plant_model.specs.Sound.{IsSound}
 use Rattle.plant_model.proofs.SoundPlants.{IsSoundStage-sound, HasSoundSizes-sound, path_stock-has_cards}
 use Rattle.event_graph.proofs.Greatest.{greatest-le}
 use Rattle.line_core.proofs.Existence.{has_least}
-use Rattle.line_graph.proofs.RowLists.{All-range}
+use Rattle.line_base.proofs.RangeLists.{All-range}
 use Rattle.line_graph.proofs.Inputs.{IsGraph-graph}
 use Rattle.card_sizing.specs.declared.sizing.Below.{Below}
 use Rattle.card_sizing.specs.declared.sizing.Below.TheVariants.{Job, Dead}

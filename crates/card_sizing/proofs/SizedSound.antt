@@ -23,7 +23,7 @@ use Rattle.plant_model.proofs.SoundPlants.{PassesAll, PassesAll-sound}
 use Rattle.event_graph.specs.Firing.{greatest}
 use Rattle.event_graph.proofs.Greatest.{le-greatest}
 use Rattle.line_graph.specs.MoreCards.{no_loop}
-use Rattle.line_graph.proofs.RowLists.{Contains-map-range, Contains-map-filter}
+use Rattle.line_base.proofs.RangeLists.{Contains-map-range, Contains-map-filter}
 use Rattle.line_graph.proofs.CardlessPlants.{deliver-same, path-same}
 use Rattle.card_sizing.specs.Sized.{has_single_count, policy_with, cards_under, stage_with, sized, lowest_under, lowest}
 use Rattle.card_sizing.proofs.SizedStages.{differ-sized, length-sized, stage_at-sized, policy-sized, loops-sized, no_loops}

@@ -23,11 +23,11 @@ use Rattle.event_graph.specs.Reached.{Reached, begins, fires}
 use Rattle.event_graph.specs.Circuit.{IsWalk, IsCircuit, tokens_in, tokens_on}
 use Rattle.event_graph.proofs.Places.{circuit-after, walk-start}
 use Rattle.circuit_sums.specs.declared.circuit.CardCircuit.{CardCircuit}
-use Rattle.circuit_sums.specs.ArcNumbers.{onward_arcs, onward_arcs_of, kanban_arc, extended_arc, conwip_arc, first_loop_arc}
+use Rattle.plant_model.specs.ArcNumbers.{onward_arcs, onward_arcs_of, kanban_arc, extended_arc, conwip_arc, first_loop_arc}
 use Rattle.circuit_sums.specs.Circuits.{stage_circuit, line_circuit, policy_circuits, loop_circuits, circuits, IsCardCircuit}
-use Rattle.circuit_sums.specs.Bound.{bound}
+use Rattle.plant_model.specs.Bound.{bound}
 use Rattle.circuit_sums.specs.Laws.{IsBounded}
-use Rattle.circuit_sums.proofs.RangeLists.{Contains-map-range, Contains-map-filter}
+use Rattle.line_base.proofs.RangeLists.{Contains-map-range, Contains-map-filter}
 use Rattle.circuit_sums.proofs.Lines.{walk-append, walk-split, walk-begin}
 use Rattle.circuit_sums.proofs.StageLines.{stage_line}
 use Rattle.circuit_sums.proofs.CardArcs.{policy_circuits-kanban, policy_circuits-extended, policy_circuits-conwip, circuits-closed}

@@ -8,15 +8,15 @@ use Rattle.line_base.specs.declared.event.Parts.{Parts}
 use Rattle.plant_model.specs.declared.plant.Policy.{Policy}
 use Rattle.plant_model.specs.declared.plant.Policy.TheVariants.{Kanban, Conwip, BaseStock, Extended}
 use Rattle.plant_model.specs.declared.plant.Plant.{Plant}
-use Rattle.plant_model.specs.Line.{stage_at, stage_numbers, stock_under, starting, line_cards, is_first, first_stages, path_stock, stock_between}
+use Rattle.plant_model.specs.Line.{stage_at, no_loop, loop_at, stage_numbers, stock_under, starting, line_cards, is_first, first_stages, path_stock, stock_between}
 use Rattle.plant_model.specs.Graph.{card_row, demand_row, line_card_row, policy_rows, kanban_rows, extended_rows, conwip_rows, graph}
 use Rattle.plant_model.specs.Sound.{IsSound}
 use Rattle.plant_model.proofs.SoundPlants.{IsSoundLoop-sound, path_stock-has_cards, starting-has_cards}
 use Rattle.event_graph.specs.Circuit.{IsCircuit, tokens_on}
 use Rattle.circuit_sums.specs.declared.circuit.CardCircuit.{CardCircuit}
-use Rattle.circuit_sums.specs.ArcNumbers.{policy_arc, kanban_arc, extended_arc, conwip_arc, first_loop_arc}
-use Rattle.circuit_sums.specs.Circuits.{stage_circuit, line_circuit, loop_circuit, policy_circuits, loop_circuits, circuits, no_loop, loop_at, IsCardCircuit}
-use Rattle.circuit_sums.proofs.RangeLists.{All-map-range, All-map-filter, get_or-flat_map-range, length-flat_map-range, passing-at}
+use Rattle.plant_model.specs.ArcNumbers.{policy_arc, kanban_arc, extended_arc, conwip_arc, first_loop_arc}
+use Rattle.circuit_sums.specs.Circuits.{stage_circuit, line_circuit, loop_circuit, policy_circuits, loop_circuits, circuits, IsCardCircuit}
+use Rattle.line_base.proofs.RangeLists.{All-map-range, All-map-filter, get_or-flat_map-range, length-flat_map-range, passing-at}
 use Rattle.circuit_sums.proofs.RowNumbers.{no_row, IsRowAt, HasArc, HasArc-row, policy_row-at, loop_row-at}
 use Rattle.circuit_sums.proofs.Lines.{IsLine, IsLine-close}
 use Rattle.circuit_sums.proofs.StageLines.{stage_line, path_line, whole_path_line}

@@ -1,4 +1,3 @@
-pub mod RangeLists
 pub mod RowNumbers
 pub mod Lines
 pub mod StageLines

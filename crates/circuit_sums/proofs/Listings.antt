@@ -1,93 +1,25 @@
--- What the listing of the card circuits keeps: which stages are first ones, and one circuit more.
-use Rattle.std.proofs.Common.{◌≡◌, ◌≢◌, ℕ, ◌+◌, ◌<◌, ◌≤◌, Bool, true, false, not, cond, eqb, ◌==◌, List, [], ◌∷◌, ◌++◌, length, get_or, set, take, map, Option, None, Some, refl, sym, ap, ◌∙◌, append_assoc, arith}
-use Rattle.std.specs.Prelude.{◌||◌}
-use Rattle.std.specs.Option.{option_map_or}
-use Rattle.std.specs.List.{range_with_len, filter, list_any, count_by}
-use Rattle.std.proofs.lemmas.Bool.{eqb-true, eqb-false}
-use Rattle.std.proofs.lemmas.List.{append-nil, map-append, length-map, length-set, get_or-set_same, get_or-set_other, take_all, take_more}
-use Rattle.std.proofs.lemmas.List.FromFn.{fill_by_all, map-range_with_len_more, get_or-map-range_with_len, length-range_with_len}
-use Rattle.std.proofs.lemmas.List.Folds.{list_any-append}
+-- What the listing of the card circuits keeps: one circuit more.
+use Rattle.std.proofs.Common.{◌≡◌, ℕ, ◌+◌, ◌<◌, ◌≤◌, Bool, true, false, cond, List, [], ◌∷◌, ◌++◌, length, get_or, map, refl, sym, ap, ◌∙◌, append_assoc, arith}
+use Rattle.std.specs.List.{range_with_len, filter, count_by}
+use Rattle.std.proofs.lemmas.List.{append-nil, map-append, length-map}
+use Rattle.std.proofs.lemmas.List.FromFn.{map-range_with_len_more, length-range_with_len}
 use Rattle.std.proofs.lemmas.List.Sums.{count_by-le-length}
 use Rattle.line_base.specs.declared.event.Arc.{Arc}
 use Rattle.line_base.specs.declared.event.Parts.{Parts}
 use Rattle.plant_model.specs.declared.plant.CardLoop.{CardLoop}
 use Rattle.plant_model.specs.declared.plant.Plant.{Plant}
-use Rattle.plant_model.specs.Line.{no_stage, stage_at, stage_numbers, feeds, is_first, path, up_to}
+use Rattle.plant_model.specs.Line.{no_loop, is_first, path, up_to}
 use Rattle.plant_model.specs.Graph.{rows, graph}
 use Rattle.plant_model.specs.Sound.{IsSound}
-use Rattle.plant_model.proofs.RowLists.{filter-range_more}
-use Rattle.plant_model.proofs.LayoutFacts.{few_stages}
+use Rattle.line_base.proofs.RangeLists.{filter-range_more, count_by-range_more}
+use Rattle.plant_model.proofs.LayoutFacts.{few_stages, small_arcs}
 use Rattle.event_graph.specs.Network.{arc_count}
 use Rattle.circuit_sums.specs.declared.circuit.CircuitKind.TheVariants as kind
 use Rattle.circuit_sums.specs.declared.circuit.CardCircuit.{CardCircuit}
-use Rattle.circuit_sums.specs.ArcNumbers.{policy_arc, first_loop_arc, conwip_arc, onward_arcs_of}
-use Rattle.circuit_sums.specs.Circuits.{line_circuit, no_loop, loop_circuit}
-use Rattle.circuit_sums.proofs.RangeLists.{count_by-range_more}
+use Rattle.plant_model.specs.ArcNumbers.{policy_arc, first_loop_arc, conwip_arc, onward_arcs_of}
+use Rattle.circuit_sums.specs.Circuits.{line_circuit, loop_circuit}
 use Rattle.circuit_sums.proofs.RowNumbers.{length-rows}
 use Rattle.circuit_sums.proofs.StageLines.{final_stage, up_to-final}
-use Rattle.circuit_sums.proofs.ArcPlaces.{small_arcs}
-
--- of each stage, whether none of the first n stages feeds it
-pub record AreFirstAmong (p : Plant) (n : ℕ) (flags : List Bool) : Type 0 where
-  pub one_each : length flags ≡ length p.stages
-  pub each : (k : ℕ) → k < length p.stages → get_or flags k false ≡ not (list_any (feeds k) (take n p.stages))
-
-or-false : (b : Bool) → (b || false) ≡ b
-or-false true = refl
-or-false false = refl
-
-or-true : (b : Bool) → (b || true) ≡ true
-or-true true = refl
-or-true false = refl
-
--- one stage more
-fed_more : (p : Plant) (n k : ℕ) (o : Option ℕ) → n < length p.stages → (stage_at p n).feeds ≡ o → list_any (feeds k) (take (n + 1) p.stages) ≡ (list_any (feeds k) (take n p.stages) || option_map_or (λ j. j == k) o false)
-fed_more p n k o below is =
-    let before = list_any (feeds k) (take n p.stages) in
-    ap (list_any (feeds k)) (take_more p.stages n no_stage below)
-    ∙ list_any-append (feeds k) (take n p.stages) (stage_at p n ∷ [])
-    ∙ ap (λ b. before || b) (or-false (feeds k (stage_at p n)))
-    ∙ ap (λ fed. before || option_map_or (λ j. j == k) fed false) is
-
--- the final stage feeds none
-pub AreFirstAmong-none : (p : Plant) (n : ℕ) (flags : List Bool) → n < length p.stages → (stage_at p n).feeds ≡ None → AreFirstAmong p n flags → AreFirstAmong p (n + 1) flags
-AreFirstAmong-none p n flags below is first =
-    record {
-      one_each = first.one_each;
-      each = λ k inside. first.each k inside ∙ ap not (sym (fed_more p n k None below is ∙ or-false (list_any (feeds k) (take n p.stages))));
-    }
-
--- what a stage feeds is no first stage
-pub AreFirstAmong-some : (p : Plant) (n j : ℕ) (flags : List Bool) → n < length p.stages → (stage_at p n).feeds ≡ Some j → j < length p.stages → AreFirstAmong p n flags → AreFirstAmong p (n + 1) (set flags j false)
-AreFirstAmong-some p n j flags below is there first =
-    record {
-      one_each = length-set flags j false ∙ first.one_each;
-      each = λ k inside. by_test k inside (eqb j k) refl;
-    }
-  where
-    by_test : (k : ℕ) → k < length p.stages → (t : Bool) → eqb j k ≡ t → get_or (set flags j false) k false ≡ not (list_any (feeds k) (take (n + 1) p.stages))
-    by_test k inside true here =
-        let same : j ≡ k = eqb-true j k here in
-        let within : j < length flags = omega (arith, first.one_each) in
-        let before = list_any (feeds k) (take n p.stages) in
-        let fed = fed_more p n k (Some j) below is ∙ ap (λ b. before || b) here ∙ or-true before in
-        ap (λ i. get_or (set flags j false) i false) (sym same) ∙ get_or-set_same flags j false false within ∙ ap not (sym fed)
-    by_test k inside false other =
-        let differ : k ≢ j = λ same. eqb-false j k other (sym same) in
-        let before = list_any (feeds k) (take n p.stages) in
-        let fed = fed_more p n k (Some j) below is ∙ ap (λ b. before || b) other ∙ or-false before in
-        get_or-set_other flags j k false false differ ∙ first.each k inside ∙ ap not (sym fed)
-
--- after all stages the flags tell the first stages
-pub AreFirstAmong-all : (p : Plant) (flags : List Bool) → AreFirstAmong p (length p.stages) flags → flags ≡ map (is_first p) (stage_numbers p)
-AreFirstAmong-all p flags first =
-    let all = take_all (length p.stages) p.stages (omega arith) in
-    fill_by_all (is_first p) flags (length p.stages) false first.one_each (λ k below. first.each k below ∙ ap (λ stages. not (list_any (feeds k) stages)) all)
-
--- a flag that was read
-pub first-read : (p : Plant) (flags : List Bool) (i : ℕ) (x : Bool) → flags ≡ map (is_first p) (stage_numbers p) → i < length p.stages → x ≡ get_or flags i x → is_first p i ≡ x
-first-read p flags i x are below read =
-    sym (read ∙ rw are (get_or-map-range_with_len (is_first p) 0 (length p.stages) i i x below (omega arith)))
 
 -- one element more that is made by its number
 pub listed-more : {X : Type 0} (f : ℕ → X) (n : ℕ) (list : List X) (x : X) → list ≡ map f (range_with_len 0 n) → x ≡ f n → list ++ x ∷ [] ≡ map f (range_with_len 0 (n + 1))

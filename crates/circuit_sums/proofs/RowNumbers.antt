@@ -1,16 +1,15 @@
 -- Which row of a plant's graph stands at which number.
 use Rattle.std.proofs.Common.{◌≡◌, ℕ, zero, suc, ◌+◌, ◌*◌, ◌<◌, ◌≤◌, false, ◌∷◌, ◌++◌, length, get_or, refl, sym, ap, ◌∙◌, subst, arith}
 use Rattle.std.specs.List.{range_with_len, flat_map}
-use Rattle.std.proofs.lemmas.List.{length-append, length-map, take_all, get_or_append_left, get_or-append-add, get_or-map}
-use Rattle.std.proofs.lemmas.List.Sums.{sum_by_more, sum_by-take-le}
+use Rattle.std.proofs.lemmas.List.{length-append, length-map, get_or_append_left, get_or-append-add, get_or-map}
+use Rattle.std.proofs.lemmas.List.Sums.{sum_by_more}
 use Rattle.plant_model.specs.declared.plant.Plant.{Plant}
-use Rattle.plant_model.specs.Line.{no_stage, stage_at, stage_numbers, machine_numbers, release, machine_station}
+use Rattle.plant_model.specs.Line.{no_stage, no_loop, loop_at, stage_at, stage_numbers, machine_numbers, release, machine_station}
 use Rattle.plant_model.specs.Graph.{Row, worked, plain, onward, machine_rows, stage_rows, feed_row, policy_rows, loop_row, loop_rows, rows, graph}
 use Rattle.event_graph.specs.Network.{arc_count, arc}
-use Rattle.plant_model.proofs.RowLists.{flat_map-range_more}
-use Rattle.circuit_sums.specs.ArcNumbers.{arcs_in, entry_arc, delivery_arc, policy_arc, first_loop_arc}
-use Rattle.circuit_sums.specs.Circuits.{no_loop, loop_at}
-use Rattle.circuit_sums.proofs.RangeLists.{get_or-flat_map-range, length-flat_map-range}
+use Rattle.line_base.proofs.RangeLists.{flat_map-range_more, get_or-flat_map-range, length-flat_map-range}
+use Rattle.plant_model.proofs.LayoutArcs.{entry_arc-all, entry_arc-next, entry_arc-le}
+use Rattle.plant_model.specs.ArcNumbers.{entry_arc, delivery_arc, policy_arc, first_loop_arc}
 
 -- what stands where a number names no row
 abbrev pub no_row : Row
@@ -57,17 +56,6 @@ length-stages p (suc n) below =
     let more = sum_by_more (λ s. 1 + 3 * length s.machines) p.stages n no_stage below in
     let all : length (flat_map (stage_rows p) (range_with_len 0 (n + 1))) ≡ entry_arc p (n + 1) = omega arith in
     subst (λ m. length (flat_map (stage_rows p) (range_with_len 0 m)) ≡ entry_arc p m) e all
-
--- after all stages comes the arc to the delivery
-pub entry_arc-all : (p : Plant) → entry_arc p (length p.stages) ≡ delivery_arc p
-entry_arc-all p = ap arcs_in (take_all (length p.stages) p.stages (omega arith))
-
--- the arcs of the next stage stand after those of a stage
-pub entry_arc-next : (p : Plant) (i : ℕ) → i < length p.stages → entry_arc p (i + 1) ≡ entry_arc p i + 1 + 3 * length (stage_at p i).machines
-entry_arc-next p i below = omega (arith, sum_by_more (λ s. 1 + 3 * length s.machines) p.stages i no_stage below)
-
-pub entry_arc-le : (p : Plant) (i : ℕ) → entry_arc p i ≤ delivery_arc p
-entry_arc-le p i = sum_by-take-le (λ s. 1 + 3 * length s.machines) p.stages i
 
 -- how many rows there are
 pub length-rows : (p : Plant) → length (rows p) ≡ policy_arc p + length (policy_rows p) + length p.loops

@@ -15,7 +15,7 @@ use Rattle.plant_model.proofs.Paths.{path-step, is_downstream-step}
 use Rattle.plant_model.proofs.SoundPlants.{IsSoundStage-sound}
 use Rattle.plant_model.proofs.LayoutStations.{receiver-above}
 use Rattle.event_graph.specs.Circuit.{starting_stations}
-use Rattle.circuit_sums.specs.ArcNumbers.{entry_arc, onward_arcs, onward_arcs_of}
+use Rattle.plant_model.specs.ArcNumbers.{entry_arc, onward_arcs, onward_arcs_of}
 use Rattle.circuit_sums.specs.Laws.{stations_of_stage}
 use Rattle.circuit_sums.proofs.RowNumbers.{IsRowAt, HasArc, HasArc-row, entry-at, onward-at}
 use Rattle.circuit_sums.proofs.Lines.{IsLine, IsLine-one, IsLine-append}

@@ -1,16 +1,16 @@
 -- The card circuits of a plant: their kinds, their arcs, and the numbers of their cards.
-use Rattle.std.specs.Prelude.{◌≡◌, ℕ, ◌+◌, List, [], ◌∷◌, ◌++◌, length, map, slice_index_or}
+use Rattle.std.specs.Prelude.{◌≡◌, ℕ, ◌+◌, List, [], ◌∷◌, ◌++◌, length, map}
 use Rattle.std.specs.List.{range_with_len}
 use Rattle.line_base.specs.declared.event.Parts.{Parts}
 use Rattle.plant_model.specs.declared.plant.Policy.{Policy}
 use Rattle.plant_model.specs.declared.plant.Policy.TheVariants.{Kanban, Conwip, BaseStock, Extended}
-use Rattle.plant_model.specs.declared.plant.CardLoop.{CardLoop}
 use Rattle.plant_model.specs.declared.plant.Plant.{Plant}
 use Rattle.plant_model.specs.Line.{stage_at, stage_numbers, first_stages, path}
+pub use Rattle.plant_model.specs.Line.{no_loop, loop_at}
 use Rattle.event_graph.specs.Circuit.{IsCircuit, tokens_on}
 use Rattle.circuit_sums.specs.declared.circuit.CircuitKind.TheVariants as kind
 use Rattle.circuit_sums.specs.declared.circuit.CardCircuit.{CardCircuit}
-use Rattle.circuit_sums.specs.ArcNumbers.{onward_arcs, onward_arcs_of, onward_arcs_between, kanban_arc, extended_arc, conwip_arc, first_loop_arc}
+use Rattle.plant_model.specs.ArcNumbers.{onward_arcs, onward_arcs_of, onward_arcs_between, kanban_arc, extended_arc, conwip_arc, first_loop_arc}
 
 -- the circuit of the cards of stage i, which go back by this arc
 abbrev pub stage_circuit : Plant → (ℕ → ℕ) → ℕ → CardCircuit
@@ -43,14 +43,6 @@ policy_circuits p = circuits_under p.policy
     circuits_under (Conwip cards) = conwip_circuits p cards
     circuits_under BaseStock = []
     circuits_under Extended = extended_circuits p
-
--- what stands where a number names no loop
-abbrev pub no_loop : CardLoop
-no_loop = record { first = 0; last = 0; cards = 0; card_time = 0 }
-
--- loop k
-abbrev pub loop_at : Plant → ℕ → CardLoop
-loop_at p k = slice_index_or p.loops k no_loop
 
 -- the circuit of the cards of loop k, from its first stage to its last on the path of its first, and back, where the arcs
 -- of the loops stand from this one on

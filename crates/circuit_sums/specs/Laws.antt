@@ -8,9 +8,9 @@ use Rattle.event_graph.specs.State.{State}
 use Rattle.event_graph.specs.Reached.{Reached}
 use Rattle.event_graph.specs.Circuit.{IsWalk, starting_stations, tokens_in, tokens_on}
 use Rattle.circuit_sums.specs.declared.circuit.CardCircuit.{CardCircuit}
-use Rattle.circuit_sums.specs.ArcNumbers.{onward_arcs, onward_arcs_between}
+use Rattle.plant_model.specs.ArcNumbers.{onward_arcs, onward_arcs_between}
 use Rattle.circuit_sums.specs.Circuits.{circuits}
-use Rattle.circuit_sums.specs.Bound.{bound}
+use Rattle.plant_model.specs.Bound.{bound}
 
 -- the arcs lead from station t to station u, through stations of ascending numbers, with so many tokens at the start
 pub record LeadsOn (g : Parts) (t : ℕ) (arcs : List ℕ) (u tokens : ℕ) : Type 0 where

@@ -1,5 +1,2 @@
-pub mod ArcNumbers
-pub mod Numbered
 pub mod Circuits
-pub mod Bound
 pub mod Laws

@@ -3,12 +3,11 @@ ghost use Rattle.plant_model.specs.Graph.{graph as plant_graph};
 ghost use Rattle.plant_model.specs.Sound.{IsSound};
 ghost use Rattle.circuit_sums.specs.Circuits.{stage_circuit, kanban_circuits, extended_circuits, conwip_circuits, policy_circuits, loop_circuits, circuits_with, circuits, IsCardCircuit};
 
+use crate::around::around;
 use crate::circuit::{CardCircuit, CircuitKind};
-use crate::first::first_flags;
-use crate::numbers::ArcNumbers;
 use event_graph::Graph;
 use line_base::{Items, MAX_ARCS};
-use plant_model::{Plant, Policy};
+use plant_model::{Layout, Plant, Policy};
 use std::alloc::{AllocError, Global};
 
 /// The card circuits of a plant, on its graph: under kanban and extended kanban one a stage, under CONWIP one a first
@@ -41,48 +40,48 @@ pub fn list_circuits(
     requires few { arcs ≤ MAX_ARCS }
     ensures { IfOk result (λ list. list.items ≡ circuits_with plant.now (arcs - length plant.now.loops)) }
 {
-    let numbers = ArcNumbers::of(alloc, plant)?;
-    let mut list = policy_circuits(alloc, &numbers)?;
+    let layout = Layout::of(alloc, plant)?;
+    let mut list = policy_circuits(alloc, &layout)?;
     let first_loop_arc = (arcs - plant.loops.len()) as u32;
-    add_loop_circuits(alloc, &numbers, first_loop_arc, &mut list)?;
+    add_loop_circuits(alloc, &layout, first_loop_arc, &mut list)?;
     Ok(list)
 }
 
 /// The circuits of the policy.
-fn policy_circuits(alloc: Global, numbers: &ArcNumbers) -> Result<Vec<CardCircuit>, AllocError>
-    requires { IsSound numbers.now }
-    ensures { IfOk result (λ list. list.items ≡ policy_circuits numbers.now) }
+fn policy_circuits(alloc: Global, layout: &Layout) -> Result<Vec<CardCircuit>, AllocError>
+    requires { IsSound layout.now }
+    ensures { IfOk result (λ list. list.items ≡ policy_circuits layout.now) }
 {
-    match numbers.policy() {
-        Policy::Kanban => kanban_circuits(alloc, numbers),
-        Policy::Conwip(cards) => conwip_circuits(alloc, numbers, cards),
+    match layout.policy() {
+        Policy::Kanban => kanban_circuits(alloc, layout),
+        Policy::Conwip(cards) => conwip_circuits(alloc, layout, cards),
         Policy::BaseStock => Ok(Vec::new(alloc)),
-        Policy::Extended => extended_circuits(alloc, numbers),
+        Policy::Extended => extended_circuits(alloc, layout),
     }
 }
 
 /// The circuits of the stages under kanban, whose card arcs stand one after the other.
-fn kanban_circuits(alloc: Global, numbers: &ArcNumbers) -> Result<Vec<CardCircuit>, AllocError>
-    requires { IsSound numbers.now }
-    ensures { IfOk result (λ list. list.items ≡ kanban_circuits numbers.now) }
+fn kanban_circuits(alloc: Global, layout: &Layout) -> Result<Vec<CardCircuit>, AllocError>
+    requires { IsSound layout.now }
+    ensures { IfOk result (λ list. list.items ≡ kanban_circuits layout.now) }
 {
-    let mut list = Vec::with_capacity(alloc, numbers.stages() as usize)?;
-    for stage in 0..numbers.stages() {
-        let card_arc = numbers.policy_arc() + stage;
-        list.push(stage_circuit(alloc, numbers, stage, card_arc)?)?;
+    let mut list = Vec::with_capacity(alloc, layout.stages() as usize)?;
+    for stage in 0..layout.stages() {
+        let card_arc = layout.policy_arc() + stage;
+        list.push(stage_circuit(alloc, layout, stage, card_arc)?)?;
     }
     Ok(list)
 }
 
 /// The circuits of the stages under extended kanban, where the arc of a stage's demands stands before that of its cards.
-fn extended_circuits(alloc: Global, numbers: &ArcNumbers) -> Result<Vec<CardCircuit>, AllocError>
-    requires { IsSound numbers.now }
-    ensures { IfOk result (λ list. list.items ≡ extended_circuits numbers.now) }
+fn extended_circuits(alloc: Global, layout: &Layout) -> Result<Vec<CardCircuit>, AllocError>
+    requires { IsSound layout.now }
+    ensures { IfOk result (λ list. list.items ≡ extended_circuits layout.now) }
 {
-    let mut list = Vec::with_capacity(alloc, numbers.stages() as usize)?;
-    for stage in 0..numbers.stages() {
-        let card_arc = numbers.policy_arc() + 2 * stage + 1;
-        list.push(stage_circuit(alloc, numbers, stage, card_arc)?)?;
+    let mut list = Vec::with_capacity(alloc, layout.stages() as usize)?;
+    for stage in 0..layout.stages() {
+        let card_arc = layout.policy_arc() + 2 * stage + 1;
+        list.push(stage_circuit(alloc, layout, stage, card_arc)?)?;
     }
     Ok(list)
 }
@@ -90,21 +89,20 @@ fn extended_circuits(alloc: Global, numbers: &ArcNumbers) -> Result<Vec<CardCirc
 /// The circuits of the line under CONWIP, whose card arcs stand one after the other.
 fn conwip_circuits(
     alloc: Global,
-    numbers: &ArcNumbers,
+    layout: &Layout,
     cards: u32,
 ) -> Result<Vec<CardCircuit>, AllocError>
-    requires { IsSound numbers.now }
-    ensures { IfOk result (λ list. list.items ≡ conwip_circuits numbers.now cards) }
+    requires { IsSound layout.now }
+    ensures { IfOk result (λ list. list.items ≡ conwip_circuits layout.now cards) }
 {
-    let flags = first_flags(alloc, numbers)?;
-    let final_stage = numbers.stages() - 1;
+    let final_stage = layout.stages() - 1;
     let mut list = Vec::new(alloc);
-    let mut card_arc = numbers.policy_arc();
-    for stage in 0..numbers.stages() {
-        if flags[stage as usize] {
+    let mut card_arc = layout.policy_arc();
+    for stage in 0..layout.stages() {
+        if layout.is_first(stage) {
             list.push(CardCircuit {
                 kind: CircuitKind::Conwip(stage),
-                arcs: numbers.around(alloc, stage, final_stage, card_arc)?,
+                arcs: around(alloc, layout, stage, final_stage, card_arc)?,
                 number: cards,
             })?;
             card_arc += 1;
@@ -116,37 +114,38 @@ fn conwip_circuits(
 /// The circuit of a stage's cards, which go back by this arc.
 fn stage_circuit(
     alloc: Global,
-    numbers: &ArcNumbers,
+    layout: &Layout,
     stage: u32,
     card_arc: u32,
 ) -> Result<CardCircuit, AllocError>
-    requires sound { IsSound numbers.now }
-    requires exists { stage < length numbers.now.stages }
-    ensures { IfOk result (λ circuit. circuit ≡ stage_circuit numbers.now (λ _. card_arc) stage) }
+    requires sound { IsSound layout.now }
+    requires exists { stage < length layout.now.stages }
+    ensures { IfOk result (λ circuit. circuit ≡ stage_circuit layout.now (λ _. card_arc) stage) }
 {
     Ok(CardCircuit {
         kind: CircuitKind::Stage(stage),
-        arcs: numbers.around(alloc, stage, stage, card_arc)?,
-        number: numbers.stage(stage).cards,
+        arcs: around(alloc, layout, stage, stage, card_arc)?,
+        number: layout.stage(stage).cards,
     })
 }
 
 /// Adds the circuits of the loops, whose arcs stand one after the other.
 fn add_loop_circuits(
     alloc: Global,
-    numbers: &ArcNumbers,
+    layout: &Layout,
     first_arc: u32,
     list: &mut Vec<CardCircuit>,
 ) -> Result<(), AllocError>
-    requires sound { IsSound numbers.now }
-    requires few { first_arc + length numbers.now.loops ≤ MAX_ARCS }
-    ensures { OnOk result (list.new.items ≡ list.old.items ++ loop_circuits numbers.now first_arc) }
+    requires sound { IsSound layout.now }
+    requires few { first_arc + length layout.now.loops ≤ MAX_ARCS }
+    ensures { OnOk result (list.new.items ≡ list.old.items ++ loop_circuits layout.now first_arc) }
 {
-    for (number, card_loop) in numbers.loops().iter().enumerate() {
+    for (number, card_loop) in layout.loops().iter().enumerate() {
         list.push(CardCircuit {
             kind: CircuitKind::CardLoop(number as u32),
-            arcs: numbers.around(
+            arcs: around(
                 alloc,
+                layout,
                 card_loop.first,
                 card_loop.last,
                 first_arc + number as u32,

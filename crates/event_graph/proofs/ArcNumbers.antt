@@ -12,7 +12,8 @@ use Rattle.event_graph.specs.declared.lists.End.TheVariants.{Start, Finish}
 use Rattle.event_graph.specs.Network.{stations, arc_count, arc, ins, outs, EndsAt, StartsAt, IsGraph}
 use Rattle.event_graph.specs.Faults.{HasNone, NamesNoStation, EntersFeed, LacksInput}
 use Rattle.event_graph.specs.Lists.{station_at, lists_at}
-use Rattle.event_graph.proofs.Ranges.{Contains-filter-range, All-range, filter-range_more}
+use Rattle.line_base.proofs.RangeLists.{filter-range_more}
+use Rattle.event_graph.proofs.Ranges.{Contains-filter-range, All-range}
 
 module _ (g : Parts) (end : ℕ → ℕ) (t : ℕ) where
   Contains-at_end : (a : ℕ) → a < arc_count g → end a ≡ t → Contains (filter (λ b. eqb (end b) t) (range_with_len 0 (arc_count g))) a

@@ -4,7 +4,7 @@ use Rattle.std.specs.List.{All, range_with_len}
 use Rattle.std.proofs.lemmas.Bool.{cases_lt}
 use Rattle.std.proofs.lemmas.List.Elements.{All-head, All-tail}
 use Rattle.event_graph.specs.Firing.{greatest}
-use Rattle.event_graph.proofs.Ranges.{range-more}
+use Rattle.line_base.proofs.RangeLists.{range-more}
 
 -- no value is above it
 pub le-greatest : (f : ℕ → ℕ) (xs : List ℕ) → All (λ x. f x ≤ greatest f xs) xs

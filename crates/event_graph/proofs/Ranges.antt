@@ -1,8 +1,7 @@
--- The numbers below a bound: which are listed, and what comes of one number more.
+-- The numbers below a bound: which are listed.
 use Rattle.std.proofs.Common.{◌≡◌, ℕ, zero, suc, ◌+◌, ◌<◌, Bool, true, false, cond, List, [], ◌∷◌, ◌++◌, length, get_or, sym, ap, zero-add, ◌∙◌, subst, arith}
 use Rattle.std.specs.List.{filter, range_with_len, All, Contains}
-use Rattle.std.proofs.lemmas.List.{map-id}
-use Rattle.std.proofs.lemmas.List.FromFn.{length-range_with_len, get_or-range_with_len, map-range_with_len_more, filter_of_map_range_with_len_more}
+use Rattle.std.proofs.lemmas.List.FromFn.{length-range_with_len, get_or-range_with_len}
 
 -- an element that passes a test is kept by the filter
 pub Contains-filter : {X : Type 0} (p : X → Bool) (xs : List X) (k : ℕ) (x : X) → k < length xs → get_or xs k x ≡ x → p x ≡ true → Contains (filter p xs) x
@@ -26,12 +25,3 @@ pub All-range : (n : ℕ) → All (λ a. a < n) (range_with_len 0 n)
 All-range n k d h =
     let low : k < n = rw length-range_with_len at h in
     rw (get_or-range_with_len 0 n k d low, zero-add k) low
-
--- one number more
-pub range-more : (n : ℕ) → range_with_len 0 (n + 1) ≡ range_with_len 0 n ++ n ∷ []
-range-more n =
-    sym (map-id (range_with_len 0 (n + 1))) ∙ (map-range_with_len_more (λ (k : ℕ). k) 0 n n (zero-add n) ∙ ap (λ ks. ks ++ n ∷ []) (map-id (range_with_len 0 n)))
-
-pub filter-range_more : (p : ℕ → Bool) (n : ℕ) → filter p (range_with_len 0 (n + 1)) ≡ filter p (range_with_len 0 n) ++ cond (p n) (n ∷ []) []
-filter-range_more p n =
-    rw (map-id (range_with_len 0 (n + 1)), map-id (range_with_len 0 n)) at (filter_of_map_range_with_len_more p (λ (k : ℕ). k) 0 n n (zero-add n))

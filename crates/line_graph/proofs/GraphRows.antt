@@ -8,7 +8,7 @@ use Rattle.plant_model.specs.declared.plant.CardLoop.{CardLoop}
 use Rattle.plant_model.specs.declared.plant.Plant.{Plant}
 use Rattle.plant_model.specs.Line.{stage_at, machine_at, stage_numbers, machine_numbers, release, machine_station, starting, is_first}
 use Rattle.plant_model.specs.Graph.{Row, worked, plain, onward, machine_rows, stage_rows, feed_row, card_row, demand_row, line_card_row, loop_row, policy_rows, loop_rows, rows}
-use Rattle.line_graph.proofs.RowLists.{All-map-range, All-map-filter, All-flat_map-range}
+use Rattle.line_base.proofs.RangeLists.{All-map-range, All-map-filter, All-flat_map-range}
 use Rattle.line_graph.proofs.PolicyRows.{policy_rows-kanban, policy_rows-base_stock, policy_rows-extended, policy_rows-conwip}
 
 -- P holds of each row of the plant's policy

@@ -1,4 +1,3 @@
-pub mod RowLists
 pub mod PolicyRows
 pub mod GraphRows
 pub mod SmallRows

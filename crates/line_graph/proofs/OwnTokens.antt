@@ -13,7 +13,7 @@ use Rattle.plant_model.specs.Graph.{Row, worked, plain, onward, rows, stage_time
 use Rattle.plant_model.proofs.LayoutStations.{release-below}
 use Rattle.event_graph.specs.Network.{arc}
 use Rattle.live_check.specs.MoreTokens.{IsList, HasOwnToken, ListsKeepOrder}
-use Rattle.line_graph.proofs.RowLists.{Contains-head, Contains-tail}
+use Rattle.line_base.proofs.RangeLists.{Contains-head, Contains-tail}
 use Rattle.line_graph.proofs.Sizes.{sum_by-same, stations-graph, arc_count-graph}
 use Rattle.line_graph.proofs.Inputs.{in_machines, arc-graph}
 use Rattle.line_graph.proofs.EachStation.{each_station}

@@ -15,7 +15,7 @@ use Rattle.plant_model.specs.Sound.{IsSound}
 use Rattle.plant_model.proofs.SoundPlants.{IsSoundLoop-sound}
 use Rattle.plant_model.proofs.LayoutPaths.{path-stages, All-up_to}
 use Rattle.line_graph.specs.Laws.{under}
-use Rattle.line_graph.proofs.RowLists.{Contains-map-range, Contains-flat_map-range, Contains-head, Contains-tail}
+use Rattle.line_base.proofs.RangeLists.{Contains-map-range, Contains-flat_map-range, Contains-head, Contains-tail}
 use Rattle.line_graph.proofs.PolicyRows.{policy_rows-kanban, policy_rows-base_stock, policy_rows-extended}
 use Rattle.line_graph.proofs.GraphRows.{EachPolicyRow, All-rows}
 use Rattle.line_graph.proofs.Inputs.{in_stages, in_machines, in_feed, in_policy}

@@ -15,7 +15,7 @@ use Rattle.plant_model.specs.Graph.{machine_rows, stage_rows, feed_row, card_row
 use Rattle.plant_model.specs.Sound.{IsSound}
 use Rattle.event_graph.specs.Network.{stations, arc_count}
 use Rattle.plant_model.proofs.SoundPlants.{HasSoundSizes-sound}
-use Rattle.plant_model.proofs.RowLists.{flat_map-range_more}
+use Rattle.line_base.proofs.RangeLists.{flat_map-range_more}
 use Rattle.line_graph.proofs.PolicyRows.{policy_rows-kanban, policy_rows-base_stock, policy_rows-extended, policy_rows-conwip}
 
 -- two sums of the same terms are the same

@@ -1,11 +1,10 @@
 -- Tables with the same date for each station and each job of a plant's graph have the same report.
-use Rattle.std.proofs.Common.{◌≡◌, ℕ, ◌+◌, ◌<◌, ◌≤◌, List, [], ◌∷◌, ◌++◌, length, refl, sym, ap, ◌∙◌, subst, arith}
+use Rattle.std.proofs.Common.{◌≡◌, ℕ, ◌<◌, List, [], ◌∷◌, ◌++◌, length, refl, sym, ap, ◌∙◌, subst, arith}
 use Rattle.std.specs.Prelude.{codes, decimal}
 use Rattle.std.specs.List.{All, flat_map, range_with_len}
 use Rattle.std.proofs.lemmas.List.Elements.{All-head, All-tail}
-use Rattle.line_base.specs.declared.event.Parts.{Parts}
 use Rattle.plant_model.specs.declared.plant.Plant.{Plant}
-use Rattle.plant_model.specs.Line.{stage_at, stage_numbers}
+use Rattle.plant_model.specs.Line.{stage_numbers}
 use Rattle.plant_model.specs.Graph.{graph}
 use Rattle.plant_model.specs.Sound.{IsSound}
 use Rattle.event_graph.specs.Network.{stations, jobs, label}
@@ -14,7 +13,7 @@ use Rattle.event_graph.specs.Least.{IsLeast}
 use Rattle.line_stats.specs.Counts.{job_numbers}
 use Rattle.line_stats.proofs.SameCounts.{All-numbers, in_process-same, in_move-same, in_stock-same, backlog-same, last_date-same, peak-same, waiting-same}
 use Rattle.line_report.specs.ReportText.{line, date_line, station_lines, date_lines, stage_line, backlog_line, observed_lines, peak_line, waiting_line, last_line, report}
-use Rattle.line_report.specs.Reported.{Reported, IsReported}
+use Rattle.line_report.specs.Reported.{Reported}
 use Rattle.line_report.specs.Laws.{HasOneReport, HaveOneText}
 
 -- the same lines for each element

@@ -7,7 +7,7 @@ use Rattle.plant_model.specs.Line.{stage_at, stage_numbers}
 use Rattle.plant_model.specs.Graph.{graph}
 use Rattle.event_graph.specs.Network.{stations, label}
 use Rattle.event_graph.specs.Table.{Table}
-use Rattle.circuit_sums.specs.Bound.{bound}
+use Rattle.plant_model.specs.Bound.{bound}
 use Rattle.line_stats.specs.Counts.{job_numbers, in_process, in_move, in_stock, backlog, peak, waiting, last_date}
 
 -- words with single spaces between them, and a line feed at the end

@@ -12,7 +12,7 @@ use crate::totals::{write_peaks, write_totals};
 use line_core::Table;
 use line_io::{Outgoing, Sink};
 use live_check::Live;
-use plant_model::Plant;
+use plant_model::{LineNumbers, Plant};
 use std::alloc::{AllocError, Global};
 use std::marker::Model;
 use thiserror::Error;
@@ -26,6 +26,7 @@ pub struct SinkFault;
 #[derive(Drop)]
 pub struct Report {
     plant: Plant,
+    numbers: LineNumbers,
     live: Live,
     table: Table,
     out: Outgoing,
@@ -41,24 +42,32 @@ impl Model for Report {
 
     ghost view = { λ r. record { plant = r.plant; rows = r.table.rows } };
 
-    ghost invariant = { λ r. AreOfPlant r.plant r.live r.table × IsLeastTable r.table × (r.out ≡ emptied false) };
+    ghost invariant = { λ r. AreOfPlant r.plant r.live r.table × IsLeastTable r.table × (r.out ≡ emptied false) × (r.numbers ≡ r.plant) };
 }
 
 /// Writes the whole text of a report.
-fn write_text<K: Sink>(out: &mut Outgoing, sink: &mut K, plant: &Plant, live: &Live, table: &Table)
-    requires { AreOfPlant plant.now live.now table.now }
+fn write_text<K: Sink>(
+    out: &mut Outgoing,
+    sink: &mut K,
+    plant: &Plant,
+    numbers: &LineNumbers,
+    live: &Live,
+    table: &Table,
+)
+    requires numbers { numbers.now ≡ plant.now }
+    requires of_plant { AreOfPlant plant.now live.now table.now }
     ensures { Pushed (stream (K.shown sink.old) out.old)
         (stream (K.shown sink.new) out.new) (report plant.now (date_in table.now.rows)) }
 {
     write_dates(out, sink, live.graph(), table);
-    write_observed(out, sink, plant, table);
-    write_peaks(out, sink, plant, table);
+    write_observed(out, sink, plant, numbers, table);
+    write_peaks(out, sink, plant, numbers, table);
     write_totals(out, sink, table);
 }
 
 impl Report {
-    /// The report of a sound plant, its live graph, and a table of that graph. It takes all memory that writing takes:
-    /// room for one piece of the text.
+    /// The report of a sound plant, its live graph, and a table of that graph. It takes all memory that writing takes: the
+    /// numbers of the stations, and room for one piece of the text.
     pub fn new(alloc: Global, plant: Plant, live: Live, table: Table) -> Result<Report, AllocError>
         requires { AreOfPlant plant live table }
         ensures plant { IfOk result (λ report. report.plant ≡ plant) }
@@ -66,8 +75,10 @@ impl Report {
         ensures least { IfOk result IsReported }
     {
         let _stations = table.stations();
+        let numbers = LineNumbers::of(alloc, &plant)?;
         Ok(Report {
             plant,
+            numbers,
             live,
             table,
             out: Outgoing::new(alloc)?,
@@ -87,7 +98,14 @@ impl Report {
         ensures same { self.new ≡ self.old }
         ensures least { IsReported self.old }
     {
-        write_text(&mut self.out, sink, &self.plant, &self.live, &self.table);
+        write_text(
+            &mut self.out,
+            sink,
+            &self.plant,
+            &self.numbers,
+            &self.live,
+            &self.table,
+        );
         match self.out.finish(sink) {
             Ok(()) => Ok(()),
             Err(_) => Err(SinkFault),

@@ -8,11 +8,10 @@ ghost use Rattle.plant_model.specs.Sound.{IsSound};
 ghost use Rattle.event_graph.specs.Table.{date_in};
 ghost use Rattle.line_report.specs.ReportText.{bound_word, peak_line, waiting_line, last_line};
 
-use circuit_sums::bound_of;
 use line_core::Table;
 use line_io::{Outgoing, Sink};
 use line_stats::{last, peak, waiting_total};
-use plant_model::Plant;
+use plant_model::{LineNumbers, Plant, bound_of};
 
 /// Writes the bound of a stage, or that it has none.
 fn write_bound<K: Sink>(out: &mut Outgoing, sink: &mut K, bound: Option<u32>)
@@ -26,8 +25,16 @@ fn write_bound<K: Sink>(out: &mut Outgoing, sink: &mut K, bound: Option<u32>)
 }
 
 /// Writes the most parts that are ever in a stage, and its bound.
-fn write_peak<K: Sink>(out: &mut Outgoing, sink: &mut K, plant: &Plant, table: &Table, stage: u32)
+fn write_peak<K: Sink>(
+    out: &mut Outgoing,
+    sink: &mut K,
+    plant: &Plant,
+    numbers: &LineNumbers,
+    table: &Table,
+    stage: u32,
+)
     requires sound { IsSound plant.now }
+    requires numbers { numbers.now ≡ plant.now }
     requires of_plant { table.now.graph ≡ graph plant.now }
     requires exists { stage < length plant.now.stages }
     ensures { Pushed (stream (K.shown sink.old) out.old)
@@ -37,22 +44,29 @@ fn write_peak<K: Sink>(out: &mut Outgoing, sink: &mut K, plant: &Plant, table: &
     out.push(sink, b"peak ");
     out.push(sink, part.name.text());
     out.push(sink, b" ");
-    out.push_number(sink, peak(plant, table, stage) as u64);
+    out.push_number(sink, peak(plant, numbers, table, stage) as u64);
     out.push(sink, b" of ");
     write_bound(out, sink, bound_of(plant, stage));
     out.push(sink, b"\n");
 }
 
 /// Writes the peaks of all stages, in order.
-pub fn write_peaks<K: Sink>(out: &mut Outgoing, sink: &mut K, plant: &Plant, table: &Table)
+pub fn write_peaks<K: Sink>(
+    out: &mut Outgoing,
+    sink: &mut K,
+    plant: &Plant,
+    numbers: &LineNumbers,
+    table: &Table,
+)
     requires sound { IsSound plant.now }
+    requires numbers { numbers.now ≡ plant.now }
     requires of_plant { table.now.graph ≡ graph plant.now }
     ensures { Pushed (stream (K.shown sink.old) out.old)
         (stream (K.shown sink.new) out.new)
         (flat_map (peak_line plant.now (date_in table.now.rows)) (stage_numbers plant.now)) }
 {
     for stage in 0..plant.stages.len() as u32 {
-        write_peak(out, sink, plant, table, stage);
+        write_peak(out, sink, plant, numbers, table, stage);
     }
 }
 

@@ -19,11 +19,11 @@ use Rattle.plant_model.proofs.SoundPlants.{PassesAll-sound, path_stock-has_cards
 use Rattle.plant_model.proofs.Paths.{path_stock-step}
 use Rattle.event_graph.specs.Table.{Table}
 use Rattle.event_graph.specs.Solves.{Solves}
-use Rattle.line_graph.proofs.RowLists.{Contains-map-filter}
+use Rattle.line_base.proofs.RangeLists.{Contains-map-filter}
 use Rattle.line_graph.proofs.PolicyRows.{policy_rows-conwip}
 use Rattle.line_graph.proofs.Inputs.{in_policy}
 use Rattle.line_graph.proofs.SharedRows.{in_kanban, in_extended_card}
-use Rattle.circuit_sums.specs.Bound.{bound}
+use Rattle.plant_model.specs.Bound.{bound}
 use Rattle.line_stats.specs.Counts.{done}
 use Rattle.line_stats.proofs.Flows.{row-flow_soon, process-flow, move-flow, stock-flow}
 

@@ -13,7 +13,7 @@ use Rattle.plant_model.proofs.SoundPlants.{IsSoundStage-sound}
 use Rattle.event_graph.specs.Network.{jobs}
 use Rattle.event_graph.specs.Table.{Table}
 use Rattle.event_graph.specs.Solves.{Solves}
-use Rattle.line_graph.proofs.RowLists.{Contains-head}
+use Rattle.line_base.proofs.RangeLists.{Contains-head}
 use Rattle.line_graph.proofs.Inputs.{in_feed, in_stages, in_machines}
 use Rattle.line_graph.proofs.SolvesRows.{asked, Meets, Meets-solves}
 use Rattle.line_stats.specs.Counts.{count_until, done, arrived}

@@ -1,7 +1,7 @@
 -- The greatest value of a function, one element more, and over a list of dates.
-use Rattle.std.proofs.Common.{◌≡◌, ℕ, zero, suc, ◌+◌, ◌<◌, max, List, [], ◌∷◌, ◌++◌, length, get_or, take, map, refl, ap, ◌∙◌, arith}
-use Rattle.std.specs.List.{range_with_len}
-use Rattle.std.proofs.lemmas.List.{take_more}
+use Rattle.std.proofs.Common.{◌≡◌, ℕ, zero, suc, ◌+◌, ◌<◌, max, List, [], ◌∷◌, ◌++◌, length, get_or, map, refl, ap, ◌∙◌, arith}
+use Rattle.std.specs.Option.{unwrap_or}
+use Rattle.std.specs.List.{range_with_len, fold, reduce}
 use Rattle.std.proofs.lemmas.List.FromFn.{fill_by_all}
 use Rattle.event_graph.specs.Firing.{greatest}
 use Rattle.line_stats.proofs.Counting.{range-last}
@@ -12,8 +12,16 @@ unfolding greatest
 greatest-push f [] y = omega arith
 greatest-push f (x ∷ xs) y = let rest = greatest-push f xs y in omega arith
 
-pub greatest-take : (f : ℕ → ℕ) (xs : List ℕ) (i : ℕ) → i < length xs → greatest f (take (i + 1) xs) ≡ max (greatest f (take i xs)) (f (get_or xs i 0))
-greatest-take f xs i below = ap (greatest f) (take_more xs i 0 below) ∙ greatest-push f (take i xs) (get_or xs i 0)
+-- the greatest element, as it is picked from left to right
+greatest-picked : (x : ℕ) (xs : List ℕ) → fold max x xs ≡ max x (greatest (λ d. d) xs)
+unfolding greatest
+greatest-picked x [] = omega arith
+greatest-picked x (y ∷ ys) = greatest-picked (max x y) ys ∙ omega arith
+
+pub greatest-reduce : (xs : List ℕ) → unwrap_or (reduce max xs) 0 ≡ greatest (λ d. d) xs
+unfolding greatest
+greatest-reduce [] = refl
+greatest-reduce (x ∷ xs) = greatest-picked x xs
 
 pub greatest-range : (f : ℕ → ℕ) (n : ℕ) → greatest f (range_with_len 0 (n + 1)) ≡ max (greatest f (range_with_len 0 n)) (f n)
 greatest-range f n =

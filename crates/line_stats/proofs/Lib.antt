@@ -1,6 +1,5 @@
 pub mod Counting
 pub mod DateLists
-pub mod StationWalks
 pub mod Rising
 pub mod Flows
 pub mod PlantTables

@@ -21,6 +21,11 @@ use Rattle.line_stats.proofs.Counting.{until-le, until-moved, until-none}
 pub exists_in : (p : Plant) (g : Parts) (t : ℕ) → g ≡ graph p → t < station_count p → t < stations g
 exists_in p g t is below = let e = ap (λ (h : Parts). stations h) is in omega (arith, stations-graph p)
 
+-- a station whose number was looked up
+pub numbered_in : (p q : Plant) (t : ℕ) (f : Plant → ℕ) → q ≡ p → t ≡ f q → t < station_count q → (t ≡ f p) × (t < station_count p)
+numbered_in p q t f same is exists =
+    (is ∙ ap f same, subst (λ (r : Plant). t < station_count r) same exists)
+
 pub done_in : (p : Plant) (g : Parts) (x : Table) (t u v n : ℕ) → g ≡ graph p → t ≡ u → n ≡ done g x t v → n ≡ done (graph p) x u v
 done_in p g x t u v n is at count = count ∙ ap (λ (h : Parts). done h x t v) is ∙ ap (λ s. done (graph p) x s v) at
 

@@ -9,7 +9,7 @@ use Rattle.event_graph.specs.Network.{stations, jobs}
 use Rattle.event_graph.specs.Table.{Table}
 use Rattle.event_graph.specs.Solves.{Solves}
 use Rattle.event_graph.specs.Least.{IsLeast}
-use Rattle.circuit_sums.specs.Bound.{bound}
+use Rattle.plant_model.specs.Bound.{bound}
 use Rattle.line_stats.specs.Counts.{standing}
 
 -- no station is done with a job later than with the next

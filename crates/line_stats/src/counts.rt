@@ -1,4 +1,5 @@
-//! What stands where at a date. Stages are numbered from 0, dates are in the plant's unit.
+//! What stands where at a date. Stages are numbered from 0, dates are in the plant's unit. The
+//! numbers are those of the plant, which contracts see.
 ghost use Rattle.std.specs.Prelude.{◌≡◌, ◌+◌, ◌<◌, length};
 ghost use Rattle.plant_model.specs.Line.{release, last_machine, deliver, receiver, starting};
 ghost use Rattle.plant_model.specs.Graph.{graph};
@@ -7,34 +8,36 @@ ghost use Rattle.event_graph.specs.Table.{date_in};
 ghost use Rattle.line_stats.specs.Counts.{done, arrived, in_process, in_move, in_stock, backlog};
 
 use crate::logs::done;
-use crate::stations::{deliver, last_machine, receiver, release};
 use line_base::Date;
 use line_core::Table;
-use plant_model::{FEED, Plant};
+use plant_model::{FEED, LineNumbers, Plant};
 
 /// How many parts are on the machines of a stage at a date: released, and not done by its last machine.
 ///
 /// It takes no memory, and halves the dates of the two stations.
-pub fn in_process(plant: &Plant, table: &Table, stage: u32, at: Date) -> u32
-    requires sound { IsSound plant.now }
-    requires of_plant { table.now.graph ≡ graph plant.now }
-    requires exists { stage < length plant.now.stages }
-    ensures count { result ≡ in_process plant.now (date_in table.now.rows) stage at }
-    ensures balance { let done = done (graph plant.now) (date_in table.now.rows) in
-        result + done (last_machine plant.now stage) at ≡ done (release plant.now stage) at }
+#[tactic(auto, using(crate::proofs::PlantTables::exists_in, crate::proofs::Rising::lists_keep_order))]
+pub fn in_process(numbers: &LineNumbers, table: &Table, stage: u32, at: Date) -> u32
+    requires sound { IsSound numbers.now }
+    requires of_plant { table.now.graph ≡ graph numbers.now }
+    requires exists { stage < length numbers.now.stages }
+    ensures count { result ≡ in_process numbers.now (date_in table.now.rows) stage at }
+    ensures balance { let done = done (graph numbers.now) (date_in table.now.rows) in
+        result + done (last_machine numbers.now stage) at ≡ done (release numbers.now stage) at }
 {
-    done(table, release(plant, stage), at) - done(table, last_machine(plant, stage), at)
+    done(table, numbers.release(stage), at) - done(table, numbers.last_machine(stage), at)
 }
 
 /// How many parts of a stage have ended their travel by a date.
-fn arrived(plant: &Plant, table: &Table, stage: u32, at: Date) -> u32
+#[tactic(auto, using(crate::proofs::PlantTables::exists_in, crate::proofs::Rising::lists_keep_order))]
+fn arrived(plant: &Plant, numbers: &LineNumbers, table: &Table, stage: u32, at: Date) -> u32
     requires sound { IsSound plant.now }
+    requires numbers { numbers.now ≡ plant.now }
     requires of_plant { table.now.graph ≡ graph plant.now }
     requires exists { stage < length plant.now.stages }
     ensures { result ≡ arrived plant.now (date_in table.now.rows) stage at }
 {
     match at.checked_sub(plant.stages.as_slice()[stage as usize].travel) {
-        Some(left) => done(table, last_machine(plant, stage), left),
+        Some(left) => done(table, numbers.last_machine(stage), left),
         None => 0,
     }
 }
@@ -42,23 +45,27 @@ fn arrived(plant: &Plant, table: &Table, stage: u32, at: Date) -> u32
 /// How many parts of a stage are on their travel at a date: done by its last machine, and not arrived.
 ///
 /// It takes no memory, and halves the dates of the machine.
-pub fn in_move(plant: &Plant, table: &Table, stage: u32, at: Date) -> u32
+#[tactic(auto, using(crate::proofs::PlantTables::exists_in, crate::proofs::Rising::lists_keep_order))]
+pub fn in_move(plant: &Plant, numbers: &LineNumbers, table: &Table, stage: u32, at: Date) -> u32
     requires sound { IsSound plant.now }
+    requires numbers { numbers.now ≡ plant.now }
     requires of_plant { table.now.graph ≡ graph plant.now }
     requires exists { stage < length plant.now.stages }
     ensures count { result ≡ in_move plant.now (date_in table.now.rows) stage at }
     ensures balance { let x = date_in table.now.rows in
         result + arrived plant.now x stage at ≡ done (graph plant.now) x (last_machine plant.now stage) at }
 {
-    done(table, last_machine(plant, stage), at) - arrived(plant, table, stage, at)
+    done(table, numbers.last_machine(stage), at) - arrived(plant, numbers, table, stage, at)
 }
 
 /// How many parts are in the stock of a stage at a date: its starting stock and the parts that have arrived, less those
 /// that the next release, or the delivery, has taken.
 ///
 /// It takes no memory, and halves the dates of the two stations.
-pub fn in_stock(plant: &Plant, table: &Table, stage: u32, at: Date) -> u32
+#[tactic(auto, using(crate::proofs::PlantTables::exists_in, crate::proofs::Rising::lists_keep_order))]
+pub fn in_stock(plant: &Plant, numbers: &LineNumbers, table: &Table, stage: u32, at: Date) -> u32
     requires sound { IsSound plant.now }
+    requires numbers { numbers.now ≡ plant.now }
     requires of_plant { table.now.graph ≡ graph plant.now }
     requires exists { stage < length plant.now.stages }
     ensures count { result ≡ in_stock plant.now (date_in table.now.rows) stage at }
@@ -66,19 +73,20 @@ pub fn in_stock(plant: &Plant, table: &Table, stage: u32, at: Date) -> u32
         let stocked = starting plant.now stage + arrived plant.now x stage at in
         result + done (graph plant.now) x (receiver plant.now stage) at ≡ stocked }
 {
-    let taken = done(table, receiver(plant, stage), at);
-    plant.starting(stage) + arrived(plant, table, stage, at) - taken
+    let taken = done(table, numbers.receiver(plant, stage), at);
+    plant.starting(stage) + arrived(plant, numbers, table, stage, at) - taken
 }
 
 /// How many demands are not delivered at a date.
 ///
 /// It takes no memory, and halves the dates of the feed and of the delivery.
-pub fn backlog(plant: &Plant, table: &Table, at: Date) -> u32
-    requires sound { IsSound plant.now }
-    requires of_plant { table.now.graph ≡ graph plant.now }
-    ensures count { result ≡ backlog plant.now (date_in table.now.rows) at }
-    ensures balance { let done = done (graph plant.now) (date_in table.now.rows) in
-        result + done (deliver plant.now) at ≡ done 0 at }
+#[tactic(auto, using(crate::proofs::PlantTables::exists_in, crate::proofs::Rising::lists_keep_order))]
+pub fn backlog(numbers: &LineNumbers, table: &Table, at: Date) -> u32
+    requires sound { IsSound numbers.now }
+    requires of_plant { table.now.graph ≡ graph numbers.now }
+    ensures count { result ≡ backlog numbers.now (date_in table.now.rows) at }
+    ensures balance { let done = done (graph numbers.now) (date_in table.now.rows) in
+        result + done (deliver numbers.now) at ≡ done 0 at }
 {
-    done(table, FEED, at) - done(table, deliver(plant), at)
+    done(table, FEED, at) - done(table, numbers.deliver(), at)
 }

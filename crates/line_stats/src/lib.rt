@@ -6,7 +6,6 @@ mod counts;
 mod laws;
 mod logs;
 mod peaks;
-mod stations;
 mod totals;
 
 pub use counts::{backlog, in_move, in_process, in_stock};

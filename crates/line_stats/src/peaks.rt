@@ -4,15 +4,14 @@ ghost use Rattle.std.specs.List.Sorted.{IsNonDecreasing};
 ghost use Rattle.plant_model.specs.Graph.{graph};
 ghost use Rattle.plant_model.specs.Sound.{IsSound};
 ghost use Rattle.event_graph.specs.Table.{date_in};
-ghost use Rattle.circuit_sums.specs.Bound.{bound};
+ghost use Rattle.plant_model.specs.Bound.{bound};
 ghost use Rattle.line_stats.specs.Counts.{standing, peak};
 ghost use Rattle.line_stats.specs.Between.{between};
 
 use crate::logs::{dates_until, dates_until_from};
-use crate::stations::{receiver, release};
 use line_base::{Date, MAX_CARDS, MAX_DEMANDS};
 use line_core::Table;
-use plant_model::Plant;
+use plant_model::{LineNumbers, Plant};
 
 /// The most parts that are between two stations at a date, where `start` are between them before any has entered. It
 /// goes through the dates of both once: the most is reached at date 0, or at a date at which a part enters.
@@ -37,15 +36,16 @@ fn most_between(entered: &[Date], left: &[Date], start: usize) -> u32
 /// The most parts of a stage that there are at a date, in process, on their travel and in stock together.
 ///
 /// It takes no memory, and one pass over the dates of the stage's release and of the station that takes its parts.
-pub fn peak(plant: &Plant, table: &Table, stage: u32) -> u32
+pub fn peak(plant: &Plant, numbers: &LineNumbers, table: &Table, stage: u32) -> u32
     requires sound { IsSound plant.now }
+    requires numbers { numbers.now ≡ plant.now }
     requires of_plant { table.now.graph ≡ graph plant.now }
     requires exists { stage < length plant.now.stages }
     ensures peak { result ≡ peak plant.now (date_in table.now.rows) stage }
     ensures covers { (v : ℕ) → standing plant.now (date_in table.now.rows) stage v ≤ result }
     ensures bounded { IfSome (bound plant.now stage) (λ number. result ≤ number) }
 {
-    let released = table.dates(release(plant, stage));
-    let taken = table.dates(receiver(plant, stage));
+    let released = table.dates(numbers.release(stage));
+    let taken = table.dates(numbers.receiver(plant, stage));
     most_between(released, taken, plant.starting(stage) as usize)
 }

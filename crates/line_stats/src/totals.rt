@@ -13,11 +13,10 @@ use plant_model::FEED;
 fn latest(dates: &[Date]) -> Date
     ensures { result ≡ greatest (λ date. date) dates.now }
 {
-    let mut latest: Date = 0;
-    for date in dates {
-        latest = latest.max(*date);
+    match dates.iter().max() {
+        Some(date) => *date,
+        None => 0,
     }
-    latest
 }
 
 /// The greatest date of the table, in the plant's unit.

@@ -1,23 +1,9 @@
 -- Rows that are listed one after the other, and what is read off them: their arcs or their delays.
 use Rattle.std.proofs.Common.{◌≡◌, ℕ, ◌+◌, ◌<◌, List, [], ◌∷◌, ◌++◌, length, get_or, take, map, Bool, true, false, cond, sym, ap, ◌∙◌, arith}
 use Rattle.std.specs.List.{range_with_len, filter, flat_map}
-use Rattle.std.proofs.lemmas.List.{append-nil, map-append, map-id, map_push, map_more}
-use Rattle.std.proofs.lemmas.List.FromFn.{filter_of_map_range_with_len_more, map-range_with_len_more}
-use Rattle.std.proofs.lemmas.List.Concat.{flat_map-append}
-
--- the numbers below n, and n
-pub range-more : (n : ℕ) → range_with_len 0 (n + 1) ≡ range_with_len 0 n ++ n ∷ []
-range-more n =
-    sym (map-id (range_with_len 0 (n + 1))) ∙ map-range_with_len_more (λ (x : ℕ). x) 0 n n (omega arith) ∙ ap (λ xs. xs ++ n ∷ []) (map-id (range_with_len 0 n))
-
-pub filter-range_more : (p : ℕ → Bool) (n : ℕ) → filter p (range_with_len 0 (n + 1)) ≡ filter p (range_with_len 0 n) ++ cond (p n) (n ∷ []) []
-filter-range_more p n =
-    let e = filter_of_map_range_with_len_more p (λ (x : ℕ). x) 0 n n (omega arith) in
-    rw (← map-id (range_with_len 0 (n + 1)), ← map-id (range_with_len 0 n)) e
-
-pub flat_map-range_more : {X : Type 0} (f : ℕ → List X) (n : ℕ) → flat_map f (range_with_len 0 (n + 1)) ≡ flat_map f (range_with_len 0 n) ++ f n
-flat_map-range_more f n =
-    ap (flat_map f) (range-more n) ∙ flat_map-append f (range_with_len 0 n) (n ∷ []) ∙ ap (λ xs. flat_map f (range_with_len 0 n) ++ xs) (append-nil (f n))
+use Rattle.std.proofs.lemmas.List.{append-nil, map-append, map_push, map_more}
+use Rattle.std.proofs.lemmas.List.FromFn.{map-range_with_len_more}
+use Rattle.line_base.proofs.RangeLists.{filter-range_more, flat_map-range_more}
 
 module _ {R X : Type 0} (part : R → X) where
   -- one stage more, each of which has a row

@@ -1,5 +1,5 @@
 -- What soundness says of a plant: of its classes of refusals, of its numbers, of its stages, machines and loops.
-use Rattle.std.proofs.Common.{sym, codes, ◌≡◌, ℕ, suc, ◌+◌, ◌-◌, ◌*◌, ◌<◌, ◌≤◌, Bool, cond, true, ltb, List, [], ◌∷◌, length, get_or, None, Some, subst, arith}
+use Rattle.std.proofs.Common.{sym, codes, ◌≡◌, ℕ, suc, ◌-◌, ◌*◌, ◌<◌, ◌≤◌, Bool, cond, true, ltb, List, [], ◌∷◌, length, get_or, subst, arith}
 use Rattle.std.proofs.lemmas.Bool.{eqb-true, ltb-true, ltb-false, not-false, and_parts}
 use Rattle.line_base.specs.declared.limits.TheConstants.{MAX_STAGES, MAX_STATIONS, MAX_DEMANDS, MAX_TABLE, MAX_LOOPS, MAX_OBSERVE, MAX_OBSERVE_DATE, MAX_CARDS, MAX_TIME, MAX_DEMAND_DATE}
 use Rattle.line_base.specs.declared.times.Times.{Times}
@@ -10,9 +10,10 @@ use Rattle.plant_model.specs.declared.plant.CardLoop.{CardLoop}
 use Rattle.plant_model.specs.declared.plant.Plant.{Plant}
 use Rattle.plant_model.specs.declared.place.FileTable.TheVariants.{InStage, InMachine, InLoop}
 use Rattle.plant_model.specs.Place.{key_of}
-use Rattle.plant_model.specs.Line.{stock_under, starting, no_stage, no_machine, stage_at, machine_at, station_count, next, line_cards, is_first, is_downstream, path_stock, stock_between}
+use Rattle.plant_model.specs.Line.{stock_under, starting, no_stage, no_machine, stage_at, machine_at, station_count, line_cards, is_first, is_downstream, path_stock, stock_between}
 use Rattle.plant_model.specs.Refusals.{too_few, above, larger, refusals, parts_refusals, whole_refusals, each, empty, out_of_range, top_out_of_range, stage_out_of_range, loop_out_of_range, machine_out_of_range, times_out_of_range, cards_out_of_range, element_above, all_feeds_not_later, second_finals, times_counts, stage_times_count, machine_times_count, times_count, demand_order, falling_date, too_few_cards, too_few_under, too_few_in_line, too_few_in_stage, too_few_in_loop, loops_not_downstream, not_downstream, is_loop, too_large}
 use Rattle.plant_model.specs.Sound.{IsSound}
+pub use Rattle.plant_model.specs.Sound.{HasSoundSizes, IsSoundStage, AreSoundTimes, IsSoundMachine, IsSoundLoop}
 use Rattle.plant_model.proofs.Soundness.{FeedsLater-from, last-from}
 use Rattle.plant_model.proofs.NoRefusals.{AreNil-append, append-nil_left, append-nil_right, refuse_if-none, above-none, larger-none, each-none}
 
@@ -47,20 +48,6 @@ PassesAll-sound p sound =
       loops_downstream = append-nil_left _ _ whole_4;
       small = append-nil_right _ _ whole_4;
     }
-
--- the sizes of the plant, its dates, and the numbers at the top of its file
-pub record HasSoundSizes (p : Plant) : Type 0 where
-  pub some_stage : 1 ≤ length p.stages
-  pub few_stages : length p.stages ≤ MAX_STAGES
-  pub few_stations : station_count p ≤ MAX_STATIONS
-  pub some_demand : 1 ≤ length p.demands
-  pub few_demands : length p.demands ≤ MAX_DEMANDS
-  pub small_table : station_count p * length p.demands ≤ MAX_TABLE
-  pub few_loops : length p.loops ≤ MAX_LOOPS
-  pub short_card_time : p.card_time ≤ MAX_TIME
-  pub few_line_cards : line_cards p.policy ≤ MAX_CARDS
-  pub early_demands : (k : ℕ) → k < length p.demands → get_or p.demands k 0 ≤ MAX_DEMAND_DATE
-  pub ordered_demands : (k : ℕ) → suc k < length p.demands → get_or p.demands k 0 ≤ get_or p.demands (suc k) 0
 
 -- what isn't refused as empty has an element
 empty-none : {X : Type 0} (place : List ℕ) (xs : List X) → empty place xs ≡ [] → 1 ≤ length xs
@@ -111,24 +98,16 @@ HasSoundSizes-sound p sound =
       some_demand = empty-none _ p.demands top.third;
       few_demands = larger-none _ MAX_DEMANDS (length p.demands) small.third;
       small_table = larger-none _ MAX_TABLE (station_count p * length p.demands) small.fourth;
+      few_observed = larger-none _ MAX_OBSERVE (length p.observe) small.sixth;
       few_loops = larger-none _ MAX_LOOPS (length p.loops) small.fifth;
       short_card_time = above-none _ MAX_TIME p.card_time top.first;
       few_line_cards = line_cards-in_range p.policy top.second;
       early_demands =
           λ k below. above-none _ MAX_DEMAND_DATE (get_or p.demands k 0) (each-none (element_above (codes "demands") MAX_DEMAND_DATE) p.demands k 0 below top.fourth);
+      early_observed =
+          λ k below. above-none _ MAX_OBSERVE_DATE (get_or p.observe k 0) (each-none (element_above (codes "observe") MAX_OBSERVE_DATE) p.observe k 0 below top.fifth);
       ordered_demands = λ k below. ordered p.demands k below passes.in_order;
     }
-
--- what soundness says of stage i
-pub record IsSoundStage (p : Plant) (i : ℕ) : Type 0 where
-  pub few_cards : (stage_at p i).cards ≤ MAX_CARDS
-  pub little_stock : (stage_at p i).stock ≤ MAX_CARDS
-  pub short_travel : (stage_at p i).travel ≤ MAX_TIME
-  pub short_card_time : (stage_at p i).card_time ≤ MAX_TIME
-  pub some_machine : 1 ≤ length (stage_at p i).machines
-  pub feeds_later : (j : ℕ) → next p i ≡ Some j → (i < j) × (j < length p.stages)
-  pub last_is_final : next p i ≡ None → i + 1 ≡ length p.stages
-  pub stock_has_cards : p.policy ≡ Extended → (stage_at p i).stock ≤ (stage_at p i).cards
 
 -- under extended kanban a stage's stock has a card each
 enough : (p : Plant) (i : ℕ) → i < length p.stages → too_few_under p p.policy ≡ [] → p.policy ≡ Extended → (stage_at p i).stock ≤ (stage_at p i).cards
@@ -163,16 +142,6 @@ IsSoundStage-sound p i sound below =
       stock_has_cards = λ is. enough p i below (append-nil_left (too_few_under p p.policy) _ passes.enough_cards) is;
     }
 
--- every job time is within the limit, and a list of times has one for each job
-abbrev pub AreSoundTimes : ℕ → Times → Type 0
-AreSoundTimes jobs (Fixed time) = time ≤ MAX_TIME
-AreSoundTimes jobs (Each times) = (length times ≡ jobs) × ((k : ℕ) → k < length times → get_or times k 0 ≤ MAX_TIME)
-
--- what soundness says of machine j of stage i
-pub record IsSoundMachine (p : Plant) (i j : ℕ) : Type 0 where
-  pub few_servers : (machine_at p i j).servers ≤ MAX_CARDS
-  pub short_times : AreSoundTimes (length p.demands) (machine_at p i j).times
-
 -- no time of a list is above the limit
 AreSoundTimes-in_range : (jobs i j : ℕ) (times : Times) → times_out_of_range (InMachine i j) times ≡ [] → times_count jobs (InMachine i j) times ≡ [] → AreSoundTimes jobs times
 AreSoundTimes-in_range jobs i j (Fixed time) h count = above-none _ MAX_TIME time h
@@ -206,14 +175,6 @@ IsSoundMachine-sound p i j sound below inside =
       few_servers = above-none _ MAX_CARDS m.servers (append-nil_left servers _ machine);
       short_times = AreSoundTimes-in_range jobs i j m.times (append-nil_right servers _ machine) count;
     }
-
--- what soundness says of a loop
-pub record IsSoundLoop (p : Plant) (l : CardLoop) : Type 0 where
-  pub first_exists : l.first < length p.stages
-  pub goes_downstream : is_downstream p l.first l.last ≡ true
-  pub stock_has_cards : stock_between p l.first l.last ≤ l.cards
-  pub few_cards : l.cards ≤ MAX_CARDS
-  pub short_card_time : l.card_time ≤ MAX_TIME
 
 -- the stock of a loop that is one has a card each
 loop_enough : (p : Plant) (k : ℕ) (l : CardLoop) → is_loop p l ≡ true → too_few_in_loop p k l ≡ [] → stock_between p l.first l.last ≤ l.cards

@@ -2,6 +2,8 @@ pub mod Stages
 pub mod Line
 pub mod Paths
 pub mod Graph
+pub mod ArcNumbers
+pub mod Bound
 pub mod Place
 pub mod Refusals
 pub mod Sound

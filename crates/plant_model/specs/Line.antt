@@ -1,5 +1,5 @@
--- The words for a line: its stages, its stations, what a stage feeds, its starting stock, its path. Stages and stations
--- are numbered from 0.
+-- The words for a line: its stages, its stations, its loops, what a stage feeds, its starting stock, its path. Stages,
+-- stations and loops are numbered from 0.
 use Rattle.std.specs.Prelude.{ℕ, zero, suc, ◌+◌, Bool, not, ◌==◌, if◌then◌else◌, false, List, [], ◌∷◌, length, take, filter, sum_by, slice_index_or, Option, None, Some}
 use Rattle.std.specs.Option.{option_map_or}
 use Rattle.std.specs.List.{range_with_len, list_any}
@@ -7,6 +7,7 @@ use Rattle.line_base.specs.declared.times.Times.TheVariants.{Fixed}
 use Rattle.plant_model.specs.declared.plant.Policy.{Policy}
 use Rattle.plant_model.specs.declared.plant.Policy.TheVariants.{Kanban, Conwip, BaseStock, Extended}
 use Rattle.plant_model.specs.Stages.{Machine, Stage, one_server}
+use Rattle.plant_model.specs.declared.plant.CardLoop.{CardLoop}
 use Rattle.plant_model.specs.declared.plant.Plant.{Plant}
 
 -- what stands where a number names no stage
@@ -24,6 +25,14 @@ no_machine = record (one_server [] (Fixed 0)) { servers = 0 }
 -- machine j of stage i
 abbrev pub machine_at : Plant → ℕ → ℕ → Machine
 machine_at p i j = slice_index_or (stage_at p i).machines j no_machine
+
+-- what stands where a number names no loop
+abbrev pub no_loop : CardLoop
+no_loop = record { first = 0; last = 0; cards = 0; card_time = 0 }
+
+-- loop k
+abbrev pub loop_at : Plant → ℕ → CardLoop
+loop_at p k = slice_index_or p.loops k no_loop
 
 -- the numbers of the stages, in order
 abbrev pub stage_numbers : Plant → List ℕ

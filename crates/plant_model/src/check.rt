@@ -1,7 +1,7 @@
 //! The test whether a plant is sound, one file for neighbouring classes of refusals.
 ghost use Rattle.std.specs.Prelude.{◌≡◌, [], OnOk};
 ghost use Rattle.plant_model.specs.Refusals.{AnswersFirst, all_feeds_not_later, parts_refusals, whole_refusals, refusals};
-ghost use Rattle.plant_model.specs.Sound.{IsSound};
+ghost use Rattle.plant_model.specs.Sound.{IsSound, IsSoundPlant};
 
 mod cards;
 mod counts;
@@ -24,6 +24,7 @@ impl Plant {
     #[tactic(auto, unfolding(crate::specs::Refusals::refusals))]
     pub fn check(&self, alloc: Global) -> Result<(), PlantError>
         ensures sound { OnOk result (IsSound self.now) }
+        ensures plain { OnOk result (IsSoundPlant self.now) }
         ensures first { AnswersFirst result (refusals self.now) }
     {
         check_parts(alloc, self)?;

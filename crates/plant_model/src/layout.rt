@@ -1,33 +1,31 @@
 ghost use Rattle.std.specs.Prelude.{◌≡◌, ◌<◌, length, IfOk, IsTrue};
-ghost use Rattle.plant_model.specs.Line.{stage_at, release, machine_station, deliver, receiver, starting, is_first, is_downstream, path_stock, stock_between};
+ghost use Rattle.plant_model.specs.Line.{stage_at, release, machine_station, deliver, receiver, next, starting, is_first, is_downstream, path_stock, stock_between};
+ghost use Rattle.plant_model.specs.ArcNumbers.{entry_arc, policy_arc};
 ghost use Rattle.plant_model.specs.Sound.{IsSound};
 
-use crate::line::{is_fed, stock_on_path, stock_up_to};
-use crate::plant::{Plant, Stage};
+use crate::line::{stock_on_path, stock_up_to};
+use crate::numbers::LineNumbers;
+use crate::plant::{CardLoop, Plant, Policy, Stage};
 use std::alloc::{AllocError, Global};
 use std::marker::Model;
 
-/// The station of the feed, whose dates are the demand dates.
-pub const FEED: u32 = 0;
-
-/// Where the stations of a sound plant stand: the feed is station 0, then come each stage's release and its machines, then
-/// the delivery. It is made in one pass over the stages. Contracts see it as the plant. Its looks take no memory.
+/// A sound plant with the numbers of its stations and arcs, which are made once and looked up after that. Contracts see it as
+/// the plant. Its looks take no memory.
 #[derive(Drop)]
 pub struct Layout<'a> {
     plant: &'a Plant,
-    /// The station of each stage's release, and last that of the delivery.
-    releases: Vec<u32>,
+    numbers: LineNumbers,
 }
 
 impl<'a> Model for Layout<'a> {
     ghost use Rattle.plant_model.specs.declared.plant.Plant.{Plant};
-    ghost use Rattle.plant_model.specs.Layout.{IsLaidOut};
+    ghost use Rattle.plant_model.specs.Layout.{IsLayout};
 
     ghost Value = { Plant };
 
     ghost view = { λ layout. layout.plant.now };
 
-    ghost invariant = { λ layout. IsLaidOut layout.plant.now layout.releases.items };
+    ghost invariant = { λ layout. IsLayout layout.plant.now layout.numbers };
 }
 
 impl<'a> Layout<'a> {
@@ -36,14 +34,22 @@ impl<'a> Layout<'a> {
         requires { IsSound plant.now }
         ensures { IfOk result (λ layout. layout ≡ plant.now) }
     {
-        let mut releases = Vec::with_capacity(alloc, plant.stages.len() + 1)?;
-        let mut station = 1;
-        for stage in plant.stages.as_slice() {
-            releases.push(station)?;
-            station += 1 + stage.machines.len() as u32;
-        }
-        releases.push(station)?;
-        Ok(Layout { plant, releases })
+        let numbers = LineNumbers::of(alloc, plant)?;
+        Ok(Layout { plant, numbers })
+    }
+
+    /// The policy of the plant.
+    pub fn policy(&self) -> Policy
+        ensures { result ≡ self.now.policy }
+    {
+        self.plant.policy
+    }
+
+    /// The loops of the plant.
+    pub fn loops(&self) -> &[CardLoop]
+        ensures { result.now ≡ self.now.loops }
+    {
+        self.plant.loops.as_slice()
     }
 
     /// How many stages there are.
@@ -66,7 +72,7 @@ impl<'a> Layout<'a> {
         requires { stage < length self.now.stages }
         ensures { result ≡ release self.now stage }
     {
-        self.releases[stage as usize]
+        self.numbers.release(stage)
     }
 
     /// The station of a machine of a stage, both numbered from 0.
@@ -75,14 +81,14 @@ impl<'a> Layout<'a> {
         requires machine { machine < length (stage_at self.now stage).machines }
         ensures { result ≡ machine_station self.now stage machine }
     {
-        self.releases[stage as usize] + 1 + machine
+        self.numbers.release(stage) + 1 + machine
     }
 
     /// The station of the delivery, which is the last.
     pub fn deliver(&self) -> u32
         ensures { result ≡ deliver self.now }
     {
-        self.releases[self.plant.stages.len()]
+        self.numbers.deliver()
     }
 
     /// The station that takes the parts of a stage: the release of the stage that it feeds, or the delivery.
@@ -90,10 +96,7 @@ impl<'a> Layout<'a> {
         requires { stage < length self.now.stages }
         ensures { result ≡ receiver self.now stage }
     {
-        match self.plant.next(stage) {
-            Some(fed) => self.release(fed),
-            None => self.deliver(),
-        }
+        self.numbers.receiver(self.plant, stage)
     }
 
     /// The starting stock of a stage: its cards under kanban, else its stock.
@@ -109,7 +112,30 @@ impl<'a> Layout<'a> {
         requires { stage < length self.now.stages }
         ensures { result ≡ is_first self.now stage }
     {
-        !is_fed(self.plant.stages.as_slice(), stage as usize)
+        self.numbers.is_first(stage)
+    }
+
+    /// The stage that a stage feeds; `None` for the final stage.
+    pub fn next(&self, stage: u32) -> Option<u32>
+        requires { stage < length self.now.stages }
+        ensures { result ≡ next self.now stage }
+    {
+        self.plant.next(stage)
+    }
+
+    /// The arc from a stage's release to its first machine.
+    pub fn entry_arc(&self, stage: u32) -> u32
+        requires { stage < length self.now.stages }
+        ensures { result ≡ entry_arc self.now stage }
+    {
+        self.numbers.entry_arc(stage)
+    }
+
+    /// The first arc of the policy, after that from the feed to the delivery.
+    pub fn policy_arc(&self) -> u32
+        ensures { result ≡ policy_arc self.now }
+    {
+        self.numbers.policy_arc()
     }
 
     /// The starting stock on the path of a stage.

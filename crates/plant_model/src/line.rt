@@ -1,7 +1,6 @@
 //! The looks at a plant as a line: what a stage feeds, its starting stock, its path. None takes memory.
 ghost use Rattle.std.specs.Prelude.{◌≡◌, ◌+◌, ◌^◌, ◌<◌, ℕ, length, IfSome, IsNone, ◌↔◌, []};
-ghost use Rattle.std.specs.List.{list_any};
-ghost use Rattle.plant_model.specs.Line.{next, stock_under, starting, feeds, path_stock, stock_down_to};
+ghost use Rattle.plant_model.specs.Line.{next, stock_under, starting, path_stock, stock_down_to};
 ghost use Rattle.plant_model.specs.Refusals.{all_feeds_not_later};
 ghost use Rattle.plant_model.specs.Sound.{IsSound};
 
@@ -77,23 +76,6 @@ pub(crate) fn next_stage(plant: &Plant, i: usize) -> Option<u32>
     ensures { result ≡ next plant.now i }
 {
     plant.stages.as_slice()[i].feeds
-}
-
-/// Whether one of these stages feeds stage `i`.
-pub(crate) fn is_fed(stages: &[Stage], i: usize) -> bool
-    ensures { result ≡ list_any (feeds i) stages.now }
-{
-    stages.iter().any(|stage| feeds(stage, i))
-}
-
-/// Whether a stage feeds stage `i`.
-fn feeds(stage: &Stage, i: usize) -> bool
-    ensures { result ≡ feeds i stage.now }
-{
-    match stage.feeds {
-        Some(fed) => fed as usize == i,
-        None => false,
-    }
 }
 
 /// The starting stock of a stage under a policy.

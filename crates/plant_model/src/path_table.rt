@@ -176,7 +176,7 @@ fn jump_before(rows: &[PathRow], next: usize) -> usize
 }
 
 /// For each stage whether a stage feeds it.
-fn fed_marks(alloc: Global, plant: &Plant) -> Result<Vec<bool>, AllocError>
+pub(crate) fn fed_marks(alloc: Global, plant: &Plant) -> Result<Vec<bool>, AllocError>
     requires { all_feeds_not_later plant.now ≡ [] }
     ensures { IfOk result (λ fed. AreFedMarks plant.now fed.items) }
 {

@@ -8,7 +8,7 @@ use Rattle.line_base.specs.declared.event.Parts.{Parts}
 use Rattle.event_graph.specs.Network.{stations, jobs, arc_count, ins}
 use Rattle.event_graph.specs.State.{State, log, start}
 use Rattle.event_graph.proofs.ArcNumbers.{All-ins}
-use Rattle.line_graph.proofs.RowLists.{All-range}
+use Rattle.line_base.proofs.RangeLists.{All-range}
 use Rattle.line_core.specs.declared.error.ReplayError.{ReplayError}
 use Rattle.line_core.specs.declared.error.ReplayError.TheVariants.{NoStation, Done, Empty, Unfinished, NoMemory}
 use Rattle.line_core.specs.Refusals.{is_empty, first_empty, is_behind, first_unfinished}

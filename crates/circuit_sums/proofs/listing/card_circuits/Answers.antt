@@ -1,5 +1,5 @@
 use Rattle.std.proofs.Common.{◌≡◌, ◌∙◌, ◌-◌, ◌++◌, length, ap, arith}
-use Rattle.circuit_sums.specs.ArcNumbers.{first_loop_arc}
+use Rattle.plant_model.specs.ArcNumbers.{first_loop_arc}
 use Rattle.circuit_sums.specs.Circuits.{policy_circuits, loop_circuits, circuits}
 use Rattle.circuit_sums.proofs.Listings.{length-arcs}
 use Rattle.circuit_sums.proofs.CardArcs.{all-closed}

@@ -1,4 +1,5 @@
-use Rattle.std.proofs.Common.{◌≡◌, length, arith}
+use Rattle.std.proofs.Common.{◌≡◌, length, sym, subst, arith}
+use Rattle.plant_model.specs.Sound.{IsSound}
 use Rattle.event_graph.specs.Table.{date_in}
 use Rattle.line_io.proofs.OutgoingLemmas.{pushed_none, pushed_after}
 use Rattle.plant_model.proofs.LayoutFacts.{few_stages}
@@ -20,4 +21,7 @@ pub returns : goal.returns
 unfolding observed_lines
 returns g c =
     let all : c.loop-stage.stage ≡ length c.args.plant.now.stages = omega arith in
-    pushed_after (rw all at c.loop-stage.invariant) c.write_backlog.ensures
+    pushed_after (rw all at c.loop-stage.invariant) (rw c.requires.numbers at c.write_backlog.ensures)
+
+pub write_backlog-requires-clause-sound : goal.write_backlog-requires-clause-sound
+write_backlog-requires-clause-sound g c = subst IsSound (sym c.requires.numbers) c.requires.sound

@@ -1,5 +1,6 @@
-use Rattle.std.proofs.Common.{◌≡◌}
+use Rattle.std.proofs.Common.{◌≡◌, sym, subst}
 use Rattle.plant_model.specs.Line.{stage_at}
+use Rattle.plant_model.specs.Sound.{IsSound}
 use Rattle.event_graph.specs.Table.{date_in}
 use Rattle.line_io.proofs.OutgoingLemmas.{pushed_after}
 use Rattle.line_report.proofs.Lines.{stage_read, stage_line-moving, stage_line-still}
@@ -15,7 +16,7 @@ returns g c =
     in
     elim c.if-part-gt0.branch [
       | then-part-gt0 w ↦
-          let process = rw c.in_process.ensures.count at c.push_number-2.ensures in
+          let process = rw (c.in_process.ensures.count, c.requires.numbers) at c.push_number-2.ensures in
           let move = rw (w.in_move.ensures.count, ← w.out-is, ← w.sink-is) at w.push_number-then-part-gt0.ensures in
           let stock = rw c.in_stock.ensures.count at c.push_number-3.ensures in
           rw (stage_line-moving plant x c.args.at c.args.stage _ read w.if-part-gt0.true)
@@ -30,7 +31,7 @@ returns g c =
           (pushed_after c.push-5.ensures
           (pushed_after stock c.push-6.ensures))))))))))
       | else-part-gt0 w ↦
-          let process = rw (c.in_process.ensures.count, ← w.out-is, ← w.sink-is) at c.push_number-2.ensures in
+          let process = rw (c.in_process.ensures.count, c.requires.numbers, ← w.out-is, ← w.sink-is) at c.push_number-2.ensures in
           let stock = rw c.in_stock.ensures.count at c.push_number-3.ensures in
           rw (stage_line-still plant x c.args.at c.args.stage _ read w.if-part-gt0.false)
           (pushed_after c.push.ensures
@@ -42,3 +43,6 @@ returns g c =
           (pushed_after c.push-5.ensures
           (pushed_after stock c.push-6.ensures))))))))
     ]
+
+pub in_process-requires-clause-sound : goal.in_process-requires-clause-sound
+in_process-requires-clause-sound g c = subst IsSound (sym c.requires.numbers) c.requires.sound

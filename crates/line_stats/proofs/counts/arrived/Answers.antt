@@ -1,15 +1,8 @@
 use Rattle.std.proofs.Common.{arith}
 use Rattle.plant_model.specs.Line.{last_machine}
 use Rattle.event_graph.specs.Table.{date_in}
-use Rattle.line_stats.proofs.Rising.{lists_keep_order}
-use Rattle.line_stats.proofs.PlantTables.{exists_in, done_in, travel-read, arrived-after, arrived-before}
+use Rattle.line_stats.proofs.PlantTables.{done_in, numbered_in, travel-read, arrived-after, arrived-before}
 use Rattle.line_stats.proofs.counts.arrived.Goals as goal
-
-pub done-requires-clause-station : goal.done-requires-clause-station
-done-requires-clause-station c = exists_in c.args.plant.now c.args.table.now.graph c.last_machine.result c.requires.of_plant c.last_machine.ensures.exists
-
-pub done-requires-clause-order : goal.done-requires-clause-order
-done-requires-clause-order c = lists_keep_order c.args.plant.now c.args.table.now.graph c.requires.of_plant
 
 pub returns-in-Some : goal.returns-in-Some
 returns-in-Some c =
@@ -18,7 +11,8 @@ returns-in-Some c =
     let x = date_in d.rows in
     let travel = travel-read p c.args.stage c.as_slice.result.now c.index-as_slice-stage.result c.requires.exists c.as_slice.ensures in
     let left = c.in-Some.ensures in
-    let made = done_in p d.graph x c.last_machine.result (last_machine p c.args.stage) c.in-Some.left c.done.result c.requires.of_plant c.last_machine.ensures.station c.done.ensures.count in
+    let last = numbered_in p _ c.last_machine.result (λ q. last_machine q c.args.stage) c.requires.numbers c.last_machine.ensures.station c.last_machine.ensures.exists in
+    let made = done_in p d.graph x c.last_machine.result (last_machine p c.args.stage) c.in-Some.left c.done.result c.requires.of_plant last.0 c.done.ensures.count in
     arrived-after p x c.args.stage c.args.at c.in-Some.left c.done.result (omega arith) (omega arith) made
 
 pub returns-in-None : goal.returns-in-None

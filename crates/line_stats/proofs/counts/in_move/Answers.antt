@@ -1,42 +1,29 @@
-use Rattle.std.proofs.Common.{arith}
+use Rattle.std.proofs.Common.{◌≡◌, ◌≤◌, arith}
 use Rattle.plant_model.specs.Line.{last_machine}
+use Rattle.plant_model.specs.Graph.{graph}
 use Rattle.event_graph.specs.Table.{date_in}
-use Rattle.line_stats.specs.Counts.{in_move}
-use Rattle.line_stats.proofs.Rising.{lists_keep_order}
+use Rattle.line_stats.specs.Counts.{done, in_move}
 use Rattle.line_stats.proofs.Flows.{move-flow}
-use Rattle.line_stats.proofs.PlantTables.{exists_in, done_in}
+use Rattle.line_stats.proofs.PlantTables.{done_in, numbered_in}
+use Rattle.line_stats.proofs.counts.in_move.Goals.{After-arrived}
 use Rattle.line_stats.proofs.counts.in_move.Goals as goal
 
-pub done-requires-clause-station : goal.done-requires-clause-station
-done-requires-clause-station c = exists_in c.args.plant.now c.args.table.now.graph c.last_machine.result c.requires.of_plant c.last_machine.ensures.exists
-
-pub done-requires-clause-order : goal.done-requires-clause-order
-done-requires-clause-order c = lists_keep_order c.args.plant.now c.args.table.now.graph c.requires.of_plant
+-- what was counted at the last machine
+counted : (c : After-arrived) → (c.done.result ≡ done (graph c.args.plant.now) (date_in c.args.table.now.rows) (last_machine c.args.plant.now c.args.stage) c.args.at) × (c.arrived.result ≤ c.done.result)
+counted c =
+    let p = c.args.plant.now in
+    let d = c.args.table.now in
+    let x = date_in d.rows in
+    let last = numbered_in p _ c.last_machine.result (λ q. last_machine q c.args.stage) c.requires.numbers c.last_machine.ensures.station c.last_machine.ensures.exists in
+    let made = done_in p d.graph x c.last_machine.result (last_machine p c.args.stage) c.args.at c.done.result c.requires.of_plant last.0 c.done.ensures.count in
+    let flow = move-flow p x c.args.stage c.args.at in
+    (made, omega (arith, c.arrived.ensures))
 
 pub overflow_sub-result : goal.overflow_sub-result
-overflow_sub-result c =
-    let p = c.args.plant.now in
-    let d = c.args.table.now in
-    let x = date_in d.rows in
-    let made = done_in p d.graph x c.last_machine.result (last_machine p c.args.stage) c.args.at c.done.result c.requires.of_plant c.last_machine.ensures.station c.done.ensures.count in
-    let flow = move-flow p x c.args.stage c.args.at in
-    omega (arith, made, flow, c.arrived.ensures)
+overflow_sub-result c = (counted (goal.at.overflow_sub-result c).After-arrived).1
 
-pub returns-clause-count : goal.returns-clause-count
+pub returns : goal.returns
 unfolding in_move
-returns-clause-count c =
-    let p = c.args.plant.now in
-    let d = c.args.table.now in
-    let x = date_in d.rows in
-    let made = done_in p d.graph x c.last_machine.result (last_machine p c.args.stage) c.args.at c.done.result c.requires.of_plant c.last_machine.ensures.station c.done.ensures.count in
-    let flow = move-flow p x c.args.stage c.args.at in
-    omega (arith, made, flow, c.arrived.ensures)
-
-pub returns-clause-balance : goal.returns-clause-balance
-returns-clause-balance c =
-    let p = c.args.plant.now in
-    let d = c.args.table.now in
-    let x = date_in d.rows in
-    let made = done_in p d.graph x c.last_machine.result (last_machine p c.args.stage) c.args.at c.done.result c.requires.of_plant c.last_machine.ensures.station c.done.ensures.count in
-    let flow = move-flow p x c.args.stage c.args.at in
-    omega (arith, made, flow, c.arrived.ensures)
+returns c =
+    let counted = counted (goal.at.returns c).After-arrived in
+    record { count = omega (arith, c.arrived.ensures); balance = omega (arith, c.arrived.ensures) }

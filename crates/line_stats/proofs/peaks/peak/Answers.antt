@@ -1,42 +1,53 @@
-use Rattle.std.proofs.Common.{◌≡◌, ℕ, ◌≤◌, length, sym, ap, ◌∙◌, subst, arith}
+use Rattle.std.proofs.Common.{◌≡◌, ℕ, ◌<◌, ◌≤◌, length, sym, ap, ◌∙◌, subst, arith}
 use Rattle.std.specs.List.Sorted.{IsNonDecreasing}
-use Rattle.plant_model.specs.Line.{release, receiver}
+use Rattle.plant_model.specs.Line.{release, receiver, station_count}
 use Rattle.plant_model.specs.Graph.{graph}
 use Rattle.event_graph.specs.Table.{date_in}
 use Rattle.event_graph.specs.Solves.{Solves}
 use Rattle.line_stats.specs.Counts.{standing}
 use Rattle.line_stats.specs.Between.{dates_until, between}
 use Rattle.line_stats.proofs.Rising.{lists_keep_order, row-rises, count-row}
-use Rattle.line_stats.proofs.PlantTables.{exists_in, done_in, solves_in, starting-small}
+use Rattle.line_stats.proofs.PlantTables.{exists_in, numbered_in, done_in, solves_in, starting-small}
 use Rattle.line_stats.proofs.StandingParts.{standing-is, peak-is, most-bounded}
-use Rattle.line_stats.proofs.peaks.peak.Goals.{After-most_between}
+use Rattle.line_stats.proofs.peaks.peak.Goals.{After-release, After-receiver, After-most_between}
 use Rattle.line_stats.proofs.peaks.peak.Goals as goal
 
+-- the two stations
+released : (c : After-release) → (c.release.result ≡ release c.args.plant.now c.args.stage) × (c.release.result < station_count c.args.plant.now)
+released c =
+    numbered_in c.args.plant.now _ c.release.result (λ q. release q c.args.stage) c.requires.numbers c.release.ensures.station c.release.ensures.exists
+
+takes : (c : After-receiver) → (c.receiver.result ≡ receiver c.args.plant.now c.args.stage) × (c.receiver.result < station_count c.args.plant.now)
+takes c =
+    numbered_in c.args.plant.now _ c.receiver.result (λ q. receiver q c.args.stage) c.requires.numbers c.receiver.ensures.station c.receiver.ensures.exists
+
 pub dates-released-requires : goal.dates-released-requires
-dates-released-requires c = exists_in c.args.plant.now c.args.table.now.graph c.release.result c.requires.of_plant c.release.ensures.exists
+dates-released-requires c =
+    exists_in c.args.plant.now c.args.table.now.graph c.release.result c.requires.of_plant (released (goal.at.dates-released-requires c).After-release).1
 
 pub dates-taken-requires : goal.dates-taken-requires
-dates-taken-requires c = exists_in c.args.plant.now c.args.table.now.graph c.receiver.result c.requires.of_plant c.receiver.ensures.exists
+dates-taken-requires c =
+    exists_in c.args.plant.now c.args.table.now.graph c.receiver.result c.requires.of_plant (takes (goal.at.dates-taken-requires c).After-receiver).1
 
+-- the dates of the two stations rise
 pub most_between-requires-clause-entered_in_order : goal.most_between-requires-clause-entered_in_order
 most_between-requires-clause-entered_in_order c =
     let p = c.args.plant.now in
     let d = c.args.table.now in
-    let exists = exists_in p d.graph c.release.result c.requires.of_plant c.release.ensures.exists in
+    let exists = exists_in p d.graph c.release.result c.requires.of_plant (released (goal.at.most_between-requires-clause-entered_in_order c).After-release).1 in
     subst IsNonDecreasing (sym c.dates-released.ensures.dates) (row-rises d c.release.result c.dates-released.ensures.least (lists_keep_order p d.graph c.requires.of_plant) exists)
 
 pub most_between-requires-clause-left_in_order : goal.most_between-requires-clause-left_in_order
 most_between-requires-clause-left_in_order c =
     let p = c.args.plant.now in
     let d = c.args.table.now in
-    let exists = exists_in p d.graph c.receiver.result c.requires.of_plant c.receiver.ensures.exists in
+    let exists = exists_in p d.graph c.receiver.result c.requires.of_plant (takes (goal.at.most_between-requires-clause-left_in_order c).After-receiver).1 in
     subst IsNonDecreasing (sym c.dates-taken.ensures.dates) (row-rises d c.receiver.result c.dates-taken.ensures.least (lists_keep_order p d.graph c.requires.of_plant) exists)
 
 pub most_between-requires-clause-few : goal.most_between-requires-clause-few
 most_between-requires-clause-few c =
-    let p = c.args.plant.now in
     let d = c.args.table.now in
-    let exists = exists_in p d.graph c.release.result c.requires.of_plant c.release.ensures.exists in
+    let exists = exists_in c.args.plant.now d.graph c.release.result c.requires.of_plant (released (goal.at.most_between-requires-clause-few c).After-release).1 in
     let table = c.dates-released.ensures.least in
     omega (arith, ap length c.dates-released.ensures.dates, table.a_date_each c.release.result exists, table.limits.few_jobs)
 
@@ -55,12 +66,14 @@ level c v =
     let x = date_in d.rows in
     let i = c.args.stage in
     let table = c.dates-released.ensures.least in
-    let released_exists = exists_in p d.graph c.release.result c.requires.of_plant c.release.ensures.exists in
-    let taken_exists = exists_in p d.graph c.receiver.result c.requires.of_plant c.receiver.ensures.exists in
+    let from = numbered_in p _ c.release.result (λ q. release q i) c.requires.numbers c.release.ensures.station c.release.ensures.exists in
+    let to = numbered_in p _ c.receiver.result (λ q. receiver q i) c.requires.numbers c.receiver.ensures.station c.receiver.ensures.exists in
+    let released_exists = exists_in p d.graph c.release.result c.requires.of_plant from.1 in
+    let taken_exists = exists_in p d.graph c.receiver.result c.requires.of_plant to.1 in
     let released_row = ap (λ row. dates_until row v) c.dates-released.ensures.dates ∙ count-row d c.release.result v table released_exists in
     let taken_row = ap (λ row. dates_until row v) c.dates-taken.ensures.dates ∙ count-row d c.receiver.result v table taken_exists in
-    let released = done_in p d.graph x c.release.result (release p i) v (dates_until c.dates-released.result.now v) c.requires.of_plant c.release.ensures.station released_row in
-    let taken = done_in p d.graph x c.receiver.result (receiver p i) v (dates_until c.dates-taken.result.now v) c.requires.of_plant c.receiver.ensures.station taken_row in
+    let released = done_in p d.graph x c.release.result (release p i) v (dates_until c.dates-released.result.now v) c.requires.of_plant from.0 released_row in
+    let taken = done_in p d.graph x c.receiver.result (receiver p i) v (dates_until c.dates-taken.result.now v) c.requires.of_plant to.0 taken_row in
     omega (arith, standing-is p x i v c.requires.sound (solves c) c.requires.exists, c.starting.ensures)
 
 covers : (c : After-most_between) (v : ℕ) → standing c.args.plant.now (date_in c.args.table.now.rows) c.args.stage v ≤ c.most_between.result

@@ -1,25 +1,21 @@
-use Rattle.std.proofs.Common.{◌≡◌, ◌<◌, ap, ◌+◌, arith}
+use Rattle.std.proofs.Common.{◌≡◌, ◌∙◌, ◌<◌, ap, subst, arith}
+use Rattle.plant_model.specs.declared.plant.Plant.{Plant}
 use Rattle.plant_model.specs.Line.{release, last_machine}
-use Rattle.plant_model.proofs.LayoutFacts.{release-inside, release-read, small_last_machine, IsSound-laid_out}
+use Rattle.plant_model.specs.Sound.{IsSound}
+use Rattle.plant_model.proofs.LayoutFacts.{small_last_machine}
+use Rattle.plant_model.proofs.layout.Layout.machine.Goals.{After-release}
 use Rattle.plant_model.proofs.layout.Layout.machine.Goals as goal
-use Rattle.plant_model.proofs.layout.Layout.machine.Goals.{After-index}
 
-read : (c : After-index) → c.index.result.now ≡ release c.args.self.now c.args.stage
-read c = release-read c.args.self.now _ _ c.args.stage _ c.self.view_is c.self.invariant (omega arith) c.index.ensures
+read : (c : After-release) → c.release.result ≡ release c.args.self.now c.args.stage
+read c = c.release.ensures.station ∙ ap (λ (p : Plant). release p c.args.stage) (c.self.invariant.same ∙ c.self.view_is)
 
-small : (c : After-index) → last_machine c.args.self.now c.args.stage < 511
-small c = small_last_machine c.args.self.now c.args.stage (IsSound-laid_out _ _ _ c.self.view_is c.self.invariant) c.requires.stage
-
-pub index-requires : goal.index-requires
-index-requires c = release-inside c.args.self.now _ c.self.inside.releases c.args.stage c.self.view_is c.self.invariant (omega arith)
+small : (c : After-release) → last_machine c.args.self.now c.args.stage < 511
+small c = small_last_machine c.args.self.now c.args.stage (subst IsSound c.self.view_is c.self.invariant.sound) c.requires.stage
 
 pub overflow_add-result : goal.overflow_add-result
-overflow_add-result c = let at = (goal.at.overflow_add-result c).After-index in omega (arith, read at, small at)
+overflow_add-result c = let at = (goal.at.overflow_add-result c).After-release in omega (arith, read at, small at)
 
 pub overflow_add-result-2 : goal.overflow_add-result-2
 overflow_add-result-2 c =
-    let at = (goal.at.overflow_add-result-2 c).After-index in
+    let at = (goal.at.overflow_add-result-2 c).After-release in
     omega (arith, read at, small at, c.requires.machine)
-
-pub returns : goal.returns
-returns c = ap (λ n. n + 1 + c.args.machine) (read (goal.at.returns c).After-index)
