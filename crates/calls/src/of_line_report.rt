@@ -43,3 +43,16 @@ fn a_report_begins_anew(rt: HostRuntime) -> Result<(), Fail> {
     assert!(rt; text.ends_with(b"waiting 9\nlast 15\n"));
     Ok(())
 }
+
+#[test]
+fn a_summary_tells_the_sizes_and_the_sum_of_the_dates(rt: HostRuntime) -> Result<(), Fail> {
+    let mut report = report_of_two_stages(rt.alloc())?;
+    let mut sink = MemSink::new(rt.alloc(), 1_000, Vec::new(rt.alloc()), 0)?;
+    assert!(rt; report.write_summary(&mut sink).is_ok());
+    let sizes = "stations 6\njobs 3\nfirings 18\nsum 105\n";
+    let rest = "peak cut 1 of 1\npeak weld 1 of 1\nwaiting 9\nlast 15\n";
+    assert!(rt; sink.written().starts_with(sizes.as_bytes()));
+    assert!(rt; sink.written().ends_with(rest.as_bytes()));
+    assert_eq!(rt; sink.written().len(), sizes.len() + rest.len());
+    Ok(())
+}

@@ -1,8 +1,10 @@
 pub mod Calls
 pub mod Contents
+pub mod FailPlans
 pub mod Faults
 pub mod Held
 pub mod Left
+pub mod Machine
 pub mod Memory
 pub mod Outgoing
 pub mod SinkView

@@ -1,29 +1,30 @@
--- When a store and a sink in memory refuse a call, and what they keep of it.
-use Rattle.std.specs.Prelude.{◌≡◌, ℕ, ◌+◌, ◌-◌, ◌^◌, min, List, length, take, Contains, Option, None}
+-- What a store and a sink in memory show, how they are made, and what they keep of a call that they refuse.
+use Rattle.std.specs.Prelude.{◌≡◌, ℕ, ◌-◌, min, List, length, take, Option, None, String, Vec}
+use Rattle.std.specs.BTreeMap.{BTreeMap}
+use Rattle.std.specs.declared.alloc.Global.{Global}
+use Rattle.line_io.specs.FailPlans.{IsNewPlan}
 use Rattle.line_io.specs.Held.{contents, times_noted}
 use Rattle.line_io.specs.Left.{left_by}
-use Rattle.line_io.specs.SinkView.{SinkView}
-use Rattle.line_io.specs.StoreView.{StoreView}
+use Rattle.line_io.specs.SinkView.{SinkView, IsBlank}
+use Rattle.line_io.specs.StoreView.{StoreView, IsUnused}
 use Rattle.line_io.specs.declared.fail_plan.FailPlan.{FailPlan}
 use Rattle.line_io.specs.declared.mem_sink.MemSink.{MemSink}
 use Rattle.line_io.specs.declared.mem_store.MemStore.{MemStore}
 
--- the number of the next call, which stands still at the end of its type
-abbrev pub next_call : FailPlan → ℕ
-next_call plan = min (plan.calls + 1) (2 ^ 64 - 1)
-
--- the number of the next call is on the list
-abbrev pub IsDue : FailPlan → Type 0
-IsDue plan = Contains plan.failing.items (next_call plan)
-
--- one more call was counted, and the list is as it was
-pub record Counts (old new : FailPlan) : Type 0 where
-  pub calls : new.calls ≡ next_call old
-  pub failing : new.failing.items ≡ old.failing.items
-
 -- what a sink in memory shows
 abbrev pub sink_view : MemSink → SinkView
 sink_view sink = record { written = sink.bytes.items; faults = sink.faults }
+
+-- which calls of a sink are to fail, and how many were made
+abbrev pub sink_plan : MemSink → FailPlan
+sink_plan sink = sink.plan
+
+-- a sink as it is made: with this room, these calls are to fail, of a refused piece it keeps so much, and nothing was written
+pub record IsNewSink (sink : MemSink) (size : ℕ) (numbers : List ℕ) (kept : ℕ) : Type 0 where
+  pub room : sink.room ≡ size
+  pub keep : sink.keep ≡ kept
+  pub plan : IsNewPlan sink.plan numbers
+  pub blank : IsBlank (sink_view sink)
 
 -- how many bytes still fit
 abbrev pub room_left : MemSink → ℕ
@@ -47,6 +48,32 @@ store_view store = record {
   taken = store.taken;
   asked = store.calls.asked;
 }
+
+-- which calls of a store are to fail, and how many were made
+abbrev pub store_plan : MemStore → FailPlan
+store_plan store = store.plan
+
+-- the files of a store, by name
+abbrev pub store_files : MemStore → BTreeMap (String Global) (Vec ℕ Global)
+store_files store = store.files
+
+-- the names of the reads that have failed, and of the writes
+abbrev pub failed_reads : MemStore → Vec (String Global) Global
+failed_reads store = store.failed_reads
+
+abbrev pub failed_writes : MemStore → Vec (String Global) Global
+failed_writes store = store.failed_writes
+
+-- how many bytes a refused write keeps, or with none the file stays as it was
+abbrev pub store_keep : MemStore → Option ℕ
+store_keep store = store.keep
+
+-- a store as it is made: of these files, these calls are to fail, a refused write keeps so much, and nothing was asked yet
+pub record IsNewStore (store : MemStore) (held : BTreeMap (String Global) (Vec ℕ Global)) (numbers : List ℕ) (kept : Option ℕ) : Type 0 where
+  pub files : store.files ≡ held
+  pub keep : store.keep ≡ kept
+  pub plan : IsNewPlan store.plan numbers
+  pub unused : IsUnused (store_view store)
 
 -- there is no such file
 abbrev pub IsAbsent : MemStore → List ℕ → Type 0

@@ -1,4 +1,4 @@
-ghost use Rattle.std.specs.Prelude.{◌≡◌, ◌+◌, ◌-◌, ◌^◌, ◌↔◌, min, IsTrue, Contains};
+ghost use Rattle.std.specs.Prelude.{◌↔◌, IsTrue};
 
 /// Which calls of a store or a sink in memory are to fail, by their numbers from 1.
 #[derive(Drop)]
@@ -8,18 +8,19 @@ pub struct FailPlan {
 }
 
 impl FailPlan {
+    ghost use Rattle.line_io.specs.FailPlans.{IsNewPlan, IsDue, Counts};
+
+    /// A plan in which the calls of these numbers are to fail.
     pub fn new(failing: Vec<u32>) -> FailPlan
-        ensures failing { result.failing.items ≡ failing.items }
-        ensures none_made { result.calls ≡ 0 }
+        ensures { IsNewPlan result failing.items }
     {
         FailPlan { failing, calls: 0 }
     }
 
     /// Counts a call, and says whether it is to fail.
     pub fn next(&mut self) -> bool
-        ensures counted { self.new.calls ≡ min (self.old.calls + 1) (2 ^ 64 - 1) }
-        ensures due { IsTrue result ↔ Contains self.old.failing.items self.new.calls }
-        ensures failing_stays { self.new.failing.items ≡ self.old.failing.items }
+        ensures due { IsTrue result ↔ IsDue self.old }
+        ensures counted { Counts self.old self.new }
     {
         self.calls = self.calls.saturating_add(1);
         let number = self.calls;

@@ -1,5 +1,4 @@
 ghost use Rattle.std.specs.Prelude.{◌≡◌, ◌<◌, ◌≤◌, ◌↔◌, ◌+◌, ◌-◌, ◌^◌, min, length, Ok, IfOk, IfSome, IfErr, OnOk, OnErr, IsErrOf};
-ghost use Rattle.line_io.specs.Calls.{none_asked};
 ghost use Rattle.line_io.specs.Faults.{Rose};
 
 use crate::calls::Calls;
@@ -23,12 +22,13 @@ pub struct FileStore<R: Files + Drop> {
 }
 
 impl<R: Files + Drop> FileStore<R> {
+    ghost use Rattle.line_io.specs.Machine.{file_opener, file_view};
+    ghost use Rattle.line_io.specs.StoreView.{IsUnused};
+
     /// The runtime that opens files, or a reference to it.
     pub fn new(rt: R) -> Self
-        ensures opens { result.rt ≡ rt }
-        ensures no_fault { result.faults ≡ 0 }
-        ensures nothing_taken { result.taken ≡ 0 }
-        ensures nothing_asked { result.calls.asked ≡ none_asked }
+        ensures opens { file_opener result ≡ rt }
+        ensures unused { IsUnused (file_view result) }
     {
         FileStore {
             rt,
@@ -39,7 +39,7 @@ impl<R: Files + Drop> FileStore<R> {
     }
 }
 
-// The answer of the machine, where each error is a fault that is counted.
+/// The answer of the machine, where each error is a fault that is counted.
 fn counted<T: Drop>(answer: io::Result<T>, faults: &mut u64) -> Result<T, StoreError>
     ensures same { IfOk result (λ value. answer ≡ Ok value) }
     ensures failed { IfErr result (λ error. error ≡ StoreError.Failed) }
@@ -56,8 +56,8 @@ fn counted<T: Drop>(answer: io::Result<T>, faults: &mut u64) -> Result<T, StoreE
     }
 }
 
-// Reads to the end, to an error, or until limit + 1 bytes were taken, and counts the bytes taken. The bytes are all that
-// the reader had left.
+/// Reads to the end, to an error, or until limit + 1 bytes were taken, and counts the bytes taken. The bytes are all that
+/// the reader had left.
 fn read_to_limit<R: Read>(
     alloc: Global,
     file: &mut R,
@@ -91,17 +91,12 @@ fn read_to_limit<R: Read>(
 }
 
 impl<R: Files + Drop> Store for FileStore<R> {
-    ghost use Rattle.std.specs.Prelude.{false, None};
+    ghost use Rattle.std.specs.Prelude.{false};
+    ghost use Rattle.line_io.specs.Machine.{file_view};
 
     ghost tells = { false };
 
-    ghost shown = { λ store. record {
-      files = λ _. None;
-      read_faults = λ _. store.faults;
-      write_faults = λ _. store.faults;
-      taken = store.taken;
-      asked = store.calls.asked;
-    } };
+    ghost shown = { file_view };
 
     fn read(&mut self, alloc: Global, name: &str, limit: u64) -> Result<Vec<u8>, StoreError> {
         self.taken = 0;

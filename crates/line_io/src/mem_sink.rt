@@ -16,7 +16,7 @@ pub struct MemSink {
     ghost has_room: { room ≤ vec_capacity bytes },
 }
 
-// Appends what there is room for.
+/// Appends what there is room for.
 fn append(bytes: &mut Vec<u8>, piece: &[u8])
     requires { vec_len bytes.old + length piece.now ≤ vec_capacity bytes.old }
     ensures items { bytes.new.items ≡ bytes.old.items ++ piece.now }
@@ -27,6 +27,8 @@ fn append(bytes: &mut Vec<u8>, piece: &[u8])
 }
 
 impl MemSink {
+    ghost use Rattle.line_io.specs.Memory.{sink_view, IsNewSink};
+
     /// An empty sink for `room` bytes. The calls whose numbers, from 1, are in `failing` fail, and
     /// so does a piece that does not fit. A failing call keeps the first `keep` bytes of its piece,
     /// as far as they fit.
@@ -36,12 +38,7 @@ impl MemSink {
         failing: Vec<u32>,
         keep: u32,
     ) -> Result<MemSink, AllocError>
-        ensures empty { IfOk result (λ sink. sink.bytes.items ≡ []) }
-        ensures room { IfOk result (λ sink. sink.room ≡ room) }
-        ensures failing { IfOk result (λ sink. sink.plan.failing.items ≡ failing.items) }
-        ensures keep { IfOk result (λ sink. sink.keep ≡ keep) }
-        ensures no_call { IfOk result (λ sink. sink.plan.calls ≡ 0) }
-        ensures no_fault { IfOk result (λ sink. sink.faults ≡ 0) }
+        ensures { IfOk result (λ sink. IsNewSink sink room failing.items keep) }
     {
         let bytes = Vec::with_capacity(alloc, room as usize)?;
         Ok(MemSink {
@@ -55,7 +52,7 @@ impl MemSink {
 
     /// All that was written. It takes no memory.
     pub fn written(&self) -> &[u8]
-        ensures { result.now ≡ self.now.bytes.items }
+        ensures { result.now ≡ (sink_view self.now).written }
     {
         &self.bytes
     }
@@ -65,19 +62,20 @@ impl Sink for MemSink {
     ghost use Rattle.std.specs.Prelude.{◌<◌, ◌↔◌, ◌⊎◌, IsErr, OnOk, OnErr};
     ghost use Rattle.line_io.specs.SinkView.{PutsAll, PutsFront};
     ghost use Rattle.line_io.specs.Faults.{Rose};
-    ghost use Rattle.line_io.specs.Memory.{IsDue, Counts, sink_view, room_left, kept_of, IsMadeAlike};
+    ghost use Rattle.line_io.specs.FailPlans.{IsDue, Counts};
+    ghost use Rattle.line_io.specs.Memory.{sink_view, sink_plan, room_left, kept_of, IsMadeAlike};
 
     ghost shown = { sink_view };
 
     fn put(&mut self, piece: &[u8]) -> Result<(), Failed>
-        ensures refused { IsErr result ↔ (IsDue self.old.plan ⊎ (room_left self.old < length piece.now)) }
+        ensures refused { IsErr result ↔ (IsDue (sink_plan self.old) ⊎ (room_left self.old < length piece.now)) }
         ensures kept { OnErr result (PutsAll (sink_view self.old) (sink_view self.new) (kept_of self.old piece.now)) }
-        ensures counted { Counts self.old.plan self.new.plan }
+        ensures counted { Counts (sink_plan self.old) (sink_plan self.new) }
         ensures made_alike { IsMadeAlike self.old self.new }
         ensures appended { OnOk result (PutsAll (sink_view self.old) (sink_view self.new) piece.now) }
         ensures front { OnErr result (PutsFront (sink_view self.old) (sink_view self.new) piece.now) }
-        ensures cause { OnErr result (Rose self.old.faults self.new.faults) }
-        ensures faults_stay_or_rise { self.old.faults ≤ self.new.faults }
+        ensures cause { OnErr result (Rose (sink_view self.old).faults (sink_view self.new).faults) }
+        ensures faults_stay_or_rise { (sink_view self.old).faults ≤ (sink_view self.new).faults }
     {
         let is_due = self.plan.next();
         let left = self.room as usize - self.bytes.len();

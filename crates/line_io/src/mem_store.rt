@@ -29,30 +29,7 @@ pub struct MemStore {
     calls: Calls,
 }
 
-// A store in which a failing write leaves that many bytes, or with none given the file as it was.
-fn make(alloc: Global, files: Files, failing: Vec<u32>, keep: Option<u32>) -> MemStore
-    ensures files { result.files ≡ files }
-    ensures failing { result.plan.failing.items ≡ failing.items }
-    ensures keep { result.keep ≡ keep }
-    ensures no_call { result.plan.calls ≡ 0 }
-    ensures nothing_taken { result.taken ≡ 0 }
-    ensures nothing_asked { result.calls.asked ≡ none_asked }
-    ensures no_read_fault { (name : List ℕ) → times_noted result.failed_reads name ≡ 0 }
-    ensures no_write_fault { (name : List ℕ) → times_noted result.failed_writes name ≡ 0 }
-{
-    MemStore {
-        alloc,
-        files,
-        plan: FailPlan::new(failing),
-        keep,
-        failed_reads: Vec::new(alloc),
-        failed_writes: Vec::new(alloc),
-        taken: 0,
-        calls: Calls::new(),
-    }
-}
-
-// Gives a file these bytes.
+/// Gives a file these bytes.
 fn set_file(alloc: Global, files: &mut Files, name: &str, bytes: &[u8]) -> Result<(), AllocError>
     ensures written { OnOk result (contents files.new name.now ≡ Some bytes.now) }
     ensures others_stay { OthersStay true (contents files.old) (contents files.new) name.now }
@@ -63,7 +40,7 @@ fn set_file(alloc: Global, files: &mut Files, name: &str, bytes: &[u8]) -> Resul
     Ok(())
 }
 
-// Notes a fault at this name.
+/// Notes a fault at this name.
 fn note(alloc: Global, faults: &mut Vec<String>, name: &str) -> Result<(), AllocError>
     ensures noted { OnOk result (NotesOnce faults.old faults.new name.now) }
     ensures stays_or_rises { NeverFall (times_noted faults.old) (times_noted faults.new) }
@@ -74,45 +51,49 @@ fn note(alloc: Global, faults: &mut Vec<String>, name: &str) -> Result<(), Alloc
 }
 
 impl MemStore {
+    ghost use Rattle.line_io.specs.Memory.{IsNewStore, store_files};
+
+    /// A store in which a failing write leaves that many bytes, or with none given the file as it was.
+    fn make(alloc: Global, files: Files, failing: Vec<u32>, keep: Option<u32>) -> MemStore
+        ensures { IsNewStore result files failing.items keep }
+    {
+        MemStore {
+            alloc,
+            files,
+            plan: FailPlan::new(failing),
+            keep,
+            failed_reads: Vec::new(alloc),
+            failed_writes: Vec::new(alloc),
+            taken: 0,
+            calls: Calls::new(),
+        }
+    }
+
     /// A store of these files. The calls whose numbers, from 1, are in `failing` fail and change
     /// nothing.
     pub fn new(alloc: Global, files: Files, failing: Vec<u32>) -> MemStore
-        ensures files { result.files ≡ files }
-        ensures failing { result.plan.failing.items ≡ failing.items }
-        ensures keep { result.keep ≡ None }
-        ensures no_call { result.plan.calls ≡ 0 }
-        ensures nothing_taken { result.taken ≡ 0 }
-        ensures nothing_asked { result.calls.asked ≡ none_asked }
-        ensures no_read_fault { (name : List ℕ) → times_noted result.failed_reads name ≡ 0 }
-        ensures no_write_fault { (name : List ℕ) → times_noted result.failed_writes name ≡ 0 }
+        ensures { IsNewStore result files failing.items None }
     {
-        make(alloc, files, failing, None)
+        MemStore::make(alloc, files, failing, None)
     }
 
     /// The same, but that a write which is to fail leaves the first `keep` bytes of those that it
     /// was given.
     pub fn torn(alloc: Global, files: Files, failing: Vec<u32>, keep: u32) -> MemStore
-        ensures files { result.files ≡ files }
-        ensures failing { result.plan.failing.items ≡ failing.items }
-        ensures keep { result.keep ≡ Some keep }
-        ensures no_call { result.plan.calls ≡ 0 }
-        ensures nothing_taken { result.taken ≡ 0 }
-        ensures nothing_asked { result.calls.asked ≡ none_asked }
-        ensures no_read_fault { (name : List ℕ) → times_noted result.failed_reads name ≡ 0 }
-        ensures no_write_fault { (name : List ℕ) → times_noted result.failed_writes name ≡ 0 }
+        ensures { IsNewStore result files failing.items (Some keep) }
     {
-        make(alloc, files, failing, Some(keep))
+        MemStore::make(alloc, files, failing, Some(keep))
     }
 
     /// What the files hold. It takes no memory.
     pub fn files(&self) -> &Files
-        ensures { result.now ≡ self.now.files }
+        ensures { result.now ≡ store_files self.now }
     {
         &self.files
     }
 }
 
-// A file that is there, unless the call is to fail.
+/// A file that is there, unless the call is to fail.
 fn readable<'a>(files: &'a Files, name: &str, is_due: bool) -> Option<&'a Vec<u8>>
     ensures due { OnTrue is_due (result ≡ None) }
     ensures else_told { OnFalse is_due (option_map (λ v. v.now.items) result ≡ contents files.now name.now) }
@@ -123,7 +104,7 @@ fn readable<'a>(files: &'a Files, name: &str, is_due: bool) -> Option<&'a Vec<u8
     files.get(name)
 }
 
-// The bytes of a file that is at most that long, and how many were taken of it.
+/// The bytes of a file that is at most that long, and how many were taken of it.
 fn copy_to_limit(
     alloc: Global,
     bytes: &[u8],
@@ -146,7 +127,7 @@ fn copy_to_limit(
     Ok(bytes.to_vec(alloc)?)
 }
 
-// A read that fails, which is noted.
+/// A read that fails, which is noted.
 fn refuse(alloc: Global, faults: &mut Vec<String>, name: &str) -> Result<Vec<u8>, StoreError>
     ensures refused { IsErr result }
     ensures never_too_long { ¬ (IsErrOf result StoreError.TooLong) }
@@ -158,7 +139,7 @@ fn refuse(alloc: Global, faults: &mut Vec<String>, name: &str) -> Result<Vec<u8>
     Err(StoreError::Failed)
 }
 
-// Gives a file these bytes, or answers that there is no memory.
+/// Gives a file these bytes, or answers that there is no memory.
 fn give(alloc: Global, files: &mut Files, name: &str, bytes: &[u8]) -> Result<(), StoreError>
     ensures written { OnOk result (contents files.new name.now ≡ Some bytes.now) }
     ensures others_stay { OthersStay true (contents files.old) (contents files.new) name.now }
@@ -169,7 +150,7 @@ fn give(alloc: Global, files: &mut Files, name: &str, bytes: &[u8]) -> Result<()
     Ok(set_file(alloc, files, name, bytes)?)
 }
 
-// A write that fails, which is noted, and leaves so many of the bytes, or with none given the file as it was.
+/// A write that fails, which is noted, and leaves so many of the bytes, or with none given the file as it was.
 fn break_off(
     alloc: Global,
     files: &mut Files,
@@ -199,7 +180,8 @@ fn break_off(
 }
 
 impl Store for MemStore {
-    ghost use Rattle.line_io.specs.Memory.{IsDue, Counts, store_view, IsAbsent, left_of};
+    ghost use Rattle.line_io.specs.Memory.{store_view, store_plan, store_files, store_keep, failed_reads, failed_writes, IsAbsent, left_of};
+    ghost use Rattle.line_io.specs.FailPlans.{IsDue, Counts};
     ghost use Rattle.line_io.specs.Calls.{after_read, after_write};
     ghost use Rattle.line_io.specs.Contents.{IsLongerThan};
 
@@ -208,22 +190,22 @@ impl Store for MemStore {
     ghost shown = { store_view };
 
     fn read(&mut self, alloc: Global, name: &str, limit: u64) -> Result<Vec<u8>, StoreError>
-        ensures due { IsDue self.old.plan → IsErr result }
-        ensures due_as_failed { IsDue self.old.plan → ¬ (IsErrOf result StoreError.TooLong) }
-        ensures refused { IsErrOf result StoreError.Failed → IsDue self.old.plan ⊎ IsAbsent self.old name.now }
-        ensures counted { Counts self.old.plan self.new.plan }
-        ensures keep_stays { self.new.keep ≡ self.old.keep }
-        ensures told { self.new.calls.asked ≡ after_read self.old.calls.asked name.now result }
-        ensures bytes { IfOk result (λ v. contents self.old.files name.now ≡ Some v.items) }
+        ensures due { IsDue (store_plan self.old) → IsErr result }
+        ensures due_as_failed { IsDue (store_plan self.old) → ¬ (IsErrOf result StoreError.TooLong) }
+        ensures refused { IsErrOf result StoreError.Failed → IsDue (store_plan self.old) ⊎ IsAbsent self.old name.now }
+        ensures counted { Counts (store_plan self.old) (store_plan self.new) }
+        ensures keep_stays { store_keep self.new ≡ store_keep self.old }
+        ensures told { (store_view self.new).asked ≡ after_read (store_view self.old).asked name.now result }
+        ensures bytes { IfOk result (λ v. (store_view self.old).files name.now ≡ Some v.items) }
         ensures within_limit { IfOk result (λ v. length v.items ≤ limit) }
-        ensures took_them { IfOk result (λ v. self.new.taken ≡ length v.items) }
-        ensures too_long { IsErrOf result StoreError.TooLong ↔ (limit < self.new.taken) }
-        ensures longer { IsErrOf result StoreError.TooLong → IsLongerThan limit (contents self.old.files name.now) }
+        ensures took_them { IfOk result (λ v. (store_view self.new).taken ≡ length v.items) }
+        ensures too_long { IsErrOf result StoreError.TooLong ↔ (limit < (store_view self.new).taken) }
+        ensures longer { IsErrOf result StoreError.TooLong → IsLongerThan limit ((store_view self.old).files name.now) }
         ensures cause { IsErrOf result StoreError.Failed
-            → Rose (times_noted self.old.failed_reads name.now) (times_noted self.new.failed_reads name.now) }
-        ensures files_stay { self.new.files ≡ self.old.files }
-        ensures read_faults_stay_or_rise { NeverFall (times_noted self.old.failed_reads) (times_noted self.new.failed_reads) }
-        ensures write_faults_stay { self.new.failed_writes ≡ self.old.failed_writes }
+            → Rose ((store_view self.old).read_faults name.now) ((store_view self.new).read_faults name.now) }
+        ensures files_stay { store_files self.new ≡ store_files self.old }
+        ensures read_faults_stay_or_rise { NeverFall (store_view self.old).read_faults (store_view self.new).read_faults }
+        ensures write_faults_stay { failed_writes self.new ≡ failed_writes self.old }
     {
         self.taken = 0;
         let is_due = self.plan.next();
@@ -240,25 +222,25 @@ impl Store for MemStore {
     }
 
     fn write(&mut self, name: &str, bytes: &[u8]) -> Result<(), StoreError>
-        ensures due { IsDue self.old.plan → IsErr result }
-        ensures refused { IsErrOf result StoreError.Failed → IsDue self.old.plan }
+        ensures due { IsDue (store_plan self.old) → IsErr result }
+        ensures refused { IsErrOf result StoreError.Failed → IsDue (store_plan self.old) }
         ensures kept { IsErrOf result StoreError.Failed
-            → contents self.new.files name.now ≡ left_of self.old name.now bytes.now }
-        ensures counted { Counts self.old.plan self.new.plan }
-        ensures keep_stays { self.new.keep ≡ self.old.keep }
-        ensures told { self.new.calls.asked ≡ after_write self.old.calls.asked name.now bytes.now result }
-        ensures written { OnOk result (contents self.new.files name.now ≡ Some bytes.now) }
-        ensures others_stay { OthersStay true (contents self.old.files) (contents self.new.files) name.now }
+            → (store_view self.new).files name.now ≡ left_of self.old name.now bytes.now }
+        ensures counted { Counts (store_plan self.old) (store_plan self.new) }
+        ensures keep_stays { store_keep self.new ≡ store_keep self.old }
+        ensures told { (store_view self.new).asked ≡ after_write (store_view self.old).asked name.now bytes.now result }
+        ensures written { OnOk result ((store_view self.new).files name.now ≡ Some bytes.now) }
+        ensures others_stay { OthersStay true (store_view self.old).files (store_view self.new).files name.now }
         ensures torn { IsErrOf result StoreError.Failed
-            → IsTorn (contents self.old.files name.now) (contents self.new.files name.now) bytes.now }
+            → IsTorn ((store_view self.old).files name.now) ((store_view self.new).files name.now) bytes.now }
         ensures no_memory { IsErrOf result StoreError.NoMemory
-            → SameFiles true (contents self.old.files) (contents self.new.files) }
+            → SameFiles true (store_view self.old).files (store_view self.new).files }
         ensures never_too_long { ¬ (IsErrOf result StoreError.TooLong) }
         ensures cause { IsErrOf result StoreError.Failed
-            → Rose (times_noted self.old.failed_writes name.now) (times_noted self.new.failed_writes name.now) }
-        ensures taken_stays { self.new.taken ≡ self.old.taken }
-        ensures read_faults_stay { self.new.failed_reads ≡ self.old.failed_reads }
-        ensures write_faults_stay_or_rise { NeverFall (times_noted self.old.failed_writes) (times_noted self.new.failed_writes) }
+            → Rose ((store_view self.old).write_faults name.now) ((store_view self.new).write_faults name.now) }
+        ensures taken_stays { (store_view self.new).taken ≡ (store_view self.old).taken }
+        ensures read_faults_stay { failed_reads self.new ≡ failed_reads self.old }
+        ensures write_faults_stay_or_rise { NeverFall (store_view self.old).write_faults (store_view self.new).write_faults }
     {
         if self.plan.next() {
             let answer = break_off(

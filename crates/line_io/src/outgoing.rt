@@ -29,7 +29,7 @@ impl Model for Outgoing {
     ghost invariant = { λ out. length out.buffer < MAX_PIECE };
 }
 
-// Sends a piece that is full, unless the sink has failed, and answers whether it has failed now.
+/// Sends a piece that is full, unless the sink has failed, and answers whether it has failed now.
 fn send_full<K: Sink>(buffer: &mut PieceBuffer, failed: bool, sink: &mut K) -> bool
     ensures pushed { Pushed (stream (K.shown sink.old) (waiting buffer.old failed))
         (stream (K.shown sink.new) (waiting buffer.new result)) [] }
@@ -54,7 +54,7 @@ impl Outgoing {
         })
     }
 
-    // Gives a short part to the sink.
+    /// Gives a short part to the sink.
     fn push_part<K: Sink>(&mut self, sink: &mut K, part: &[u8])
         requires { length part.now ≤ MAX_OVER }
         ensures { Pushed (stream (K.shown sink.old) self.old)

@@ -33,7 +33,7 @@ impl Model for PieceBuffer {
     ghost invariant = { λ b. (b.filled ≤ ROOM) × (length b.room.items ≡ ROOM) };
 }
 
-// Writes bytes over those from `at` on.
+/// Writes bytes over those from `at` on.
 fn write_at(room: &mut [u8], at: usize, part: &[u8])
     requires { at + length part.now ≤ length room.old }
     ensures { take (at + length part.now) room.new ≡ take at room.old ++ part.now }
@@ -41,7 +41,7 @@ fn write_at(room: &mut [u8], at: usize, part: &[u8])
     room[at..at + part.len()].copy_from_slice(part);
 }
 
-// Writes a number in decimal over the bytes from `at` on, and answers where it ends.
+/// Writes a number in decimal over the bytes from `at` on, and answers where it ends.
 fn write_number(room: &mut [u8], at: usize, n: u64) -> usize
     requires { at + MAX_DIGITS ≤ length room.old }
     ensures written { take result room.new ≡ take at room.old ++ decimal n }
@@ -53,7 +53,7 @@ fn write_number(room: &mut [u8], at: usize, n: u64) -> usize
     end
 }
 
-// How many digits a number has.
+/// How many digits a number has.
 fn digit_count(n: u64) -> usize
     ensures count { result ≡ length (decimal n) }
     ensures few { result ≤ MAX_DIGITS }
@@ -67,7 +67,7 @@ fn digit_count(n: u64) -> usize
     count + short_count(left)
 }
 
-// How many digits a number of at most four digits has.
+/// How many digits a number of at most four digits has.
 fn short_count(n: u64) -> usize
     requires { n < 10_000 }
     ensures { result ≡ length (decimal n) }
@@ -80,7 +80,7 @@ fn short_count(n: u64) -> usize
     }
 }
 
-// Moves what waits over the end of a piece to the front, and answers how much that is.
+/// Moves what waits over the end of a piece to the front, and answers how much that is.
 fn move_over(room: &mut [u8], filled: usize) -> usize
     requires some { MAX_PIECE ≤ filled }
     requires filled { filled ≤ ROOM }

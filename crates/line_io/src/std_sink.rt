@@ -1,4 +1,4 @@
-ghost use Rattle.std.specs.Prelude.{◌≡◌, [], ◌<◌};
+ghost use Rattle.std.specs.Prelude.{◌≡◌, ◌<◌};
 
 use crate::sink::{Failed, Sink};
 use crate::transcript::Transcript;
@@ -12,11 +12,13 @@ pub struct StdSink<P: Print + Drop> {
 }
 
 impl<P: Print + Drop> StdSink<P> {
+    ghost use Rattle.line_io.specs.Machine.{std_view, std_printer};
+    ghost use Rattle.line_io.specs.SinkView.{IsBlank};
+
     /// The runtime that prints, or a reference to it.
     pub fn new(rt: P) -> Self
-        ensures nothing_written { result.accepted.bytes ≡ [] }
-        ensures no_fault { result.faults ≡ 0 }
-        ensures prints { result.rt ≡ rt }
+        ensures blank { IsBlank (std_view result) }
+        ensures prints { std_printer result ≡ rt }
     {
         StdSink {
             rt,
@@ -27,7 +29,9 @@ impl<P: Print + Drop> StdSink<P> {
 }
 
 impl<P: Print + Drop> Sink for StdSink<P> {
-    ghost shown = { λ sink. record { written = sink.accepted.bytes; faults = sink.faults } };
+    ghost use Rattle.line_io.specs.Machine.{std_view};
+
+    ghost shown = { std_view };
 
     fn put(&mut self, piece: &[u8]) -> Result<(), Failed> {
         match self.rt.write_all(piece) {

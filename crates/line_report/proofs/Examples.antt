@@ -1,4 +1,4 @@
--- The text of a report at a small plant, against a text that was written by hand.
+-- The texts of a report and of a summary at a small plant, against texts that were written by hand.
 use Rattle.std.specs.Prelude.{◌≡◌, ℕ, List, [], ◌∷◌, ◌++◌, Option, None, Some, codes, refl}
 use Rattle.std.specs.Fmt.{digits}
 use Rattle.line_base.specs.declared.times.Times.TheVariants.{Fixed}
@@ -9,6 +9,8 @@ use Rattle.plant_model.specs.Graph.{graph, labels}
 use Rattle.event_graph.specs.Table.{date_in}
 use Rattle.event_graph.specs.Firing.{greatest}
 use Rattle.line_stats.specs.Counts.{count_until, in_process, in_move, in_stock, standing, backlog, last_date, peak, waiting}
+use Rattle.line_stats.specs.DateSums.{date_total}
+use Rattle.line_report.specs.SummaryText.{size_lines, sum_line, summary}
 use Rattle.line_report.specs.ReportText.{date_line, station_lines, date_lines, stage_line, backlog_line, observed_lines, peak_line, waiting_line, last_line, report}
 
 -- a stage with one machine and one card
@@ -104,4 +106,22 @@ unfolding report observed_lines
 report_observed =
     let observe : List ℕ = 4 ∷ [] in
     rw (dates_written observe, cut_observed, weld_observed, backlog_observed, peak_of_cut observe, peak_of_weld observe, all_waiting observe, last_of_all observe)
+    refl
+
+sizes_of_plant : (observe : List ℕ) → size_lines (graph (plant observe)) ≡ codes "stations 6\njobs 3\nfirings 18\n"
+unfolding size_lines graph labels digits
+sizes_of_plant observe = refl
+
+-- 6 at the feed, 15 at cut, 24 at its saw, 15 at weld, 30 at its torch, 15 at the delivery
+sum_of_plant : (observe : List ℕ) → sum_line (graph (plant observe)) (date_in rows) ≡ codes "sum 105\n"
+unfolding sum_line date_total graph labels digits
+sum_of_plant observe = refl
+
+-- no date that is looked at changes it
+summary_of_plant :
+    (observe : List ℕ)
+    → summary (plant observe) (date_in rows) ≡ codes "stations 6\njobs 3\nfirings 18\nsum 105\n" ++ totals
+unfolding summary
+summary_of_plant observe =
+    rw (sizes_of_plant observe, sum_of_plant observe, peak_of_cut observe, peak_of_weld observe, all_waiting observe, last_of_all observe)
     refl

@@ -1,7 +1,7 @@
 -- Texts that are made of one line after another.
-use Rattle.std.proofs.Common.{◌≡◌, ℕ, ◌+◌, ◌<◌, List, [], ◌∷◌, ◌++◌, length, take, get_or, sym, ap, ◌∙◌, refl, ◌≤◌, append-nil, map-id}
+use Rattle.std.proofs.Common.{◌≡◌, ℕ, ◌+◌, ◌<◌, Bool, true, false, List, [], ◌∷◌, ◌++◌, length, take, get_or, sym, ap, ◌∙◌, refl, ◌≤◌, append-nil, map-id}
 use Rattle.std.specs.List.{flat_map, range_with_len}
-use Rattle.std.specs.Prelude.{codes, decimal}
+use Rattle.std.specs.Prelude.{codes, decimal, nat_lt, if◌then◌else◌}
 use Rattle.std.proofs.lemmas.Bool.{lt-ltb, le-ltb}
 use Rattle.std.proofs.lemmas.List.{take_more, get_or_read}
 use Rattle.std.proofs.lemmas.List.Concat.{flat_map-append}
@@ -43,12 +43,23 @@ pushed_element {b = b} f xs i h before now = rw (lines_take_more f xs i h) (push
 pub stage_read : (p : Plant) (i : ℕ) (stages : List Stage) (s : Stage) → stages ≡ p.stages → i < length p.stages → s ≡ get_or stages i s → s ≡ stage_at p i
 stage_read p i stages s same h is = get_or_read p.stages i s h (rw same at is) no_stage
 
--- the line of a stage with parts on their way
-pub stage_line-moving : (p : Plant) (x : Table) (v i : ℕ) (s : Stage) → s ≡ stage_at p i → 0 < s.travel → stage_line p x v i ≡ line (codes "at" ∷ decimal v ∷ s.name ∷ codes "process" ∷ decimal (in_process p x i v) ∷ codes "move" ∷ decimal (in_move p x i v) ∷ codes "stock" ∷ decimal (in_stock p x i v) ∷ [])
-unfolding stage_line
-stage_line-moving p x v i s is moves = rw (← is, lt-ltb 0 s.travel moves) refl
+-- what the line of a stage says of the parts on their way, where the way takes time
+abbrev pub move_words : ℕ → ℕ → List ℕ
+move_words travel moving = if nat_lt 0 travel then codes " move " ++ decimal moving else []
 
--- and of one whose parts take no time
-pub stage_line-still : (p : Plant) (x : Table) (v i : ℕ) (s : Stage) → s ≡ stage_at p i → s.travel ≤ 0 → stage_line p x v i ≡ line (codes "at" ∷ decimal v ∷ s.name ∷ codes "process" ∷ decimal (in_process p x i v) ∷ codes "stock" ∷ decimal (in_stock p x i v) ∷ [])
+pub move_words-moving : (travel moving : ℕ) → 0 < travel → move_words travel moving ≡ codes " move " ++ decimal moving
+move_words-moving travel moving moves = rw (lt-ltb 0 travel moves) refl
+
+pub move_words-still : (travel moving : ℕ) → travel ≤ 0 → move_words travel moving ≡ []
+move_words-still travel moving still = rw (le-ltb 0 travel still) refl
+
+-- the line by its parts, whether the way takes time or not
+line-parts : (moves : Bool) (at name process move stock : List ℕ) → (if moves then line (codes "at" ∷ at ∷ name ∷ codes "process" ∷ process ∷ codes "move" ∷ move ∷ codes "stock" ∷ stock ∷ []) else line (codes "at" ∷ at ∷ name ∷ codes "process" ∷ process ∷ codes "stock" ∷ stock ∷ [])) ≡ codes "at " ++ (at ++ (codes " " ++ (name ++ (codes " process " ++ (process ++ ((if moves then codes " move " ++ move else []) ++ (codes " stock " ++ (stock ++ codes "\n"))))))))
+line-parts true at name process move stock = refl
+line-parts false at name process move stock = refl
+
+-- the line of a stage
+pub stage_line-parts : (p : Plant) (x : Table) (v i : ℕ) (s : Stage) → s ≡ stage_at p i → stage_line p x v i ≡ codes "at " ++ (decimal v ++ (codes " " ++ (s.name ++ (codes " process " ++ (decimal (in_process p x i v) ++ (move_words s.travel (in_move p x i v) ++ (codes " stock " ++ (decimal (in_stock p x i v) ++ codes "\n"))))))))
 unfolding stage_line
-stage_line-still p x v i s is still = rw (← is, le-ltb 0 s.travel still) refl
+stage_line-parts p x v i s is =
+    rw (← is) (line-parts (nat_lt 0 s.travel) (decimal v) s.name (decimal (in_process p x i v)) (decimal (in_move p x i v)) (decimal (in_stock p x i v)))

@@ -1,3 +1,4 @@
 pub mod ReportText
+pub mod SummaryText
 pub mod Reported
 pub mod Laws

@@ -7,6 +7,7 @@ use Rattle.event_graph.specs.Table.{date_in}
 use Rattle.live_check.specs.Order.{LiveGraph}
 use Rattle.line_core.specs.Run.{Dates, IsLeastTable}
 use Rattle.line_report.specs.ReportText.{report}
+use Rattle.line_report.specs.SummaryText.{summary}
 
 -- a plant, and a list of dates for each of its stations
 pub record Reported : Type 0 where
@@ -16,6 +17,10 @@ pub record Reported : Type 0 where
 -- the text of the report
 abbrev pub report_of : Reported → List ℕ
 report_of r = report r.plant (date_in r.rows)
+
+-- the text of the summary
+abbrev pub summary_of : Reported → List ℕ
+summary_of r = summary r.plant (date_in r.rows)
 
 -- the plant is sound, and the dates are the least solution of its graph
 pub record IsReported (r : Reported) : Type 0 where

@@ -1,10 +1,11 @@
-//! The report of a finished run of a plant, written to a sink piece by piece.
+//! The report of a finished run of a plant, or its summary, written to a sink piece by piece.
 #![tactic(auto)]
 
 mod dates;
 mod laws;
 mod observed;
 mod report;
+mod summary;
 mod totals;
 
 pub use laws::schedules_agree;

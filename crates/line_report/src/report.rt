@@ -1,16 +1,18 @@
-ghost use Rattle.std.specs.Prelude.{◌≡◌, ◌≤◌, IfOk, OnOk, OnErr, false};
+ghost use Rattle.std.specs.Prelude.{◌≡◌, ◌≤◌, [], IfOk, OnOk, OnErr, is_err, false};
 ghost use Rattle.line_io.specs.SinkView.{PutsAll, PutsFront};
 ghost use Rattle.line_io.specs.Faults.{Rose};
-ghost use Rattle.line_io.specs.Outgoing.{Pushed, stream};
+ghost use Rattle.line_io.specs.Outgoing.{Pushed, stream, emptied};
 ghost use Rattle.event_graph.specs.Table.{date_in};
 ghost use Rattle.line_report.specs.ReportText.{report};
-ghost use Rattle.line_report.specs.Reported.{IsReported, AreOfPlant, report_of};
+ghost use Rattle.line_report.specs.SummaryText.{summary};
+ghost use Rattle.line_report.specs.Reported.{IsReported, AreOfPlant, report_of, summary_of};
 
 use crate::dates::write_dates;
 use crate::observed::write_observed;
+use crate::summary::{write_sizes, write_sum};
 use crate::totals::{write_peaks, write_totals};
 use line_core::Table;
-use line_io::{Outgoing, Sink};
+use line_io::{Failed, Outgoing, Sink};
 use live_check::Live;
 use plant_model::{LineNumbers, Plant};
 use std::alloc::{AllocError, Global};
@@ -21,6 +23,12 @@ use thiserror::Error;
 #[derive(Clone, Copy, Debug, PartialEq, Eq, Error)]
 #[error("the sink failed")]
 pub struct SinkFault;
+
+impl From<Failed> for SinkFault {
+    fn from(_: Failed) -> Self {
+        SinkFault
+    }
+}
 
 /// The report of a finished run of a plant, and the memory for writing it. Contracts see the plant and the dates.
 #[derive(Drop)]
@@ -65,6 +73,36 @@ fn write_text<K: Sink>(
     write_totals(out, sink, table);
 }
 
+/// Writes the whole text of a summary.
+fn write_short_text<K: Sink>(
+    out: &mut Outgoing,
+    sink: &mut K,
+    plant: &Plant,
+    numbers: &LineNumbers,
+    live: &Live,
+    table: &Table,
+)
+    requires numbers { numbers.now ≡ plant.now }
+    requires of_plant { AreOfPlant plant.now live.now table.now }
+    ensures { Pushed (stream (K.shown sink.old) out.old)
+        (stream (K.shown sink.new) out.new) (summary plant.now (date_in table.now.rows)) }
+{
+    write_sizes(out, sink, live.graph());
+    write_sum(out, sink, table);
+    write_peaks(out, sink, plant, numbers, table);
+    write_totals(out, sink, table);
+}
+
+/// Sends what is left of a text, and says whether all of it went out.
+fn finish<K: Sink>(out: &mut Outgoing, sink: &mut K) -> Result<(), SinkFault>
+    ensures flushed { Pushed (stream (K.shown sink.old) out.old)
+        (stream (K.shown sink.new) (emptied (is_err result))) [] }
+    ensures as_new { out.new ≡ emptied false }
+{
+    out.finish(sink)?;
+    Ok(())
+}
+
 impl Report {
     /// The report of a sound plant, its live graph, and a table of that graph. It takes all memory that writing takes: the
     /// numbers of the stations, and room for one piece of the text.
@@ -106,9 +144,29 @@ impl Report {
             &self.live,
             &self.table,
         );
-        match self.out.finish(sink) {
-            Ok(()) => Ok(()),
-            Err(_) => Err(SinkFault),
-        }
+        finish(&mut self.out, sink)
+    }
+
+    /// Writes the summary to the sink, from its beginning: how many stations, jobs and firings there are, the sum of all
+    /// dates, and then as the report ends, the peak of each stage, how long the jobs wait, and the last date. All else is
+    /// as with `write`.
+    pub fn write_summary<K: Sink>(&mut self, sink: &mut K) -> Result<(), SinkFault>
+        ensures written { OnOk result (PutsAll (K.shown sink.old) (K.shown sink.new) (summary_of self.old)) }
+        ensures front { OnErr result
+            (PutsFront (K.shown sink.old) (K.shown sink.new) (summary_of self.old)) }
+        ensures cause { OnErr result (Rose (K.shown sink.old).faults (K.shown sink.new).faults) }
+        ensures faults_stay_or_rise { (K.shown sink.old).faults ≤ (K.shown sink.new).faults }
+        ensures same { self.new ≡ self.old }
+        ensures least { IsReported self.old }
+    {
+        write_short_text(
+            &mut self.out,
+            sink,
+            &self.plant,
+            &self.numbers,
+            &self.live,
+            &self.table,
+        );
+        finish(&mut self.out, sink)
     }
 }

@@ -8,4 +8,5 @@ pub mod Greatest
 pub mod CardFlows
 pub mod StandingParts
 pub mod Waits
+pub mod DateSums
 pub mod SameCounts

@@ -1,3 +1,4 @@
 pub mod Counts
 pub mod Between
 pub mod Laws
+pub mod DateSums

@@ -3,12 +3,14 @@
 #![tactic(auto)]
 
 mod counts;
+mod date_sums;
 mod laws;
 mod logs;
 mod peaks;
 mod totals;
 
 pub use counts::{backlog, in_move, in_process, in_stock};
+pub use date_sums::date_total;
 pub use laws::{deliveries_follow_demands, jobs_stay_in_order, stages_stay_bounded};
 pub use peaks::peak;
 pub use totals::{last, waiting_total};

@@ -2,8 +2,10 @@ use Rattle.std.proofs.Common.{◌≡◌, sym, subst}
 use Rattle.plant_model.specs.Line.{stage_at}
 use Rattle.plant_model.specs.Sound.{IsSound}
 use Rattle.event_graph.specs.Table.{date_in}
-use Rattle.line_io.proofs.OutgoingLemmas.{pushed_after}
-use Rattle.line_report.proofs.Lines.{stage_read, stage_line-moving, stage_line-still}
+use Rattle.line_stats.specs.Counts.{in_move}
+use Rattle.line_io.specs.Outgoing.{Pushed, stream}
+use Rattle.line_io.proofs.OutgoingLemmas.{pushed_none, pushed_after}
+use Rattle.line_report.proofs.Lines.{stage_read, stage_line-parts, move_words, move_words-moving, move_words-still}
 use Rattle.line_report.proofs.observed.write_stage.Goals as goal
 use Rattle.line_report.proofs.observed.write_stage.Goals.{then-part-gt0, else-part-gt0}
 
@@ -11,38 +13,34 @@ pub returns : goal.returns
 returns g c =
     let plant = c.args.plant.now in
     let x = date_in c.args.table.now.rows in
-    let read : c.index-as_slice-stage.result ≡ stage_at plant c.args.stage =
-    stage_read plant c.args.stage c.as_slice.result.now c.index-as_slice-stage.result c.as_slice.ensures c.requires.exists c.index-as_slice-stage.is
+    let stage = c.index-as_slice-stage.result in
+    let read : stage ≡ stage_at plant c.args.stage =
+    stage_read plant c.args.stage c.as_slice.result.now stage c.as_slice.ensures c.requires.exists c.index-as_slice-stage.is
     in
+    let process = rw (c.in_process.ensures.count, c.requires.numbers) at c.push_number-2.ensures in
+    let stock = rw c.in_stock.ensures.count at c.push_number-3.ensures in
+    let moving = in_move plant x c.args.stage c.args.at in
+    let way : Pushed (stream (g.K.Sink.shown c.push_number-2.new.sink) c.push_number-2.new.self) (stream (g.K.Sink.shown c.if-part-gt0.sink) c.if-part-gt0.out) (move_words stage.travel moving) =
     elim c.if-part-gt0.branch [
       | then-part-gt0 w ↦
-          let process = rw (c.in_process.ensures.count, c.requires.numbers) at c.push_number-2.ensures in
-          let move = rw (w.in_move.ensures.count, ← w.out-is, ← w.sink-is) at w.push_number-then-part-gt0.ensures in
-          let stock = rw c.in_stock.ensures.count at c.push_number-3.ensures in
-          rw (stage_line-moving plant x c.args.at c.args.stage _ read w.if-part-gt0.true)
-          (pushed_after c.push.ensures
-          (pushed_after c.push_number.ensures
-          (pushed_after c.push-2.ensures
-          (pushed_after (rw c.text.ensures.text at c.push-3.ensures)
-          (pushed_after c.push-4.ensures
-          (pushed_after process
-          (pushed_after w.push-then-part-gt0.ensures
-          (pushed_after move
-          (pushed_after c.push-5.ensures
-          (pushed_after stock c.push-6.ensures))))))))))
+          let move = rw w.in_move.ensures.count at w.push_number-then-part-gt0.ensures in
+          rw (move_words-moving stage.travel moving w.if-part-gt0.true, w.out-is, w.sink-is)
+          (pushed_after w.push-then-part-gt0.ensures move)
       | else-part-gt0 w ↦
-          let process = rw (c.in_process.ensures.count, c.requires.numbers, ← w.out-is, ← w.sink-is) at c.push_number-2.ensures in
-          let stock = rw c.in_stock.ensures.count at c.push_number-3.ensures in
-          rw (stage_line-still plant x c.args.at c.args.stage _ read w.if-part-gt0.false)
-          (pushed_after c.push.ensures
-          (pushed_after c.push_number.ensures
-          (pushed_after c.push-2.ensures
-          (pushed_after (rw c.text.ensures.text at c.push-3.ensures)
-          (pushed_after c.push-4.ensures
-          (pushed_after process
-          (pushed_after c.push-5.ensures
-          (pushed_after stock c.push-6.ensures))))))))
+          rw (move_words-still stage.travel moving w.if-part-gt0.false, w.out-is, w.sink-is)
+          (pushed_none _)
     ]
+    in
+    rw (stage_line-parts plant x c.args.at c.args.stage stage read)
+    (pushed_after c.push.ensures
+    (pushed_after c.push_number.ensures
+    (pushed_after c.push-2.ensures
+    (pushed_after (rw c.text.ensures.text at c.push-3.ensures)
+    (pushed_after c.push-4.ensures
+    (pushed_after process
+    (pushed_after way
+    (pushed_after c.push-5.ensures
+    (pushed_after stock c.push-6.ensures)))))))))
 
 pub in_process-requires-clause-sound : goal.in_process-requires-clause-sound
 in_process-requires-clause-sound g c = subst IsSound (sym c.requires.numbers) c.requires.sound

@@ -1,5 +1,5 @@
 -- `with_read` makes a value of no bytes, whose ghost field is what the clause says.
-use Rattle.std.proofs.Common.{List, [], ◌∷◌, ◌++◌, refl}
+use Rattle.std.proofs.Common.{List, [], ◌∷◌, refl}
 use Rattle.std.proofs.raw_atomic.Walks.{proved}
 use base.Fml.{Fml}
 use mir.Syntax.{named}
@@ -9,7 +9,7 @@ use types.Run.{no_more, and_then, returns, enter}
 use types.Part.{agg}
 use types.ByLocal.{alloc_all, pass_all, free_all, look_at, get, sets}
 use denote.RattleType.{RattleType, owns}
-use denote.Builtin.{u8, unit, RefOf, SliceRefOf}
+use denote.Builtin.{u8, RefOf, SliceRefOf}
 use denote.Exit.{yes}
 use denote.Ref.{shr_vals, shr_Tells}
 use denote.Slice.{shr_slice_vals, shr_slice_Tells}

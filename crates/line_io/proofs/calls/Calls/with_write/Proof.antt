@@ -1,5 +1,5 @@
 -- `with_write` makes a value of no bytes, whose ghost field is what the clause says.
-use Rattle.std.proofs.Common.{List, [], ◌∷◌, ◌++◌, refl}
+use Rattle.std.proofs.Common.{List, [], ◌∷◌, refl}
 use Rattle.std.proofs.raw_atomic.Walks.{proved}
 use base.Fml.{Fml}
 use mir.Syntax.{named}

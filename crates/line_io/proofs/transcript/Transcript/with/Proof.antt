@@ -1,10 +1,9 @@
 -- `with` makes a value of no bytes, whose ghost field is the list that the clause says.
-use Rattle.std.proofs.Common.{ℕ, List, [], ◌∷◌, ◌++◌, length, refl}
+use Rattle.std.proofs.Common.{List, [], ◌∷◌, ◌++◌, refl}
 use Rattle.std.proofs.raw_atomic.Walks.{proved}
 use base.Fml.{Fml}
 use mir.Syntax.{named}
 use mir.Val.{Val, vstruct, vcons, vnil}
-use contract.Running.{tables}
 use types.Kit.{‵, raw, ◌⊛◌, ◌$◌, ◌∵◌, !, qed, move, keep, split, join, fjoin, use0, suffices, done}
 use types.Run.{no_more, and_then, returns, enter}
 use types.Part.{agg}

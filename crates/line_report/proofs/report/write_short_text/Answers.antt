@@ -1,0 +1,12 @@
+use Rattle.std.proofs.Common.{◌∙◌}
+use Rattle.line_io.proofs.OutgoingLemmas.{pushed_after}
+use Rattle.line_report.specs.SummaryText.{summary}
+use Rattle.line_report.proofs.report.write_short_text.Goals as goal
+
+pub returns : goal.returns
+unfolding summary
+returns g c =
+    let sizes = rw (c.graph.ensures.graph ∙ c.requires.of_plant.live_graph) at c.write_sizes.ensures in
+    let sum = rw c.requires.of_plant.table_graph at c.write_sum.ensures in
+    let totals = rw c.requires.of_plant.table_graph at c.write_totals.ensures in
+    pushed_after sizes (pushed_after sum (pushed_after c.write_peaks.ensures totals))
