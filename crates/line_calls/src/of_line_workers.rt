@@ -1,9 +1,11 @@
-ghost use Rattle.std.specs.Prelude.{◌≡◌, ◌≤◌, IfOk};
+ghost use Rattle.std.specs.Prelude.{◌≡◌, ◌≤◌, ◌^◌, All, IfOk};
+ghost use Rattle.line_workers.specs.Work.{TurnsBelow};
+ghost use Rattle.line_workers.specs.Crews.{live_of, AreCrews};
 
 use event_graph::Arc;
 use line_base::Date;
 use line_core::State;
-use line_workers::{Burst, FreeGate, Gate, Line};
+use line_workers::{Burst, Crew, FreeGate, Gate, Line};
 use live_check::{Live, rank};
 use sample_plants::{forty_jobs, live_of, plain, two_stages, two_stations};
 use std::alloc::Global;
@@ -185,6 +187,28 @@ fn a_line_goes_on_from_a_state(rt: HostRuntime) -> Result<(), Fail> {
     let line = line_from(rt.alloc(), &live, state)?;
     assert_eq!(rt; line.state(rt.alloc(), &live)?.fired(), 1);
     assert_eq!(rt; line.close(&live).fired(), 1);
+    Ok(())
+}
+
+/// Lets the first crew of a line make a sweep. Answers how often its stations fired.
+fn sweep_first(live: &Live, crews: &mut Vec<Crew>) -> u64
+    requires crews { AreCrews crews.old.items }
+    requires made_for { live.now ≡ live_of crews.old.items }
+    requires turns { All (λ crew. TurnsBelow (2 ^ 38) crew.team) crews.old.items }
+    ensures crews { AreCrews crews.new.items }
+    ensures made_for { live.now ≡ live_of crews.new.items }
+{
+    crews[0].sweep(live, &FreeGate)
+}
+
+// The feed alone fires: each other station of the first worker waits for a token.
+#[test]
+fn a_sweep_counts_after_its_crew_is_gathered(rt: HostRuntime) -> Result<(), Fail> {
+    let live = live_of(rt.alloc(), &two_stages(rt.alloc())?)?;
+    let mut crews = new_line(rt.alloc(), &live, 2)?.crews();
+    let fired = sweep_first(&live, &mut crews);
+    assert_eq!(rt; fired, 1);
+    assert_eq!(rt; Line::gather(&live, crews).fired(), 1);
     Ok(())
 }
 

@@ -1,4 +1,4 @@
-use crate::one_shelf::{fresh_line, fresh_shelf, step_at};
+use crate::one_shelf::{fresh_line, fresh_shelf, hand_at, step_at};
 use event_graph::Arc;
 use live_check::rank;
 use sample_plants::{live_of, plain, two_stages, two_stations};
@@ -41,5 +41,22 @@ fn dates_come_out_of_two_stations_with_their_delays(rt: HostRuntime) -> Result<(
     let a_again = step_at(&live, &mut shelf, &mut line, 1);
     assert_eq!(rt; [feed, a, feed_again, a_again], [Stepped::Fired; 4]);
     assert_eq!(rt; line[1].log(), [4, 9].as_slice());
+    Ok(())
+}
+
+// Before the feed has fired, `a` takes the token of its own arc into its second hand, and waits for one on the first arc.
+#[test]
+fn a_blocked_station_keeps_the_tokens_that_it_took(rt: HostRuntime) -> Result<(), Fail> {
+    let graph = two_stations(rt.alloc(), &[plain(0, 1, 0), plain(1, 1, 1)], &[4, 2])??;
+    let live = rank(rt.alloc(), graph).ok().ok_or("the graph isn't live")?;
+    assert_eq!(rt; live.graph().stations(), 2);
+    let mut shelf = fresh_shelf(rt.alloc(), live.graph())?;
+    let mut line = fresh_line(rt.alloc(), &live, &shelf)?;
+    let before = hand_at(&live, &shelf, &line, 1, 1);
+    let a = step_at(&live, &mut shelf, &mut line, 1);
+    assert_eq!(rt; before, None);
+    assert_eq!(rt; a, Stepped::Blocked(0));
+    assert_eq!(rt; hand_at(&live, &shelf, &line, 1, 0), None);
+    assert_eq!(rt; hand_at(&live, &shelf, &line, 1, 1), Some(0));
     Ok(())
 }

@@ -8,7 +8,7 @@ ghost use Rattle.line_calls.specs.OneShelf.{IsFreshShelf, IsLocal, IsLine, local
 
 use card_queue::Plain;
 use event_graph::Graph;
-use line_base::Log;
+use line_base::{Date, Log};
 use live_check::Live;
 use station_step::{Inlet, Outlet, Shelf, Station, Stepped};
 use std::alloc::{AllocError, Global};
@@ -68,6 +68,17 @@ pub fn step_at(live: &Live, shelf: &mut Shelf, line: &mut Vec<Station>, t: u32) 
         return Stepped::Done;
     }
     line[t as usize].step(live, shelf)
+}
+
+/// The token in hand `k` of station `t` of a line, and none where fewer arcs lead there.
+pub fn hand_at(live: &Live, shelf: &Shelf, line: &Vec<Station>, t: u32, k: u32) -> Option<Date>
+    requires is_line { IsLine live.now.graph shelf.now line.now.items }
+    requires exists { t < stations live.now.graph }
+{
+    if k as usize >= live.graph().ins(t).len() {
+        return None;
+    }
+    line[t as usize].hand(k)
 }
 
 /// All stations of the graph, fresh.

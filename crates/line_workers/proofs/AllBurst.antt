@@ -14,7 +14,7 @@ use Rattle.line_workers.specs.Work.{dates_of, turns_of, HasWorked, HasBurst, Has
 use Rattle.line_workers.specs.Meeting.{AreStill}
 use Rattle.line_workers.specs.Crews.{crew_at, graph_of, begun_of, AreCrews, AreSameCrews, CrewWorked}
 use Rattle.line_workers.specs.Burst.{AllMade, EachMade, CrewsBurst}
-use Rattle.line_workers.proofs.AllCrews.{count-teams, team_at-crews, graph-same, seat_there, number_there, seated, of_seat, crews-same, then_same}
+use Rattle.line_workers.proofs.AllCrews.{count-teams, team_at-crews, graph-same, worker_there, seat_there, seated, of_seat, crews-same, then_same}
 
 -- the team of the only crew
 single : (crews : List WorkCrew) → length crews ≡ 1 → teams_of crews ≡ (crew_at crews 0).team ∷ []
@@ -51,10 +51,10 @@ module _ (old mid : List WorkCrew) (are : AreCrews old) (count : length mid ≡ 
     i = t - first_of (length old) (stations (graph_of old)) (worker_of (length old) (stations (graph_of old)) t)
 
     w_there : w < length old
-    w_there = seat_there old are t there
+    w_there = worker_there old are t there
 
     i_there : i < length (crew_at old w).team.stations
-    i_there = number_there old are t there
+    i_there = (seat_there old are t there).number
 
     at_old : member (crew_at old w).team.stations i ≡ station_of g (teams_of old) t
     at_old = seated old are t there
@@ -101,11 +101,11 @@ module _ (old mid : List WorkCrew) (are : AreCrews old) (count : length mid ≡ 
   idle-t : AllMade g (teams_of old) → (t : ℕ) → t < stations g → turns_of (station_of g (teams_of mid) t) ≡ turns_of (station_of g (teams_of old) t)
   idle-t all t there =
       let v = worker_of (length old) (stations g) t in
-      let v_there = seat_there old are t there in
+      let v_there = worker_there old are t there in
       let done : AllDone (crew_at old v).target (crew_at old v).team =
       λ k low. made-in (λ u. jobs g) all v k v_there low ∙ sym (target-is t there) in
       sym (ap turns_of (at_mid t there))
-      ∙ (each v v_there).burst.idle done (t - first_of (length old) (stations g) v) (number_there old are t there)
+      ∙ (each v v_there).burst.idle done (t - first_of (length old) (stations g) v) (seat_there old are t there).number
       ∙ ap turns_of (at_old t there)
 
   -- one crew
@@ -133,12 +133,12 @@ module _ (old mid : List WorkCrew) (are : AreCrews old) (count : length mid ≡ 
     burst-alone = (each 0 zero_there).alone times alone (omega (arith, le, target-zero))
 
     seat-zero : (t : ℕ) → t < stations g → worker_of (length old) (stations g) t ≡ 0
-    seat-zero t there = omega (arith, seat_there old are t there, one)
+    seat-zero t there = omega (arith, worker_there old are t there, one)
 
     pub alone-dates : (t : ℕ) → t < stations g → dates_of (station_of g (teams_of mid) t) ≡ min (times + 16) (jobs g)
     alone-dates t there =
         let k = t - first_of (length old) (stations g) (worker_of (length old) (stations g) t) in
-        let low = number_there old are t there in
+        let low = (seat_there old are t there).number in
         let zero = seat-zero t there in
         let count_same : length (crew_at mid 0).team.stations ≡ length (crew_at old 0).team.stations = (each 0 zero_there).burst.worked.count in
         let within : k < length (crew_at mid 0).team.stations = omega (arith, low, ap (λ v. length (crew_at old v).team.stations) zero, count_same) in
@@ -150,7 +150,7 @@ module _ (old mid : List WorkCrew) (are : AreCrews old) (count : length mid ≡ 
     pub alone-turns : (t : ℕ) → t < stations g → turns_of (station_of g (teams_of mid) t) + times ≡ turns_of (station_of g (teams_of old) t) + min (times + 16) (jobs g)
     alone-turns t there =
         let k = t - first_of (length old) (stations g) (worker_of (length old) (stations g) t) in
-        let low = number_there old are t there in
+        let low = (seat_there old are t there).number in
         let zero = seat-zero t there in
         let within : k < length (crew_at old 0).team.stations = omega (arith, low, ap (λ v. length (crew_at old v).team.stations) zero) in
         let m : turns_of (station_of g (teams_of mid) t) ≡ turns_of (member (crew_at mid 0).team.stations k) =

@@ -1,5 +1,5 @@
 -- The crews of a line as teams, and a meeting among them.
-use Rattle.std.proofs.Common.{◌≡◌, ◌≢◌, ℕ, ◌+◌, ◌-◌, ◌<◌, ◌≤◌, List, [], length, set, refl, ap, ◌∙◌, sym, subst, arith, ⊎_elim}
+use Rattle.std.proofs.Common.{◌≡◌, ℕ, ◌+◌, ◌-◌, ◌<◌, ◌≤◌, List, [], length, set, refl, ap, ◌∙◌, sym, subst, arith, ⊎_elim}
 use Rattle.std.proofs.lemmas.Bool.{cases_eq}
 use Rattle.std.proofs.lemmas.List.{length-map, length-set, get_or-map, get_or-set_other, map-set}
 use Rattle.line_base.specs.declared.event.Parts.{Parts}
@@ -15,6 +15,8 @@ use Rattle.line_workers.specs.Teams.{team_at, worker_at, station_of, place_in, o
 use Rattle.line_workers.specs.Crew.{WorkCrew, with_team, teams_of}
 use Rattle.line_workers.specs.Work.{dates_of, turns_of, dates_made, turns_made, TeamsWorked}
 use Rattle.line_workers.specs.Meeting.{MetAt, MeetsOn}
+use Rattle.line_workers.specs.declared.link.Link.{Link}
+use Rattle.line_workers.specs.Link.{seat_of, link_of, seated_at, IsInside, IsSeat, IsRing, HaveMet}
 use Rattle.line_workers.specs.Crews.{crew_at, no_crew, live_of, graph_of, begun_of, AreCrews, IsSameCrew, AreSameCrews, IsMeeting}
 use Rattle.line_workers.proofs.Share.{first-le, next-above, first-rises, first-all, worker-below}
 use Rattle.line_workers.proofs.Places.{in-stands, out-stands}
@@ -98,21 +100,20 @@ module _ (crews : List WorkCrew) (are : AreCrews crews) where
     abbrev seat : ℕ
     seat = worker_of (length crews) (stations (graph_of crews)) t
 
-    abbrev number : ℕ
-    number = t - first_of (length crews) (stations (graph_of crews)) (worker_of (length crews) (stations (graph_of crews)) t)
+    pub worker_there : worker_of (length crews) (stations (graph_of crews)) t < length crews
+    worker_there = worker-below (length crews) (stations g) are.some any t there
 
-    pub seat_there : worker_of (length crews) (stations (graph_of crews)) t < length crews
-    seat_there = worker-below (length crews) (stations g) are.some any t there
+    pub seat_there : IsSeat crews (seat_of (graph_of crews) (length crews) t)
+    seat_there = record {
+      worker = worker_there;
+      number = omega (arith, size-is seat worker_there, first-le (length crews) (stations g) are.some any t, next-above (length crews) (stations g) are.some any t);
+    }
 
-    pub number_there : t - first_of (length crews) (stations (graph_of crews)) (worker_of (length crews) (stations (graph_of crews)) t) < length (crew_at crews (worker_of (length crews) (stations (graph_of crews)) t)).team.stations
-    number_there =
-        omega (arith, size-is seat seat_there, first-le (length crews) (stations g) are.some any t, next-above (length crews) (stations g) are.some any t)
-
-    pub seated : member (crew_at crews (worker_of (length crews) (stations (graph_of crews)) t)).team.stations (t - first_of (length crews) (stations (graph_of crews)) (worker_of (length crews) (stations (graph_of crews)) t)) ≡ station_of (graph_of crews) (teams_of crews) t
+    pub seated : seated_at crews (seat_of (graph_of crews) (length crews) t) ≡ station_of (graph_of crews) (teams_of crews) t
     seated =
         sym (
         ap (λ n. member (team_at (teams_of crews) (worker_of n (stations g) t)).stations (t - first_of n (stations g) (worker_of n (stations g) t))) (count-teams crews)
-        ∙ ap (λ (u : WorkTeam). member u.stations number) (team_at-crews crews seat seat_there))
+        ∙ ap (λ (u : WorkTeam). member u.stations (seat_of g (length crews) t).number) (team_at-crews crews seat worker_there))
 
     pub worker-is : worker_at (graph_of crews) (teams_of crews) t ≡ worker_of (length crews) (stations (graph_of crews)) t
     worker-is = ap (λ n. worker_of n (stations g) t) (count-teams crews)
@@ -142,34 +143,32 @@ module _ (crews : List WorkCrew) (are : AreCrews crews) where
     to_there : (arc g a).to < stations g
     to_there = ranked.sound.ends_exist a listed
 
-    pub output_there : place_in (outs (graph_of crews) (arc (graph_of crews) a).from) a < length (member (crew_at crews (worker_of (length crews) (stations (graph_of crews)) (arc (graph_of crews) a).from)).team.stations ((arc (graph_of crews) a).from - first_of (length crews) (stations (graph_of crews)) (worker_of (length crews) (stations (graph_of crews)) (arc (graph_of crews) a).from))).outlets
+    output_there : (link_of (graph_of crews) (length crews) a).output < length (seated_at crews (link_of (graph_of crews) (length crews) a).from).outlets
     output_there =
         omega (arith, (out-stands g a listed).low, outlets-many g (begun_of crews) (teams_of crews) ranked.sound any crews_are_teams (arc g a).from from_there, ap (λ (s : WorkStation). length s.outlets) (seated (arc g a).from from_there))
 
-    pub input_there : place_in (ins (graph_of crews) (arc (graph_of crews) a).to) a < length (member (crew_at crews (worker_of (length crews) (stations (graph_of crews)) (arc (graph_of crews) a).to)).team.stations ((arc (graph_of crews) a).to - first_of (length crews) (stations (graph_of crews)) (worker_of (length crews) (stations (graph_of crews)) (arc (graph_of crews) a).to))).inputs
+    input_there : (link_of (graph_of crews) (length crews) a).input < length (seated_at crews (link_of (graph_of crews) (length crews) a).to).inputs
     input_there =
         omega (arith, (in-stands g a listed).low, inputs-many g (begun_of crews) (teams_of crews) ranked.sound any crews_are_teams (arc g a).to to_there, ap (λ (s : WorkStation). length s.inputs) (seated (arc g a).to to_there))
 
-    abbrev from_seat : ℕ
-    from_seat = worker_of (length crews) (stations (graph_of crews)) (arc (graph_of crews) a).from
-
-    abbrev to_seat : ℕ
-    to_seat = worker_of (length crews) (stations (graph_of crews)) (arc (graph_of crews) a).to
-
-    abbrev from_station : WorkStation
-    from_station = member (crew_at crews from_seat).team.stations ((arc (graph_of crews) a).from - first_of (length crews) (stations (graph_of crews)) from_seat)
-
-    abbrev to_station : WorkStation
-    to_station = member (crew_at crews to_seat).team.stations ((arc (graph_of crews) a).to - first_of (length crews) (stations (graph_of crews)) to_seat)
-
-    pub ends_there : worker_of (length crews) (stations (graph_of crews)) (arc (graph_of crews) a).from ≢ worker_of (length crews) (stations (graph_of crews)) (arc (graph_of crews) a).to → AreEnds (outlet_at (member (crew_at crews (worker_of (length crews) (stations (graph_of crews)) (arc (graph_of crews) a).from)).team.stations ((arc (graph_of crews) a).from - first_of (length crews) (stations (graph_of crews)) (worker_of (length crews) (stations (graph_of crews)) (arc (graph_of crews) a).from))).outlets (place_in (outs (graph_of crews) (arc (graph_of crews) a).from) a)) (input_at (member (crew_at crews (worker_of (length crews) (stations (graph_of crews)) (arc (graph_of crews) a).to)).team.stations ((arc (graph_of crews) a).to - first_of (length crews) (stations (graph_of crews)) (worker_of (length crews) (stations (graph_of crews)) (arc (graph_of crews) a).to))).inputs (place_in (ins (graph_of crews) (arc (graph_of crews) a).to) a)).inlet
-    ends_there apart =
+    -- between two workers a ring stands
+    pub ring_there : (IsInside (graph_of crews) (length crews) a → ⊥) → IsRing crews (link_of (graph_of crews) (length crews) a)
+    ring_there apart =
+        let link = link_of g (length crews) a in
         let ring = (are.joined a listed).ring (λ same. apart (sym (worker-is (arc g a).from from_there) ∙ same ∙ worker-is (arc g a).to to_there)) in
-        subst (λ (s : WorkStation). AreEnds (outlet_at s.outlets (place_in (outs g (arc g a).from) a)) (input_at to_station.inputs (place_in (ins g (arc g a).to) a)).inlet) (sym (seated (arc g a).from from_there)) (
-        subst (λ (s : WorkStation). AreEnds (outlet_on g (teams_of crews) a) (input_at s.inputs (place_in (ins g (arc g a).to) a)).inlet) (sym (seated (arc g a).to to_there)) ring)
+        record {
+          apart = apart;
+          from = seat_there (arc g a).from from_there;
+          output = output_there;
+          to = seat_there (arc g a).to to_there;
+          input = input_there;
+          ends =
+              subst (λ (s : WorkStation). AreEnds (outlet_at s.outlets link.output) (input_at (seated_at crews link.to).inputs link.input).inlet) (sym (seated (arc g a).from from_there)) (
+              subst (λ (s : WorkStation). AreEnds (outlet_on g (teams_of crews) a) (input_at s.inputs link.input).inlet) (sym (seated (arc g a).to to_there)) ring);
+        }
 
     -- nothing happens at an arc inside one worker
-    pub stays_met : worker_of (length crews) (stations (graph_of crews)) (arc (graph_of crews) a).from ≡ worker_of (length crews) (stations (graph_of crews)) (arc (graph_of crews) a).to → MeetsOn (graph_of crews) (teams_of crews) (teams_of crews) a
+    pub stays_met : IsInside (graph_of crews) (length crews) a → MeetsOn (graph_of crews) (teams_of crews) (teams_of crews) a
     stays_met same = record {
       worked = record { count = refl; each = λ w low. idle_team (team_at (teams_of crews) w) };
       still = record { logs = λ t there. refl; turns = λ t there. refl };
@@ -177,40 +176,42 @@ module _ (crews : List WorkCrew) (are : AreCrews crews) where
       others = λ b b_listed differ was. was;
     }
 
-    module _ (new : List WorkCrew) (only : new ≡ set crews to_seat (crew_at new to_seat)) where
-      teams-new : teams_of new ≡ set (teams_of crews) to_seat (crew_at new to_seat).team
-      teams-new = ap teams_of only ∙ map-set (λ (c : WorkCrew). c.team) crews to_seat (crew_at new to_seat)
+    -- and its ends have met
+    module _ (new : List WorkCrew) (met : HaveMet (link_of (graph_of crews) (length crews) a) crews new) where
+      abbrev to_seat : ℕ
+      to_seat = worker_of (length crews) (stations (graph_of crews)) (arc (graph_of crews) a).to
 
-      pub meets_there : MetAt (outlet_at from_station.outlets (place_in (outs (graph_of crews) (arc (graph_of crews) a).from) a)) ((arc (graph_of crews) a).to - first_of (length crews) (stations (graph_of crews)) to_seat) (place_in (ins (graph_of crews) (arc (graph_of crews) a).to) a) (crew_at crews to_seat).team (crew_at new to_seat).team → MeetsOn (graph_of crews) (teams_of crews) (teams_of new) a
-      meets_there met =
+      teams-new : teams_of new ≡ set (teams_of crews) to_seat (crew_at new to_seat).team
+      teams-new = ap teams_of met.only ∙ map-set (λ (c : WorkCrew). c.team) crews to_seat (crew_at new to_seat)
+
+      pub meets_there : MeetsOn (graph_of crews) (teams_of crews) (teams_of new) a
+      meets_there =
           let teams = teams_of crews in
           let to = (arc g a).to in
           let team = (crew_at new to_seat).team in
           let l = place_in (ins g to) a in
           let Met : Outlet → ℕ → ℕ → WorkTeam → Type 0 = λ o n w old. MetAt o (to - first_of n (stations g) w) l old team in
           let at_outlet : Met (outlet_on g teams a) (length crews) to_seat (crew_at crews to_seat).team =
-          subst (λ (s : WorkStation). Met (outlet_at s.outlets (place_in (outs g (arc g a).from) a)) (length crews) to_seat (crew_at crews to_seat).team) (seated (arc g a).from from_there) met in
+          subst (λ (s : WorkStation). Met (outlet_at s.outlets (place_in (outs g (arc g a).from) a)) (length crews) to_seat (crew_at crews to_seat).team) (seated (arc g a).from from_there) met.met in
           let at_team : Met (outlet_on g teams a) (length crews) to_seat (team_at teams to_seat) =
-          subst (Met (outlet_on g teams a) (length crews) to_seat) (sym (team_at-crews crews to_seat (seat_there to to_there))) at_outlet in
+          subst (Met (outlet_on g teams a) (length crews) to_seat) (sym (team_at-crews crews to_seat (worker_there to to_there))) at_outlet in
           let at_count : Met (outlet_on g teams a) (length teams) (worker_at g teams to) (team_at teams (worker_at g teams to)) =
           subst (λ n. Met (outlet_on g teams a) n (worker_of n (stations g) to) (team_at teams (worker_of n (stations g) to))) (sym (count-teams crews)) at_team in
           let same : set teams (worker_at g teams to) team ≡ teams_of new = ap (λ w. set teams w team) (worker-is to to_there) ∙ sym teams-new in
           subst (λ (ts : List WorkTeam). MeetsOn g teams ts a) same (
           meets_on g (begun_of crews) teams ranked.sound any crews_are_teams a listed team at_count)
 
-      pub same_there : IsSameCrew (crew_at crews to_seat) (crew_at new to_seat) → AreSameCrews crews new
-      same_there same =
-          let to = (arc g a).to in
-          let low_to = seat_there to to_there in
+      pub same_there : AreSameCrews crews new
+      same_there =
           let Same : ℕ → Type 0 = λ v. IsSameCrew (crew_at crews v) (crew_at new v) in
           record {
-            count = ap (λ (l : List WorkCrew). length l) only ∙ length-set crews to_seat (crew_at new to_seat);
+            count = ap (λ (l : List WorkCrew). length l) met.only ∙ length-set crews to_seat (crew_at new to_seat);
             each = λ v low.
                 ⊎_elim
-                (λ here. subst Same (sym here) same)
+                (λ here. subst Same (sym here) met.same)
                 (λ apart.
                 let else : crew_at new v ≡ crew_at crews v =
-                ap (λ (l : List WorkCrew). crew_at l v) only ∙ get_or-set_other crews to_seat v (crew_at new to_seat) no_crew apart in
+                ap (λ (l : List WorkCrew). crew_at l v) met.only ∙ get_or-set_other crews to_seat v (crew_at new to_seat) no_crew apart in
                 subst (IsSameCrew (crew_at crews v)) (sym else) (record { crew = are.each v low; frame = refl }))
                 (cases_eq v to_seat);
           }
@@ -249,80 +250,38 @@ module _ (crews : List WorkCrew) (are : AreCrews crews) where
             subst (λ b. (a : ℕ) → a < arc_count g → IsJoined g b (teams_of new) a) (sym begun_same) teams.joined);
       }
 
--- what holds of six numbers holds of those that they are equal to
-along : (P : ℕ → ℕ → ℕ → ℕ → ℕ → ℕ → Type 0) (a b c d e f a' b' c' d' e' f' : ℕ) → a ≡ a' → b ≡ b' → c ≡ c' → d ≡ d' → e ≡ e' → f ≡ f' → P a b c d e f → P a' b' c' d' e' f'
-along P a b c d e f a' b' c' d' e' f' p q r s t u is =
-    subst (λ x. P x b' c' d' e' f') p (
-    subst (λ x. P a x c' d' e' f') q (
-    subst (λ x. P a b x d' e' f') r (
-    subst (λ x. P a b c x e' f') s (
-    subst (λ x. P a b c d x f') t (
-    subst (λ x. P a b c d e x) u is)))))
+-- ---- as the code has them
 
--- where the two ends of arc a stand: worker, station in the team, and place among the station's arcs
-pub record IsFound (g : Parts) (workers a from i k to j l : ℕ) : Type 0 where
-  pub from_is : from ≡ worker_of workers (stations g) (arc g a).from
-  pub i_is : i ≡ (arc g a).from - first_of workers (stations g) (worker_of workers (stations g) (arc g a).from)
-  pub k_is : k ≡ place_in (outs g (arc g a).from) a
-  pub to_is : to ≡ worker_of workers (stations g) (arc g a).to
-  pub j_is : j ≡ (arc g a).to - first_of workers (stations g) (worker_of workers (stations g) (arc g a).to)
-  pub l_is : l ≡ place_in (ins g (arc g a).to) a
-
--- what a meeting there takes
-pub record MayMeet (crews : List WorkCrew) (from i k to j l : ℕ) : Type 0 where
-  pub first : from < length crews
-  pub second : to < length crews
-  pub station : i < length (crew_at crews from).team.stations
-  pub output : k < length (member (crew_at crews from).team.stations i).outlets
-  pub other : j < length (crew_at crews to).team.stations
-  pub input : l < length (member (crew_at crews to).team.stations j).inputs
-  pub ends : from ≢ to → AreEnds (outlet_at (member (crew_at crews from).team.stations i).outlets k) (input_at (member (crew_at crews to).team.stations j).inputs l).inlet
-
-module _ (crews : List WorkCrew) (are : AreCrews crews) (live : LiveGraph) (made_for : live ≡ live_of crews) (a : ℕ) (listed : a < arc_count live.graph) (from i k to j l : ℕ) (found : IsFound live.graph (length crews) a from i k to j l) where
+module _ (crews : List WorkCrew) (are : AreCrews crews) (live : LiveGraph) (made_for : live ≡ live_of crews) (a : ℕ) (listed : a < arc_count live.graph) where
   there_a : a < arc_count (graph_of crews)
   there_a = subst (λ (v : LiveGraph). a < arc_count v.graph) made_for listed
 
-  found_here : IsFound (graph_of crews) (length crews) a from i k to j l
-  found_here = subst (λ (v : LiveGraph). IsFound v.graph (length crews) a from i k to j l) made_for found
+  abbrev Meets : List WorkCrew → LiveGraph → Type 0
+  Meets new v = MeetsOn v.graph (teams_of crews) (teams_of new) a
 
-  pub may_meet : MayMeet crews from i k to j l
-  may_meet =
-      let f = found_here in
-      let g = graph_of crews in
-      let sound = (ranked crews are).sound in
-      along (MayMeet crews) _ _ _ _ _ _ from i k to j l (sym f.from_is) (sym f.i_is) (sym f.k_is) (sym f.to_is) (sym f.j_is) (sym f.l_is) (
-      record {
-        first = seat_there crews are (arc g a).from (sound.starts_exist a there_a);
-        second = seat_there crews are (arc g a).to (sound.ends_exist a there_a);
-        station = number_there crews are (arc g a).from (sound.starts_exist a there_a);
-        output = output_there crews are a there_a;
-        other = number_there crews are (arc g a).to (sound.ends_exist a there_a);
-        input = input_there crews are a there_a;
-        ends = ends_there crews are a there_a;
-      })
+  pub met_inside : IsInside live.graph (length crews) a → MeetsOn live.graph (teams_of crews) (teams_of crews) a
+  met_inside inside =
+      subst (Meets crews) (sym made_for) (
+      stays_met crews are a there_a (subst (λ (v : LiveGraph). IsInside v.graph (length crews) a) made_for inside))
 
-  pub met_inside : from ≡ to → MeetsOn live.graph (teams_of crews) (teams_of crews) a
-  met_inside same =
-      let f = found_here in
-      subst (λ (v : LiveGraph). MeetsOn v.graph (teams_of crews) (teams_of crews) a) (sym made_for) (
-      stays_met crews are a there_a (sym f.from_is ∙ same ∙ f.to_is))
+  module _ (link : Link) (is : link ≡ link_of live.graph (length crews) a) where
+    link-is : link ≡ link_of (graph_of crews) (length crews) a
+    link-is = is ∙ ap (λ (v : LiveGraph). link_of v.graph (length crews) a) made_for
 
-  module _ (new : List WorkCrew) (only : new ≡ set crews to (crew_at new to)) where
-    only_here : new ≡ set crews (worker_of (length crews) (stations (graph_of crews)) (arc (graph_of crews) a).to) (crew_at new (worker_of (length crews) (stations (graph_of crews)) (arc (graph_of crews) a).to))
-    only_here = subst (λ t. new ≡ set crews t (crew_at new t)) found_here.to_is only
+    pub may_meet : (IsInside live.graph (length crews) a → ⊥) → IsRing crews link
+    may_meet apart =
+        subst (IsRing crews) (sym link-is) (
+        ring_there crews are a there_a (λ inside. apart (subst (λ (v : LiveGraph). IsInside v.graph (length crews) a) (sym made_for) inside)))
 
-    pub met_between : MetAt (outlet_at (member (crew_at crews from).team.stations i).outlets k) j l (crew_at crews to).team (crew_at new to).team → MeetsOn live.graph (teams_of crews) (teams_of new) a
-    met_between met =
-        let f = found_here in
-        let Met : ℕ → ℕ → ℕ → ℕ → ℕ → ℕ → Type 0 = λ from i k to j l. MetAt (outlet_at (member (crew_at crews from).team.stations i).outlets k) j l (crew_at crews to).team (crew_at new to).team in
-        subst (λ (v : LiveGraph). MeetsOn v.graph (teams_of crews) (teams_of new) a) (sym made_for) (
-        meets_there crews are a there_a new only_here (
-        along Met from i k to j l _ _ _ _ _ _ f.from_is f.i_is f.k_is f.to_is f.j_is f.l_is met))
+    module _ (new : List WorkCrew) (met : HaveMet link crews new) where
+      met_here : HaveMet (link_of (graph_of crews) (length crews) a) crews new
+      met_here = subst (λ (l : Link). HaveMet l crews new) link-is met
 
-    pub same_after : IsSameCrew (crew_at crews to) (crew_at new to) → AreSameCrews crews new
-    same_after same =
-        same_there crews are a there_a new only_here (
-        subst (λ t. IsSameCrew (crew_at crews t) (crew_at new t)) found_here.to_is same)
+      pub met_between : MeetsOn live.graph (teams_of crews) (teams_of new) a
+      met_between = subst (Meets new) (sym made_for) (meets_there crews are a there_a new met_here)
+
+      pub same_after : AreSameCrews crews new
+      same_after = same_there crews are a there_a new met_here
 
 -- crews to which nothing happened
 pub crews-stay : (crews : List WorkCrew) → AreCrews crews → AreSameCrews crews crews

@@ -25,7 +25,7 @@ use Rattle.line_workers.specs.Work.{dates_of, turns_of, TurnsBelow}
 use Rattle.line_workers.specs.Crews.{crew_at, no_crew, live_of, graph_of, begun_of, AreCrews}
 use Rattle.line_workers.specs.Burst.{AllMade, EachMade, CrewsBurst}
 use Rattle.line_workers.specs.Line.{WorkLine, turns_among, line_of, run_in, KeepsPace, AreAtRest, IsLine, LogsGrow}
-use Rattle.line_workers.proofs.AllCrews.{ranked, crews_are_teams, seat_there, number_there, seated, of_seat}
+use Rattle.line_workers.proofs.AllCrews.{ranked, crews_are_teams, seat_there, seated, of_seat}
 use Rattle.line_workers.proofs.Standing.{log-among, stands_for_reached, can_fire_is_ready}
 
 -- ---- totals over the numbers below n
@@ -108,6 +108,21 @@ module _ (old new : List WorkCrew) (are_old : AreCrews old) (b : CrewsBurst old 
       let g = graph_of old in
       omega (arith, turns-total g (teams_of old), turns-total g (teams_of new), total-le (λ t. turns_of (station_of g (teams_of old) t)) (λ t. turns_of (station_of g (teams_of new) t)) (stations g) (λ t there. (b.each t there).turned))
 
+  -- counted before and after
+  pub fired-since : (was now : ℕ) → was ≡ fired (state_among (graph_of old) (teams_of old)) → now ≡ fired (state_among (graph_of new) (teams_of new)) → (was ≤ now) × (fired (state_among (graph_of old) (teams_of new)) ≡ fired (state_among (graph_of old) (teams_of old)) + (now - was))
+  fired-since was now is_was is_now =
+      let here = is_now ∙ ap (λ (l : LiveGraph). fired (state_among l.graph (teams_of new))) same-live in (
+        omega (arith, here, is_was, fired-grow),
+        omega (arith, here, is_was, fired-grow),
+      )
+
+  pub turns-since : (was now : ℕ) → was ≡ sum (turns_among (graph_of old) (teams_of old)) → now ≡ sum (turns_among (graph_of new) (teams_of new)) → (was ≤ now) × (sum (turns_among (graph_of old) (teams_of new)) ≡ sum (turns_among (graph_of old) (teams_of old)) + (now - was))
+  turns-since was now is_was is_now =
+      let here = is_now ∙ ap (λ (l : LiveGraph). sum (turns_among l.graph (teams_of new))) same-live in (
+        omega (arith, here, is_was, turns-grow),
+        omega (arith, here, is_was, turns-grow),
+      )
+
   -- few turns are few still
   pub turns-below : All (λ (crew : WorkCrew). TurnsBelow (2 ^ 38) crew.team) old → All (λ (crew : WorkCrew). TurnsBelow (2 ^ 40) crew.team) new
   turns-below low k d within i low_i =
@@ -123,7 +138,8 @@ module _ (old new : List WorkCrew) (are_old : AreCrews old) (b : CrewsBurst old 
       ∙ ap (λ (c : WorkCrew). turns_of (member c.team.stations i)) at in
       let w = worker_of (length old) (stations (graph_of old)) t in
       let was = ap turns_of (seated old are_old t there) in
-      let before = low w no_crew (seat_there old are_old t there) (t - first_of (length old) (stations (graph_of old)) w) (number_there old are_old t there) in
+      let stands = seat_there old are_old t there in
+      let before = low w no_crew stands.worker (t - first_of (length old) (stations (graph_of old)) w) stands.number in
       omega (arith, is, was, before, (b.each t there).few)
 
 module _ (old new : List WorkCrew) (made : ℕ) (rest : AreAtRest old made) (b : CrewsBurst old new) (f s : ℕ) where

@@ -18,7 +18,7 @@ use Rattle.line_workers.specs.Work.{dates_of, turns_of, AllDone}
 use Rattle.line_workers.specs.Crews.{crew_at, live_of, graph_of, begun_of, AreCrews, AreNewCrews}
 use Rattle.line_workers.specs.Line.{line_of, turns_among, AreAtRest, IsLine, Stands}
 use Rattle.line_workers.proofs.Standing.{stands_for_reached, state_among-is, log-among}
-use Rattle.line_workers.proofs.AllCrews.{ranked, crews_are_teams, graph-same, seat_there, number_there, seated, of_seat}
+use Rattle.line_workers.proofs.AllCrews.{ranked, crews_are_teams, graph-same, worker_there, seat_there, seated, of_seat}
 
 -- ---- at rest
 
@@ -115,11 +115,11 @@ module _ (crews : List WorkCrew) (are : AreCrews crews) where
   pub done_is_finished : ((w : ℕ) → w < length crews → AllDone (crew_at crews w).target (crew_at crews w).team) → IsFinished (graph_of crews) (state_among (graph_of crews) (teams_of crews))
   done_is_finished done t there =
       let w = worker_of (length crews) (stations (graph_of crews)) t in
-      let low = seat_there crews are t there in
+      let low = worker_there crews are t there in
       let i = t - first_of (length crews) (stations (graph_of crews)) w in
       ap length (log-of t there)
       ∙ sym (ap dates_of (seated crews are t there))
-      ∙ done w low i (number_there crews are t there)
+      ∙ done w low i (seat_there crews are t there).number
       ∙ target-of w low
 
   pub finished_is_done : IsFinished (graph_of crews) (state_among (graph_of crews) (teams_of crews)) → (w : ℕ) → w < length crews → AllDone (crew_at crews w).target (crew_at crews w).team

@@ -7,6 +7,7 @@ pub mod Order
 pub mod Work
 pub mod Meeting
 pub mod Crews
+pub mod Link
 pub mod Burst
 pub mod Line
 pub mod Close

@@ -41,8 +41,10 @@ pub(crate) fn copy_logs(
     logs: &mut Logs,
 ) -> Result<(), AllocError>
     requires fits { length logs.old.logs + length stations.now.items ≤ logs.old.room }
-    requires few { (i : ℕ) → i < length stations.now.items → dates_of (member stations.now.items i) ≤ room }
-    ensures { OnOk result (logs.new ≡ record logs.old { logs = logs.old.logs ++ map (copy_of room) stations.now.items }) }
+    requires few { (i : ℕ) → i < length stations.now.items →
+        dates_of (member stations.now.items i) ≤ room }
+    ensures { OnOk result (logs.new ≡
+        record logs.old { logs = logs.old.logs ++ map (copy_of room) stations.now.items }) }
 {
     for i in 0..stations.len() {
         logs.add(log_with(alloc, stations[i].log(), room)?);
@@ -68,7 +70,8 @@ pub(crate) fn logs_of(crews: Vec<Crew>) -> Logs
 pub(crate) fn copies_of(alloc: Global, live: &Live, crews: &[Crew]) -> Result<Logs, AllocError>
     requires crews { AreCrews crews.now }
     requires made_for { live.now ≡ live_of crews.now }
-    ensures { IfOk result (λ logs. logs.logs ≡ copies_among (graph_of crews.now) (teams_of crews.now)) }
+    ensures { IfOk result (λ logs. logs.logs ≡
+        copies_among (graph_of crews.now) (teams_of crews.now)) }
 {
     let mut logs = Logs::new(alloc, live.graph().stations())?;
     for crew in crews {

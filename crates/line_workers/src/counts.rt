@@ -9,7 +9,8 @@ use station_step::Station;
 /// How many dates these stations have made together.
 pub(crate) fn dates_made(stations: &Vec<Station>) -> u64
     requires count { length stations.now.items ≤ MAX_STATIONS }
-    requires few { (i : ℕ) → i < length stations.now.items → dates_of (member stations.now.items i) ≤ MAX_DEMANDS }
+    requires few { (i : ℕ) → i < length stations.now.items →
+        dates_of (member stations.now.items i) ≤ MAX_DEMANDS }
     ensures dates { result ≡ sum_by dates_of stations.now.items }
     ensures few { result ≤ 20_000_000 }
 {
@@ -23,7 +24,8 @@ pub(crate) fn dates_made(stations: &Vec<Station>) -> u64
 /// How many turns these stations have made together.
 pub(crate) fn turns_made(stations: &Vec<Station>) -> u64
     requires count { length stations.now.items ≤ MAX_STATIONS }
-    requires few { (i : ℕ) → i < length stations.now.items → turns_of (member stations.now.items i) < 2 ^ 40 }
+    requires few { (i : ℕ) → i < length stations.now.items →
+        turns_of (member stations.now.items i) < 2 ^ 40 }
     ensures turns { result ≡ sum_by turns_of stations.now.items }
     ensures few { result ≤ 2 ^ 50 }
 {
@@ -36,8 +38,10 @@ pub(crate) fn turns_made(stations: &Vec<Station>) -> u64
 
 /// Whether each of these stations has made so many dates.
 pub(crate) fn all_done(stations: &Vec<Station>, target: u32) -> bool
-    requires { (i : ℕ) → i < length stations.now.items → dates_of (member stations.now.items i) ≤ target }
-    ensures { IsTrue result ↔ ((i : ℕ) → i < length stations.now.items → dates_of (member stations.now.items i) ≡ target) }
+    requires { (i : ℕ) → i < length stations.now.items →
+        dates_of (member stations.now.items i) ≤ target }
+    ensures { IsTrue result ↔ ((i : ℕ) → i < length stations.now.items →
+        dates_of (member stations.now.items i) ≡ target) }
 {
     for i in 0..stations.len() {
         if stations[i].log().len() < target as usize {
@@ -49,7 +53,8 @@ pub(crate) fn all_done(stations: &Vec<Station>, target: u32) -> bool
 
 /// The greatest number of turns that one of these stations has made.
 pub(crate) fn most_turns(stations: &Vec<Station>) -> u64
-    ensures most { (i : ℕ) → i < length stations.now.items → turns_of (member stations.now.items i) ≤ result }
+    ensures most { (i : ℕ) → i < length stations.now.items →
+        turns_of (member stations.now.items i) ≤ result }
     ensures one { 0 < result → Any (λ station. turns_of station ≡ result) stations.now.items }
 {
     let mut most = 0;

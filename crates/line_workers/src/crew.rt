@@ -94,8 +94,10 @@ impl Crew {
         requires worker { worker < workers }
         requires workers { workers ≤ 16 }
         requires reached { Reached live.now.graph state.now.state }
-        requires team { IsTeam live.now.graph state.now.state (first_of workers (stations live.now.graph) worker) team }
-        requires size { first_of workers (stations live.now.graph) worker + length team.stations ≡ first_of workers (stations live.now.graph) (worker + 1) }
+        requires team { IsTeam live.now.graph state.now.state
+            (first_of workers (stations live.now.graph) worker) team }
+        requires size { first_of workers (stations live.now.graph) worker + length team.stations ≡
+            first_of workers (stations live.now.graph) (worker + 1) }
         ensures crew { IfOk result IsCrew }
         ensures live { IfOk result (λ crew. crew.live ≡ live.now) }
         ensures begun { IfOk result (λ crew. crew.begun ≡ state.now.state) }
@@ -129,7 +131,8 @@ impl Crew {
         ensures crew { IsCrew self.new }
         ensures frame { self.new ≡ with_team self.old self.new.team }
         ensures stepped { SteppedAt i self.old.team self.new.team }
-        ensures fired { dates_of (member self.new.team.stations i) ≡ dates_of (member self.old.team.stations i) + (if result then 1 else 0) }
+        ensures fired { dates_of (member self.new.team.stations i) ≡
+            dates_of (member self.old.team.stations i) + (if result then 1 else 0) }
     {
         let team = &mut self.team;
         let stepped = team.stations[i as usize].step(live, &mut team.shelf);
@@ -144,7 +147,8 @@ impl Crew {
         ensures crew { IsCrew self.new }
         ensures frame { self.new ≡ with_team self.old self.new.team }
         ensures stepped { SteppedAt (slice_index self.old.order place) self.old.team self.new.team }
-        ensures fired { dates_made self.new.team ≡ dates_made self.old.team + (if result then 1 else 0) }
+        ensures fired { dates_made self.new.team ≡
+            dates_made self.old.team + (if result then 1 else 0) }
     {
         let i = self.order[place];
         gate.pass(self.worker, self.first + i);
@@ -162,7 +166,8 @@ impl Crew {
         ensures fired { dates_made self.new.team ≡ dates_made self.old.team + result }
 
         // The one crew of its line fires each of its stations, where all have made as many dates.
-        ensures alone { (times : ℕ) → IsAlone self.old times → times < jobs self.old.live.graph → IsAlone self.new (times + 1) }
+        ensures alone { (times : ℕ) → IsAlone self.old times → times < jobs self.old.live.graph →
+            IsAlone self.new (times + 1) }
     {
         let mut fired = 0;
         for place in 0..self.order.len() {
@@ -180,7 +185,8 @@ impl Crew {
         ensures crew { IsCrew self.new }
         ensures frame { self.new ≡ with_team self.old self.new.team }
         ensures burst { HasBurst self.old.target self.old.team self.new.team }
-        ensures alone { (times : ℕ) → IsAlone self.old times → times ≤ self.old.target → HasBurstAlone times self.old self.new }
+        ensures alone { (times : ℕ) → IsAlone self.old times → times ≤ self.old.target →
+            HasBurstAlone times self.old self.new }
     {
         for _sweep in 0..SWEEPS {
             if self.done() {
@@ -219,8 +225,10 @@ impl Crew {
 
     /// The greatest number of turns that a station of the crew has made. It takes no memory.
     pub fn turns(&self) -> u64
-        ensures most { (i : ℕ) → i < length self.now.team.stations → turns_of (member self.now.team.stations i) ≤ result }
-        ensures one { 0 < result → Any (λ station. turns_of station ≡ result) self.now.team.stations }
+        ensures most { (i : ℕ) → i < length self.now.team.stations →
+            turns_of (member self.now.team.stations i) ≤ result }
+        ensures one { 0 < result →
+            Any (λ station. turns_of station ≡ result) self.now.team.stations }
         ensures crew { IsCrew self.now }
     {
         most_turns(&self.team.stations)
@@ -233,16 +241,20 @@ impl Crew {
         requires output { k < length (member self.old.team.stations i).outlets }
         requires to { j < length to.old.team.stations }
         requires input { l < length (member to.old.team.stations j).inputs }
-        requires ends { AreEnds (outlet_at (member self.old.team.stations i).outlets k) (input_at (member to.old.team.stations j).inputs l).inlet }
+        requires ends { AreEnds (outlet_at (member self.old.team.stations i).outlets k)
+            (input_at (member to.old.team.stations j).inputs l).inlet }
         ensures from { self.new ≡ self.old }
         ensures same { IsSameCrew to.old to.new }
-        ensures met { MetAt (outlet_at (member self.old.team.stations i).outlets k) j l to.old.team to.new.team }
+        ensures met { MetAt (outlet_at (member self.old.team.stations i).outlets k) j l to.old.team
+            to.new.team }
     {
         meet_teams(&mut self.team, i, k, &mut to.team, j, l);
     }
 
     /// Where the line takes its memory from.
-    pub(crate) fn alloc(&self) -> Global {
+    pub(crate) fn alloc(&self) -> Global
+        ensures { IsCrew self.now }
+    {
         self.alloc
     }
 
@@ -264,7 +276,8 @@ impl Crew {
     /// Gives up the logs of the crew's stations, behind those of a list. It takes no memory.
     pub(crate) fn give_logs(self, logs: &mut Logs)
         requires { length logs.old.logs + length self.team.stations ≤ logs.old.room }
-        ensures { logs.new ≡ record logs.old { logs = logs.old.logs ++ map log_of self.team.stations } }
+        ensures { logs.new ≡
+            record logs.old { logs = logs.old.logs ++ map log_of self.team.stations } }
     {
         give_logs(self.team.stations, logs);
     }
@@ -272,7 +285,11 @@ impl Crew {
     /// Copies the logs of the crew's stations behind those of a list, each with room for a date of each job.
     pub(crate) fn copy_logs(&self, alloc: Global, logs: &mut Logs) -> Result<(), AllocError>
         requires { length logs.old.logs + length self.now.team.stations ≤ logs.old.room }
-        ensures { OnOk result (logs.new ≡ record logs.old { logs = logs.old.logs ++ map (copy_of self.now.target) self.now.team.stations }) }
+        ensures { OnOk result (logs.new ≡
+            record logs.old {
+              logs = logs.old.logs ++
+                  map (copy_of self.now.target) self.now.team.stations;
+            }) }
     {
         copy_logs(alloc, &self.team.stations, self.target, logs)
     }

@@ -15,15 +15,15 @@ ghost use Rattle.line_workers.specs.Crew.{WorkCrew, teams_of};
 ghost use Rattle.line_workers.specs.Work.{TurnsBelow, TeamsWorked};
 ghost use Rattle.line_workers.specs.Meeting.{MetAt, AreStill, MeetsOn};
 ghost use Rattle.line_workers.specs.Gather.{Gathers};
+ghost use Rattle.line_workers.specs.Link.{IsRing, HaveMet};
 ghost use Rattle.line_workers.specs.Crews.{crew_at, live_of, graph_of, AreCrews, AreSameCrews, IsSameCrew, CrewWorked, IsReadyFor, AreNewCrews};
 
 use crate::clearing::clear_crews;
 use crate::crew::Crew;
 use crate::gate::Gate;
 use crate::line::Burst;
+use crate::link::{Link, is_inside, link_of};
 use crate::making::teams_of;
-use crate::owner::{first_of, worker_of};
-use event_graph::Arc;
 use line_core::State;
 use live_check::Live;
 use std::alloc::{AllocError, Global};
@@ -39,7 +39,8 @@ pub(crate) fn work_all<R: Threads + Sync, G: Gate>(
 )
     requires some { 1 ≤ length crews.old }
     requires ready { All (IsReadyFor live.now) crews.old }
-    ensures { (w : ℕ) → w < length crews.old → CrewWorked (crew_at crews.old w) (crew_at crews.new w) }
+    ensures { (w : ℕ) → w < length crews.old →
+        CrewWorked (crew_at crews.old w) (crew_at crews.new w) }
 {
     let threads = crews.len();
     if threads == 1 {
@@ -57,108 +58,49 @@ pub(crate) fn work_all<R: Threads + Sync, G: Gate>(
     );
 }
 
-/// Where a number stands in a list that has it.
-fn place_in(list: &[u32], number: u32) -> u32
-    requires there { place_in list.now number < length list.now }
-    requires short { length list.now < 2 ^ 32 }
-    ensures { result ≡ place_in list.now number }
+/// The two ends of a ring meet, where the crew that puts comes before the one that takes.
+fn meet_up(crews: &mut [Crew], link: &Link)
+    requires order { link.now.from.worker < link.now.to.worker }
+    requires ring { IsRing crews.old link.now }
+    ensures { HaveMet link.now crews.old crews.new }
 {
-    let mut place = 0;
-    for x in list {
-        if *x == number {
-            break;
-        }
-        place += 1;
-    }
-    place
+    let (from, to) = (&link.from, &link.to);
+    let (low, high) = crews.split_at_mut(to.worker);
+    low[from.worker].meet(
+        from.number,
+        link.output,
+        &mut high[0],
+        to.number,
+        link.input,
+    );
 }
 
-/// Where a station stands: its worker, and its number in the team.
-fn seat_of(workers: u32, live: &Live, t: u32) -> (usize, u32)
-    requires some { 1 ≤ workers }
-    requires few { workers ≤ 16 }
-    requires station { t < stations live.now.graph }
-    ensures worker { result.0 ≡ worker_of workers (stations live.now.graph) t }
-    ensures below { result.0 < workers }
-    ensures number { result.1 ≡ t - first_of workers (stations live.now.graph) (worker_of workers (stations live.now.graph) t) }
+/// The two ends of a ring meet, where the crew that takes comes before the one that puts.
+fn meet_down(crews: &mut [Crew], link: &Link)
+    requires order { link.now.to.worker < link.now.from.worker }
+    requires ring { IsRing crews.old link.now }
+    ensures { HaveMet link.now crews.old crews.new }
 {
-    let stations = live.graph().stations();
-    let worker = worker_of(workers, stations, t);
-    (worker as usize, t - first_of(workers, stations, worker))
-}
-
-/// Arc number `a`.
-fn arc_at(live: &Live, a: u32) -> Arc
-    requires { a < arc_count live.now.graph }
-    ensures { result ≡ arc live.now.graph a }
-{
-    live.graph().arcs()[a as usize]
-}
-
-/// Where an arc stands among those out of its station, and among those into the other.
-fn places_of(live: &Live, a: u32) -> (u32, u32)
-    requires { a < arc_count live.now.graph }
-    ensures out { result.0 ≡ place_in (outs live.now.graph (arc live.now.graph a).from) a }
-    ensures into { result.1 ≡ place_in (ins live.now.graph (arc live.now.graph a).to) a }
-{
-    let arc = arc_at(live, a);
-    let out = place_in(live.graph().outs(arc.from), a);
-    let into = place_in(live.graph().ins(arc.to), a);
-    (out, into)
-}
-
-/// The two ends of an arc between two workers, whose crews come in this order, meet.
-fn meet_up(crews: &mut [Crew], from: usize, i: u32, k: u32, to: usize, j: u32, l: u32)
-    requires order { from < to }
-    requires there { to < length crews.old }
-    requires station { i < length (crew_at crews.old from).team.stations }
-    requires output { k < length (member (crew_at crews.old from).team.stations i).outlets }
-    requires other { j < length (crew_at crews.old to).team.stations }
-    requires input { l < length (member (crew_at crews.old to).team.stations j).inputs }
-    requires ends { AreEnds (outlet_at (member (crew_at crews.old from).team.stations i).outlets k) (input_at (member (crew_at crews.old to).team.stations j).inputs l).inlet }
-    ensures only { crews.new ≡ slice_set crews.old to (crew_at crews.new to) }
-    ensures same { IsSameCrew (crew_at crews.old to) (crew_at crews.new to) }
-    ensures met { MetAt (outlet_at (member (crew_at crews.old from).team.stations i).outlets k) j l (crew_at crews.old to).team (crew_at crews.new to).team }
-{
-    let (low, high) = crews.split_at_mut(to);
-    low[from].meet(i, k, &mut high[0], j, l);
-}
-
-/// The same, where they come in the other order.
-fn meet_down(crews: &mut [Crew], from: usize, i: u32, k: u32, to: usize, j: u32, l: u32)
-    requires order { to < from }
-    requires there { from < length crews.old }
-    requires station { i < length (crew_at crews.old from).team.stations }
-    requires output { k < length (member (crew_at crews.old from).team.stations i).outlets }
-    requires other { j < length (crew_at crews.old to).team.stations }
-    requires input { l < length (member (crew_at crews.old to).team.stations j).inputs }
-    requires ends { AreEnds (outlet_at (member (crew_at crews.old from).team.stations i).outlets k) (input_at (member (crew_at crews.old to).team.stations j).inputs l).inlet }
-    ensures only { crews.new ≡ slice_set crews.old to (crew_at crews.new to) }
-    ensures same { IsSameCrew (crew_at crews.old to) (crew_at crews.new to) }
-    ensures met { MetAt (outlet_at (member (crew_at crews.old from).team.stations i).outlets k) j l (crew_at crews.old to).team (crew_at crews.new to).team }
-{
-    let (low, high) = crews.split_at_mut(from);
-    high[0].meet(i, k, &mut low[to], j, l);
+    let (from, to) = (&link.from, &link.to);
+    let (low, high) = crews.split_at_mut(from.worker);
+    high[0].meet(
+        from.number,
+        link.output,
+        &mut low[to.worker],
+        to.number,
+        link.input,
+    );
 }
 
 /// The two ends of a ring between two workers meet.
-fn meet_between(crews: &mut [Crew], from: usize, i: u32, k: u32, to: usize, j: u32, l: u32)
-    requires apart { from ≢ to }
-    requires first { from < length crews.old }
-    requires second { to < length crews.old }
-    requires station { i < length (crew_at crews.old from).team.stations }
-    requires output { k < length (member (crew_at crews.old from).team.stations i).outlets }
-    requires other { j < length (crew_at crews.old to).team.stations }
-    requires input { l < length (member (crew_at crews.old to).team.stations j).inputs }
-    requires ends { AreEnds (outlet_at (member (crew_at crews.old from).team.stations i).outlets k) (input_at (member (crew_at crews.old to).team.stations j).inputs l).inlet }
-    ensures only { crews.new ≡ slice_set crews.old to (crew_at crews.new to) }
-    ensures same { IsSameCrew (crew_at crews.old to) (crew_at crews.new to) }
-    ensures met { MetAt (outlet_at (member (crew_at crews.old from).team.stations i).outlets k) j l (crew_at crews.old to).team (crew_at crews.new to).team }
+fn meet_over(crews: &mut [Crew], link: &Link)
+    requires { IsRing crews.old link.now }
+    ensures { HaveMet link.now crews.old crews.new }
 {
-    if from < to {
-        meet_up(crews, from, i, k, to, j, l);
+    if link.from.worker < link.to.worker {
+        meet_up(crews, link);
     } else {
-        meet_down(crews, from, i, k, to, j, l);
+        meet_down(crews, link);
     }
 }
 
@@ -171,15 +113,12 @@ fn meet_on(crews: &mut [Crew], live: &Live, a: u32)
     ensures same { AreSameCrews crews.old crews.new }
     ensures met { MeetsOn live.now.graph (teams_of crews.old) (teams_of crews.new) a }
 {
-    let arc = arc_at(live, a);
     let workers = crews.len() as u32;
-    let (from, i) = seat_of(workers, live, arc.from);
-    let (to, j) = seat_of(workers, live, arc.to);
-    let (k, l) = places_of(live, a);
-    if from == to {
+    if is_inside(workers, live, a) {
         return;
     }
-    meet_between(crews, from, i, k, to, j, l);
+    let link = link_of(workers, live, a);
+    meet_over(crews, &link);
 }
 
 /// The two ends of every queue meet on this thread.
@@ -254,8 +193,10 @@ pub(crate) fn burst_of<R: Threads + Sync, G: Gate>(
     requires made_for { live.now ≡ live_of crews.old }
     requires turns { All (λ crew. TurnsBelow (2 ^ 38) crew.team) crews.old }
     ensures burst { CrewsBurst crews.old crews.new }
-    ensures fired { fired (state_among (graph_of crews.old) (teams_of crews.new)) ≡ fired (state_among (graph_of crews.old) (teams_of crews.old)) + result.fired }
-    ensures steps { sum (turns_among (graph_of crews.old) (teams_of crews.new)) ≡ sum (turns_among (graph_of crews.old) (teams_of crews.old)) + result.steps }
+    ensures fired { fired (state_among (graph_of crews.old) (teams_of crews.new)) ≡
+        fired (state_among (graph_of crews.old) (teams_of crews.old)) + result.fired }
+    ensures steps { sum (turns_among (graph_of crews.old) (teams_of crews.new)) ≡
+        sum (turns_among (graph_of crews.old) (teams_of crews.old)) + result.steps }
 {
     let fired = dates_of(crews);
     let steps = turns_of(crews);
@@ -293,7 +234,8 @@ pub(crate) fn crews_of(
 /// Whether each station of all crews has fired once for each job.
 pub(crate) fn all_done(crews: &[Crew]) -> bool
     requires { AreCrews crews.now }
-    ensures { IsTrue result ↔ IsFinished (graph_of crews.now) (state_among (graph_of crews.now) (teams_of crews.now)) }
+    ensures { IsTrue result ↔
+        IsFinished (graph_of crews.now) (state_among (graph_of crews.now) (teams_of crews.now)) }
 {
     for crew in crews {
         if !crew.done() {

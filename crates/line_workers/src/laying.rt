@@ -124,7 +124,8 @@ impl Ends {
         requires worker { worker < length self.old.shelves }
         requires few { length (shelf_at self.old worker) < 2 ^ 32 }
         ensures number { IfOk result (λ q. q ≡ length (shelf_at self.old worker)) }
-        ensures shelved { OnOk result (self.new ≡ record self.old { shelves = with_one self.old.shelves worker plain }) }
+        ensures shelved { OnOk result (self.new ≡
+            record self.old { shelves = with_one self.old.shelves worker plain }) }
     {
         let number = self.shelves[worker as usize].len() as u32;
         self.shelves[worker as usize].push(plain)?;
@@ -217,7 +218,9 @@ impl Ends {
         requires made_for { live.now.graph ≡ state.now.graph }
         requires some { 1 ≤ workers }
         requires workers { workers ≤ 16 }
-        ensures laid { IfOk result (λ ends. AreLaid live.now.graph state.now.state workers ends (arc_count live.now.graph)) }
+        ensures laid { IfOk result
+            (λ ends. AreLaid live.now.graph state.now.state workers ends
+            (arc_count live.now.graph)) }
         ensures sound { OnOk result (IsGraph live.now.graph) }
         ensures some_station { OnOk result (1 ≤ stations live.now.graph) }
     {
@@ -246,7 +249,8 @@ impl Ends {
     pub(crate) fn take_shelf(&mut self, alloc: Global, worker: u32) -> Vec<Plain>
         requires { worker < length self.old.shelves }
         ensures queues { result.items ≡ shelf_at self.old worker }
-        ensures rest { self.new ≡ record self.old { shelves = slice_set self.old.shelves worker [] } }
+        ensures rest { self.new ≡
+            record self.old { shelves = slice_set self.old.shelves worker [] } }
     {
         mem::replace(&mut self.shelves[worker as usize], Vec::new(alloc))
     }

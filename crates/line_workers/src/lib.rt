@@ -10,6 +10,7 @@ mod gate;
 mod laws;
 mod laying;
 mod line;
+mod link;
 mod making;
 mod order;
 mod owner;

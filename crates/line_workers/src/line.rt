@@ -122,7 +122,8 @@ impl Line {
 
         // The line stands for a reached state of its graph; dates come at the ends of logs.
         ensures line { IsLine self.new }
-        ensures frame { self.new ≡ record self.old { state = self.new.state; turns = self.new.turns } }
+        ensures frame { self.new ≡
+            record self.old { state = self.new.state; turns = self.new.turns } }
         ensures logs { LogsGrow self.old.live.graph self.old.state self.new.state }
 
         // How many firings and steps were made, and which at least.
@@ -130,13 +131,16 @@ impl Line {
         ensures steps { sum self.new.turns ≡ sum self.old.turns + result.steps }
         ensures at_most { result.fired ≤ result.steps }
         ensures few { result.steps ≤ 16 * stations self.old.live.graph }
-        ensures ready { (t : ℕ) → CanFire self.old.live.graph self.old.state t → length (log self.old.state t) < length (log self.new.state t) }
+        ensures ready { (t : ℕ) → CanFire self.old.live.graph self.old.state t →
+            length (log self.old.state t) < length (log self.new.state t) }
         ensures idle { (result.fired ≡ 0) ↔ IsFinished self.old.live.graph self.old.state }
         ensures rest { IsFinished self.old.live.graph self.old.state → result.steps ≡ 0 }
 
         // One worker, where all stations have fired as often, fires each of them with every step.
-        ensures alone { (times : ℕ) → self.old.workers ≡ 1 → HasFired (run_in self.old) times → HasFired (run_in self.new) (min (times + 16) (jobs self.old.live.graph)) }
-        ensures alone_steps { (times : ℕ) → self.old.workers ≡ 1 → HasFired (run_in self.old) times → result.steps ≡ result.fired }
+        ensures alone { (times : ℕ) → self.old.workers ≡ 1 → HasFired (run_in self.old) times →
+            HasFired (run_in self.new) (min (times + 16) (jobs self.old.live.graph)) }
+        ensures alone_steps { (times : ℕ) → self.old.workers ≡ 1 →
+            HasFired (run_in self.old) times → result.steps ≡ result.fired }
     {
         burst_of(rt, &mut self.crews, live, gate)
     }
@@ -157,7 +161,8 @@ impl Line {
         requires made_for { live.now ≡ self.live }
         ensures state { result ≡ run_in self }
         ensures reached { IsReached result }
-        ensures least { IsFinished self.live.graph self.state → IsLeast self.live.graph (date_in result.state.logs) }
+        ensures least { IsFinished self.live.graph self.state →
+            IsLeast self.live.graph (date_in result.state.logs) }
     {
         let alloc = self.crews[0].alloc();
         let logs = logs_of(self.crews);

@@ -37,7 +37,9 @@ fn new_station(
     requires made_for { live.now.graph ≡ state.now.graph }
     requires station { t < stations live.now.graph }
     requires fit { AreFitFrom live.now.graph state.now.state t ends.old }
-    ensures station { IfOk result (IsNewStation live.now.graph state.now.state t (outlets_at ends.old t) (inlets_at ends.old t)) }
+    ensures station { IfOk result
+        (IsNewStation live.now.graph state.now.state t (outlets_at ends.old t)
+        (inlets_at ends.old t)) }
     ensures rest { OnOk result (ends.new ≡ without ends.old t) }
 {
     let log = log_of(alloc, live, state, t)?;
@@ -59,7 +61,8 @@ fn new_stations(
     requires stations { next ≤ stations live.now.graph }
     requires fit { AreFitFrom live.now.graph state.now.state first ends.old }
     ensures count { IfOk result (λ made. first + length made.items ≡ next) }
-    ensures made { IfOk result (λ made. AreNewStations live.now.graph state.now.state first ends.old made.items) }
+    ensures made { IfOk result
+        (λ made. AreNewStations live.now.graph state.now.state first ends.old made.items) }
     ensures rest { OnOk result (SameStationsFrom next ends.old ends.new) }
     ensures shelves { OnOk result (ends.new.shelves ≡ ends.old.shelves) }
 {
@@ -84,9 +87,12 @@ fn new_team(
     requires workers { workers ≤ 16 }
     requires worker { worker < workers }
     requires shelves { length ends.old.shelves ≡ workers }
-    requires fit { AreFitFrom live.now.graph state.now.state (first_of workers (stations live.now.graph) worker) ends.old }
+    requires fit { AreFitFrom live.now.graph state.now.state
+        (first_of workers (stations live.now.graph) worker) ends.old }
     ensures team { IfOk result (IsNewTeam live.now.graph state.now.state workers ends.old worker) }
-    ensures stations { OnOk result (SameStationsFrom (first_of workers (stations live.now.graph) (worker + 1)) ends.old ends.new) }
+    ensures stations { OnOk result
+        (SameStationsFrom (first_of workers (stations live.now.graph) (worker + 1)) ends.old
+        ends.new) }
     ensures shelves { OnOk result (SameShelvesFrom (worker + 1) ends.old ends.new) }
 {
     let stations = live.graph().stations();
@@ -111,7 +117,8 @@ fn new_teams(
     requires shelves { length ends.shelves ≡ workers }
     requires fit { AreFitFrom live.now.graph state.now.state 0 ends }
     ensures count { IfOk result (λ teams. length teams.items ≡ workers) }
-    ensures teams { IfOk result (λ teams. AreNewTeams live.now.graph state.now.state workers ends teams.items) }
+    ensures teams { IfOk result
+        (λ teams. AreNewTeams live.now.graph state.now.state workers ends teams.items) }
 {
     let mut ends = ends;
     let mut teams = Vec::with_capacity(alloc, workers as usize)?;

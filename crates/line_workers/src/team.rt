@@ -34,10 +34,12 @@ pub(crate) fn meet_teams(from: &mut Team, i: u32, k: u32, to: &mut Team, j: u32,
     requires output { k < length (member from.old.stations i).outlets }
     requires to { j < length to.old.stations }
     requires input { l < length (member to.old.stations j).inputs }
-    requires ends { AreEnds (outlet_at (member from.old.stations i).outlets k) (input_at (member to.old.stations j).inputs l).inlet }
+    requires ends { AreEnds (outlet_at (member from.old.stations i).outlets k)
+        (input_at (member to.old.stations j).inputs l).inlet }
     ensures from { from.new ≡ from.old }
     ensures met { MetAt (outlet_at (member from.old.stations i).outlets k) j l to.old to.new }
-    ensures team { (g : Parts) (begun : State) (first : ℕ) → IsTeam g begun first to.old → IsTeam g begun first to.new }
+    ensures team { (g : Parts) (begun : State) (first : ℕ) → IsTeam g begun first to.old →
+        IsTeam g begun first to.new }
 {
     meet_at(
         &mut from.stations[i as usize],

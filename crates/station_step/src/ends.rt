@@ -26,10 +26,12 @@ impl Inlet {
     pub(crate) fn take(&mut self, shelf: &mut Shelf) -> Option<Date>
         requires { IfSome (inlet_queue self.old) (λ q. q < length shelf.old) }
         ensures same { bare_inlet self.new ≡ bare_inlet self.old }
-        ensures taken { inlet_taken shelf.new self.new ≡ inlet_taken shelf.old self.old ++ option_to_list result }
+        ensures taken { inlet_taken shelf.new self.new ≡ inlet_taken shelf.old self.old ++
+            option_to_list result }
         ensures none { IfNone result (inlet_known shelf.old self.old ≡ []) }
         ensures only_takes { OnlyTakes shelf.old shelf.new }
-        ensures others { (q : ℕ) → inlet_queue self.old ≢ Some q → queue_at shelf.new q ≡ queue_at shelf.old q }
+        ensures others { (q : ℕ) → inlet_queue self.old ≢ Some q →
+            queue_at shelf.new q ≡ queue_at shelf.old q }
     {
         match self {
             Inlet::Ring(take) => take.take(),
@@ -45,9 +47,11 @@ impl Outlet {
         requires ring_room { HasRingRoom 1 self.old }
         requires shelf_room { HasShelfRoom shelf.old self.old }
         ensures same { bare_outlet self.new ≡ bare_outlet self.old }
-        ensures added { outlet_added shelf.new self.new ≡ outlet_added shelf.old self.old ++ date ∷ [] }
+        ensures added { outlet_added shelf.new self.new ≡ outlet_added shelf.old self.old ++
+            date ∷ [] }
         ensures only_puts { OnlyPuts shelf.old shelf.new }
-        ensures others { (q : ℕ) → outlet_queue self.old ≢ Some q → queue_at shelf.new q ≡ queue_at shelf.old q }
+        ensures others { (q : ℕ) → outlet_queue self.old ≢ Some q →
+            queue_at shelf.new q ≡ queue_at shelf.old q }
     {
         match self {
             Outlet::Ring(put) => put.put(date),

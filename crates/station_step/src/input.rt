@@ -20,7 +20,8 @@ impl Input {
         requires { IfSome (inlet_queue self.old.inlet) (λ q. q < length shelf.old) }
         ensures refilled { IsRefilled shelf.old shelf.new self.old self.new }
         ensures only_takes { OnlyTakes shelf.old shelf.new }
-        ensures others { (q : ℕ) → inlet_queue self.old.inlet ≢ Some q → queue_at shelf.new q ≡ queue_at shelf.old q }
+        ensures others { (q : ℕ) → inlet_queue self.old.inlet ≢ Some q →
+            queue_at shelf.new q ≡ queue_at shelf.old q }
     {
         if self.hand.is_none() {
             self.hand = self.inlet.take(shelf);

@@ -28,9 +28,11 @@ pub(crate) fn refill(inputs: &mut Vec<Input>, shelf: &mut Shelf)
     requires apart { TakeApart inputs.old.items }
     ensures count { length inputs.new.items ≡ length inputs.old.items }
     ensures same { map bare_input inputs.new.items ≡ map bare_input inputs.old.items }
-    ensures each { (k : ℕ) → k < length inputs.old.items → IsRefilled shelf.old shelf.new (input_at inputs.old.items k) (input_at inputs.new.items k) }
+    ensures each { (k : ℕ) → k < length inputs.old.items →
+        IsRefilled shelf.old shelf.new (input_at inputs.old.items k) (input_at inputs.new.items k) }
     ensures only_takes { OnlyTakes shelf.old shelf.new }
-    ensures others { (q : ℕ) → NoneTakes q inputs.old.items → queue_at shelf.new q ≡ queue_at shelf.old q }
+    ensures others { (q : ℕ) → NoneTakes q inputs.old.items →
+        queue_at shelf.new q ≡ queue_at shelf.old q }
 {
     for k in 0..inputs.len() {
         inputs[k].refill(shelf);
@@ -39,10 +41,12 @@ pub(crate) fn refill(inputs: &mut Vec<Input>, shelf: &mut Shelf)
 
 /// The first input whose hand is empty.
 pub(crate) fn first_empty(inputs: &Vec<Input>) -> Option<usize>
-    ensures none { IfNone result ((k : ℕ) → k < length inputs.now.items → IsSome (input_at inputs.now.items k).hand) }
+    ensures none { IfNone result ((k : ℕ) → k < length inputs.now.items →
+        IsSome (input_at inputs.now.items k).hand) }
     ensures there { IfSome result (λ k. k < length inputs.now.items) }
     ensures empty { IfSome result (λ k. (input_at inputs.now.items k).hand ≡ None) }
-    ensures first { IfSome result (λ k. (j : ℕ) → j < k → IsSome (input_at inputs.now.items j).hand) }
+    ensures first { IfSome result (λ k. (j : ℕ) → j < k →
+        IsSome (input_at inputs.now.items j).hand) }
 {
     for k in 0..inputs.len() {
         if inputs[k].hand.is_none() {
@@ -74,7 +78,8 @@ pub(crate) fn next_date(graph: &Graph, t: u32, job: u32, inputs: &Vec<Input>) ->
     requires from_one { 1 ≤ job }
     requires job { job ≤ jobs graph.now }
     requires an_input_each { length inputs.now.items ≡ length (ins graph.now t) }
-    ensures { result ≡ date_for graph.now t job (λ k. unwrap_or (input_at inputs.now.items k).hand 0) }
+    ensures { result ≡
+        date_for graph.now t job (λ k. unwrap_or (input_at inputs.now.items k).hand 0) }
 {
     if t == 0 {
         return graph.demand(job);
@@ -91,9 +96,11 @@ pub(crate) fn next_date(graph: &Graph, t: u32, job: u32, inputs: &Vec<Input>) ->
 /// Empties every hand.
 pub(crate) fn empty_hands(inputs: &mut Vec<Input>)
     ensures count { length inputs.new.items ≡ length inputs.old.items }
-    ensures inlets { (k : ℕ) → (input_at inputs.new.items k).inlet ≡ (input_at inputs.old.items k).inlet }
+    ensures inlets { (k : ℕ) →
+        (input_at inputs.new.items k).inlet ≡ (input_at inputs.old.items k).inlet }
     ensures same { map bare_input inputs.new.items ≡ map bare_input inputs.old.items }
-    ensures hands { (k : ℕ) → k < length inputs.old.items → (input_at inputs.new.items k).hand ≡ None }
+    ensures hands { (k : ℕ) → k < length inputs.old.items →
+        (input_at inputs.new.items k).hand ≡ None }
 {
     for k in 0..inputs.len() {
         inputs[k].hand = None;

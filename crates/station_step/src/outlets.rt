@@ -32,14 +32,20 @@ pub(crate) fn put_all(
     requires an_outlet_each { length outlets.old.items ≡ length (outs graph.now t) }
     requires within { PutWithin (length shelf.old) outlets.old.items }
     requires apart { PutApart outlets.old.items }
-    requires ring_room { (k : ℕ) → k < length outlets.old.items → HasRingRoom 1 (outlet_at outlets.old.items k) }
-    requires shelf_room { (k : ℕ) → k < length outlets.old.items → HasShelfRoom shelf.old (outlet_at outlets.old.items k) }
+    requires ring_room { (k : ℕ) → k < length outlets.old.items →
+        HasRingRoom 1 (outlet_at outlets.old.items k) }
+    requires shelf_room { (k : ℕ) → k < length outlets.old.items →
+        HasShelfRoom shelf.old (outlet_at outlets.old.items k) }
     ensures count { length outlets.new.items ≡ length outlets.old.items }
     ensures same { map bare_outlet outlets.new.items ≡ map bare_outlet outlets.old.items }
-    ensures each { (k : ℕ) → k < length outlets.old.items → outlet_added shelf.new (outlet_at outlets.new.items k) ≡ outlet_added shelf.old (outlet_at outlets.old.items k) ++ saturating date (delay graph.now (slice_index (outs graph.now t) k)) ∷ [] }
+    ensures each { (k : ℕ) → k < length outlets.old.items →
+        outlet_added shelf.new (outlet_at outlets.new.items k) ≡
+        outlet_added shelf.old (outlet_at outlets.old.items k) ++
+        saturating date (delay graph.now (slice_index (outs graph.now t) k)) ∷ [] }
     ensures only_puts { OnlyPuts shelf.old shelf.new }
     ensures grows { Grows shelf.old shelf.new }
-    ensures others { (q : ℕ) → NonePuts q outlets.old.items → queue_at shelf.new q ≡ queue_at shelf.old q }
+    ensures others { (q : ℕ) → NonePuts q outlets.old.items →
+        queue_at shelf.new q ≡ queue_at shelf.old q }
 {
     for k in 0..outlets.len() {
         outlets[k].put(shelf, later(graph, t, k, date));

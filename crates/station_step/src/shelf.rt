@@ -41,7 +41,8 @@ impl Shelf {
     pub(crate) fn take(&mut self, k: u32) -> Option<Date>
         requires { k < length self.old }
         ensures only { self.new ≡ slice_set self.old k (queue_at self.new k) }
-        ensures taken { plain_taken (queue_at self.new k) ≡ plain_taken (queue_at self.old k) ++ option_to_list result }
+        ensures taken { plain_taken (queue_at self.new k) ≡ plain_taken (queue_at self.old k) ++
+            option_to_list result }
         ensures none { IsNone result ↔ (plain_waiting (queue_at self.old k) ≡ []) }
         ensures puts { untaken (queue_at self.new k) ≡ untaken (queue_at self.old k) }
     {
@@ -53,7 +54,8 @@ impl Shelf {
         requires there { k < length self.old }
         requires room { length (queue_at self.old k).added < (queue_at self.old k).room }
         ensures only { self.new ≡ slice_set self.old k (queue_at self.new k) }
-        ensures added { queue_at self.new k ≡ record (queue_at self.old k) { added = (queue_at self.old k).added ++ date ∷ [] } }
+        ensures added { queue_at self.new k ≡
+            record (queue_at self.old k) { added = (queue_at self.old k).added ++ date ∷ [] } }
         ensures taken { plain_taken (queue_at self.new k) ≡ plain_taken (queue_at self.old k) }
     {
         self.queues[k as usize].put(date);

@@ -82,10 +82,13 @@ impl Station {
         requires log_room { jobs live.now.graph ≤ log.room }
         requires untaken { All IsUntaken inlets.items }
         requires unfilled { All IsUnfilled outlets.items }
-        requires ring_room { (k : ℕ) → k < length outlets.items → HasRingRoom (jobs live.now.graph - length log.dates) (outlet_at outlets.items k) }
-        ensures made { IfOk result (λ s. s ≡ new_station live.now.graph t inlets.items outlets.items log) }
+        requires ring_room { (k : ℕ) → k < length outlets.items →
+            HasRingRoom (jobs live.now.graph - length log.dates) (outlet_at outlets.items k) }
+        ensures made { IfOk result (λ s. s ≡
+            new_station live.now.graph t inlets.items outlets.items log) }
         ensures station { IfOk result IsStation }
-        ensures kept { IfOk result (λ s. (shelf : List PlainQueue) → IsFresh shelf s → IsKept shelf s) }
+        ensures kept { IfOk result (λ s. (shelf : List PlainQueue) → IsFresh shelf s →
+            IsKept shelf s) }
     {
         let graph = live.graph();
         let made = log.dates().len() as u32;
@@ -125,8 +128,10 @@ impl Station {
         ensures kept { IsKept shelf.old self.old → IsKept shelf.new self.new }
         ensures grows { Grows shelf.old shelf.new }
         ensures own { MovesItsOwn self.old shelf.old shelf.new }
-        ensures others { (other : WorkStation) → IsStation other → AreApart self.old other → IsKept shelf.old other → IsKept shelf.new other }
-        ensures ready { (other : WorkStation) → AreApart self.old other → IsReady shelf.old other → IsReady shelf.new other }
+        ensures others { (other : WorkStation) → IsStation other → AreApart self.old other →
+            IsKept shelf.old other → IsKept shelf.new other }
+        ensures ready { (other : WorkStation) → AreApart self.old other → IsReady shelf.old other →
+            IsReady shelf.new other }
     {
         self.turns += 1;
         let graph = live.graph();
@@ -194,8 +199,10 @@ pub fn meet_at(from: &mut Station, k: u32, to: &mut Station, j: u32)
     requires ends { AreEnds (outlet_at from.old.outlets k) (input_at to.old.inputs j).inlet }
     ensures from { from.new ≡ from.old }
     ensures to { to.new ≡ with_inlet to.old j (input_at to.new.inputs j).inlet }
-    ensures same { unseen_inlet (input_at to.new.inputs j).inlet ≡ unseen_inlet (input_at to.old.inputs j).inlet }
-    ensures known { IsPrefix (inlet_known [] (input_at to.old.inputs j).inlet) (inlet_known [] (input_at to.new.inputs j).inlet) }
+    ensures same { unseen_inlet (input_at to.new.inputs j).inlet ≡
+        unseen_inlet (input_at to.old.inputs j).inlet }
+    ensures known { IsPrefix (inlet_known [] (input_at to.old.inputs j).inlet)
+        (inlet_known [] (input_at to.new.inputs j).inlet) }
     ensures met { AreMet (outlet_at from.new.outlets k) (input_at to.new.inputs j).inlet }
     ensures bare { bare_station to.new ≡ bare_station to.old }
     ensures station { IsStation to.new }

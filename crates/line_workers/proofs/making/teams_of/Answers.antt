@@ -1,33 +1,23 @@
+use Rattle.std.specs.Prelude.{IfOk}
 use Rattle.line_workers.proofs.NewTeams.{HaveAll, all_new_ok, if_ok, laid_fit_from}
+use Rattle.line_workers.proofs.making.teams_of.Goals.{After-new_teams}
 use Rattle.line_workers.proofs.making.teams_of.Goals as goal
 
 pub new_teams-requires-clause-fit : goal.new_teams-requires-clause-fit
 new_teams-requires-clause-fit c =
     laid_fit_from c.args.live.now.graph c.args.state.now.state c.args.workers c.in_ok-ends.ends c.in_ok-ends.ensures.sound c.in_ok-ends.ensures.laid
 
-pub returns-clause-teams : goal.returns-clause-teams
-returns-clause-teams c =
-    let g = c.args.live.now.graph in
-    let begun = c.args.state.now.state in
+whole : (c : After-new_teams) → IfOk c.new_teams.result (λ teams. HaveAll c.args.live.now.graph c.args.state.now.state teams.items)
+whole c =
     let laid = c.in_ok-ends.ensures in
     let made = c.new_teams.ensures in
-    if_ok c.new_teams.result (λ teams. HaveAll g begun teams.items) _ (λ teams all. all.teams_are) (
-    all_new_ok g begun c.args.workers c.in_ok-ends.ends c.new_teams.result laid.sound laid.some_station c.requires.some laid.laid made.count made.teams)
+    all_new_ok c.args.live.now.graph c.args.state.now.state c.args.workers c.in_ok-ends.ends c.new_teams.result laid.sound laid.some_station c.requires.some laid.laid made.count made.teams
+
+pub returns-clause-teams : goal.returns-clause-teams
+returns-clause-teams c = if_ok c.new_teams.result (λ teams. HaveAll c.args.live.now.graph c.args.state.now.state teams.items) _ (λ teams all. all.teams_are) (whole c)
 
 pub returns-clause-met : goal.returns-clause-met
-returns-clause-met c =
-    let g = c.args.live.now.graph in
-    let begun = c.args.state.now.state in
-    let laid = c.in_ok-ends.ensures in
-    let made = c.new_teams.ensures in
-    if_ok c.new_teams.result (λ teams. HaveAll g begun teams.items) _ (λ teams all. all.met) (
-    all_new_ok g begun c.args.workers c.in_ok-ends.ends c.new_teams.result laid.sound laid.some_station c.requires.some laid.laid made.count made.teams)
+returns-clause-met c = if_ok c.new_teams.result (λ teams. HaveAll c.args.live.now.graph c.args.state.now.state teams.items) _ (λ teams all. all.met) (whole c)
 
 pub returns-clause-begun : goal.returns-clause-begun
-returns-clause-begun c =
-    let g = c.args.live.now.graph in
-    let begun = c.args.state.now.state in
-    let laid = c.in_ok-ends.ensures in
-    let made = c.new_teams.ensures in
-    if_ok c.new_teams.result (λ teams. HaveAll g begun teams.items) _ (λ teams all. all.begun_are) (
-    all_new_ok g begun c.args.workers c.in_ok-ends.ends c.new_teams.result laid.sound laid.some_station c.requires.some laid.laid made.count made.teams)
+returns-clause-begun c = if_ok c.new_teams.result (λ teams. HaveAll c.args.live.now.graph c.args.state.now.state teams.items) _ (λ teams all. all.begun_are) (whole c)

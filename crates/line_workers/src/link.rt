@@ -1,0 +1,108 @@
+ghost use Rattle.std.specs.Prelude.{◌≡◌, ◌<◌, ◌≤◌, ◌^◌, ◌↔◌, IsTrue, length};
+ghost use Rattle.event_graph.specs.Network.{stations, arc_count, arc, ins, outs};
+ghost use Rattle.line_workers.specs.Teams.{place_in};
+ghost use Rattle.line_workers.specs.Link.{seat_of, link_of, IsInside};
+
+use crate::owner::{first_of, worker_of};
+use event_graph::Arc;
+use live_check::Live;
+
+/// Where a station stands: its worker, and its number in the worker's team.
+#[derive(Clone, Copy)]
+pub(crate) struct Seat {
+    pub(crate) worker: usize,
+    pub(crate) number: u32,
+}
+
+/// Where the two ends of an arc's queue stand: a station with the number of the output, and one with that of the input.
+#[derive(Clone, Copy)]
+pub(crate) struct Link {
+    pub(crate) from: Seat,
+    pub(crate) output: u32,
+    pub(crate) to: Seat,
+    pub(crate) input: u32,
+}
+
+/// Where a number stands in a list that has it.
+fn place_in(list: &[u32], number: u32) -> u32
+    requires there { place_in list.now number < length list.now }
+    requires short { length list.now < 2 ^ 32 }
+    ensures { result ≡ place_in list.now number }
+{
+    let mut place = 0;
+    for x in list {
+        if *x == number {
+            break;
+        }
+        place += 1;
+    }
+    place
+}
+
+/// Where station `t` stands.
+fn seat_of(workers: u32, live: &Live, t: u32) -> Seat
+    requires some { 1 ≤ workers }
+    requires few { workers ≤ 16 }
+    requires station { t < stations live.now.graph }
+    ensures { result ≡ seat_of live.now.graph workers t }
+{
+    let stations = live.graph().stations();
+    let worker = worker_of(workers, stations, t);
+    Seat {
+        worker: worker as usize,
+        number: t - first_of(workers, stations, worker),
+    }
+}
+
+/// Arc number `a`, whose stations exist.
+fn arc_at(live: &Live, a: u32) -> Arc
+    requires { a < arc_count live.now.graph }
+    ensures arc { result ≡ arc live.now.graph a }
+    ensures starts { result.from < stations live.now.graph }
+    ensures ends { result.to < stations live.now.graph }
+{
+    live.graph().arcs()[a as usize]
+}
+
+/// Where arc `a` stands among those out of its station.
+fn output_of(live: &Live, a: u32) -> u32
+    requires { a < arc_count live.now.graph }
+    ensures { result ≡ place_in (outs live.now.graph (arc live.now.graph a).from) a }
+{
+    place_in(live.graph().outs(arc_at(live, a).from), a)
+}
+
+/// Where arc `a` stands among those into its station.
+fn input_of(live: &Live, a: u32) -> u32
+    requires { a < arc_count live.now.graph }
+    ensures { result ≡ place_in (ins live.now.graph (arc live.now.graph a).to) a }
+{
+    place_in(live.graph().ins(arc_at(live, a).to), a)
+}
+
+/// Whether one worker has both stations of arc `a`.
+pub(crate) fn is_inside(workers: u32, live: &Live, a: u32) -> bool
+    requires few { workers ≤ 16 }
+    requires arc { a < arc_count live.now.graph }
+    ensures { IsTrue result ↔ IsInside live.now.graph workers a }
+{
+    let stations = live.graph().stations();
+    let arc = arc_at(live, a);
+    worker_of(workers, stations, arc.from) == worker_of(workers, stations, arc.to)
+}
+
+/// Where the two ends of arc `a` stand.
+pub(crate) fn link_of(workers: u32, live: &Live, a: u32) -> Link
+    requires some { 1 ≤ workers }
+    requires few { workers ≤ 16 }
+    requires arc { a < arc_count live.now.graph }
+    ensures { result ≡ link_of live.now.graph workers a }
+{
+    let arc = arc_at(live, a);
+    Link {
+        from: seat_of(workers, live, arc.from),
+        output: output_of(live, a),
+        to: seat_of(workers, live, arc.to),
+        input: input_of(live, a),
+    }
+}
