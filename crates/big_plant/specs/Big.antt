@@ -28,7 +28,8 @@ stage_name i = codes "s" ++ decimal (i + 1)
 
 -- `s4` and `s8` feed `s9`, `s12` is final, and each other stage feeds the next
 abbrev pub fed_by : ℕ → Option ℕ
-fed_by i = if i == 3 then Some 8 else if i == 7 then Some 8 else if i == 11 then None else Some (i + 1)
+fed_by i =
+    if i == 3 then Some 8 else if i == 7 then Some 8 else if i == 11 then None else Some (i + 1)
 
 -- stage i, of eight draws from state s
 unfoldable pub stage_from : ℕ → ℕ → Stage

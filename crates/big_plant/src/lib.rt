@@ -5,3 +5,4 @@ mod big;
 mod generator;
 
 pub use big::big_plant;
+pub use generator::Generator;

@@ -41,7 +41,8 @@ Tells g bytes (Line number) = IsFirstBadLine g bytes number
 Tells g bytes (Count station have limit) = IsRefused g bytes (Core.Count station have limit)
 Tells g bytes (Marking arc have need) = IsRefused g bytes (Core.Marking arc have need)
 Tells g bytes (Date station job have need) = IsRefused g bytes (Core.Date station job have need)
-Tells g bytes (PlaceDate arc token have need) = IsRefused g bytes (Core.PlaceDate arc token have need)
+Tells g bytes (PlaceDate arc token have need) = IsRefused g bytes
+    (Core.PlaceDate arc token have need)
 Tells g bytes NoMemory = ⊤
 
 -- the answer is this state, unless memory ran out
@@ -51,4 +52,5 @@ IsStateOrNoMemory (Err error) s = error ≡ NoMemory
 
 -- to a text of a state that firings reach the answer is that state
 abbrev pub FindsStates : Parts → List ℕ → Result Run CheckpointError → Type 0
-FindsStates g bytes answer = (s : State) → Reached g s → IsTextOf g s bytes → IsStateOrNoMemory answer s
+FindsStates g bytes answer = (s : State) → Reached g s → IsTextOf g s bytes
+    → IsStateOrNoMemory answer s

@@ -8,4 +8,5 @@ use Rattle.checkpoint.specs.Text.{IsTextOf}
 -- bytes that are a text of two states that firings reach are a text of one: texts of different states differ
 abbrev pub SaysOneState : Parts → Type 0
 SaysOneState g =
-    (s u : State) (bytes : List ℕ) → Reached g s → Reached g u → IsTextOf g s bytes → IsTextOf g u bytes → s ≡ u
+    (s u : State) (bytes : List ℕ) → Reached g s → Reached g u → IsTextOf g s bytes
+    → IsTextOf g u bytes → s ≡ u

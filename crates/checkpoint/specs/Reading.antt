@@ -33,20 +33,23 @@ TellsPassing expected before passed left =
 -- a word is read wherever it stands next, with its end behind it
 abbrev pub TellsWord : List ℕ → List ℕ → List ℕ → Type 0
 TellsWord before read left =
-    (word after : List ℕ) → All (λ byte. is_word_byte byte ≡ true) word → EndsWord after → before ≡ word ++ after
+    (word after : List ℕ) → All (λ byte. is_word_byte byte ≡ true) word → EndsWord after
+    → before ≡ word ++ after
     → (read ≡ word) × (left ≡ after)
 
 -- a number of dates, which take two bytes each at least
 abbrev pub TellsCount : List ℕ → Option ℕ → List ℕ → Type 0
 TellsCount before read left =
-    (count : ℕ) (after : List ℕ) → 2 * count ≤ length after → EndsWord after → before ≡ decimal count ++ after
+    (count : ℕ) (after : List ℕ) → 2 * count ≤ length after → EndsWord after
+    → before ≡ decimal count ++ after
     → (read ≡ Some count) × (left ≡ after)
 
 -- a date that follows `last`, behind a space
 abbrev pub TellsDate : Format → ℕ → List ℕ → Option ℕ → List ℕ → Type 0
 TellsDate format last before read left =
     (date : ℕ) (after : List ℕ) → date ≤ LATEST_GIVEN → EndsWord after
-    → before ≡ codes " " ++ (date_word format last date ++ after) → (read ≡ Some date) × (left ≡ after)
+    → before ≡ codes " " ++ (date_word format last date ++ after) → (read ≡ Some date)
+    × (left ≡ after)
 
 -- so many dates
 abbrev pub TellsDates : Format → ℕ → List ℕ → Bool → List ℕ → Type 0
@@ -85,7 +88,8 @@ abbrev pub end_from : Format → Parts → ℕ
 end_from format g = head_count format + stations g + arc_count g
 
 -- the first `number` lines of a checkpoint are read, and these are the lists of their dates
-pub record HasRead (format : Format) (g : Parts) (number : ℕ) (lists : List (List ℕ)) (r : Reading) : Type 0 where
+pub record HasRead (format : Format) (g : Parts) (number : ℕ) (lists : List (List ℕ))
+    (r : Reading) : Type 0 where
   pub within : number ≤ length (lines format g)
   pub a_list_each : dated (take number (lines format g)) ≡ length lists
   pub given : AreGiven lists

@@ -43,7 +43,8 @@ delay_words g a = two_words a (delay g a)
 
 unfoldable pub delays_line : Parts → List ℕ
 delays_line g =
-    codes "delays " ++ (decimal (length (delayed_arcs g)) ++ (flat_map (delay_words g) (delayed_arcs g) ++ codes "\n"))
+    codes "delays " ++ (decimal (length (delayed_arcs g))
+    ++ (flat_map (delay_words g) (delayed_arcs g) ++ codes "\n"))
 
 -- the first lines: the number of the format, and in format 2 the delays
 abbrev pub head_lines : Format → Parts → List Line
@@ -66,7 +67,8 @@ place_lines g = map (λ a. Dated (place_words a)) (range_with_len 0 (arc_count g
 
 -- the lines of a checkpoint of this graph: the first ones, those of the stations and of the arcs, and the end
 unfoldable pub lines : Format → Parts → List Line
-lines format g = head_lines format g ++ (station_lines g ++ (place_lines g ++ Fixed (codes "end\n") ∷ []))
+lines format g = head_lines format g
+    ++ (station_lines g ++ (place_lines g ++ Fixed (codes "end\n") ∷ []))
 
 -- the text of lines, whose dates are those of the lists, one list after the other
 unfoldable pub filled : Format → List Line → List (List ℕ) → List ℕ

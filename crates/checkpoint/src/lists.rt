@@ -18,7 +18,8 @@ use std::alloc::Global;
 /// Passes over the words with which the line of station `t` begins.
 fn pass_station(reader: &mut Reader, graph: &Graph, t: u32) -> bool
     requires { t < stations graph.now }
-    ensures passed { result ≡ true → reader.old.rest ≡ station_words graph.now t ++ reader.new.rest }
+    ensures passed { result ≡ true
+        → reader.old.rest ≡ station_words graph.now t ++ reader.new.rest }
     ensures told { TellsPassing (station_words graph.now t) reader.old.rest result reader.new.rest }
     ensures text { reader.new.text ≡ reader.old.text }
 {
@@ -57,7 +58,8 @@ fn read_station(
     requires short { length reader.old.rest < 2 ^ 32 }
     requires station { t < stations graph.now }
     ensures read { IfOk result
-        (λ log. ReadsLine format (station_words graph.now t) reader.old.rest log.dates reader.new.rest) }
+        (λ log. ReadsLine format
+        (station_words graph.now t) reader.old.rest log.dates reader.new.rest) }
     ensures given { IfOk result (λ log. AreGivenDates log.dates) }
     ensures room { IfOk result (λ log. jobs graph.now ≤ log.room) }
     ensures told { TellsLine format (station_words graph.now t) reader.old.rest result }
@@ -94,7 +96,8 @@ pub fn read_stations(
     requires short { length reader.old.text < 2 ^ 32 }
     requires readable { IsReadFor format graph.now }
     requires read { HasRead format graph.now (head_count format) [] reader.old }
-    ensures read { IfOk result (λ logs. HasRead format graph.now (arcs_from format graph.now) (dates_of logs) reader.new) }
+    ensures read { IfOk result
+        (λ logs. HasRead format graph.now (arcs_from format graph.now) (dates_of logs) reader.new) }
     ensures a_log_each { IfOk result (λ logs. length logs.logs ≡ stations graph.now) }
     ensures room { IfOk result (HasRoom graph.now) }
     ensures refused { IfErr result (Tells graph.now reader.old.text) }
@@ -122,10 +125,12 @@ pub fn read_places(
 ) -> Result<Places, CheckpointError>
     requires short { length reader.old.text < 2 ^ 32 }
     requires readable { IsReadFor format graph.now }
-    requires read { (logs : List (List ℕ)) × HasRead format graph.now (arcs_from format graph.now) logs reader.old }
+    requires read { (logs : List (List ℕ))
+        × HasRead format graph.now (arcs_from format graph.now) logs reader.old }
     ensures read { IfOk result (λ places. (logs : List (List ℕ))
         → HasRead format graph.now (arcs_from format graph.now) logs reader.old
-        → HasRead format graph.now (end_from format graph.now) (logs ++ dates_of places) reader.new) }
+        → HasRead format graph.now (end_from format graph.now)
+        (logs ++ dates_of places) reader.new) }
     ensures a_place_each { IfOk result (λ places. length places.logs ≡ arc_count graph.now) }
     ensures refused { IfErr result (Tells graph.now reader.old.text) }
     ensures text { reader.new.text ≡ reader.old.text }

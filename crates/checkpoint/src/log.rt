@@ -67,7 +67,8 @@ fn read_date(reader: &mut Reader, format: Format, before: Date) -> Option<Date>
 fn read_dates(reader: &mut Reader, log: &mut Log, format: Format, count: u32) -> bool
     requires empty { log.old.dates ≡ [] }
     requires room { count ≤ log.old.room }
-    ensures read { result ≡ true → reader.old.rest ≡ date_words format 0 log.new.dates ++ reader.new.rest }
+    ensures read { result ≡ true
+        → reader.old.rest ≡ date_words format 0 log.new.dates ++ reader.new.rest }
     ensures counted { result ≡ true → length log.new.dates ≡ count }
     ensures given { AreGivenDates log.new.dates }
     ensures told { TellsDates format count reader.old.rest result reader.new.rest }
@@ -88,7 +89,8 @@ fn read_dates(reader: &mut Reader, log: &mut Log, format: Format, count: u32) ->
 /// Reads how many dates a line has, the dates, and the end of the line, into a log with at least this room.
 pub fn read_log(reader: &mut Reader, alloc: Global, format: Format, room: u32) -> Result<Log, Stop>
     requires { length reader.old.rest < 2 ^ 32 }
-    ensures read { IfOk result (λ log. reader.old.rest ≡ dates_text format log.dates ++ reader.new.rest) }
+    ensures read { IfOk result
+        (λ log. reader.old.rest ≡ dates_text format log.dates ++ reader.new.rest) }
     ensures given { IfOk result (λ log. AreGivenDates log.dates) }
     ensures room { IfOk result (λ log. room ≤ log.room) }
     ensures told { TellsLine format [] reader.old.rest result }

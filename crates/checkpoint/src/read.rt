@@ -41,16 +41,15 @@ fn read_delays(reader: &mut Reader, alloc: Global, graph: &Graph) -> Result<(), 
 fn read_head(reader: &mut Reader, alloc: Global, graph: &Graph) -> Result<Format, CheckpointError>
     requires short { length reader.old.text < 2 ^ 32 }
     requires fresh { reader.old.rest ≡ reader.old.text }
-    ensures read { IfOk result (λ format. HasRead format graph.now (head_count format) [] reader.new) }
+    ensures read { IfOk result
+        (λ format. HasRead format graph.now (head_count format) [] reader.new) }
     ensures readable { IfOk result (λ format. IsReadFor format graph.now) }
     ensures refused { IfErr result (Tells graph.now reader.old.text) }
     ensures text { reader.new.text ≡ reader.old.text }
 {
     if reader.pass(b"pull-checkpoint 2\n") {
-        return match read_delays(reader, alloc, graph) {
-            Ok(()) => Ok(Format::Differences),
-            Err(error) => Err(error),
-        };
+        read_delays(reader, alloc, graph)?;
+        return Ok(Format::Differences);
     }
     if has_delays(graph) {
         return Err(CheckpointError::Line { number: 1 });
@@ -65,7 +64,8 @@ fn read_head(reader: &mut Reader, alloc: Global, graph: &Graph) -> Result<Format
 fn read_end(reader: &mut Reader, graph: &Graph, format: Format) -> Result<(), CheckpointError>
     requires short { length reader.old.text < 2 ^ 32 }
     requires readable { IsReadFor format graph.now }
-    requires read { (lists : List (List ℕ)) × HasRead format graph.now (end_from format graph.now) lists reader.old }
+    requires read { (lists : List (List ℕ))
+        × HasRead format graph.now (end_from format graph.now) lists reader.old }
     ensures read { OnOk result ((lists : List (List ℕ))
         → HasRead format graph.now (end_from format graph.now) lists reader.old
         → reader.old.text ≡ filled format (lines format graph.now) lists) }
@@ -89,7 +89,8 @@ fn read_parts(
 ) -> Result<(Logs, Places), CheckpointError>
     requires short { length reader.old.text < 2 ^ 32 }
     requires fresh { reader.old.rest ≡ reader.old.text }
-    ensures read { IfOk result (λ parts. IsTextOf graph.now (state_in parts.0 parts.1) reader.old.text) }
+    ensures read { IfOk result
+        (λ parts. IsTextOf graph.now (state_in parts.0 parts.1) reader.old.text) }
     ensures parts { IfOk result (λ parts. AreParts graph.now parts.0 parts.1) }
     ensures places_given { IfOk result (λ parts. AreGiven (dates_of parts.1)) }
     ensures room { IfOk result (λ parts. HasRoom graph.now parts.0) }

@@ -14,7 +14,8 @@ pub const LAST_DATE: Date = 1_000_000_000_000_000_000;
 fn earlier(text: &[u8], before: Date) -> Option<Date>
     ensures read { IfSome result (λ date. text.now ≡ decimal (before - date)) }
     ensures earlier { IfSome result (λ date. date < before) }
-    ensures told { (date : ℕ) → date < before → text.now ≡ decimal (before - date) → result ≡ Some date }
+    ensures told { (date : ℕ) → date < before → text.now ≡ decimal (before - date)
+        → result ≡ Some date }
 {
     let less = number_of(text, before)?;
     if less == 0 {
@@ -29,7 +30,8 @@ fn later(text: &[u8], before: Date) -> Option<Date>
     ensures read { IfSome result (λ date. text.now ≡ decimal (date - before)) }
     ensures later { IfSome result (λ date. before ≤ date) }
     ensures given { IfSome result (λ date. date ≤ LATEST_GIVEN) }
-    ensures told { (date : ℕ) → before ≤ date → date ≤ LATEST_GIVEN → text.now ≡ decimal (date - before)
+    ensures told { (date : ℕ) → before ≤ date → date ≤ LATEST_GIVEN
+        → text.now ≡ decimal (date - before)
         → result ≡ Some date }
 {
     let more = number_of(text, LAST_DATE - before)?;
@@ -55,7 +57,8 @@ pub fn date_of(word: &[u8], format: Format, before: Date) -> Option<Date>
     requires { before ≤ LATEST_GIVEN }
     ensures read { IfSome result (λ date. word.now ≡ date_word format before date) }
     ensures given { IfSome result (λ date. date ≤ LATEST_GIVEN) }
-    ensures told { (date : ℕ) → date ≤ LATEST_GIVEN → word.now ≡ date_word format before date → result ≡ Some date }
+    ensures told { (date : ℕ) → date ≤ LATEST_GIVEN → word.now ≡ date_word format before date
+        → result ≡ Some date }
 {
     match format {
         Format::Dates => number_of(word, LAST_DATE),

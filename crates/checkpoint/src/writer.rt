@@ -20,7 +20,8 @@ fn put_number(text: &mut Vec<u8>, number: u64) -> Result<(), AllocError>
 
 /// Writes the word of a date that follows another one at the end of a text.
 fn put_date(text: &mut Vec<u8>, before: Date, date: Date) -> Result<(), AllocError>
-    ensures { IfOk result (λ _. text.new.items ≡ text.old.items ++ date_word Differences before date) }
+    ensures { IfOk result
+        (λ _. text.new.items ≡ text.old.items ++ date_word Differences before date) }
 {
     if date < before {
         text.extend_from_slice(b"-")?;
@@ -31,7 +32,8 @@ fn put_date(text: &mut Vec<u8>, before: Date, date: Date) -> Result<(), AllocErr
 
 /// Writes how many dates a log has, the dates, and the end of the line.
 fn put_log(text: &mut Vec<u8>, dates: &[Date]) -> Result<(), AllocError>
-    ensures { IfOk result (λ _. text.new.items ≡ text.old.items ++ dates_text Differences dates.now) }
+    ensures { IfOk result
+        (λ _. text.new.items ≡ text.old.items ++ dates_text Differences dates.now) }
 {
     put_number(text, dates.len() as u64)?;
     let mut before = 0;
@@ -46,7 +48,8 @@ fn put_log(text: &mut Vec<u8>, dates: &[Date]) -> Result<(), AllocError>
 /// Writes how many tokens a place has, their dates, and the end of the line.
 fn put_tokens(text: &mut Vec<u8>, count: u32, tokens: Tokens) -> Result<(), AllocError>
     requires { count ≡ length tokens }
-    ensures { IfOk result (λ _. text.new.items ≡ text.old.items ++ dates_text Differences tokens.entry) }
+    ensures { IfOk result
+        (λ _. text.new.items ≡ text.old.items ++ dates_text Differences tokens.entry) }
 {
     put_number(text, u64::from(count))?;
     let mut before = 0;
@@ -130,7 +133,8 @@ fn put_places(
     requires lengths { marking.now ≡ map (λ tokens. length tokens) state.now.state.places }
     requires a_place_each { length state.now.state.places ≡ arc_count live.now.graph }
     ensures { IfOk result (λ _. text.new.items
-        ≡ text.old.items ++ filled Differences (place_lines live.now.graph) state.now.state.places) }
+        ≡ text.old.items
+        ++ filled Differences (place_lines live.now.graph) state.now.state.places) }
 {
     let counts = marking.lengths();
     for a in 0..live.graph().arcs().len() as u32 {
@@ -147,7 +151,8 @@ fn put_places(
 /// that one.
 pub fn write_state(alloc: Global, live: &Live, state: &State) -> Result<Vec<u8>, AllocError>
     requires made_for { live.now.graph ≡ state.now.graph }
-    ensures text { IfOk result (λ bytes. bytes.items ≡ text Differences state.now.graph state.now.state) }
+    ensures text { IfOk result
+        (λ bytes. bytes.items ≡ text Differences state.now.graph state.now.state) }
 {
     let marking = state.marking(live)?;
     let graph = live.graph();

@@ -25,7 +25,8 @@ is_within at n i = nat_le at i && nat_lt i (at + n)
 
 -- these bytes from an address on, and the rest as before
 abbrev pub patched : Image → ℕ → List ℕ → Image
-patched image at bytes i = if is_within at (length bytes) i then slice_index bytes (i - at) else image i
+patched image at bytes i = if is_within at (length bytes) i then slice_index bytes (i - at)
+    else image i
 
 -- the addresses of a write wait for a sync, with those that waited before
 abbrev pub awaiting : (ℕ → Bool) → ℕ → ℕ → ℕ → Bool

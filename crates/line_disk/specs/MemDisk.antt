@@ -32,4 +32,5 @@ abbrev pub crash_image : MemDisk → ℕ → ℕ → Image
 crash_image disk call pick =
     let made = calls_during disk call in
     let settled = settled_count made in
-    image_from (held_after (first_held disk.first.items) (take settled made)).bytes (left_by pick (drop settled made))
+    image_from (held_after (first_held disk.first.items) (take settled made)).bytes
+    (left_by pick (drop settled made))

@@ -99,19 +99,25 @@ is_sync (call.Sync done) = true
 -- How many calls have had their effect during the last of these: a sync has not yet made anything stable.
 abbrev pub in_effect : List DiskCall → ℕ
 in_effect calls =
-    if is_sync (slice_index_or calls (length calls - 1) call.Read) then length calls - 1 else length calls
+    if is_sync (slice_index_or calls (length calls - 1) call.Read) then length calls - 1
+    else length calls
 
 -- a disk of zeros with these patches, all of them stable
 abbrev pub first_held : List Patch → Held
-first_held patches = record { bytes = image_from (λ _. 0) (map span_of patches); pending = λ _. false }
+first_held patches = record {
+  bytes = image_from (λ _. 0) (map span_of patches);
+  pending = λ _. false;
+}
 
 -- what a crash leaves of writes that no sync made stable: nothing, all of them, or 255 in place of each byte
 abbrev pub left_by : ℕ → List DiskCall → List Span
 left_by pick calls =
-    if pick == 0 then [] else if pick == 1 then copied_spans copied.Asked calls else copied_spans copied.Torn calls
+    if pick == 0 then [] else if pick == 1 then copied_spans copied.Asked calls
+    else copied_spans copied.Torn calls
 
 -- what a crash leaves after these calls: what was there at first, what a sync made stable, and what is left of the rest
 abbrev pub spans_left : List Patch → List DiskCall → ℕ → List Span
 spans_left first made pick =
     let settled = settled_count made in
-    (map span_of first ++ copied_spans copied.Done (take settled made)) ++ left_by pick (drop settled made)
+    (map span_of first ++ copied_spans copied.Done (take settled made))
+    ++ left_by pick (drop settled made)

@@ -49,10 +49,12 @@ pub trait Disk {
     fn read(&mut self, alloc: Global, at: u64, len: u32) -> Result<Vec<u8>, DiskError>
         requires inside { at + len ≤ DISK_END }
         ensures count { IfOk result (λ v. length v.items ≡ len) }
-        ensures bytes { IfOk result (λ v. IsTrue tells → v.items ≡ bytes_at (held_now (shown self.old)).bytes at len) }
+        ensures bytes { IfOk result
+            (λ v. IsTrue tells → v.items ≡ bytes_at (held_now (shown self.old)).bytes at len) }
         ensures stays { IsTrue tells → held_now (shown self.new) ≡ held_now (shown self.old) }
         ensures time { IsTrue tells → Passes (shown self.old) (shown self.new) }
-        ensures cause { IsErrOf result DiskError.Failed → Rose (shown self.old).faults (shown self.new).faults }
+        ensures cause { IsErrOf result DiskError.Failed
+            → Rose (shown self.old).faults (shown self.new).faults }
         ensures faults_stay_or_rise { (shown self.old).faults ≤ (shown self.new).faults };
 
     /// Writes bytes from an address on. Until a sync succeeds, a crash may leave any bytes there. After `Failed` a read
@@ -66,15 +68,18 @@ pub trait Disk {
         ensures no_memory { IsErrOf result DiskError.NoMemory → IsTrue tells
             → held_now (shown self.new) ≡ held_now (shown self.old) }
         ensures time { IsTrue tells → Passes (shown self.old) (shown self.new) }
-        ensures cause { IsErrOf result DiskError.Failed → Rose (shown self.old).faults (shown self.new).faults }
+        ensures cause { IsErrOf result DiskError.Failed
+            → Rose (shown self.old).faults (shown self.new).faults }
         ensures faults_stay_or_rise { (shown self.old).faults ≤ (shown self.new).faults };
 
     /// Makes all that was written stand. From then on a crash leaves what a read gives.
     fn sync(&mut self) -> Result<(), DiskError>
         ensures synced { OnOk result (IsTrue tells
             → held_now (shown self.new) ≡ synced (held_now (shown self.old))) }
-        ensures stays { OnErr result (IsTrue tells → held_now (shown self.new) ≡ held_now (shown self.old)) }
+        ensures stays { OnErr result
+            (IsTrue tells → held_now (shown self.new) ≡ held_now (shown self.old)) }
         ensures time { IsTrue tells → Passes (shown self.old) (shown self.new) }
-        ensures cause { IsErrOf result DiskError.Failed → Rose (shown self.old).faults (shown self.new).faults }
+        ensures cause { IsErrOf result DiskError.Failed
+            → Rose (shown self.old).faults (shown self.new).faults }
         ensures faults_stay_or_rise { (shown self.old).faults ≤ (shown self.new).faults };
 }

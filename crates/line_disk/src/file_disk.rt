@@ -35,14 +35,14 @@ impl<R: Files + Drop> FileDisk<R> {
     }
 }
 
-// Opens the file, and makes it where it is asked for and not there.
+/// Opens the file, and makes it where it is asked for and not there.
 fn open<R: Files>(rt: &R, makes: bool) -> io::Result<R::File> {
     let mut options = File::options();
     options.read(true).write(true).create(makes);
     options.open(rt, FILE)
 }
 
-// Reads until the buffer is full or the file ends.
+/// Reads until the buffer is full or the file ends.
 fn fill<F: Read>(file: &mut F, bytes: &mut [u8]) -> io::Result<()> {
     let mut filled = 0;
     while filled < bytes.len() {
@@ -55,17 +55,19 @@ fn fill<F: Read>(file: &mut F, bytes: &mut [u8]) -> io::Result<()> {
     Ok(())
 }
 
+/// Reads from an address on until the buffer is full or the file ends.
 fn fill_from<F: Read + Seek>(file: &mut F, at: u64, bytes: &mut [u8]) -> io::Result<()> {
     file.seek(SeekFrom::Start(at))?;
     fill(file, bytes)
 }
 
+/// Writes bytes from an address on.
 fn put<F: Write + Seek>(file: &mut F, at: u64, bytes: &[u8]) -> io::Result<()> {
     file.seek(SeekFrom::Start(at))?;
     file.write_all(bytes)
 }
 
-// Reads into a buffer of zeros.
+/// Reads into a buffer of zeros.
 fn read_file<R: Files>(
     rt: &R,
     file: &mut Option<R::File>,
@@ -85,6 +87,7 @@ fn read_file<R: Files>(
     answer
 }
 
+/// Writes bytes from an address on, to the file that is open or is opened for it.
 fn write_file<R: Files>(
     rt: &R,
     file: &mut Option<R::File>,
@@ -100,6 +103,7 @@ fn write_file<R: Files>(
     answer
 }
 
+/// Syncs the file that is open or is opened for it.
 fn sync_file<R: Files>(rt: &R, file: &mut Option<R::File>) -> io::Result<()> {
     let opened = match file.take() {
         Some(opened) => opened,
@@ -110,7 +114,7 @@ fn sync_file<R: Files>(rt: &R, file: &mut Option<R::File>) -> io::Result<()> {
     answer
 }
 
-// The answer of the machine, where an error is a fault that is counted.
+/// The answer of the machine, where an error is a fault that is counted.
 fn counted(answer: io::Result<()>, faults: &mut u64) -> Result<(), DiskError>
     ensures failed { IfErr result (λ error. error ≡ DiskError.Failed) }
     ensures stays { OnOk result (faults.new ≡ faults.old) }

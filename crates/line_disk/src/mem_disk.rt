@@ -53,7 +53,8 @@ impl MemDisk {
     pub fn crash(&self, call: u32, pick: u8) -> Result<MemDisk, AllocError>
         requires made { call ≤ length self.now.calls.items }
         requires pick { pick ≤ 2 }
-        ensures image { IfOk result (λ disk. (held_now (mem_view disk)).bytes ≡ crash_image self.now call pick) }
+        ensures image { IfOk result
+            (λ disk. (held_now (mem_view disk)).bytes ≡ crash_image self.now call pick) }
         ensures may_be_left { IfOk result (λ disk.
             MayLeave (held_during self.now call) (held_now (mem_view disk)).bytes) }
         ensures no_call { IfOk result (λ disk. disk.calls.items ≡ []) }
@@ -70,7 +71,7 @@ impl MemDisk {
         })
     }
 
-    // Whether the next call is to fail.
+    /// Whether the next call is to fail.
     fn is_due(&self) -> bool
         ensures { IsTrue result ↔ IsDue self.now }
     {
@@ -78,10 +79,11 @@ impl MemDisk {
         self.failing.iter().any(|n| u64::from(*n) == number)
     }
 
-    // The bytes from an address on.
+    /// The bytes from an address on.
     fn bytes_at(&self, alloc: Global, at: u64, len: u32) -> Result<Vec<u8>, AllocError>
         requires { at + len ≤ DISK_END }
-        ensures { IfOk result (λ v. v.items ≡ bytes_at (held_now (mem_view self.now)).bytes at len) }
+        ensures { IfOk result
+            (λ v. v.items ≡ bytes_at (held_now (mem_view self.now)).bytes at len) }
     {
         let mut bytes = Vec::with_capacity(alloc, len as usize)?;
         for i in 0..u64::from(len) {
@@ -92,7 +94,7 @@ impl MemDisk {
     }
 }
 
-// Adds what a crash leaves of writes that no sync made stable.
+/// Adds what a crash leaves of writes that no sync made stable.
 fn copy_left(
     alloc: Global,
     patches: &mut Vec<Patch>,
@@ -110,7 +112,7 @@ fn copy_left(
     }
 }
 
-// What a crash leaves after these calls: what was there at first, what a sync made stable, and what is left of the rest.
+/// What a crash leaves after these calls: what was there at first, what a sync made stable, and what is left of the rest.
 fn patches_left(
     alloc: Global,
     first: &[Patch],
@@ -127,7 +129,7 @@ fn patches_left(
     Ok(patches)
 }
 
-// The answer of a call, where a failure is counted.
+/// The answer of a call, where a failure is counted.
 fn answer(faults: &mut u64, failed: bool) -> Result<(), DiskError>
     ensures failed { IsTrue failed ↔ IsErrOf result DiskError.Failed }
     ensures never_no_memory { ¬ (IsErrOf result DiskError.NoMemory) }
@@ -156,7 +158,8 @@ impl Disk for MemDisk {
         ensures refused { IsErrOf result DiskError.Failed → IsDue self.old }
         ensures failing_stays { self.new.failing.items ≡ self.old.failing.items }
         ensures count { IfOk result (λ v. length v.items ≡ len) }
-        ensures bytes { IfOk result (λ v. v.items ≡ bytes_at (held_now (mem_view self.old)).bytes at len) }
+        ensures bytes { IfOk result
+            (λ v. v.items ≡ bytes_at (held_now (mem_view self.old)).bytes at len) }
         ensures stays { held_now (mem_view self.new) ≡ held_now (mem_view self.old) }
         ensures time { Passes (mem_view self.old) (mem_view self.new) }
         ensures cause { IsErrOf result DiskError.Failed → Rose self.old.faults self.new.faults }
@@ -177,7 +180,8 @@ impl Disk for MemDisk {
         ensures written { OnOk result (held_now (mem_view self.new)
             ≡ written (held_now (mem_view self.old)) at bytes.now) }
         ensures torn { IsErrOf result DiskError.Failed
-            → Torn (held_now (mem_view self.old)) (held_now (mem_view self.new)) at (length bytes.now) }
+            → Torn (held_now (mem_view self.old)) (held_now (mem_view self.new)) at
+            (length bytes.now) }
         ensures no_memory { IsErrOf result DiskError.NoMemory
             → held_now (mem_view self.new) ≡ held_now (mem_view self.old) }
         ensures time { Passes (mem_view self.old) (mem_view self.new) }
@@ -200,7 +204,8 @@ impl Disk for MemDisk {
         ensures due { IsDue self.old → IsErr result }
         ensures refused { IsErrOf result DiskError.Failed → IsDue self.old }
         ensures failing_stays { self.new.failing.items ≡ self.old.failing.items }
-        ensures synced { OnOk result (held_now (mem_view self.new) ≡ synced (held_now (mem_view self.old))) }
+        ensures synced { OnOk result
+            (held_now (mem_view self.new) ≡ synced (held_now (mem_view self.old))) }
         ensures stays { OnErr result (held_now (mem_view self.new) ≡ held_now (mem_view self.old)) }
         ensures time { Passes (mem_view self.old) (mem_view self.new) }
         ensures cause { IsErrOf result DiskError.Failed → Rose self.old.faults self.new.faults }

@@ -31,7 +31,7 @@ pub enum Copied {
 }
 
 impl Patch {
-    // The byte at an address, where it is one of these; else the one given.
+    /// The byte at an address, where it is one of these; else the one given.
     fn byte_over(&self, address: u64, before: u8) -> u8
         ensures { result ≡ byte_over (span_of self.now) address before }
     {
@@ -72,7 +72,7 @@ pub fn byte_after(first: u8, calls: &[DiskCall], address: u64) -> u8
 }
 
 impl DiskCall {
-    // Whether this is a sync that was done.
+    /// Whether this is a sync that was done.
     fn settles(&self) -> bool
         ensures { result ≡ settles self.now }
     {
@@ -105,9 +105,11 @@ pub fn in_effect(calls: &[DiskCall]) -> usize
     }
 }
 
-// A copy of a patch, with its bytes or with 255 in place of each.
+/// A copy of a patch, with its bytes or with 255 in place of each.
 fn copy_of(alloc: Global, patch: &Patch, torn: bool) -> Result<Patch, AllocError>
-    ensures { IfOk result (λ copy. span_of copy ≡ (if torn then torn_span (span_of patch.now) else span_of patch.now)) }
+    ensures { IfOk result
+        (λ copy. span_of copy
+        ≡ (if torn then torn_span (span_of patch.now) else span_of patch.now)) }
 {
     let bytes = if torn {
         vec![in alloc; u8::MAX; patch.bytes.len()]?

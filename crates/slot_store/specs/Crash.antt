@@ -71,4 +71,5 @@ IsSaved held room bytes = (image : Image) → MayLeave held image → content im
 
 -- the content is as it was, or these bytes
 abbrev pub IsKeptOrNew : Image → ℕ → List ℕ → Image → Type 0
-IsKeptOrNew before room bytes image = SameContent before room image ⊎ (content image room ≡ Some bytes)
+IsKeptOrNew before room bytes image = SameContent before room image
+    ⊎ (content image room ≡ Some bytes)

@@ -59,7 +59,7 @@ impl Header {
     }
 }
 
-// The head of a slot by its bytes.
+/// The head of a slot by its bytes.
 fn header_of(bytes: &[u8]) -> Header
     requires { length bytes.now ≡ USED }
     ensures { result ≡ header_of_bytes bytes.now }
@@ -80,7 +80,8 @@ pub fn read_header<D: Disk>(disk: &mut D, alloc: Global, start: u64) -> Result<H
     ensures header { IfOk result (λ header. IsTrue D.tells
         → header ≡ header_at (held_now (D.shown disk.old)).bytes start) }
     ensures stays { IsTrue D.tells → Stays (D.shown disk.old) (D.shown disk.new) }
-    ensures cause { IsErrOf result DiskError.Failed → Rose (D.shown disk.old).faults (D.shown disk.new).faults }
+    ensures cause { IsErrOf result DiskError.Failed
+        → Rose (D.shown disk.old).faults (D.shown disk.new).faults }
     ensures faults_stay_or_rise { (D.shown disk.old).faults ≤ (D.shown disk.new).faults }
 {
     let bytes = disk.read(alloc, start, USED)?;

@@ -21,8 +21,10 @@ pub fn close_gate<D: Disk>(disk: &mut D, room: u64, target: Target) -> Result<()
     ensures any_moment { IsTrue D.tells → LeavesOnly (D.shown disk.old) (D.shown disk.new)
         (SameContent (bytes_now (D.shown disk.old)) room) }
     ensures ready { OnOk result (IsTrue D.tells → IsReady (D.shown disk.new) room target) }
-    ensures closed { OnOk result (IsTrue D.tells → IsClosed (bytes_now (D.shown disk.new)) room target) }
-    ensures cause { IsErrOf result DiskError.Failed → Rose (D.shown disk.old).faults (D.shown disk.new).faults }
+    ensures closed { OnOk result
+        (IsTrue D.tells → IsClosed (bytes_now (D.shown disk.new)) room target) }
+    ensures cause { IsErrOf result DiskError.Failed
+        → Rose (D.shown disk.old).faults (D.shown disk.new).faults }
     ensures faults_stay_or_rise { (D.shown disk.old).faults ≤ (D.shown disk.new).faults }
 {
     if !target.gate_is_open {
@@ -32,7 +34,7 @@ pub fn close_gate<D: Disk>(disk: &mut D, room: u64, target: Target) -> Result<()
     disk.sync()
 }
 
-// The number and the length of a content, as they stand behind the gate.
+/// The number and the length of a content, as they stand behind the gate.
 fn number_and_length(number: u8, length: u64) -> [u8; 9]
     ensures { result ≡ number ∷ to_be_bytes w64 length }
 {
@@ -54,8 +56,10 @@ pub fn write_content<D: Disk>(
     ensures any_moment { IsTrue D.tells → LeavesOnly (D.shown disk.old) (D.shown disk.new)
         (SameContent (bytes_now (D.shown disk.old)) room) }
     ensures ready { OnOk result (IsTrue D.tells → IsReady (D.shown disk.new) room target) }
-    ensures staged { OnOk result (IsTrue D.tells → IsStaged (bytes_now (D.shown disk.new)) room target bytes.now) }
-    ensures cause { IsErrOf result DiskError.Failed → Rose (D.shown disk.old).faults (D.shown disk.new).faults }
+    ensures staged { OnOk result
+        (IsTrue D.tells → IsStaged (bytes_now (D.shown disk.new)) room target bytes.now) }
+    ensures cause { IsErrOf result DiskError.Failed
+        → Rose (D.shown disk.old).faults (D.shown disk.new).faults }
     ensures faults_stay_or_rise { (D.shown disk.old).faults ≤ (D.shown disk.new).faults }
 {
     let start = target.slot.start(room);
@@ -74,12 +78,15 @@ pub fn open_gate<D: Disk>(disk: &mut D, room: u64, target: Target) -> Result<(),
     requires ready { IsTrue D.tells → IsReady (D.shown disk.old) room target }
     requires staged { IsTrue D.tells → IsStaged (bytes_now (D.shown disk.old)) room target
         (staged_in (bytes_now (D.shown disk.old)) room target) }
-    requires fits { IsTrue D.tells → length (staged_in (bytes_now (D.shown disk.old)) room target) ≤ room }
+    requires fits { IsTrue D.tells
+        → length (staged_in (bytes_now (D.shown disk.old)) room target) ≤ room }
     ensures any_moment { IsTrue D.tells → LeavesOnly (D.shown disk.old) (D.shown disk.new)
-        (IsKeptOrNew (bytes_now (D.shown disk.old)) room (staged_in (bytes_now (D.shown disk.old)) room target)) }
+        (IsKeptOrNew (bytes_now (D.shown disk.old)) room
+        (staged_in (bytes_now (D.shown disk.old)) room target)) }
     ensures saved { OnOk result (IsTrue D.tells → IsSaved (held_now (D.shown disk.new)) room
         (staged_in (bytes_now (D.shown disk.old)) room target)) }
-    ensures cause { IsErrOf result DiskError.Failed → Rose (D.shown disk.old).faults (D.shown disk.new).faults }
+    ensures cause { IsErrOf result DiskError.Failed
+        → Rose (D.shown disk.old).faults (D.shown disk.new).faults }
     ensures faults_stay_or_rise { (D.shown disk.old).faults ≤ (D.shown disk.new).faults }
 {
     disk.write_at(target.slot.start(room), &[OPEN])?;

@@ -43,17 +43,21 @@ impl<'a, D: Disk> Slots<'a, D> {
     pub fn save(&mut self, alloc: Global, bytes: &[u8]) -> Result<(), SlotError>
         ensures same_disk { self.new.disk.ghost_name ≡ self.old.disk.ghost_name }
         ensures same_room { self.new.room ≡ self.old.room }
-        ensures any_moment { IsTrue D.tells → LeavesOnly (D.shown self.old.disk.now) (D.shown self.new.disk.now)
+        ensures any_moment { IsTrue D.tells
+            → LeavesOnly (D.shown self.old.disk.now) (D.shown self.new.disk.now)
             (IsOldOrNew (held_now (D.shown self.old.disk.now)) self.old.room bytes.now) }
         ensures saved { OnOk result (IsTrue D.tells
             → IsSaved (held_now (D.shown self.new.disk.now)) self.old.room bytes.now) }
-        ensures too_long { IsErrOf result (TooLong (length bytes.now)) ↔ (self.old.room < length bytes.now) }
+        ensures too_long { IsErrOf result (TooLong (length bytes.now))
+            ↔ (self.old.room < length bytes.now) }
         ensures have { (have : ℕ) → IsErrOf result (TooLong have) → have ≡ length bytes.now }
-        ensures untouched { self.old.room < length bytes.now → self.new.disk.now ≡ self.old.disk.now }
+        ensures untouched { self.old.room < length bytes.now
+            → self.new.disk.now ≡ self.old.disk.now }
         ensures disk_fault { IsErrOf result SlotError.DiskFault
             → Rose (D.shown self.old.disk.now).faults (D.shown self.new.disk.now).faults }
         ensures never_none_saved { ¬ (IsErrOf result SlotError.NoneSaved) }
-        ensures faults_stay_or_rise { (D.shown self.old.disk.now).faults ≤ (D.shown self.new.disk.now).faults }
+        ensures faults_stay_or_rise { (D.shown self.old.disk.now).faults
+            ≤ (D.shown self.new.disk.now).faults }
     {
         let have = bytes.len() as u64;
         if have > self.room {
@@ -74,11 +78,13 @@ impl<'a, D: Disk> Slots<'a, D> {
             → content (bytes_now (D.shown self.old.disk.now)) self.old.room ≡ Some v.items) }
         ensures none_saved { IsErrOf result SlotError.NoneSaved → IsTrue D.tells
             → content (bytes_now (D.shown self.old.disk.now)) self.old.room ≡ None }
-        ensures stays { IsTrue D.tells → Stays (D.shown self.old.disk.now) (D.shown self.new.disk.now) }
+        ensures stays { IsTrue D.tells
+            → Stays (D.shown self.old.disk.now) (D.shown self.new.disk.now) }
         ensures disk_fault { IsErrOf result SlotError.DiskFault
             → Rose (D.shown self.old.disk.now).faults (D.shown self.new.disk.now).faults }
         ensures never_too_long { (have : ℕ) → ¬ (IsErrOf result (TooLong have)) }
-        ensures faults_stay_or_rise { (D.shown self.old.disk.now).faults ≤ (D.shown self.new.disk.now).faults }
+        ensures faults_stay_or_rise { (D.shown self.old.disk.now).faults
+            ≤ (D.shown self.new.disk.now).faults }
     {
         let zero = read_header(self.disk, alloc, Slot::Zero.start(self.room))?;
         let one = read_header(self.disk, alloc, Slot::One.start(self.room))?;

@@ -17,7 +17,7 @@ pub struct Target {
     pub gate_is_open: bool,
 }
 
-// The slot that is not the newer one, with the number after that of the newer, or slot 0 with number 0 where none is open.
+/// The slot that is not the newer one, with the number after that of the newer, or slot 0 with number 0 where none is open.
 fn target_of(zero: Header, one: Header, room: u64) -> Target
     ensures { result ≡ target_by (newer_header room zero one) zero one }
 {
@@ -40,12 +40,13 @@ fn target_of(zero: Header, one: Header, room: u64) -> Target
     }
 }
 
-// Makes all that was written before stand: a write that is pending could open a gate over torn bytes.
+/// Makes all that was written before stand: a write that is pending could open a gate over torn bytes.
 fn settle<D: Disk>(disk: &mut D) -> Result<(), DiskError>
     ensures any_moment { IsTrue D.tells → LeavesOnly (D.shown disk.old) (D.shown disk.new)
         (MayLeave (held_now (D.shown disk.old))) }
     ensures settled { OnOk result (IsTrue D.tells → IsSettled (held_now (D.shown disk.new))) }
-    ensures cause { IsErrOf result DiskError.Failed → Rose (D.shown disk.old).faults (D.shown disk.new).faults }
+    ensures cause { IsErrOf result DiskError.Failed
+        → Rose (D.shown disk.old).faults (D.shown disk.new).faults }
     ensures faults_stay_or_rise { (D.shown disk.old).faults ≤ (D.shown disk.new).faults }
 {
     disk.sync()
@@ -57,9 +58,12 @@ pub fn find_target<D: Disk>(disk: &mut D, alloc: Global, room: u64) -> Result<Ta
     requires { room ≤ MAX_ROOM }
     ensures any_moment { IsTrue D.tells → LeavesOnly (D.shown disk.old) (D.shown disk.new)
         (MayLeave (held_now (D.shown disk.old))) }
-    ensures ready { IfOk result (λ target. IsTrue D.tells → IsReady (D.shown disk.new) room target) }
-    ensures gate { IfOk result (λ target. IsTrue D.tells → TellsGate (bytes_now (D.shown disk.new)) room target) }
-    ensures cause { IsErrOf result DiskError.Failed → Rose (D.shown disk.old).faults (D.shown disk.new).faults }
+    ensures ready { IfOk result
+        (λ target. IsTrue D.tells → IsReady (D.shown disk.new) room target) }
+    ensures gate { IfOk result
+        (λ target. IsTrue D.tells → TellsGate (bytes_now (D.shown disk.new)) room target) }
+    ensures cause { IsErrOf result DiskError.Failed
+        → Rose (D.shown disk.old).faults (D.shown disk.new).faults }
     ensures faults_stay_or_rise { (D.shown disk.old).faults ≤ (D.shown disk.new).faults }
 {
     settle(disk)?;

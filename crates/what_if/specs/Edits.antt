@@ -28,7 +28,8 @@ spaced word rest = word ++ 32 ∷ rest
 
 -- the text of an edit
 abbrev pub text_of : Parts → Edit → List ℕ
-text_of g (Time t n time) = spaced (codes "time") (spaced (label g t) (spaced (decimal n) (decimal time)))
+text_of g (Time t n time) = spaced (codes "time")
+    (spaced (label g t) (spaced (decimal n) (decimal time)))
 text_of g (Demand n date) = spaced (codes "demand") (spaced (decimal n) (decimal date))
 
 -- there is no space: the text is one word
@@ -90,8 +91,11 @@ pub record IsRefused (g : Parts) (text : List ℕ) (inputs : Inputs) : Type 0 wh
 -- leave, or the number of the first line that is refused
 pub data ComesTo (g : Parts) : List (List ℕ) → ℕ → Inputs → Result Inputs ℕ → Type 0 where
   ends : (n : ℕ) (inputs : Inputs) → ComesTo g [] n inputs (Ok inputs)
-  follows : (line : List ℕ) (lines : List (List ℕ)) (n : ℕ) (inputs next : Inputs) (end : Result Inputs ℕ) → LeadsTo g (strip_carriage_return line) inputs next → ComesTo g lines (n + 1) next end → ComesTo g (line ∷ lines) n inputs end
-  refuses : (line : List ℕ) (lines : List (List ℕ)) (n : ℕ) (inputs : Inputs) → IsRefused g (strip_carriage_return line) inputs → ComesTo g (line ∷ lines) n inputs (Err n)
+  follows : (line : List ℕ) (lines : List (List ℕ)) (n : ℕ) (inputs next : Inputs)
+      (end : Result Inputs ℕ) → LeadsTo g (strip_carriage_return line) inputs next
+      → ComesTo g lines (n + 1) next end → ComesTo g (line ∷ lines) n inputs end
+  refuses : (line : List ℕ) (lines : List (List ℕ)) (n : ℕ) (inputs : Inputs)
+      → IsRefused g (strip_carriage_return line) inputs → ComesTo g (line ∷ lines) n inputs (Err n)
 
 -- a word, a space, and the rest of a text
 pub record IsSplit (text word rest : List ℕ) : Type 0 where

@@ -25,7 +25,8 @@ redemanded p n date = record p { inputs = with_demand p.inputs n date; marks = m
 abbrev pub with_reader : LiveGraph → ℕ → List Bool → ℕ → List Bool
 with_reader l n marks a =
     let job = n + (arc l.graph a).tokens in
-    if nat_le job (jobs l.graph) then slice_set marks (slot l (arc l.graph a).to job) true else marks
+    if nat_le job (jobs l.graph) then slice_set marks (slot l (arc l.graph a).to job) true
+    else marks
 
 -- the marks with those of all dates whose terms read the date of job n at station t
 unfoldable pub with_readers : LiveGraph → ℕ → ℕ → List Bool → List Bool
@@ -34,7 +35,8 @@ with_readers l t n marks = fold (with_reader l n) marks (outs l.graph t)
 -- the marks after an evaluation: its own is gone, and where the date changed those who read it are marked
 unfoldable pub marks_after : Page → ℕ → ℕ → List Bool
 marks_after p t n =
-    if date_at p t n == greatest_term p t n then unmarked p t n else with_readers p.live t n (unmarked p t n)
+    if date_at p t n == greatest_term p t n then unmarked p t n
+    else with_readers p.live t n (unmarked p t n)
 
 -- the date of job n at station t becomes the greatest of its terms
 unfoldable pub evaluated : Page → ℕ → ℕ → Page

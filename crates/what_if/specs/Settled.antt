@@ -24,7 +24,9 @@ IsSolved p = IsLeast (graph_of p) (date_in p.dates)
 -- no more evaluations were made than there were marks, and one for each arc out of the station of each date that changed
 abbrev pub HasEvaluatedFew : Page → Page → Type 0
 HasEvaluatedFew old new =
-    new.evaluations ≤ old.evaluations + mark_count old + changed_outs old.live.graph (date_in old.dates) (date_in new.dates)
+    new.evaluations
+    ≤ old.evaluations + mark_count old
+    + changed_outs old.live.graph (date_in old.dates) (date_in new.dates)
 
 -- only dates, marks and the number of evaluations are others
 pub record KeepsInputs (old new : Page) : Type 0 where

@@ -25,7 +25,8 @@ latest_at slot = last_demand + (slot + 1) * (2 * longest_time)
 -- each date that isn't marked is the greatest of its terms in the edited graph
 abbrev pub UnmarkedAreGreatest : Page → Type 0
 UnmarkedAreGreatest p =
-    (t n : ℕ) → IsDate p.live.graph t n → is_marked p t n ≡ false → date_at p t n ≡ greatest_term p t n
+    (t n : ℕ) → IsDate p.live.graph t n → is_marked p t n ≡ false
+    → date_at p t n ≡ greatest_term p t n
 
 pub record IsSheet (p : Page) : Type 0 where
   pub ranked : IsRanked p.live
@@ -40,7 +41,8 @@ pub record IsSheet (p : Page) : Type 0 where
   pub greatest : UnmarkedAreGreatest p
 
 -- what a sheet's fields stand for
-abbrev pub page_of : LiveGraph → List (List ℕ) → List ℕ → List (List ℕ) → List (List ℕ) → List Bool → ℕ → Page
+abbrev pub page_of : LiveGraph → List (List ℕ) → List ℕ → List (List ℕ) → List (List ℕ)
+    → List Bool → ℕ → Page
 page_of live times demands first dates marks evaluations = record {
   live = live;
   inputs = record { times = times; demands = demands };

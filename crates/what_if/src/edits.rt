@@ -15,19 +15,14 @@ use crate::reader::read_edit;
 use crate::sheet::Sheet;
 use crate::words::{behind, front};
 use live_check::Live;
-use std::fmt;
+use thiserror::Error;
 
 /// The first line of an edits file that can't be followed, counted from 1.
-#[derive(Clone, Copy, Debug, PartialEq, Eq)]
+#[derive(Clone, Copy, Debug, PartialEq, Eq, Error)]
+#[error("line {line} is no edit that can be followed")]
 pub struct RefusedLine {
+    /// Which line.
     pub line: u64,
-}
-
-impl fmt::Display for RefusedLine {
-    fn fmt<W: fmt::Write>(&self, f: &mut fmt::Formatter<W>) -> fmt::Result {
-        let line = self.line;
-        write!(f, "line {line} is no edit that can be followed")
-    }
 }
 
 /// Where the first line feed of a text stands, or else the length of the text.
@@ -88,7 +83,8 @@ fn follow_edit(sheet: &mut Sheet, live: &Live, edit: Edit) -> bool
 /// Follows one line, where it can be followed, and tells whether it could. An empty line is passed over.
 fn follow_line(sheet: &mut Sheet, live: &Live, line: &[u8]) -> bool
     requires made_for { live.now ≡ sheet.old.live }
-    ensures followed { OnTrue result (LeadsTo live.now.graph line.now sheet.old.inputs sheet.new.inputs) }
+    ensures followed { OnTrue result
+        (LeadsTo live.now.graph line.now sheet.old.inputs sheet.new.inputs) }
     ensures refused { OnFalse result (IsRefused live.now.graph line.now sheet.old.inputs) }
     ensures unchanged { OnFalse result (sheet.new ≡ sheet.old) }
     ensures dates { KeepsDates sheet.old sheet.new }
@@ -113,8 +109,10 @@ fn follow_line(sheet: &mut Sheet, live: &Live, line: &[u8]) -> bool
 /// no memory.
 pub fn follow_edits(sheet: &mut Sheet, live: &Live, edits: &[u8]) -> Result<(), RefusedLine>
     requires made_for { live.now ≡ sheet.old.live }
-    ensures followed { OnOk result (ComesTo live.now.graph (lines_of edits.now) 1 sheet.old.inputs (Ok sheet.new.inputs)) }
-    ensures refused { IfErr result (λ at. ComesTo live.now.graph (lines_of edits.now) 1 sheet.old.inputs (Err at.line)) }
+    ensures followed { OnOk result
+        (ComesTo live.now.graph (lines_of edits.now) 1 sheet.old.inputs (Ok sheet.new.inputs)) }
+    ensures refused { IfErr result
+        (λ at. ComesTo live.now.graph (lines_of edits.now) 1 sheet.old.inputs (Err at.line)) }
     ensures dates { KeepsDates sheet.old sheet.new }
     ensures marks { mark_count sheet.new ≤ mark_count sheet.old + length (lines_of edits.now) }
 {

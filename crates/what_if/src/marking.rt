@@ -12,7 +12,8 @@ use live_check::Live;
 pub fn renew_marks(marks: &mut Marks, live: &Live, t: u32, n: u32, changed: bool)
     requires date { IsDate live.now.graph t n }
     requires room { date_count live.now.graph ≤ length marks.old }
-    ensures { let rest = slice_set marks.old (slot live.now t n) false in marks.new ≡ (if changed then with_readers live.now t n rest else rest) }
+    ensures { let rest = slice_set marks.old (slot live.now t n) false in
+        marks.new ≡ (if changed then with_readers live.now t n rest else rest) }
 {
     marks.remove(slot(live, t, n));
     if changed {

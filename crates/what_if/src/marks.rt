@@ -52,7 +52,8 @@ impl Marks {
 
     /// The first marked number from this one on, found 64 numbers a step.
     pub fn first_from(&self, from: u32) -> Option<u32>
-        ensures { MatchOption result (HasNone self.now from (length self.now)) (IsFirstFrom self.now from) }
+        ensures { MatchOption result (HasNone self.now from (length self.now))
+            (IsFirstFrom self.now from) }
     {
         first_bit(&self.words, from)
     }
@@ -130,7 +131,8 @@ fn bits_from(word: u64, from: u32) -> u64
 /// The first bit from this one on that is set.
 fn first_bit(words: &[u64], from: u32) -> Option<u32>
     requires { 64 * length words.now ≤ 2 ^ 26 }
-    ensures { MatchOption result (HasNone (bits_of words.now) from (64 * length words.now)) (IsFirstFrom (bits_of words.now) from) }
+    ensures { MatchOption result (HasNone (bits_of words.now) from (64 * length words.now))
+        (IsFirstFrom (bits_of words.now) from) }
 {
     let at = from as usize / 64;
     if at >= words.len() {
@@ -149,7 +151,8 @@ fn first_bit_of_rest(words: &[u64], from: u32, at: usize) -> Option<u32>
     requires there { at ≤ length words.now }
     requires before { from ≤ 64 * at }
     requires none { HasNone (bits_of words.now) from (64 * at) }
-    ensures { MatchOption result (HasNone (bits_of words.now) from (64 * length words.now)) (IsFirstFrom (bits_of words.now) from) }
+    ensures { MatchOption result (HasNone (bits_of words.now) from (64 * length words.now))
+        (IsFirstFrom (bits_of words.now) from) }
 {
     for k in at..words.len() {
         if words[k] != 0 {

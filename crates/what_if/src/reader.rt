@@ -52,7 +52,8 @@ fn read_job(text: &[u8], jobs: u32) -> Option<u32>
 /// The edit that follows the word `time`.
 fn read_time(graph: &Graph, text: &[u8]) -> Option<Edit>
     ensures read { IfSome result (Writes graph.now (spaced (codes "time") text.now)) }
-    ensures told { (edit : Edit) → Writes graph.now (spaced (codes "time") text.now) edit → result ≡ Some edit }
+    ensures told { (edit : Edit) → Writes graph.now (spaced (codes "time") text.now) edit
+        → result ≡ Some edit }
 {
     let jobs = graph.jobs();
     let (label, rest) = split_word(text)?;
@@ -66,7 +67,8 @@ fn read_time(graph: &Graph, text: &[u8]) -> Option<Edit>
 /// The edit that follows the word `demand`.
 fn read_demand(graph: &Graph, text: &[u8]) -> Option<Edit>
     ensures read { IfSome result (Writes graph.now (spaced (codes "demand") text.now)) }
-    ensures told { (edit : Edit) → Writes graph.now (spaced (codes "demand") text.now) edit → result ≡ Some edit }
+    ensures told { (edit : Edit) → Writes graph.now (spaced (codes "demand") text.now) edit
+        → result ≡ Some edit }
 {
     let jobs = graph.jobs();
     let (job, date) = split_word(text)?;

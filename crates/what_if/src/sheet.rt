@@ -46,9 +46,13 @@ impl Model for Sheet {
 
     ghost Value = { Page };
 
-    ghost view = { λ s. page_of s.live.value s.times.items s.demands s.first.items s.dates.items s.marks s.evaluations };
+    ghost view = { λ s. page_of s.live.value s.times.items s.demands s.first.items s.dates.items
+        s.marks s.evaluations };
 
-    ghost invariant = { λ s. IsHeld (page_of s.live.value s.times.items s.demands s.first.items s.dates.items s.marks s.evaluations) s.places.items };
+    ghost invariant = { λ s. IsHeld
+        (page_of s.live.value s.times.items s.demands s.first.items s.dates.items
+        s.marks s.evaluations)
+        s.places.items };
 }
 
 impl Sheet {
@@ -241,7 +245,8 @@ impl Sheet {
 
     /// The first slot from this one on whose date is marked.
     pub(crate) fn first_marked(&self, from: u32) -> Option<u32>
-        ensures first { MatchOption result (HasNone self.now.marks from (length self.now.marks)) (IsFirstFrom self.now.marks from) }
+        ensures first { MatchOption result (HasNone self.now.marks from (length self.now.marks))
+            (IsFirstFrom self.now.marks from) }
         ensures kept { IsSheet self.now }
     {
         self.marks.first_from(from)

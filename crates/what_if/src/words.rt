@@ -32,7 +32,8 @@ pub fn behind(text: &[u8], count: usize) -> &[u8]
 
 /// The word before the first space of a text, and what stands behind that space.
 pub fn split_word(text: &[u8]) -> Option<(&[u8], &[u8])>
-    ensures { MatchOption result (HasNoSpace text.now) (λ parts. IsSplit text.now parts.0.now parts.1.now) }
+    ensures { MatchOption result (HasNoSpace text.now)
+        (λ parts. IsSplit text.now parts.0.now parts.1.now) }
 {
     let end = word_end(text);
     if end == text.len() {

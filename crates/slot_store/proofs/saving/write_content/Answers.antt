@@ -1,65 +1,58 @@
 use Rattle.std.proofs.Common.{◌≡◌, ◌+◌, length, arith, sym, ap, subst}
+use Rattle.std.specs.Prelude.{IsTrue}
 use Rattle.line_disk.specs.DiskView.{held_now}
 use Rattle.slot_store.specs.Layout.{start_of}
 use Rattle.slot_store.specs.Crash.{IsStaged, bytes_now}
 use Rattle.line_disk.proofs.Push.{on_ok}
-use Rattle.slot_store.proofs.Calls.{went_nowhere, went_write, went_sync}
+use Rattle.slot_store.proofs.Calls.{Went, went_nowhere, went_write, went_sync}
 use Rattle.slot_store.proofs.Phases.{staging, staged_ready}
 use Rattle.slot_store.proofs.Staged.{staged, staged_after, is_staged}
+use Rattle.slot_store.proofs.saving.write_content.Given.{Over}
 use Rattle.slot_store.proofs.saving.write_content.Goals as goal
+use Rattle.slot_store.proofs.saving.write_content.Goals.{After-write_at, After-write_at-2, After-sync}
+
+-- each call writes behind the gate alone
+named : (g : Over) (c : After-write_at g) → IsTrue g.D.Disk.tells → Went (start_of c.args.room c.args.target.slot + 1) (15 + c.args.room) (g.D.Disk.shown c.args.disk.now) (g.D.Disk.shown c.write_at.new.self)
+named g c told =
+    let start = g.D.Disk.shown c.args.disk.now in
+    let at = start_of c.args.room c.args.target.slot in
+    let begins : c.start-start.result ≡ at = c.start-start.ensures in
+    let nine : length c.number_and_length.result ≡ 9 = ap length c.number_and_length.ensures in
+    went_write (at + 1) (15 + c.args.room) start start (g.D.Disk.shown c.write_at.new.self) (c.start-start.result + 1) c.number_and_length.result c.write_at.result c.write_at.ensures.written c.write_at.ensures.torn c.write_at.ensures.no_memory c.write_at.ensures.time told (omega arith) (omega arith) (went_nowhere (at + 1) (15 + c.args.room) start (c.requires.ready told).settled)
+
+put : (g : Over) (c : After-write_at-2 g) → IsTrue g.D.Disk.tells → Went (start_of c.args.room c.args.target.slot + 1) (15 + c.args.room) (g.D.Disk.shown c.args.disk.now) (g.D.Disk.shown c.write_at.new.self) → Went (start_of c.args.room c.args.target.slot + 1) (15 + c.args.room) (g.D.Disk.shown c.args.disk.now) (g.D.Disk.shown c.write_at-2.new.self)
+put g c told before =
+    let at = start_of c.args.room c.args.target.slot in
+    let begins : c.start-start.result ≡ at = c.start-start.ensures in
+    let fits = c.requires.fits in
+    went_write (at + 1) (15 + c.args.room) (g.D.Disk.shown c.args.disk.now) (g.D.Disk.shown c.write_at.new.self) (g.D.Disk.shown c.write_at-2.new.self) (c.start-start.result + 16) c.args.bytes.now c.write_at-2.result c.write_at-2.ensures.written c.write_at-2.ensures.torn c.write_at-2.ensures.no_memory c.write_at-2.ensures.time told (omega arith) (omega arith) before
+
+settled : (g : Over) (c : After-sync g) → IsTrue g.D.Disk.tells → Went (start_of c.args.room c.args.target.slot + 1) (15 + c.args.room) (g.D.Disk.shown c.args.disk.now) (g.D.Disk.shown c.write_at-2.new.self) → Went (start_of c.args.room c.args.target.slot + 1) (15 + c.args.room) (g.D.Disk.shown c.args.disk.now) (g.D.Disk.shown c.sync.new.self)
+settled g c told before =
+    went_sync (start_of c.args.room c.args.target.slot + 1) (15 + c.args.room) (g.D.Disk.shown c.args.disk.now) (g.D.Disk.shown c.write_at-2.new.self) (g.D.Disk.shown c.sync.new.self) c.sync.result c.sync.ensures.synced c.sync.ensures.stays c.sync.ensures.time told before
 
 pub returns-in_err-write_at-clause-any_moment : goal.returns-in_err-write_at-clause-any_moment
 returns-in_err-write_at-clause-any_moment g c = λ told.
-    let start = g.D.Disk.shown c.args.disk.now in
-    let at = start_of c.args.room c.args.target.slot in
-    let begins : c.start-start.result ≡ at = c.start-start.ensures in
-    let nine : length c.number_and_length.result ≡ 9 = ap length c.number_and_length.ensures in
-    let named = g.D.Disk.shown c.write_at.new.self in
-    let first = went_write (at + 1) (15 + c.args.room) start start named (c.start-start.result + 1) c.number_and_length.result c.write_at.result c.write_at.ensures.written c.write_at.ensures.torn c.write_at.ensures.no_memory c.write_at.ensures.time told (omega arith) (omega arith) (went_nowhere (at + 1) (15 + c.args.room) start (c.requires.ready told).settled) in
-    staging start named c.args.room c.args.target (c.requires.ready told) (c.requires.closed told) first
+    let first = named g (goal.at.returns-in_err-write_at-clause-any_moment g c).After-write_at told in
+    staging (g.D.Disk.shown c.args.disk.now) (g.D.Disk.shown c.write_at.new.self) c.args.room c.args.target (c.requires.ready told) (c.requires.closed told) first
 
 pub returns-in_err-write_at-2-clause-any_moment : goal.returns-in_err-write_at-2-clause-any_moment
 returns-in_err-write_at-2-clause-any_moment g c = λ told.
-    let start = g.D.Disk.shown c.args.disk.now in
-    let at = start_of c.args.room c.args.target.slot in
-    let begins : c.start-start.result ≡ at = c.start-start.ensures in
-    let nine : length c.number_and_length.result ≡ 9 = ap length c.number_and_length.ensures in
-    let named = g.D.Disk.shown c.write_at.new.self in
-    let first = went_write (at + 1) (15 + c.args.room) start start named (c.start-start.result + 1) c.number_and_length.result c.write_at.result c.write_at.ensures.written c.write_at.ensures.torn c.write_at.ensures.no_memory c.write_at.ensures.time told (omega arith) (omega arith) (went_nowhere (at + 1) (15 + c.args.room) start (c.requires.ready told).settled) in
-    let put = g.D.Disk.shown c.write_at-2.new.self in
-    let fits = c.requires.fits in
-    let second = went_write (at + 1) (15 + c.args.room) start named put (c.start-start.result + 16) c.args.bytes.now c.write_at-2.result c.write_at-2.ensures.written c.write_at-2.ensures.torn c.write_at-2.ensures.no_memory c.write_at-2.ensures.time told (omega arith) (omega arith) first in
-    staging start put c.args.room c.args.target (c.requires.ready told) (c.requires.closed told) second
+    let here = goal.at.returns-in_err-write_at-2-clause-any_moment g c in
+    let second = put g here.After-write_at-2 told (named g here.After-write_at told) in
+    staging (g.D.Disk.shown c.args.disk.now) (g.D.Disk.shown c.write_at-2.new.self) c.args.room c.args.target (c.requires.ready told) (c.requires.closed told) second
 
 pub returns-clause-any_moment : goal.returns-clause-any_moment
 returns-clause-any_moment g c = λ told.
-    let start = g.D.Disk.shown c.args.disk.now in
-    let at = start_of c.args.room c.args.target.slot in
-    let begins : c.start-start.result ≡ at = c.start-start.ensures in
-    let nine : length c.number_and_length.result ≡ 9 = ap length c.number_and_length.ensures in
-    let named = g.D.Disk.shown c.write_at.new.self in
-    let first = went_write (at + 1) (15 + c.args.room) start start named (c.start-start.result + 1) c.number_and_length.result c.write_at.result c.write_at.ensures.written c.write_at.ensures.torn c.write_at.ensures.no_memory c.write_at.ensures.time told (omega arith) (omega arith) (went_nowhere (at + 1) (15 + c.args.room) start (c.requires.ready told).settled) in
-    let put = g.D.Disk.shown c.write_at-2.new.self in
-    let fits = c.requires.fits in
-    let second = went_write (at + 1) (15 + c.args.room) start named put (c.start-start.result + 16) c.args.bytes.now c.write_at-2.result c.write_at-2.ensures.written c.write_at-2.ensures.torn c.write_at-2.ensures.no_memory c.write_at-2.ensures.time told (omega arith) (omega arith) first in
-    let now = g.D.Disk.shown c.sync.new.self in
-    let third = went_sync (at + 1) (15 + c.args.room) start put now c.sync.result c.sync.ensures.synced c.sync.ensures.stays c.sync.ensures.time told second in
-    staging start now c.args.room c.args.target (c.requires.ready told) (c.requires.closed told) third
+    let here = goal.at.returns-clause-any_moment g c in
+    let third = settled g here.After-sync told (put g here.After-write_at-2 told (named g here.After-write_at told)) in
+    staging (g.D.Disk.shown c.args.disk.now) (g.D.Disk.shown c.sync.new.self) c.args.room c.args.target (c.requires.ready told) (c.requires.closed told) third
 
 pub returns-clause-ready : goal.returns-clause-ready
 returns-clause-ready g c = on_ok c.sync.result c.sync.ensures.synced (λ synced told.
-    let start = g.D.Disk.shown c.args.disk.now in
-    let at = start_of c.args.room c.args.target.slot in
-    let begins : c.start-start.result ≡ at = c.start-start.ensures in
-    let nine : length c.number_and_length.result ≡ 9 = ap length c.number_and_length.ensures in
-    let named = g.D.Disk.shown c.write_at.new.self in
-    let first = went_write (at + 1) (15 + c.args.room) start start named (c.start-start.result + 1) c.number_and_length.result c.write_at.result c.write_at.ensures.written c.write_at.ensures.torn c.write_at.ensures.no_memory c.write_at.ensures.time told (omega arith) (omega arith) (went_nowhere (at + 1) (15 + c.args.room) start (c.requires.ready told).settled) in
-    let put = g.D.Disk.shown c.write_at-2.new.self in
-    let fits = c.requires.fits in
-    let second = went_write (at + 1) (15 + c.args.room) start named put (c.start-start.result + 16) c.args.bytes.now c.write_at-2.result c.write_at-2.ensures.written c.write_at-2.ensures.torn c.write_at-2.ensures.no_memory c.write_at-2.ensures.time told (omega arith) (omega arith) first in
-    let now = g.D.Disk.shown c.sync.new.self in
-    let third = went_sync (at + 1) (15 + c.args.room) start put now c.sync.result c.sync.ensures.synced c.sync.ensures.stays c.sync.ensures.time told second in
-    staged_ready start put now c.args.room c.args.target (c.requires.ready told) (c.requires.closed told) third (synced told))
+    let here = goal.at.returns-clause-ready g c in
+    let third = settled g here.After-sync told (put g here.After-write_at-2 told (named g here.After-write_at told)) in
+    staged_ready (g.D.Disk.shown c.args.disk.now) (g.D.Disk.shown c.write_at-2.new.self) (g.D.Disk.shown c.sync.new.self) c.args.room c.args.target (c.requires.ready told) (c.requires.closed told) third (synced told))
 
 pub returns-clause-staged : goal.returns-clause-staged
 returns-clause-staged g c = on_ok c.sync.result c.sync.ensures.synced (λ synced told.
