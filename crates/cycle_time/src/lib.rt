@@ -14,5 +14,6 @@ mod weights;
 
 pub use acceptance::accept;
 pub use certificate::{Certificate, CycleError};
+pub use circuit::{time_of, tokens_of};
 pub use cycling::cycle;
 pub use laws::{certificates_bound_every_ratio, circuits_hold_back_dates, potentials_bound_dates};

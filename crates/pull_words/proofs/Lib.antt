@@ -1,1 +1,4 @@
+pub mod Checkpoints
+pub mod CycleRefusals
+mod Examples
 pub mod Schedules

@@ -1,11 +1,13 @@
 -- What a command may answer in words, and the status and the text of each reply.
-use Rattle.std.specs.Prelude.{ℕ, List, ◌++◌, codes, ⊤}
+use Rattle.std.specs.Prelude.{ℕ, List, ◌++◌, codes, decimal, ⊤}
+use Rattle.command_words.specs.Usage.{as_line}
+use Rattle.pull_words.specs.CheckpointLine.{checkpoint_line}
 use Rattle.pull_words.specs.DeadLine.{dead_line}
 use Rattle.pull_words.specs.PlantLine.{plant_reason}
 use Rattle.pull_words.specs.ScheduleLine.{schedule_line}
-use Rattle.pull_words.specs.Usage.{as_line, usage, version}
+use Rattle.pull_words.specs.Usage.{usage, version}
 use Rattle.pull_words.specs.declared.reply.Reply.{Reply}
-use Rattle.pull_words.specs.declared.reply.Reply.TheVariants.{Usage, Help, Version, Refused, Dead, StoreFault, NoMemory, TooLong, NotFollowed, Checked}
+use Rattle.pull_words.specs.declared.reply.Reply.TheVariants.{Usage, Help, Version, Refused, Dead, StoreFault, NoMemory, TooLong, NotFollowed, Checked, Stopped, NotReached, Varying, Disk, NoCount, NothingSaved, NotEdited, NoSingleCount, CycleFound, CardsFound}
 
 -- the status that the program ends with
 abbrev pub status_of : Reply → ℕ
@@ -19,6 +21,16 @@ status_of NoMemory = 9
 status_of (TooLong file) = 10
 status_of (NotFollowed refusal) = 11
 status_of (Checked text) = 0
+status_of (Stopped fired) = 0
+status_of (CycleFound text) = 0
+status_of (CardsFound text) = 0
+status_of (NotReached refusal) = 7
+status_of (Varying label) = 8
+status_of Disk = 12
+status_of (NoCount job wait) = 13
+status_of NothingSaved = 14
+status_of (NotEdited line) = 16
+status_of NoSingleCount = 17
 
 -- the bytes that it writes
 abbrev pub text_of : Reply → List ℕ
@@ -32,6 +44,16 @@ text_of NoMemory = as_line (codes "memory")
 text_of (TooLong file) = as_line (codes "too long: " ++ file)
 text_of (NotFollowed refusal) = as_line (schedule_line refusal)
 text_of (Checked text) = text
+text_of (Stopped fired) = as_line (codes "stopped " ++ decimal fired)
+text_of (CycleFound text) = text
+text_of (CardsFound text) = text
+text_of (NotReached refusal) = as_line (checkpoint_line refusal)
+text_of (Varying label) = as_line (codes "varying: " ++ label)
+text_of Disk = as_line (codes "disk")
+text_of (NoCount job wait) = as_line (codes "no count: job " ++ (decimal job ++ (codes " waits " ++ decimal wait)))
+text_of NothingSaved = as_line (codes "nothing saved")
+text_of (NotEdited line) = as_line (codes "edits: line " ++ decimal line)
+text_of NoSingleCount = as_line (codes "no single count")
 
 -- its text is known beforehand, so that writing it takes no memory
 abbrev pub IsFixed : Reply → Type 0
@@ -40,4 +62,9 @@ IsFixed Help = ⊤
 IsFixed Version = ⊤
 IsFixed NoMemory = ⊤
 IsFixed (Checked text) = ⊤
+IsFixed (CycleFound text) = ⊤
+IsFixed (CardsFound text) = ⊤
+IsFixed Disk = ⊤
+IsFixed NothingSaved = ⊤
+IsFixed NoSingleCount = ⊤
 IsFixed other = ⊥

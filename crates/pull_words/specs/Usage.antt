@@ -1,10 +1,7 @@
 -- What `--help` and `--version` show, line by line.
-use Rattle.std.specs.Prelude.{ℕ, List, [], ◌∷◌, ◌++◌, codes}
+use Rattle.std.specs.Prelude.{ℕ, List, [], ◌∷◌, codes}
 use Rattle.std.specs.List.{flat_map}
-
--- a text and a line feed
-abbrev pub as_line : List ℕ → List ℕ
-as_line text = text ++ 10 ∷ []
+use Rattle.command_words.specs.Usage.{as_line}
 
 -- the commands, and the statuses that the program ends with
 abbrev pub usage_lines : List (List ℕ)

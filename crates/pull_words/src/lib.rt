@@ -3,6 +3,9 @@
 #![tactic(auto)]
 
 mod check;
+mod checkpoint_refusal;
+mod cycle;
+mod labels;
 mod refusals;
 mod reply;
 mod schedule;
@@ -10,9 +13,12 @@ mod usage;
 mod words;
 
 pub use check::check_text;
+pub use checkpoint_refusal::{CheckpointRefusal, checkpoint_reply};
+pub use command_words::FileName;
+pub use cycle::cycle_reply;
 pub use line_graph::dead_labels;
 pub use refusals::ScheduleRefusal;
 pub use reply::{OUT_OF_MEMORY, Reply};
 pub use schedule::schedule_reply;
 pub use usage::{USAGE, VERSION};
-pub use words::{Command, FileName, WordsError, read_words};
+pub use words::{Command, WordsError, read_words};

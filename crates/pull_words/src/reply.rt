@@ -1,16 +1,20 @@
-ghost use Rattle.std.specs.Prelude.{◌≡◌, ◌++◌, IfOk, OnErr};
+ghost use Rattle.std.specs.Prelude.{◌≡◌, ◌++◌, IfOk, OnErr, string_bytes};
 ghost use Rattle.std.specs.Cow.{cow_slice_items};
+ghost use Rattle.command_words.specs.Usage.{as_line};
 ghost use Rattle.pull_words.specs.Reply.{status_of, text_of, IsFixed};
-ghost use Rattle.pull_words.specs.Usage.{as_line};
+ghost use Rattle.pull_words.specs.Refusals.{sizing_reply, edits_reply};
 ghost use Rattle.pull_words.specs.declared.reply.Reply.TheVariants.{NoMemory};
 
+use crate::checkpoint_refusal::{CheckpointRefusal, checkpoint_line};
 use crate::refusals::{ScheduleRefusal, dead_line, plant_reason, schedule_line};
 use crate::usage::{USAGE, VERSION};
-use crate::words::FileName;
+use card_sizing::SizingError;
+use command_words::FileName;
 use line_base::{Items, Label};
 use plant_model::PlantError;
 use std::alloc::{AllocError, Global};
 use std::borrow::CowSlice;
+use what_if::RefusedLine;
 
 /// The text of want of memory, which takes none.
 pub const OUT_OF_MEMORY: &str = "memory\n";
@@ -34,7 +38,7 @@ pub enum Reply {
         /// The labels of the circuit's stations.
         labels: Items<Label>,
     },
-    /// A file couldn't be read.
+    /// A file couldn't be read or written.
     StoreFault {
         /// Its name.
         file: FileName,
@@ -56,6 +60,49 @@ pub enum Reply {
         /// That it is live, and its card circuits.
         text: Items<u8>,
     },
+    /// The run was stopped, and its state is saved.
+    Stopped {
+        /// The firings that were made.
+        fired: u64,
+    },
+    /// The cycle time was found.
+    CycleFound {
+        /// The ratio, a critical circuit, and the potentials.
+        text: Items<u8>,
+    },
+    /// The least count of cards was found.
+    CardsFound {
+        /// The count, and why it can't be one less.
+        text: Items<u8>,
+    },
+    /// The checkpoint is the text of no state of the plant that firings reach.
+    NotReached {
+        /// Why.
+        refusal: CheckpointRefusal,
+    },
+    /// A machine has a list of times, and so the plant no cycle time.
+    Varying {
+        /// The label of the first such machine.
+        label: Items<u8>,
+    },
+    /// The disk of the slots failed.
+    Disk,
+    /// No count of cards keeps the wait.
+    NoCount {
+        /// The first job that waits longer with the most cards, counted from 1.
+        job: u32,
+        /// How long it waits, in the plant's unit.
+        wait: u64,
+    },
+    /// No slot is open.
+    NothingSaved,
+    /// A line of the edits file can't be followed.
+    NotEdited {
+        /// The first such line, counted from 1.
+        line: u64,
+    },
+    /// The plant has no single count of cards.
+    NoSingleCount,
 }
 
 impl From<AllocError> for Reply {
@@ -66,20 +113,48 @@ impl From<AllocError> for Reply {
     }
 }
 
+impl From<SizingError> for Reply {
+    ghost from_gives = { λ error reply. reply ≡ sizing_reply error };
+
+    fn from(error: SizingError) -> Self {
+        match error {
+            SizingError::NoSingleCount => Reply::NoSingleCount,
+            SizingError::NoCount { job, wait } => Reply::NoCount { job, wait },
+            SizingError::NoMemory => Reply::NoMemory,
+        }
+    }
+}
+
+impl From<RefusedLine> for Reply {
+    ghost from_gives = { λ refused reply. reply ≡ edits_reply refused };
+
+    fn from(refused: RefusedLine) -> Self {
+        Reply::NotEdited { line: refused.line }
+    }
+}
+
 impl Reply {
     /// The status that the program ends with.
     pub fn status(&self) -> u8
         ensures { result ≡ status_of self.now }
     {
         match self {
-            Reply::Help | Reply::Version | Reply::Checked { .. } => 0,
+            Reply::Help | Reply::Version | Reply::Checked { .. } | Reply::Stopped { .. } => 0,
+            Reply::CycleFound { .. } | Reply::CardsFound { .. } => 0,
             Reply::Usage => 2,
             Reply::Refused { .. } => 3,
             Reply::Dead { .. } => 4,
             Reply::StoreFault { .. } => 5,
+            Reply::NotReached { .. } => 7,
+            Reply::Varying { .. } => 8,
             Reply::NoMemory => 9,
             Reply::TooLong { .. } => 10,
             Reply::NotFollowed { .. } => 11,
+            Reply::Disk => 12,
+            Reply::NoCount { .. } => 13,
+            Reply::NothingSaved => 14,
+            Reply::NotEdited { .. } => 16,
+            Reply::NoSingleCount => 17,
         }
     }
 
@@ -93,27 +168,57 @@ impl Reply {
             Reply::Help => USAGE,
             Reply::Version => VERSION,
             Reply::NoMemory => OUT_OF_MEMORY,
+            Reply::Disk => "disk\n",
+            Reply::NothingSaved => "nothing saved\n",
+            Reply::NoSingleCount => "no single count\n",
             Reply::Checked { text } => return Ok(CowSlice::Borrowed(text.as_slice())),
+            Reply::CycleFound { text } => return Ok(CowSlice::Borrowed(text.as_slice())),
+            Reply::CardsFound { text } => return Ok(CowSlice::Borrowed(text.as_slice())),
             Reply::Refused { error } => {
                 let reason = plant_reason(alloc, error)?;
-                return named_line(alloc, "plant: ", reason.as_str());
+                return named_line(alloc, b"plant: ", reason.as_bytes());
             }
             Reply::Dead { labels } => return ended(dead_line(alloc, labels.as_slice())?),
-            Reply::StoreFault { file } => return named_line(alloc, "store: ", file.as_str()),
-            Reply::TooLong { file } => return named_line(alloc, "too long: ", file.as_str()),
+            Reply::StoreFault { file } => return file_line(alloc, b"store: ", file),
+            Reply::TooLong { file } => return file_line(alloc, b"too long: ", file),
             Reply::NotFollowed { refusal } => return ended(schedule_line(alloc, refusal)?),
+            Reply::NotReached { refusal } => return ended(checkpoint_line(alloc, refusal)?),
+            Reply::Varying { label } => return named_line(alloc, b"varying: ", label.as_slice()),
+            Reply::Stopped { fired } => return made(format!(in alloc; "stopped {fired}")?),
+            Reply::NotEdited { line } => return made(format!(in alloc; "edits: line {line}")?),
+            Reply::NoCount { job, wait } => {
+                return made(format!(in alloc; "no count: job {job} waits {wait}")?);
+            }
         };
         Ok(CowSlice::Borrowed(fixed.as_bytes()))
     }
 }
 
+/// A line of these words and the name of a file.
+fn file_line<'a>(
+    alloc: Global,
+    words: &[u8],
+    file: &FileName,
+) -> Result<CowSlice<'a, u8>, AllocError>
+    ensures { IfOk result (λ text. cow_slice_items text ≡ as_line (words.now ++ file.now)) }
+{
+    named_line(alloc, words, file.as_str().as_bytes())
+}
+
 /// A line of these words and what they are of.
-fn named_line<'a>(alloc: Global, words: &str, named: &str) -> Result<CowSlice<'a, u8>, AllocError>
+fn named_line<'a>(alloc: Global, words: &[u8], named: &[u8]) -> Result<CowSlice<'a, u8>, AllocError>
     ensures { IfOk result (λ text. cow_slice_items text ≡ as_line (words.now ++ named.now)) }
 {
-    let mut line = Vec::from_slice(alloc, words.as_bytes())?;
-    line.extend_from_slice(named.as_bytes())?;
+    let mut line = Vec::from_slice(alloc, words)?;
+    line.extend_from_slice(named)?;
     ended(line)
+}
+
+/// A line of a text that was made.
+fn made<'a>(line: String) -> Result<CowSlice<'a, u8>, AllocError>
+    ensures { IfOk result (λ text. cow_slice_items text ≡ as_line (string_bytes line)) }
+{
+    ended(line.into_bytes())
 }
 
 /// A line of this text.

@@ -1,11 +1,10 @@
-ghost use Rattle.std.specs.Prelude.{◌≡◌, ◌<◌, ◌⊎◌, IfOk};
-ghost use Rattle.event_graph.specs.Network.{stations, label};
+ghost use Rattle.std.specs.Prelude.{◌≡◌, ◌⊎◌, IfOk};
 ghost use Rattle.pull_words.specs.ScheduleRefusals.{reply_of, NamesExisting};
 
+use crate::labels::label_of;
 use crate::refusals::ScheduleRefusal;
 use crate::reply::Reply;
 use event_graph::Graph;
-use line_base::Items;
 use line_core::ReplayError;
 use std::alloc::{AllocError, Global};
 
@@ -52,12 +51,4 @@ fn labelled_reply(alloc: Global, graph: &Graph, error: ReplayError) -> Result<Re
         }
         ReplayError::NoMemory => Ok(Reply::NoMemory),
     }
-}
-
-/// The label of a station.
-fn label_of(alloc: Global, graph: &Graph, t: u32) -> Result<Items<u8>, AllocError>
-    requires { t < stations graph.now }
-    ensures { IfOk result (λ text. text ≡ label graph.now t) }
-{
-    Ok(Items::from_vec(Vec::from_slice(alloc, graph.label(t))?))
 }

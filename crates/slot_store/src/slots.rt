@@ -74,6 +74,7 @@ impl<'a, D: Disk> Slots<'a, D> {
     pub fn load(&mut self, alloc: Global) -> Result<Vec<u8>, SlotError>
         ensures same_disk { self.new.disk.ghost_name ≡ self.old.disk.ghost_name }
         ensures same_room { self.new.room ≡ self.old.room }
+        ensures within_room { IfOk result (λ v. length v.items ≤ self.old.room) }
         ensures saved { IfOk result (λ v. IsTrue D.tells
             → content (bytes_now (D.shown self.old.disk.now)) self.old.room ≡ Some v.items) }
         ensures none_saved { IsErrOf result SlotError.NoneSaved → IsTrue D.tells

@@ -1,0 +1,3 @@
+pub mod CycleTexts
+mod Examples
+pub mod Writing

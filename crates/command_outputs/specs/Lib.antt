@@ -1,0 +1,4 @@
+pub mod CardsText
+pub mod ChangesText
+pub mod CycleText
+pub mod Written

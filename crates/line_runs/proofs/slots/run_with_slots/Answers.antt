@@ -1,0 +1,51 @@
+use Rattle.std.proofs.Common.{sym, ap, ◌∙◌, subst, arith, rules}
+use Rattle.live_check.specs.Order.{LiveGraph}
+use Rattle.line_disk.specs.DiskView.{LeavesOnly, held_now}
+use Rattle.slot_store.specs.declared.header.TheConstants.{MAX_ROOM}
+use Rattle.line_runs.specs.Bursts.{IsDone}
+use Rattle.line_runs.specs.Saves.{IsOldOrState}
+use Rattle.line_runs.proofs.Firings.{burst_leaves_less}
+use Rattle.line_runs.proofs.Stopping.{burst_live}
+use Rattle.line_runs.proofs.Saving.{counted_before, saves_begin, saves_go_on, leaves_then, late_state}
+use Rattle.line_runs.proofs.slots.run_with_slots.Goals as goal
+
+pub loop-alloc-init : goal.loop-alloc-init
+loop-alloc-init g c = record {
+  made_for = c.requires.made_for;
+  on = saves_begin g.D.Disk.tells MAX_ROOM c.args.every c.args.line c.fired-saved.result (g.D.Disk.shown c.args.disk.now) c.fired-saved.ensures.fired;
+}
+
+pub save_if_due-requires-clause-before : goal.save_if_due-requires-clause-before
+save_if_due-requires-clause-before g c =
+    let on = c.loop-alloc.invariant.on in
+    omega (arith, on.counted, counted_before c.args.every c.args.line on.saved c.loop-alloc.line on.before, c.burst_on.ensures.some)
+
+pub returns-in_err-saved-clause-any_moment : goal.returns-in_err-saved-clause-any_moment
+returns-in_err-saved-clause-any_moment g c = λ told.
+    let old = g.D.Disk.shown c.args.disk.now in
+    let now = g.D.Disk.shown c.loop-alloc.disk in
+    let new = g.D.Disk.shown c.save_if_due.new.disk in
+    let leaves = leaves_then g.D.Disk.tells MAX_ROOM c.args.every c.args.line c.loop-alloc.line c.burst_on.new.line c.loop-alloc.saved old now new c.loop-alloc.invariant.on c.burst_on.ensures c.save_if_due.ensures.any_moment told in
+    subst (λ (v : LiveGraph). LeavesOnly old new (IsOldOrState (held_now old) MAX_ROOM v.graph)) (sym c.requires.made_for) leaves
+
+pub loop-alloc-smaller : goal.loop-alloc-smaller
+loop-alloc-smaller g c =
+    let undone : ¬ IsDone c.loop-alloc.line = search rules in
+    burst_leaves_less c.loop-alloc.line c.burst_on.new.line c.finished.ensures.line undone c.burst_on.ensures
+
+pub loop-alloc-preserved : goal.loop-alloc-preserved
+loop-alloc-preserved g c =
+    let old = g.D.Disk.shown c.args.disk.now in
+    let now = g.D.Disk.shown c.loop-alloc.disk in
+    let new = g.D.Disk.shown c.save_if_due.new.disk in
+    record {
+      made_for = c.loop-alloc.invariant.made_for ∙ sym (burst_live c.loop-alloc.line c.burst_on.new.line c.burst_on.ensures);
+      on = saves_go_on g.D.Disk.tells MAX_ROOM c.args.every c.args.line c.loop-alloc.line c.burst_on.new.line c.loop-alloc.saved c.in_ok-saved.saved old now new c.loop-alloc.invariant.on c.burst_on.ensures c.in_ok-saved.ensures.saved c.save_if_due.ensures.any_moment c.save_if_due.ensures.faults_stay_or_rise;
+    }
+
+pub returns-clause-late : goal.returns-clause-late
+returns-clause-late g c = λ told many.
+    let on = c.loop-alloc.invariant.on in
+    let done : IsDone c.loop-alloc.line = search rules in
+    let same = ap (λ (v : LiveGraph). v.graph) c.requires.made_for in
+    late_state c.args.live.now.graph c.args.every MAX_ROOM c.args.line on.saved c.loop-alloc.line (g.D.Disk.shown c.args.disk.now) (g.D.Disk.shown c.loop-alloc.disk) same c.fired-saved.ensures.line c.requires.some on.before done (on.holds told) many

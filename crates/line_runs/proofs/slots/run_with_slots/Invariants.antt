@@ -1,0 +1,14 @@
+use Rattle.std.proofs.Common.{◌≡◌}
+use Rattle.slot_store.specs.declared.header.TheConstants.{MAX_ROOM}
+use Rattle.line_runs.proofs.Firings.{left_of}
+use Rattle.line_runs.proofs.Saving.{SavesOn}
+use Rattle.line_runs.proofs.slots.run_with_slots.Given as goal
+
+abbrev pub invariant-loop-alloc : goal.invariant-loop-alloc
+invariant-loop-alloc g l = record {
+  made_for : l.live ≡ l.line.live;
+  on : SavesOn g.D.Disk.tells MAX_ROOM l.every l.initial.line l.line l.saved (g.D.Disk.shown l.initial.disk) (g.D.Disk.shown l.disk);
+}
+
+abbrev pub decreases-loop-alloc : goal.decreases-loop-alloc
+decreases-loop-alloc g l = left_of l.line

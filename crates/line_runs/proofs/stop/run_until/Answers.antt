@@ -1,0 +1,53 @@
+use Rattle.std.proofs.Common.{◌≡◌, ◌<◌, sym, ap, ◌∙◌, subst, arith, rules}
+use Rattle.line_base.specs.declared.event.Parts.{Parts}
+use Rattle.live_check.specs.Order.{LiveGraph}
+use Rattle.line_core.specs.Consistent.{fired}
+use Rattle.line_core.specs.Run.{Run}
+use Rattle.line_runs.specs.Bursts.{IsDone, none, more}
+use Rattle.line_runs.specs.Stop.{all_firings, IsShort, IsStopAt}
+use Rattle.line_runs.specs.Headline.{MayBeResumed}
+use Rattle.line_runs.proofs.Firings.{burst_leaves_less, undone_is_below}
+use Rattle.line_runs.proofs.Stopping.{burst_live, stop_counts, finish_counts}
+use Rattle.line_runs.proofs.Resumed.{may_be_resumed}
+use Rattle.line_runs.proofs.stop.run_until.Goals as goal
+
+pub loop-line-init : goal.loop-line-init
+loop-line-init g c = record { made_for = c.requires; bursts = none }
+
+pub loop-line-smaller : goal.loop-line-smaller
+loop-line-smaller g c =
+    let undone : ¬ IsDone c.loop-line.line = search rules in
+    burst_leaves_less c.loop-line.line c.burst_on.new.line c.finished.ensures.line undone c.burst_on.ensures
+
+pub loop-line-preserved : goal.loop-line-preserved
+loop-line-preserved g c = record {
+  made_for = c.loop-line.invariant.made_for ∙ sym (burst_live c.loop-line.line c.burst_on.new.line c.burst_on.ensures);
+  bursts = more c.loop-line.line c.burst_on.new.line c.loop-line.invariant.bursts (omega (arith, c.fired.ensures.fired, c.if-fired-firings.false)) c.burst_on.ensures;
+}
+
+pub returns-then-fired-firings-clause-headline : goal.returns-then-fired-firings-clause-headline
+returns-then-fired-firings-clause-headline g c =
+    let line = c.loop-line.line in
+    let undone : ¬ IsDone c.loop-line.line = search rules in
+    let graph_is : c.close.result.graph ≡ c.args.live.now.graph =
+    ap (λ (r : Run). r.graph) c.close.ensures.state ∙ ap (λ (v : LiveGraph). v.graph) (sym c.loop-line.invariant.made_for) in
+    let left : fired c.close.result.state < all_firings c.close.result.graph =
+    subst (λ (r : Run). fired r.state < all_firings r.graph) (sym c.close.ensures.state) (undone_is_below line c.finished.ensures.line undone) in
+    (graph_is, subst (λ (g : Parts). MayBeResumed g c.close.result.state) graph_is (may_be_resumed c.close.result c.close.ensures.reached left))
+
+pub returns-then-fired-firings-clause-count : goal.returns-then-fired-firings-clause-count
+returns-then-fired-firings-clause-count g c =
+    let line = c.loop-line.line in
+    let undone : ¬ IsDone c.loop-line.line = search rules in
+    let counts = stop_counts c.args.firings c.args.line line c.loop-line.invariant.bursts c.finished.ensures.line (omega (arith, c.fired.ensures.fired, c.if-fired-firings.true)) undone in
+    subst (λ (r : Run). IsStopAt c.args.live.now.graph c.args.firings (fired c.args.line.state) (fired r.state)) (sym c.close.ensures.state) (
+    subst (λ (v : LiveGraph). IsStopAt v.graph c.args.firings (fired c.args.line.state) (fired line.state)) (sym c.requires) counts)
+
+pub returns-clause-count : goal.returns-clause-count
+returns-clause-count g c = λ left.
+    let line = c.loop-line.line in
+    let done : IsDone c.loop-line.line = search rules in
+    let first : fired c.args.line.state < all_firings c.args.line.live.graph =
+    subst (λ (v : LiveGraph). fired c.args.line.state < all_firings v.graph) c.requires left in
+    subst (λ (v : LiveGraph). IsShort v.graph c.args.firings (fired c.args.line.state)) (sym c.requires) (
+    finish_counts c.args.firings c.args.line line c.loop-line.invariant.bursts c.finished.ensures.line done first)

@@ -1,0 +1,58 @@
+-- What comes of a run that goes on from what the slots of a disk hold.
+use Rattle.std.specs.Prelude.{◌≡◌, ℕ, Bool, IsTrue, List, Option, None, Some, Result, Ok, Err, ⊤}
+use Rattle.line_base.specs.declared.event.Parts.{Parts}
+use Rattle.line_core.specs.Run.{Dates}
+use Rattle.checkpoint.specs.declared.error.CheckpointError.{CheckpointError}
+use Rattle.checkpoint.specs.declared.error.CheckpointError.TheVariants as Text
+use Rattle.line_disk.specs.DiskView.{Image}
+use Rattle.slot_store.specs.declared.error.SlotError.{SlotError}
+use Rattle.slot_store.specs.declared.error.SlotError.TheVariants as Slot
+use Rattle.slot_store.specs.Layout.{content}
+use Rattle.line_runs.specs.declared.error.ResumeError.{ResumeError}
+use Rattle.line_runs.specs.declared.error.ResumeError.TheVariants.{NothingSaved, Checkpoint, DiskFault, NoMemory}
+use Rattle.line_runs.specs.Resume.{Resumes}
+
+-- what the refusal of the slots becomes; a load never finds the content too long
+abbrev pub of_slot_error : SlotError → ResumeError
+of_slot_error Slot.NoneSaved = NothingSaved
+of_slot_error Slot.DiskFault = DiskFault
+of_slot_error Slot.NoMemory = NoMemory
+of_slot_error (Slot.TooLong have) = NoMemory
+
+-- what the refusal of a text becomes
+abbrev pub of_checkpoint_error : CheckpointError → ResumeError
+of_checkpoint_error (Text.Line number) = Checkpoint (Text.Line number)
+of_checkpoint_error (Text.Count station have limit) = Checkpoint (Text.Count station have limit)
+of_checkpoint_error (Text.Marking arc have need) = Checkpoint (Text.Marking arc have need)
+of_checkpoint_error (Text.Date station job have need) = Checkpoint (Text.Date station job have need)
+of_checkpoint_error (Text.PlaceDate arc token have need) =
+    Checkpoint (Text.PlaceDate arc token have need)
+of_checkpoint_error Text.NoMemory = NoMemory
+
+-- what is answered where nothing is saved; a fault of the disk and want of memory come before
+abbrev pub AnswersNothing : Result Dates ResumeError → Type 0
+AnswersNothing (Ok d) = ⊥
+AnswersNothing (Err NothingSaved) = ⊤
+AnswersNothing (Err (Checkpoint error)) = ⊥
+AnswersNothing (Err DiskFault) = ⊤
+AnswersNothing (Err NoMemory) = ⊤
+
+-- what is answered where these bytes are saved: what resuming them answers
+abbrev pub AnswersText : Parts → List ℕ → Result Dates ResumeError → Type 0
+AnswersText g bytes (Ok d) = Resumes g bytes (Ok d)
+AnswersText g bytes (Err NothingSaved) = ⊥
+AnswersText g bytes (Err (Checkpoint error)) = Resumes g bytes (Err error)
+AnswersText g bytes (Err DiskFault) = ⊤
+AnswersText g bytes (Err NoMemory) = ⊤
+
+abbrev pub AnswersSaved : Parts → Option (List ℕ) → Result Dates ResumeError → Type 0
+AnswersSaved g None answer = AnswersNothing answer
+AnswersSaved g (Some bytes) answer = AnswersText g bytes answer
+
+-- the answer is that to what the slots hold, where the disk tells it, and to what was read where it
+-- doesn't
+pub record ResumesSlots (tells : Bool) (image : Image) (room : ℕ) (g : Parts)
+    (answer : Result Dates ResumeError) : Type 0 where
+  pub saved : Option (List ℕ)
+  pub told : IsTrue tells → content image room ≡ saved
+  pub answers : AnswersSaved g saved answer

@@ -1,0 +1,42 @@
+ghost use Rattle.std.specs.Prelude.{◌≡◌};
+ghost use Rattle.line_core.specs.Run.{IsLeastTable};
+ghost use Rattle.line_runs.specs.Bursts.{IsBurst, IsDone};
+ghost use Rattle.line_runs.specs.Table.{ComesToLeast};
+
+use line_core::Table;
+use line_workers::{Gate, Line};
+use live_check::Live;
+use std::thread::Threads;
+
+/// Lets a line work for a burst that has firings left.
+pub(crate) fn burst_on<R: Threads + Sync, G: Gate>(rt: &R, live: &Live, line: &mut Line, gate: &G)
+    requires made_for { live.now ≡ line.old.live }
+    requires undone { ¬ IsDone line.old }
+    ensures { IsBurst line.old line.new }
+{
+    line.burst(rt, live, gate);
+}
+
+/// The dates of a line that has made all of its firings. It takes no memory.
+pub(crate) fn table_of(live: &Live, line: Line) -> Table
+    requires made_for { live.now ≡ line.live }
+    requires done { IsDone line }
+    ensures table { ComesToLeast live.now.graph result }
+    ensures dates { result.rows ≡ line.state.logs }
+{
+    line.close(live).into_table(live)
+}
+
+/// Lets a line work, burst by burst, until every station has fired once for each job. The table
+/// that it comes to is the least solution of its graph, whatever the number of workers and whatever
+/// their threads do. It takes no memory.
+pub fn run_to_end<R: Threads + Sync, G: Gate>(rt: &R, live: &Live, line: Line, gate: &G) -> Table
+    requires { live.now ≡ line.live }
+    ensures { ComesToLeast live.now.graph result }
+{
+    let mut line = line;
+    while !line.finished() {
+        burst_on(rt, live, &mut line, gate);
+    }
+    table_of(live, line)
+}

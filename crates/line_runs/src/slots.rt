@@ -1,0 +1,159 @@
+ghost use Rattle.std.specs.Prelude.{◌≡◌, ℕ, ◌+◌, ◌*◌, ◌<◌, ◌≤◌, ◌↔◌, IsTrue, IfOk, OnOk, IsErrOf};
+ghost use Rattle.event_graph.specs.Network.{stations};
+ghost use Rattle.line_disk.specs.DiskView.{LeavesOnly, held_now};
+ghost use Rattle.line_io.specs.Faults.{Rose};
+ghost use Rattle.line_core.specs.Consistent.{fired};
+ghost use Rattle.line_workers.specs.Line.{IsLine, run_in};
+ghost use Rattle.slot_store.specs.declared.error.SlotError.TheVariants.{TooLong};
+ghost use Rattle.slot_store.specs.Crash.{IsOldOrNew, IsSaved};
+ghost use Rattle.line_runs.specs.Stop.{all_firings};
+ghost use Rattle.line_runs.specs.Table.{ComesToLeast};
+ghost use Rattle.line_runs.specs.Saves.{IsDue, SavesIfDue, HasSaved, IsLateState};
+ghost use Rattle.line_runs.specs.Saves.{IsOldOrState, HasTooLongState};
+ghost use Rattle.line_runs.specs.Store.{text_of, IsOver};
+
+use crate::run::{burst_on, table_of};
+use checkpoint::write_state;
+use line_core::Table;
+use line_disk::Disk;
+use line_workers::{Gate, Line};
+use live_check::Live;
+use slot_store::{MAX_ROOM, SlotError, Slots};
+use std::alloc::{AllocError, Global};
+use std::thread::Threads;
+
+/// The text of the state that a line stands for.
+fn text_of(alloc: Global, live: &Live, line: &Line) -> Result<Vec<u8>, AllocError>
+    requires { live.now ≡ line.now.live }
+    ensures { IfOk result (λ text. text.items ≡ text_of (run_in line.now)) }
+{
+    let state = line.state(alloc, live)?;
+    write_state(alloc, live, &state)
+}
+
+/// Saves a text as the content of a disk's two slots.
+fn save_text<D: Disk>(alloc: Global, text: &[u8], disk: &mut D) -> Result<(), SlotError>
+    ensures any_moment { IsTrue D.tells → LeavesOnly (D.shown disk.old) (D.shown disk.new)
+        (IsOldOrNew (held_now (D.shown disk.old)) MAX_ROOM text.now) }
+    ensures saved { OnOk result (IsTrue D.tells
+        → IsSaved (held_now (D.shown disk.new)) MAX_ROOM text.now) }
+    ensures too_long { (have : ℕ) → IsErrOf result (TooLong have)
+        → IsOver MAX_ROOM have text.now }
+    ensures disk_fault { IsErrOf result SlotError.DiskFault
+        → Rose (D.shown disk.old).faults (D.shown disk.new).faults }
+    ensures never_none_saved { ¬ (IsErrOf result SlotError.NoneSaved) }
+    ensures faults_stay_or_rise { (D.shown disk.old).faults ≤ (D.shown disk.new).faults }
+{
+    Slots::new(disk, MAX_ROOM).save(alloc, text)
+}
+
+/// Saves the state that a line stands for as the content of a disk's two slots.
+fn save_line<D: Disk>(
+    alloc: Global,
+    live: &Live,
+    line: &Line,
+    disk: &mut D,
+) -> Result<(), SlotError>
+    requires { live.now ≡ line.now.live }
+    ensures any_moment { IsTrue D.tells → LeavesOnly (D.shown disk.old) (D.shown disk.new)
+        (IsOldOrNew (held_now (D.shown disk.old)) MAX_ROOM (text_of (run_in line.now))) }
+    ensures saved { OnOk result (IsTrue D.tells
+        → IsSaved (held_now (D.shown disk.new)) MAX_ROOM (text_of (run_in line.now))) }
+    ensures too_long { (have : ℕ) → IsErrOf result (TooLong have)
+        → IsOver MAX_ROOM have (text_of (run_in line.now)) }
+    ensures disk_fault { IsErrOf result SlotError.DiskFault
+        → Rose (D.shown disk.old).faults (D.shown disk.new).faults }
+    ensures never_none_saved { ¬ (IsErrOf result SlotError.NoneSaved) }
+    ensures faults_stay_or_rise { (D.shown disk.old).faults ≤ (D.shown disk.new).faults }
+{
+    match text_of(alloc, live, line) {
+        Ok(text) => save_text(alloc, text.as_slice(), disk),
+        Err(_) => Err(SlotError::NoMemory),
+    }
+}
+
+/// Whether a line is to be saved: so many firings were made since the last save, and not all.
+fn is_due(line: &Line, every: u64, saved: u64) -> bool
+    requires { saved ≤ fired line.now.state }
+    ensures due { IsTrue result ↔ IsDue every saved line.now }
+    ensures line { IsLine line.now }
+{
+    !line.finished() && line.fired() - saved >= every
+}
+
+/// Saves the state that a line stands for where that is due. Answers how many firings the state has
+/// that was saved last.
+fn save_if_due<D: Disk>(
+    alloc: Global,
+    live: &Live,
+    line: &Line,
+    every: u64,
+    saved: u64,
+    disk: &mut D,
+) -> Result<u64, SlotError>
+    requires made_for { live.now ≡ line.now.live }
+    requires before { saved ≤ fired line.now.state }
+    ensures saved { IfOk result (λ last. SavesIfDue D.tells MAX_ROOM every line.now saved last
+        (D.shown disk.old) (D.shown disk.new)) }
+    ensures any_moment { IsTrue D.tells → LeavesOnly (D.shown disk.old) (D.shown disk.new)
+        (IsOldOrState (held_now (D.shown disk.old)) MAX_ROOM line.now.live.graph) }
+    ensures too_long { (have : ℕ) → IsErrOf result (TooLong have)
+        → HasTooLongState line.now.live.graph MAX_ROOM have }
+    ensures disk_fault { IsErrOf result SlotError.DiskFault
+        → Rose (D.shown disk.old).faults (D.shown disk.new).faults }
+    ensures never_none_saved { ¬ (IsErrOf result SlotError.NoneSaved) }
+    ensures faults_stay_or_rise { (D.shown disk.old).faults ≤ (D.shown disk.new).faults }
+{
+    if !is_due(line, every, saved) {
+        return Ok(saved);
+    }
+    save_line(alloc, live, line, disk)?;
+    Ok(line.fired())
+}
+
+/// Lets a line work until every station has fired once for each job. At each burst's end that
+/// leaves firings, the state is saved in the two slots of a disk, where so many firings were made
+/// since the last save or the beginning.
+///
+/// A crash at any moment leaves what it might have left when the call began, or the text of a state
+/// of the run, from which `resume_slots` comes to the same dates.
+pub fn run_with_slots<R: Threads + Sync, G: Gate, D: Disk>(
+    rt: &R,
+    alloc: Global,
+    live: &Live,
+    line: Line,
+    every: u64,
+    gate: &G,
+    disk: &mut D,
+) -> Result<Table, SlotError>
+    requires made_for { live.now ≡ line.live }
+    requires some { 1 ≤ every }
+    ensures table { IfOk result (ComesToLeast live.now.graph) }
+
+    // The state was saved whenever that was due, and last of all when few firings were left.
+    ensures saves { IfOk result
+        (HasSaved D.tells MAX_ROOM every line (D.shown disk.old) (D.shown disk.new)) }
+    ensures late { OnOk result (IsTrue D.tells
+        → fired line.state + every + 16 * stations live.now.graph ≤ all_firings live.now.graph
+        → IsLateState live.now.graph every MAX_ROOM (held_now (D.shown disk.new))) }
+
+    // What a crash leaves, whatever is answered.
+    ensures any_moment { IsTrue D.tells → LeavesOnly (D.shown disk.old) (D.shown disk.new)
+        (IsOldOrState (held_now (D.shown disk.old)) MAX_ROOM live.now.graph) }
+
+    // When each error comes; want of memory is free.
+    ensures too_long { (have : ℕ) → IsErrOf result (TooLong have)
+        → HasTooLongState live.now.graph MAX_ROOM have }
+    ensures disk_fault { IsErrOf result SlotError.DiskFault
+        → Rose (D.shown disk.old).faults (D.shown disk.new).faults }
+    ensures never_none_saved { ¬ (IsErrOf result SlotError.NoneSaved) }
+    ensures faults_stay_or_rise { (D.shown disk.old).faults ≤ (D.shown disk.new).faults }
+{
+    let mut line = line;
+    let mut saved = line.fired();
+    while !line.finished() {
+        burst_on(rt, live, &mut line, gate);
+        saved = save_if_due(alloc, live, &line, every, saved, disk)?;
+    }
+    Ok(table_of(live, line))
+}

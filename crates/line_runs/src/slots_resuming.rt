@@ -1,0 +1,38 @@
+ghost use Rattle.std.specs.Prelude.{◌≡◌, ◌≤◌, IsTrue, IfOk, OnErr, IsErrOf};
+ghost use Rattle.line_disk.specs.DiskView.{Stays};
+ghost use Rattle.line_io.specs.Faults.{Rose};
+ghost use Rattle.slot_store.specs.Crash.{bytes_now};
+ghost use Rattle.line_runs.specs.ResumeSlots.{ResumesSlots};
+
+use crate::error::ResumeError;
+use crate::resuming::resume;
+use line_core::Table;
+use line_disk::Disk;
+use line_workers::Gate;
+use live_check::Live;
+use slot_store::{MAX_ROOM, Slots};
+use std::alloc::Global;
+use std::thread::Threads;
+
+/// Goes on from what the two slots of a disk hold, with so many workers, until every station has
+/// fired once for each job. The table is the least solution of the graph. The disk is as before.
+pub fn resume_slots<R: Threads + Sync, G: Gate, D: Disk>(
+    rt: &R,
+    alloc: Global,
+    live: &Live,
+    disk: &mut D,
+    workers: u32,
+    gate: &G,
+) -> Result<Table, ResumeError>
+    requires some { 1 ≤ workers }
+    requires few { workers ≤ 16 }
+    ensures resumes { ResumesSlots D.tells (bytes_now (D.shown disk.old)) MAX_ROOM
+        live.now.graph result }
+    ensures stays { IsTrue D.tells → Stays (D.shown disk.old) (D.shown disk.new) }
+    ensures disk_fault { IsErrOf result ResumeError.DiskFault
+        → Rose (D.shown disk.old).faults (D.shown disk.new).faults }
+    ensures faults_stay_or_rise { (D.shown disk.old).faults ≤ (D.shown disk.new).faults }
+{
+    let text = Slots::new(disk, MAX_ROOM).load(alloc)?;
+    Ok(resume(rt, alloc, live, text.as_slice(), workers, gate)?)
+}

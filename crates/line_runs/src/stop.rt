@@ -1,0 +1,45 @@
+ghost use Rattle.std.specs.Prelude.{◌≡◌};
+ghost use Rattle.line_core.specs.Consistent.{fired};
+ghost use Rattle.line_runs.specs.Headline.{EndsWell};
+ghost use Rattle.line_runs.specs.Stop.{EndsFirst, CountsWell};
+
+use crate::run::{burst_on, table_of};
+use line_core::{State, Table};
+use line_workers::{Gate, Line};
+use live_check::Live;
+use std::thread::Threads;
+
+/// How a run ends that is told to stop.
+#[derive(Drop)]
+pub enum Outcome {
+    /// All firings were made first: their dates.
+    Finished(Table),
+    /// The run stopped before all firings were made, in this state.
+    Stopped(State),
+}
+
+/// Lets a line work until so many firings are made, those with which it begins among them, and
+/// stops it at the first burst's end, or before the first burst, where they are. Where all firings
+/// are made first, the run is finished. It takes no memory: a state that it stops in has the very
+/// logs of the line.
+pub fn run_until<R: Threads + Sync, G: Gate>(
+    rt: &R,
+    live: &Live,
+    line: Line,
+    firings: u64,
+    gate: &G,
+) -> Outcome
+    requires { live.now ≡ line.live }
+    ensures headline { EndsWell live.now.graph result }
+    ensures stop { EndsFirst firings line result }
+    ensures count { CountsWell live.now.graph firings (fired line.state) result }
+{
+    let mut line = line;
+    while !line.finished() {
+        if line.fired() >= firings {
+            return Outcome::Stopped(line.close(live));
+        }
+        burst_on(rt, live, &mut line, gate);
+    }
+    Outcome::Finished(table_of(live, line))
+}
