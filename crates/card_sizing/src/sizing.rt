@@ -86,7 +86,8 @@ pub fn least_cards(alloc: Global, plant: &Plant, wait: u64) -> Result<Sizing, Si
 
     // No answer but want of memory is free.
     ensures refused { IfErr result (IsSizingRefusal plant.now wait) }
-    ensures no_single_count { IsErrOf result SizingError.NoSingleCount ↔ (has_single_count plant.now ≡ false) }
+    ensures no_single_count { IsErrOf result SizingError.NoSingleCount ↔
+        (has_single_count plant.now ≡ false) }
     ensures most_serve { OnOk result (Serves plant.now wait most_cards) }
 {
     if !has_single_count(plant) {

@@ -56,7 +56,8 @@ fn is_covered(start: i128, weight: i128, end: i128) -> bool
 /// Whether no arc leads to a station whose potential is below that of its start and the arc's weight together.
 fn are_potentials(graph: &Graph, given: &Certificate) -> bool
     requires { IsSmall graph.now given.now }
-    ensures { IsTrue result ↔ ArePotentials graph.now given.now.time given.now.cards given.now.potentials }
+    ensures { IsTrue result ↔
+        ArePotentials graph.now given.now.time given.now.cards given.now.potentials }
 {
     let potentials = given.potentials.as_slice();
     for (a, arc) in graph.arcs().iter().enumerate() {
@@ -78,7 +79,8 @@ pub fn accept(live: &Live, given: &Certificate) -> bool
     requires fixed { NoneVaries live.now.graph }
     requires small { IsSmall live.now.graph given.now }
     ensures exact { IsTrue result ↔ IsCertificate live.now.graph given.now }
-    ensures greatest { IsTrue result → HasNoGreaterRatio live.now.graph given.now.time given.now.cards }
+    ensures greatest { IsTrue result →
+        HasNoGreaterRatio live.now.graph given.now.time given.now.cards }
 {
     let graph = live.graph();
     given.cards >= 1 && (has_ratio(graph, given) || is_idle(given)) && are_potentials(graph, given)

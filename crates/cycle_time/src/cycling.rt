@@ -17,7 +17,8 @@ use std::alloc::{AllocError, Global};
 
 /// The first station with a list of times.
 fn first_varying(graph: &Graph) -> Option<u32>
-    ensures { MatchOption result (NoneVaries graph.now) (IsFirst (Varies graph.now) (stations graph.now)) }
+    ensures { MatchOption result (NoneVaries graph.now)
+        (IsFirst (Varies graph.now) (stations graph.now)) }
 {
     for t in 0..graph.stations() {
         if graph.varies(t) {

@@ -11,7 +11,8 @@ ghost use Rattle.cycle_time.specs.Dates.{NoneIsNegative, BoundsDates, HoldsBack}
 ///
 /// It runs nothing: its contract is the law. So what `accept` takes can be relied on, wherever it comes from.
 pub fn certificates_bound_every_ratio()
-    ensures { (g : Parts) (c : Certificate) → IsCertificate g c → HasNoGreaterRatio g c.time c.cards }
+    ensures { (g : Parts) (c : Certificate) →
+        IsCertificate g c → HasNoGreaterRatio g c.time c.cards }
 {}
 
 /// A law of the definitions: where no time varies, no date of the least solution grows faster than the ratio of a certificate
@@ -29,5 +30,6 @@ pub fn potentials_bound_dates()
 ///
 /// It runs nothing: its contract is the law.
 pub fn circuits_hold_back_dates()
-    ensures { (g : Parts) (arcs : List ℕ) → IsGraph g → NoneVaries g → IsCircuit g arcs → HoldsBack g arcs }
+    ensures { (g : Parts) (arcs : List ℕ) →
+        IsGraph g → NoneVaries g → IsCircuit g arcs → HoldsBack g arcs }
 {}

@@ -148,7 +148,8 @@ impl Tree {
         ensures grown { IsGrown graph.now weights.now.weighing self.new }
         ensures raised { IsRaised graph.now self.old self.new }
         ensures covers { Covers graph.now weights.now.weighing self.old self.new }
-        ensures within { (most : ℕ) → IsWithin most self.old → IsWithin (most + 512 * most_gain) self.new }
+        ensures within { (most : ℕ) →
+            IsWithin most self.old → IsWithin (most + 512 * most_gain) self.new }
         ensures rests { IfNone result (self.new ≡ self.old) }
         ensures risen { IfSome result (HasRisen graph.now self.old self.new) }
     {

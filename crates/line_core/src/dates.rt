@@ -92,7 +92,8 @@ fn asked_date(logs: &Logs, graph: &Graph, a: u32, k: usize) -> Date
     requires arc { a < arc_count graph.now }
     requires token { k < length (all_tokens graph.now (dates_of logs.now) a) }
     requires job { k < jobs graph.now }
-    ensures { result ≡ work graph.now a (k + 1) + slice_index (all_tokens graph.now (dates_of logs.now) a) k }
+    ensures { result ≡
+        work graph.now a (k + 1) + slice_index (all_tokens graph.now (dates_of logs.now) a) k }
 {
     let arc = arc_at(graph, a);
     let date = token(logs, graph, a, k);

@@ -66,7 +66,8 @@ fn check_marking(graph: &Graph, logs: &Logs, places: &Places, arc: u32) -> Resul
     requires parts { AreParts graph.now logs.now places.now }
     requires few { long_logs graph.now (dates_of logs.now) ≡ [] }
     requires arc { arc < arc_count graph.now }
-    ensures { AnswersFirst result (wrong_marking graph.now (dates_of logs.now) (dates_of places.now) arc) }
+    ensures { AnswersFirst result
+        (wrong_marking graph.now (dates_of logs.now) (dates_of places.now) arc) }
 {
     let ends = arc_at(graph, arc);
     let have = dates_at(places, arc).len();
@@ -87,7 +88,8 @@ fn check_marking(graph: &Graph, logs: &Logs, places: &Places, arc: u32) -> Resul
 fn check_markings(graph: &Graph, logs: &Logs, places: &Places) -> Result<(), StateError>
     requires parts { AreParts graph.now logs.now places.now }
     requires few { long_logs graph.now (dates_of logs.now) ≡ [] }
-    ensures { AnswersFirst result (wrong_markings graph.now (dates_of logs.now) (dates_of places.now)) }
+    ensures { AnswersFirst result
+        (wrong_markings graph.now (dates_of logs.now) (dates_of places.now)) }
 {
     for arc in 0..graph.arcs().len() as u32 {
         check_marking(graph, logs, places, arc)?;
@@ -225,7 +227,8 @@ fn check_tokens_on(graph: &Graph, logs: &Logs, places: &Places, arc: u32) -> Res
     requires marking { wrong_markings graph.now (dates_of logs.now) (dates_of places.now) ≡ [] }
     requires arc { arc < arc_count graph.now }
     requires limits { IsWithinLimits graph.now }
-    ensures { AnswersFirst result (wrong_tokens_on graph.now (dates_of logs.now) (dates_of places.now) arc) }
+    ensures { AnswersFirst result
+        (wrong_tokens_on graph.now (dates_of logs.now) (dates_of places.now) arc) }
 {
     let taken = dates_at(logs, arc_at(graph, arc).to).len() as u32;
     let dates = dates_at(places, arc);
@@ -250,7 +253,8 @@ fn check_tokens(graph: &Graph, logs: &Logs, places: &Places) -> Result<(), State
     requires parts { AreParts graph.now logs.now places.now }
     requires few { long_logs graph.now (dates_of logs.now) ≡ [] }
     requires marking { wrong_markings graph.now (dates_of logs.now) (dates_of places.now) ≡ [] }
-    ensures { AnswersFirst result (wrong_tokens graph.now (dates_of logs.now) (dates_of places.now)) }
+    ensures { AnswersFirst result
+        (wrong_tokens graph.now (dates_of logs.now) (dates_of places.now)) }
 {
     for arc in 0..graph.arcs().len() as u32 {
         check_tokens_on(graph, logs, places, arc)?;
@@ -261,7 +265,8 @@ fn check_tokens(graph: &Graph, logs: &Logs, places: &Places) -> Result<(), State
 /// Refuses logs and places by the first thing that is wrong with them.
 pub fn check_parts(graph: &Graph, logs: &Logs, places: &Places) -> Result<(), StateError>
     requires { AreParts graph.now logs.now places.now }
-    ensures { AnswersFirst result (state_refusals graph.now (dates_of logs.now) (dates_of places.now)) }
+    ensures { AnswersFirst result
+        (state_refusals graph.now (dates_of logs.now) (dates_of places.now)) }
 {
     check_logs(graph, logs)?;
     check_markings(graph, logs, places)?;

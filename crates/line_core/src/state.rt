@@ -173,7 +173,8 @@ impl State {
     /// start.
     pub fn marking(&self, live: &Live) -> Result<Marking, AllocError>
         requires made_for { live.now.graph ≡ self.now.graph }
-        ensures lengths { IfOk result (λ m. m ≡ map (λ tokens. length tokens) self.now.state.places) }
+        ensures lengths { IfOk result
+            (λ m. m ≡ map (λ tokens. length tokens) self.now.state.places) }
         ensures circuits { IfOk result (FillsCircuits self.now.graph) }
         ensures reached { IsReached self.now }
     {
@@ -212,9 +213,11 @@ impl State {
         places: Places,
     ) -> Result<State, StateError>
         requires parts { AreParts live.now.graph logs places }
-        ensures state { IfOk result (λ state. state ≡ run_with live.now.graph (dates_of logs) (dates_of places)) }
+        ensures state { IfOk result
+            (λ state. state ≡ run_with live.now.graph (dates_of logs) (dates_of places)) }
         ensures reached { IfOk result IsReached }
-        ensures refused { IfErr result (IsStateRefusal live.now.graph (dates_of logs) (dates_of places)) }
+        ensures refused { IfErr result
+            (IsStateRefusal live.now.graph (dates_of logs) (dates_of places)) }
         ensures exact { IsReachedExactly live.now.graph (dates_of logs) (dates_of places) }
     {
         check_parts(live.graph(), &logs, &places)?;
@@ -232,9 +235,11 @@ impl State {
     ) -> Result<State, StateError>
         requires parts { AreParts live.now.graph logs places.now }
         requires room { HasRoom live.now.graph logs }
-        ensures state { IfOk result (λ state. state ≡ run_with live.now.graph (dates_of logs) (dates_of places.now)) }
+        ensures state { IfOk result
+            (λ state. state ≡ run_with live.now.graph (dates_of logs) (dates_of places.now)) }
         ensures reached { IfOk result IsReached }
-        ensures refused { IfErr result (λ error. state_refusal live.now.graph (dates_of logs) (dates_of places.now) ≡ Some error) }
+        ensures refused { IfErr result (λ error.
+            state_refusal live.now.graph (dates_of logs) (dates_of places.now) ≡ Some error) }
         ensures exact { IsReachedExactly live.now.graph (dates_of logs) (dates_of places.now) }
     {
         check_parts(live.graph(), &logs, places)?;

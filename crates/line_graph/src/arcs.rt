@@ -41,7 +41,8 @@ pub fn policy_arcs(alloc: Global, plant: &Plant) -> Result<Vec<Arc>, AllocError>
 fn add_stage_arcs(layout: &Layout, number: u32, arcs: &mut Vec<Arc>) -> Result<(), AllocError>
     requires sound { IsSound layout.now }
     requires exists { number < length layout.now.stages }
-    ensures { OnOk result (arcs.new.items ≡ arcs.old.items ++ arcs_of (stage_rows layout.now number)) }
+    ensures { OnOk result (arcs.new.items ≡
+        arcs.old.items ++ arcs_of (stage_rows layout.now number)) }
 {
     arcs.push(worked(layout.release(number), layout.machine(number, 0), 0))?;
     for place in 0..layout.stage(number).machines.len() {
@@ -59,7 +60,8 @@ fn add_machine_arcs(
 ) -> Result<(), AllocError>
     requires exists { number < length layout.now.stages }
     requires machine { place < length (stage_at layout.now number).machines }
-    ensures { OnOk result (arcs.new.items ≡ arcs.old.items ++ arcs_of (machine_rows layout.now number place)) }
+    ensures { OnOk result (arcs.new.items ≡
+        arcs.old.items ++ arcs_of (machine_rows layout.now number place)) }
 {
     let here = layout.machine(number, place);
     let machine = &layout.stage(number).machines.as_slice()[place as usize];

@@ -26,7 +26,8 @@ pub fn line_delays(alloc: Global, plant: &Plant) -> Result<Vec<u64>, AllocError>
 /// Adds the delays of a stage's arcs, of which only the last has one: the travel of its parts.
 fn add_stage_delays(layout: &Layout, number: u32, delays: &mut Vec<u64>) -> Result<(), AllocError>
     requires { number < length layout.now.stages }
-    ensures { OnOk result (delays.new.items ≡ delays.old.items ++ delays_of (stage_rows layout.now number)) }
+    ensures { OnOk result (delays.new.items ≡
+        delays.old.items ++ delays_of (stage_rows layout.now number)) }
 {
     let stage = layout.stage(number);
     delays.push(0)?;
@@ -73,7 +74,8 @@ fn card_times(alloc: Global, plant: &Plant) -> Result<Vec<u64>, AllocError>
 
 /// For each stage no delay of the demand, then how long its cards move back.
 fn demand_and_card_times(alloc: Global, plant: &Plant) -> Result<Vec<u64>, AllocError>
-    ensures { IfOk result (λ times. times.items ≡ flat_map (λ s. 0 ∷ s.card_time ∷ []) plant.now.stages) }
+    ensures { IfOk result
+        (λ times. times.items ≡ flat_map (λ s. 0 ∷ s.card_time ∷ []) plant.now.stages) }
 {
     let mut times = Vec::new(alloc);
     for stage in plant.stages.as_slice() {

@@ -16,7 +16,7 @@ use Rattle.plant_model.specs.declared.plant.Policy.{Policy}
 use Rattle.plant_model.specs.declared.plant.Policy.TheVariants.{Kanban, Conwip, BaseStock, Extended}
 use Rattle.plant_model.specs.Stages.{Machine, Stage}
 use Rattle.plant_model.specs.declared.plant.Plant.{Plant}
-use Rattle.plant_model.specs.declared.place.Table.TheVariants.{InMachine}
+use Rattle.plant_model.specs.declared.place.FileTable.TheVariants.{InMachine}
 use Rattle.plant_model.specs.Line.{no_stage, no_machine, no_loop, stage_at, machine_at, loop_at, next, line_cards, station_count, is_first, is_downstream, path_stock, stock_between}
 use Rattle.plant_model.specs.Refusals.{refuse_if, each_from, each, above, empty, larger, bad_name, bad_names, machine_name_twice, stage_name_twice, names_twice, cards_out_of_range, top_out_of_range, times_out_of_range, machine_out_of_range, stage_out_of_range, loop_out_of_range, out_of_range, feeds_not_later, all_feeds_not_later, second_final, second_finals, times_count, machine_times_count, stage_times_count, times_counts, falling_date, demand_order, too_few, too_few_in_line, too_few_in_stage, too_few_under, is_loop, too_few_in_loop, too_few_cards, not_downstream, loops_not_downstream, too_large, parts_refusals, whole_refusals}
 use Rattle.plant_model.specs.Sound.{IsSound, HasSoundNames, IsSoundPlant, AreSoundTimes}

@@ -5,7 +5,8 @@ use Rattle.event_graph.specs.Table.{date_in}
 use Rattle.event_graph.specs.Firing.{greatest}
 use Rattle.line_stats.specs.Counts.{job_numbers, last_date}
 use Rattle.line_stats.proofs.Rising.{date-row}
-use Rattle.line_stats.proofs.Greatest.{greatest-range, greatest-row}
+use Rattle.event_graph.proofs.Greatest.{greatest-range}
+use Rattle.line_stats.proofs.Greatest.{greatest-row}
 use Rattle.line_stats.proofs.totals.last.Goals as goal
 
 pub loop-t-init : goal.loop-t-init

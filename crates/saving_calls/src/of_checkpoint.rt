@@ -1,0 +1,357 @@
+ghost use Rattle.std.specs.Prelude.{◌≡◌};
+
+use checkpoint::{CheckpointError, read_state, write_state};
+use line_core::{State, run};
+use live_check::Live;
+use sample_plants::{live_of, two_stages, two_stages_apart};
+use std::alloc::Global;
+use std::process::Abort;
+use std::test::Fail;
+
+/// The start of the two stages, in format 1.
+const START: &str = "\
+pull-checkpoint 1
+station feed 0
+station cut 0
+station cut.saw 0
+station weld 0
+station weld.torch 0
+station deliver 0
+place 0 0
+place 1 1 0
+place 2 1 0
+place 3 1 0
+place 4 0
+place 5 1 0
+place 6 1 0
+place 7 1 0
+place 8 0
+place 9 0
+place 10 0
+end
+";
+
+/// The two stages after the firings feed, deliver, weld, cut, cut.saw, in format 1.
+const FIVE_FIRINGS: &str = "\
+pull-checkpoint 1
+station feed 1 0
+station cut 1 0
+station cut.saw 1 3
+station weld 1 0
+station weld.torch 0
+station deliver 1 0
+place 0 0
+place 1 1 3
+place 2 1 3
+place 3 1 3
+place 4 1 0
+place 5 1 0
+place 6 1 0
+place 7 0
+place 8 0
+place 9 0
+place 10 0
+end
+";
+
+/// The two stages when every station has fired once for each job, in format 2.
+const FINISHED: &str = "\
+pull-checkpoint 2
+delays 0
+station feed 3 0 2 2
+station cut 3 0 5 5
+station cut.saw 3 3 5 5
+station weld 3 0 5 5
+station weld.torch 3 5 5 5
+station deliver 3 0 5 5
+place 0 0
+place 1 1 13
+place 2 1 13
+place 3 1 13
+place 4 0
+place 5 1 15
+place 6 1 15
+place 7 1 15
+place 8 0
+place 9 0
+place 10 0
+end
+";
+
+/// What is answered to a text: how many firings made the state, or the error.
+fn answer(
+    rt: &impl Abort,
+    alloc: Global,
+    live: &Live,
+    text: &[u8],
+) -> Result<u64, CheckpointError> {
+    assert!(rt; text.len() < 1_000_000);
+    Ok(read_state(alloc, live, text)?.fired())
+}
+
+/// The answer to a text in which one piece is another.
+fn answer_with(
+    rt: &impl Abort,
+    alloc: Global,
+    live: &Live,
+    text: &str,
+    old: &str,
+    new: &str,
+) -> Result<Result<u64, CheckpointError>, Fail> {
+    let (front, back) = text.split_once(old).ok_or("the piece isn't there")?;
+    let text = format!(in alloc; "{front}{new}{back}")?;
+    Ok(answer(rt, alloc, live, text.as_bytes()))
+}
+
+/// The refusal of a line.
+fn line(number: u64) -> Result<u64, CheckpointError> {
+    Err(CheckpointError::Line { number })
+}
+
+/// Asserts that each front of a text is refused with the line that it cuts.
+fn each_front_is_refused(rt: &impl Abort, alloc: Global, live: &Live, text: &[u8]) {
+    let mut number: u64 = 1;
+    for (end, byte) in text.iter().enumerate() {
+        assert_eq!(rt; answer(rt, alloc, live, &text[..end]), line(number));
+        if *byte == b'\n' {
+            number = number.wrapping_add(1);
+        }
+    }
+}
+
+/// Fires a station.
+fn fire(rt: &impl Abort, live: &Live, state: &mut State, t: u32)
+    requires made_for { live.now.graph ≡ state.old.graph }
+    ensures made_for { live.now.graph ≡ state.new.graph }
+{
+    assert!(rt; t < live.graph().stations());
+    assert!(rt; state.fire(live, t).is_ok());
+}
+
+/// Fires every station once, in an order that the two stages can follow.
+fn fire_round(rt: &impl Abort, live: &Live, state: &mut State)
+    requires made_for { live.now.graph ≡ state.old.graph }
+    ensures made_for { live.now.graph ≡ state.new.graph }
+{
+    fire(rt, live, state, 0);
+    fire(rt, live, state, 5);
+    fire(rt, live, state, 3);
+    fire(rt, live, state, 1);
+    fire(rt, live, state, 2);
+    fire(rt, live, state, 4);
+}
+
+/// The text of the state to which the firings lead that are left after five.
+fn finished_text(
+    rt: &impl Abort,
+    alloc: Global,
+    live: &Live,
+    mut state: State,
+) -> Result<Vec<u8>, Fail>
+    requires made_for { live.now.graph ≡ state.graph }
+{
+    fire(rt, live, &mut state, 4);
+    fire_round(rt, live, &mut state);
+    fire_round(rt, live, &mut state);
+    Ok(write_state(alloc, live, &state)?)
+}
+
+#[test]
+fn a_start_and_a_finished_state_are_written(rt: HostRuntime) -> Result<(), Fail> {
+    let plant = two_stages(rt.alloc())?;
+    let live = live_of(rt.alloc(), &plant)?;
+    let finished = run(rt.alloc(), &live)?;
+    let text = write_state(rt.alloc(), &live, &finished)?;
+    assert_eq!(rt; text.as_slice(), FINISHED.as_bytes());
+    let start = State::start(rt.alloc(), &live)?;
+    let text = write_state(rt.alloc(), &live, &start)?;
+    let lines = START
+        .strip_prefix("pull-checkpoint 1\n")
+        .ok_or("not a start")?;
+    let wanted = format!(in rt.alloc(); "pull-checkpoint 2\ndelays 0\n{lines}")?;
+    assert_eq!(rt; text.as_slice(), wanted.as_bytes());
+    Ok(())
+}
+
+#[test]
+fn a_state_that_is_read_goes_on_firing(rt: HostRuntime) -> Result<(), Fail> {
+    let plant = two_stages(rt.alloc())?;
+    let live = live_of(rt.alloc(), &plant)?;
+    let state = read_state(rt.alloc(), &live, FIVE_FIRINGS.as_bytes())
+        .ok()
+        .ok_or("not a checkpoint")?;
+    assert_eq!(rt; state.fired(), 5);
+    let text = finished_text(&rt, rt.alloc(), &live, state)?;
+    assert_eq!(rt; text.as_slice(), FINISHED.as_bytes());
+    assert_eq!(rt; answer(&rt, rt.alloc(), &live, FINISHED.as_bytes()), Ok(18));
+    assert_eq!(rt; answer(&rt, rt.alloc(), &live, START.as_bytes()), Ok(0));
+    Ok(())
+}
+
+/// Asserts the answer to a text in which one piece is another.
+fn answers(
+    rt: &impl Abort,
+    alloc: Global,
+    live: &Live,
+    text: &str,
+    pieces: (&str, &str),
+    wanted: Result<u64, CheckpointError>,
+) -> Result<(), Fail> {
+    let (old, new) = pieces;
+    assert_eq!(rt; answer_with(rt, alloc, live, text, old, new)?, wanted);
+    Ok(())
+}
+
+#[test]
+fn a_date_that_no_firings_reach_is_refused(rt: HostRuntime) -> Result<(), Fail> {
+    let plant = two_stages(rt.alloc())?;
+    let live = live_of(rt.alloc(), &plant)?;
+    let late = CheckpointError::Date {
+        station: 2,
+        job: 1,
+        have: 4,
+        need: 3,
+    };
+    let pieces = ("station cut.saw 1 3", "station cut.saw 1 4");
+    answers(&rt, rt.alloc(), &live, FIVE_FIRINGS, pieces, Err(late))
+}
+
+#[test]
+fn a_place_that_no_firings_reach_is_refused(rt: HostRuntime) -> Result<(), Fail> {
+    let plant = two_stages(rt.alloc())?;
+    let live = live_of(rt.alloc(), &plant)?;
+    let few = CheckpointError::Marking {
+        arc: 4,
+        have: 0,
+        need: 1,
+    };
+    let pieces = ("place 4 1 0", "place 4 0");
+    answers(&rt, rt.alloc(), &live, FIVE_FIRINGS, pieces, Err(few))?;
+    let early = CheckpointError::PlaceDate {
+        arc: 1,
+        token: 1,
+        have: 2,
+        need: 3,
+    };
+    let pieces = ("place 1 1 3", "place 1 1 2");
+    answers(&rt, rt.alloc(), &live, FIVE_FIRINGS, pieces, Err(early))
+}
+
+#[test]
+fn a_log_with_more_dates_than_jobs_is_refused(rt: HostRuntime) -> Result<(), Fail> {
+    let plant = two_stages(rt.alloc())?;
+    let live = live_of(rt.alloc(), &plant)?;
+    let many = CheckpointError::Count {
+        station: 0,
+        have: 4,
+        limit: 3,
+    };
+    let pieces = ("station feed 1 0", "station feed 4 0 2 4 4");
+    answers(&rt, rt.alloc(), &live, FIVE_FIRINGS, pieces, Err(many))
+}
+
+/// Asserts that the line of the feed is refused where its end is this.
+fn feed_is_refused(rt: &impl Abort, alloc: Global, live: &Live, new: &str) -> Result<(), Fail> {
+    answers(rt, alloc, live, FINISHED, ("feed 3 0 2 2", new), line(3))
+}
+
+#[test]
+fn words_that_are_no_difference_are_refused(rt: HostRuntime) -> Result<(), Fail> {
+    let plant = two_stages(rt.alloc())?;
+    let live = live_of(rt.alloc(), &plant)?;
+    feed_is_refused(&rt, rt.alloc(), &live, "feed 3 0 2 -0")?;
+    feed_is_refused(&rt, rt.alloc(), &live, "feed 3 0 2 +2")?;
+    feed_is_refused(&rt, rt.alloc(), &live, "feed 3 0 2 02")?;
+    feed_is_refused(&rt, rt.alloc(), &live, "feed 3 0  2 2")
+}
+
+#[test]
+fn lines_of_another_length_are_refused(rt: HostRuntime) -> Result<(), Fail> {
+    let plant = two_stages(rt.alloc())?;
+    let live = live_of(rt.alloc(), &plant)?;
+    feed_is_refused(&rt, rt.alloc(), &live, "feed 3 0 2")?;
+    feed_is_refused(&rt, rt.alloc(), &live, "feed 3 0 2 2 2")?;
+    feed_is_refused(&rt, rt.alloc(), &live, "feed 99999999999999999999 0 2 2")?;
+    feed_is_refused(&rt, rt.alloc(), &live, "feeds 3 0 2 2")
+}
+
+#[test]
+fn dates_below_0_or_above_the_latest_are_refused(rt: HostRuntime) -> Result<(), Fail> {
+    let plant = two_stages(rt.alloc())?;
+    let live = live_of(rt.alloc(), &plant)?;
+    feed_is_refused(&rt, rt.alloc(), &live, "feed 3 0 2 -3")?;
+    feed_is_refused(&rt, rt.alloc(), &live, "feed 3 0 2 1000000000000000001")?;
+    feed_is_refused(&rt, rt.alloc(), &live, "feed 3 0 2 999999999999999999")
+}
+
+#[test]
+fn other_lines_are_refused_by_their_number(rt: HostRuntime) -> Result<(), Fail> {
+    let plant = two_stages(rt.alloc())?;
+    let live = live_of(rt.alloc(), &plant)?;
+    let delays = ("delays 0", "delays 1 3 4");
+    answers(&rt, rt.alloc(), &live, FINISHED, delays, line(2))?;
+    let place = ("place 3 1 13", "place 4 1 13");
+    answers(&rt, rt.alloc(), &live, FINISHED, place, line(12))?;
+    answers(&rt, rt.alloc(), &live, FINISHED, ("end\n", "end"), line(20))?;
+    let behind = ("end\n", "end\n\n");
+    answers(&rt, rt.alloc(), &live, FINISHED, behind, line(21))
+}
+
+/// The refusal of the last date of the feed.
+fn last_of_the_feed(have: u64) -> Result<u64, CheckpointError> {
+    Err(CheckpointError::Date {
+        station: 0,
+        job: 3,
+        have,
+        need: 4,
+    })
+}
+
+#[test]
+fn a_date_may_be_as_late_as_a_number_and_earlier_than_the_one_before(
+    rt: HostRuntime,
+) -> Result<(), Fail> {
+    let plant = two_stages(rt.alloc())?;
+    let live = live_of(rt.alloc(), &plant)?;
+    let latest = last_of_the_feed(1_000_000_000_000_000_000);
+    let pieces = ("feed 3 0 2 2", "feed 3 0 2 999999999999999998");
+    answers(&rt, rt.alloc(), &live, FINISHED, pieces, latest)?;
+    let pieces = ("feed 3 0 2 2", "feed 3 0 2 -2");
+    answers(
+        &rt,
+        rt.alloc(),
+        &live,
+        FINISHED,
+        pieces,
+        last_of_the_feed(0),
+    )
+}
+
+#[test]
+fn fronts_of_a_checkpoint_are_refused_with_their_line(rt: HostRuntime) -> Result<(), Fail> {
+    let plant = two_stages(rt.alloc())?;
+    let live = live_of(rt.alloc(), &plant)?;
+    each_front_is_refused(&rt, rt.alloc(), &live, FIVE_FIRINGS.as_bytes());
+    each_front_is_refused(&rt, rt.alloc(), &live, FINISHED.as_bytes());
+    Ok(())
+}
+
+#[test]
+fn delays_stand_in_the_second_line(rt: HostRuntime) -> Result<(), Fail> {
+    let plant = two_stages_apart(rt.alloc())?;
+    let live = live_of(rt.alloc(), &plant)?;
+    let start = State::start(rt.alloc(), &live)?;
+    let text = write_state(rt.alloc(), &live, &start)?;
+    let front = b"pull-checkpoint 2\ndelays 2 3 4 9 1\nstation feed 0\n";
+    assert!(rt; text.starts_with(front));
+    assert_eq!(rt; answer(&rt, rt.alloc(), &live, text.as_slice()), Ok(0));
+    assert_eq!(rt;
+        answer(&rt, rt.alloc(), &live, FIVE_FIRINGS.as_bytes()),
+        line(1)
+    );
+    assert_eq!(rt;
+        answer(&rt, rt.alloc(), &live, FINISHED.as_bytes()),
+        line(2)
+    );
+    Ok(())
+}

@@ -1,0 +1,157 @@
+use line_disk::{Disk, MemDisk};
+use slot_store::{SlotError, Slots};
+use std::alloc::Global;
+use std::test::Fail;
+
+const ROOM: u64 = 32;
+
+/// What is saved one after the other.
+const TEXTS: [&[u8]; 3] = [b"hello", b"world", b"again"];
+
+fn save(alloc: Global, disk: &mut MemDisk, bytes: &[u8]) -> Result<(), SlotError> {
+    Slots::new(disk, ROOM).save(alloc, bytes)
+}
+
+fn load(alloc: Global, disk: &mut MemDisk) -> Result<Vec<u8>, SlotError> {
+    Slots::new(disk, ROOM).load(alloc)
+}
+
+/// A disk on which the three texts were saved, where the calls of these numbers fail, and how each save ended.
+fn saved(alloc: Global, failing: Vec<u32>) -> (MemDisk, [Result<(), SlotError>; 3]) {
+    let mut disk = MemDisk::new(alloc, failing);
+    let first = save(alloc, &mut disk, TEXTS[0]);
+    let second = save(alloc, &mut disk, TEXTS[1]);
+    let third = save(alloc, &mut disk, TEXTS[2]);
+    (disk, [first, second, third])
+}
+
+/// The place among the three texts of what a load gives, or 3 where it gives nothing.
+fn place_of(alloc: Global, disk: &mut MemDisk) -> Result<usize, SlotError> {
+    match load(alloc, disk) {
+        Ok(bytes) => Ok(
+            TEXTS
+                .iter()
+                .position(|text| *text == bytes.as_slice())
+                .unwrap_or(9),
+        ),
+        Err(SlotError::NoneSaved) => Ok(3),
+        Err(error) => Err(error),
+    }
+}
+
+/// The same of a disk as a crash leaves it.
+fn place_after(alloc: Global, disk: &MemDisk, call: u32, pick: u8) -> Result<usize, Fail> {
+    if call > disk.calls() || pick > 2 {
+        return Ok(9);
+    }
+    let mut left = disk.crash(call, pick)?;
+    Ok(place_of(alloc, &mut left)?)
+}
+
+/// How many of the crashes during these calls, by each pick, leave each of the three texts, and how many leave nothing.
+fn crashes(alloc: Global, disk: &MemDisk, first: u32, last: u32) -> Result<[u32; 4], Fail> {
+    let mut counts = [0u32; 4];
+    for call in first..=last.min(disk.calls()) {
+        for pick in 0..3 {
+            let place = place_after(alloc, disk, call, pick)?;
+            if place < 4 {
+                counts[place] = counts[place].saturating_add(1);
+            }
+        }
+    }
+    Ok(counts)
+}
+
+#[test]
+fn nothing_is_saved_on_a_disk_of_zeros(rt: HostRuntime) -> Result<(), Fail> {
+    let alloc = rt.alloc();
+    let mut disk = MemDisk::new(alloc, Vec::new(alloc));
+    assert_eq!(rt; load(alloc, &mut disk).err(), Some(SlotError::NoneSaved));
+    Ok(())
+}
+
+#[test]
+fn a_save_stands_in_slot_0_with_its_gate_number_and_length(rt: HostRuntime) -> Result<(), Fail> {
+    let alloc = rt.alloc();
+    let mut disk = MemDisk::new(alloc, Vec::new(alloc));
+    save(alloc, &mut disk, b"hello")?;
+    let bytes = disk.read(alloc, 0, 21)?;
+    assert_eq!(rt;
+        bytes.as_slice(),
+        b"\x01\0\0\0\0\0\0\0\0\x05\0\0\0\0\0\0hello".as_slice()
+    );
+    assert_eq!(rt; load(alloc, &mut disk)?.as_slice(), b"hello".as_slice());
+    Ok(())
+}
+
+#[test]
+fn bytes_beyond_the_room_are_refused(rt: HostRuntime) -> Result<(), Fail> {
+    let alloc = rt.alloc();
+    let mut disk = MemDisk::new(alloc, Vec::new(alloc));
+    let saved = Slots::new(&mut disk, 4).save(alloc, b"hello");
+    assert_eq!(rt; saved, Err(SlotError::TooLong { have: 5 }));
+    assert_eq!(rt; disk.calls(), 0);
+    Ok(())
+}
+
+// The first two saves make 8 calls each, the third 10, since the gate of slot 0 is open then. The new text is there once
+// the byte of its gate is: at pick 1 of the last two calls.
+#[test]
+fn each_crash_of_a_save_leaves_the_text_from_before_or_the_new_one(
+    rt: HostRuntime,
+) -> Result<(), Fail> {
+    let alloc = rt.alloc();
+    let (mut disk, ends) = saved(alloc, Vec::new(alloc));
+    assert_eq!(rt; ends, [Ok(()); 3]);
+    assert_eq!(rt; disk.calls(), 26);
+    assert_eq!(rt; crashes(alloc, &disk, 0, 8)?, [2, 0, 0, 25]);
+    assert_eq!(rt; crashes(alloc, &disk, 9, 16)?, [22, 2, 0, 0]);
+    assert_eq!(rt; crashes(alloc, &disk, 17, 26)?, [0, 28, 2, 0]);
+    assert_eq!(rt; load(alloc, &mut disk)?.as_slice(), TEXTS[2]);
+    Ok(())
+}
+
+#[test]
+fn a_save_whose_first_sync_fails_keeps_the_text_from_before(rt: HostRuntime) -> Result<(), Fail> {
+    let alloc = rt.alloc();
+    let (mut disk, ends) = saved(alloc, vec![in alloc; 17]?);
+    assert_eq!(rt; ends, [Ok(()), Ok(()), Err(SlotError::DiskFault)]);
+    assert_eq!(rt; load(alloc, &mut disk)?.as_slice(), TEXTS[1]);
+    Ok(())
+}
+
+/// The place among the texts of what a load gives after three saves of which one answers a fault, since the call of
+/// this number failed; 8 where another number of saves answers one, or where a crash of the third leaves a text from
+/// before the second.
+fn place_with_fault(alloc: Global, call: u32) -> Result<usize, Fail> {
+    let (mut disk, ends) = saved(alloc, vec![in alloc; call]?);
+    let faults = ends
+        .iter()
+        .filter(|end| **end == Err(SlotError::DiskFault))
+        .count();
+    let [hello, _, _, none] = crashes(alloc, &disk, call.max(17), 26)?;
+    if faults != 1 || (call > 16 && (hello > 0 || none > 0)) {
+        return Ok(8);
+    }
+    Ok(place_of(alloc, &mut disk)?)
+}
+
+/// How often each text stands at the end, where each of the calls fails in turn.
+fn places_with_faults(alloc: Global) -> Result<[u32; 4], Fail> {
+    let mut counts = [0u32; 4];
+    for call in 1..27 {
+        let place = place_with_fault(alloc, call)?;
+        if place < 4 {
+            counts[place] = counts[place].saturating_add(1);
+        }
+    }
+    Ok(counts)
+}
+
+// A call of the first two saves that fails: the third one stands. One of the third: the second stands, but where the last
+// sync fails, after its gate was written.
+#[test]
+fn each_call_that_fails_is_a_fault_of_its_save_alone(rt: HostRuntime) -> Result<(), Fail> {
+    assert_eq!(rt; places_with_faults(rt.alloc())?, [0, 9, 17, 0]);
+    Ok(())
+}
