@@ -5,6 +5,7 @@ pub mod Graph
 pub mod ArcNumbers
 pub mod Bound
 pub mod Place
+pub mod Reasons
 pub mod Refusals
 pub mod Sound
 pub mod Layout

@@ -1,8 +1,12 @@
 ghost use Rattle.plant_model.specs.declared.error.PlantError.TheVariants.{NoMemory};
-ghost use Rattle.std.specs.Prelude.{◌≡◌};
+ghost use Rattle.std.specs.Prelude.{◌≡◌, Some};
+ghost use Rattle.std.specs.Fmt.{DisplaysOnOk};
+ghost use Rattle.plant_model.specs.Reasons.{at_place, bad_record, with_counts};
 
 use crate::text::Text;
 use std::alloc::AllocError;
+use std::error::Error;
+use std::fmt;
 
 /// Why a plant is refused, in the order in which the refusals are tried. A place is the path of a key in the plant file,
 /// counted from 1, as `stage[2].machine[1].time`.
@@ -48,4 +52,70 @@ impl From<AllocError> for PlantError {
     fn from(_error: AllocError) -> Self {
         PlantError::NoMemory
     }
+}
+
+/// The text says what is wrong and where, and the numbers that stand there and are needed.
+impl fmt::Display for PlantError {
+    ghost use Rattle.std.specs.Prelude.{Some};
+    ghost use Rattle.plant_model.specs.Reasons.{plant_reason};
+
+    ghost output = { λ error. Some (plant_reason error) };
+
+    fn fmt<W: fmt::Write>(&self, f: &mut fmt::Formatter<W>) -> fmt::Result {
+        match self {
+            PlantError::NotToml => f.write_str("not toml"),
+            PlantError::UnknownKey { place } => at_place(f, "unknown key", place),
+            PlantError::Missing { place } => at_place(f, "missing", place),
+            PlantError::WrongType { place } => at_place(f, "wrong type", place),
+            PlantError::BadName { place } => at_place(f, "bad name", place),
+            PlantError::NameTwice { place } => at_place(f, "name twice", place),
+            PlantError::OutOfRange { place } => at_place(f, "out of range", place),
+            PlantError::FeedsNotLater { place } => at_place(f, "feeds no later stage", place),
+            PlantError::TwoFinals { place } => at_place(f, "two final stages", place),
+            PlantError::BadRecord { file, number } => record_of(f, file, *number),
+            PlantError::TimesCount { place, have, need } => counts(f, "times", place, *have, *need),
+            PlantError::DemandOrder { job } => write!(f, "demand order: {job}"),
+            PlantError::TooFewCards {
+                place,
+                cards,
+                stock,
+            } => counts(f, "too few cards", place, *cards, *stock),
+            PlantError::LoopNotDownstream { place } => at_place(f, "loop not downstream", place),
+            PlantError::TooLarge { what } => at_place(f, "too large", what),
+            PlantError::NoMemory => f.write_str("memory"),
+        }
+    }
+}
+
+impl Error for PlantError {}
+
+/// Writes what is wrong, and where.
+fn at_place<W: fmt::Write>(f: &mut fmt::Formatter<W>, words: &str, place: &Text) -> fmt::Result
+    ensures { DisplaysOnOk W.write_str_gives f.old result (Some (at_place words.now place.now)) f.new }
+{
+    let place = place.as_str();
+    write!(f, "{words}: {place}")
+}
+
+/// Writes which record of a file can't be used.
+fn record_of<W: fmt::Write>(f: &mut fmt::Formatter<W>, file: &Text, number: u64) -> fmt::Result
+    ensures { DisplaysOnOk W.write_str_gives f.old result (Some (bad_record file.now number)) f.new }
+{
+    let file = file.as_str();
+    write!(f, "bad record: {file} {number}")
+}
+
+/// Writes what is wrong, where, the number that stands there, and the one that is needed.
+fn counts<W: fmt::Write>(
+    f: &mut fmt::Formatter<W>,
+    words: &str,
+    place: &Text,
+    have: u64,
+    need: u64,
+) -> fmt::Result
+    ensures { DisplaysOnOk W.write_str_gives f.old result
+        (Some (with_counts words.now place.now have need)) f.new }
+{
+    let place = place.as_str();
+    write!(f, "{words}: {place} has {have}, needs {need}")
 }

@@ -1,6 +1,6 @@
 -- The station that the refusal of a checkpoint names is one of the graph.
-use Rattle.std.proofs.Common.{◌≡◌, ℕ, ◌+◌, ◌<◌, Bool, true, false, List, [], ◌∷◌, ◌++◌, length, subst}
-use Rattle.std.specs.Prelude.{Option, Some, None, IfSome, ⊤}
+use Rattle.std.proofs.Common.{ℕ, ◌<◌, Bool, true, false, List, [], ◌∷◌, length, subst}
+use Rattle.std.specs.Prelude.{IfSome, ⊤}
 use Rattle.std.specs.List.{All}
 use Rattle.std.proofs.lemmas.List.Elements.{All-nil, All-append, All-head, All-from_recursion}
 use Rattle.line_base.specs.declared.event.Parts.{Parts}
@@ -8,7 +8,7 @@ use Rattle.line_graph.proofs.RowLists.{All-flat_map-range}
 use Rattle.event_graph.specs.Network.{stations, arc_count}
 use Rattle.line_core.specs.declared.error.StateError.{StateError}
 use Rattle.line_core.specs.declared.error.StateError.TheVariants.{Count, Marking, Date, PlaceDate, NoMemory}
-use Rattle.line_core.specs.Parts.{list_at, refuse_if, each_below, long_log, wrong_marking, wrong_markings, wrong_date, wrong_dates_at, wrong_dates, wrong_token, wrong_tokens_on, wrong_tokens, state_refusals, first, state_refusal, long_logs}
+use Rattle.line_core.specs.Parts.{list_at, refuse_if, each_below, long_log, wrong_marking, wrong_markings, wrong_date, wrong_dates_at, wrong_dates, wrong_token, wrong_tokens_on, state_refusals, first, long_logs}
 use Rattle.checkpoint.specs.declared.error.CheckpointError.{CheckpointError}
 use Rattle.checkpoint.specs.declared.error.CheckpointError.TheVariants as error
 use Rattle.checkpoint.specs.Answers.{Tells, IsRefused}

@@ -1,5 +1,5 @@
 -- What a checkpoint comes to that is no text of a reached state.
-use Rattle.std.specs.Prelude.{ℕ, ◌<◌, ⊤}
+use Rattle.std.specs.Prelude.{◌<◌, ⊤}
 use Rattle.line_base.specs.declared.event.Parts.{Parts}
 use Rattle.event_graph.specs.Network.{stations, label}
 use Rattle.checkpoint.specs.declared.error.CheckpointError.{CheckpointError}

@@ -2,7 +2,6 @@ pub mod CheckText
 pub mod CheckpointLine
 pub mod CheckpointRefusals
 pub mod DeadLine
-pub mod PlantLine
 pub mod Refusals
 pub mod Reply
 pub mod ScheduleLine

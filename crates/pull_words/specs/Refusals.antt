@@ -1,5 +1,5 @@
 -- What the refusals come to of the calls that find a cycle time, size cards, or follow edits.
-use Rattle.std.specs.Prelude.{ℕ, ◌<◌, ⊤}
+use Rattle.std.specs.Prelude.{◌<◌, ⊤}
 use Rattle.line_base.specs.declared.event.Parts.{Parts}
 use Rattle.event_graph.specs.Network.{stations, label}
 use Rattle.cycle_time.specs.declared.certificate.CycleError.{CycleError}

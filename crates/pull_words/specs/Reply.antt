@@ -1,9 +1,9 @@
 -- What a command may answer in words, and the status and the text of each reply.
 use Rattle.std.specs.Prelude.{ℕ, List, ◌++◌, codes, decimal, ⊤}
+use Rattle.plant_model.specs.Reasons.{plant_reason}
 use Rattle.command_words.specs.Usage.{as_line}
 use Rattle.pull_words.specs.CheckpointLine.{checkpoint_line}
 use Rattle.pull_words.specs.DeadLine.{dead_line}
-use Rattle.pull_words.specs.PlantLine.{plant_reason}
 use Rattle.pull_words.specs.ScheduleLine.{schedule_line}
 use Rattle.pull_words.specs.Usage.{usage, version}
 use Rattle.pull_words.specs.declared.reply.Reply.{Reply}

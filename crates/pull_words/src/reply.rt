@@ -6,7 +6,7 @@ ghost use Rattle.pull_words.specs.Refusals.{sizing_reply, edits_reply};
 ghost use Rattle.pull_words.specs.declared.reply.Reply.TheVariants.{NoMemory};
 
 use crate::checkpoint_refusal::{CheckpointRefusal, checkpoint_line};
-use crate::refusals::{ScheduleRefusal, dead_line, plant_reason, schedule_line};
+use crate::refusals::{ScheduleRefusal, dead_line, schedule_line};
 use crate::usage::{USAGE, VERSION};
 use card_sizing::SizingError;
 use command_words::FileName;
@@ -174,10 +174,7 @@ impl Reply {
             Reply::Checked { text } => return Ok(CowSlice::Borrowed(text.as_slice())),
             Reply::CycleFound { text } => return Ok(CowSlice::Borrowed(text.as_slice())),
             Reply::CardsFound { text } => return Ok(CowSlice::Borrowed(text.as_slice())),
-            Reply::Refused { error } => {
-                let reason = plant_reason(alloc, error)?;
-                return named_line(alloc, b"plant: ", reason.as_bytes());
-            }
+            Reply::Refused { error } => return made(format!(in alloc; "plant: {error}")?),
             Reply::Dead { labels } => return ended(dead_line(alloc, labels.as_slice())?),
             Reply::StoreFault { file } => return file_line(alloc, b"store: ", file),
             Reply::TooLong { file } => return file_line(alloc, b"too long: ", file),

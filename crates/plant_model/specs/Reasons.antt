@@ -1,4 +1,4 @@
--- The line of a refused plant: a reason for each refusal, in their order.
+-- Why a plant is refused, in words: a text for each refusal, in their order.
 use Rattle.std.specs.Prelude.{ℕ, List, ◌++◌, codes, decimal}
 use Rattle.plant_model.specs.declared.error.PlantError.{PlantError}
 use Rattle.plant_model.specs.declared.error.PlantError.TheVariants.{NotToml, UnknownKey, Missing, WrongType, BadName, NameTwice, OutOfRange, FeedsNotLater, TwoFinals, BadRecord, TimesCount, DemandOrder, TooFewCards, LoopNotDownstream, TooLarge, NoMemory}
@@ -6,6 +6,10 @@ use Rattle.plant_model.specs.declared.error.PlantError.TheVariants.{NotToml, Unk
 -- what is wrong, and where
 abbrev pub at_place : List ℕ → List ℕ → List ℕ
 at_place words place = words ++ (codes ": " ++ place)
+
+-- which record of a file can't be used
+abbrev pub bad_record : List ℕ → ℕ → List ℕ
+bad_record file number = at_place (codes "bad record") (file ++ (codes " " ++ decimal number))
 
 -- what is wrong, where, the number that stands there, and the one that is needed
 abbrev pub with_counts : List ℕ → List ℕ → ℕ → ℕ → List ℕ
@@ -23,7 +27,7 @@ plant_reason (NameTwice place) = at_place (codes "name twice") place
 plant_reason (OutOfRange place) = at_place (codes "out of range") place
 plant_reason (FeedsNotLater place) = at_place (codes "feeds no later stage") place
 plant_reason (TwoFinals place) = at_place (codes "two final stages") place
-plant_reason (BadRecord file number) = at_place (codes "bad record") (file ++ (codes " " ++ decimal number))
+plant_reason (BadRecord file number) = bad_record file number
 plant_reason (TimesCount place have need) = with_counts (codes "times") place have need
 plant_reason (DemandOrder job) = at_place (codes "demand order") (decimal job)
 plant_reason (TooFewCards place cards stock) = with_counts (codes "too few cards") place cards stock
