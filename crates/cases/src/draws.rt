@@ -1,5 +1,6 @@
 //! Plants that are drawn: serial lines of any size, the same for the same recipe.
 use crate::reason::Reason;
+use big_plant::Generator;
 use std::alloc::Global;
 
 /// What a drawn plant is to have.
@@ -13,36 +14,19 @@ pub struct Recipe {
     pub demands: u32,
 }
 
-/// A linear congruential generator of 64 bits (Knuth, The Art of Computer Programming, volume 2).
-#[derive(Clone, Copy)]
-struct Draws {
-    state: u64,
-}
-
-impl Draws {
-    /// The first state of every plant.
-    const SEED: u64 = 7;
-
-    /// The next number below `limit`; 0 where that is 0.
-    fn draw(&mut self, limit: u64) -> u64 {
-        self.state = self
-            .state
-            .wrapping_mul(6_364_136_223_846_793_005)
-            .wrapping_add(1_442_695_040_888_963_407);
-        (self.state >> 33).checked_rem(limit).unwrap_or(0)
-    }
-}
+/// The first state of every plant's draws.
+const SEED: u64 = 7;
 
 /// The file of the plant of a recipe, under extended kanban. The draws are made in this order: for each demand, how much
 /// later it comes than the one before, below 30; for each stage its stock, below 4, and how many cards more than its stock and
 /// one, below 4; for each of its machines how many servers more than one, below 3, and how much more than one its time, below
 /// 20.
 pub fn plant_of(alloc: Global, recipe: Recipe) -> Result<String, Reason> {
-    let mut draws = Draws { state: Draws::SEED };
+    let mut draws = Generator::new(SEED);
     let mut text = String::from_str(alloc, "policy = \"extended\"\ndemands = [")?;
     let mut date = 0u64;
     for job in 0..recipe.demands {
-        date = date.saturating_add(draws.draw(30));
+        date = date.saturating_add(u64::from(draws.draw_below(30)));
         let separator = if job == 0 { "" } else { ", " };
         let demand = format!(in alloc; "{separator}{date}")?;
         text.push_str(demand.as_str())?;
@@ -58,12 +42,12 @@ pub fn plant_of(alloc: Global, recipe: Recipe) -> Result<String, Reason> {
 fn add_stage(
     alloc: Global,
     text: &mut String,
-    draws: &mut Draws,
+    draws: &mut Generator,
     stage: u32,
     recipe: Recipe,
 ) -> Result<(), Reason> {
-    let stock = draws.draw(4);
-    let more = draws.draw(4);
+    let stock = draws.draw_below(4);
+    let more = draws.draw_below(4);
     let cards = stock.saturating_add(1).saturating_add(more);
     let head = format!(in alloc; "\n[[stage]]\nname = \"s{stage}\"\n")?;
     text.push_str(head.as_str())?;
@@ -84,11 +68,11 @@ fn add_stage(
 fn add_machine(
     alloc: Global,
     text: &mut String,
-    draws: &mut Draws,
+    draws: &mut Generator,
     machine: u32,
 ) -> Result<(), Reason> {
-    let servers = draws.draw(3).saturating_add(1);
-    let time = draws.draw(20).saturating_add(1);
+    let servers = draws.draw_below(3).saturating_add(1);
+    let time = draws.draw_below(20).saturating_add(1);
     let lines = format!(in alloc;
         "[[stage.machine]]\nname = \"m{machine}\"\nservers = {servers}\ntime = {time}\n"
     )?;

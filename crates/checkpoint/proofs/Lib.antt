@@ -5,4 +5,7 @@ pub mod WordBytes
 pub mod ReadDates
 pub mod Unique
 pub mod ReadLines
+pub mod Noted
+pub mod ReadTokens
+pub mod ReadParts
 pub mod OneState

@@ -1,9 +1,9 @@
 -- One text says one state.
 use Rattle.std.proofs.Common.{◌≡◌, ℕ, ◌+◌, ◌-◌, ◌^◌, ◌<◌, ◌≤◌, List, [], ◌∷◌, ◌++◌, length, take, drop, sym, ap, ◌∙◌, refl, subst, arith, append-nil, ⊎_elim}
-use Rattle.std.specs.Prelude.{All, codes, Result, Ok, Err, Some, IfOk, IfErr, false}
+use Rattle.std.specs.Prelude.{All, codes, Result, Ok, Err, IfOk, IfErr, false}
 use Rattle.std.proofs.lemmas.Bool.{cases_lt}
-use Rattle.std.proofs.lemmas.List.{take_all, take_at, drop_at, ext_get_or, get_or_append_left, get_or-append_right, length-append, length-drop, length-map}
-use Rattle.std.proofs.lemmas.List.Elements.{All-append, All-from_get_or, All-weaker, All-same, All-drop}
+use Rattle.std.proofs.lemmas.List.{take_all, take_at, drop_at, ext_get_or, get_or_append_left, get_or-append_right, length-append, length-drop}
+use Rattle.std.proofs.lemmas.List.Elements.{All-append, All-from_get_or, All-weaker, All-same, All-take, All-drop}
 use Rattle.line_base.specs.declared.event.Parts.{Parts}
 use Rattle.event_graph.specs.Network.{stations, arc_count, arc, IsGraph}
 use Rattle.event_graph.specs.Limits.{IsWithinLimits}
@@ -13,8 +13,7 @@ use Rattle.line_core.specs.declared.error.StateError.{StateError}
 use Rattle.line_core.specs.declared.error.StateError.TheVariants as Core
 use Rattle.checkpoint.specs.Refusals.{of_state_error}
 use Rattle.line_core.specs.Consistent.{all_tokens, LATEST_DATE}
-use Rattle.line_base.specs.Roomy.{RoomyLog, RoomyLogs, dates_of}
-use Rattle.line_core.specs.Parts.{AreParts, first, state_refusal}
+use Rattle.line_core.specs.Parts.{first, state_refusal}
 use Rattle.line_core.specs.Run.{Run, IsReached}
 use Rattle.line_core.proofs.ArcTokens.{length-all_tokens}
 use Rattle.line_core.proofs.Bounds.{reached_is_within}
@@ -149,7 +148,11 @@ pub texts_differ : (g : Parts) (s u : State) (bytes : List ℕ) → IsGraph g �
 texts_differ g s u bytes graph limits reached_s reached_u text_s text_u =
     one_state g bytes s u (shaped_reached g s limits reached_s) (shaped_reached g u limits reached_u) text_s text_u (short_reached text_s.format g s graph limits reached_s) (short_reached text_u.format g u graph limits reached_u)
 
--- the second part of two lists
+-- the parts of two lists
+pub given_left : (xs ys : List (List ℕ)) → AreGiven (xs ++ ys) → AreGiven xs
+given_left xs ys given =
+    All-same (All IsGiven) xs (take (length xs) (xs ++ ys)) (sym (take_at xs ys (length xs) refl)) (All-take (All IsGiven) (length xs) (xs ++ ys) given)
+
 pub given_right : (xs ys : List (List ℕ)) → AreGiven (xs ++ ys) → AreGiven ys
 given_right xs ys given =
     All-same (All IsGiven) ys (drop (length xs) (xs ++ ys)) (sym (drop_at xs ys (length xs) refl)) (All-drop (All IsGiven) (length xs) (xs ++ ys) given)
@@ -169,24 +172,6 @@ module _ (g h : Parts) (bytes text : List ℕ) (same_graph : h ≡ g) (same_text
   found_bad r given error is same tells =
       let told : Tells g bytes error = subst (λ p. Tells p bytes error) same_graph (subst (λ t. Tells h t error) same_text tells) in
       rw (is, same) (finds g bytes limits short s reached text_s (Err error) tt tt tt told)
-
-  refused_parts : (logs places : List (List ℕ)) (refusal : StateError) → length logs ≡ stations g → length places ≡ arc_count g → AreGiven logs → AreGiven places → IsTextOf h (record { logs = logs; places = places }) text → state_refusal g logs places ≡ Some refusal → IsRefused g bytes refusal
-  refused_parts logs places refusal a_log a_place logs_given places_given is refused = record {
-    parts = record { logs = logs; places = places };
-    a_log_each = a_log;
-    a_place_each = a_place;
-    logs_given = logs_given;
-    places_given = places_given;
-    text = subst (λ p. IsTextOf p (record { logs = logs; places = places }) bytes) same_graph (subst (λ t. IsTextOf h (record { logs = logs; places = places }) t) same_text is);
-    refusal_is = refused;
-  }
-
-  pub found_refused : (r : Result Run CheckpointError) (given : CheckpointError) (logs places : RoomyLogs) (refusal : StateError) → r ≡ Err given → given ≡ of_state_error refusal → AreParts h logs places → AreGiven (dates_of places) → IsTextOf h (record { logs = dates_of logs; places = dates_of places }) text → state_refusal g (dates_of logs) (dates_of places) ≡ Some refusal → IsStateOrNoMemory r s
-  found_refused r given logs places refusal is same parts places_given text_is refused =
-      let a_log = length-map logs.logs (λ (l : RoomyLog). l.dates) ∙ parts.a_log_each ∙ ap stations same_graph in
-      let a_place = length-map places.logs (λ (l : RoomyLog). l.dates) ∙ parts.a_place_each ∙ ap arc_count same_graph in
-      let whole = refused_parts (dates_of logs) (dates_of places) refusal a_log a_place parts.early places_given text_is refused in
-      rw (is, same) (finds g bytes limits short s reached text_s (Err (of_state_error refusal)) tt tt tt (tells_refusal g bytes refusal whole))
 
   pub found_state : (run : Run) (u : State) → run.graph ≡ g → run.state ≡ u → IsReached run → IsTextOf h u text → run.state ≡ s
   found_state run u graph state run_reached text_u =

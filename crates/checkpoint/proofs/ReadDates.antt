@@ -1,8 +1,10 @@
 -- Dates that are read one after the other: what is read so far, and what of any reading is left.
-use Rattle.std.proofs.Common.{◌≡◌, ℕ, ◌+◌, ◌*◌, ◌^◌, ◌<◌, ◌≤◌, List, [], ◌∷◌, ◌++◌, length, Option, Some, None, sym, ap, ◌∙◌, refl, subst, arith, append_assoc, append-nil}
+use Rattle.std.proofs.Common.{◌≡◌, ℕ, ◌+◌, ◌*◌, ◌^◌, ◌<◌, ◌≤◌, cond, ltb, List, [], ◌∷◌, ◌++◌, length, take, drop, Option, Some, None, inl, inr, sym, ap, ◌∙◌, refl, subst, arith, append_assoc, append-nil}
+use Rattle.std.proofs.lemmas.Bool.{cases_lt, cond-true, cond-false, lt-ltb, le-ltb}
 use Rattle.std.specs.Prelude.{All, codes, decimal}
-use Rattle.std.proofs.lemmas.List.{length_push, length-append}
+use Rattle.std.proofs.lemmas.List.{length_push, length-append, take_all, take-append-le, take-append-drop}
 use Rattle.std.proofs.lemmas.List.Elements.{All-nil, All-head, All-tail, All-push}
+use Rattle.line_base.specs.Roomy.{RoomyLog, with_date}
 use Rattle.line_core.specs.Parts.{LATEST_GIVEN}
 use Rattle.checkpoint.specs.declared.format.Format.{Format}
 use Rattle.checkpoint.specs.Text.{date_word, date_words, dates_text}
@@ -138,3 +140,40 @@ count_told format text left dates after read tells given is =
     let words = date_words format 0 dates in
     let long = length-date_words format 0 dates (omega arith) given in
     tells (length dates) (words ++ (codes "\n" ++ after)) (omega (arith, long, length-append words (codes "\n" ++ after))) (ends-date_words format 0 dates (codes "\n" ++ after) refl) (is ∙ dates_parts format dates after)
+
+-- ---- dates of which the first are kept
+
+-- of `count` dates `number` are read, and the first `room` of these are kept
+pub record ArePartlyKept (format : Format) (text : List ℕ) (count room : ℕ) (kept : List ℕ) (before number : ℕ) (rest : List ℕ) : Type 0 where
+  pub dates : List ℕ
+  pub partly : ArePartlyRead format text count dates before number rest
+  pub kept_is : kept ≡ take room dates
+
+pub kept_none : (format : Format) (text : List ℕ) (count room : ℕ) (kept : List ℕ) → kept ≡ [] → ArePartlyKept format text count room kept 0 0 text
+kept_none format text count room kept none = record {
+  dates = [];
+  partly = read_none format text count [] refl;
+  kept_is = none ∙ sym (take_all room [] (omega arith));
+}
+
+pub kept_few : (format : Format) (text : List ℕ) (count room : ℕ) (kept : List ℕ) (before number : ℕ) (rest : List ℕ) → ArePartlyKept format text count room kept before number rest → length kept ≤ number
+kept_few format text count room kept before number rest k =
+    omega (arith, k.partly.counted, ap length k.kept_is, ap length (take-append-drop room k.dates), length-append (take room k.dates) (drop room k.dates))
+
+-- a date is kept while there is room
+pub date_kept : (log now : RoomyLog) (number room date : ℕ) (dates : List ℕ) → length dates ≡ number → log.dates ≡ take room dates → now ≡ cond (ltb number room) (with_date log date) log → (now.dates ≡ take room (dates ++ date ∷ [])) × (now.room ≡ log.room)
+date_kept log now number room date dates counted kept is =
+    elim (cases_lt number room) [
+      | inl low ↦
+          let same = is ∙ cond-true (ltb number room) (with_date log date) log (lt-ltb number room low) in (
+            ap (λ (l : RoomyLog). l.dates) same
+                ∙ ap (λ l. l ++ date ∷ []) (kept ∙ take_all room dates (omega (arith, counted, low)))
+                ∙ sym (take_all room (dates ++ date ∷ []) (omega (arith, counted, low, length_push dates date))),
+            ap (λ (l : RoomyLog). l.room) same,
+          )
+      | inr past ↦
+          let same = is ∙ cond-false (ltb number room) (with_date log date) log (le-ltb number room past) in (
+            ap (λ (l : RoomyLog). l.dates) same ∙ kept ∙ sym (take-append-le room dates (date ∷ []) (omega (arith, counted, past))),
+            ap (λ (l : RoomyLog). l.room) same,
+          )
+    ]

@@ -1,13 +1,14 @@
 -- What `read_state` answers, and when.
-use Rattle.std.specs.Prelude.{◌≡◌, ℕ, List, length, Result, Ok, Err, Some, ⊤}
+use Rattle.std.specs.Prelude.{◌≡◌, ℕ, List, length, map, take, Option, Some, Result, Ok, Err, ⊤}
 use Rattle.line_base.specs.declared.event.Parts.{Parts}
 use Rattle.line_base.specs.Roomy.{RoomyLogs, dates_of}
-use Rattle.event_graph.specs.Network.{stations, arc_count}
+use Rattle.event_graph.specs.Network.{stations, jobs, arc_count}
 use Rattle.event_graph.specs.State.{State}
 use Rattle.event_graph.specs.Reached.{Reached}
 use Rattle.line_core.specs.declared.error.StateError.{StateError}
 use Rattle.line_core.specs.declared.error.StateError.TheVariants as Core
-use Rattle.line_core.specs.Parts.{state_refusal}
+use Rattle.line_core.specs.Parts.{first, long_logs, state_refusal}
+use Rattle.line_core.specs.Marked.{HaveCounts}
 use Rattle.line_core.specs.Run.{Run}
 use Rattle.checkpoint.specs.declared.log.Stop.{Stop}
 use Rattle.checkpoint.specs.declared.log.Stop.TheVariants.{Form, Memory}
@@ -15,10 +16,7 @@ use Rattle.checkpoint.specs.declared.error.CheckpointError.{CheckpointError}
 use Rattle.checkpoint.specs.declared.error.CheckpointError.TheVariants.{Line, Count, Marking, Date, PlaceDate, NoMemory}
 use Rattle.checkpoint.specs.Text.{IsTextOf, AreGiven}
 use Rattle.checkpoint.specs.FirstBadLine.{IsFirstBadLine}
-
--- the state with these logs and these places
-abbrev pub state_in : RoomyLogs → RoomyLogs → State
-state_in logs places = record { logs = dates_of logs; places = dates_of places }
+use Rattle.checkpoint.specs.Reading.{unlike_places}
 
 -- the error of a line with this number that was not read
 abbrev pub stopped_at : Stop → ℕ → CheckpointError
@@ -34,6 +32,21 @@ pub record IsRefused (g : Parts) (bytes : List ℕ) (refusal : StateError) : Typ
   pub places_given : AreGiven parts.places
   pub text : IsTextOf g parts bytes
   pub refusal_is : state_refusal g parts.logs parts.places ≡ Some refusal
+
+-- what is kept of a text of logs and places: the logs, each up to its first dates, one a job; the first log that is too
+-- long; how many tokens each place has; the first token that is unlike what these logs leave
+pub record IsReadOf (g : Parts) (bytes : List ℕ) (logs : RoomyLogs) (long : Option StateError)
+    (marking : List ℕ) (wrong : Option StateError) : Type 0 where
+  pub said : State
+  pub text : IsTextOf g said bytes
+  pub a_log_each : length said.logs ≡ stations g
+  pub a_place_each : length said.places ≡ arc_count g
+  pub logs_given : AreGiven said.logs
+  pub places_given : AreGiven said.places
+  pub logs_are : dates_of logs ≡ map (take (jobs g)) said.logs
+  pub long_is : long ≡ first (long_logs g said.logs)
+  pub counts : HaveCounts said.places marking
+  pub wrong_is : wrong ≡ first (unlike_places g (dates_of logs) (arc_count g) said.places)
 
 -- when each error comes; want of memory is free
 abbrev pub Tells : Parts → List ℕ → CheckpointError → Type 0

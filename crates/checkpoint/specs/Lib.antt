@@ -1,6 +1,6 @@
 pub mod Text
 pub mod FirstBadLine
-pub mod Answers
 pub mod Reading
+pub mod Answers
 pub mod Refusals
 pub mod Laws

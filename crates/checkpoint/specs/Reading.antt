@@ -1,14 +1,18 @@
 -- What contracts see of a `Reader`, and how far it has come.
-use Rattle.std.specs.Prelude.{◌≡◌, ℕ, suc, ◌+◌, ◌*◌, ◌≤◌, ◌==◌, ◌||◌, not, Bool, true, false, List, [], ◌∷◌, ◌++◌, length, slice_index_or, take, All, codes, decimal, Option, Some, Result, IfErr}
-use Rattle.line_base.specs.Roomy.{RoomyLog}
-use Rattle.event_graph.specs.Network.{stations, arc_count}
-use Rattle.line_core.specs.Parts.{LATEST_GIVEN}
+use Rattle.std.specs.Prelude.{◌≡◌, ℕ, suc, ◌+◌, ◌*◌, ◌≤◌, ◌==◌, ◌||◌, not, Bool, true, false, List, [], ◌∷◌, ◌++◌, length, map, slice_index, slice_index_or, take, All, codes, decimal, Option, None, Some, Result, IfErr}
+use Rattle.line_base.specs.Roomy.{RoomyLogs, dates_of}
+use Rattle.event_graph.specs.Network.{stations, jobs, arc_count}
+use Rattle.line_core.specs.declared.error.StateError.{StateError}
+use Rattle.line_core.specs.declared.error.StateError.TheVariants.{PlaceDate}
+use Rattle.line_core.specs.Consistent.{tokens_left}
+use Rattle.line_core.specs.Parts.{LATEST_GIVEN, list_at, refuse_if, each_below, first, long_log}
+use Rattle.line_core.specs.Marked.{HaveCounts}
 use Rattle.checkpoint.specs.declared.log.Stop.{Stop}
 use Rattle.checkpoint.specs.declared.log.Stop.TheVariants.{Memory}
 use Rattle.line_base.specs.declared.event.Parts.{Parts}
 use Rattle.checkpoint.specs.declared.format.Format.{Format}
 use Rattle.checkpoint.specs.declared.format.Format.TheVariants.{Dates, Differences}
-use Rattle.checkpoint.specs.Text.{date_word, date_words, dates_text, Line, Fixed, Dated, lines, filled, AreGivenDates, AreGiven}
+use Rattle.checkpoint.specs.Text.{date_word, date_words, dates_text, place_words, Line, Fixed, Dated, lines, filled, AreGivenDates, AreGiven}
 
 -- a text, and what of it is left to read
 pub record Reading : Type 0 where
@@ -62,10 +66,65 @@ abbrev pub ReadsLine : Format → List ℕ → List ℕ → List ℕ → List �
 ReadsLine format words before dates left = before ≡ words ++ (dates_text format dates ++ left)
 
 -- where such a line stands next, memory alone stops its reading
-abbrev pub TellsLine : Format → List ℕ → List ℕ → Result RoomyLog Stop → Type 0
+abbrev pub TellsLine : {A : Type 0} → Format → List ℕ → List ℕ → Result A Stop → Type 0
 TellsLine format words before read =
     (dates after : List ℕ) → AreGivenDates dates → ReadsLine format words before dates after
     → IfErr read (λ stop. stop ≡ Memory)
+
+-- `count` dates are read, of which the first `room` are kept
+pub record KeepsDates (format : Format) (count room : ℕ) (before kept left : List ℕ) : Type 0 where
+  pub dates : List ℕ
+  pub given : AreGivenDates dates
+  pub counted : length dates ≡ count
+  pub is : before ≡ date_words format 0 dates ++ left
+  pub kept_is : kept ≡ take room dates
+
+-- and so the dates of a line, which begins with these words
+pub record KeepsLine (format : Format) (words : List ℕ) (count room : ℕ) (before kept left : List ℕ)
+    : Type 0 where
+  pub dates : List ℕ
+  pub given : AreGivenDates dates
+  pub counted : length dates ≡ count
+  pub is : ReadsLine format words before dates left
+  pub kept_is : kept ≡ take room dates
+
+-- ---- dates beside those that are left on an arc
+
+-- the first refusal, where one may be noted already
+abbrev pub or_first : Option StateError → List StateError → Option StateError
+or_first None refusals = first refusals
+or_first (Some noted) refusals = Some noted
+
+-- the refusal of token k + 1 of arc a, where another date is left there; behind the last one 0 is
+abbrev pub unlike_token : ℕ → List ℕ → List ℕ → ℕ → List StateError
+unlike_token a dates left k =
+    refuse_if (not (slice_index dates k == slice_index left k))
+    (PlaceDate a (k + 1) (slice_index dates k) (slice_index left k))
+
+unfoldable pub unlike_tokens : ℕ → List ℕ → List ℕ → List StateError
+unlike_tokens a dates left = each_below (length dates) (unlike_token a dates left)
+
+-- the refusals of the tokens of each of the first n arcs
+unfoldable pub unlike_places : Parts → List (List ℕ) → ℕ → List (List ℕ) → List StateError
+unlike_places g logs n places = each_below n (λ a. unlike_tokens a (list_at places a) (tokens_left g logs a))
+
+-- `count` dates are read, and the first that is unlike what is left on arc a is noted
+pub record Compares (format : Format) (a count : ℕ) (left before rest : List ℕ)
+    (noted now : Option StateError) : Type 0 where
+  pub dates : List ℕ
+  pub given : AreGivenDates dates
+  pub counted : length dates ≡ count
+  pub is : before ≡ date_words format 0 dates ++ rest
+  pub noted_is : now ≡ or_first noted (unlike_tokens a dates left)
+
+-- and so the dates of the line of an arc
+pub record ComparesLine (format : Format) (a count : ℕ) (left before rest : List ℕ)
+    (noted now : Option StateError) : Type 0 where
+  pub dates : List ℕ
+  pub given : AreGivenDates dates
+  pub counted : length dates ≡ count
+  pub is : ReadsLine format (place_words a) before dates rest
+  pub noted_is : now ≡ or_first noted (unlike_tokens a dates left)
 
 -- ---- lines
 
@@ -94,3 +153,24 @@ pub record HasRead (format : Format) (g : Parts) (number : ℕ) (lists : List (L
   pub a_list_each : dated (take number (lines format g)) ≡ length lists
   pub given : AreGiven lists
   pub is : r.text ≡ filled format (take number (lines format g)) lists ++ r.rest
+
+-- the lines of the first t stations are read: their logs, each up to its first dates, one a job, and the first log that is
+-- too long
+pub record HasReadLogs (format : Format) (g : Parts) (t : ℕ) (logs : RoomyLogs)
+    (long : Option StateError) (r : Reading) : Type 0 where
+  pub lists : List (List ℕ)
+  pub read : HasRead format g (head_count format + t) lists r
+  pub a_log_each : length lists ≡ t
+  pub logs_are : dates_of logs ≡ map (take (jobs g)) lists
+  pub long_is : long ≡ first (each_below t (long_log g lists))
+
+-- the lines of the first a arcs are read behind those of the stations: how many tokens each has, and the first token that
+-- is unlike what the logs leave
+pub record HasReadPlaces (format : Format) (g : Parts) (logs : List (List ℕ)) (a : ℕ)
+    (marking : List ℕ) (wrong : Option StateError) (before r : Reading) : Type 0 where
+  pub places : List (List ℕ)
+  pub a_place_each : length places ≡ a
+  pub read : (lists : List (List ℕ)) → HasRead format g (arcs_from format g) lists before
+      → HasRead format g (arcs_from format g + a) (lists ++ places) r
+  pub counts : HaveCounts places marking
+  pub wrong_is : wrong ≡ first (unlike_places g logs a places)

@@ -8,6 +8,7 @@ mod lists;
 mod log;
 mod read;
 mod reader;
+mod tokens;
 mod words;
 mod writer;
 

@@ -1,18 +1,22 @@
 //! The lines of stations and arcs.
-ghost use Rattle.std.specs.Prelude.{◌≡◌, ℕ, ◌^◌, ◌<◌, ◌≤◌, ◌++◌, [], length, List, true, IfOk, IfErr};
+ghost use Rattle.std.specs.Prelude.{◌≡◌, ℕ, ◌^◌, ◌<◌, ◌≤◌, ◌++◌, [], length, List, true, nat_lt, IfOk, IfErr};
 ghost use Rattle.line_base.specs.Roomy.{dates_of};
 ghost use Rattle.event_graph.specs.Network.{stations, jobs, arc_count};
 ghost use Rattle.line_core.specs.ArcTokens.{HasRoom};
-ghost use Rattle.checkpoint.specs.Text.{station_words, place_words, IsReadFor, AreGivenDates};
-ghost use Rattle.checkpoint.specs.Reading.{HasRead, head_count, arcs_from, end_from, TellsPassing, ReadsLine, TellsLine};
+ghost use Rattle.line_core.specs.Parts.{refuse_if};
+ghost use Rattle.line_core.specs.declared.error.StateError.TheVariants as Core;
+ghost use Rattle.checkpoint.specs.Text.{station_words, IsReadFor, AreGiven};
+ghost use Rattle.checkpoint.specs.Reading.{HasRead, HasReadLogs, HasReadPlaces, KeepsLine, or_first, head_count, arcs_from, TellsPassing, TellsLine};
 ghost use Rattle.checkpoint.specs.Answers.{Tells};
 
 use crate::error::CheckpointError;
 use crate::format::Format;
-use crate::log::{Stop, read_log};
+use crate::log::{LineDates, Stop, read_log};
 use crate::reader::Reader;
-use event_graph::Graph;
-use line_base::{Log, Logs, Places};
+use crate::tokens::read_place;
+use event_graph::{Graph, Marking};
+use line_base::Logs;
+use line_core::StateError;
 use std::alloc::Global;
 
 /// Passes over the words with which the line of station `t` begins.
@@ -32,36 +36,20 @@ fn pass_station(reader: &mut Reader, graph: &Graph, t: u32) -> bool
     reader.pass(b" ")
 }
 
-/// Passes over the words with which the line of arc `a` begins.
-fn pass_place(reader: &mut Reader, a: u32) -> bool
-    ensures passed { result ≡ true → reader.old.rest ≡ place_words a ++ reader.new.rest }
-    ensures told { TellsPassing (place_words a) reader.old.rest result reader.new.rest }
-    ensures text { reader.new.text ≡ reader.old.text }
-{
-    if !reader.pass(b"place ") {
-        return false;
-    }
-    if !reader.pass_number(a) {
-        return false;
-    }
-    reader.pass(b" ")
-}
-
-/// Reads the line of station `t` into a log with room for a date of each job.
+/// Reads the line of station `t`, of which a log keeps the first dates, one a job.
 fn read_station(
     reader: &mut Reader,
     alloc: Global,
     graph: &Graph,
     format: Format,
     t: u32,
-) -> Result<Log, Stop>
+) -> Result<LineDates, Stop>
     requires short { length reader.old.rest < 2 ^ 32 }
     requires station { t < stations graph.now }
     ensures read { IfOk result
-        (λ log. ReadsLine format
-        (station_words graph.now t) reader.old.rest log.dates reader.new.rest) }
-    ensures given { IfOk result (λ log. AreGivenDates log.dates) }
-    ensures room { IfOk result (λ log. jobs graph.now ≤ log.room) }
+        (λ line. KeepsLine format (station_words graph.now t) line.count (jobs graph.now)
+        reader.old.rest line.log.dates reader.new.rest) }
+    ensures room { IfOk result (λ line. line.log.room ≡ jobs graph.now) }
     ensures told { TellsLine format (station_words graph.now t) reader.old.rest result }
     ensures text { reader.new.text ≡ reader.old.text }
 {
@@ -71,35 +59,44 @@ fn read_station(
     read_log(reader, alloc, format, graph.jobs())
 }
 
-/// Reads the line of arc `a` into a place.
-fn read_place(reader: &mut Reader, alloc: Global, format: Format, a: u32) -> Result<Log, Stop>
-    requires { length reader.old.rest < 2 ^ 32 }
-    ensures read { IfOk result
-        (λ log. ReadsLine format (place_words a) reader.old.rest log.dates reader.new.rest) }
-    ensures given { IfOk result (λ log. AreGivenDates log.dates) }
-    ensures told { TellsLine format (place_words a) reader.old.rest result }
-    ensures text { reader.new.text ≡ reader.old.text }
+/// Notes a log with so many dates, where these are more than there are jobs and nothing is noted yet.
+fn note_log(noted: &mut Option<StateError>, graph: &Graph, station: u32, have: u32)
+    ensures { noted.new ≡ or_first noted.old
+        (refuse_if (nat_lt (jobs graph.now) have) (Core.Count station have (jobs graph.now))) }
 {
-    if !pass_place(reader, a) {
-        return Err(Stop::Form);
+    let limit = graph.jobs();
+    if noted.is_none() && have > limit {
+        *noted = Some(StateError::Count {
+            station,
+            have: u64::from(have),
+            limit: u64::from(limit),
+        });
     }
-    read_log(reader, alloc, format, 0)
 }
 
-/// Reads the lines of the stations: the log of each, with room for a date of each job.
+/// What the lines of the stations say.
+#[derive(Drop)]
+pub struct StationLines {
+    /// The log of each station, up to its first dates, one a job.
+    pub logs: Logs,
+    /// The first log that is too long.
+    pub long: Option<StateError>,
+}
+
+/// Reads the lines of the stations.
 pub fn read_stations(
     reader: &mut Reader,
     alloc: Global,
     graph: &Graph,
     format: Format,
-) -> Result<Logs, CheckpointError>
+) -> Result<StationLines, CheckpointError>
     requires short { length reader.old.text < 2 ^ 32 }
     requires readable { IsReadFor format graph.now }
     requires read { HasRead format graph.now (head_count format) [] reader.old }
     ensures read { IfOk result
-        (λ logs. HasRead format graph.now (arcs_from format graph.now) (dates_of logs) reader.new) }
-    ensures a_log_each { IfOk result (λ logs. length logs.logs ≡ stations graph.now) }
-    ensures room { IfOk result (HasRoom graph.now) }
+        (λ lines. HasReadLogs format graph.now (stations graph.now) lines.logs lines.long reader.new) }
+    ensures a_log_each { IfOk result (λ lines. length lines.logs.logs ≡ stations graph.now) }
+    ensures room { IfOk result (λ lines. HasRoom graph.now lines.logs) }
     ensures refused { IfErr result (Tells graph.now reader.old.text) }
     ensures text { reader.new.text ≡ reader.old.text }
 {
@@ -107,44 +104,62 @@ pub fn read_stations(
     let Ok(mut logs) = Logs::new(alloc, stations) else {
         return Err(CheckpointError::NoMemory);
     };
+    let mut long = None;
     for t in 0..stations {
         match read_station(reader, alloc, graph, format, t) {
-            Ok(log) => logs.add(log),
+            Ok(line) => {
+                note_log(&mut long, graph, t, line.count);
+                logs.add(line.log);
+            }
             Err(stop) => return Err(stop.at_line(format.head_lines() + u64::from(t) + 1)),
         }
     }
-    Ok(logs)
+    Ok(StationLines { logs, long })
 }
 
-/// Reads the lines of the arcs: the place of each.
+/// What the lines of the arcs say.
+#[derive(Drop)]
+pub struct PlaceLines {
+    /// How many tokens each arc has.
+    pub marking: Marking,
+    /// The first token that is unlike what the logs leave.
+    pub wrong: Option<StateError>,
+}
+
+/// Reads the lines of the arcs, whose tokens are compared with what the logs leave as they are read.
 pub fn read_places(
     reader: &mut Reader,
     alloc: Global,
     graph: &Graph,
     format: Format,
-) -> Result<Places, CheckpointError>
+    logs: &Logs,
+) -> Result<PlaceLines, CheckpointError>
     requires short { length reader.old.text < 2 ^ 32 }
     requires readable { IsReadFor format graph.now }
-    requires read { (logs : List (List ℕ))
-        × HasRead format graph.now (arcs_from format graph.now) logs reader.old }
-    ensures read { IfOk result (λ places. (logs : List (List ℕ))
-        → HasRead format graph.now (arcs_from format graph.now) logs reader.old
-        → HasRead format graph.now (end_from format graph.now)
-        (logs ++ dates_of places) reader.new) }
-    ensures a_place_each { IfOk result (λ places. length places.logs ≡ arc_count graph.now) }
+    requires a_log_each { length logs.now.logs ≡ stations graph.now }
+    requires given { AreGiven (dates_of logs.now) }
+    requires read { (lists : List (List ℕ))
+        × HasRead format graph.now (arcs_from format graph.now) lists reader.old }
+    ensures read { IfOk result
+        (λ lines. HasReadPlaces format graph.now (dates_of logs.now) (arc_count graph.now)
+        lines.marking lines.wrong reader.old reader.new) }
     ensures refused { IfErr result (Tells graph.now reader.old.text) }
     ensures text { reader.new.text ≡ reader.old.text }
 {
     let arcs = graph.arcs().len() as u32;
     let before = format.head_lines() + u64::from(graph.stations());
-    let Ok(mut places) = Places::new(alloc, arcs) else {
+    let Ok(mut counts) = Vec::with_capacity(alloc, arcs as usize) else {
         return Err(CheckpointError::NoMemory);
     };
+    let mut wrong = None;
     for a in 0..arcs {
-        match read_place(reader, alloc, format, a) {
-            Ok(place) => places.add(place),
+        match read_place(reader, format, graph, logs, a, &mut wrong) {
+            Ok(count) => counts.push_reserved(count),
             Err(stop) => return Err(stop.at_line(before + u64::from(a) + 1)),
         }
     }
-    Ok(places)
+    Ok(PlaceLines {
+        marking: Marking::of(counts),
+        wrong,
+    })
 }

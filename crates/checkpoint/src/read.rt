@@ -1,21 +1,20 @@
-ghost use Rattle.std.specs.Prelude.{◌≡◌, ℕ, ◌^◌, ◌<◌, [], length, List, IfOk, IfErr, OnOk};
+ghost use Rattle.std.specs.Prelude.{◌≡◌, ℕ, ◌^◌, ◌<◌, [], length, List, None, Some, IfOk, IfErr, OnOk};
 ghost use Rattle.line_base.specs.Roomy.{dates_of};
+ghost use Rattle.event_graph.specs.Network.{stations};
 ghost use Rattle.line_core.specs.ArcTokens.{HasRoom};
-ghost use Rattle.line_core.specs.Parts.{AreParts};
 ghost use Rattle.line_core.specs.Run.{IsReached};
 ghost use Rattle.checkpoint.specs.declared.format.Format.TheVariants.{Differences};
 ghost use Rattle.checkpoint.specs.Text.{lines, filled, delayed_arcs, IsReadFor, IsTextOf, AreGiven};
 ghost use Rattle.checkpoint.specs.Reading.{HasRead, head_count, end_from};
-ghost use Rattle.checkpoint.specs.Answers.{state_in, Tells, FindsStates};
+ghost use Rattle.checkpoint.specs.Answers.{IsReadOf, Tells, FindsStates};
 
 use crate::error::CheckpointError;
 use crate::format::Format;
-use crate::lists::{read_places, read_stations};
+use crate::lists::{PlaceLines, StationLines, read_places, read_stations};
 use crate::reader::Reader;
 use crate::writer::{has_delays, put_delays};
 use event_graph::Graph;
-use line_base::{Logs, Places};
-use line_core::State;
+use line_core::{State, StateError};
 use live_check::Live;
 use std::alloc::Global;
 
@@ -81,26 +80,37 @@ fn read_end(reader: &mut Reader, graph: &Graph, format: Format) -> Result<(), Ch
     Ok(())
 }
 
-/// Reads the logs and the places of a text.
+/// Reads the logs of a text, and its places beside what these leave.
 fn read_parts(
     reader: &mut Reader,
     alloc: Global,
     graph: &Graph,
-) -> Result<(Logs, Places), CheckpointError>
+) -> Result<(StationLines, PlaceLines), CheckpointError>
     requires short { length reader.old.text < 2 ^ 32 }
     requires fresh { reader.old.rest ≡ reader.old.text }
-    ensures read { IfOk result
-        (λ parts. IsTextOf graph.now (state_in parts.0 parts.1) reader.old.text) }
-    ensures parts { IfOk result (λ parts. AreParts graph.now parts.0 parts.1) }
-    ensures places_given { IfOk result (λ parts. AreGiven (dates_of parts.1)) }
-    ensures room { IfOk result (λ parts. HasRoom graph.now parts.0) }
+    ensures read { IfOk result (λ lines. IsReadOf graph.now reader.old.text
+        lines.0.logs lines.0.long lines.1.marking lines.1.wrong) }
+    ensures a_log_each { IfOk result (λ lines. length lines.0.logs.logs ≡ stations graph.now) }
+    ensures given { IfOk result (λ lines. AreGiven (dates_of lines.0.logs)) }
+    ensures room { IfOk result (λ lines. HasRoom graph.now lines.0.logs) }
     ensures refused { IfErr result (Tells graph.now reader.old.text) }
 {
     let format = read_head(reader, alloc, graph)?;
-    let logs = read_stations(reader, alloc, graph, format)?;
-    let places = read_places(reader, alloc, graph, format)?;
+    let stations = read_stations(reader, alloc, graph, format)?;
+    let places = read_places(reader, alloc, graph, format, &stations.logs)?;
     read_end(reader, graph, format)?;
-    Ok((logs, places))
+    Ok((stations, places))
+}
+
+/// Nothing, where no refusal was noted, else that refusal.
+fn none_noted(noted: Option<StateError>) -> Result<(), StateError>
+    ensures none { OnOk result (noted ≡ None) }
+    ensures refused { IfErr result (λ refusal. noted ≡ Some refusal) }
+{
+    match noted {
+        None => Ok(()),
+        Some(refusal) => Err(refusal),
+    }
 }
 
 /// The state whose text these bytes are: fewer than 2^32 bytes, in format 2, or in format 1 where no arc of the graph has
@@ -118,6 +128,9 @@ pub fn read_state(alloc: Global, live: &Live, bytes: &[u8]) -> Result<State, Che
     ensures refused { IfErr result (Tells live.now.graph bytes.now) }
 {
     let mut reader = Reader::new(bytes);
-    let (logs, places) = read_parts(&mut reader, alloc, live.graph())?;
-    Ok(State::of_roomy_parts(alloc, live, logs, &places)?)
+    let (stations, places) = read_parts(&mut reader, alloc, live.graph())?;
+    none_noted(stations.long)?;
+    let state = State::of_logs(alloc, live, stations.logs, &places.marking)?;
+    none_noted(places.wrong)?;
+    Ok(state)
 }

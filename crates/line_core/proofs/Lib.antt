@@ -14,3 +14,4 @@ pub mod Following
 pub mod RoundLemmas
 pub mod FirstRefusals
 pub mod PartsLemmas
+pub mod MarkedLogs

@@ -18,7 +18,7 @@ use Rattle.line_core.specs.declared.error.StateError.{StateError}
 use Rattle.line_core.specs.declared.error.StateError.TheVariants.{Count, Marking, Date, PlaceDate}
 use Rattle.line_core.specs.Consistent.{all_tokens, tokens_left, due_date, state_of, IsConsistent}
 use Rattle.line_core.specs.Run.{Run, run_of}
-use Rattle.line_core.specs.Parts.{AreParts, run_with, list_at, refuse_if, long_log, long_logs, tokens_needed, wrong_marking, wrong_markings, wrong_date, wrong_dates_at, wrong_dates, wrong_token, wrong_tokens_on, wrong_tokens, state_refusals, first, IsReachedExactly}
+use Rattle.line_core.specs.Parts.{AreParts, run_with, list_at, refuse_if, long_log, long_logs, wrong_count, wrong_marking, wrong_markings, wrong_date, wrong_dates_at, wrong_dates, wrong_token, wrong_tokens_on, wrong_tokens, state_refusals, first, IsReachedExactly}
 use Rattle.line_core.proofs.ArcTokens.{length-all_tokens, token_date-next}
 use Rattle.line_core.proofs.Consistency.{reached_is_consistent}
 use Rattle.line_core.proofs.Unwinding.{state_of-logs, consistent_is_reached}
@@ -69,29 +69,35 @@ agrees n m refusal same = refuse_if-none (not (eqb n m)) refusal (not_none (eqb 
 agreed : (n m : ℕ) (refusal : StateError) → refuse_if (not (eqb n m)) refusal ≡ [] → n ≡ m
 agreed n m refusal none = eqb-true n m (true_from (eqb n m) (test-none (not (eqb n m)) refusal none))
 
-module _ (g : Parts) (logs places : Lists) (a : ℕ) where
-  from_dates : ℕ
-  from_dates = length (list_at logs (arc g a).from)
-
-  abbrev to_dates : ℕ
-  to_dates = length (list_at logs (arc g a).to)
-
-  pub wrong_marking-first : (have put taken : ℕ) (need : ℤ) → have ≡ length (list_at places a) → put ≡ (arc g a).tokens + length (list_at logs (arc g a).from) → taken ≡ to_dates → need ≡ pos put -ℤ pos taken → have + taken ≢ put → first (wrong_marking g logs places a) ≡ Some (Marking a have need)
-  unfolding wrong_marking
-  wrong_marking-first have put taken need is puts takes needs other =
-      let same : have + taken ≡ length (list_at places a) + to_dates = omega arith in
-      differs (length (list_at places a) + to_dates) ((arc g a).tokens + length (list_at logs (arc g a).from)) _ (λ e. other (same ∙ e ∙ sym puts))
-      ∙ ap (λ n. Some (Marking a n (tokens_needed g logs a))) (sym is)
+module _ (g : Parts) (logs : Lists) (a : ℕ) where
+  pub wrong_count-first : (have put taken : ℕ) (need : ℤ) → put ≡ (arc g a).tokens + length (list_at logs (arc g a).from) → taken ≡ length (list_at logs (arc g a).to) → need ≡ pos put -ℤ pos taken → have + taken ≢ put → first (wrong_count g logs a have) ≡ Some (Marking a have need)
+  unfolding wrong_count
+  wrong_count-first have put taken need puts takes needs other =
+      let to_dates = length (list_at logs (arc g a).to) in
+      let same : have + taken ≡ have + to_dates = omega arith in
+      differs (have + to_dates) ((arc g a).tokens + length (list_at logs (arc g a).from)) _ (λ e. other (same ∙ e ∙ sym puts))
       ∙ ap (λ n. Some (Marking a have (pos n -ℤ pos to_dates))) (sym puts)
       ∙ ap (λ n. Some (Marking a have (pos put -ℤ pos n))) (sym takes)
       ∙ ap (λ n. Some (Marking a have n)) (sym needs)
 
+  pub wrong_count-none : (have : ℕ) → have + length (list_at logs (arc g a).to) ≡ (arc g a).tokens + length (list_at logs (arc g a).from) → wrong_count g logs a have ≡ []
+  unfolding wrong_count
+  wrong_count-none have same = agrees _ _ _ same
+
+  pub counted : (have : ℕ) → wrong_count g logs a have ≡ [] → have + length (list_at logs (arc g a).to) ≡ (arc g a).tokens + length (list_at logs (arc g a).from)
+  unfolding wrong_count
+  counted have none = agreed _ _ _ none
+
+module _ (g : Parts) (logs places : Lists) (a : ℕ) where
+  abbrev to_dates : ℕ
+  to_dates = length (list_at logs (arc g a).to)
+
   pub wrong_marking-none : length (list_at places a) + to_dates ≡ (arc g a).tokens + length (list_at logs (arc g a).from) → wrong_marking g logs places a ≡ []
-  unfolding wrong_marking
+  unfolding wrong_marking wrong_count
   wrong_marking-none same = agrees _ _ _ same
 
   marked : wrong_marking g logs places a ≡ [] → length (list_at places a) + to_dates ≡ (arc g a).tokens + length (list_at logs (arc g a).from)
-  unfolding wrong_marking
+  unfolding wrong_marking wrong_count
   marked none = agreed _ _ _ none
 
   pub wrong_token-first : (k have need : ℕ) → have ≡ get_or (list_at places a) k 0 → need ≡ get_or (tokens_left g logs a) k 0 → have ≢ need → first (wrong_token g logs places a k) ≡ Some (PlaceDate a (k + 1) have need)

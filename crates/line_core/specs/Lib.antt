@@ -6,3 +6,4 @@ pub mod Round
 pub mod Refusals
 pub mod Schedule
 pub mod Parts
+pub mod Marked

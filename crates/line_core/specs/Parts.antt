@@ -51,13 +51,15 @@ abbrev pub tokens_needed : Parts → List (List ℕ) → ℕ → ℤ
 tokens_needed g logs a =
     pos ((arc g a).tokens + length (list_at logs (arc g a).from)) -ℤ pos (length (list_at logs (arc g a).to))
 
--- 2, of arc a: its place has another number of tokens than it needs
-unfoldable pub wrong_marking : Parts → List (List ℕ) → List (List ℕ) → ℕ → List StateError
-wrong_marking g logs places a =
-    let have = length (list_at places a) in
+-- 2, of arc a: with so many tokens its place has another number than it needs
+unfoldable pub wrong_count : Parts → List (List ℕ) → ℕ → ℕ → List StateError
+wrong_count g logs a have =
     refuse_if
     (not (have + length (list_at logs (arc g a).to) == (arc g a).tokens + length (list_at logs (arc g a).from)))
     (Marking a have (tokens_needed g logs a))
+
+unfoldable pub wrong_marking : Parts → List (List ℕ) → List (List ℕ) → ℕ → List StateError
+wrong_marking g logs places a = wrong_count g logs a (length (list_at places a))
 
 abbrev pub wrong_markings : Parts → List (List ℕ) → List (List ℕ) → List StateError
 wrong_markings g logs places = each_below (arc_count g) (wrong_marking g logs places)

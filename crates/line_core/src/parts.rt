@@ -5,10 +5,11 @@ ghost use Rattle.event_graph.specs.Table.{date_in};
 ghost use Rattle.event_graph.specs.Term.{term, token_date};
 ghost use Rattle.line_base.specs.Roomy.{dates_of};
 ghost use Rattle.line_core.specs.Consistent.{due_date};
-ghost use Rattle.line_core.specs.Parts.{LATEST_GIVEN, AreParts, list_at, long_log, long_logs, wrong_marking, wrong_markings, wrong_date, wrong_dates_at, wrong_dates, wrong_token, wrong_tokens_on, wrong_tokens, state_refusals, AnswersFirst};
+ghost use Rattle.line_core.specs.Marked.{wrong_counts, marked_refusals};
+ghost use Rattle.line_core.specs.Parts.{LATEST_GIVEN, AreParts, list_at, long_log, long_logs, wrong_count, wrong_marking, wrong_markings, wrong_date, wrong_dates_at, wrong_dates, wrong_token, wrong_tokens_on, wrong_tokens, state_refusals, AnswersFirst};
 
 use crate::error::StateError;
-use event_graph::Graph;
+use event_graph::{Graph, Marking};
 use line_base::{Arc, Date, Log, Logs, Places};
 use std::alloc::{AllocError, Global};
 
@@ -61,16 +62,15 @@ fn check_logs(graph: &Graph, logs: &Logs) -> Result<(), StateError>
     Ok(())
 }
 
-/// Refuses a place with another number of tokens than the logs leave there.
-fn check_marking(graph: &Graph, logs: &Logs, places: &Places, arc: u32) -> Result<(), StateError>
-    requires parts { AreParts graph.now logs.now places.now }
+/// Refuses so many tokens in the place of an arc, where the logs leave another number there.
+fn check_count(graph: &Graph, logs: &Logs, arc: u32, have: usize) -> Result<(), StateError>
+    requires a_log_each { length logs.now.logs ≡ stations graph.now }
     requires few { long_logs graph.now (dates_of logs.now) ≡ [] }
     requires arc { arc < arc_count graph.now }
-    ensures { AnswersFirst result
-        (wrong_marking graph.now (dates_of logs.now) (dates_of places.now) arc) }
+    requires small { have < 2 ^ 62 }
+    ensures { AnswersFirst result (wrong_count graph.now (dates_of logs.now) arc have) }
 {
     let ends = arc_at(graph, arc);
-    let have = dates_at(places, arc).len();
     let put = ends.tokens as usize + dates_at(logs, ends.from).len();
     let taken = dates_at(logs, ends.to).len();
     if have + taken != put {
@@ -83,6 +83,16 @@ fn check_marking(graph: &Graph, logs: &Logs, places: &Places, arc: u32) -> Resul
     Ok(())
 }
 
+/// Refuses a place with another number of tokens than the logs leave there.
+fn check_marking(graph: &Graph, logs: &Logs, places: &Places, arc: u32) -> Result<(), StateError>
+    requires parts { AreParts graph.now logs.now places.now }
+    requires few { long_logs graph.now (dates_of logs.now) ≡ [] }
+    requires arc { arc < arc_count graph.now }
+    ensures { AnswersFirst result (wrong_marking graph.now (dates_of logs.now) (dates_of places.now) arc) }
+{
+    check_count(graph, logs, arc, dates_at(places, arc).len())
+}
+
 /// Refuses the first place with another number of tokens than the logs leave there.
 #[tactic(auto, using(crate::proofs::FirstRefusals::first_refusals))]
 fn check_markings(graph: &Graph, logs: &Logs, places: &Places) -> Result<(), StateError>
@@ -93,6 +103,20 @@ fn check_markings(graph: &Graph, logs: &Logs, places: &Places) -> Result<(), Sta
 {
     for arc in 0..graph.arcs().len() as u32 {
         check_marking(graph, logs, places, arc)?;
+    }
+    Ok(())
+}
+
+/// Refuses the first place that has another number of tokens by a marking than the logs leave there.
+fn check_counts(graph: &Graph, logs: &Logs, marking: &Marking) -> Result<(), StateError>
+    requires a_log_each { length logs.now.logs ≡ stations graph.now }
+    requires few { long_logs graph.now (dates_of logs.now) ≡ [] }
+    requires a_count_each { length marking.now ≡ arc_count graph.now }
+    ensures { AnswersFirst result (wrong_counts graph.now (dates_of logs.now) marking.now) }
+{
+    let counts = marking.lengths();
+    for arc in 0..graph.arcs().len() as u32 {
+        check_count(graph, logs, arc, counts[arc as usize] as usize)?;
     }
     Ok(())
 }
@@ -272,6 +296,18 @@ pub fn check_parts(graph: &Graph, logs: &Logs, places: &Places) -> Result<(), St
     check_markings(graph, logs, places)?;
     check_dates(graph, logs)?;
     check_tokens(graph, logs, places)
+}
+
+/// Refuses logs, and the numbers of tokens of places, by the first thing that is wrong with them.
+pub fn check_marked(graph: &Graph, logs: &Logs, marking: &Marking) -> Result<(), StateError>
+    requires early { All (All (λ date. date ≤ LATEST_GIVEN)) (dates_of logs.now) }
+    requires a_log_each { length logs.now.logs ≡ stations graph.now }
+    requires a_count_each { length marking.now ≡ arc_count graph.now }
+    ensures { AnswersFirst result (marked_refusals graph.now (dates_of logs.now) marking.now) }
+{
+    check_logs(graph, logs)?;
+    check_counts(graph, logs, marking)?;
+    check_dates(graph, logs)
 }
 
 /// A log with these dates and this room.

@@ -1,4 +1,4 @@
-ghost use Rattle.std.specs.Prelude.{◌≡◌, ◌<◌, map, length, IsTrue, ◌↔◌, IfOk, IfErr, IfSome, OnOk, OnErr, replicate, [], Some};
+ghost use Rattle.std.specs.Prelude.{◌≡◌, ◌<◌, ◌≤◌, map, length, All, IsTrue, ◌↔◌, IfOk, IfErr, IfSome, OnOk, OnErr, replicate, []};
 ghost use Rattle.line_base.specs.Roomy.{dates_of};
 ghost use Rattle.event_graph.specs.Network.{stations, arc_count};
 ghost use Rattle.event_graph.specs.State.{log, place};
@@ -8,11 +8,12 @@ ghost use Rattle.line_core.specs.Consistent.{IsFinished, fired, state_of};
 ghost use Rattle.line_core.specs.ArcTokens.{FillsCircuits, HasRoom};
 ghost use Rattle.line_core.specs.Run.{run_of, begun, fired_at, IsReached, IsLeastTable, IsRunWithRoom};
 ghost use Rattle.line_core.specs.Refusals.{Refuses, first_unfinished};
-ghost use Rattle.line_core.specs.Parts.{AreParts, run_with, state_refusal, IsStateRefusal, IsReachedExactly};
+ghost use Rattle.line_core.specs.Parts.{LATEST_GIVEN, AreParts, run_with, IsStateRefusal, IsReachedExactly};
+ghost use Rattle.line_core.specs.Marked.{RefusesMarked, RefusesTokensAlone};
 
 use crate::dates::{arc_at, count_at, first_empty, first_unfinished, next_date, tokens_on};
 use crate::error::{FireError, StateError};
-use crate::parts::{check_parts, with_room};
+use crate::parts::{check_marked, check_parts, with_room};
 use crate::table::Table;
 use crate::tokens::Tokens;
 use event_graph::{Graph, Marking};
@@ -225,24 +226,27 @@ impl State {
         Ok(State::of_reached(alloc, live, logs))
     }
 
-    /// The state with these logs, which have the room of all later firings, and these places, as `of_parts` answers it.
-    /// It takes no memory.
-    pub fn of_roomy_parts(
+    /// The state with these logs, which have the room of all later firings, and with so many tokens in each place. It takes
+    /// no memory.
+    ///
+    /// Its refusals are those of `of_parts` but the last, for the dates of the tokens aren't given. After Ok nothing but these
+    /// can be wrong.
+    pub fn of_logs(
         alloc: Global,
         live: &Live,
         logs: Logs,
-        places: &Places,
+        marking: &Marking,
     ) -> Result<State, StateError>
-        requires parts { AreParts live.now.graph logs places.now }
+        requires early { All (All (λ date. date ≤ LATEST_GIVEN)) (dates_of logs) }
+        requires a_log_each { length logs.logs ≡ stations live.now.graph }
+        requires a_count_each { length marking.now ≡ arc_count live.now.graph }
         requires room { HasRoom live.now.graph logs }
-        ensures state { IfOk result
-            (λ state. state ≡ run_with live.now.graph (dates_of logs) (dates_of places.now)) }
+        ensures state { IfOk result (λ state. state ≡ run_of live.now.graph logs) }
         ensures reached { IfOk result IsReached }
-        ensures refused { IfErr result (λ error.
-            state_refusal live.now.graph (dates_of logs) (dates_of places.now) ≡ Some error) }
-        ensures exact { IsReachedExactly live.now.graph (dates_of logs) (dates_of places.now) }
+        ensures tokens { OnOk result (RefusesTokensAlone live.now.graph (dates_of logs) marking.now) }
+        ensures refused { IfErr result (RefusesMarked live.now.graph (dates_of logs) marking.now) }
     {
-        check_parts(live.graph(), &logs, places)?;
+        check_marked(live.graph(), &logs, marking)?;
         Ok(State::of_reached(alloc, live, logs))
     }
 

@@ -1,5 +1,6 @@
 use Rattle.std.proofs.Common.{◌≡◌, ◌<◌, ◌^◌, length, ap, ◌∙◌, arith}
 use Rattle.std.specs.Prelude.{decimal}
+use Rattle.std.proofs.lemmas.List.{length-append}
 use Rattle.checkpoint.proofs.WordBytes.{word-decimal}
 use Rattle.checkpoint.proofs.ReadDates.{count_small}
 use Rattle.checkpoint.proofs.log.read_count.Goals as goal
@@ -24,3 +25,7 @@ returns-clause-told c count after fits ends is =
     let small : count < 2 ^ 32 = count_small count c.args.reader.now.rest after c.requires fits is in
     let word = c.word.ensures.told (decimal count) after (word-decimal count (omega arith)) ends is in
     (c.in_ok-number.ensures.told count (omega arith) word.0, word.1)
+
+pub returns-clause-few : goal.returns-clause-few
+returns-clause-few c =
+    omega (arith, c.requires, c.if-number-most.false, ap length c.rest.ensures, ap length c.word.ensures.word, length-append c.word.result.now c.word.new.self.rest)

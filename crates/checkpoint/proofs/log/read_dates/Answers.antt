@@ -1,31 +1,44 @@
-use Rattle.std.proofs.Common.{◌∙◌, ap, refl, arith}
-use Rattle.line_base.specs.Roomy.{RoomyLog}
-use Rattle.checkpoint.proofs.ReadDates.{read_none, read_next, next_missing, read_all, left_after_all}
+use Rattle.std.proofs.Common.{[], ◌∷◌, ◌++◌, ◌∙◌, refl, arith}
+use Rattle.checkpoint.proofs.ReadDates.{read_next, next_missing, read_all, left_after_all, kept_none, kept_few, date_kept}
 use Rattle.checkpoint.proofs.log.read_dates.Goals as goal
 
-pub loop-init : goal.loop-init
-loop-init c = record {
-  partly = read_none c.args.format c.args.reader.now.rest c.args.count c.args.log.now.dates c.requires.empty;
+pub loop-number-init : goal.loop-number-init
+loop-number-init c = record {
+  kept = kept_none c.args.format c.args.reader.now.rest c.args.count c.args.room c.args.log.now.dates c.requires.empty;
   room = refl;
   text = refl;
 }
 
 pub returns-in_default-clause-told : goal.returns-in_default-clause-told
 returns-in_default-clause-told c dates after given counted ends is =
-    absurd (next_missing _ _ _ _ _ _ _ c.loop.invariant.partly c.read_date.new.reader.rest c.loop-test.true c.in_default.ensures.told dates after given counted ends is)
+    absurd (next_missing _ _ _ _ _ _ _ c.loop-number.invariant.kept.partly c.read_date.new.reader.rest c.loop-number-test.true c.in_default.ensures.told dates after given counted ends is)
 
-pub loop-preserved : goal.loop-preserved
-loop-preserved c =
-    let next = read_next _ _ _ _ _ _ _ c.loop.invariant.partly c.in-Some.date c.read_date.new.reader.rest c.loop-test.true c.in-Some.ensures.given c.in-Some.ensures.read c.in-Some.ensures.told in
+pub keep_date-requires-clause-so_far : goal.keep_date-requires-clause-so_far
+keep_date-requires-clause-so_far c = kept_few _ _ _ _ _ _ _ _ c.loop-number.invariant.kept
+
+pub loop-number-preserved : goal.loop-number-preserved
+loop-number-preserved c =
+    let k = c.loop-number.invariant.kept in
+    let date = c.in-Some.date in
+    let next = read_next _ _ _ _ _ _ _ k.partly date c.read_date.new.reader.rest c.loop-number-test.true c.in-Some.ensures.given c.in-Some.ensures.read c.in-Some.ensures.told in
+    let kept = date_kept c.loop-number.log c.keep_date.new.log c.loop-number.number c.args.room date k.dates k.partly.counted k.kept_is c.keep_date.ensures in
     record {
-      partly = rw c.add.ensures next;
-      room = ap (λ (log : RoomyLog). log.room) c.add.ensures ∙ c.loop.invariant.room;
-      text = c.in-Some.ensures.text ∙ c.loop.invariant.text;
+      kept = record { dates = k.dates ++ date ∷ []; partly = next; kept_is = kept.0 };
+      room = kept.1 ∙ c.loop-number.invariant.room;
+      text = c.in-Some.ensures.text ∙ c.loop-number.invariant.text;
     }
 
 pub returns-clause-read : goal.returns-clause-read
-returns-clause-read c _ = read_all _ _ _ _ _ _ _ c.loop.invariant.partly
+returns-clause-read c _ =
+    let k = c.loop-number.invariant.kept in
+    record {
+      dates = k.dates;
+      given = k.partly.given;
+      counted = omega (arith, k.partly.counted);
+      is = read_all _ _ _ _ _ _ _ k.partly;
+      kept_is = k.kept_is;
+    }
 
 pub returns-clause-told : goal.returns-clause-told
 returns-clause-told c dates after given counted ends is =
-    (refl, left_after_all _ _ _ _ _ _ _ c.loop.invariant.partly (omega arith) dates after given counted ends is)
+    (refl, left_after_all _ _ _ _ _ _ _ c.loop-number.invariant.kept.partly (omega arith) dates after given counted ends is)

@@ -28,4 +28,11 @@ returns-then-not-pass-clause-told c dates after given is =
 
 pub returns-clause-read : goal.returns-clause-read
 returns-clause-read c =
-    dates_read c.args.format c.args.reader.now.rest c.read_count.new.reader.rest c.read_dates.new.reader.rest c.pass.new.self.rest c.read_dates.new.log.dates c.in-Some.count c.in-Some.ensures.read (c.if-not-read_dates.ensures.read refl) (c.if-not-read_dates.ensures.counted refl) (c.if-not-pass.ensures.passed refl)
+    let k = c.if-not-read_dates.ensures.read refl in
+    record {
+      dates = k.dates;
+      given = k.given;
+      counted = k.counted;
+      is = dates_read c.args.format c.args.reader.now.rest c.read_count.new.reader.rest c.read_dates.new.reader.rest c.pass.new.self.rest k.dates c.in-Some.count c.in-Some.ensures.read k.is k.counted (c.if-not-pass.ensures.passed refl);
+      kept_is = k.kept_is;
+    }

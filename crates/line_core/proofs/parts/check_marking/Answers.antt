@@ -1,38 +1,9 @@
-use Rattle.std.proofs.Common.{ap, ◌∙◌, ◌≤◌, ◌+◌, arith, length}
-use Rattle.std.proofs.lemmas.Int.{ints}
-use Rattle.line_base.specs.declared.event.Arc.{Arc}
+use Rattle.std.proofs.Common.{ap, length, subst}
 use Rattle.line_base.specs.Roomy.{dates_of}
-use Rattle.event_graph.specs.Network.{jobs}
-use Rattle.line_core.specs.Parts.{list_at}
-use Rattle.line_core.proofs.PartsLemmas.{few_from, wrong_marking-first, wrong_marking-none}
+use Rattle.line_core.specs.Parts.{AnswersFirst, wrong_count, wrong_marking}
 use Rattle.line_core.proofs.parts.check_marking.Goals as goal
 
-pub returns-then-have-taken : goal.returns-then-have-taken
-returns-then-have-taken c =
-    let g = c.args.graph.now in
-    let logs = dates_of c.args.logs.now in
-    let few_put = few_from g logs c.requires.few c.arc_at-ends.result.from c.arc_at-ends.ensures.starts in
-    let few_taken = few_from g logs c.requires.few c.arc_at-ends.result.to c.arc_at-ends.ensures.ends in
-    let few_jobs : jobs g ≤ 20_000 = c.arc_at-ends.ensures.few_jobs in
-    let from = ap length c.dates_at.ensures in
-    let to = ap length c.dates_at-taken.ensures in
-    wrong_marking-first
-    g
-    logs
-    (dates_of c.args.places.now)
-    c.args.arc
-    _
-    (c.arc_at-ends.result.tokens + length c.dates_at.result.now)
-    (length c.dates_at-taken.result.now)
-    _
-    (ap length c.dates_at-have.ensures)
-    (omega (arith, from, ap (λ (x : Arc). x.tokens + length (list_at logs x.from)) c.arc_at-ends.ensures.arc))
-    (to ∙ ap (λ (x : Arc). length (list_at logs x.to)) c.arc_at-ends.ensures.arc)
-    (omega (arith, ints, from, to, few_put, few_taken, few_jobs, c.arc_at-ends.ensures.tokens))
-    c.if-have-taken.true
-
 pub returns : goal.returns
+unfolding wrong_marking
 returns c =
-    let logs = dates_of c.args.logs.now in
-    wrong_marking-none c.args.graph.now logs (dates_of c.args.places.now) c.args.arc (
-    omega (arith, ap length c.dates_at-have.ensures, ap length c.dates_at.ensures, ap length c.dates_at-taken.ensures, ap (λ (x : Arc). x.tokens + length (list_at logs x.from)) c.arc_at-ends.ensures.arc, ap (λ (x : Arc). length (list_at logs x.to)) c.arc_at-ends.ensures.arc, c.if-have-taken.false))
+    subst (λ n. AnswersFirst c.check_count.result (wrong_count c.args.graph.now (dates_of c.args.logs.now) c.args.arc n)) (ap length c.dates_at.ensures) c.check_count.ensures

@@ -1,7 +1,7 @@
 use Rattle.std.proofs.Common.{◌++◌, sym, ap, ◌∙◌, refl}
 use Rattle.std.specs.Prelude.{codes, decimal}
 use Rattle.checkpoint.proofs.ReadLines.{place_parts}
-use Rattle.checkpoint.proofs.lists.pass_place.Goals as goal
+use Rattle.checkpoint.proofs.tokens.pass_place.Goals as goal
 
 pub returns-then-not-pass-clause-told : goal.returns-then-not-pass-clause-told
 returns-then-not-pass-clause-told c after is =
