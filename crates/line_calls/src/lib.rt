@@ -1,5 +1,6 @@
-//! What no case file reaches, of stations, lines and what stands beside them: each public call once, with its answer
-//! compared. There is a module for each crate below, named `of_` and the crate; the other crates are in `calls`.
+//! What no case file reaches, of single stations and of what is asked of a graph: each public call once, with its answer
+//! compared. There is a module for each crate below, named `of_` and the crate; the other crates are in `calls`, `run_calls`
+//! and `saving_calls`.
 #![tactic(auto)]
 
 #[cfg(test)]
@@ -8,10 +9,6 @@ mod of_big_plant;
 mod of_card_sizing;
 #[cfg(test)]
 mod of_cycle_time;
-#[cfg(test)]
-mod of_line_disk;
-#[cfg(test)]
-mod of_line_workers;
 #[cfg(test)]
 mod of_station_step;
 #[cfg(test)]

@@ -4,7 +4,7 @@ use Rattle.std.specs.Prelude.{IfSome, ⊤}
 use Rattle.std.specs.List.{All}
 use Rattle.std.proofs.lemmas.List.Elements.{All-nil, All-append, All-head, All-from_recursion}
 use Rattle.line_base.specs.declared.event.Parts.{Parts}
-use Rattle.line_graph.proofs.RowLists.{All-flat_map-range}
+use Rattle.line_base.proofs.RangeLists.{All-flat_map-range}
 use Rattle.event_graph.specs.Network.{stations, arc_count}
 use Rattle.line_core.specs.declared.error.StateError.{StateError}
 use Rattle.line_core.specs.declared.error.StateError.TheVariants.{Count, Marking, Date, PlaceDate, NoMemory}
