@@ -4,6 +4,7 @@ use Rattle.std.specs.Str.{bytes_eq}
 use Rattle.line_base.specs.Text.{is_file_name, is_checkpoint_name}
 use Rattle.command_words.specs.Numbers.{number_in, longest_wait}
 use Rattle.command_words.specs.Settings.{Way, whole, stopped, saving, from_slots, asked}
+use Rattle.command_words.specs.Ranges.{IsInRange}
 use Rattle.command_words.specs.declared.command.Command.{Command}
 use Rattle.command_words.specs.declared.command.Command.TheVariants.{Run, Check, Replay, Big, Resume, Cycle, RunSlots, ResumeSlots, Cards, WhatIf, Help, Version}
 use Rattle.command_words.specs.declared.command.WordsError.{WordsError}
@@ -93,7 +94,8 @@ command_of (word ∷ words) =
     else if bytes_eq word (codes "big") then after_big words
     else after_plant_word word words
 
--- an answer is this command, or want of memory; and `Usage` exactly where there is no command
+-- an answer is this command, with its numbers in their ranges, or want of memory; and `Usage` exactly where there is no command
 pub record IsReadAs (result : Result Command WordsError) (command : Option Command) : Type 0 where
   pub command_is : IfOk result (λ c. command ≡ Some c)
   pub usage : IsErrOf result Usage ↔ (command ≡ None)
+  pub range : IfOk result IsInRange

@@ -1,6 +1,7 @@
 ghost use Rattle.std.specs.Prelude.{◌≡◌, ◌≤◌, IfSome};
 ghost use Rattle.line_base.specs.Limits.{most_workers};
 ghost use Rattle.command_words.specs.Numbers.{number_in};
+ghost use Rattle.command_words.specs.Ranges.{AreWorkers};
 
 use line_base::{MAX_WORKERS, number_of};
 
@@ -8,6 +9,7 @@ use line_base::{MAX_WORKERS, number_of};
 pub fn number_in(word: &str, least: u64, most: u64) -> Option<u64>
     ensures read { result ≡ number_in least most word.now }
     ensures small { IfSome result (λ number. number ≤ most) }
+    ensures large { IfSome result (λ number. least ≤ number) }
 {
     let number = number_of(word.as_bytes(), most)?;
     if number < least { None } else { Some(number) }
@@ -15,7 +17,8 @@ pub fn number_in(word: &str, least: u64, most: u64) -> Option<u64>
 
 /// The number of workers that a word is.
 pub fn workers_in(word: &str) -> Option<u32>
-    ensures { result ≡ number_in 1 most_workers word.now }
+    ensures read { result ≡ number_in 1 most_workers word.now }
+    ensures range { IfSome result AreWorkers }
 {
     let workers = number_in(word, 1, MAX_WORKERS as u64)?;
     Some(workers as u32)

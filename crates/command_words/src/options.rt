@@ -1,4 +1,5 @@
-ghost use Rattle.std.specs.Prelude.{◌≡◌, option_map};
+ghost use Rattle.std.specs.Prelude.{◌≡◌, option_map, IfSome};
+ghost use Rattle.command_words.specs.Ranges.{AreInRange};
 ghost use Rattle.command_words.specs.Options.{seen, none_given, with_flag, with_value, options_after, takes_no_value, texts};
 
 use crate::first::first_word;
@@ -24,7 +25,8 @@ pub struct Options<'a> {
 impl<'a> Options<'a> {
     /// No option.
     fn none() -> Self
-        ensures { seen result ≡ none_given }
+        ensures none { seen result ≡ none_given }
+        ensures range { AreInRange result }
     {
         Options {
             workers: None,
@@ -46,7 +48,9 @@ fn takes_no_value(name: &str) -> bool
 /// The options with one more that takes no value.
 #[tactic(auto, unfolding(crate::specs::Options::with_flag))]
 fn with_flag<'a>(given: Options<'a>, name: &str) -> Option<Options<'a>>
-    ensures { option_map seen result ≡ with_flag (seen given.entry) name.now }
+    requires range { AreInRange given }
+    ensures given { option_map seen result ≡ with_flag (seen given.entry) name.now }
+    ensures range { IfSome result AreInRange }
 {
     match name {
         "--slots" if !given.slots => Some(Options {
@@ -60,7 +64,9 @@ fn with_flag<'a>(given: Options<'a>, name: &str) -> Option<Options<'a>>
 /// The options with one more that takes a value.
 #[tactic(auto, unfolding(crate::specs::Options::with_value))]
 fn with_value<'a>(given: Options<'a>, name: &str, word: &'a str) -> Option<Options<'a>>
-    ensures { option_map seen result ≡ with_value (seen given.entry) name.now word.now }
+    requires range { AreInRange given }
+    ensures given { option_map seen result ≡ with_value (seen given.entry) name.now word.now }
+    ensures range { IfSome result AreInRange }
 {
     match name {
         "--workers" if given.workers.is_none() => Some(Options {
@@ -86,7 +92,9 @@ fn with_value<'a>(given: Options<'a>, name: &str, word: &'a str) -> Option<Optio
 /// The options that words add to those that are given.
 #[tactic(auto, unfolding(crate::specs::Options::options_after))]
 fn options_after<'a>(given: Options<'a>, words: &'a [String]) -> Option<Options<'a>>
-    ensures { option_map seen result ≡ options_after (seen given.entry) (texts words.now) }
+    requires range { AreInRange given }
+    ensures given { option_map seen result ≡ options_after (seen given.entry) (texts words.now) }
+    ensures range { IfSome result AreInRange }
 {
     let Some((name, rest)) = first_word(words) else {
         return Some(given);
@@ -100,7 +108,8 @@ fn options_after<'a>(given: Options<'a>, words: &'a [String]) -> Option<Options<
 
 /// The options that words are.
 pub fn options_of<'a>(words: &'a [String]) -> Option<Options<'a>>
-    ensures { option_map seen result ≡ options_after none_given (texts words.now) }
+    ensures given { option_map seen result ≡ options_after none_given (texts words.now) }
+    ensures range { IfSome result AreInRange }
 {
     options_after(Options::none(), words)
 }

@@ -1,4 +1,5 @@
-ghost use Rattle.std.specs.Prelude.{◌≡◌, option_map, unwrap_or};
+ghost use Rattle.std.specs.Prelude.{◌≡◌, option_map, unwrap_or, IfSome};
+ghost use Rattle.command_words.specs.Ranges.{AreInRange, AreSettingsInRange, IsModeInRange};
 ghost use Rattle.command_words.specs.Options.{seen, texts};
 ghost use Rattle.command_words.specs.Settings.{way_of, way_seen, asked, settings_seen};
 
@@ -37,7 +38,8 @@ pub struct Settings<'a> {
 /// The settings of the options that words are.
 #[tactic(auto, unfolding(crate::specs::Settings::asked))]
 pub fn settings_of<'a>(words: &'a [String]) -> Option<Settings<'a>>
-    ensures { option_map settings_seen result ≡ asked (texts words.now) }
+    ensures asked { option_map settings_seen result ≡ asked (texts words.now) }
+    ensures range { IfSome result AreSettingsInRange }
 {
     let options = options_of(words)?;
     let mode = mode_of(options)?;
@@ -49,7 +51,9 @@ pub fn settings_of<'a>(words: &'a [String]) -> Option<Settings<'a>>
 
 /// The mode that options ask for beside the workers.
 fn mode_of<'a>(options: Options<'a>) -> Option<Mode<'a>>
-    ensures { option_map way_seen result ≡ way_of (seen options.entry) }
+    requires range { AreInRange options }
+    ensures way { option_map way_seen result ≡ way_of (seen options.entry) }
+    ensures range { IfSome result IsModeInRange }
 {
     match (
         options.stop_after,

@@ -1,6 +1,7 @@
 ghost use Rattle.std.specs.Prelude.{◌≡◌, ◌↔◌, IfOk, IsErrOf, Some, None};
 ghost use Rattle.command_words.specs.declared.command.Command.TheVariants.{Check, Cycle};
 ghost use Rattle.command_words.specs.Options.{texts};
+ghost use Rattle.command_words.specs.Ranges.{IsInRange};
 ghost use Rattle.command_words.specs.Settings.{settings_seen, asked};
 ghost use Rattle.command_words.specs.Words.{IsReadAs, alone, run_command, resume_command, resume_slots_command, with_options, after_big, after_resume, after_replay, after_whatif, after_cards, plant_command, after_plant_word, command_of};
 
@@ -18,6 +19,7 @@ use std::alloc::Global;
 pub fn read_words(alloc: Global, words: &[String]) -> Result<Command, WordsError>
     ensures command { IfOk result (λ command. command_of (texts words.now) ≡ Some command) }
     ensures usage { IsErrOf result WordsError.Usage ↔ (command_of (texts words.now) ≡ None) }
+    ensures range { IfOk result IsInRange }
 {
     let Some((word, words)) = first_word(words) else {
         return Err(WordsError::Usage);
@@ -32,6 +34,7 @@ pub fn read_words(alloc: Global, words: &[String]) -> Result<Command, WordsError
 
 /// A command with no word behind it.
 fn alone(command: Command, words: &[String]) -> Result<Command, WordsError>
+    requires { IsInRange command }
     ensures { IsReadAs result (alone command (texts words.now)) }
 {
     if words.is_empty() {

@@ -1,0 +1,43 @@
+-- The ranges of the numbers that a command takes.
+use Rattle.std.specs.Prelude.{ℕ, ◌≤◌, ⊤, IfSome}
+use Rattle.line_base.specs.Limits.{most_workers}
+use Rattle.command_words.specs.Numbers.{most_firings, longest_wait}
+use Rattle.command_words.specs.declared.command.Command.{Command}
+use Rattle.command_words.specs.declared.command.Command.TheVariants.{Run, Big, Resume, RunSlots, ResumeSlots, Cards}
+use Rattle.command_words.specs.declared.options.Options.{Options}
+use Rattle.command_words.specs.declared.settings.Mode.{Mode}
+use Rattle.command_words.specs.declared.settings.Mode.TheVariants.{Stopped, Saving}
+use Rattle.command_words.specs.declared.settings.Settings.{Settings}
+
+-- a number of workers
+abbrev pub AreWorkers : ℕ → Type 0
+AreWorkers n = (1 ≤ n) × (n ≤ most_workers)
+
+-- the firings between two checkpoints
+abbrev pub IsInterval : ℕ → Type 0
+IsInterval n = (1 ≤ n) × (n ≤ most_firings)
+
+-- each number that is given is in its range
+pub record AreInRange (options : Options) : Type 0 where
+  pub workers : IfSome options.workers AreWorkers
+  pub stop_after : IfSome options.stop_after (λ n. n ≤ most_firings)
+  pub every : IfSome options.every IsInterval
+
+abbrev pub IsModeInRange : Mode → Type 0
+IsModeInRange (Stopped after save) = after ≤ most_firings
+IsModeInRange (Saving every) = IsInterval every
+IsModeInRange other = ⊤
+
+pub record AreSettingsInRange (settings : Settings) : Type 0 where
+  pub workers : AreWorkers settings.workers
+  pub mode : IsModeInRange settings.mode
+
+-- each number of a command is in its range
+abbrev pub IsInRange : Command → Type 0
+IsInRange (Run plant workers stop) = AreWorkers workers × IfSome stop (λ s. s.after ≤ most_firings)
+IsInRange (Big seed workers) = AreWorkers workers
+IsInRange (Resume plant saved workers) = AreWorkers workers
+IsInRange (RunSlots plant every workers) = AreWorkers workers × IsInterval every
+IsInRange (ResumeSlots plant workers) = AreWorkers workers
+IsInRange (Cards plant wait) = wait ≤ longest_wait
+IsInRange other = ⊤
