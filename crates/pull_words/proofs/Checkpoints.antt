@@ -8,7 +8,7 @@ use Rattle.line_base.proofs.RangeLists.{All-flat_map-range}
 use Rattle.event_graph.specs.Network.{stations, arc_count}
 use Rattle.line_core.specs.declared.error.StateError.{StateError}
 use Rattle.line_core.specs.declared.error.StateError.TheVariants.{Count, Marking, Date, PlaceDate, NoMemory}
-use Rattle.line_core.specs.Parts.{list_at, refuse_if, each_below, long_log, wrong_marking, wrong_markings, wrong_date, wrong_dates_at, wrong_dates, wrong_token, wrong_tokens_on, state_refusals, first, long_logs}
+use Rattle.line_core.specs.Parts.{list_at, refuse_if, each_below, long_log, wrong_count, wrong_marking, wrong_markings, wrong_date, wrong_dates_at, wrong_dates, wrong_token, wrong_tokens_on, state_refusals, first, long_logs}
 use Rattle.checkpoint.specs.declared.error.CheckpointError.{CheckpointError}
 use Rattle.checkpoint.specs.declared.error.CheckpointError.TheVariants as error
 use Rattle.checkpoint.specs.Answers.{Tells, IsRefused}
@@ -35,9 +35,13 @@ log_names : (g : Parts) (logs : List (List ℕ)) (t : ℕ) → t < stations g �
 unfolding long_log
 log_names g logs t low = if_names g _ _ low
 
+count_names : (g : Parts) (logs : List (List ℕ)) (a have : ℕ) → All (Names g) (wrong_count g logs a have)
+unfolding wrong_count
+count_names g logs a have = if_names g _ _ tt
+
 marking_names : (g : Parts) (logs places : List (List ℕ)) (a : ℕ) → All (Names g) (wrong_marking g logs places a)
 unfolding wrong_marking
-marking_names g logs places a = if_names g _ _ tt
+marking_names g logs places a = count_names g logs a (length (list_at places a))
 
 date_names : (g : Parts) (logs : List (List ℕ)) (t k : ℕ) → t < stations g → All (Names g) (wrong_date g logs t k)
 unfolding wrong_date

@@ -1,9 +1,6 @@
-//! What no case file reaches, of several workers at once and of what runs by them: each public call once, with its answer
-//! compared. There is a module for each crate below, named `of_` and the crate; the other crates are in `calls`, `line_calls` and
-//! `saving_calls`.
+//! What no case file reaches, of several workers at once: each public call once, with its answer compared. There is a module
+//! for each crate below, named `of_` and the crate; the other crates are in `calls`, `line_calls` and `saving_calls`.
 #![tactic(auto)]
 
-#[cfg(test)]
-mod of_line_runs;
 #[cfg(test)]
 mod of_line_workers;

@@ -1,6 +1,6 @@
 use Rattle.std.proofs.Common.{false, length, refl, ap, ◌∙◌, arith, get_or}
 use Rattle.line_base.specs.Roomy.{RoomyLog}
-use Rattle.line_core.proofs.Bounds.{delay-small}
+use Rattle.event_graph.proofs.Sizes.{delay-small}
 use Rattle.checkpoint.proofs.ReadTokens.{left_within, left_is}
 use Rattle.checkpoint.proofs.tokens.tokens_left.Goals as goal
 
