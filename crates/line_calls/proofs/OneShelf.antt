@@ -1,6 +1,8 @@
 -- Stations whose queues all stand on one shelf.
 use Rattle.std.proofs.Common.{◌≡◌, ◌≢◌, ℕ, ◌+◌, ◌-◌, ◌<◌, ◌≤◌, ◌⊎◌, List, [], ◌∷◌, ◌++◌, length, get_or, set, map, take, refl, sym, ap, ◌∙◌, subst, arith, ⊎_elim, inl, inr, get_or-set_same, get_or-set_other, length-append}
-use Rattle.std.specs.Prelude.{Option, None, Some, IfSome, All, AllPairs}
+use Rattle.std.specs.Prelude.{Option, None, Some, IfSome, All, AllPairs, Vec}
+use Rattle.std.specs.declared.alloc.Global.{Global}
+use Rattle.std.proofs.lemmas.List.Elements.{All-map}
 use Rattle.std.specs.List.{range_with_len}
 use Rattle.std.proofs.Math.ListN.{get_or-map}
 use Rattle.std.proofs.lemmas.List as list
@@ -18,13 +20,23 @@ use Rattle.station_step.specs.declared.ends.Outlet.{Outlet}
 use Rattle.station_step.specs.declared.ends.Inlet.TheVariants as inlet
 use Rattle.station_step.specs.declared.ends.Outlet.TheVariants as outlet
 use Rattle.station_step.specs.declared.input.Input.{Input}
-use Rattle.station_step.specs.Shelf.{queue_at}
+use Rattle.station_step.specs.Shelf.{queue_at, new_queue}
 use Rattle.station_step.specs.Ends.{IsUntaken, IsUnfilled, HasRingRoom, inlet_queue, outlet_queue, bare_inlet, bare_outlet}
 use Rattle.station_step.specs.Input.{empty_handed, input_at, NoneTakes}
 use Rattle.station_step.specs.Station.{WorkStation, IsStation, IsSeated, AreApart, NonePuts, outlet_at, new_station, bare_input, bare_station}
 use Rattle.station_step.specs.Kept.{IsKept, IsFresh}
 use Rattle.station_step.proofs.OwnQueues.{Some-injective, inlet_queue-bare, outlet_queue-bare}
 use Rattle.line_calls.specs.OneShelf.{IsUnused, IsFreshShelf, IsLocal, IsMember, IsLine, local_inlets, local_outlets, local_input}
+
+-- ---- a new shelf
+
+-- a shelf whose queues begin with these tokens is fresh
+pub fresh-of-firsts : (g : Parts) (room : ℕ) (firsts : List (Vec ℕ Global)) (shelf : List PlainQueue) → room ≡ jobs g → length firsts ≡ arc_count g → shelf ≡ map (λ tokens. new_queue room tokens.items) firsts → IsFreshShelf g shelf
+fresh-of-firsts g room firsts shelf is_jobs count made =
+    subst (IsFreshShelf g) (sym made) (record {
+      count = length-map firsts (λ (tokens : Vec ℕ Global). new_queue room tokens.items) ∙ count;
+      unused = All-map (IsUnused (jobs g)) (λ (tokens : Vec ℕ Global). new_queue room tokens.items) firsts (λ k d low. (refl, refl, omega (arith, is_jobs)));
+    })
 
 -- ---- new ends
 

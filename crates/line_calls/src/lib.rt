@@ -15,3 +15,5 @@ mod of_station_step;
 mod of_what_if;
 #[cfg(test)]
 mod one_shelf;
+#[cfg(test)]
+mod same;

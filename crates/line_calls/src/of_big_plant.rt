@@ -1,6 +1,22 @@
+use crate::same::same;
 use big_plant::big_plant;
+use plant_model::{Machine, Stage};
 use sample_plants::live_of;
+use std::process::Abort;
 use std::test::Fail;
+
+/// Asserts how many servers a machine has, and what it takes for a job.
+fn has_machine(rt: &impl Abort, machine: &Machine, servers: u32, job: u32, time: u64) {
+    same(rt, machine.servers, servers);
+    same(rt, machine.times.at(job), time);
+}
+
+/// Asserts the name of a stage, the stage that it feeds, its stock and its cards.
+fn has_stage(rt: &impl Abort, stage: &Stage, name: &[u8], feeds: u32, parts: [u32; 2]) {
+    same(rt, stage.name.text(), name);
+    same(rt, stage.feeds, Some(feeds));
+    same(rt, [stage.stock, stage.cards], parts);
+}
 
 // The first draws of seed 7 are 1059165278, 2052263231, 1946856753, 585718673, 572045545, 297257219, 865189864 and 691615764.
 #[test]
@@ -12,14 +28,10 @@ fn the_first_stage_is_of_the_first_eight_draws(rt: HostRuntime) -> Result<(), Fa
     let [a, b, c] = stage.machines.as_slice() else {
         return Err("there are three machines".into());
     };
-    assert_eq!(rt; stage.name.text(), b"s1".as_slice());
-    assert_eq!(rt; stage.feeds, Some(1));
-    assert_eq!(rt; [stage.stock, stage.cards], [2, 6]);
-    assert_eq!(rt; [a.servers, b.servers, c.servers], [1, 2, 2]);
-    assert_eq!(rt;
-        [a.times.at(1), b.times.at(1), c.times.at(2_000)],
-        [14, 20, 5]
-    );
+    has_stage(&rt, stage, b"s1", 1, [2, 6]);
+    has_machine(&rt, a, 1, 1, 14);
+    has_machine(&rt, b, 2, 1, 20);
+    has_machine(&rt, c, 2, 2_000, 5);
     Ok(())
 }
 
@@ -28,8 +40,8 @@ fn the_first_stage_is_of_the_first_eight_draws(rt: HostRuntime) -> Result<(), Fa
 fn dates_follow_the_stages(rt: HostRuntime) -> Result<(), Fail> {
     let plant = big_plant(rt.alloc(), 7)?;
     let dates = plant.demands.as_slice();
-    assert_eq!(rt; dates.get(..3), Some([5, 11, 26].as_slice()));
-    assert_eq!(rt; dates.last(), Some(&29_202));
+    same(&rt, dates.get(..3), Some([5, 11, 26].as_slice()));
+    same(&rt, dates.last(), Some(&29_202));
     Ok(())
 }
 
@@ -37,8 +49,8 @@ fn dates_follow_the_stages(rt: HostRuntime) -> Result<(), Fail> {
 fn the_ends_of_the_seeds_have_their_plants(rt: HostRuntime) -> Result<(), Fail> {
     let least = big_plant(rt.alloc(), 0)?;
     let greatest = big_plant(rt.alloc(), u64::MAX)?;
-    assert_eq!(rt; least.demands.as_slice().last(), Some(&28_513));
-    assert_eq!(rt; greatest.demands.as_slice().last(), Some(&28_933));
+    same(&rt, least.demands.as_slice().last(), Some(&28_513));
+    same(&rt, greatest.demands.as_slice().last(), Some(&28_933));
     Ok(())
 }
 
@@ -46,7 +58,7 @@ fn the_ends_of_the_seeds_have_their_plants(rt: HostRuntime) -> Result<(), Fail> 
 fn the_graph_has_fifty_stations(rt: HostRuntime) -> Result<(), Fail> {
     let plant = big_plant(rt.alloc(), 7)?;
     let live = live_of(rt.alloc(), &plant)?;
-    assert_eq!(rt; live.graph().stations(), 50);
-    assert_eq!(rt; live.graph().jobs(), 2_000);
+    same(&rt, live.graph().stations(), 50);
+    same(&rt, live.graph().jobs(), 2_000);
     Ok(())
 }

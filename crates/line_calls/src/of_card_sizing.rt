@@ -1,11 +1,13 @@
 ghost use Rattle.std.specs.Prelude.{IfOk};
 ghost use Rattle.plant_model.specs.Sound.{IsSound};
 
+use crate::same::same;
 use card_sizing::{Below, Sizing, SizingError, least_cards};
 use plant_file::{complete_draft, read_plant};
 use plant_model::Plant;
 use sample_plants::live_of;
 use std::alloc::Global;
+use std::process::Abort;
 use std::test::Fail;
 
 /// Two stages under kanban.
@@ -89,14 +91,25 @@ fn dead_below(alloc: Global, sizing: &Sizing) -> Result<Vec<u8>, Fail> {
     Ok(text)
 }
 
+/// Asserts the least cards of the plant of this text, and the job that waits longer with one card less.
+fn has_least(
+    rt: &impl Abort,
+    alloc: Global,
+    text: &str,
+    wait: u64,
+    cards: u32,
+    below: (u32, u64),
+) -> Result<(), Fail> {
+    let sizing = least(alloc, text, wait)??;
+    same(rt, sizing.cards, cards);
+    same(rt, job_below(&sizing), Some(below));
+    Ok(())
+}
+
 #[test]
 fn the_job_that_waits_with_one_card_less_is_named(rt: HostRuntime) -> Result<(), Fail> {
-    let at_once = least(rt.alloc(), KANBAN, 0)??;
-    let soon = least(rt.alloc(), KANBAN, 5)??;
-    assert_eq!(rt; [at_once.cards, soon.cards], [3, 2]);
-    assert_eq!(rt; job_below(&at_once), Some((3, 1)));
-    assert_eq!(rt; job_below(&soon), Some((3, 6)));
-    Ok(())
+    has_least(&rt, rt.alloc(), KANBAN, 0, 3, (3, 1))?;
+    has_least(&rt, rt.alloc(), KANBAN, 5, 2, (3, 6))
 }
 
 // Without a card both stages are dead; which of them is named is free.
@@ -105,7 +118,7 @@ fn the_circuit_that_is_dead_with_one_card_less_is_named(rt: HostRuntime) -> Resu
     let sizing = least(rt.alloc(), KANBAN, 6)??;
     let dead = dead_below(rt.alloc(), &sizing)?;
     let dead = dead.as_slice();
-    assert_eq!(rt; sizing.cards, 1);
+    same(&rt, sizing.cards, 1);
     assert!(rt;
         dead == b" cut cut.saw weld".as_slice() || dead == b" weld weld.torch deliver".as_slice()
     );
@@ -115,7 +128,7 @@ fn the_circuit_that_is_dead_with_one_card_less_is_named(rt: HostRuntime) -> Resu
 #[test]
 fn the_stock_has_a_card_each(rt: HostRuntime) -> Result<(), Fail> {
     let sizing = least(rt.alloc(), CONWIP, 1000)??;
-    assert_eq!(rt; sizing.cards, 1);
+    same(&rt, sizing.cards, 1);
     assert!(rt; matches!(&sizing.below, Below::Lowest));
     Ok(())
 }
@@ -124,7 +137,7 @@ fn the_stock_has_a_card_each(rt: HostRuntime) -> Result<(), Fail> {
 fn no_count_serves_and_no_single_count(rt: HostRuntime) -> Result<(), Fail> {
     let late = least(rt.alloc(), NO_STOCK, 9)?.err();
     let none = least(rt.alloc(), BASE_STOCK, 1000)?.err();
-    assert_eq!(rt; late, Some(SizingError::NoCount { job: 2, wait: 11 }));
-    assert_eq!(rt; none, Some(SizingError::NoSingleCount));
+    same(&rt, late, Some(SizingError::NoCount { job: 2, wait: 11 }));
+    same(&rt, none, Some(SizingError::NoSingleCount));
     Ok(())
 }

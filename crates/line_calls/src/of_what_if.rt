@@ -1,6 +1,7 @@
 ghost use Rattle.std.specs.Prelude.{◌≡◌, ◌<◌, IfOk};
 ghost use Rattle.event_graph.specs.Network.{stations, jobs};
 
+use crate::same::same;
 use line_base::Date;
 use line_core::run;
 use live_check::Live;
@@ -63,18 +64,12 @@ fn has_dates(rt: &impl Abort, sheet: &Sheet, dates: [[Date; 3]; 6])
     requires stations { stations sheet.now.live.graph ≡ 6 }
     requires jobs { jobs sheet.now.live.graph ≡ 3 }
 {
-    assert_eq!(rt;
-        [dates_at(sheet, 0), dates_at(sheet, 1)],
-        [dates[0], dates[1]]
-    );
-    assert_eq!(rt;
-        [dates_at(sheet, 2), dates_at(sheet, 3)],
-        [dates[2], dates[3]]
-    );
-    assert_eq!(rt;
-        [dates_at(sheet, 4), dates_at(sheet, 5)],
-        [dates[4], dates[5]]
-    );
+    same(rt, dates_at(sheet, 0), dates[0]);
+    same(rt, dates_at(sheet, 1), dates[1]);
+    same(rt, dates_at(sheet, 2), dates[2]);
+    same(rt, dates_at(sheet, 3), dates[3]);
+    same(rt, dates_at(sheet, 4), dates[4]);
+    same(rt, dates_at(sheet, 5), dates[5]);
 }
 
 // Job 2 takes 3 longer at the torch, so the torch is late, and with its card all of job 3.
@@ -95,7 +90,7 @@ fn a_longer_time_moves_the_dates_that_follow(rt: HostRuntime) -> Result<(), Fail
         ],
     );
     assert!(rt; sheet.marks() == 0 && sheet.evaluations() <= 14);
-    assert_eq!(rt; sheet.first(4, 2), 10);
+    same(&rt, sheet.first(4, 2), 10);
     Ok(())
 }
 
@@ -103,7 +98,7 @@ fn a_longer_time_moves_the_dates_that_follow(rt: HostRuntime) -> Result<(), Fail
 #[test]
 fn a_later_demand_moves_the_feed(rt: HostRuntime) -> Result<(), Fail> {
     let sheet = settled(&rt, rt.alloc(), b"\ndemand 3 9")?;
-    assert_eq!(rt; sheet.demand(3), 9);
+    same(&rt, sheet.demand(3), 9);
     has_dates(
         &rt,
         &sheet,
@@ -134,8 +129,8 @@ fn an_edit_that_says_what_holds_changes_nothing(rt: HostRuntime) -> Result<(), F
             [0, 5, 10],
         ],
     );
-    assert_eq!(rt; sheet.evaluations(), 1);
-    assert_eq!(rt; settled(&rt, rt.alloc(), b"")?.evaluations(), 0);
+    same(&rt, sheet.evaluations(), 1);
+    same(&rt, settled(&rt, rt.alloc(), b"")?.evaluations(), 0);
     Ok(())
 }
 
@@ -151,16 +146,18 @@ fn an_evaluation_marks_the_dates_that_read_it(rt: HostRuntime) -> Result<(), Fai
     Ok(())
 }
 
+/// Asserts that edits of the two stages are refused at this line.
+fn is_refused(rt: &impl Abort, alloc: Global, edits: &[u8], line: u64) -> Result<(), Fail> {
+    same(rt, refused_at(rt, alloc, edits)?, line);
+    Ok(())
+}
+
 // Job 2 after job 3, a release, a plus sign; two spaces and a job too many on the second line.
 #[test]
 fn the_first_line_that_is_no_edit_is_refused(rt: HostRuntime) -> Result<(), Fail> {
-    let alloc = rt.alloc();
-    let late = refused_at(&rt, alloc, b"demand 2 5")?;
-    let release = refused_at(&rt, alloc, b"time cut 1 3")?;
-    let signed = refused_at(&rt, alloc, b"demand 2 +3")?;
-    assert_eq!(rt; [late, release, signed], [1, 1, 1]);
-    let spaced = refused_at(&rt, alloc, b"demand 2 3\ndemand  2 3")?;
-    let past = refused_at(&rt, alloc, b"\ndemand 4 9\n")?;
-    assert_eq!(rt; [spaced, past], [2, 2]);
-    Ok(())
+    is_refused(&rt, rt.alloc(), b"demand 2 5", 1)?;
+    is_refused(&rt, rt.alloc(), b"time cut 1 3", 1)?;
+    is_refused(&rt, rt.alloc(), b"demand 2 +3", 1)?;
+    is_refused(&rt, rt.alloc(), b"demand 2 3\ndemand  2 3", 2)?;
+    is_refused(&rt, rt.alloc(), b"\ndemand 4 9\n", 2)
 }

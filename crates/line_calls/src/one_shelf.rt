@@ -6,7 +6,6 @@ ghost use Rattle.station_step.specs.Station.{IsStation};
 ghost use Rattle.station_step.specs.Kept.{IsKept};
 ghost use Rattle.line_calls.specs.OneShelf.{IsFreshShelf, IsLocal, IsLine, local_inlets, local_outlets};
 
-use card_queue::Plain;
 use event_graph::Graph;
 use line_base::{Date, Log};
 use live_check::Live;
@@ -34,13 +33,12 @@ fn outlets_of(alloc: Global, arcs: &[u32]) -> Result<Vec<Outlet>, AllocError>
 pub fn fresh_shelf(alloc: Global, graph: &Graph) -> Result<Shelf, AllocError>
     ensures { IfOk result (IsFreshShelf graph.now) }
 {
-    let jobs = graph.jobs();
-    let mut queues = Vec::new(alloc);
+    let mut firsts = Vec::new(alloc);
     for a in 0..graph.arcs().len() as u32 {
-        let initial = vec![in alloc; 0; graph.tokens(a) as usize]?;
-        queues.push(Plain::new(alloc, initial.as_slice(), jobs)?)?;
+        firsts.push(vec![in alloc; 0; graph.tokens(a) as usize]?)?;
     }
-    Ok(Shelf::new(queues))
+    let shelf = Shelf::new(alloc, firsts, graph.jobs())?;
+    Ok(shelf)
 }
 
 /// Station `t`, with the queues of its arcs.

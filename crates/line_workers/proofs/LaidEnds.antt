@@ -1,19 +1,17 @@
 -- The ends of one more arc are laid down: those of the arcs before it stay where they are, and no queue is used twice.
-use Rattle.std.proofs.Common.{◌≡◌, ◌≢◌, ℕ, ◌+◌, ◌<◌, ◌≤◌, false, List, [], ◌∷◌, ◌++◌, Some, Result, Ok, Err, OnOk, length, get_or, replicate, refl, sym, ap, ◌∙◌, subst, arith, ⊎_elim}
+use Rattle.std.proofs.Common.{◌≡◌, ◌≢◌, ℕ, ◌+◌, ◌^◌, ◌<◌, ◌≤◌, false, List, [], ◌∷◌, ◌++◌, Some, Result, Ok, Err, OnOk, length, get_or, replicate, refl, sym, ap, ◌∙◌, subst, arith, ⊎_elim}
 use Rattle.line_base.specs.declared.event.Arc.{Arc}
 use Rattle.std.proofs.lemmas.Bool.{cases_eq, cases_lt}
 use Rattle.std.proofs.lemmas.List.{length-set, length-replicate, get_or-replicate, get_or_past}
 use Rattle.line_base.specs.declared.event.Parts.{Parts}
-use Rattle.card_queue.specs.Plain.{PlainQueue}
-use Rattle.event_graph.specs.Network.{stations, arc_count, arc, IsGraph}
-use Rattle.event_graph.specs.State.{State}
+use Rattle.event_graph.specs.Network.{stations, jobs, arc_count, arc, IsGraph}
+use Rattle.event_graph.specs.State.{State, place}
 use Rattle.station_step.specs.declared.ends.Inlet.{Inlet}
 use Rattle.station_step.specs.declared.ends.Outlet.{Outlet}
 use Rattle.station_step.specs.declared.ends.Inlet.TheVariants as inlet
 use Rattle.station_step.specs.declared.ends.Outlet.TheVariants as outlet
-use Rattle.station_step.specs.Shelf.{queue_at}
 use Rattle.station_step.specs.Ends.{outlet_queue, inlet_queue}
-use Rattle.line_workers.specs.Making.{new_queue, HasRing, HasPlain, QueueEnds, outlets_at, inlets_at, shelf_at, with_one, with_ends, first_ins, first_outs, outlet_of, inlet_of, putter, taker, HasEnds, AreLaid}
+use Rattle.line_workers.specs.Making.{HasRing, HasPlain, QueueEnds, outlets_at, inlets_at, firsts_at, first_tokens, with_one, with_ends, first_ins, first_outs, outlet_of, inlet_of, putter, taker, HasEnds, AreLaid}
 use Rattle.line_workers.proofs.ArcOrder.{length-first_ins-here, length-first_ins-other, length-first_outs-here, length-first_outs-other, first_ins-below, first_outs-below, first_ins-none, first_outs-none}
 use Rattle.line_workers.proofs.LaidLists.{get_or-with_one, last-with_one, length-with_one-here, length-with_one-other, length-with_one-le}
 
@@ -34,45 +32,45 @@ module _ (g : Parts) (begun : State) (a q : ℕ) where
   ring-no_queue_in (outlet.Local p) (inlet.Local r) has same = absurd has
 
   -- a queue of the shelf is there
-  pub plain-within : (shelf : List PlainQueue) (o : Outlet) (i : Inlet) → HasPlain g begun shelf a o i → outlet_queue o ≡ Some q → q < length shelf
-  plain-within shelf (outlet.Local p) (inlet.Local r) has same = let at : p ≡ q = cc in omega (arith, has.there)
-  plain-within shelf (outlet.Local p) (inlet.Ring take) has same = absurd has
-  plain-within shelf (outlet.Ring put) (inlet.Ring take) has same = absurd has
-  plain-within shelf (outlet.Ring put) (inlet.Local r) has same = absurd has
+  pub plain-within : (firsts : List (List ℕ)) (o : Outlet) (i : Inlet) → HasPlain begun firsts a o i → outlet_queue o ≡ Some q → q < length firsts
+  plain-within firsts (outlet.Local p) (inlet.Local r) has same = let at : p ≡ q = cc in omega (arith, has.there)
+  plain-within firsts (outlet.Local p) (inlet.Ring take) has same = absurd has
+  plain-within firsts (outlet.Ring put) (inlet.Ring take) has same = absurd has
+  plain-within firsts (outlet.Ring put) (inlet.Local r) has same = absurd has
 
   -- and both ends have it
-  pub plain-outlet : (shelf : List PlainQueue) (o : Outlet) (i : Inlet) → HasPlain g begun shelf a o i → inlet_queue i ≡ Some q → outlet_queue o ≡ Some q
-  plain-outlet shelf (outlet.Local p) (inlet.Local r) has same = let at : r ≡ p = has.same in cc
-  plain-outlet shelf (outlet.Local p) (inlet.Ring take) has same = absurd has
-  plain-outlet shelf (outlet.Ring put) (inlet.Ring take) has same = absurd has
-  plain-outlet shelf (outlet.Ring put) (inlet.Local r) has same = absurd has
+  pub plain-outlet : (firsts : List (List ℕ)) (o : Outlet) (i : Inlet) → HasPlain begun firsts a o i → inlet_queue i ≡ Some q → outlet_queue o ≡ Some q
+  plain-outlet firsts (outlet.Local p) (inlet.Local r) has same = let at : r ≡ p = has.same in cc
+  plain-outlet firsts (outlet.Local p) (inlet.Ring take) has same = absurd has
+  plain-outlet firsts (outlet.Ring put) (inlet.Ring take) has same = absurd has
+  plain-outlet firsts (outlet.Ring put) (inlet.Local r) has same = absurd has
 
--- a shelf on which every queue of another stands at its place
-pub record Extends (shelf longer : List PlainQueue) : Type 0 where
-  pub there : (q : ℕ) → q < length shelf → q < length longer
-  pub queues : (q : ℕ) → q < length shelf → queue_at longer q ≡ queue_at shelf q
+-- the first tokens of a shelf on which every queue of another stands at its place
+pub record Extends (firsts longer : List (List ℕ)) : Type 0 where
+  pub there : (q : ℕ) → q < length firsts → q < length longer
+  pub queues : (q : ℕ) → q < length firsts → first_tokens longer q ≡ first_tokens firsts q
 
-plain-extends : (g : Parts) (begun : State) (a : ℕ) (shelf longer : List PlainQueue) (o : Outlet) (i : Inlet) → Extends shelf longer → HasPlain g begun shelf a o i → HasPlain g begun longer a o i
-plain-extends g begun a shelf longer (outlet.Local p) (inlet.Local r) more has = record {
+plain-extends : (begun : State) (a : ℕ) (firsts longer : List (List ℕ)) (o : Outlet) (i : Inlet) → Extends firsts longer → HasPlain begun firsts a o i → HasPlain begun longer a o i
+plain-extends begun a firsts longer (outlet.Local p) (inlet.Local r) more has = record {
   same = has.same;
   there = more.there p has.there;
-  queue = more.queues p has.there ∙ has.queue;
+  tokens = more.queues p has.there ∙ has.tokens;
 }
-plain-extends g begun a shelf longer (outlet.Local p) (inlet.Ring take) more has = absurd has
-plain-extends g begun a shelf longer (outlet.Ring put) (inlet.Ring take) more has = absurd has
-plain-extends g begun a shelf longer (outlet.Ring put) (inlet.Local r) more has = absurd has
+plain-extends begun a firsts longer (outlet.Local p) (inlet.Ring take) more has = absurd has
+plain-extends begun a firsts longer (outlet.Ring put) (inlet.Ring take) more has = absurd has
+plain-extends begun a firsts longer (outlet.Ring put) (inlet.Local r) more has = absurd has
 
 -- ---- one arc more
 
 -- an outlet that has a queue of the shelf has one that is there
-pub queue-within : (g : Parts) (begun : State) (workers : ℕ) (ends : QueueEnds) (a q : ℕ) → HasEnds g begun workers ends a → outlet_queue (outlet_of g ends a) ≡ Some q → q < length (shelf_at ends (putter g workers a))
+pub queue-within : (g : Parts) (begun : State) (workers : ℕ) (ends : QueueEnds) (a q : ℕ) → HasEnds g begun workers ends a → outlet_queue (outlet_of g ends a) ≡ Some q → q < length (firsts_at ends (putter g workers a))
 queue-within g begun workers ends a q has same =
     ⊎_elim
-    (λ one. plain-within g begun a q (shelf_at ends (putter g workers a)) (outlet_of g ends a) (inlet_of g ends a) (has.shelf one) same)
+    (λ one. plain-within g begun a q (firsts_at ends (putter g workers a)) (outlet_of g ends a) (inlet_of g ends a) (has.shelf one) same)
     (λ two. absurd (ring-no_queue g begun a q (outlet_of g ends a) (inlet_of g ends a) (has.ring two) same))
     (cases_eq (putter g workers a) (taker g workers a))
 
-module _ (g : Parts) (begun : State) (workers : ℕ) (ends : QueueEnds) (n : ℕ) (graph : IsGraph g) (listed : n < arc_count g) (laid : AreLaid g begun workers ends n) (shelves : List (List PlainQueue)) (out : Outlet) (into : Inlet) where
+module _ (g : Parts) (begun : State) (workers : ℕ) (ends : QueueEnds) (n : ℕ) (graph : IsGraph g) (listed : n < arc_count g) (laid : AreLaid g begun workers ends n) (shelves : List (List (List ℕ))) (out : Outlet) (into : Inlet) where
   abbrev from : ℕ
   from = (arc g n).from
 
@@ -148,7 +146,7 @@ module _ (g : Parts) (begun : State) (workers : ℕ) (ends : QueueEnds) (n : ℕ
       omega (arith, length-with_one-other ends.inlets to into t other, length-first_ins-other g n t other, laid.inlets t there))
       (cases_eq t to)
 
-  module _ (count : length shelves ≡ workers) (few : (w : ℕ) → length (get_or shelves w []) ≤ n + 1) (extends : (w : ℕ) → Extends (shelf_at ends w) (get_or shelves w [])) (ring : putter g workers n ≢ taker g workers n → HasRing g begun n out into) (plain : putter g workers n ≡ taker g workers n → HasPlain g begun (get_or shelves (putter g workers n) []) n out into) (fresh : (a q : ℕ) → a < n → putter g workers a ≡ putter g workers n → outlet_queue (outlet_of g ends a) ≡ Some q → outlet_queue out ≢ Some q) where
+  module _ (count : length shelves ≡ workers) (few : (w : ℕ) → length (get_or shelves w []) ≤ n + 1) (small : (w q : ℕ) → q < length (get_or shelves w []) → length (first_tokens (get_or shelves w []) q) + jobs g < 2 ^ 32) (extends : (w : ℕ) → Extends (firsts_at ends w) (get_or shelves w [])) (ring : putter g workers n ≢ taker g workers n → HasRing g begun n out into) (plain : putter g workers n ≡ taker g workers n → HasPlain begun (get_or shelves (putter g workers n) []) n out into) (fresh : (a q : ℕ) → a < n → putter g workers a ≡ putter g workers n → outlet_queue (outlet_of g ends a) ≡ Some q → outlet_queue out ≢ Some q) where
     before : (a : ℕ) → a < n → HasEnds g begun workers more a
     before a low =
         let has = laid.each a low in
@@ -160,9 +158,9 @@ module _ (g : Parts) (begun : State) (workers : ℕ) (ends : QueueEnds) (n : ℕ
               subst (λ (i : Inlet). HasRing g begun a (outlet_of g ends a) i) in_is (has.ring two));
           shelf = λ one.
               let longer = get_or shelves (putter g workers a) [] in
-              subst (λ (o : Outlet). HasPlain g begun longer a o (inlet_of g more a)) out_is (
-              subst (λ (i : Inlet). HasPlain g begun longer a (outlet_of g ends a) i) in_is (
-              plain-extends g begun a (shelf_at ends (putter g workers a)) longer (outlet_of g ends a) (inlet_of g ends a) (extends (putter g workers a)) (has.shelf one)));
+              subst (λ (o : Outlet). HasPlain begun longer a o (inlet_of g more a)) out_is (
+              subst (λ (i : Inlet). HasPlain begun longer a (outlet_of g ends a) i) in_is (
+              plain-extends begun a (firsts_at ends (putter g workers a)) longer (outlet_of g ends a) (inlet_of g ends a) (extends (putter g workers a)) (has.shelf one)));
         }
 
     last : HasEnds g begun workers more n
@@ -175,8 +173,8 @@ module _ (g : Parts) (begun : State) (workers : ℕ) (ends : QueueEnds) (n : ℕ
               subst (λ (i : Inlet). HasRing g begun n out i) in_is (ring two));
           shelf = λ one.
               let longer = get_or shelves (putter g workers n) [] in
-              subst (λ (o : Outlet). HasPlain g begun longer n o (inlet_of g more n)) out_is (
-              subst (λ (i : Inlet). HasPlain g begun longer n out i) in_is (plain one));
+              subst (λ (o : Outlet). HasPlain begun longer n o (inlet_of g more n)) out_is (
+              subst (λ (i : Inlet). HasPlain begun longer n out i) in_is (plain one));
         }
 
     apart-more : (a b q : ℕ) → a < n + 1 → b < n + 1 → putter g workers a ≡ putter g workers b → outlet_queue (outlet_of g more a) ≡ Some q → outlet_queue (outlet_of g more b) ≡ Some q → a ≡ b
@@ -211,6 +209,7 @@ module _ (g : Parts) (begun : State) (workers : ℕ) (ends : QueueEnds) (n : ℕ
       outlets = outlets-more;
       inlets = inlets-more;
       queues = few;
+      small = small;
       each = λ a low.
           ⊎_elim
           (λ same. subst (λ (k : ℕ). HasEnds g begun workers more k) (sym same) last)
@@ -237,21 +236,21 @@ laid_ring g begun workers ends n out into graph listed laid two has =
     into
     laid.shelves
     (λ w. omega (arith, laid.queues w))
+    laid.small
     (λ w. record { there = λ q low. low; queues = λ q low. refl })
     (λ _. has)
     (λ one. absurd (two one))
     (λ a q low one had at_out. ring-no_queue g begun n q out into has at_out)
 
-pub laid_plain : (g : Parts) (begun : State) (workers : ℕ) (ends : QueueEnds) (n w number : ℕ) (plain : PlainQueue) → IsGraph g → n < arc_count g → AreLaid g begun workers ends n → w < workers → putter g workers n ≡ w → taker g workers n ≡ w → plain ≡ new_queue g begun n → number ≡ length (shelf_at ends w) → AreLaid g begun workers (with_ends (record ends { shelves = with_one ends.shelves w plain }) (arc g n).from (arc g n).to (outlet.Local number) (inlet.Local number)) (n + 1)
-laid_plain g begun workers ends n w number plain graph listed laid w_there puts takes new numbered =
+pub laid_plain : (g : Parts) (begun : State) (workers : ℕ) (ends : QueueEnds) (n w number : ℕ) (tokens : List ℕ) → IsGraph g → n < arc_count g → AreLaid g begun workers ends n → w < workers → putter g workers n ≡ w → taker g workers n ≡ w → tokens ≡ place begun n → length tokens + jobs g < 2 ^ 32 → number ≡ length (firsts_at ends w) → AreLaid g begun workers (with_ends (record ends { shelves = with_one ends.shelves w tokens }) (arc g n).from (arc g n).to (outlet.Local number) (inlet.Local number)) (n + 1)
+laid_plain g begun workers ends n w number tokens graph listed laid w_there puts takes are short numbered =
     let there : w < length ends.shelves = omega (arith, laid.shelves) in
-    let shelves = with_one ends.shelves w plain in
-    let none : PlainQueue = record { initial = []; added = []; room = 0; takes = 0 } in
-    let has : HasPlain g begun (get_or shelves w []) n (outlet.Local number) (inlet.Local number) =
+    let shelves = with_one ends.shelves w tokens in
+    let has : HasPlain begun (get_or shelves w []) n (outlet.Local number) (inlet.Local number) =
     record {
       same = refl;
-      there = omega (arith, length-with_one-here ends.shelves w plain there);
-      queue = last-with_one ends.shelves w plain number none there (sym numbered) ∙ new;
+      there = omega (arith, length-with_one-here ends.shelves w tokens there);
+      tokens = last-with_one ends.shelves w tokens number [] there (sym numbered) ∙ are;
     } in
     laid_more
     g
@@ -265,48 +264,66 @@ laid_plain g begun workers ends n w number plain graph listed laid w_there puts 
     shelves
     (outlet.Local number)
     (inlet.Local number)
-    (length-set ends.shelves w (shelf_at ends w ++ plain ∷ []) ∙ laid.shelves)
+    (length-set ends.shelves w (firsts_at ends w ++ tokens ∷ []) ∙ laid.shelves)
     (λ v.
     ⊎_elim
-    (λ same. omega (arith, ap (λ u. length (get_or shelves u [])) same, length-with_one-here ends.shelves w plain there, laid.queues w))
-    (λ other. omega (arith, length-with_one-other ends.shelves w plain v other, laid.queues v))
+    (λ same. omega (arith, ap (λ u. length (get_or shelves u [])) same, length-with_one-here ends.shelves w tokens there, laid.queues w))
+    (λ other. omega (arith, length-with_one-other ends.shelves w tokens v other, laid.queues v))
     (cases_eq v w))
+    (λ v q low.
+    ⊎_elim
+    (λ early.
+    omega (arith, laid.small v q early, ap length (get_or-with_one ends.shelves w tokens v q [] there early)))
+    (λ late.
+    ⊎_elim
+    (λ same.
+    let last : length (firsts_at ends w) ≡ q =
+    omega (arith, ap (λ u. length (get_or shelves u [])) same, ap (λ u. length (firsts_at ends u)) same, length-with_one-here ends.shelves w tokens there) in
+    omega (arith, short, ap (λ u. length (first_tokens (get_or shelves u []) q)) same, ap length (last-with_one ends.shelves w tokens q [] there last)))
+    (λ other. absurd (omega (arith, length-with_one-other ends.shelves w tokens v other)))
+    (cases_eq v w))
+    (cases_lt q (length (firsts_at ends v))))
     (λ v.
     record {
-      there = λ q low. omega (arith, length-with_one-le ends.shelves w plain v there);
-      queues = λ q low. get_or-with_one ends.shelves w plain v q none there low;
+      there = λ q low. omega (arith, length-with_one-le ends.shelves w tokens v there);
+      queues = λ q low. get_or-with_one ends.shelves w tokens v q [] there low;
     })
     (λ two. absurd (two (puts ∙ sym takes)))
-    (λ _. subst (λ (v : ℕ). HasPlain g begun (get_or shelves v []) n (outlet.Local number) (inlet.Local number)) (sym puts) has)
+    (λ _. subst (λ (v : ℕ). HasPlain begun (get_or shelves v []) n (outlet.Local number) (inlet.Local number)) (sym puts) has)
     (λ a q low one had at_out.
     let within = queue-within g begun workers ends a q (laid.each a low) had in
     let at : number ≡ q = cc in
-    omega (arith, within, ap (λ v. length (shelf_at ends v)) (one ∙ puts)))
+    omega (arith, within, ap (λ v. length (firsts_at ends v)) (one ∙ puts)))
 
-pub laid_none : (g : Parts) (begun : State) (workers : ℕ) (ends : QueueEnds) → ends.outlets ≡ replicate (stations g) [] → ends.inlets ≡ replicate (stations g) [] → ends.shelves ≡ replicate workers [] → AreLaid g begun workers ends 0
-laid_none g begun workers ends outs ins shelves = record {
-  outlet_lists = ap length outs ∙ length-replicate (stations g) [];
-  inlet_lists = ap length ins ∙ length-replicate (stations g) [];
-  shelves = ap length shelves ∙ length-replicate workers [];
-  outlets = λ t there.
-      ap (λ l. length (get_or l t [])) outs
-      ∙ ap length (get_or-replicate (stations g) t [] [] there)
-      ∙ sym (first_outs-none g t);
-  inlets = λ t there.
-      ap (λ l. length (get_or l t [])) ins
-      ∙ ap length (get_or-replicate (stations g) t [] [] there)
-      ∙ sym (first_ins-none g t);
-  queues = λ w.
+module _ (g : Parts) (begun : State) (workers : ℕ) (ends : QueueEnds) (shelves : ends.shelves ≡ replicate workers []) where
+  none-shelved : (w : ℕ) → length (firsts_at ends w) ≤ 0
+  none-shelved w =
       ⊎_elim
-      (λ there. omega (arith, ap (λ l. length (get_or l w [])) shelves, ap length (get_or-replicate {A = List PlainQueue} workers w [] [] there)))
-      (λ past. omega (arith, ap length (get_or_past ends.shelves w [] (omega (arith, ap length shelves, length-replicate {A = List PlainQueue} workers [])))))
-      (cases_lt w workers);
-  each = λ a low. absurd (omega arith);
-  apart = λ a b q low. absurd (omega arith);
-}
+      (λ there. omega (arith, ap (λ l. length (get_or l w [])) shelves, ap length (get_or-replicate {A = List (List ℕ)} workers w [] [] there)))
+      (λ past. omega (arith, ap length (get_or_past ends.shelves w [] (omega (arith, ap length shelves, length-replicate {A = List (List ℕ)} workers [])))))
+      (cases_lt w workers)
+
+  pub laid_none : ends.outlets ≡ replicate (stations g) [] → ends.inlets ≡ replicate (stations g) [] → AreLaid g begun workers ends 0
+  laid_none outs ins = record {
+    outlet_lists = ap length outs ∙ length-replicate (stations g) [];
+    inlet_lists = ap length ins ∙ length-replicate (stations g) [];
+    shelves = ap length shelves ∙ length-replicate workers [];
+    outlets = λ t there.
+        ap (λ l. length (get_or l t [])) outs
+        ∙ ap length (get_or-replicate (stations g) t [] [] there)
+        ∙ sym (first_outs-none g t);
+    inlets = λ t there.
+        ap (λ l. length (get_or l t [])) ins
+        ∙ ap length (get_or-replicate (stations g) t [] [] there)
+        ∙ sym (first_ins-none g t);
+    queues = none-shelved;
+    small = λ w q low. absurd (omega (arith, low, none-shelved w));
+    each = λ a low. absurd (omega arith);
+    apart = λ a b q low. absurd (omega arith);
+  }
 
 -- equal parts make equal ends
-pub ends-same : (o o' : List (List Outlet)) (i i' : List (List Inlet)) (s s' : List (List PlainQueue)) → o ≡ o' → i ≡ i' → s ≡ s' → (let left : QueueEnds = record { outlets = o; inlets = i; shelves = s } in let right : QueueEnds = record { outlets = o'; inlets = i'; shelves = s' } in left ≡ right)
+pub ends-same : (o o' : List (List Outlet)) (i i' : List (List Inlet)) (s s' : List (List (List ℕ))) → o ≡ o' → i ≡ i' → s ≡ s' → (let left : QueueEnds = record { outlets = o; inlets = i; shelves = s } in let right : QueueEnds = record { outlets = o'; inlets = i'; shelves = s' } in left ≡ right)
 ends-same o o' i i' s s' outs ins shelves = cc
 
 -- ---- as the code has it
@@ -321,8 +338,9 @@ laid_ring_read g begun workers ends new n read out into graph listed same laid t
     subst (λ (e : QueueEnds). AreLaid g begun workers e (n + 1)) (sym (new_is ∙ ap (λ (r : Arc). with_ends ends r.from r.to out into) same)) (
     laid_ring g begun workers ends n out into graph listed laid two has)
 
-pub laid_plain_read : (g : Parts) (begun : State) (workers : ℕ) (ends between new : QueueEnds) (n w number : ℕ) (read : Arc) (plain : PlainQueue) → IsGraph g → n < arc_count g → read ≡ arc g n → AreLaid g begun workers ends n → w < workers → putter g workers n ≡ w → taker g workers n ≡ w → plain ≡ new_queue g begun n → number ≡ length (shelf_at ends w) → between ≡ record ends { shelves = with_one ends.shelves w plain } → new ≡ with_ends between read.from read.to (outlet.Local number) (inlet.Local number) → AreLaid g begun workers new (n + 1)
-laid_plain_read g begun workers ends between new n w number read plain graph listed same laid there puts takes made numbered between_is new_is =
+pub laid_plain_read : (g : Parts) (begun : State) (workers : ℕ) (ends between new : QueueEnds) (n w number : ℕ) (read : Arc) (tokens : List ℕ) → IsGraph g → n < arc_count g → read ≡ arc g n → AreLaid g begun workers ends n → w < workers → putter g workers n ≡ w → taker g workers n ≡ w → tokens ≡ place begun n → length (place begun n) + jobs g < 2 ^ 32 → number ≡ length (firsts_at ends w) → between ≡ record ends { shelves = with_one ends.shelves w tokens } → new ≡ with_ends between read.from read.to (outlet.Local number) (inlet.Local number) → AreLaid g begun workers new (n + 1)
+laid_plain_read g begun workers ends between new n w number read tokens graph listed same laid there puts takes are few numbered between_is new_is =
+    let short : length tokens + jobs g < 2 ^ 32 = omega (arith, few, ap length are) in
     let out : Outlet = outlet.Local number in
     let into : Inlet = inlet.Local number in
     subst (λ (e : QueueEnds). AreLaid g begun workers e (n + 1)) (
@@ -330,7 +348,7 @@ laid_plain_read g begun workers ends between new n w number read plain graph lis
     new_is
     ∙ ap (λ (r : Arc). with_ends between r.from r.to out into) same
     ∙ ap (λ (e : QueueEnds). with_ends e (arc g n).from (arc g n).to out into) between_is)) (
-    laid_plain g begun workers ends n w number plain graph listed laid there puts takes made numbered)
+    laid_plain g begun workers ends n w number tokens graph listed laid there puts takes are short numbered)
 
 -- an arc read from the list of arcs
 pub arc-read : (g h : Parts) (arcs : List Arc) (a : ℕ) → arcs ≡ h.arcs → h ≡ g → get_or arcs a (record { from = 0; to = 0; tokens = 0; worked = false }) ≡ arc g a

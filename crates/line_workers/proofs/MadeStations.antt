@@ -1,9 +1,10 @@
 -- Stations that take their ends one after the other, and what is left of the ends.
-use Rattle.std.proofs.Common.{◌≡◌, ◌≢◌, ℕ, ◌+◌, ◌-◌, ◌<◌, ◌≤◌, List, [], ◌∷◌, ◌++◌, Result, Ok, Err, IfOk, map, length, get_or, set, refl, sym, ap, ◌∙◌, subst, arith, ⊎_elim}
+use Rattle.std.proofs.Common.{◌≡◌, ◌≢◌, ℕ, ◌+◌, ◌-◌, ◌^◌, ◌<◌, ◌≤◌, List, [], ◌∷◌, ◌++◌, Result, Ok, Err, IfOk, Vec, Global, map, length, get_or, set, refl, sym, ap, ◌∙◌, subst, arith, ⊎_elim}
 use Rattle.std.specs.List.{All}
 use Rattle.std.specs.declared.alloc.AllocError.{AllocError}
 use Rattle.std.proofs.lemmas.Bool.{cases_lt}
-use Rattle.std.proofs.lemmas.List.{get_or_default, get_or_append_left, get_or_push, length_push, length-set, get_or-set_other}
+use Rattle.std.proofs.lemmas.Simd.{map-map}
+use Rattle.std.proofs.lemmas.List.{get_or_default, get_or_append_left, get_or_push, length_push, length-map, length-set, get_or-map, get_or-set_other}
 use Rattle.line_base.specs.declared.event.Parts.{Parts}
 use Rattle.line_base.specs.Roomy.{RoomyLog}
 use Rattle.card_queue.specs.Plain.{PlainQueue}
@@ -12,6 +13,7 @@ use Rattle.event_graph.specs.State.{State, log}
 use Rattle.station_step.specs.declared.ends.Inlet.{Inlet}
 use Rattle.station_step.specs.declared.ends.Outlet.{Outlet}
 use Rattle.station_step.specs.declared.ends.Inlet.TheVariants as inlet
+use Rattle.station_step.specs.Shelf.{new_queue}
 use Rattle.station_step.specs.Ends.{HasRingRoom, IsUntaken, IsUnfilled}
 use Rattle.station_step.specs.Input.{empty_handed}
 use Rattle.station_step.specs.Station.{WorkStation, IsStation, outlet_at, new_station}
@@ -19,7 +21,7 @@ use Rattle.station_step.specs.Kept.{IsFresh, IsKept}
 use Rattle.line_workers.specs.Share.{first_of}
 use Rattle.line_workers.specs.Team.{WorkTeam, member, no_station}
 use Rattle.line_workers.proofs.Share.{first-rises, first-all}
-use Rattle.line_workers.specs.Making.{QueueEnds, outlets_at, inlets_at, without, AreFit, AreFitFrom, IsNewStation, AreNewStations, SameStationsFrom, SameShelvesFrom, IsNewTeam, AreNewTeams}
+use Rattle.line_workers.specs.Making.{QueueEnds, outlets_at, inlets_at, firsts_at, new_shelf, without, MayShelve, AreFit, AreFitFrom, IsNewStation, AreNewStations, SameStationsFrom, SameShelvesFrom, IsNewTeam, AreNewTeams}
 
 -- ---- one station
 
@@ -66,6 +68,27 @@ new_station-is g begun t ends out into copy (Ok s) outs ins dates made station k
   kept = kept;
 }
 new_station-is g begun t ends out into copy (Err e) outs ins dates made station kept = tt
+
+-- ---- a shelf
+
+module _ (g : Parts) (firsts : List (Vec ℕ Global)) where
+  abbrev tokens_of : Vec ℕ Global → List ℕ
+  tokens_of v = v.items
+
+  pub shelve_few : MayShelve g (map tokens_of firsts) → length firsts < 2 ^ 32
+  shelve_few may = omega (arith, may.few, length-map firsts tokens_of)
+
+  module _ (room : ℕ) (jobs_are : room ≡ jobs g) where
+    pub shelve_small : MayShelve g (map tokens_of firsts) → All (λ (tokens : Vec ℕ Global). length tokens.items + room < 2 ^ 32) firsts
+    shelve_small may k d low =
+        omega (arith, may.small k (omega (arith, low, length-map firsts tokens_of)), ap length (get_or-map tokens_of firsts k d [] low), jobs_are)
+
+    pub new_shelf-is : (r : Result (List PlainQueue) AllocError) → IfOk r (λ shelf. shelf ≡ map (λ (tokens : Vec ℕ Global). new_queue room tokens.items) firsts) → IfOk r (λ shelf. shelf ≡ new_shelf g (map tokens_of firsts))
+    new_shelf-is (Ok shelf) made =
+        made
+        ∙ ap (λ n. map (λ (tokens : Vec ℕ Global). new_queue n tokens.items) firsts) jobs_are
+        ∙ sym (map-map (new_queue (jobs g)) tokens_of firsts)
+    new_shelf-is (Err e) made = tt
 
 -- ---- one more station
 
@@ -154,8 +177,21 @@ pub team-same : (g : Parts) (begun : State) (workers w : ℕ) (old new : QueueEn
 team-same g begun workers w old new team same shelves is = record {
   size = is.size;
   stations = stations-same g begun (first_of workers (stations g) w) old new team.stations same is.stations;
-  shelf = is.shelf ∙ shelves.shelves w (omega arith);
+  shelf = is.shelf ∙ ap (new_shelf g) (shelves.shelves w (omega arith));
 }
+
+-- the team that is made of a worker's stations and of its shelf
+pub new_team-is : (g : Parts) (begun : State) (workers w first next many : ℕ) (ends left : QueueEnds) (shelves : List (List (List ℕ))) (firsts : List (List ℕ)) (team : WorkTeam) → many ≡ stations g → first ≡ first_of workers many w → next ≡ first_of workers many (w + 1) → left ≡ record ends { shelves = shelves } → firsts ≡ firsts_at ends w → first + length team.stations ≡ next → AreNewStations g begun first left team.stations → team.shelf ≡ new_shelf g firsts → IsNewTeam g begun workers ends w team
+new_team-is g begun workers w first next many ends left shelves firsts team many_is first_is next_is left_is firsts_are count are shelf =
+    let at : first ≡ first_of workers (stations g) w = first_is ∙ ap (λ n. first_of workers n w) many_is in
+    let made : AreNewStations g begun first (record ends { shelves = shelves }) team.stations =
+    subst (λ (e : QueueEnds). AreNewStations g begun first e team.stations) left_is are in
+    let kept : AreNewStations g begun first ends team.stations = record { each = made.each } in
+    record {
+      size = ap (λ n. n + length team.stations) (sym at) ∙ count ∙ next_is ∙ ap (λ n. first_of workers n (w + 1)) many_is;
+      stations = subst (λ (n : ℕ). AreNewStations g begun n ends team.stations) at kept;
+      shelf = shelf ∙ ap (new_shelf g) firsts_are;
+    }
 
 pub one_more_team : (g : Parts) (begun : State) (workers w : ℕ) (ends : QueueEnds) (teams : List WorkTeam) (team : WorkTeam) → length teams ≡ w → AreNewTeams g begun workers ends teams → IsNewTeam g begun workers ends w team → AreNewTeams g begun workers ends (teams ++ team ∷ [])
 one_more_team g begun workers w ends teams team count before new v low =

@@ -14,7 +14,7 @@ use Rattle.station_step.specs.declared.ends.Outlet.{Outlet}
 use Rattle.station_step.specs.declared.ends.Inlet.TheVariants as inlet
 use Rattle.station_step.specs.declared.ends.Outlet.TheVariants as outlet
 use Rattle.station_step.specs.declared.input.Input.{Input}
-use Rattle.station_step.specs.Shelf.{queue_at}
+use Rattle.station_step.specs.Shelf.{queue_at, new_queue}
 use Rattle.station_step.specs.Ends.{inlet_taken, inlet_known, inlet_queue, outlet_queue, AreEnds, HasRingRoom, IsUntaken, IsUnfilled}
 use Rattle.station_step.specs.Input.{input_at, empty_handed, NoneTakes}
 use Rattle.station_step.specs.Station.{WorkStation, IsSeated, NonePuts, outlet_at}
@@ -22,7 +22,7 @@ use Rattle.station_step.specs.Kept.{IsFresh}
 use Rattle.line_workers.specs.Share.{worker_of, first_of}
 use Rattle.line_workers.specs.Team.{WorkTeam, IsMember, IsTeam, member}
 use Rattle.line_workers.specs.Teams.{team_at, station_of, shelf_of, place_in, input_on, outlet_on, outlet_initial, outlet_tokens, ShareQueue, IsJoined, AreTeams, IsMetOn, AreAllMet, HaveBegun}
-use Rattle.line_workers.specs.Making.{room_on, new_queue, HasRing, HasPlain, QueueEnds, outlets_at, inlets_at, shelf_at, first_ins, first_outs, outlet_of, inlet_of, putter, taker, HasEnds, AreLaid, AreFit, AreFitFrom, IsNewStation, AreNewTeams}
+use Rattle.line_workers.specs.Making.{room_on, new_shelf, HasRing, HasPlain, QueueEnds, outlets_at, inlets_at, firsts_at, shelf_at, first_tokens, first_ins, first_outs, outlet_of, inlet_of, putter, taker, HasEnds, AreLaid, AreFit, AreFitFrom, IsNewStation, AreNewTeams}
 use Rattle.line_workers.proofs.Share.{first-le, next-above, worker_is, worker-below, first-all, first-rises}
 use Rattle.line_workers.proofs.ArcOrder.{first_ins-below, first_ins-all, first_outs-all, rank-ins, rank-outs, place_in-ins, place_in-outs}
 use Rattle.line_workers.proofs.LaidEnds.{ring-no_queue, ring-no_queue_in, plain-outlet, queue-within}
@@ -71,38 +71,45 @@ module _ (g : Parts) (begun : State) (a : ℕ) where
   ring-met shelf other (outlet.Local q) (inlet.Ring take) has = absurd has
   ring-met shelf other (outlet.Local q) (inlet.Local r) has = absurd has
 
-  module _ (shelf : List PlainQueue) where
-    plain-room : (more : ℕ) (o : Outlet) (i : Inlet) → HasPlain g begun shelf a o i → HasRingRoom more o
+  -- a queue of a new shelf
+  shelf-queue : (firsts : List (List ℕ)) (q : ℕ) → q < length firsts → queue_at (new_shelf g firsts) q ≡ new_queue (jobs g) (first_tokens firsts q)
+  shelf-queue firsts q low = get_or-map (new_queue (jobs g)) firsts q [] (record { initial = []; added = []; room = 0; takes = 0 }) low
+
+  module _ (firsts : List (List ℕ)) where
+    abbrev shelf : List PlainQueue
+    shelf = new_shelf g firsts
+
+    plain-room : (more : ℕ) (o : Outlet) (i : Inlet) → HasPlain begun firsts a o i → HasRingRoom more o
     plain-room more (outlet.Local q) (inlet.Local r) has = tt
     plain-room more (outlet.Local q) (inlet.Ring take) has = absurd has
     plain-room more (outlet.Ring put) (inlet.Ring take) has = absurd has
     plain-room more (outlet.Ring put) (inlet.Local r) has = absurd has
 
-    plain-unfilled : (o : Outlet) (i : Inlet) → HasPlain g begun shelf a o i → IsUnfilled o
+    plain-unfilled : (o : Outlet) (i : Inlet) → HasPlain begun firsts a o i → IsUnfilled o
     plain-unfilled (outlet.Local q) (inlet.Local r) has = tt
     plain-unfilled (outlet.Local q) (inlet.Ring take) has = absurd has
     plain-unfilled (outlet.Ring put) (inlet.Ring take) has = absurd has
     plain-unfilled (outlet.Ring put) (inlet.Local r) has = absurd has
 
-    plain-untaken : (o : Outlet) (i : Inlet) → HasPlain g begun shelf a o i → IsUntaken i
+    plain-untaken : (o : Outlet) (i : Inlet) → HasPlain begun firsts a o i → IsUntaken i
     plain-untaken (outlet.Local q) (inlet.Local r) has = tt
     plain-untaken (outlet.Local q) (inlet.Ring take) has = absurd has
     plain-untaken (outlet.Ring put) (inlet.Ring take) has = absurd has
     plain-untaken (outlet.Ring put) (inlet.Local r) has = absurd has
 
-    plain-shared : (o : Outlet) (i : Inlet) → HasPlain g begun shelf a o i → ShareQueue o i
+    plain-shared : (o : Outlet) (i : Inlet) → HasPlain begun firsts a o i → ShareQueue o i
     plain-shared (outlet.Local q) (inlet.Local r) has = sym has.same
     plain-shared (outlet.Local q) (inlet.Ring take) has = absurd has
     plain-shared (outlet.Ring put) (inlet.Ring take) has = absurd has
     plain-shared (outlet.Ring put) (inlet.Local r) has = absurd has
 
-    plain-initial : (o : Outlet) (i : Inlet) → HasPlain g begun shelf a o i → outlet_initial shelf o ≡ place begun a
-    plain-initial (outlet.Local q) (inlet.Local r) has = ap (λ (p : PlainQueue). p.initial) has.queue
+    plain-initial : (o : Outlet) (i : Inlet) → HasPlain begun firsts a o i → outlet_initial shelf o ≡ place begun a
+    plain-initial (outlet.Local q) (inlet.Local r) has = ap (λ (p : PlainQueue). p.initial) (shelf-queue firsts q has.there) ∙ has.tokens
     plain-initial (outlet.Local q) (inlet.Ring take) has = absurd has
     plain-initial (outlet.Ring put) (inlet.Ring take) has = absurd has
     plain-initial (outlet.Ring put) (inlet.Local r) has = absurd has
 
-    plain-met : (o : Outlet) (i : Inlet) → HasPlain g begun shelf a o i → inlet_taken shelf i ++ inlet_known shelf i ≡ outlet_tokens shelf o
+    plain-met : (o : Outlet) (i : Inlet) → HasPlain begun firsts a o i → inlet_taken shelf i ++ inlet_known shelf i ≡ outlet_tokens shelf o
     plain-met (outlet.Local q) (inlet.Local r) has =
         take-append-drop (queue_at shelf r).takes ((queue_at shelf r).initial ++ (queue_at shelf r).added)
         ∙ ap (λ n. (queue_at shelf n).initial ++ (queue_at shelf n).added) has.same
@@ -110,10 +117,10 @@ module _ (g : Parts) (begun : State) (a : ℕ) where
     plain-met (outlet.Ring put) (inlet.Ring take) has = absurd has
     plain-met (outlet.Ring put) (inlet.Local r) has = absurd has
 
-    plain-queue : (q : ℕ) (o : Outlet) (i : Inlet) → HasPlain g begun shelf a o i → outlet_queue o ≡ Some q → queue_at shelf q ≡ new_queue g begun a
+    plain-queue : (q : ℕ) (o : Outlet) (i : Inlet) → HasPlain begun firsts a o i → outlet_queue o ≡ Some q → queue_at shelf q ≡ new_queue (jobs g) (place begun a)
     plain-queue q (outlet.Local p) (inlet.Local r) has same =
         let at : q ≡ p = cc in
-        ap (queue_at shelf) at ∙ has.queue
+        ap (queue_at shelf) at ∙ shelf-queue firsts p has.there ∙ ap (new_queue (jobs g)) has.tokens
     plain-queue q (outlet.Local p) (inlet.Ring take) has same = absurd has
     plain-queue q (outlet.Ring put) (inlet.Ring take) has same = absurd has
     plain-queue q (outlet.Ring put) (inlet.Local r) has same = absurd has
@@ -131,34 +138,37 @@ module _ (g : Parts) (begun : State) (workers : ℕ) (ends : QueueEnds) (a : ℕ
   abbrev in_end : Inlet
   in_end = inlet_of g ends a
 
+  abbrev own_firsts : List (List ℕ)
+  own_firsts = firsts_at ends (putter g workers a)
+
   abbrev own_shelf : List PlainQueue
-  own_shelf = shelf_at ends (putter g workers a)
+  own_shelf = shelf_at g ends (putter g workers a)
 
   end-room : HasRingRoom (room_on g begun a) out_end
   end-room =
       ⊎_elim
-      (λ one. plain-room g begun a own_shelf (room_on g begun a) out_end in_end (has.shelf one))
+      (λ one. plain-room g begun a own_firsts (room_on g begun a) out_end in_end (has.shelf one))
       (λ two. ring-room g begun a out_end in_end (has.ring two))
       (cases_eq (putter g workers a) (taker g workers a))
 
   end-unfilled : IsUnfilled out_end
   end-unfilled =
       ⊎_elim
-      (λ one. plain-unfilled g begun a own_shelf out_end in_end (has.shelf one))
+      (λ one. plain-unfilled g begun a own_firsts out_end in_end (has.shelf one))
       (λ two. ring-unfilled g begun a out_end in_end (has.ring two))
       (cases_eq (putter g workers a) (taker g workers a))
 
   end-untaken : IsUntaken in_end
   end-untaken =
       ⊎_elim
-      (λ one. plain-untaken g begun a own_shelf out_end in_end (has.shelf one))
+      (λ one. plain-untaken g begun a own_firsts out_end in_end (has.shelf one))
       (λ two. ring-untaken g begun a out_end in_end (has.ring two))
       (cases_eq (putter g workers a) (taker g workers a))
 
-  end-queue : (q : ℕ) → outlet_queue out_end ≡ Some q → queue_at own_shelf q ≡ new_queue g begun a
+  end-queue : (q : ℕ) → outlet_queue out_end ≡ Some q → queue_at own_shelf q ≡ new_queue (jobs g) (place begun a)
   end-queue q same =
       ⊎_elim
-      (λ one. plain-queue g begun a own_shelf q out_end in_end (has.shelf one) same)
+      (λ one. plain-queue g begun a own_firsts q out_end in_end (has.shelf one) same)
       (λ two. absurd (ring-no_queue g begun a q out_end in_end (has.ring two) same))
       (cases_eq (putter g workers a) (taker g workers a))
 
@@ -171,22 +181,22 @@ module _ (g : Parts) (begun : State) (workers : ℕ) (ends : QueueEnds) (a : ℕ
       (cases_eq (putter g workers a) (taker g workers a))
 
   end-shared : (q : ℕ) → inlet_queue in_end ≡ Some q → outlet_queue out_end ≡ Some q
-  end-shared q same = plain-outlet g begun a q own_shelf out_end in_end (has.shelf (end-inside q same)) same
+  end-shared q same = plain-outlet g begun a q own_firsts out_end in_end (has.shelf (end-inside q same)) same
 
   end-initial : outlet_initial own_shelf out_end ≡ place begun a
   end-initial =
       ⊎_elim
-      (λ one. plain-initial g begun a own_shelf out_end in_end (has.shelf one))
+      (λ one. plain-initial g begun a own_firsts out_end in_end (has.shelf one))
       (λ two. ring-initial g begun a own_shelf out_end in_end (has.ring two))
       (cases_eq (putter g workers a) (taker g workers a))
 
-  end-met : inlet_taken (shelf_at ends (taker g workers a)) in_end ++ inlet_known (shelf_at ends (taker g workers a)) in_end ≡ outlet_tokens own_shelf out_end
+  end-met : inlet_taken (shelf_at g ends (taker g workers a)) in_end ++ inlet_known (shelf_at g ends (taker g workers a)) in_end ≡ outlet_tokens own_shelf out_end
   end-met =
       ⊎_elim
       (λ one.
-      ap (λ w. inlet_taken (shelf_at ends w) in_end ++ inlet_known (shelf_at ends w) in_end) (sym one)
-      ∙ plain-met g begun a own_shelf out_end in_end (has.shelf one))
-      (λ two. ring-met g begun a own_shelf (shelf_at ends (taker g workers a)) out_end in_end (has.ring two))
+      ap (λ w. inlet_taken (shelf_at g ends w) in_end ++ inlet_known (shelf_at g ends w) in_end) (sym one)
+      ∙ plain-met g begun a own_firsts out_end in_end (has.shelf one))
+      (λ two. ring-met g begun a own_shelf (shelf_at g ends (taker g workers a)) out_end in_end (has.ring two))
       (cases_eq (putter g workers a) (taker g workers a))
 
 -- a search among the first n
@@ -298,13 +308,13 @@ module _ (g : Parts) (begun : State) (workers : ℕ) (ends : QueueEnds) (graph :
   one_arc w q a b first then =
       laid.apart a b q first.listed then.listed (first.worker ∙ sym then.worker) first.queue then.queue
 
-  uses-there : (w q a : ℕ) → Uses w q a → q < length (shelf_at ends w)
+  uses-there : (w q a : ℕ) → Uses w q a → q < length (shelf_at g ends w)
   uses-there w q a uses =
-      omega (arith, queue-within g begun workers ends a q (laid.each a uses.listed) uses.queue, ap (λ v. length (shelf_at ends v)) uses.worker)
+      omega (arith, queue-within g begun workers ends a q (laid.each a uses.listed) uses.queue, ap (λ v. length (firsts_at ends v)) uses.worker, length-map (firsts_at ends w) (new_queue (jobs g)))
 
-  uses-queue : (w q a : ℕ) → Uses w q a → queue_at (shelf_at ends w) q ≡ new_queue g begun a
+  uses-queue : (w q a : ℕ) → Uses w q a → queue_at (shelf_at g ends w) q ≡ new_queue (jobs g) (place begun a)
   uses-queue w q a uses =
-      ap (λ v. queue_at (shelf_at ends v) q) (sym uses.worker) ∙ end-queue g begun workers ends a (laid.each a uses.listed) q uses.queue
+      ap (λ v. queue_at (shelf_at g ends v) q) (sym uses.worker) ∙ end-queue g begun workers ends a (laid.each a uses.listed) q uses.queue
 
   -- ---- a new station
 
@@ -364,37 +374,35 @@ module _ (g : Parts) (begun : State) (workers : ℕ) (ends : QueueEnds) (graph :
         let right = outlet-at t k there (omega (arith, ap length new.outlets)) in
         omega (arith, left.place, right.place, ap (λ a. length (first_outs g a t)) same)
 
-    new-seated : IsSeated (shelf_at ends w) s
+    new-seated : IsSeated (shelf_at g ends w) s
     new-seated = record {
-      takes_within = λ k low. if_some (inlet_queue (input_at s.inputs k).inlet) (λ q. q < length (shelf_at ends w)) (λ q same. uses-there w q (get_or (ins g t) k 0) (takes-uses k q low same));
+      takes_within = λ k low. if_some (inlet_queue (input_at s.inputs k).inlet) (λ q. q < length (shelf_at g ends w)) (λ q same. uses-there w q (get_or (ins g t) k 0) (takes-uses k q low same));
       takes_apart = λ j k before low q. takes-one j k q before low;
-      puts_within = λ k low. if_some (outlet_queue (outlet_at s.outlets k)) (λ q. q < length (shelf_at ends w)) (λ q same. uses-there w q (get_or (outs g t) k 0) (puts-uses k q low same));
+      puts_within = λ k low. if_some (outlet_queue (outlet_at s.outlets k)) (λ q. q < length (shelf_at g ends w)) (λ q same. uses-there w q (get_or (outs g t) k 0) (puts-uses k q low same));
       puts_apart = λ j k before low q. puts-one j k q before low;
     }
 
-    new-fresh : IsFresh (shelf_at ends w) s
+    new-fresh : IsFresh (shelf_at g ends w) s
     new-fresh = record {
       untaken = λ k low.
-          if_some (inlet_queue (input_at s.inputs k).inlet) (λ q. plain_taken (queue_at (shelf_at ends w) q) ≡ []) (λ q same.
+          if_some (inlet_queue (input_at s.inputs k).inlet) (λ q. plain_taken (queue_at (shelf_at g ends w) q) ≡ []) (λ q same.
           ap plain_taken (uses-queue w q (get_or (ins g t) k 0) (takes-uses k q low same)));
       unfilled = λ k low.
-          if_some (outlet_queue (outlet_at s.outlets k)) (λ q. (queue_at (shelf_at ends w) q).added ≡ []) (λ q same.
+          if_some (outlet_queue (outlet_at s.outlets k)) (λ q. (queue_at (shelf_at g ends w) q).added ≡ []) (λ q same.
           ap (λ (p : PlainQueue). p.added) (uses-queue w q (get_or (outs g t) k 0) (puts-uses k q low same)));
       room = λ k low.
-          if_some (outlet_queue (outlet_at s.outlets k)) (λ q. jobs s.graph ≤ s.made + (queue_at (shelf_at ends w) q).room) (λ q same.
-          let a = get_or (outs g t) k 0 in
-          let at = outlet-at t k there (omega (arith, ap length new.outlets)) in
-          let room = ap (λ (p : PlainQueue). p.room) (uses-queue w q a (puts-uses k q low same)) in
-          omega (arith, room, ap jobs new.graph, new.made, ap (λ u. length (log begun u)) at.station));
+          if_some (outlet_queue (outlet_at s.outlets k)) (λ q. jobs s.graph ≤ s.made + (queue_at (shelf_at g ends w) q).room) (λ q same.
+          let room = ap (λ (p : PlainQueue). p.room) (uses-queue w q (get_or (outs g t) k 0) (puts-uses k q low same)) in
+          omega (arith, room, ap jobs new.graph));
     }
 
-    new-member : IsMember g begun t (shelf_at ends w) s
+    new-member : IsMember g begun t (shelf_at g ends w) s
     new-member = record {
       graph = new.graph;
       number = new.number;
       station = new.station;
       seated = new-seated;
-      kept = new.kept (shelf_at ends w) new-fresh;
+      kept = new.kept (shelf_at g ends w) new-fresh;
       made = new.made;
       begins = ap (λ l. take s.made l) new.dates ∙ take_all s.made (log begun t) (omega (arith, new.made));
     }
@@ -485,7 +493,7 @@ module _ (g : Parts) (begun : State) (ends : QueueEnds) (teams : List WorkTeam) 
       subst (λ (u : ℕ). IsNewStation g begun u (outlets_at ends u) (inlets_at ends u) (member (team_at teams w).stations i)) at (
       (new w low).stations.each i i_low)
 
-  shelf-is : (t : ℕ) → t < stations g → shelf_of g teams t ≡ shelf_at ends (owner t)
+  shelf-is : (t : ℕ) → t < stations g → shelf_of g teams t ≡ shelf_at g ends (owner t)
   shelf-is t there = (new (owner t) (owner-below t there)).shelf
 
   -- ---- arcs
@@ -520,10 +528,10 @@ module _ (g : Parts) (begun : State) (ends : QueueEnds) (teams : List WorkTeam) 
         shelf = λ one.
             subst (λ (o : Outlet). ShareQueue o (input_on g teams a).inlet) (sym out_is) (
             subst (λ (i : Inlet). ShareQueue (outlet_of g ends a) i) (sym in_is) (
-            plain-shared g begun a (shelf_at ends (putter g (length teams) a)) (outlet_of g ends a) (inlet_of g ends a) (has.shelf one)));
+            plain-shared g begun a (firsts_at ends (putter g (length teams) a)) (outlet_of g ends a) (inlet_of g ends a) (has.shelf one)));
         initial =
             ap (λ l. outlet_initial l (outlet_on g teams a)) (shelf-is (arc g a).from (graph.starts_exist a listed))
-            ∙ ap (outlet_initial (shelf_at ends (putter g (length teams) a))) out_is
+            ∙ ap (outlet_initial (shelf_at g ends (putter g (length teams) a))) out_is
             ∙ end-initial g begun (length teams) ends a has;
       }
 
@@ -543,9 +551,9 @@ module _ (g : Parts) (begun : State) (ends : QueueEnds) (teams : List WorkTeam) 
       let to_shelf = shelf-is (arc g a).to (graph.ends_exist a listed) in
       let from_shelf = shelf-is (arc g a).from (graph.starts_exist a listed) in
       ap (λ l. inlet_taken l (input_on g teams a).inlet ++ inlet_known l (input_on g teams a).inlet) to_shelf
-      ∙ ap (λ i. inlet_taken (shelf_at ends (taker g (length teams) a)) i ++ inlet_known (shelf_at ends (taker g (length teams) a)) i) in_is
+      ∙ ap (λ i. inlet_taken (shelf_at g ends (taker g (length teams) a)) i ++ inlet_known (shelf_at g ends (taker g (length teams) a)) i) in_is
       ∙ end-met g begun (length teams) ends a has
-      ∙ ap (λ o. outlet_tokens (shelf_at ends (putter g (length teams) a)) o) (sym out_is)
+      ∙ ap (λ o. outlet_tokens (shelf_at g ends (putter g (length teams) a)) o) (sym out_is)
       ∙ ap (λ l. outlet_tokens l (outlet_on g teams a)) (sym from_shelf)
 
   pub new_are_met : AreAllMet g teams

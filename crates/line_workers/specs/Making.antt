@@ -1,5 +1,5 @@
 -- Making the teams: first a queue for each arc, its two ends laid down by station; then the stations, which take them.
-use Rattle.std.specs.Prelude.{◌≡◌, ◌≢◌, ℕ, ◌+◌, ◌-◌, ◌<◌, ◌≤◌, ◌==◌, List, [], ◌∷◌, ◌++◌, Some, map, length, filter, slice_index_or, slice_set}
+use Rattle.std.specs.Prelude.{◌≡◌, ◌≢◌, ℕ, ◌+◌, ◌-◌, ◌^◌, ◌<◌, ◌≤◌, ◌==◌, List, [], ◌∷◌, ◌++◌, Some, map, length, filter, slice_index_or, slice_set}
 use Rattle.std.specs.List.{range_with_len}
 use Rattle.line_base.specs.declared.event.Parts.{Parts}
 use Rattle.card_queue.specs.Plain.{PlainQueue}
@@ -12,7 +12,7 @@ use Rattle.station_step.specs.declared.ends.Inlet.{Inlet}
 use Rattle.station_step.specs.declared.ends.Outlet.{Outlet}
 use Rattle.station_step.specs.declared.ends.Inlet.TheVariants as inlet
 use Rattle.station_step.specs.declared.ends.Outlet.TheVariants as outlet
-use Rattle.station_step.specs.Shelf.{queue_at}
+use Rattle.station_step.specs.Shelf.{new_queue}
 use Rattle.station_step.specs.Ends.{outlet_queue, IsUntaken, IsUnfilled, HasRingRoom}
 use Rattle.station_step.specs.Input.{empty_handed}
 use Rattle.station_step.specs.Station.{WorkStation, IsStation, outlet_at}
@@ -23,13 +23,9 @@ use Rattle.line_workers.specs.Teams.{team_at}
 
 -- ---- the queue of an arc
 
--- how many tokens may be put on arc a: one for each date that the station where it starts has left to make
+-- how many tokens may be put on the ring of arc a: one for each date that the station where it starts has left to make
 abbrev pub room_on : Parts → State → ℕ → ℕ
 room_on g begun a = jobs g - length (log begun (arc g a).from)
-
--- a queue that begins with the tokens on arc a
-abbrev pub new_queue : Parts → State → ℕ → PlainQueue
-new_queue g begun a = record { initial = place begun a; added = []; room = room_on g begun a; takes = 0 }
 
 -- the ends of a ring that begins with the tokens on arc a
 pub record IsNewRing (g : Parts) (begun : State) (a : ℕ) (put : PutEnd) (take : TakeEnd) : Type 0 where
@@ -40,27 +36,32 @@ pub record IsNewRing (g : Parts) (begun : State) (a : ℕ) (put : PutEnd) (take 
   pub taken : take.taken ≡ []
   pub known : take.known ≡ place begun a
 
--- a queue on the shelf, with the same number at both ends
-pub record IsNewPlain (g : Parts) (begun : State) (shelf : List PlainQueue) (a q r : ℕ) : Type 0 where
+-- the tokens with which queue q of a shelf begins
+abbrev pub first_tokens : List (List ℕ) → ℕ → List ℕ
+first_tokens firsts q = slice_index_or firsts q []
+
+-- a queue of the shelf that begins with the tokens on arc a, with the same number at both ends
+pub record IsNewPlain (begun : State) (firsts : List (List ℕ)) (a q r : ℕ) : Type 0 where
   pub same : r ≡ q
-  pub there : q < length shelf
-  pub queue : queue_at shelf q ≡ new_queue g begun a
+  pub there : q < length firsts
+  pub tokens : first_tokens firsts q ≡ place begun a
 
 abbrev pub HasRing : Parts → State → ℕ → Outlet → Inlet → Type 0
 HasRing g begun a (outlet.Ring put) (inlet.Ring take) = IsNewRing g begun a put take
 HasRing g begun a _ _ = ⊥
 
-abbrev pub HasPlain : Parts → State → List PlainQueue → ℕ → Outlet → Inlet → Type 0
-HasPlain g begun shelf a (outlet.Local q) (inlet.Local r) = IsNewPlain g begun shelf a q r
-HasPlain g begun shelf a _ _ = ⊥
+abbrev pub HasPlain : State → List (List ℕ) → ℕ → Outlet → Inlet → Type 0
+HasPlain begun firsts a (outlet.Local q) (inlet.Local r) = IsNewPlain begun firsts a q r
+HasPlain begun firsts a _ _ = ⊥
 
 -- ---- the ends by station
 
--- for each station its outlets and its inlets, in the order of the arcs, and for each worker the queues of its shelf
+-- for each station its outlets and its inlets, in the order of the arcs, and for each worker the tokens with which the
+-- queues of its shelf begin
 pub record QueueEnds : Type 0 where
   pub outlets : List (List Outlet)
   pub inlets : List (List Inlet)
-  pub shelves : List (List PlainQueue)
+  pub shelves : List (List (List ℕ))
 
 abbrev pub outlets_at : QueueEnds → ℕ → List Outlet
 outlets_at ends t = slice_index_or ends.outlets t []
@@ -68,8 +69,21 @@ outlets_at ends t = slice_index_or ends.outlets t []
 abbrev pub inlets_at : QueueEnds → ℕ → List Inlet
 inlets_at ends t = slice_index_or ends.inlets t []
 
-abbrev pub shelf_at : QueueEnds → ℕ → List PlainQueue
-shelf_at ends w = slice_index_or ends.shelves w []
+abbrev pub firsts_at : QueueEnds → ℕ → List (List ℕ)
+firsts_at ends w = slice_index_or ends.shelves w []
+
+-- a shelf whose queues begin with these tokens; on each a token may be put for each job
+abbrev pub new_shelf : Parts → List (List ℕ) → List PlainQueue
+new_shelf g firsts = map (new_queue (jobs g)) firsts
+
+-- the shelf of worker w
+abbrev pub shelf_at : Parts → QueueEnds → ℕ → List PlainQueue
+shelf_at g ends w = new_shelf g (firsts_at ends w)
+
+-- a shelf can be made of these: the queues are not too many, and none is too long
+pub record MayShelve (g : Parts) (firsts : List (List ℕ)) : Type 0 where
+  pub few : length firsts < 2 ^ 32
+  pub small : (q : ℕ) → q < length firsts → length (first_tokens firsts q) + jobs g < 2 ^ 32
 
 module _ {X : Type 0} where
   -- the lists with one more element at the end of list k
@@ -105,7 +119,7 @@ taker g workers a = worker_of workers (stations g) (arc g a).to
 pub record HasEnds (g : Parts) (begun : State) (workers : ℕ) (ends : QueueEnds) (a : ℕ) : Type 0 where
   pub ring : putter g workers a ≢ taker g workers a → HasRing g begun a (outlet_of g ends a) (inlet_of g ends a)
   pub shelf : putter g workers a ≡ taker g workers a →
-      HasPlain g begun (shelf_at ends (putter g workers a)) a (outlet_of g ends a) (inlet_of g ends a)
+      HasPlain begun (firsts_at ends (putter g workers a)) a (outlet_of g ends a) (inlet_of g ends a)
 
 -- the first n arcs have their ends, and no two of them a queue of one shelf
 pub record AreLaid (g : Parts) (begun : State) (workers : ℕ) (ends : QueueEnds) (n : ℕ) : Type 0 where
@@ -114,7 +128,8 @@ pub record AreLaid (g : Parts) (begun : State) (workers : ℕ) (ends : QueueEnds
   pub shelves : length ends.shelves ≡ workers
   pub outlets : (t : ℕ) → t < stations g → length (outlets_at ends t) ≡ length (first_outs g n t)
   pub inlets : (t : ℕ) → t < stations g → length (inlets_at ends t) ≡ length (first_ins g n t)
-  pub queues : (w : ℕ) → length (shelf_at ends w) ≤ n
+  pub queues : (w : ℕ) → length (firsts_at ends w) ≤ n
+  pub small : (w q : ℕ) → q < length (firsts_at ends w) → length (first_tokens (firsts_at ends w) q) + jobs g < 2 ^ 32
   pub each : (a : ℕ) → a < n → HasEnds g begun workers ends a
   pub apart : (a b q : ℕ) → a < n → b < n → putter g workers a ≡ putter g workers b →
       outlet_queue (outlet_of g ends a) ≡ Some q → outlet_queue (outlet_of g ends b) ≡ Some q → a ≡ b
@@ -154,7 +169,7 @@ pub record SameStationsFrom (t : ℕ) (old new : QueueEnds) : Type 0 where
 
 pub record SameShelvesFrom (w : ℕ) (old new : QueueEnds) : Type 0 where
   pub count : length new.shelves ≡ length old.shelves
-  pub shelves : (v : ℕ) → w ≤ v → shelf_at new v ≡ shelf_at old v
+  pub shelves : (v : ℕ) → w ≤ v → firsts_at new v ≡ firsts_at old v
 
 -- these are the stations from the first on, with the ends that were laid for them
 pub record AreNewStations (g : Parts) (begun : State) (first : ℕ) (ends : QueueEnds) (made : List WorkStation) : Type 0 where
@@ -165,7 +180,7 @@ pub record AreNewStations (g : Parts) (begun : State) (first : ℕ) (ends : Queu
 pub record IsNewTeam (g : Parts) (begun : State) (workers : ℕ) (ends : QueueEnds) (w : ℕ) (team : WorkTeam) : Type 0 where
   pub size : first_of workers (stations g) w + length team.stations ≡ first_of workers (stations g) (w + 1)
   pub stations : AreNewStations g begun (first_of workers (stations g) w) ends team.stations
-  pub shelf : team.shelf ≡ shelf_at ends w
+  pub shelf : team.shelf ≡ shelf_at g ends w
 
 -- from station t on every station has its ends still
 pub record AreFitFrom (g : Parts) (begun : State) (t : ℕ) (ends : QueueEnds) : Type 0 where

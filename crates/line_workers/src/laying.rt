@@ -1,11 +1,10 @@
 ghost use Rattle.std.specs.Prelude.{◌≡◌, ◌≢◌, ◌+◌, ◌<◌, ◌≤◌, ◌^◌, [], map, length, replicate, IfOk, OnOk, slice_set};
-ghost use Rattle.card_queue.specs.Plain.{PlainQueue};
 ghost use Rattle.event_graph.specs.Network.{stations, jobs, arc_count, IsGraph};
 ghost use Rattle.event_graph.specs.State.{place};
-ghost use Rattle.line_workers.specs.Making.{room_on, new_queue, HasRing, QueueEnds, outlets_at, inlets_at, shelf_at, with_one, with_ends, without, putter, taker, AreLaid};
+ghost use Rattle.line_workers.specs.Making.{room_on, HasRing, QueueEnds, outlets_at, inlets_at, firsts_at, with_one, with_ends, without, putter, taker, AreLaid};
 
 use crate::owner::worker_of;
-use card_queue::{Plain, queue};
+use card_queue::queue;
 use line_base::Date;
 use line_core::State;
 use live_check::Live;
@@ -15,12 +14,12 @@ use std::marker::Model;
 use std::mem;
 
 /// The ends of the queues of the arcs: for each station its outlets and its inlets, in the order of the arcs, and for
-/// each worker the queues of its shelf.
+/// each worker the tokens with which the queues of its shelf begin.
 #[derive(Drop)]
 pub(crate) struct Ends {
     outlets: Vec<Vec<Outlet>>,
     inlets: Vec<Vec<Inlet>>,
-    shelves: Vec<Vec<Plain>>,
+    shelves: Vec<Vec<Vec<Date>>>,
 }
 
 impl Model for Ends {
@@ -32,7 +31,7 @@ impl Model for Ends {
     ghost view = { λ e. record {
       outlets = map (λ l. l.items) e.outlets.items;
       inlets = map (λ l. l.items) e.inlets.items;
-      shelves = map (λ l. l.items) e.shelves.items;
+      shelves = map (λ l. map (λ tokens. tokens.items) l.items) e.shelves.items;
     } };
 }
 
@@ -46,7 +45,7 @@ fn tokens_on(alloc: Global, live: &Live, state: &State, a: u32) -> Result<Vec<Da
     state.place(live, a).collect(alloc)
 }
 
-/// How many tokens may be put on arc `a`.
+/// How many tokens may be put on the ring of arc `a`.
 fn room_on(live: &Live, state: &State, a: u32) -> u32
     requires made_for { live.now.graph ≡ state.now.graph }
     requires arc { a < arc_count live.now.graph }
@@ -71,16 +70,6 @@ fn new_ring(
     let tokens = tokens_on(alloc, live, state, a)?;
     let (put, take) = queue(alloc, &tokens, room_on(live, state, a))?;
     Ok((Outlet::Ring(put), Inlet::Ring(take)))
-}
-
-/// A queue inside one worker for arc `a`.
-fn new_plain(alloc: Global, live: &Live, state: &State, a: u32) -> Result<Plain, AllocError>
-    requires made_for { live.now.graph ≡ state.now.graph }
-    requires arc { a < arc_count live.now.graph }
-    ensures { IfOk result (λ plain. plain ≡ new_queue live.now.graph state.now.state a) }
-{
-    let tokens = tokens_on(alloc, live, state, a)?;
-    Plain::new(alloc, &tokens, room_on(live, state, a))
 }
 
 /// So many empty lists.
@@ -119,16 +108,16 @@ impl Ends {
         Ok(())
     }
 
-    /// Lays a queue on a worker's shelf, and tells its number there.
-    fn shelve(&mut self, worker: u32, plain: Plain) -> Result<u32, AllocError>
+    /// Lays a queue that begins with these tokens on a worker's shelf, and tells its number there.
+    fn shelve(&mut self, worker: u32, tokens: Vec<Date>) -> Result<u32, AllocError>
         requires worker { worker < length self.old.shelves }
-        requires few { length (shelf_at self.old worker) < 2 ^ 32 }
-        ensures number { IfOk result (λ q. q ≡ length (shelf_at self.old worker)) }
+        requires few { length (firsts_at self.old worker) < 2 ^ 32 }
+        ensures number { IfOk result (λ q. q ≡ length (firsts_at self.old worker)) }
         ensures shelved { OnOk result (self.new ≡
-            record self.old { shelves = with_one self.old.shelves worker plain }) }
+            record self.old { shelves = with_one self.old.shelves worker tokens.items }) }
     {
         let number = self.shelves[worker as usize].len() as u32;
-        self.shelves[worker as usize].push(plain)?;
+        self.shelves[worker as usize].push(tokens)?;
         Ok(number)
     }
 
@@ -151,7 +140,7 @@ impl Ends {
         ensures { OnOk result (AreLaid live.now.graph state.now.state workers self.new (a + 1)) }
     {
         let arc = live.graph().arcs()[a as usize];
-        let number = self.shelve(worker, new_plain(alloc, live, state, a)?)?;
+        let number = self.shelve(worker, tokens_on(alloc, live, state, a)?)?;
         self.lay(
             arc.from,
             arc.to,
@@ -223,6 +212,7 @@ impl Ends {
             (arc_count live.now.graph)) }
         ensures sound { OnOk result (IsGraph live.now.graph) }
         ensures some_station { OnOk result (1 ≤ stations live.now.graph) }
+        ensures few_arcs { OnOk result (arc_count live.now.graph < 2 ^ 32) }
     {
         let graph = live.graph();
         let mut ends = Ends::none(alloc, graph.stations(), workers)?;
@@ -245,10 +235,10 @@ impl Ends {
         (outlets, inlets)
     }
 
-    /// Takes the queues of a worker's shelf. It takes no memory.
-    pub(crate) fn take_shelf(&mut self, alloc: Global, worker: u32) -> Vec<Plain>
+    /// Takes the tokens with which the queues of a worker's shelf begin. It takes no memory.
+    pub(crate) fn take_shelf(&mut self, alloc: Global, worker: u32) -> Vec<Vec<Date>>
         requires { worker < length self.old.shelves }
-        ensures queues { result.items ≡ shelf_at self.old worker }
+        ensures tokens { map (λ tokens. tokens.items) result.items ≡ firsts_at self.old worker }
         ensures rest { self.new ≡
             record self.old { shelves = slice_set self.old.shelves worker [] } }
     {

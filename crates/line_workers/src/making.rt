@@ -1,15 +1,15 @@
-ghost use Rattle.std.specs.Prelude.{◌≡◌, ℕ, ◌+◌, ◌<◌, ◌≤◌, length, IfOk, OnOk};
+ghost use Rattle.std.specs.Prelude.{◌≡◌, ℕ, ◌+◌, ◌<◌, ◌≤◌, length, map, IfOk, OnOk};
 ghost use Rattle.event_graph.specs.Network.{stations, jobs};
 ghost use Rattle.event_graph.specs.State.{log};
 ghost use Rattle.line_workers.specs.Share.{first_of};
 ghost use Rattle.line_workers.specs.Teams.{AreTeams, AreAllMet, HaveBegun};
-ghost use Rattle.line_workers.specs.Making.{outlets_at, inlets_at, without, AreFitFrom, IsNewStation, AreNewStations, IsNewTeam, AreNewTeams, SameStationsFrom, SameShelvesFrom};
+ghost use Rattle.line_workers.specs.Making.{outlets_at, inlets_at, firsts_at, new_shelf, without, MayShelve, AreFitFrom, IsNewStation, AreNewStations, IsNewTeam, AreNewTeams, SameStationsFrom, SameShelvesFrom};
 
 use crate::closing::log_with;
 use crate::laying::Ends;
 use crate::owner::first_of;
 use crate::team::Team;
-use line_base::Log;
+use line_base::{Date, Log};
 use line_core::State;
 use live_check::Live;
 use station_step::{Shelf, Station};
@@ -74,6 +74,15 @@ fn new_stations(
     Ok(made)
 }
 
+/// The shelf whose queues begin with these tokens. A token may be put on each of them for each job.
+fn new_shelf(alloc: Global, live: &Live, firsts: Vec<Vec<Date>>) -> Result<Shelf, AllocError>
+    requires { MayShelve live.now.graph (map (λ tokens. tokens.items) firsts.items) }
+    ensures { IfOk result (λ shelf. shelf ≡
+        new_shelf live.now.graph (map (λ tokens. tokens.items) firsts.items)) }
+{
+    Shelf::new(alloc, firsts, live.graph().jobs())
+}
+
 /// The team of one worker, which takes its shelf and the ends of its stations.
 fn new_team(
     alloc: Global,
@@ -87,6 +96,7 @@ fn new_team(
     requires workers { workers ≤ 16 }
     requires worker { worker < workers }
     requires shelves { length ends.old.shelves ≡ workers }
+    requires shelf { MayShelve live.now.graph (firsts_at ends.old worker) }
     requires fit { AreFitFrom live.now.graph state.now.state
         (first_of workers (stations live.now.graph) worker) ends.old }
     ensures team { IfOk result (IsNewTeam live.now.graph state.now.state workers ends.old worker) }
@@ -98,7 +108,7 @@ fn new_team(
     let stations = live.graph().stations();
     let first = first_of(workers, stations, worker);
     let next = first_of(workers, stations, worker + 1);
-    let shelf = Shelf::new(ends.take_shelf(alloc, worker));
+    let shelf = new_shelf(alloc, live, ends.take_shelf(alloc, worker))?;
     let stations = new_stations(alloc, live, state, ends, first, next)?;
     Ok(Team { stations, shelf })
 }
@@ -115,6 +125,7 @@ fn new_teams(
     requires workers { workers ≤ 16 }
     requires some_station { 1 ≤ stations live.now.graph }
     requires shelves { length ends.shelves ≡ workers }
+    requires each_shelf { (w : ℕ) → MayShelve live.now.graph (firsts_at ends w) }
     requires fit { AreFitFrom live.now.graph state.now.state 0 ends }
     ensures count { IfOk result (λ teams. length teams.items ≡ workers) }
     ensures teams { IfOk result
@@ -132,7 +143,8 @@ fn new_teams(
 /// A team for each worker, whose stations go on from a state, with all memory of the run.
 ///
 /// A queue stands for each arc and begins with the tokens that the state has there: a ring between two workers, else a
-/// queue on the worker's shelf. Each queue, and each log, has room for the dates that are left to be made.
+/// queue on the worker's shelf. Each ring, and each log, has room for the dates that are left to be made. Each queue on
+/// a shelf has room for a token of each job.
 pub(crate) fn teams_of(
     alloc: Global,
     live: &Live,

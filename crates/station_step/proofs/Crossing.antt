@@ -3,8 +3,6 @@
 use denote.Param.Send.{IsSend, sendable, view_send}
 use denote.Param.SendFields.{as_row_send, declared_send}
 use Rattle.std.proofs.Crossing.{crosses, Vec-send}
-use Rattle.card_queue.specs.contracts.plain.Plain as Plain
-use Rattle.card_queue.specs.contracts.plain.Plain.TheInside as PlainInside
 use Rattle.line_base.specs.contracts.log.Log as Log
 use Rattle.line_base.specs.contracts.log.Log.TheInside as LogInside
 use Rattle.station_step.specs.contracts.ends.Outlet as Outlet
@@ -13,19 +11,30 @@ use Rattle.station_step.specs.contracts.shelf.Shelf as Shelf
 use Rattle.station_step.specs.contracts.shelf.Shelf.TheInside as ShelfInside
 use Rattle.station_step.specs.contracts.station.Station as Station
 use Rattle.station_step.specs.contracts.station.Station.TheInside as StationInside
+use Rattle.station_step.specs.contracts.tally.Tally as Tally
 use Rattle.station_step.proofs.ends.Outlet.TheSendSync as OutletSent
 use Rattle.station_step.proofs.input.Input.TheSendSync as InputSent
+use Rattle.station_step.proofs.tally.Tally.TheSendSync as TallySent
 
 log_send : IsSend Log.the_row
 log_send = view_send LogInside.the_row _ _ _ _ (declared_send LogInside.the_type (search crosses, tt))
 
-plain_send : IsSend Plain.the_row
-plain_send =
-    view_send PlainInside.the_row _ _ _ _ (
-    declared_send PlainInside.the_type (search crosses, (search sendable, (search sendable, (search sendable, tt)))))
-
 pub shelf_send : IsSend Shelf.the_row
-shelf_send = view_send ShelfInside.the_row _ _ _ _ (declared_send ShelfInside.the_type (Vec-send Plain.the_row plain_send, tt))
+shelf_send =
+    view_send ShelfInside.the_row _ _ _ _ (
+    declared_send ShelfInside.the_type (
+      search crosses,
+      (
+        search crosses,
+        (
+          Vec-send Tally.the_row (as_row_send Tally.the_field TallySent.the_field_send),
+          (
+            search sendable,
+            tt,
+          ),
+        ),
+      ),
+    ))
 
 station_fields : IsSend StationInside.the_row
 station_fields =

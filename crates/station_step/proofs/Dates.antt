@@ -1,13 +1,13 @@
 -- The date of a job over the tokens of its inputs.
-use Rattle.std.proofs.Common.{◌≡◌, ◌≢◌, ℕ, zero, suc, ◌+◌, ◌-◌, ◌^◌, ◌<◌, ◌≤◌, max, cond, List, length, get_or, refl, sym, ap, ◌∙◌, arith}
-use Rattle.std.specs.Prelude.{slice_index, if◌then◌else◌, nat_eq, true, false}
+use Rattle.std.proofs.Common.{◌≡◌, ◌≢◌, ℕ, zero, suc, ◌+◌, ◌-◌, ◌<◌, ◌≤◌, max, cond, List, length, get_or, refl, sym, ap, ◌∙◌, arith}
+use Rattle.std.specs.Prelude.{All, Bool, slice_index, if◌then◌else◌, nat_eq, false}
 use Rattle.std.specs.List.{range_with_len}
 use Rattle.std.specs.Ordering.{ord_max, nat_cmp}
-use Rattle.std.proofs.lemmas.Bool.{ne_eqb, cond-true, cond-false}
+use Rattle.std.proofs.lemmas.Bool.{ne_eqb}
 use Rattle.std.proofs.lemmas.Bool.Decides.{nat_tests}
 use Rattle.line_base.specs.declared.event.Arc.{Arc}
 use Rattle.line_base.specs.declared.event.Parts.{Parts}
-use Rattle.event_graph.specs.Network.{arc, ins, demand, time}
+use Rattle.event_graph.specs.Network.{arc, ins, demand, time, IsGraph, EndsAt}
 use Rattle.event_graph.specs.Term.{work}
 use Rattle.event_graph.specs.Firing.{greatest}
 use Rattle.station_step.specs.Kept.{saturating, asked, date_for}
@@ -31,18 +31,12 @@ arc-looked_up g t k arcs numbers arcs_are numbers_are =
     ap (λ (l : List Arc). get_or l (get_or numbers k 0) d) arcs_are
     ∙ ap (λ (l : List ℕ). get_or g.arcs (get_or l k 0) d) numbers_are
 
--- what a token asks for where its arc is worked, and where it isn't
-pub asked-worked : (g : Parts) (t job k token : ℕ) → (arc g (slice_index (ins g t) k)).worked ≡ true → (arc g (slice_index (ins g t) k)).to ≡ t → saturating token (time g t job) ≡ asked g t job (λ _. token) k
+-- what the token on input k asks for, by whether its arc is worked and the job's time
+pub asked-is : (g : Parts) (t job k token takes : ℕ) (worked : Bool) → worked ≡ (arc g (slice_index (ins g t) k)).worked → (arc g (slice_index (ins g t) k)).to ≡ t → takes ≡ time g t job → saturating token (if worked then takes else 0) ≡ asked g t job (λ _. token) k
 unfolding work
-asked-worked g t job k token worked to =
-    ap (λ n. saturating token (time g n job)) (sym to)
-    ∙ ap (saturating token) (sym (cond-true (arc g (slice_index (ins g t) k)).worked _ _ worked))
-
-pub asked-plain : (g : Parts) (t job k token : ℕ) → token < 2 ^ 64 → (arc g (slice_index (ins g t) k)).worked ≡ false → token ≡ asked g t job (λ _. token) k
-unfolding work
-asked-plain g t job k token small plain =
-    let none : work g (slice_index (ins g t) k) job ≡ 0 = cond-false (arc g (slice_index (ins g t) k)).worked _ _ plain in
-    omega (arith, none)
+asked-is g t job k token takes worked worked_is to takes_is =
+    ap (λ b. saturating token (cond b takes 0)) worked_is
+    ∙ ap (λ n. saturating token (cond (arc g (slice_index (ins g t) k)).worked n 0)) (takes_is ∙ ap (λ n. time g n job) (sym to))
 
 -- the greatest over the inputs from k on
 pub greatest-from : (f : ℕ → ℕ) (k n : ℕ) → k < n → greatest f (range_with_len k (n - k)) ≡ max (f k) (greatest f (range_with_len (k + 1) (n - (k + 1))))
@@ -73,3 +67,8 @@ date_for-agree g t job one other agree =
 -- the greater of two numbers, as `Ord::max` has it
 pub ord_max-nat : (a b : ℕ) → ord_max nat_cmp a b ≡ max a b
 ord_max-nat a b = grind (arith, nat_tests)
+
+-- no input of the feed is there
+pub feed-no_input : (g : Parts) (t k : ℕ) → t ≡ 0 → IsGraph g → All (EndsAt g t) (ins g t) → k < length (ins g t) → ⊥
+feed-no_input g t k feed graph each low =
+    let ends = each k 0 low in graph.feed_has_no_input (get_or (ins g t) k 0) ends.0 (ends.1 ∙ feed)

@@ -1,5 +1,8 @@
+pub mod Tables
+pub mod Laying
 pub mod OwnQueues
 pub mod Refilling
+pub mod Emptying
 pub mod Filling
 pub mod Dates
 pub mod Keeping

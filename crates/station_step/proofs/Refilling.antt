@@ -1,6 +1,7 @@
 -- The inputs of a station while its hands are refilled, one after the other.
-use Rattle.std.proofs.Common.{◌≡◌, ◌≢◌, ℕ, ◌+◌, ◌<◌, ◌≤◌, List, [], ◌++◌, length, set, map, sym, ap, ◌∙◌, subst, arith, ⊎_elim, get_or-set_same, get_or-set_other}
-use Rattle.std.specs.Prelude.{None, Some, IfNone, option_to_list}
+use Rattle.std.specs.Option.{option_or}
+use Rattle.std.proofs.Common.{◌≡◌, ◌≢◌, ℕ, ◌+◌, ◌<◌, ◌≤◌, List, [], ◌++◌, length, set, map, refl, sym, ap, ◌∙◌, subst, arith, ⊎_elim, get_or-set_same, get_or-set_other}
+use Rattle.std.specs.Prelude.{Option, None, Some, is_some, false, IsSome, IfNone, IfSome, option_to_list}
 use Rattle.std.proofs.Math.Seq.{map-set_same}
 use Rattle.std.proofs.lemmas.Bool.{cases_eq}
 use Rattle.std.proofs.lemmas.List.{length-set}
@@ -77,3 +78,58 @@ refilled_more k old mid new before after input apart low up_to next only others 
           others q (λ clash. none k (omega arith) (ap (λ (i : Input). inlet_queue i.inlet) (sym at_k) ∙ clash))
           ∙ up_to.others q (λ j lt. none j (omega arith));
     }
+
+-- the first of the inputs below k whose hand is empty
+pub record IsFirstEmpty (k : ℕ) (found : Option ℕ) (inputs : List Input) : Type 0 where
+  pub none : IfNone found ((j : ℕ) → j < k → IsSome (input_at inputs j).hand)
+  pub there : IfSome found (λ i. i < k)
+  pub empty : IfSome found (λ i. (input_at inputs i).hand ≡ None)
+  pub first : IfSome found (λ i. (j : ℕ) → j < i → IsSome (input_at inputs j).hand)
+
+-- an input before the one that changes
+before-set : (inputs : List Input) (k j : ℕ) (input : Input) → j < k → input_at (set inputs k input) j ≡ input_at inputs j
+before-set inputs k j input lt = get_or-set_other inputs k j input (record { inlet = Local 0; hand = None }) (λ e. absurd (omega (arith, e)))
+
+at-set : (inputs : List Input) (k : ℕ) (input : Input) → k < length inputs → input_at (set inputs k input) k ≡ input
+at-set inputs k input low = get_or-set_same inputs k input (record { inlet = Local 0; hand = None }) low
+
+-- where one was found, the inputs behind it say nothing
+found_stays : (k i : ℕ) (inputs : List Input) (input : Input) → IsFirstEmpty k (Some i) inputs → IsFirstEmpty (k + 1) (Some i) (set inputs k input)
+found_stays k i inputs input is = record {
+  none = tt;
+  there = omega (arith, is.there);
+  empty = ap (λ (l : Input). l.hand) (before-set inputs k i input is.there) ∙ is.empty;
+  first = λ j lt.
+      subst (λ (l : Input). IsSome l.hand) (sym (before-set inputs k j input (omega (arith, is.there)))) (is.first j lt);
+}
+
+no_token : (hand : Option ℕ) → is_some hand ≡ false → hand ≡ None
+no_token None none = refl
+no_token (Some token) none = absurd (cc)
+
+-- the next input has an empty hand
+pub first-empty : (k : ℕ) (found : Option ℕ) (inputs : List Input) (input : Input) → k < length inputs → is_some input.hand ≡ false → IsFirstEmpty k found inputs → IsFirstEmpty (k + 1) (option_or found (Some k)) (set inputs k input)
+first-empty k (Some i) inputs input low empty is = found_stays k i inputs input is
+first-empty k None inputs input low empty is = record {
+  none = tt;
+  there = omega arith;
+  empty = ap (λ (l : Input). l.hand) (at-set inputs k input low) ∙ no_token input.hand empty;
+  first = λ j lt. subst (λ (l : Input). IsSome l.hand) (sym (before-set inputs k j input lt)) (is.none j lt);
+}
+
+-- the next input has a full hand
+pub first-full : (k : ℕ) (found : Option ℕ) (inputs : List Input) (input : Input) → k < length inputs → IsSome input.hand → IsFirstEmpty k found inputs → IsFirstEmpty (k + 1) found (set inputs k input)
+first-full k (Some i) inputs input low full is = found_stays k i inputs input is
+first-full k None inputs input low full is = record {
+  none = λ j lt.
+      ⊎_elim
+      (λ (e : j ≡ k).
+      subst (λ (n : ℕ). IsSome (input_at (set inputs k input) n).hand) (sym e)
+      (subst (λ (l : Input). IsSome l.hand) (sym (at-set inputs k input low)) full))
+      (λ (ne : j ≢ k).
+      subst (λ (l : Input). IsSome l.hand) (sym (before-set inputs k j input (omega arith))) (is.none j (omega arith)))
+      (cases_eq j k);
+  there = tt;
+  empty = tt;
+  first = tt;
+}

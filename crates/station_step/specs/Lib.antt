@@ -1,4 +1,5 @@
 pub mod Shelf
+pub mod Table
 pub mod Ends
 pub mod Input
 pub mod Station

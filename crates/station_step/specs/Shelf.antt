@@ -6,6 +6,10 @@ use Rattle.card_queue.specs.Plain.{PlainQueue, plain_taken}
 abbrev pub queue_at : List PlainQueue → ℕ → PlainQueue
 queue_at shelf k = slice_index_or shelf k (record { initial = []; added = []; room = 0; takes = 0 })
 
+-- a queue that begins with these tokens, on which so many may be put
+abbrev pub new_queue : ℕ → List ℕ → PlainQueue
+new_queue room tokens = record { initial = tokens; added = []; room = room; takes = 0 }
+
 -- a queue without the number of its takes: what was put into it, and its room
 abbrev pub untaken : PlainQueue → PlainQueue
 untaken queue = record queue { takes = 0 }

@@ -23,6 +23,7 @@ pub enum Outlet {
 
 impl Inlet {
     /// Takes the next token, if one is there. `None` comes only where none was known.
+    #[inline]
     pub(crate) fn take(&mut self, shelf: &mut Shelf) -> Option<Date>
         requires { IfSome (inlet_queue self.old) (λ q. q < length shelf.old) }
         ensures same { bare_inlet self.new ≡ bare_inlet self.old }
@@ -42,6 +43,7 @@ impl Inlet {
 
 impl Outlet {
     /// Puts a token behind all others. It takes no memory.
+    #[inline]
     pub(crate) fn put(&mut self, shelf: &mut Shelf, date: Date)
         requires there { IfSome (outlet_queue self.old) (λ q. q < length shelf.old) }
         requires ring_room { HasRingRoom 1 self.old }

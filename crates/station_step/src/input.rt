@@ -16,6 +16,7 @@ pub(crate) struct Input {
 
 impl Input {
     /// Takes the next token into an empty hand, if one is there.
+    #[inline]
     pub(crate) fn refill(&mut self, shelf: &mut Shelf)
         requires { IfSome (inlet_queue self.old.inlet) (λ q. q < length shelf.old) }
         ensures refilled { IsRefilled shelf.old shelf.new self.old self.new }

@@ -8,6 +8,7 @@ mod outlets;
 mod shelf;
 mod station;
 mod stepped;
+mod tally;
 mod threads;
 
 pub use ends::{Inlet, Outlet};

@@ -11,15 +11,6 @@ use crate::shelf::Shelf;
 use event_graph::Graph;
 use line_base::Date;
 
-/// The date at which a token that station `t` puts on output `k` can be taken.
-fn later(graph: &Graph, t: u32, k: usize, date: Date) -> Date
-    requires station { t < stations graph.now }
-    requires output { k < length (outs graph.now t) }
-    ensures { result ≡ saturating date (delay graph.now (slice_index (outs graph.now t) k)) }
-{
-    date.saturating_add(graph.delay(graph.outs(t)[k]))
-}
-
 /// Puts a token on every output, later by the delay of its arc.
 pub(crate) fn put_all(
     graph: &Graph,
@@ -47,7 +38,9 @@ pub(crate) fn put_all(
     ensures others { (q : ℕ) → NonePuts q outlets.old.items →
         queue_at shelf.new q ≡ queue_at shelf.old q }
 {
+    let outs = graph.outs(t);
     for k in 0..outlets.len() {
-        outlets[k].put(shelf, later(graph, t, k, date));
+        let later = date.saturating_add(graph.delay(outs[k]));
+        outlets[k].put(shelf, later);
     }
 }

@@ -1,43 +1,78 @@
-ghost use Rattle.std.specs.Prelude.{◌≡◌, ◌<◌, ◌++◌, ◌∷◌, [], ◌↔◌, length, slice_set, IsNone, option_to_list};
+ghost use Rattle.std.specs.Prelude.{◌≡◌, ◌<◌, ◌+◌, ◌^◌, ◌++◌, ◌∷◌, [], ◌↔◌, All, map, length, slice_set, IfOk, IsNone, option_to_list};
 ghost use Rattle.card_queue.specs.Plain.{plain_taken, plain_waiting};
-ghost use Rattle.station_step.specs.Shelf.{queue_at, untaken};
+ghost use Rattle.station_step.specs.Shelf.{queue_at, new_queue, untaken};
 
-use card_queue::Plain;
+use crate::tally::Tally;
 use line_base::Date;
+use std::alloc::{AllocError, Global};
 use std::marker::Model;
 
 /// The plain queues of one worker, numbered from 0. Contracts see the list of them.
+///
+/// The tokens of all queues stand in one table, so that a walk over the queues touches neighbouring memory: token `n`
+/// of those put on queue `q` stands at `n * queues.len() + q`.
 #[derive(Drop)]
 pub struct Shelf {
-    queues: Vec<Plain>,
+    // The tokens that the queues began with, queue after queue.
+    firsts: Vec<Date>,
+    table: Vec<Date>,
+    queues: Vec<Tally>,
+    // How many tokens may be put on each queue.
+    room: u32,
 }
 
 impl Model for Shelf {
     ghost use Rattle.std.specs.Prelude.{List};
     ghost use Rattle.card_queue.specs.Plain.{PlainQueue};
+    ghost use Rattle.station_step.specs.Table.{seen_shelf, IsTable};
 
     ghost Value = { List PlainQueue };
 
-    ghost view = { λ s. s.queues.items };
+    ghost view = { λ s. seen_shelf s.firsts.items s.table.items s.room s.queues.items };
+
+    ghost invariant = { λ s. IsTable s.firsts.items s.table.items s.room s.queues.items };
 }
 
 impl Shelf {
-    /// The shelf with these queues. It takes no memory.
-    pub fn new(queues: Vec<Plain>) -> Shelf
-        ensures { result ≡ queues.items }
+    /// The shelf with a queue for each of these lists of tokens, which it begins with. `put` may be called `room` times
+    /// on each. Fails only for want of memory.
+    pub fn new(alloc: Global, firsts: Vec<Vec<Date>>, room: u32) -> Result<Shelf, AllocError>
+        requires few { length firsts.items < 2 ^ 32 }
+        requires small { All (λ tokens. length tokens.items + room < 2 ^ 32) firsts.items }
+        ensures { IfOk result (λ shelf. shelf ≡
+            map (λ tokens. new_queue room tokens.items) firsts.items) }
     {
-        Shelf { queues }
+        let table = vec![in alloc; 0; firsts.len() * room as usize]?;
+        let mut tokens = Vec::new(alloc);
+        let mut queues = Vec::with_capacity(alloc, firsts.len())?;
+        for first in &firsts {
+            queues.push(Tally {
+                start: tokens.len(),
+                initial: first.len() as u32,
+                puts: 0,
+                takes: 0,
+            })?;
+            tokens.extend_from_slice(first)?;
+        }
+        Ok(Shelf {
+            firsts: tokens,
+            table,
+            queues,
+            room,
+        })
     }
 
-    /// Queue `k`. It takes no memory.
-    pub fn queue(&self, k: u32) -> &Plain
+    /// How many tokens of queue `k` wait to be taken.
+    pub fn waiting(&self, k: u32) -> u32
         requires { k < length self.now }
-        ensures { result.now ≡ queue_at self.now k }
+        ensures { result ≡ length (plain_waiting (queue_at self.now k)) }
     {
-        &self.queues[k as usize]
+        let tally = &self.queues[k as usize];
+        tally.initial + tally.puts - tally.takes
     }
 
     /// Takes the front token of queue `k`, if there is one.
+    #[inline]
     pub(crate) fn take(&mut self, k: u32) -> Option<Date>
         requires { k < length self.old }
         ensures only { self.new ≡ slice_set self.old k (queue_at self.new k) }
@@ -46,10 +81,20 @@ impl Shelf {
         ensures none { IsNone result ↔ (plain_waiting (queue_at self.old k) ≡ []) }
         ensures puts { untaken (queue_at self.new k) ≡ untaken (queue_at self.old k) }
     {
-        self.queues[k as usize].take()
+        let columns = self.queues.len();
+        let tally = &mut self.queues[k as usize];
+        let token = tally.front(
+            self.firsts.as_slice(),
+            self.table.as_slice(),
+            columns,
+            k as usize,
+        )?;
+        tally.takes += 1;
+        Some(token)
     }
 
     /// Puts a token on queue `k`. It takes no memory.
+    #[inline]
     pub(crate) fn put(&mut self, k: u32, date: Date)
         requires there { k < length self.old }
         requires room { length (queue_at self.old k).added < (queue_at self.old k).room }
@@ -58,6 +103,9 @@ impl Shelf {
             record (queue_at self.old k) { added = (queue_at self.old k).added ++ date ∷ [] } }
         ensures taken { plain_taken (queue_at self.new k) ≡ plain_taken (queue_at self.old k) }
     {
-        self.queues[k as usize].put(date);
+        let columns = self.queues.len();
+        let tally = &mut self.queues[k as usize];
+        self.table[tally.puts as usize * columns + k as usize] = date;
+        tally.puts += 1;
     }
 }

@@ -10,7 +10,7 @@ ghost use Rattle.station_step.specs.Step.{IsReady, IsDone, HasFired, IfBlocked, 
 
 use crate::ends::{Inlet, Outlet, meet_ends};
 use crate::input::Input;
-use crate::inputs::{empty_hands, first_empty, next_date, refill, with_empty_hands};
+use crate::inputs::{next_date, refill, with_empty_hands};
 use crate::outlets::put_all;
 use crate::shelf::Shelf;
 use crate::stepped::Stepped;
@@ -139,12 +139,10 @@ impl Station {
         if done == graph.jobs() {
             return Stepped::Done;
         }
-        refill(&mut self.inputs, shelf);
-        if let Some(k) = first_empty(&self.inputs) {
+        if let Some(k) = refill(&mut self.inputs, shelf) {
             return Stepped::Blocked(graph.ins(self.number)[k]);
         }
-        let date = next_date(graph, self.number, done + 1, &self.inputs);
-        empty_hands(&mut self.inputs);
+        let date = next_date(graph, self.number, done + 1, &mut self.inputs);
         put_all(graph, self.number, &mut self.outlets, shelf, date);
         self.log.add(date);
         Stepped::Fired

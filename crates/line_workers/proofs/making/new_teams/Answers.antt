@@ -1,9 +1,9 @@
-use Rattle.std.proofs.Common.{◌+◌, ap, subst, sym, List, length, arith}
+use Rattle.std.proofs.Common.{ℕ, ◌+◌, ap, subst, sym, List, length, arith}
 use Rattle.std.proofs.lemmas.List.{length_push}
 use Rattle.event_graph.specs.Network.{stations}
 use Rattle.line_workers.specs.Share.{first_of}
 use Rattle.line_workers.specs.Team.{WorkTeam}
-use Rattle.line_workers.specs.Making.{AreNewTeams}
+use Rattle.line_workers.specs.Making.{AreNewTeams, MayShelve}
 use Rattle.line_workers.proofs.MadeStations.{fit-same, same-then, shelves-then, team-same, one_more_team, next-rises}
 use Rattle.line_workers.proofs.making.new_teams.Goals as goal
 
@@ -11,6 +11,12 @@ pub new_team-requires-clause-fit : goal.new_team-requires-clause-fit
 new_team-requires-clause-fit c =
     let g = c.args.live.now.graph in
     fit-same g c.args.state.now.state 0 (first_of c.args.workers (stations g) c.loop-worker.worker) c.args.ends c.loop-worker.ends (omega arith) c.loop-worker.invariant.rest c.requires.fit
+
+pub new_team-requires-clause-shelf : goal.new_team-requires-clause-shelf
+new_team-requires-clause-shelf c =
+    let w = c.loop-worker.worker in
+    subst (λ (l : List (List ℕ)). MayShelve c.args.live.now.graph l) (sym (c.loop-worker.invariant.shelves.shelves w (omega arith))) (
+    c.requires.each_shelf w)
 
 pub loop-worker-preserved : goal.loop-worker-preserved
 loop-worker-preserved c =

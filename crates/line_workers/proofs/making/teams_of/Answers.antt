@@ -1,3 +1,4 @@
+use Rattle.std.proofs.Common.{arith}
 use Rattle.std.specs.Prelude.{IfOk}
 use Rattle.line_workers.proofs.NewTeams.{HaveAll, all_new_ok, if_ok, laid_fit_from}
 use Rattle.line_workers.proofs.making.teams_of.Goals.{After-new_teams}
@@ -6,6 +7,11 @@ use Rattle.line_workers.proofs.making.teams_of.Goals as goal
 pub new_teams-requires-clause-fit : goal.new_teams-requires-clause-fit
 new_teams-requires-clause-fit c =
     laid_fit_from c.args.live.now.graph c.args.state.now.state c.args.workers c.in_ok-ends.ends c.in_ok-ends.ensures.sound c.in_ok-ends.ensures.laid
+
+pub new_teams-requires-clause-each_shelf : goal.new_teams-requires-clause-each_shelf
+new_teams-requires-clause-each_shelf c w =
+    let laid = c.in_ok-ends.ensures in
+    record { few = omega (arith, laid.laid.queues w, laid.few_arcs); small = laid.laid.small w }
 
 whole : (c : After-new_teams) → IfOk c.new_teams.result (λ teams. HaveAll c.args.live.now.graph c.args.state.now.state teams.items)
 whole c =

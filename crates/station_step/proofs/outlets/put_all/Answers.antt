@@ -1,4 +1,4 @@
-use Rattle.std.proofs.Common.{◌≡◌, ◌≢◌, ◌<◌, ◌++◌, ◌∷◌, [], ℕ, sym, subst, ap, ◌∙◌, arith, length, slice_index}
+use Rattle.std.proofs.Common.{◌≡◌, ◌≢◌, ◌<◌, ◌++◌, ◌∷◌, [], ℕ, List, sym, subst, ap, ◌∙◌, arith, length, slice_index}
 use Rattle.std.specs.Prelude.{Some}
 use Rattle.std.proofs.lemmas.List.{get_or_default}
 use Rattle.event_graph.specs.Network.{outs, delay}
@@ -29,8 +29,11 @@ loop-k-preserved c =
     let mid = c.loop-k.shelf in
     let new = c.put.new.shelf in
     let tokens = λ (j : ℕ). saturating c.args.date (delay c.args.graph.now (slice_index (outs c.args.graph.now c.args.t) j)) in
+    let later : c.saturating_add-later.result ≡ tokens k =
+    c.saturating_add-later.ensures
+    ∙ ap (saturating c.args.date) (c.delay.ensures.delay ∙ ap (λ (l : List ℕ). delay c.args.graph.now (slice_index l k)) c.outs-outs.ensures.arcs) in
     filled_more k tokens c.args.shelf.now mid new c.args.outlets.now.items items c.put.new.self c.requires.apart low c.loop-k.invariant
     (c.put.ensures.same ∙ ap bare_outlet at)
-    (c.put.ensures.added ∙ ap (λ n. outlet_added mid c.index_mut.result.now ++ n ∷ []) c.later.ensures ∙ ap (λ (o : Outlet). outlet_added mid o ++ tokens k ∷ []) at)
+    (c.put.ensures.added ∙ ap (λ n. outlet_added mid c.index_mut.result.now ++ n ∷ []) later ∙ ap (λ (o : Outlet). outlet_added mid o ++ tokens k ∷ []) at)
     c.put.ensures.only_puts
     (subst (λ (o : Outlet). (q : ℕ) → outlet_queue o ≢ Some q → queue_at new q ≡ queue_at mid q) at c.put.ensures.others)

@@ -10,5 +10,5 @@ returns c =
     let graph = subst IsGraph c.graph.ensures.graph c.arcs.ensures.graph in
     let same = arc-read g c.graph.result.now c.arcs.result.now c.args.a c.arcs.ensures.arcs c.graph.ensures.graph in
     on_ok c.lay.result _ _ (
-    laid_plain_read g c.args.state.now.state c.args.workers c.args.self.now c.shelve.new.self c.lay.new.self c.args.a c.args.worker c.in_ok-number.number read c.in_ok-new_plain.field-0 graph c.requires.arc same c.requires.laid c.requires.worker c.requires.puts c.requires.takes c.in_ok-new_plain.ensures c.in_ok-number.ensures.number c.in_ok-number.ensures.shelved)
+    laid_plain_read g c.args.state.now.state c.args.workers c.args.self.now c.shelve.new.self c.lay.new.self c.args.a c.args.worker c.in_ok-number.number read c.in_ok-tokens_on.field-0.items graph c.requires.arc same c.requires.laid c.requires.worker c.requires.puts c.requires.takes c.in_ok-tokens_on.ensures.tokens c.tokens_on.ensures.few c.in_ok-number.ensures.number c.in_ok-number.ensures.shelved)
     c.lay.ensures

@@ -13,6 +13,6 @@ loop-a-init c =
     c.args.state.now.state
     c.args.workers
     c.in_ok-ends.ends
+    c.in_ok-ends.ensures.shelves
     (c.in_ok-ends.ensures.outlets ∙ ap (λ n. replicate {A = List Outlet} n []) many)
     (c.in_ok-ends.ensures.inlets ∙ ap (λ n. replicate {A = List Inlet} n []) many)
-    c.in_ok-ends.ensures.shelves

@@ -1,6 +1,6 @@
 use Rattle.std.proofs.Common.{ap}
 use Rattle.line_workers.specs.Making.{QueueEnds}
-use Rattle.line_workers.proofs.LaidLists.{map-with_one}
+use Rattle.line_workers.proofs.LaidLists.{map-with_tokens}
 use Rattle.line_workers.proofs.LaidEnds.{ends-same}
 use Rattle.line_workers.proofs.laying.Ends.shelve.Goals as goal
 
@@ -15,4 +15,4 @@ returns-clause-shelved c =
     _
     (ap (λ (e : QueueEnds). e.outlets) c.self.view_is)
     (ap (λ (e : QueueEnds). e.inlets) c.self.view_is)
-    (map-with_one c.self.inside.shelves.items c.args.worker c.index_mut.result.now c.push.new.self c.args.plain c.args.self.now.shelves (ap (λ (e : QueueEnds). e.shelves) c.self.view_is) c.requires.worker c.index_mut.ensures.value c.in_ok-push.ensures.items)
+    (map-with_tokens c.self.inside.shelves.items c.args.worker c.index_mut.result.now c.push.new.self c.args.tokens c.args.self.now.shelves (ap (λ (e : QueueEnds). e.shelves) c.self.view_is) c.requires.worker c.index_mut.ensures.value c.in_ok-push.ensures.items)

@@ -1,7 +1,6 @@
-use Rattle.std.proofs.Common.{Vec, Global, ap, ◌∙◌}
-use Rattle.card_queue.specs.Plain.{PlainQueue}
+use Rattle.std.proofs.Common.{Vec, Global, ℕ, ap, ◌∙◌}
 use Rattle.line_workers.specs.Making.{QueueEnds}
-use Rattle.line_workers.proofs.LaidLists.{map-emptied}
+use Rattle.line_workers.proofs.LaidLists.{map-no_tokens}
 use Rattle.line_workers.proofs.LaidEnds.{ends-same}
 use Rattle.line_workers.proofs.laying.Ends.take_shelf.Goals as goal
 
@@ -16,4 +15,4 @@ returns-clause-rest c =
     _
     (ap (λ (e : QueueEnds). e.outlets) c.self.view_is)
     (ap (λ (e : QueueEnds). e.inlets) c.self.view_is)
-    (map-emptied c.self.inside.shelves.items c.args.worker c.replace.new.dest c.args.self.now.shelves (ap (λ (e : QueueEnds). e.shelves) c.self.view_is) (ap (λ (v : Vec PlainQueue Global). v.items) c.replace.ensures.after ∙ c.new.ensures.items))
+    (map-no_tokens c.self.inside.shelves.items c.args.worker c.replace.new.dest c.args.self.now.shelves (ap (λ (e : QueueEnds). e.shelves) c.self.view_is) (ap (λ (v : Vec (Vec ℕ Global) Global). v.items) c.replace.ensures.after ∙ c.new.ensures.items))

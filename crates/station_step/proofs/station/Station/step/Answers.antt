@@ -38,7 +38,7 @@ returns-in-Some-clause-ready c =
     ready-others c.args.shelf.now c.refill.new.shelf c.args.self.now (own_in_waiting c) (grows-waits c.args.shelf.now c.refill.new.shelf c.refill.ensures.only_takes)
 
 -- the firing, as the lemmas have it
-firing : (c : goal.After-add) → IsFiring c.args.shelf.now c.refill.new.shelf c.put_all.new.shelf (the_view c.self.inside) c.refill.new.inputs.items c.empty_hands.new.inputs.items c.put_all.new.outlets.items c.next_date-date.result
+firing : (c : goal.After-add) → IsFiring c.args.shelf.now c.refill.new.shelf c.put_all.new.shelf (the_view c.self.inside) c.refill.new.inputs.items c.next_date-date.new.inputs.items c.put_all.new.outlets.items c.next_date-date.result
 firing c =
     let s = the_view c.self.inside in
     let full = c.refill.new.inputs.items in
@@ -46,15 +46,15 @@ firing c =
     let token : ℕ → ℕ = λ k. unwrap_or (input_at full k).hand 0 in
     let graph : c.graph-graph.result.now ≡ s.graph =
     c.graph-graph.ensures.graph ∙ c.requires.made_for ∙ sym (ap (λ (w : WorkStation). w.graph) c.self.view_is) in
-    let dated : date ≡ date_for c.graph-graph.result.now s.number (length c.dates.result.now + 1) token = c.next_date-date.ensures in
+    let dated : date ≡ date_for c.graph-graph.result.now s.number (length c.dates.result.now + 1) token = c.next_date-date.ensures.date in
     record {
       full_count = c.refill.ensures.count;
-      empty_count = c.empty_hands.ensures.count;
+      empty_count = c.next_date-date.ensures.count;
       outlet_count = c.put_all.ensures.count;
       refilled = c.refill.ensures.each;
       are_full = c.in_default.ensures.none;
-      inlets = c.empty_hands.ensures.inlets;
-      are_empty = c.empty_hands.ensures.hands;
+      inlets = c.next_date-date.ensures.inlets;
+      are_empty = c.next_date-date.ensures.hands;
       date_is = dated
           ∙ ap (λ (g : Parts). date_for g s.number (length c.dates.result.now + 1) token) graph
           ∙ ap (λ (l : List ℕ). date_for s.graph s.number (length l + 1) token) c.dates.ensures;
@@ -74,14 +74,14 @@ some_left c all =
     c.if-done-jobs.false (ap length c.dates.ensures ∙ all ∙ sym (ap jobs graph) ∙ sym c.jobs.ensures.count)
 
 -- the station after it
-fires_soundly : (c : goal.After-add) → IsStation (fired_station (the_view c.self.inside) c.empty_hands.new.inputs.items c.put_all.new.outlets.items c.next_date-date.result (c.self.inside.turns + 1))
+fires_soundly : (c : goal.After-add) → IsStation (fired_station (the_view c.self.inside) c.next_date-date.new.inputs.items c.put_all.new.outlets.items c.next_date-date.result (c.self.inside.turns + 1))
 fires_soundly c =
-    station-fires c.args.shelf.now c.refill.new.shelf c.put_all.new.shelf (the_view c.self.inside) c.refill.new.inputs.items c.empty_hands.new.inputs.items c.put_all.new.outlets.items c.next_date-date.result (c.self.inside.turns + 1) c.self.invariant (some_left c) (firing c)
+    station-fires c.args.shelf.now c.refill.new.shelf c.put_all.new.shelf (the_view c.self.inside) c.refill.new.inputs.items c.next_date-date.new.inputs.items c.put_all.new.outlets.items c.next_date-date.result (c.self.inside.turns + 1) c.self.invariant (some_left c) (firing c)
 
 -- with its log as the call leaves it
 abbrev with_log : (c : goal.After-add) → RoomyLog → WorkStation
 with_log c log = record (the_view c.self.inside) {
-  inputs = c.empty_hands.new.inputs.items;
+  inputs = c.next_date-date.new.inputs.items;
   outlets = c.put_all.new.outlets.items;
   log = log;
   turns = c.self.inside.turns + 1;
@@ -100,9 +100,9 @@ returns-clause-seated c =
     let was : IsSeated old (the_view c.self.inside) = subst (IsSeated old) (sym c.self.view_is) c.requires.seated in
     seated-same old new (the_view c.self.inside) (with_log c c.add.new.self)
     (c.put_all.ensures.only_puts.count ∙ c.refill.ensures.only_takes.count)
-    (c.empty_hands.ensures.count ∙ c.refill.ensures.count)
+    (c.next_date-date.ensures.count ∙ c.refill.ensures.count)
     c.put_all.ensures.count
-    (c.empty_hands.ensures.same ∙ c.refill.ensures.same)
+    (c.next_date-date.ensures.same ∙ c.refill.ensures.same)
     c.put_all.ensures.same
     was
 
@@ -111,7 +111,7 @@ returns-clause-kept c =
     let old = c.args.shelf.now in
     let new = c.put_all.new.shelf in
     let kept : IsKept old (the_view c.self.inside) → IsKept new (with_log c (with_date c.self.inside.log c.next_date-date.result)) =
-    kept-fires old c.refill.new.shelf new (the_view c.self.inside) c.refill.new.inputs.items c.empty_hands.new.inputs.items c.put_all.new.outlets.items c.next_date-date.result (c.self.inside.turns + 1) c.self.invariant (firing c) in
+    kept-fires old c.refill.new.shelf new (the_view c.self.inside) c.refill.new.inputs.items c.next_date-date.new.inputs.items c.put_all.new.outlets.items c.next_date-date.result (c.self.inside.turns + 1) c.self.invariant (firing c) in
     subst (λ (s : WorkStation). IsKept old s → IsKept new (with_log c c.add.new.self)) c.self.view_is
     (subst (λ (log : RoomyLog). IsKept old (the_view c.self.inside) → IsKept new (with_log c log)) (sym c.add.ensures) kept)
 

@@ -1,0 +1,63 @@
+use Rattle.std.proofs.Common.{◌≡◌, ◌<◌, ℕ, ◌+◌, ◌*◌, ◌^◌, ◌∷◌, [], ◌++◌, List, length, get_or, sym, ap, ◌∙◌, arith, subst}
+use Rattle.std.specs.Prelude.{Vec, slice_index_or}
+use Rattle.std.specs.declared.alloc.Global.{Global}
+use Rattle.std.proofs.lemmas.List.{get_or-map, length-map}
+use Rattle.station_step.specs.declared.tally.Tally.{Tally}
+use Rattle.station_step.proofs.Laying.{LaidUpTo, items_of, laid_none, laid_more, seen-laid, table-laid, new-queues}
+use Rattle.station_step.proofs.shelf.Shelf.new.Goals as goal
+
+pub loop-first-init : goal.loop-first-init
+loop-first-init c =
+    laid_none (items_of c.args.firsts.items) c.new-tokens.result.items c.in_ok-queues.queues.items c.in_ok-queues.ensures.items
+
+pub loop-first-preserved : goal.loop-first-preserved
+loop-first-preserved c =
+    let firsts = c.args.firsts.items in
+    let n = c.loop-first.first-index in
+    let tokens = c.loop-first.tokens.items in
+    let tallies = c.loop-first.queues.items in
+    let first = c.deref.result.now in
+    let v = c.first-item.result in
+    let low : n < length firsts = omega (arith, c.loop-first-test.true, ap length c.deref-first-items.ensures.value) in
+    let first_is : first ≡ slice_index_or (items_of firsts) n [] =
+    c.deref.ensures.value
+    ∙ ap (λ (w : Vec ℕ Global). w.items) (c.first-item.is ∙ ap (λ (l : List (Vec ℕ Global)). get_or l n v) c.deref-first-items.ensures.value)
+    ∙ sym (get_or-map (λ (w : Vec ℕ Global). w.items) firsts n v [] low) in
+    let tally : ℕ → ℕ → Tally = λ start initial. record { start = start; initial = initial; puts = 0; takes = 0 } in
+    let start : length tokens ≡ c.len-in-loop-first.result =
+    omega (arith, c.len-in-loop-first.ensures, c.loop-first.tokens.ok.0) in
+    let initial : length first ≡ c.len-in-loop-first-2.result =
+    omega (arith, c.len-in-loop-first-2.ensures, ap length c.deref.ensures.value, v.ok.0) in
+    let pushed : tallies ++ tally (length tokens) (length first) ∷ [] ≡ c.push.new.self.items =
+    ap (λ (m : ℕ). tallies ++ tally m (length first) ∷ []) start
+    ∙ ap (λ (m : ℕ). tallies ++ tally c.len-in-loop-first.result m ∷ []) initial
+    ∙ sym c.in_ok-push.ensures.items in
+    subst (LaidUpTo (n + 1) (items_of firsts) c.extend_from_slice.new.self.items) pushed
+    (subst (λ (l : List ℕ). LaidUpTo (n + 1) (items_of firsts) l (tallies ++ tally (length tokens) (length first) ∷ [])) (sym c.in_ok-extend_from_slice.ensures.items)
+    (laid_more n (items_of firsts) tokens first tallies first_is c.loop-first.invariant))
+
+pub invariant_of-result : goal.invariant_of-result
+invariant_of-result c =
+    let firsts = c.args.firsts.items in
+    let tokens = c.loop-first.tokens.items in
+    let tallies = c.loop-first.queues.items in
+    let count : length (items_of firsts) ≡ length firsts = length-map firsts (λ (w : Vec ℕ Global). w.items) in
+    let all : c.loop-first.first-index ≡ length (items_of firsts) =
+    omega (arith, c.loop-first-test.false, c.loop-first.auto.first-index-end, ap length c.deref-first-items.ensures.value, count) in
+    let small : (q : ℕ) → q < length (items_of firsts) → length (slice_index_or (items_of firsts) q []) + c.args.room < 2 ^ 32 =
+    λ q less.
+    let low : q < length firsts = omega (arith, less, count) in
+    omega (arith, c.requires.small q c.loop-first.tokens low, ap length (get_or-map (λ (w : Vec ℕ Global). w.items) firsts q c.loop-first.tokens [] low)) in
+    table-laid (items_of firsts) tokens c.in_ok-table.table.items c.args.room tallies small
+    (sym c.in_ok-table.table.ok.0 ∙ c.in_ok-table.ensures.len ∙ ap (λ (m : ℕ). m * c.args.room) (c.len.ensures ∙ c.args.firsts.ok.0 ∙ sym count))
+    (subst (λ (m : ℕ). LaidUpTo m (items_of firsts) tokens tallies) all c.loop-first.invariant)
+
+pub returns : goal.returns
+returns c =
+    let firsts = c.args.firsts.items in
+    let tokens = c.loop-first.tokens.items in
+    let tallies = c.loop-first.queues.items in
+    let all : c.loop-first.first-index ≡ length (items_of firsts) =
+    omega (arith, c.loop-first-test.false, c.loop-first.auto.first-index-end, ap length c.deref-first-items.ensures.value, length-map firsts (λ (w : Vec ℕ Global). w.items)) in
+    seen-laid (items_of firsts) tokens c.in_ok-table.table.items c.args.room tallies (subst (λ (m : ℕ). LaidUpTo m (items_of firsts) tokens tallies) all c.loop-first.invariant)
+    ∙ new-queues c.args.room firsts
