@@ -25,3 +25,5 @@ mod of_live_check;
 mod of_plant_file;
 #[cfg(test)]
 mod of_plant_model;
+#[cfg(test)]
+mod same;

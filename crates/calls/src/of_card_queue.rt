@@ -1,5 +1,6 @@
 ghost use Rattle.std.specs.Prelude.{◌≡◌, ◌+◌, ◌≤◌, length, IfOk};
 
+use crate::same::same;
 use card_queue::{Plain, Put, Take, meet, queue};
 use line_base::Date;
 use std::alloc::AllocError;
@@ -9,14 +10,14 @@ use std::thread;
 #[test]
 fn takes_give_the_tokens_in_order_of_putting(rt: HostRuntime) -> Result<(), Fail> {
     let (mut put, mut take) = queue(rt.alloc(), &[0, 0], 3)?;
-    assert_eq!(rt; take.known(), 2);
-    assert_eq!(rt; take.take(), Some(0));
+    same(&rt, take.known(), 2);
+    same(&rt, take.take(), Some(0));
     put.put(4);
     put.put(9);
     meet(&mut put, &mut take);
-    assert_eq!(rt; take.known(), 3);
+    same(&rt, take.known(), 3);
     for date in [Some(0), Some(4), Some(9), None] {
-        assert_eq!(rt; take.take(), date);
+        same(&rt, take.take(), date);
     }
     Ok(())
 }
@@ -25,18 +26,18 @@ fn takes_give_the_tokens_in_order_of_putting(rt: HostRuntime) -> Result<(), Fail
 fn a_take_looks_past_what_a_meeting_told(rt: HostRuntime) -> Result<(), Fail> {
     let (mut put, mut take) = queue(rt.alloc(), &[], 1)?;
     put.put(7);
-    assert_eq!(rt; take.take(), Some(7));
+    same(&rt, take.take(), Some(7));
     Ok(())
 }
 
 #[test]
 fn a_plain_queue_gives_its_front_token(rt: HostRuntime) -> Result<(), Fail> {
     let mut plain = Plain::new(rt.alloc(), &[0], 2)?;
-    assert_eq!(rt; plain.len(), 1);
-    assert_eq!(rt; plain.take(), Some(0));
-    assert_eq!(rt; plain.take(), None);
+    same(&rt, plain.len(), 1);
+    same(&rt, plain.take(), Some(0));
+    same(&rt, plain.take(), None);
     plain.put(7);
-    assert_eq!(rt; plain.take(), Some(7));
+    same(&rt, plain.take(), Some(7));
     Ok(())
 }
 
@@ -80,7 +81,7 @@ fn two_threads_move_every_date_in_order(rt: HostRuntime) -> Result<(), Fail> {
     let (mut put, given) = putter?;
     let (mut take, taken) = taker?;
     meet(&mut put, &mut take);
-    assert_eq!(rt; taken.len() + take.known() as usize, given.len());
+    same(&rt, taken.len() + take.known() as usize, given.len());
     let (_, taken) = take_some(take, taken)?;
     assert!(rt; taken == given);
     Ok(())
@@ -95,7 +96,7 @@ fn sent<T: Send>(value: T) -> T {
 fn queues_may_move_to_another_thread(rt: HostRuntime) -> Result<(), Fail> {
     let (put, take) = queue(rt.alloc(), &[5], 0)?;
     let _ = sent(put);
-    assert_eq!(rt; sent(take).take(), Some(5));
-    assert_eq!(rt; sent(Plain::new(rt.alloc(), &[6], 0)?).take(), Some(6));
+    same(&rt, sent(take).take(), Some(5));
+    same(&rt, sent(Plain::new(rt.alloc(), &[6], 0)?).take(), Some(6));
     Ok(())
 }

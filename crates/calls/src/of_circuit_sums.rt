@@ -1,26 +1,43 @@
-use circuit_sums::{CircuitKind, bound_of, card_circuits, sum};
+use crate::same::same;
+use circuit_sums::{CardCircuit, CircuitKind, bound_of, card_circuits, sum};
 use event_graph::Marking;
+use line_base::Items;
 use sample_plants::{live_of, two_stages};
+use std::alloc::Global;
+use std::process::Abort;
 use std::test::Fail;
 
+/// The card circuits of the two stages.
+fn circuits(alloc: Global) -> Result<Items<CardCircuit>, Fail> {
+    let plant = two_stages(alloc)?;
+    let live = live_of(alloc, &plant)?;
+    Ok(card_circuits(alloc, &plant, live.graph())?)
+}
+
+/// Asserts that a circuit is of a stage with one card, and goes by these arcs.
+fn is_of_stage(rt: &impl Abort, circuit: &CardCircuit, stage: u32, arcs: &[u32]) {
+    same(rt, circuit.kind, CircuitKind::Stage(stage));
+    same(rt, circuit.arcs.as_slice(), arcs);
+    same(rt, circuit.number, 1);
+}
+
 #[test]
-fn circuits_and_bounds_are_of_the_cards(rt: HostRuntime) -> Result<(), Fail> {
-    let plant = two_stages(rt.alloc())?;
-    let live = live_of(rt.alloc(), &plant)?;
-    let circuits = card_circuits(rt.alloc(), &plant, live.graph())?;
+fn circuits_are_of_the_cards(rt: HostRuntime) -> Result<(), Fail> {
+    let circuits = circuits(rt.alloc())?;
     let [cut, weld] = circuits.as_slice() else {
         return Err("there are two circuits".into());
     };
-    assert_eq!(rt; cut.kind, CircuitKind::Stage(0));
-    assert_eq!(rt; cut.arcs.as_slice(), [0, 3, 9].as_slice());
-    assert_eq!(rt; weld.kind, CircuitKind::Stage(1));
-    assert_eq!(rt; weld.arcs.as_slice(), [4, 7, 10].as_slice());
-    assert_eq!(rt; [cut.number, weld.number], [1, 1]);
-    assert_eq!(rt; plant.stages.len(), 2);
-    assert_eq!(rt;
-        [bound_of(&plant, 0), bound_of(&plant, 1)],
-        [Some(1), Some(1)]
-    );
+    is_of_stage(&rt, cut, 0, &[0, 3, 9]);
+    is_of_stage(&rt, weld, 1, &[4, 7, 10]);
+    Ok(())
+}
+
+#[test]
+fn bounds_are_of_the_cards(rt: HostRuntime) -> Result<(), Fail> {
+    let plant = two_stages(rt.alloc())?;
+    assert!(rt; plant.stages.len() == 2);
+    let bounds = [bound_of(&plant, 0), bound_of(&plant, 1)];
+    same(&rt, bounds, [Some(1), Some(1)]);
     Ok(())
 }
 
@@ -28,12 +45,12 @@ fn circuits_and_bounds_are_of_the_cards(rt: HostRuntime) -> Result<(), Fail> {
 fn sums_are_of_the_named_places(rt: HostRuntime) -> Result<(), Fail> {
     // The two stages after the feed and the delivery have fired: a card of `weld` lies on its way back.
     let marking = Marking::of(vec![in rt.alloc(); 0, 1, 1, 1, 0, 1, 1, 0, 0, 0, 1]?);
-    assert_eq!(rt; sum(&marking, &[0, 3, 9]), 1);
-    assert_eq!(rt; sum(&marking, &[4, 7, 10]), 1);
-    assert_eq!(rt; sum(&marking, &[1, 2, 3, 5]), 4);
-    assert_eq!(rt; sum(&marking, &[3, 3]), 2);
-    assert_eq!(rt; sum(&marking, &[]), 0);
+    same(&rt, sum(&marking, &[0, 3, 9]), 1);
+    same(&rt, sum(&marking, &[4, 7, 10]), 1);
+    same(&rt, sum(&marking, &[1, 2, 3, 5]), 4);
+    same(&rt, sum(&marking, &[3, 3]), 2);
+    same(&rt, sum(&marking, &[]), 0);
     let large = Marking::of(vec![in rt.alloc(); u32::MAX, u32::MAX]?);
-    assert_eq!(rt; sum(&large, &[0, 1, 0]), 12_884_901_885);
+    same(&rt, sum(&large, &[0, 1, 0]), 12_884_901_885);
     Ok(())
 }

@@ -1,3 +1,4 @@
+use crate::same::same;
 use command_words::{Command, FileName, Stop, WordsError, read_words};
 use std::alloc::{AllocError, Global};
 use std::test::Fail;
@@ -21,7 +22,7 @@ fn a_run_takes_its_options_in_any_order(rt: HostRuntime) -> Result<(), Fail> {
         ),
     ];
     for (line, wanted) in cases {
-        assert_eq!(rt; answer(rt.alloc(), line)?.as_str(), wanted);
+        same(&rt, answer(rt.alloc(), line)?.as_str(), wanted);
     }
     Ok(())
 }
@@ -44,7 +45,7 @@ fn other_commands_take_their_operands(rt: HostRuntime) -> Result<(), Fail> {
         ("--version", "version"),
     ];
     for (line, wanted) in cases {
-        assert_eq!(rt; answer(rt.alloc(), line)?.as_str(), wanted);
+        same(&rt, answer(rt.alloc(), line)?.as_str(), wanted);
     }
     Ok(())
 }
@@ -61,7 +62,7 @@ fn other_words_are_no_command(rt: HostRuntime) -> Result<(), Fail> {
         "cards a.toml 10000000000000001",
     ];
     for line in lines {
-        assert_eq!(rt; answer(rt.alloc(), line)?.as_str(), "none");
+        same(&rt, answer(rt.alloc(), line)?.as_str(), "none");
     }
     Ok(())
 }

@@ -1,3 +1,4 @@
+use crate::same::same;
 use event_graph::{Arc, Graph, GraphError, Marking};
 use sample_plants::{plain, two_stations};
 use std::alloc::Global;
@@ -7,7 +8,7 @@ use std::test::Fail;
 /// Asserts the fault of two stations with these arcs, none of which has a delay.
 fn is_refused(rt: &impl Abort, alloc: Global, arcs: &[Arc], fault: GraphError) -> Result<(), Fail> {
     let delays = vec![in alloc; 0; arcs.len()]?;
-    assert_eq!(rt; two_stations(alloc, arcs, &delays)?.err(), Some(fault));
+    same(rt, two_stations(alloc, arcs, &delays)?.err(), Some(fault));
     Ok(())
 }
 
@@ -48,26 +49,26 @@ fn a_graph_tells_its_parts(rt: HostRuntime) -> Result<(), Fail> {
 
 /// Asserts what a graph tells of its two arcs, one from the feed with delay 4, and an own one with delay 2.
 fn tells_its_arcs(rt: &impl Abort, graph: &Graph, arcs: &[Arc]) {
-    assert_eq!(rt; graph.arcs(), arcs);
+    same(rt, graph.arcs(), arcs);
     assert!(rt; graph.arcs().len() == 2);
-    assert_eq!(rt; [graph.tokens(0), graph.tokens(1)], [0, 1]);
-    assert_eq!(rt; [graph.delay(0), graph.delay(1)], [4, 2]);
+    same(rt, [graph.tokens(0), graph.tokens(1)], [0, 1]);
+    same(rt, [graph.delay(0), graph.delay(1)], [4, 2]);
 }
 
 /// Asserts what a graph tells of the feed and of a station that takes 3 for each of two jobs.
 fn tells_its_stations(rt: &impl Abort, graph: &Graph) {
     assert!(rt; graph.stations() == 2 && graph.jobs() == 2);
-    assert_eq!(rt; graph.ins(1), [0, 1].as_slice());
-    assert_eq!(rt; graph.outs(1), [1].as_slice());
-    assert_eq!(rt; [graph.time(0, 1), graph.time(1, 2)], [0, 3]);
-    assert_eq!(rt; graph.demand(2), 0);
-    assert_eq!(rt; graph.label(0), b"feed".as_slice());
-    assert_eq!(rt; graph.label(1), b"a".as_slice());
+    same(rt, graph.ins(1), [0, 1].as_slice());
+    same(rt, graph.outs(1), [1].as_slice());
+    same(rt, [graph.time(0, 1), graph.time(1, 2)], [0, 3]);
+    same(rt, graph.demand(2), 0);
+    same(rt, graph.label(0), b"feed".as_slice());
+    same(rt, graph.label(1), b"a".as_slice());
 }
 
 #[test]
 fn a_marking_tells_its_lengths(rt: HostRuntime) -> Result<(), Fail> {
     let marking = Marking::of(vec![in rt.alloc(); 3, 0, 1]?);
-    assert_eq!(rt; marking.lengths(), [3, 0, 1].as_slice());
+    same(&rt, marking.lengths(), [3, 0, 1].as_slice());
     Ok(())
 }

@@ -1,3 +1,4 @@
+use crate::same::same;
 use line_base::{
     Items, Label, Log, Logs, Name, NameError, Times, digits, is_checkpoint_name, is_file_name,
     number_of,
@@ -16,7 +17,7 @@ fn numbers_are_written(rt: HostRuntime) {
     for (number, text) in cases {
         let mut buffer = [b'x'; 40];
         let length = digits(number, &mut buffer) as usize;
-        assert_eq!(rt; buffer.get(..length), Some(text));
+        same(&rt, buffer.get(..length), Some(text));
     }
 }
 
@@ -39,7 +40,11 @@ fn numbers_are_read_by_one_spelling(rt: HostRuntime) {
         (b"\xff", 99, None),
     ];
     for (text, most, number) in cases {
-        assert_eq!(rt; number_of(text, most), number, "{text:?} up to {most}");
+        same(
+            &rt,
+            (text, most, number_of(text, most)),
+            (text, most, number),
+        );
     }
 }
 
@@ -58,8 +63,8 @@ fn names_keep_their_rule(rt: HostRuntime) {
     ];
     for (text, good) in cases {
         match Name::of(rt.alloc(), text) {
-            Ok(name) => assert_eq!(rt; (name.text(), good), (text, true)),
-            Err(error) => assert_eq!(rt; (error, good), (NameError::BadName, false)),
+            Ok(name) => same(&rt, (name.text(), good), (text, true)),
+            Err(error) => same(&rt, (error, good), (NameError::BadName, false)),
         }
     }
 }
@@ -76,30 +81,45 @@ fn files_and_checkpoints_have_other_names(rt: HostRuntime) {
         (b"a\n.toml", false, false),
     ];
     for (text, file, checkpoint) in cases {
-        assert_eq!(rt; is_file_name(text), file, "{text:?}");
-        assert_eq!(rt; is_checkpoint_name(text), checkpoint, "{text:?}");
+        same(
+            &rt,
+            (text, is_file_name(text), is_checkpoint_name(text)),
+            (text, file, checkpoint),
+        );
     }
 }
 
 #[test]
-fn lists_keep_what_they_are_given(rt: HostRuntime) -> Result<(), Fail> {
-    let alloc = rt.alloc();
-    assert_eq!(rt; Label::of(alloc, b"cut.saw")?.text(), b"cut.saw".as_slice());
+fn a_label_keeps_its_text(rt: HostRuntime) -> Result<(), Fail> {
+    let label = Label::of(rt.alloc(), b"cut.saw")?;
+    same(&rt, label.text(), b"cut.saw".as_slice());
+    Ok(())
+}
 
-    let mut logs = Logs::new(alloc, 2)?;
-    logs.add(Log::new(alloc, 1)?);
-    logs.add(Log::new(alloc, 2)?);
+#[test]
+fn logs_keep_their_dates(rt: HostRuntime) -> Result<(), Fail> {
+    let mut logs = Logs::new(rt.alloc(), 2)?;
+    logs.add(Log::new(rt.alloc(), 1)?);
+    logs.add(Log::new(rt.alloc(), 2)?);
     logs.add_to(1, 4);
     logs.add_to(1, 9);
-    assert_eq!(rt; logs.get(0).dates(), [].as_slice());
-    assert_eq!(rt; logs.get(1).dates(), [4, 9].as_slice());
+    same(&rt, logs.get(0).dates(), [].as_slice());
+    same(&rt, logs.get(1).dates(), [4, 9].as_slice());
+    Ok(())
+}
 
-    let each = Times::Each(Items::from_vec(vec![in alloc; 10, 1]?));
-    assert_eq!(rt; [each.at(1), each.at(2), each.at(3)], [10, 1, 0]);
-    assert_eq!(rt; Times::Fixed(3).at(7), 3);
+#[test]
+fn times_are_of_their_job(rt: HostRuntime) -> Result<(), Fail> {
+    let each = Times::Each(Items::from_vec(vec![in rt.alloc(); 10, 1]?));
+    same(&rt, [each.at(1), each.at(2), each.at(3)], [10, 1, 0]);
+    same(&rt, Times::Fixed(3).at(7), 3);
+    Ok(())
+}
 
-    let items = Items::from_vec(vec![in alloc; 5u8, 6]?);
-    assert_eq!(rt; items.is_empty(), false);
-    assert_eq!(rt; items.into_vec().as_slice(), [5, 6].as_slice());
+#[test]
+fn items_keep_their_elements(rt: HostRuntime) -> Result<(), Fail> {
+    let items = Items::from_vec(vec![in rt.alloc(); 5u8, 6]?);
+    same(&rt, items.is_empty(), false);
+    same(&rt, items.into_vec().as_slice(), [5, 6].as_slice());
     Ok(())
 }

@@ -1,3 +1,4 @@
+use crate::same::same;
 use line_io::{
     Failed, FileStore, Files, MemSink, MemStore, Outgoing, Sink, StdSink, Store, StoreError,
     put_all,
@@ -5,6 +6,7 @@ use line_io::{
 use std::alloc::{AllocError, Global};
 use std::cell::Cell;
 use std::fmt::Display;
+use std::process::Abort;
 use std::test::Fail;
 use std::{fs, io};
 
@@ -32,7 +34,7 @@ fn a_store_in_memory_reads_whole_files_up_to_a_limit(rt: HostRuntime) -> Result<
     ];
     for (name, limit, length) in cases {
         let read = store.read(alloc, name, limit).map(|bytes| bytes.len());
-        assert_eq!(rt; read, length);
+        same(&rt, read, length);
     }
     Ok(())
 }
@@ -42,9 +44,17 @@ fn a_write_gives_a_file_its_bytes(rt: HostRuntime) -> Result<(), Fail> {
     let alloc = rt.alloc();
     let mut store = MemStore::new(alloc, file_a(alloc, "old")?, vec![in alloc; 2]?);
     store.write("b", b"newer")?;
-    assert_eq!(rt; store.write("a", b"newer"), Err(StoreError::Failed));
-    assert_eq!(rt; store.read(alloc, "a", 9)?.as_slice(), b"old".as_slice());
-    assert_eq!(rt; store.read(alloc, "b", 9)?.as_slice(), b"newer".as_slice());
+    same(&rt, store.write("a", b"newer"), Err(StoreError::Failed));
+    same(
+        &rt,
+        store.read(alloc, "a", 9)?.as_slice(),
+        b"old".as_slice(),
+    );
+    same(
+        &rt,
+        store.read(alloc, "b", 9)?.as_slice(),
+        b"newer".as_slice(),
+    );
     Ok(())
 }
 
@@ -61,31 +71,36 @@ fn torn(alloc: Global, name: &str, keep: u32) -> Result<Vec<u8>, Fail> {
 #[test]
 fn a_torn_write_leaves_a_front_of_the_bytes(rt: HostRuntime) -> Result<(), Fail> {
     let alloc = rt.alloc();
-    assert_eq!(rt; torn(alloc, "a", 0)?.as_slice(), b"".as_slice());
-    assert_eq!(rt; torn(alloc, "a", 2)?.as_slice(), b"ne".as_slice());
-    assert_eq!(rt; torn(alloc, "b", 2)?.as_slice(), b"ne".as_slice());
-    assert_eq!(rt; torn(alloc, "a", 9)?.as_slice(), b"newer".as_slice());
+    same(&rt, torn(alloc, "a", 0)?.as_slice(), b"".as_slice());
+    same(&rt, torn(alloc, "a", 2)?.as_slice(), b"ne".as_slice());
+    same(&rt, torn(alloc, "b", 2)?.as_slice(), b"ne".as_slice());
+    same(&rt, torn(alloc, "a", 9)?.as_slice(), b"newer".as_slice());
+    Ok(())
+}
+
+/// Asserts what a sink with this room holds whose second put fails and keeps so many bytes.
+fn sink_holds(
+    rt: &impl Abort,
+    alloc: Global,
+    room: u32,
+    keep: u32,
+    written: &[u8],
+) -> Result<(), Fail> {
+    let mut sink = MemSink::new(alloc, room, vec![in alloc; 2]?, keep)?;
+    let _ = sink.put(b"one");
+    let _ = sink.put(b"two");
+    let _ = sink.put(b"six");
+    same(rt, sink.written(), written);
     Ok(())
 }
 
 #[test]
 fn a_sink_in_memory_refuses_by_number_and_by_room(rt: HostRuntime) -> Result<(), Fail> {
-    let alloc = rt.alloc();
-    let cases: [(u32, u32, &[u8]); 5] = [
-        (9, 0, b"onesix"),
-        (9, 2, b"onetwsix"),
-        (9, 7, b"onetwosix"),
-        (5, 7, b"onetw"),
-        (8, 1, b"onetsix"),
-    ];
-    for (room, keep, written) in cases {
-        let mut sink = MemSink::new(alloc, room, vec![in alloc; 2]?, keep)?;
-        let _ = sink.put(b"one");
-        let _ = sink.put(b"two");
-        let _ = sink.put(b"six");
-        assert_eq!(rt; sink.written(), written);
-    }
-    Ok(())
+    sink_holds(&rt, rt.alloc(), 9, 0, b"onesix")?;
+    sink_holds(&rt, rt.alloc(), 9, 2, b"onetwsix")?;
+    sink_holds(&rt, rt.alloc(), 9, 7, b"onetwosix")?;
+    sink_holds(&rt, rt.alloc(), 5, 7, b"onetw")?;
+    sink_holds(&rt, rt.alloc(), 8, 1, b"onetsix")
 }
 
 /// Whether a text of that many bytes goes out where one put fails, and how much is written.
@@ -108,44 +123,69 @@ fn put_by_parts(alloc: Global, length: usize, failing: u32) -> Result<(bool, usi
     Ok((well, sink.written().len()))
 }
 
+/// Asserts whether a text of that many bytes goes out where one put fails, and how much is
+/// written, both ways.
+fn goes_out(
+    rt: &impl Abort,
+    alloc: Global,
+    length: usize,
+    failing: u32,
+    written: (bool, usize),
+) -> Result<(), Fail> {
+    same(rt, put_whole(alloc, length, failing)?, written);
+    same(rt, put_by_parts(alloc, length, failing)?, written);
+    Ok(())
+}
+
 #[test]
 fn long_texts_go_out_in_pieces_of_4096_bytes(rt: HostRuntime) -> Result<(), Fail> {
-    let cases = [
-        (0, 1, (true, 0)),
-        (252, 2, (true, 252)),
-        (4_096, 2, (true, 4_096)),
-        (4_097, 2, (false, 4_096)),
-        (12_288, 3, (false, 8_192)),
-        (12_288, 4, (true, 12_288)),
-    ];
-    for (length, failing, written) in cases {
-        assert_eq!(rt; put_whole(rt.alloc(), length, failing)?, written);
-        assert_eq!(rt; put_by_parts(rt.alloc(), length, failing)?, written);
-    }
+    goes_out(&rt, rt.alloc(), 0, 1, (true, 0))?;
+    goes_out(&rt, rt.alloc(), 252, 2, (true, 252))?;
+    goes_out(&rt, rt.alloc(), 4_096, 2, (true, 4_096))?;
+    goes_out(&rt, rt.alloc(), 4_097, 2, (false, 4_096))?;
+    goes_out(&rt, rt.alloc(), 12_288, 3, (false, 8_192))?;
+    goes_out(&rt, rt.alloc(), 12_288, 4, (true, 12_288))
+}
+
+/// Asserts that a number goes out twice behind so many bytes.
+fn number_goes_out(
+    rt: &impl Abort,
+    alloc: Global,
+    number: u64,
+    twice: &[u8],
+    before: usize,
+) -> Result<(), Fail> {
+    let front = vec![in alloc; b'x'; before]?;
+    let mut sink = MemSink::new(alloc, 20_000, Vec::new(alloc), 0)?;
+    let mut out = Outgoing::new(alloc)?;
+    out.push(&mut sink, &front);
+    out.push_number(&mut sink, number);
+    out.push_wide_number(&mut sink, number.into());
+    same(rt, out.finish(&mut sink), Ok(()));
+    same(rt, sink.written().get(before..), Some(twice));
     Ok(())
+}
+
+/// Asserts that a number goes out twice at the start, at the end and over the end of a piece.
+fn number_goes_out_anywhere(
+    rt: &impl Abort,
+    alloc: Global,
+    number: u64,
+    twice: &[u8],
+) -> Result<(), Fail> {
+    number_goes_out(rt, alloc, number, twice, 0)?;
+    number_goes_out(rt, alloc, number, twice, 4_090)?;
+    number_goes_out(rt, alloc, number, twice, 4_095)
 }
 
 #[test]
 fn numbers_go_out_where_they_stand(rt: HostRuntime) -> Result<(), Fail> {
     let alloc = rt.alloc();
-    let cases: [(u64, &[u8]); 4] = [
-        (0, b"00"),
-        (1_000, b"10001000"),
-        (123_456_789, b"123456789123456789"),
-        (u64::MAX, b"1844674407370955161518446744073709551615"),
-    ];
-    for (number, twice) in cases {
-        for before in [0, 4_090, 4_095] {
-            let mut sink = MemSink::new(alloc, 20_000, Vec::new(alloc), 0)?;
-            let mut out = Outgoing::new(alloc)?;
-            out.push(&mut sink, &vec![in alloc; b'x'; before]?);
-            out.push_number(&mut sink, number);
-            out.push_wide_number(&mut sink, number.into());
-            assert_eq!(rt; out.finish(&mut sink), Ok(()));
-            assert_eq!(rt; sink.written().get(before..), Some(twice));
-        }
-    }
-    Ok(())
+    number_goes_out_anywhere(&rt, alloc, 0, b"00")?;
+    number_goes_out_anywhere(&rt, alloc, 1_000, b"10001000")?;
+    number_goes_out_anywhere(&rt, alloc, 123_456_789, b"123456789123456789")?;
+    let greatest = b"1844674407370955161518446744073709551615";
+    number_goes_out_anywhere(&rt, alloc, u64::MAX, greatest)
 }
 
 /// So many bytes, of which neighbours differ.
@@ -172,14 +212,16 @@ fn a_file_of_the_machine_is_written_and_read(rt: HostRuntime) -> Result<(), Fail
     let bytes = numbered(alloc, 40_000)?;
     FileStore::new(&rt).write(name, &bytes)?;
     assert!(rt; read_of(&rt, alloc, name, 40_000)? == bytes);
-    assert_eq!(rt;
+    same(
+        &rt,
         read_of(&rt, alloc, name, 39_999).err(),
-        Some(StoreError::TooLong)
+        Some(StoreError::TooLong),
     );
     fs::remove_file(&rt, name)?;
-    assert_eq!(rt;
+    same(
+        &rt,
         read_of(&rt, alloc, name, 40_000).err(),
-        Some(StoreError::Failed)
+        Some(StoreError::Failed),
     );
     Ok(())
 }
@@ -218,7 +260,11 @@ fn standard_output_takes_pieces(rt: HostRuntime) -> Result<(), Fail> {
         room: 8_191,
     };
     let bytes = vec![in rt.alloc(); b'x'; 8_192]?;
-    assert_eq!(rt; put_all(&mut StdSink::new(&printer), &bytes), Err(Failed));
-    assert_eq!(rt; printer.printed.get(), 4_096);
+    same(
+        &rt,
+        put_all(&mut StdSink::new(&printer), &bytes),
+        Err(Failed),
+    );
+    same(&rt, printer.printed.get(), 4_096);
     Ok(())
 }

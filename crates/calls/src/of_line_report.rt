@@ -1,3 +1,4 @@
+use crate::same::same;
 use line_core::run;
 use line_io::MemSink;
 use line_report::Report;
@@ -34,11 +35,11 @@ fn written(
 fn a_report_begins_anew(rt: HostRuntime) -> Result<(), Fail> {
     let mut report = report_of_two_stages(rt.alloc())?;
     let (whole, torn) = written(rt.alloc(), &mut report, 1, 10)?;
-    assert_eq!(rt; whole, false);
-    assert_eq!(rt; torn.as_slice(), b"feed 1 0\nf".as_slice());
+    same(&rt, whole, false);
+    same(&rt, torn.as_slice(), b"feed 1 0\nf".as_slice());
     // The second put is to fail, so the report is one put.
     let (whole, text) = written(rt.alloc(), &mut report, 2, 0)?;
-    assert_eq!(rt; (whole, text.len()), (true, 252));
+    same(&rt, (whole, text.len()), (true, 252));
     assert!(rt; text.starts_with(b"feed 1 0\nfeed 2 2\n"));
     assert!(rt; text.ends_with(b"waiting 9\nlast 15\n"));
     Ok(())
@@ -53,6 +54,6 @@ fn a_summary_tells_the_sizes_and_the_sum_of_the_dates(rt: HostRuntime) -> Result
     let rest = "peak cut 1 of 1\npeak weld 1 of 1\nwaiting 9\nlast 15\n";
     assert!(rt; sink.written().starts_with(sizes.as_bytes()));
     assert!(rt; sink.written().ends_with(rest.as_bytes()));
-    assert_eq!(rt; sink.written().len(), sizes.len() + rest.len());
+    same(&rt, sink.written().len(), sizes.len() + rest.len());
     Ok(())
 }

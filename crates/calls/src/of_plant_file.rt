@@ -1,3 +1,4 @@
+use crate::same::same;
 use plant_file::read_plant;
 use std::test::Fail;
 
@@ -16,8 +17,8 @@ stage = [{ name = \"cut\", machine = [
 #[test]
 fn a_draft_tells_its_files_and_columns(rt: HostRuntime) -> Result<(), Fail> {
     let draft = read_plant(rt.alloc(), OF_FILES.as_bytes())?;
-    assert_eq!(rt; draft.demands_file(), Some("d.csv"));
-    assert_eq!(rt; draft.times_file(), Some("t.csv"));
-    assert_eq!(rt; draft.columns(), [2, 7].as_slice());
+    same(&rt, draft.demands_file(), Some("d.csv"));
+    same(&rt, draft.times_file(), Some("t.csv"));
+    same(&rt, draft.columns(), [2, 7].as_slice());
     Ok(())
 }

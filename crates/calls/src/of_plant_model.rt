@@ -1,4 +1,5 @@
 //! The refusals of a plant as a value, one a class, each of a plant that only just isn't sound.
+use crate::same::same;
 use line_base::{Date, Items, Name, Times};
 use plant_model::{CardLoop, Machine, Plant, PlantError, Policy, Stage};
 use sample_plants::two_stages;
@@ -101,7 +102,7 @@ fn said_of(alloc: Global, parts: &Parts) -> Result<String, Fail> {
 
 /// Asserts what is said of these parts.
 fn says(rt: &impl Abort, alloc: Global, parts: &Parts, line: &str) -> Result<(), Fail> {
-    assert_eq!(rt; said_of(alloc, parts)?.as_str(), line);
+    same(rt, said_of(alloc, parts)?.as_str(), line);
     Ok(())
 }
 
@@ -192,8 +193,8 @@ fn cards_and_loops_that_do_not_fit_are_refused_at_their_place(rt: HostRuntime) -
 #[test]
 fn a_sound_plant_tells_its_line(rt: HostRuntime) -> Result<(), Fail> {
     let plant = two_stages(rt.alloc())?;
-    assert_eq!(rt; plant.stages.len(), 2);
-    assert_eq!(rt; [plant.next(0), plant.next(1)], [Some(1), None]);
-    assert_eq!(rt; [plant.starting(0), plant.starting(1)], [1, 1]);
+    assert!(rt; plant.stages.len() == 2);
+    same(&rt, [plant.next(0), plant.next(1)], [Some(1), None]);
+    same(&rt, [plant.starting(0), plant.starting(1)], [1, 1]);
     Ok(())
 }

@@ -3,4 +3,8 @@
 #![tactic(auto)]
 
 #[cfg(test)]
+mod of_line_runs;
+#[cfg(test)]
 mod of_line_workers;
+#[cfg(test)]
+mod same;

@@ -8,3 +8,5 @@ mod of_checkpoint;
 mod of_line_disk;
 #[cfg(test)]
 mod of_slot_store;
+#[cfg(test)]
+mod same;

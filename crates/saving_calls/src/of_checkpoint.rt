@@ -1,5 +1,6 @@
 ghost use Rattle.std.specs.Prelude.{◌≡◌};
 
+use crate::same::same;
 use checkpoint::{CheckpointError, read_state, write_state};
 use line_core::{State, run};
 use live_check::Live;
@@ -78,6 +79,12 @@ place 10 0
 end
 ";
 
+/// The live graph of the two stages. What is known of it is let go here.
+fn live_stages(alloc: Global) -> Result<Live, Fail> {
+    let plant = two_stages(alloc)?;
+    live_of(alloc, &plant)
+}
+
 /// What is answered to a text: how many firings made the state, or the error.
 fn answer(
     rt: &impl Abort,
@@ -89,34 +96,65 @@ fn answer(
     Ok(read_state(alloc, live, text)?.fired())
 }
 
-/// The answer to a text in which one piece is another.
-fn answer_with(
+/// The refusal of a line.
+fn line(number: u64) -> Result<u64, CheckpointError> {
+    Err(CheckpointError::Line { number })
+}
+
+/// Asserts the answer to a text of a graph.
+fn answers_to(
     rt: &impl Abort,
     alloc: Global,
     live: &Live,
     text: &str,
-    old: &str,
-    new: &str,
-) -> Result<Result<u64, CheckpointError>, Fail> {
-    let (front, back) = text.split_once(old).ok_or("the piece isn't there")?;
-    let text = format!(in alloc; "{front}{new}{back}")?;
-    Ok(answer(rt, alloc, live, text.as_bytes()))
+    wanted: Result<u64, CheckpointError>,
+) {
+    same(rt, answer(rt, alloc, live, text.as_bytes()), wanted);
 }
 
-/// The refusal of a line.
-fn line(number: u64) -> Result<u64, CheckpointError> {
-    Err(CheckpointError::Line { number })
+/// A text with one piece in the place of another.
+fn with_piece(alloc: Global, text: &str, pieces: (&str, &str)) -> Result<String, Fail> {
+    let (old, new) = pieces;
+    let (front, back) = text.split_once(old).ok_or("the piece isn't there")?;
+    Ok(format!(in alloc; "{front}{new}{back}")?)
+}
+
+/// Asserts the answer to a text of the two stages in which one piece is another.
+fn answers(
+    rt: &impl Abort,
+    alloc: Global,
+    text: &str,
+    pieces: (&str, &str),
+    wanted: Result<u64, CheckpointError>,
+) -> Result<(), Fail> {
+    let live = live_stages(alloc)?;
+    let text = with_piece(alloc, text, pieces)?;
+    answers_to(rt, alloc, &live, text.as_str(), wanted);
+    Ok(())
 }
 
 /// Asserts that each front of a text is refused with the line that it cuts.
 fn each_front_is_refused(rt: &impl Abort, alloc: Global, live: &Live, text: &[u8]) {
     let mut number: u64 = 1;
     for (end, byte) in text.iter().enumerate() {
-        assert_eq!(rt; answer(rt, alloc, live, &text[..end]), line(number));
+        front_is_refused(rt, alloc, live, text, end, number);
         if *byte == b'\n' {
             number = number.wrapping_add(1);
         }
     }
+}
+
+/// Asserts that the front of a text that ends before this byte is refused with this line.
+fn front_is_refused(
+    rt: &impl Abort,
+    alloc: Global,
+    live: &Live,
+    text: &[u8],
+    end: usize,
+    number: u64,
+) {
+    let front = text.get(..end).unwrap_or(text);
+    same(rt, answer(rt, alloc, live, front), line(number));
 }
 
 /// Fires a station.
@@ -156,56 +194,70 @@ fn finished_text(
     Ok(write_state(alloc, live, &state)?)
 }
 
-#[test]
-fn a_start_and_a_finished_state_are_written(rt: HostRuntime) -> Result<(), Fail> {
-    let plant = two_stages(rt.alloc())?;
-    let live = live_of(rt.alloc(), &plant)?;
-    let finished = run(rt.alloc(), &live)?;
-    let text = write_state(rt.alloc(), &live, &finished)?;
-    assert_eq!(rt; text.as_slice(), FINISHED.as_bytes());
-    let start = State::start(rt.alloc(), &live)?;
-    let text = write_state(rt.alloc(), &live, &start)?;
+/// The text of a start.
+fn text_of_start(alloc: Global, live: &Live) -> Result<Vec<u8>, Fail> {
+    let start = State::start(alloc, live)?;
+    Ok(write_state(alloc, live, &start)?)
+}
+
+/// The text of a finished run.
+fn text_of_run(alloc: Global, live: &Live) -> Result<Vec<u8>, Fail> {
+    let finished = run(alloc, live)?;
+    Ok(write_state(alloc, live, &finished)?)
+}
+
+/// The start of the two stages, in format 2.
+fn start_in_format_2(alloc: Global) -> Result<String, Fail> {
     let lines = START
         .strip_prefix("pull-checkpoint 1\n")
         .ok_or("not a start")?;
-    let wanted = format!(in rt.alloc(); "pull-checkpoint 2\ndelays 0\n{lines}")?;
-    assert_eq!(rt; text.as_slice(), wanted.as_bytes());
+    Ok(format!(in alloc; "pull-checkpoint 2\ndelays 0\n{lines}")?)
+}
+
+#[test]
+fn a_finished_state_is_written(rt: HostRuntime) -> Result<(), Fail> {
+    let live = live_stages(rt.alloc())?;
+    let text = text_of_run(rt.alloc(), &live)?;
+    same(&rt, text.as_slice(), FINISHED.as_bytes());
+    Ok(())
+}
+
+#[test]
+fn a_start_is_written(rt: HostRuntime) -> Result<(), Fail> {
+    let live = live_stages(rt.alloc())?;
+    let text = text_of_start(rt.alloc(), &live)?;
+    let wanted = start_in_format_2(rt.alloc())?;
+    same(&rt, text.as_slice(), wanted.as_bytes());
+    Ok(())
+}
+
+/// Asserts that the state of the five firings was made by five, and goes on to the finished one.
+fn goes_on_firing(rt: &impl Abort, alloc: Global, live: &Live) -> Result<(), Fail> {
+    let state = read_state(alloc, live, FIVE_FIRINGS.as_bytes())
+        .ok()
+        .ok_or("not a checkpoint")?;
+    same(rt, state.fired(), 5);
+    let text = finished_text(rt, alloc, live, state)?;
+    same(rt, text.as_slice(), FINISHED.as_bytes());
     Ok(())
 }
 
 #[test]
 fn a_state_that_is_read_goes_on_firing(rt: HostRuntime) -> Result<(), Fail> {
-    let plant = two_stages(rt.alloc())?;
-    let live = live_of(rt.alloc(), &plant)?;
-    let state = read_state(rt.alloc(), &live, FIVE_FIRINGS.as_bytes())
-        .ok()
-        .ok_or("not a checkpoint")?;
-    assert_eq!(rt; state.fired(), 5);
-    let text = finished_text(&rt, rt.alloc(), &live, state)?;
-    assert_eq!(rt; text.as_slice(), FINISHED.as_bytes());
-    assert_eq!(rt; answer(&rt, rt.alloc(), &live, FINISHED.as_bytes()), Ok(18));
-    assert_eq!(rt; answer(&rt, rt.alloc(), &live, START.as_bytes()), Ok(0));
-    Ok(())
+    let live = live_stages(rt.alloc())?;
+    goes_on_firing(&rt, rt.alloc(), &live)
 }
 
-/// Asserts the answer to a text in which one piece is another.
-fn answers(
-    rt: &impl Abort,
-    alloc: Global,
-    live: &Live,
-    text: &str,
-    pieces: (&str, &str),
-    wanted: Result<u64, CheckpointError>,
-) -> Result<(), Fail> {
-    let (old, new) = pieces;
-    assert_eq!(rt; answer_with(rt, alloc, live, text, old, new)?, wanted);
+#[test]
+fn a_state_that_is_read_knows_its_firings(rt: HostRuntime) -> Result<(), Fail> {
+    let live = live_stages(rt.alloc())?;
+    answers_to(&rt, rt.alloc(), &live, FINISHED, Ok(18));
+    answers_to(&rt, rt.alloc(), &live, START, Ok(0));
     Ok(())
 }
 
 #[test]
 fn a_date_that_no_firings_reach_is_refused(rt: HostRuntime) -> Result<(), Fail> {
-    let plant = two_stages(rt.alloc())?;
-    let live = live_of(rt.alloc(), &plant)?;
     let late = CheckpointError::Date {
         station: 2,
         job: 1,
@@ -213,20 +265,18 @@ fn a_date_that_no_firings_reach_is_refused(rt: HostRuntime) -> Result<(), Fail> 
         need: 3,
     };
     let pieces = ("station cut.saw 1 3", "station cut.saw 1 4");
-    answers(&rt, rt.alloc(), &live, FIVE_FIRINGS, pieces, Err(late))
+    answers(&rt, rt.alloc(), FIVE_FIRINGS, pieces, Err(late))
 }
 
 #[test]
 fn a_place_that_no_firings_reach_is_refused(rt: HostRuntime) -> Result<(), Fail> {
-    let plant = two_stages(rt.alloc())?;
-    let live = live_of(rt.alloc(), &plant)?;
     let few = CheckpointError::Marking {
         arc: 4,
         have: 0,
         need: 1,
     };
     let pieces = ("place 4 1 0", "place 4 0");
-    answers(&rt, rt.alloc(), &live, FIVE_FIRINGS, pieces, Err(few))?;
+    answers(&rt, rt.alloc(), FIVE_FIRINGS, pieces, Err(few))?;
     let early = CheckpointError::PlaceDate {
         arc: 1,
         token: 1,
@@ -234,124 +284,114 @@ fn a_place_that_no_firings_reach_is_refused(rt: HostRuntime) -> Result<(), Fail>
         need: 3,
     };
     let pieces = ("place 1 1 3", "place 1 1 2");
-    answers(&rt, rt.alloc(), &live, FIVE_FIRINGS, pieces, Err(early))
+    answers(&rt, rt.alloc(), FIVE_FIRINGS, pieces, Err(early))
 }
 
 #[test]
 fn a_log_with_more_dates_than_jobs_is_refused(rt: HostRuntime) -> Result<(), Fail> {
-    let plant = two_stages(rt.alloc())?;
-    let live = live_of(rt.alloc(), &plant)?;
     let many = CheckpointError::Count {
         station: 0,
         have: 4,
         limit: 3,
     };
     let pieces = ("station feed 1 0", "station feed 4 0 2 4 4");
-    answers(&rt, rt.alloc(), &live, FIVE_FIRINGS, pieces, Err(many))
+    answers(&rt, rt.alloc(), FIVE_FIRINGS, pieces, Err(many))
+}
+
+/// Asserts that a line of the finished state is refused where one piece is another.
+fn is_refused(
+    rt: &impl Abort,
+    alloc: Global,
+    pieces: (&str, &str),
+    number: u64,
+) -> Result<(), Fail> {
+    answers(rt, alloc, FINISHED, pieces, line(number))
 }
 
 /// Asserts that the line of the feed is refused where its end is this.
-fn feed_is_refused(rt: &impl Abort, alloc: Global, live: &Live, new: &str) -> Result<(), Fail> {
-    answers(rt, alloc, live, FINISHED, ("feed 3 0 2 2", new), line(3))
+fn feed_is_refused(rt: &impl Abort, alloc: Global, new: &str) -> Result<(), Fail> {
+    is_refused(rt, alloc, ("feed 3 0 2 2", new), 3)
 }
 
 #[test]
 fn words_that_are_no_difference_are_refused(rt: HostRuntime) -> Result<(), Fail> {
-    let plant = two_stages(rt.alloc())?;
-    let live = live_of(rt.alloc(), &plant)?;
-    feed_is_refused(&rt, rt.alloc(), &live, "feed 3 0 2 -0")?;
-    feed_is_refused(&rt, rt.alloc(), &live, "feed 3 0 2 +2")?;
-    feed_is_refused(&rt, rt.alloc(), &live, "feed 3 0 2 02")?;
-    feed_is_refused(&rt, rt.alloc(), &live, "feed 3 0  2 2")
+    feed_is_refused(&rt, rt.alloc(), "feed 3 0 2 -0")?;
+    feed_is_refused(&rt, rt.alloc(), "feed 3 0 2 +2")?;
+    feed_is_refused(&rt, rt.alloc(), "feed 3 0 2 02")?;
+    feed_is_refused(&rt, rt.alloc(), "feed 3 0  2 2")
 }
 
 #[test]
 fn lines_of_another_length_are_refused(rt: HostRuntime) -> Result<(), Fail> {
-    let plant = two_stages(rt.alloc())?;
-    let live = live_of(rt.alloc(), &plant)?;
-    feed_is_refused(&rt, rt.alloc(), &live, "feed 3 0 2")?;
-    feed_is_refused(&rt, rt.alloc(), &live, "feed 3 0 2 2 2")?;
-    feed_is_refused(&rt, rt.alloc(), &live, "feed 99999999999999999999 0 2 2")?;
-    feed_is_refused(&rt, rt.alloc(), &live, "feeds 3 0 2 2")
+    feed_is_refused(&rt, rt.alloc(), "feed 3 0 2")?;
+    feed_is_refused(&rt, rt.alloc(), "feed 3 0 2 2 2")?;
+    feed_is_refused(&rt, rt.alloc(), "feed 99999999999999999999 0 2 2")?;
+    feed_is_refused(&rt, rt.alloc(), "feeds 3 0 2 2")
 }
 
 #[test]
 fn dates_below_0_or_above_the_latest_are_refused(rt: HostRuntime) -> Result<(), Fail> {
-    let plant = two_stages(rt.alloc())?;
-    let live = live_of(rt.alloc(), &plant)?;
-    feed_is_refused(&rt, rt.alloc(), &live, "feed 3 0 2 -3")?;
-    feed_is_refused(&rt, rt.alloc(), &live, "feed 3 0 2 1000000000000000001")?;
-    feed_is_refused(&rt, rt.alloc(), &live, "feed 3 0 2 999999999999999999")
+    feed_is_refused(&rt, rt.alloc(), "feed 3 0 2 -3")?;
+    feed_is_refused(&rt, rt.alloc(), "feed 3 0 2 1000000000000000001")?;
+    feed_is_refused(&rt, rt.alloc(), "feed 3 0 2 999999999999999999")
 }
 
 #[test]
 fn other_lines_are_refused_by_their_number(rt: HostRuntime) -> Result<(), Fail> {
-    let plant = two_stages(rt.alloc())?;
-    let live = live_of(rt.alloc(), &plant)?;
-    let delays = ("delays 0", "delays 1 3 4");
-    answers(&rt, rt.alloc(), &live, FINISHED, delays, line(2))?;
-    let place = ("place 3 1 13", "place 4 1 13");
-    answers(&rt, rt.alloc(), &live, FINISHED, place, line(12))?;
-    answers(&rt, rt.alloc(), &live, FINISHED, ("end\n", "end"), line(20))?;
-    let behind = ("end\n", "end\n\n");
-    answers(&rt, rt.alloc(), &live, FINISHED, behind, line(21))
+    is_refused(&rt, rt.alloc(), ("delays 0", "delays 1 3 4"), 2)?;
+    is_refused(&rt, rt.alloc(), ("place 3 1 13", "place 4 1 13"), 12)?;
+    is_refused(&rt, rt.alloc(), ("end\n", "end"), 20)?;
+    is_refused(&rt, rt.alloc(), ("end\n", "end\n\n"), 21)
 }
 
-/// The refusal of the last date of the feed.
-fn last_of_the_feed(have: u64) -> Result<u64, CheckpointError> {
-    Err(CheckpointError::Date {
+/// Asserts the refusal of the last date of the feed, which is this, where its line ends so.
+fn last_date_is_refused(rt: &impl Abort, alloc: Global, new: &str, have: u64) -> Result<(), Fail> {
+    let error = CheckpointError::Date {
         station: 0,
         job: 3,
         have,
         need: 4,
-    })
+    };
+    answers(rt, alloc, FINISHED, ("feed 3 0 2 2", new), Err(error))
 }
 
 #[test]
 fn a_date_may_be_as_late_as_a_number_and_earlier_than_the_one_before(
     rt: HostRuntime,
 ) -> Result<(), Fail> {
-    let plant = two_stages(rt.alloc())?;
-    let live = live_of(rt.alloc(), &plant)?;
-    let latest = last_of_the_feed(1_000_000_000_000_000_000);
-    let pieces = ("feed 3 0 2 2", "feed 3 0 2 999999999999999998");
-    answers(&rt, rt.alloc(), &live, FINISHED, pieces, latest)?;
-    let pieces = ("feed 3 0 2 2", "feed 3 0 2 -2");
-    answers(
-        &rt,
-        rt.alloc(),
-        &live,
-        FINISHED,
-        pieces,
-        last_of_the_feed(0),
-    )
+    let latest = 1_000_000_000_000_000_000;
+    last_date_is_refused(&rt, rt.alloc(), "feed 3 0 2 999999999999999998", latest)?;
+    last_date_is_refused(&rt, rt.alloc(), "feed 3 0 2 -2", 0)
 }
 
 #[test]
 fn fronts_of_a_checkpoint_are_refused_with_their_line(rt: HostRuntime) -> Result<(), Fail> {
-    let plant = two_stages(rt.alloc())?;
-    let live = live_of(rt.alloc(), &plant)?;
+    let live = live_stages(rt.alloc())?;
     each_front_is_refused(&rt, rt.alloc(), &live, FIVE_FIRINGS.as_bytes());
     each_front_is_refused(&rt, rt.alloc(), &live, FINISHED.as_bytes());
     Ok(())
 }
 
+/// The live graph of the two stages with ways between them. What is known of it is let go here.
+fn live_stages_apart(alloc: Global) -> Result<Live, Fail> {
+    let plant = two_stages_apart(alloc)?;
+    live_of(alloc, &plant)
+}
+
 #[test]
 fn delays_stand_in_the_second_line(rt: HostRuntime) -> Result<(), Fail> {
-    let plant = two_stages_apart(rt.alloc())?;
-    let live = live_of(rt.alloc(), &plant)?;
-    let start = State::start(rt.alloc(), &live)?;
-    let text = write_state(rt.alloc(), &live, &start)?;
+    let live = live_stages_apart(rt.alloc())?;
+    let text = text_of_start(rt.alloc(), &live)?;
     let front = b"pull-checkpoint 2\ndelays 2 3 4 9 1\nstation feed 0\n";
     assert!(rt; text.starts_with(front));
-    assert_eq!(rt; answer(&rt, rt.alloc(), &live, text.as_slice()), Ok(0));
-    assert_eq!(rt;
-        answer(&rt, rt.alloc(), &live, FIVE_FIRINGS.as_bytes()),
-        line(1)
-    );
-    assert_eq!(rt;
-        answer(&rt, rt.alloc(), &live, FINISHED.as_bytes()),
-        line(2)
-    );
+    same(&rt, answer(&rt, rt.alloc(), &live, text.as_slice()), Ok(0));
+    Ok(())
+}
+
+#[test]
+fn texts_without_the_delays_are_refused(rt: HostRuntime) -> Result<(), Fail> {
+    let live = live_stages_apart(rt.alloc())?;
+    answers_to(&rt, rt.alloc(), &live, FIVE_FIRINGS, line(1));
+    answers_to(&rt, rt.alloc(), &live, FINISHED, line(2));
     Ok(())
 }

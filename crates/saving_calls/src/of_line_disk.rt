@@ -1,3 +1,4 @@
+use crate::same::same;
 use line_disk::{Disk, DiskError, FileDisk, MemDisk};
 use slot_store::{SlotError, Slots};
 use std::alloc::Global;
@@ -30,8 +31,12 @@ fn left(alloc: Global, disk: &MemDisk, call: u32, pick: u8) -> Result<Vec<u8>, F
 fn a_disk_in_memory_reads_what_was_written(rt: HostRuntime) -> Result<(), Fail> {
     let alloc = rt.alloc();
     let mut disk = written(alloc)?;
-    assert_eq!(rt; disk.calls(), 5);
-    assert_eq!(rt; disk.read(alloc, 1, 5)?.as_slice(), b"\0ac\0\0".as_slice());
+    same(&rt, disk.calls(), 5);
+    same(
+        &rt,
+        disk.read(alloc, 1, 5)?.as_slice(),
+        b"\0ac\0\0".as_slice(),
+    );
     Ok(())
 }
 
@@ -39,10 +44,10 @@ fn a_disk_in_memory_reads_what_was_written(rt: HostRuntime) -> Result<(), Fail> 
 fn a_call_on_the_list_fails(rt: HostRuntime) -> Result<(), Fail> {
     let alloc = rt.alloc();
     let mut disk = MemDisk::new(alloc, vec![in alloc; 2, 4]?);
-    assert_eq!(rt; disk.sync(), Ok(()));
-    assert_eq!(rt; disk.sync(), Err(DiskError::Failed));
-    assert_eq!(rt; disk.write_at(0, b"a"), Ok(()));
-    assert_eq!(rt; disk.read(alloc, 0, 1).err(), Some(DiskError::Failed));
+    same(&rt, disk.sync(), Ok(()));
+    same(&rt, disk.sync(), Err(DiskError::Failed));
+    same(&rt, disk.write_at(0, b"a"), Ok(()));
+    same(&rt, disk.read(alloc, 0, 1).err(), Some(DiskError::Failed));
     Ok(())
 }
 
@@ -65,26 +70,39 @@ fn a_crash_leaves_the_bytes_before_a_write_or_those_written_or_255(
         (5, 2, b"\0a\xff\xff\0"),
     ];
     for (call, pick, bytes) in cases {
-        assert_eq!(rt; left(alloc, &disk, call, pick)?.as_slice(), bytes);
+        same(&rt, left(alloc, &disk, call, pick)?.as_slice(), bytes);
     }
     Ok(())
+}
+
+/// What is loaded from the file of the machine.
+fn load_file<R: std::rt::Files + Drop>(rt: &R, alloc: Global) -> Result<Vec<u8>, SlotError> {
+    Slots::new(&mut FileDisk::new(rt), 32).load(alloc)
+}
+
+/// Saves some bytes in the file of the machine.
+fn save_file<R: std::rt::Files + Drop>(
+    rt: &R,
+    alloc: Global,
+    bytes: &[u8],
+) -> Result<(), SlotError> {
+    Slots::new(&mut FileDisk::new(rt), 32).save(alloc, bytes)
 }
 
 #[test]
 fn the_file_of_the_machine_is_a_disk_and_a_folder_in_its_place_a_fault(
     rt: HostRuntime,
 ) -> Result<(), Fail> {
-    let alloc = rt.alloc();
-    let none = Slots::new(&mut FileDisk::new(&rt), 32).load(alloc);
-    assert_eq!(rt; none.err(), Some(SlotError::NoneSaved));
+    let none = load_file(&rt, rt.alloc()).err();
+    same(&rt, none, Some(SlotError::NoneSaved));
     assert!(rt; !fs::exists(&rt, FILE)?);
-    Slots::new(&mut FileDisk::new(&rt), 32).save(alloc, b"hello")?;
-    let hello = Slots::new(&mut FileDisk::new(&rt), 32).load(alloc)?;
-    assert_eq!(rt; hello.as_slice(), b"hello".as_slice());
+    save_file(&rt, rt.alloc(), b"hello")?;
+    let hello = load_file(&rt, rt.alloc())?;
+    same(&rt, hello.as_slice(), b"hello".as_slice());
     fs::remove_file(&rt, FILE)?;
     fs::create_dir(&rt, FILE)?;
-    let fault = Slots::new(&mut FileDisk::new(&rt), 32).load(alloc);
-    assert_eq!(rt; fault.err(), Some(SlotError::DiskFault));
+    let fault = load_file(&rt, rt.alloc()).err();
+    same(&rt, fault, Some(SlotError::DiskFault));
     fs::remove_dir(&rt, FILE)?;
     Ok(())
 }

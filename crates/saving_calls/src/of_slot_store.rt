@@ -1,3 +1,4 @@
+use crate::same::same;
 use line_disk::{Disk, MemDisk};
 use slot_store::{SlotError, Slots};
 use std::alloc::Global;
@@ -66,7 +67,11 @@ fn crashes(alloc: Global, disk: &MemDisk, first: u32, last: u32) -> Result<[u32;
 fn nothing_is_saved_on_a_disk_of_zeros(rt: HostRuntime) -> Result<(), Fail> {
     let alloc = rt.alloc();
     let mut disk = MemDisk::new(alloc, Vec::new(alloc));
-    assert_eq!(rt; load(alloc, &mut disk).err(), Some(SlotError::NoneSaved));
+    same(
+        &rt,
+        load(alloc, &mut disk).err(),
+        Some(SlotError::NoneSaved),
+    );
     Ok(())
 }
 
@@ -76,11 +81,12 @@ fn a_save_stands_in_slot_0_with_its_gate_number_and_length(rt: HostRuntime) -> R
     let mut disk = MemDisk::new(alloc, Vec::new(alloc));
     save(alloc, &mut disk, b"hello")?;
     let bytes = disk.read(alloc, 0, 21)?;
-    assert_eq!(rt;
+    same(
+        &rt,
         bytes.as_slice(),
-        b"\x01\0\0\0\0\0\0\0\0\x05\0\0\0\0\0\0hello".as_slice()
+        b"\x01\0\0\0\0\0\0\0\0\x05\0\0\0\0\0\0hello".as_slice(),
     );
-    assert_eq!(rt; load(alloc, &mut disk)?.as_slice(), b"hello".as_slice());
+    same(&rt, load(alloc, &mut disk)?.as_slice(), b"hello".as_slice());
     Ok(())
 }
 
@@ -89,8 +95,8 @@ fn bytes_beyond_the_room_are_refused(rt: HostRuntime) -> Result<(), Fail> {
     let alloc = rt.alloc();
     let mut disk = MemDisk::new(alloc, Vec::new(alloc));
     let saved = Slots::new(&mut disk, 4).save(alloc, b"hello");
-    assert_eq!(rt; saved, Err(SlotError::TooLong { have: 5 }));
-    assert_eq!(rt; disk.calls(), 0);
+    same(&rt, saved, Err(SlotError::TooLong { have: 5 }));
+    same(&rt, disk.calls(), 0);
     Ok(())
 }
 
@@ -102,12 +108,12 @@ fn each_crash_of_a_save_leaves_the_text_from_before_or_the_new_one(
 ) -> Result<(), Fail> {
     let alloc = rt.alloc();
     let (mut disk, ends) = saved(alloc, Vec::new(alloc));
-    assert_eq!(rt; ends, [Ok(()); 3]);
-    assert_eq!(rt; disk.calls(), 26);
-    assert_eq!(rt; crashes(alloc, &disk, 0, 8)?, [2, 0, 0, 25]);
-    assert_eq!(rt; crashes(alloc, &disk, 9, 16)?, [22, 2, 0, 0]);
-    assert_eq!(rt; crashes(alloc, &disk, 17, 26)?, [0, 28, 2, 0]);
-    assert_eq!(rt; load(alloc, &mut disk)?.as_slice(), TEXTS[2]);
+    same(&rt, ends, [Ok(()); 3]);
+    same(&rt, disk.calls(), 26);
+    same(&rt, crashes(alloc, &disk, 0, 8)?, [2, 0, 0, 25]);
+    same(&rt, crashes(alloc, &disk, 9, 16)?, [22, 2, 0, 0]);
+    same(&rt, crashes(alloc, &disk, 17, 26)?, [0, 28, 2, 0]);
+    same(&rt, load(alloc, &mut disk)?.as_slice(), TEXTS[2]);
     Ok(())
 }
 
@@ -115,8 +121,8 @@ fn each_crash_of_a_save_leaves_the_text_from_before_or_the_new_one(
 fn a_save_whose_first_sync_fails_keeps_the_text_from_before(rt: HostRuntime) -> Result<(), Fail> {
     let alloc = rt.alloc();
     let (mut disk, ends) = saved(alloc, vec![in alloc; 17]?);
-    assert_eq!(rt; ends, [Ok(()), Ok(()), Err(SlotError::DiskFault)]);
-    assert_eq!(rt; load(alloc, &mut disk)?.as_slice(), TEXTS[1]);
+    same(&rt, ends, [Ok(()), Ok(()), Err(SlotError::DiskFault)]);
+    same(&rt, load(alloc, &mut disk)?.as_slice(), TEXTS[1]);
     Ok(())
 }
 
@@ -152,6 +158,6 @@ fn places_with_faults(alloc: Global) -> Result<[u32; 4], Fail> {
 // sync fails, after its gate was written.
 #[test]
 fn each_call_that_fails_is_a_fault_of_its_save_alone(rt: HostRuntime) -> Result<(), Fail> {
-    assert_eq!(rt; places_with_faults(rt.alloc())?, [0, 9, 17, 0]);
+    same(&rt, places_with_faults(rt.alloc())?, [0, 9, 17, 0]);
     Ok(())
 }

@@ -1,0 +1,432 @@
+ghost use Rattle.std.specs.Prelude.{◌≡◌, ◌≤◌, IfOk};
+
+use crate::of_line_workers::{live_stages, new_line};
+use crate::same::same;
+use checkpoint::{CheckpointError, read_state, write_state};
+use line_base::Date;
+use line_core::{State, Table};
+use line_disk::MemDisk;
+use line_io::{Files, MemStore, Store, StoreError};
+use line_runs::{
+    Outcome, ResumeError, resume, resume_slots, run_to_end, run_until, run_with_slots, save_state,
+};
+use line_workers::{FreeGate, Gate};
+use live_check::Live;
+use sample_plants::{forty_jobs, live_of};
+use slot_store::{MAX_ROOM, SlotError, Slots};
+use std::alloc::Global;
+use std::process::Abort;
+use std::sync::atomic::{AtomicU64, Ordering};
+use std::test::Fail;
+use std::thread::Threads;
+
+/// The start of the two stages, as it is saved.
+const START: &str = "\
+pull-checkpoint 2
+delays 0
+station feed 0
+station cut 0
+station cut.saw 0
+station weld 0
+station weld.torch 0
+station deliver 0
+place 0 0
+place 1 1 0
+place 2 1 0
+place 3 1 0
+place 4 0
+place 5 1 0
+place 6 1 0
+place 7 1 0
+place 8 0
+place 9 0
+place 10 0
+end
+";
+
+/// The two stages after the firings feed, deliver, weld, cut, cut.saw.
+const FIVE_FIRINGS: &str = "\
+pull-checkpoint 1
+station feed 1 0
+station cut 1 0
+station cut.saw 1 3
+station weld 1 0
+station weld.torch 0
+station deliver 1 0
+place 0 0
+place 1 1 3
+place 2 1 3
+place 3 1 3
+place 4 1 0
+place 5 1 0
+place 6 1 0
+place 7 0
+place 8 0
+place 9 0
+place 10 0
+end
+";
+
+/// A gate that counts the steps of all workers.
+#[derive(Drop)]
+struct CountingGate {
+    steps: AtomicU64,
+}
+
+impl CountingGate {
+    /// No step was counted yet.
+    fn new() -> CountingGate {
+        CountingGate {
+            steps: AtomicU64::new(0),
+        }
+    }
+
+    /// How many steps were counted.
+    fn steps(&self) -> u64 {
+        self.steps.load(Ordering::SeqCst)
+    }
+}
+
+impl Gate for CountingGate {
+    fn pass(&self, _worker: u32, _station: u32) {
+        self.steps.fetch_add(1, Ordering::SeqCst);
+    }
+}
+
+/// The state of a run that stops after so many firings. It fails where all are made first.
+fn stopped<R: Threads + Sync>(
+    rt: &R,
+    alloc: Global,
+    live: &Live,
+    workers: u32,
+    firings: u64,
+) -> Result<State, Fail>
+    requires some { 1 ≤ workers }
+    requires few { workers ≤ 16 }
+    ensures { IfOk result (λ state. state.graph ≡ live.now.graph) }
+{
+    let line = new_line(alloc, live, workers)?;
+    match run_until(rt, live, line, firings, &FreeGate) {
+        Outcome::Stopped(state) => Ok(state),
+        Outcome::Finished(_) => Err("the run was not stopped".into()),
+    }
+}
+
+// What is known of what the functions below make is let go there: their callers have few facts.
+
+/// The live graph of the two stages, with forty jobs.
+fn forty_jobs_live(alloc: Global) -> Result<Live, Fail> {
+    let plant = forty_jobs(alloc)?;
+    live_of(alloc, &plant)
+}
+
+/// A run that was stopped: how many firings it had made, and the text of its state.
+#[derive(Drop)]
+struct StoppedRun {
+    fired: u64,
+    text: Vec<u8>,
+}
+
+/// A run of so many workers that stops after so many firings.
+fn saved<R: Threads + Sync>(
+    rt: &R,
+    alloc: Global,
+    live: &Live,
+    workers: u32,
+    firings: u64,
+) -> Result<StoppedRun, Fail> {
+    if workers < 1 || workers > 16 {
+        return Err("no such number of workers".into());
+    }
+    let state = stopped(rt, alloc, live, workers, firings)?;
+    let text = write_state(alloc, live, &state)?;
+    let fired = state.fired();
+    Ok(StoppedRun { fired, text })
+}
+
+/// The table of a run by one worker that makes all firings before it is to stop.
+fn finished<R: Threads + Sync>(
+    rt: &R,
+    alloc: Global,
+    live: &Live,
+    firings: u64,
+) -> Result<Table, Fail> {
+    let line = new_line(alloc, live, 1)?;
+    match run_until(rt, live, line, firings, &FreeGate) {
+        Outcome::Finished(table) => Ok(table),
+        Outcome::Stopped(_) => Err("the run was stopped".into()),
+    }
+}
+
+/// The table of a whole run by one worker, through a gate.
+fn whole<R: Threads + Sync, G: Gate>(
+    rt: &R,
+    alloc: Global,
+    live: &Live,
+    gate: &G,
+) -> Result<Table, Fail> {
+    let line = new_line(alloc, live, 1)?;
+    Ok(run_to_end(rt, live, line, gate))
+}
+
+/// What resuming a text by so many workers comes to, through a gate. It fails where the text is
+/// long.
+fn resumed<R: Threads + Sync, G: Gate>(
+    rt: &R,
+    alloc: Global,
+    live: &Live,
+    text: &[u8],
+    workers: u32,
+    gate: &G,
+) -> Result<Result<Table, CheckpointError>, Fail> {
+    if text.len() >= 1 << 31 || workers < 1 || workers > 16 {
+        return Err("the text is long, or there is no such number of workers".into());
+    }
+    Ok(resume(rt, alloc, live, text, workers, gate))
+}
+
+/// The dates of a station.
+fn dates_of<'a>(rt: &impl Abort, table: &'a Table, t: u32) -> &'a [Date] {
+    assert!(rt; t < table.stations());
+    table.dates(t)
+}
+
+/// Asserts that a table has the dates of the two stages with three demands.
+fn has_all_dates(rt: &impl Abort, table: &Table) {
+    same(rt, table.stations(), 6);
+    same(rt, dates_of(rt, table, 0), [0, 2, 4].as_slice());
+    same(rt, dates_of(rt, table, 1), [0, 5, 10].as_slice());
+    same(rt, dates_of(rt, table, 2), [3, 8, 13].as_slice());
+    same(rt, dates_of(rt, table, 3), [0, 5, 10].as_slice());
+    same(rt, dates_of(rt, table, 4), [5, 10, 15].as_slice());
+    same(rt, dates_of(rt, table, 5), [0, 5, 10].as_slice());
+}
+
+/// Asserts that a part is delivered every five, forty in all.
+fn has_forty_deliveries(rt: &impl Abort, delivered: &[Date]) {
+    same(rt, delivered.len(), 40);
+    let mut date: Date = 0;
+    for delivery in delivered {
+        same(rt, *delivery, date);
+        date = date.saturating_add(5);
+    }
+}
+
+/// Asserts that a table has the dates of the two stages with forty demands: a part every five.
+fn has_forty_dates(rt: &impl Abort, table: &Table) {
+    same(rt, table.stations(), 6);
+    has_forty_deliveries(rt, dates_of(rt, table, 5));
+    same(rt, dates_of(rt, table, 4).last(), Some(&200));
+}
+
+/// Asserts that a run of the two stages that goes on from a text comes to all dates.
+fn comes_to_all_dates<R: Abort + Threads + Sync>(
+    rt: &R,
+    alloc: Global,
+    live: &Live,
+    text: &[u8],
+) -> Result<(), Fail> {
+    let table = resumed(rt, alloc, live, text, 2, &FreeGate)??;
+    has_all_dates(rt, &table);
+    Ok(())
+}
+
+#[test]
+fn a_run_that_is_to_stop_at_once_stops_at_the_start(rt: HostRuntime) -> Result<(), Fail> {
+    let live = live_stages(rt.alloc())?;
+    let start = saved(&rt, rt.alloc(), &live, 1, 0)?;
+    same(&rt, start.text.as_slice(), START.as_bytes());
+    comes_to_all_dates(&rt, rt.alloc(), &live, &start.text)
+}
+
+#[test]
+fn a_run_that_makes_all_firings_first_is_finished(rt: HostRuntime) -> Result<(), Fail> {
+    let live = live_stages(rt.alloc())?;
+    let table = finished(&rt, rt.alloc(), &live, 18)?;
+    has_all_dates(&rt, &table);
+    Ok(())
+}
+
+#[test]
+fn a_text_that_was_written_by_hand_is_resumed(rt: HostRuntime) -> Result<(), Fail> {
+    let live = live_stages(rt.alloc())?;
+    comes_to_all_dates(&rt, rt.alloc(), &live, FIVE_FIRINGS.as_bytes())
+}
+
+#[test]
+fn two_workers_stop_soon_and_three_go_on(rt: HostRuntime) -> Result<(), Fail> {
+    let live = forty_jobs_live(rt.alloc())?;
+    let seventh = saved(&rt, rt.alloc(), &live, 2, 7)?;
+    assert!(rt; 7 <= seventh.fired && seventh.fired < 103);
+    let table = resumed(&rt, rt.alloc(), &live, &seventh.text, 3, &FreeGate)??;
+    has_forty_dates(&rt, &table);
+    Ok(())
+}
+
+#[test]
+fn a_whole_run_makes_a_step_for_each_firing(rt: HostRuntime) -> Result<(), Fail> {
+    let live = forty_jobs_live(rt.alloc())?;
+    let gate = CountingGate::new();
+    let table = whole(&rt, rt.alloc(), &live, &gate)?;
+    has_forty_dates(&rt, &table);
+    same(&rt, gate.steps(), 240);
+    Ok(())
+}
+
+// Sixteen sweeps of six stations are 96 firings, of 240; who begins anew makes all of them.
+#[test]
+fn a_run_goes_on_from_where_it_stopped(rt: HostRuntime) -> Result<(), Fail> {
+    let live = forty_jobs_live(rt.alloc())?;
+    let first = saved(&rt, rt.alloc(), &live, 1, 96)?;
+    same(&rt, first.fired, 96);
+    let rest = CountingGate::new();
+    let table = resumed(&rt, rt.alloc(), &live, &first.text, 1, &rest)??;
+    has_forty_dates(&rt, &table);
+    same(&rt, rest.steps(), 144);
+    Ok(())
+}
+
+#[test]
+fn a_text_without_its_last_line_is_refused(rt: HostRuntime) -> Result<(), Fail> {
+    let live = live_stages(rt.alloc())?;
+    let cut = FIVE_FIRINGS.strip_suffix("end\n").ok_or("no end")?;
+    let refused = resumed(&rt, rt.alloc(), &live, cut.as_bytes(), 1, &FreeGate)?.err();
+    same(&rt, refused, Some(CheckpointError::Line { number: 19 }));
+    Ok(())
+}
+
+/// What saving the start of a graph in a file of a store comes to.
+fn save_start<R: Threads + Sync>(
+    rt: &R,
+    alloc: Global,
+    live: &Live,
+    store: &mut MemStore,
+    name: &str,
+) -> Result<Result<(), StoreError>, Fail> {
+    let state = stopped(rt, alloc, live, 1, 0)?;
+    Ok(save_state(alloc, live, &state, store, name))
+}
+
+#[test]
+fn a_state_is_saved_in_a_file_or_the_store_failed(rt: HostRuntime) -> Result<(), Fail> {
+    let alloc = rt.alloc();
+    let live = live_stages(alloc)?;
+    let mut store = MemStore::new(alloc, Files::new(alloc), vec![in alloc; 3]?);
+    same(
+        &rt,
+        save_start(&rt, alloc, &live, &mut store, "a.ckpt")?,
+        Ok(()),
+    );
+    let text = store.read(alloc, "a.ckpt", 9_999)?;
+    same(&rt, text.as_slice(), START.as_bytes());
+    let failed = save_start(&rt, alloc, &live, &mut store, "b.ckpt")?;
+    same(&rt, failed, Err(StoreError::Failed));
+    Ok(())
+}
+
+/// A run of forty jobs by one worker, with the state saved after every fifty firings.
+fn run_saving<R: Threads + Sync>(
+    rt: &R,
+    alloc: Global,
+    live: &Live,
+    disk: &mut MemDisk,
+) -> Result<Result<Table, SlotError>, Fail> {
+    let line = new_line(alloc, live, 1)?;
+    Ok(run_with_slots(rt, alloc, live, line, 50, &FreeGate, disk))
+}
+
+/// How many firings made the state in the slots of a disk.
+fn fired_in_slots(alloc: Global, live: &Live, disk: &mut MemDisk) -> Result<u64, Fail> {
+    let text = Slots::new(disk, MAX_ROOM).load(alloc)?;
+    if text.len() >= 1 << 31 {
+        return Err("the text is long".into());
+    }
+    Ok(read_state(alloc, live, text.as_slice())?.fired())
+}
+
+/// What a run by so many workers that goes on from the slots of a disk comes to.
+fn resumed_from_slots<R: Threads + Sync>(
+    rt: &R,
+    alloc: Global,
+    live: &Live,
+    disk: &mut MemDisk,
+    workers: u32,
+) -> Result<Table, ResumeError>
+    requires some { 1 ≤ workers }
+    requires few { workers ≤ 16 }
+{
+    resume_slots(rt, alloc, live, disk, workers, &FreeGate)
+}
+
+#[test]
+fn a_run_saves_after_fifty_firings(rt: HostRuntime) -> Result<(), Fail> {
+    let alloc = rt.alloc();
+    let live = forty_jobs_live(alloc)?;
+    let mut disk = MemDisk::new(alloc, Vec::new(alloc));
+    let table = run_saving(&rt, alloc, &live, &mut disk)??;
+    has_forty_dates(&rt, &table);
+    same(&rt, fired_in_slots(alloc, &live, &mut disk)?, 192);
+    let table = resumed_from_slots(&rt, alloc, &live, &mut disk, 2)?;
+    has_forty_dates(&rt, &table);
+    Ok(())
+}
+
+/// Asserts that a crash leaves nothing, or a state from which the run comes to the same dates.
+/// Answers whether it leaves nothing.
+fn leaves_nothing<R: Abort + Threads + Sync>(
+    rt: &R,
+    alloc: Global,
+    live: &Live,
+    disk: &MemDisk,
+    call: u32,
+    pick: u8,
+) -> Result<bool, Fail> {
+    assert!(rt; call <= disk.calls() && pick <= 2);
+    let mut left = disk.crash(call, pick)?;
+    match resumed_from_slots(rt, alloc, live, &mut left, 1) {
+        Ok(table) => {
+            has_forty_dates(rt, &table);
+            Ok(false)
+        }
+        Err(error) => {
+            same(rt, error, ResumeError::NothingSaved);
+            Ok(true)
+        }
+    }
+}
+
+#[test]
+fn a_run_that_crashed_is_resumed(rt: HostRuntime) -> Result<(), Fail> {
+    let alloc = rt.alloc();
+    let live = forty_jobs_live(alloc)?;
+    let mut disk = MemDisk::new(alloc, Vec::new(alloc));
+    let _ = run_saving(&rt, alloc, &live, &mut disk)??;
+    let mut was_blank = false;
+    for call in 0..disk.calls() {
+        for pick in 0..3 {
+            was_blank |= leaves_nothing(&rt, alloc, &live, &disk, call, pick)?;
+        }
+    }
+    assert!(rt; was_blank);
+    Ok(())
+}
+
+#[test]
+fn a_disk_that_fails_stops_the_run(rt: HostRuntime) -> Result<(), Fail> {
+    let alloc = rt.alloc();
+    let live = forty_jobs_live(alloc)?;
+    let mut disk = MemDisk::new(alloc, vec![in alloc; 1]?);
+    let failed = run_saving(&rt, alloc, &live, &mut disk)?.err();
+    same(&rt, failed, Some(SlotError::DiskFault));
+    Ok(())
+}
+
+#[test]
+fn nothing_is_saved_on_a_new_disk(rt: HostRuntime) -> Result<(), Fail> {
+    let alloc = rt.alloc();
+    let live = live_stages(alloc)?;
+    let mut disk = MemDisk::new(alloc, Vec::new(alloc));
+    let none = resumed_from_slots(&rt, alloc, &live, &mut disk, 1).err();
+    same(&rt, none, Some(ResumeError::NothingSaved));
+    Ok(())
+}
