@@ -1,8 +1,9 @@
 //! The cases of a file, as its lines make them.
 use crate::change::{Change, Edit};
 use crate::dates::row_of;
-use crate::directive::{Directive, Row, directive_of};
+use crate::directive::{Directive, Fault, OfRun, Row, directive_of};
 use crate::reason::{BadLine, Reason};
+use crate::slots::Crash;
 use crate::want::{After, Output, Want};
 use std::alloc::Global;
 
@@ -44,6 +45,10 @@ pub struct Run {
     pub want: Want,
     /// The files of the calls of the store, where each is to fail in turn.
     pub each_fault: Option<Vec<String>>,
+    /// How many calls of the disk there are, where each is to fail in turn.
+    pub each_disk_fault: Option<u32>,
+    /// The crash that is left to the commands below.
+    pub crash: Option<Crash>,
     /// The runs over changed files.
     pub rows: Vec<NumberedRow>,
     /// Where a line of text goes.
@@ -64,6 +69,8 @@ pub struct Faults {
     pub store: u32,
     /// How many bytes a failing write leaves; none where it leaves the file as it was.
     pub tear: Option<u32>,
+    /// The call of the disk, counted from 1; 0 for none.
+    pub disk: u32,
     /// The put, counted from 1; 0 for none.
     pub put: u32,
     /// How many bytes of its piece the failing put keeps.
@@ -88,9 +95,24 @@ impl Faults {
         Faults {
             store: 0,
             tear: None,
+            disk: 0,
             put: 0,
             keep: 0,
             room: ROOM,
+        }
+    }
+
+    /// Adds what fails.
+    fn add(&mut self, fault: Fault) {
+        match fault {
+            Fault::Store(call) => self.store = call,
+            Fault::Tear(keep) => self.tear = Some(keep),
+            Fault::Disk(call) => self.disk = call,
+            Fault::Put { number, keep } => {
+                self.put = number;
+                self.keep = keep;
+            }
+            Fault::Room(room) => self.room = room,
         }
     }
 }
@@ -107,6 +129,8 @@ impl Run {
                 after: Vec::new(alloc),
             },
             each_fault: None,
+            each_disk_fault: None,
+            crash: None,
             rows: Vec::new(alloc),
             block: Block::Output,
         }
@@ -120,40 +144,42 @@ impl Run {
                     text.extend_from_slice(lines)?;
                     Ok(())
                 }
-                Output::Copy(_) | Output::Rows(_) => Err(Reason::NoText),
+                Output::Copy(_) | Output::Begin(_) | Output::Rows(_) | Output::Numbered { .. } => {
+                    Err(Reason::NoText)
+                },
             },
             Block::After => match self.want.after.last_mut() {
-                Some(after) => {
-                    after.bytes.extend_from_slice(lines)?;
+                Some(
+                    After {
+                        bytes: Some(bytes),
+                        ..
+                    },
+                ) => {
+                    bytes.extend_from_slice(lines)?;
                     Ok(())
                 }
-                None => Err(Reason::NoText),
+                _ => Err(Reason::NoText),
             },
         }
     }
 
     /// Does what a line says of it.
-    fn state(&mut self, line: u64, directive: Directive) -> Result<(), Reason> {
-        match directive {
-            Directive::FailStore(call) => self.faults.store = call,
-            Directive::Tear(keep) => self.faults.tear = Some(keep),
-            Directive::FailPut { number, keep } => {
-                self.faults.put = number;
-                self.faults.keep = keep;
-            }
-            Directive::Room(room) => self.faults.room = room,
-            Directive::EachFault(files) => self.each_fault = Some(files),
-            Directive::Status(status) => self.want.status = Some(status),
-            Directive::Output(output) => {
+    fn state(&mut self, line: u64, said: OfRun) -> Result<(), Reason> {
+        match said {
+            OfRun::Fault(fault) => self.faults.add(fault),
+            OfRun::Crash(crash) => self.crash = Some(crash),
+            OfRun::EachFault(files) => self.each_fault = Some(files),
+            OfRun::EachDiskFault(calls) => self.each_disk_fault = Some(calls),
+            OfRun::Status(status) => self.want.status = Some(status),
+            OfRun::Output(output) => {
                 self.want.output = output;
                 self.block = Block::Output;
             }
-            Directive::After { name, bytes } => {
-                self.want.after.push(After { name, bytes })?;
+            OfRun::After(after) => {
+                self.want.after.push(after)?;
                 self.block = Block::After;
             }
-            Directive::Row(row) => self.rows.push(NumberedRow { line, row })?,
-            _ => return Err(Reason::NoDirective),
+            OfRun::Row(row) => self.rows.push(NumberedRow { line, row })?,
         }
         Ok(())
     }
@@ -220,14 +246,14 @@ impl Builder {
                 let row = row_of(self.alloc, row.as_str())?;
                 self.add_text(&row.lines)
             }
-            directive => self.state(line, directive),
+            Directive::OfRun(said) => self.state(line, said),
         }
     }
 
     /// Does what a line says of the run that has begun.
-    fn state(&mut self, line: u64, directive: Directive) -> Result<(), Reason> {
+    fn state(&mut self, line: u64, said: OfRun) -> Result<(), Reason> {
         match &mut self.open {
-            Open::Run(_, run) => run.state(line, directive),
+            Open::Run(_, run) => run.state(line, said),
             _ => Err(Reason::NoCommand),
         }
     }

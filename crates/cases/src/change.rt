@@ -102,8 +102,26 @@ pub fn apply<S: Store>(
     files: &mut Files,
     folder: &mut S,
 ) -> Result<(), Reason> {
+    match bytes_of(alloc, change, files, folder)? {
+        Some(bytes) => {
+            let _ = files.insert(change.name.clone()?, bytes)?;
+        }
+        None => {
+            let _ = files.remove(change.name.as_str());
+        }
+    }
+    Ok(())
+}
+
+/// What the file holds after a change; none where it goes away.
+fn bytes_of<S: Store>(
+    alloc: Global,
+    change: &Change,
+    files: &Files,
+    folder: &mut S,
+) -> Result<Option<Vec<u8>>, Reason> {
     let name = change.name.as_str();
-    let bytes = match &change.edit {
+    Ok(Some(match &change.edit {
         Edit::Hold(bytes) => bytes.clone()?,
         Edit::Copy(file) => read_file(alloc, folder, file.as_str())?,
         Edit::Spaces(count) => vec![in alloc; b' '; *count as usize]?,
@@ -112,13 +130,8 @@ pub fn apply<S: Store>(
             replaced(alloc, held(files, name)?, old, new, *times)?
         }
         Edit::CutAfter(text) => cut_after(alloc, held(files, name)?, text)?,
-        Edit::Remove => {
-            let _ = files.remove(name);
-            return Ok(());
-        }
-    };
-    let _ = files.insert(change.name.clone()?, bytes)?;
-    Ok(())
+        Edit::Remove => return Ok(None),
+    }))
 }
 
 /// What a file of the folder of the case files holds.
@@ -138,7 +151,7 @@ pub fn held<'a>(files: &'a Files, name: &str) -> Result<&'a [u8], Reason> {
 }
 
 /// What stands before and behind the first of these texts.
-fn split_around<'a>(bytes: &'a [u8], text: &[u8]) -> Option<(&'a [u8], &'a [u8])> {
+pub fn split_around<'a>(bytes: &'a [u8], text: &[u8]) -> Option<(&'a [u8], &'a [u8])> {
     let at = memmem::find(bytes, text)?;
     let end = at.checked_add(text.len())?;
     Some((bytes.get(..at)?, bytes.get(end..)?))

@@ -1,7 +1,8 @@
 //! The lines of a case file.
 use crate::change::{Change, change_of};
 use crate::reason::Reason;
-use crate::want::{Output, Want, want_of};
+use crate::slots::Crash;
+use crate::want::{After, Output, Want, want_of};
 use crate::words::{Token, Words};
 use std::alloc::Global;
 
@@ -14,30 +15,50 @@ pub enum Directive {
     Like(String),
     /// `file NAME ..`: a file is changed.
     File(Change),
-    /// `$ pull ..`, `$ arcs ..` or `$ circuits ..`: a command is run.
+    /// `$ pull ..` or a look: a command is run.
     Command(Vec<String>),
-    /// `fail store NUMBER`: this call of the store fails.
-    FailStore(u32),
-    /// `tear NUMBER`: a write that fails leaves so many bytes.
-    Tear(u32),
-    /// `fail put NUMBER keep COUNT`: this put fails, and keeps so many bytes.
-    FailPut { number: u32, keep: u32 },
-    /// `room COUNT`: the sink takes so many bytes.
-    Room(u32),
+    /// Something of the commands that stand before it.
+    OfRun(OfRun),
+    /// `| TEXT`: a line of the text that has begun.
+    Text(String),
+    /// `: LABEL DATES`: the lines of a row of dates.
+    Dates(String),
+}
+
+/// What a line says of the commands that stand before it.
+#[derive(Drop)]
+pub enum OfRun {
+    /// Something fails.
+    Fault(Fault),
+    /// `crash NUMBER pick PICK`: the commands below find the disk as a crash during this call leaves it.
+    Crash(Crash),
     /// `each fault in turn FILE ..`: each call of the store, which are of these files, and the first put fail in turn.
     EachFault(Vec<String>),
+    /// `each disk fault in turn COUNT`: each call of the disk, which are so many, fails in turn.
+    EachDiskFault(u32),
     /// `status NUMBER`: the status that is wanted.
     Status(u8),
     /// `output ..`: what is to be written.
     Output(Output),
     /// `after NAME ..`: what a file is to hold then.
-    After { name: String, bytes: Vec<u8> },
+    After(After),
     /// `with NAME .. gives STATUS ..`: a run over changed files.
     Row(Row),
-    /// `| TEXT`: a line of the text that has begun.
-    Text(String),
-    /// `: LABEL DATES`: the lines of a row of dates.
-    Dates(String),
+}
+
+/// What fails.
+#[derive(Clone, Copy)]
+pub enum Fault {
+    /// `fail store NUMBER`: this call of the store.
+    Store(u32),
+    /// `tear NUMBER`: a write that fails leaves so many bytes.
+    Tear(u32),
+    /// `fail disk NUMBER`: this call of the disk.
+    Disk(u32),
+    /// `fail put NUMBER keep COUNT`: this put, which keeps so many bytes.
+    Put { number: u32, keep: u32 },
+    /// `room COUNT`: what is put behind so many bytes.
+    Room(u32),
 }
 
 /// A row of a table: changes of the files, and what a run over them gives.
@@ -52,28 +73,62 @@ pub fn directive_of(alloc: Global, line: &str) -> Result<Option<Directive>, Reas
     if line.is_empty() || line.starts_with("#") {
         return Ok(None);
     }
+    if let Some((kind, rest)) = as_it_stands(line) {
+        return Ok(Some(kind.directive(String::from_str(alloc, rest)?)));
+    }
+    Ok(Some(of_words(alloc, line)?))
+}
+
+/// A line whose rest is taken as it stands.
+#[derive(Clone, Copy)]
+enum Plain {
+    Text,
+    Dates,
+    Case,
+    Like,
+}
+
+impl Plain {
+    /// What the line says.
+    fn directive(self, rest: String) -> Directive {
+        match self {
+            Plain::Text => Directive::Text(rest),
+            Plain::Dates => Directive::Dates(rest),
+            Plain::Case => Directive::Case(rest),
+            Plain::Like => Directive::Like(rest),
+        }
+    }
+}
+
+/// The rest of a line that is taken as it stands.
+fn as_it_stands(line: &str) -> Option<(Plain, &str)> {
     if line == "|" {
-        return Ok(Some(Directive::Text(String::new(alloc))));
+        return Some((Plain::Text, ""));
     }
-    if let Some(text) = line.strip_prefix("| ") {
-        return Ok(Some(Directive::Text(String::from_str(alloc, text)?)));
+    if let Some(rest) = line.strip_prefix("| ") {
+        return Some((Plain::Text, rest));
     }
-    if let Some(row) = line.strip_prefix(": ") {
-        return Ok(Some(Directive::Dates(String::from_str(alloc, row)?)));
+    if let Some(rest) = line.strip_prefix(": ") {
+        return Some((Plain::Dates, rest));
     }
-    if let Some(title) = line.strip_prefix("case ") {
-        return Ok(Some(Directive::Case(String::from_str(alloc, title)?)));
+    if let Some(rest) = line.strip_prefix("case ") {
+        return Some((Plain::Case, rest));
     }
-    if let Some(title) = line.strip_prefix("like ") {
-        return Ok(Some(Directive::Like(String::from_str(alloc, title)?)));
+    if let Some(rest) = line.strip_prefix("like ") {
+        return Some((Plain::Like, rest));
     }
+    None
+}
+
+/// What the words of a line say.
+fn of_words(alloc: Global, line: &str) -> Result<Directive, Reason> {
     let mut words = Words::of(alloc, line)?;
     let word = words.word()?;
     let directive = worded(alloc, word.as_str(), &mut words)?;
     if words.len() > 0 {
         return Err(Reason::NoDirective);
     }
-    Ok(Some(directive))
+    Ok(directive)
 }
 
 /// What a word and those behind it say.
@@ -81,11 +136,20 @@ fn worded(alloc: Global, word: &str, words: &mut Words) -> Result<Directive, Rea
     match word {
         "$" => Ok(Directive::Command(words.names()?)),
         "file" => Ok(Directive::File(change_of(alloc, words)?)),
-        "with" => Ok(Directive::Row(row_of(alloc, words)?)),
-        "status" => Ok(Directive::Status(words.status()?)),
-        "output" => Ok(Directive::Output(output_of(alloc, words)?)),
-        "after" => after_of(alloc, words),
-        _ => fault_of(word, words),
+        _ => Ok(Directive::OfRun(of_run(alloc, word, words)?)),
+    }
+}
+
+/// What a word and those behind it say of the commands that stand before it.
+fn of_run(alloc: Global, word: &str, words: &mut Words) -> Result<OfRun, Reason> {
+    match word {
+        "with" => Ok(OfRun::Row(row_of(alloc, words)?)),
+        "status" => Ok(OfRun::Status(words.status()?)),
+        "output" => Ok(OfRun::Output(output_of(alloc, words)?)),
+        "after" => Ok(OfRun::After(after_of(alloc, words)?)),
+        "each" => each_of(words),
+        "crash" => Ok(OfRun::Crash(crash_of(words)?)),
+        _ => Ok(OfRun::Fault(fault_of(word, words)?)),
     }
 }
 
@@ -107,51 +171,82 @@ fn row_of(alloc: Global, words: &mut Words) -> Result<Row, Reason> {
 fn output_of(alloc: Global, words: &mut Words) -> Result<Output, Reason> {
     match words.next() {
         None => Ok(Output::Whole(Vec::new(alloc))),
-        Some(Token::Text(text)) => Ok(Output::Whole(text)),
+        Some(Token::Text(text)) => output_of_text(text, words),
         Some(Token::Word(word)) => match word.as_str() {
             "ends" => Ok(Output::End(Vec::new(alloc))),
             "from" => Ok(Output::Copy(words.name()?)),
+            "begins" => Ok(Output::Begin(words.text()?)),
             "first" => Ok(Output::Front(words.number()?, Vec::new(alloc))),
             _ => Err(Reason::NoDirective),
         },
     }
 }
 
+/// The output that begins with a text.
+fn output_of_text(text: Vec<u8>, words: &mut Words) -> Result<Output, Reason> {
+    if !words.passes("from") {
+        return Ok(Output::Whole(text));
+    }
+    let least = words.number()?;
+    words.expect_word("to")?;
+    let most = words.number()?;
+    Ok(Output::Numbered { text, least, most })
+}
+
 /// The file that stands behind `after`.
-fn after_of(alloc: Global, words: &mut Words) -> Result<Directive, Reason> {
+fn after_of(alloc: Global, words: &mut Words) -> Result<After, Reason> {
     let name = words.name()?;
-    let bytes = if words.len() > 0 {
-        words.text()?
+    let bytes = if words.passes("anything") {
+        None
+    } else if words.len() > 0 {
+        Some(words.text()?)
     } else {
-        Vec::new(alloc)
+        Some(Vec::new(alloc))
     };
-    Ok(Directive::After { name, bytes })
+    Ok(After { name, bytes })
+}
+
+/// The faults that stand behind `each`.
+fn each_of(words: &mut Words) -> Result<OfRun, Reason> {
+    let of_disk = words.passes("disk");
+    words.expect_word("fault")?;
+    words.expect_word("in")?;
+    words.expect_word("turn")?;
+    if of_disk {
+        return Ok(OfRun::EachDiskFault(words.number()?));
+    }
+    Ok(OfRun::EachFault(words.names()?))
+}
+
+/// The crash that stands behind `crash`.
+fn crash_of(words: &mut Words) -> Result<Crash, Reason> {
+    let call = words.number()?;
+    words.expect_word("pick")?;
+    let pick = words.status()?;
+    Ok(Crash { call, pick })
 }
 
 /// What a word and those behind it say of what fails.
-fn fault_of(word: &str, words: &mut Words) -> Result<Directive, Reason> {
+fn fault_of(word: &str, words: &mut Words) -> Result<Fault, Reason> {
     match word {
         "fail" => failing_of(words),
-        "tear" => Ok(Directive::Tear(words.number()?)),
-        "room" => Ok(Directive::Room(words.number()?)),
-        "each" => {
-            words.expect_word("fault")?;
-            words.expect_word("in")?;
-            words.expect_word("turn")?;
-            Ok(Directive::EachFault(words.names()?))
-        }
+        "tear" => Ok(Fault::Tear(words.number()?)),
+        "room" => Ok(Fault::Room(words.number()?)),
         _ => Err(Reason::NoDirective),
     }
 }
 
 /// The call that stands behind `fail`.
-fn failing_of(words: &mut Words) -> Result<Directive, Reason> {
+fn failing_of(words: &mut Words) -> Result<Fault, Reason> {
     if words.passes("store") {
-        return Ok(Directive::FailStore(words.number()?));
+        return Ok(Fault::Store(words.number()?));
+    }
+    if words.passes("disk") {
+        return Ok(Fault::Disk(words.number()?));
     }
     words.expect_word("put")?;
     let number = words.number()?;
     words.expect_word("keep")?;
     let keep = words.number()?;
-    Ok(Directive::FailPut { number, keep })
+    Ok(Fault::Put { number, keep })
 }

@@ -6,6 +6,7 @@ ghost use Rattle.plant_model.specs.Sound.{IsSound};
 use crate::reason::Reason;
 use circuit_sums::{CardCircuit, CircuitKind, card_circuits};
 use event_graph::{Arc, Graph};
+use line_base::Items;
 use line_graph::graph_of;
 use plant_file::{complete_draft, read_plant};
 use plant_model::Plant;
@@ -30,9 +31,14 @@ fn plant_of(alloc: Global, bytes: &[u8]) -> Result<Plant, Reason>
 /// The arcs of a plant's graph in order, a line each: its number, the stations at its start and its end, its tokens, whether
 /// it is worked, and its delay.
 pub fn arcs_of(alloc: Global, bytes: &[u8]) -> Result<Vec<u8>, Reason> {
-    let plant = plant_of(alloc, bytes)?;
-    let graph = graph_of(alloc, &plant)?;
+    let graph = graph_for(alloc, bytes)?;
     Ok(arc_lines(alloc, &graph)?)
+}
+
+/// The graph of the plant of a plant file. What its contract says is let go here.
+fn graph_for(alloc: Global, bytes: &[u8]) -> Result<Graph, Reason> {
+    let plant = plant_of(alloc, bytes)?;
+    Ok(graph_of(alloc, &plant)?)
 }
 
 /// The lines of the arcs of a graph.
@@ -73,14 +79,19 @@ fn kind_of(arc: Arc) -> &'static str {
 
 /// The card circuits of a plant in order, a line each: whose cards they are, their number, and the arcs.
 pub fn circuits_of(alloc: Global, bytes: &[u8]) -> Result<Vec<u8>, Reason> {
-    let plant = plant_of(alloc, bytes)?;
-    let graph = graph_of(alloc, &plant)?;
-    let circuits = card_circuits(alloc, &plant, &graph)?;
+    let circuits = circuits_for(alloc, bytes)?;
     let mut text = Vec::new(alloc);
     for circuit in circuits.as_slice() {
         add_circuit(alloc, &mut text, circuit)?;
     }
     Ok(text)
+}
+
+/// The card circuits of the plant of a plant file. What their contract says is let go here.
+fn circuits_for(alloc: Global, bytes: &[u8]) -> Result<Items<CardCircuit>, Reason> {
+    let plant = plant_of(alloc, bytes)?;
+    let graph = graph_of(alloc, &plant)?;
+    Ok(card_circuits(alloc, &plant, &graph)?)
 }
 
 /// Adds the line of a card circuit.

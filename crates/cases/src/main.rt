@@ -3,12 +3,14 @@
 
 mod case;
 mod change;
+mod compare;
 mod dates;
 mod directive;
 mod draws;
 mod looks;
 mod reason;
 mod runner;
+mod slots;
 mod told;
 mod want;
 mod words;
@@ -20,6 +22,7 @@ use reason::Reason;
 use runner::run_case;
 use std::alloc::Global;
 use std::process::ExitCode;
+use std::thread::Threads;
 
 /// The file that names the case files in order, one a line.
 const LIST: &str = "CASES.txt";
@@ -34,7 +37,7 @@ fn main(rt: HostRuntime) -> ExitCode {
     let alloc = rt.alloc();
     let mut folder = FileStore::new(&rt);
     let mut sink = StdSink::new(&rt);
-    match run_all(alloc, &mut folder, &mut sink) {
+    match run_all(&rt, alloc, &mut folder, &mut sink) {
         Ok(true) => ExitCode::SUCCESS,
         Ok(false) => FAILED.into(),
         Err(_) => BROKEN.into(),
@@ -42,11 +45,16 @@ fn main(rt: HostRuntime) -> ExitCode {
 }
 
 /// Runs the cases of all case files. Answers whether each came to what is wanted.
-fn run_all<S: Store, K: Sink>(alloc: Global, folder: &mut S, sink: &mut K) -> Result<bool, Reason> {
+fn run_all<R: Threads + Sync, S: Store, K: Sink>(
+    rt: &R,
+    alloc: Global,
+    folder: &mut S,
+    sink: &mut K,
+) -> Result<bool, Reason> {
     let mut all_well = true;
     let list = text_of(alloc, folder, LIST)?;
     for name in list.lines() {
-        all_well &= run_file(alloc, name, folder, sink)?;
+        all_well &= run_file(rt, alloc, name, folder, sink)?;
     }
     Ok(all_well)
 }
@@ -60,7 +68,8 @@ fn text_of<S: Store>(alloc: Global, folder: &mut S, name: &str) -> Result<String
 }
 
 /// Runs the cases of a file.
-fn run_file<S: Store, K: Sink>(
+fn run_file<R: Threads + Sync, S: Store, K: Sink>(
+    rt: &R,
     alloc: Global,
     name: &str,
     folder: &mut S,
@@ -77,13 +86,14 @@ fn run_file<S: Store, K: Sink>(
     };
     let mut all_well = true;
     for case in cases.iter() {
-        all_well &= report(alloc, name, case, folder, sink)?;
+        all_well &= report(rt, alloc, name, case, folder, sink)?;
     }
     Ok(all_well)
 }
 
 /// Runs a case, and prints its line, or what came in full.
-fn report<S: Store, K: Sink>(
+fn report<R: Threads + Sync, S: Store, K: Sink>(
+    rt: &R,
     alloc: Global,
     name: &str,
     case: &Case,
@@ -91,7 +101,7 @@ fn report<S: Store, K: Sink>(
     sink: &mut K,
 ) -> Result<bool, Reason> {
     let title = case.title.as_str();
-    match run_case(alloc, case, folder) {
+    match run_case(rt, alloc, case, folder) {
         Ok(told) if told.is_empty() => {
             let line = format!(in alloc; "{name}: {title} ok\n")?;
             print(sink, line.as_bytes())?;

@@ -34,6 +34,9 @@ pub enum Reason {
     /// The plant isn't sound, or names other files, where its graph is to be shown.
     #[error("the plant is refused, or names other files")]
     NoPlant,
+    /// The disk got no such call, or what its slots hold is too long.
+    #[error("the disk got no such call")]
+    NoSuchCall,
     /// What is to be printed can't be.
     #[error("the output can't be written")]
     NoSink,

@@ -1,22 +1,37 @@
 //! Runs a case, and tells what came that isn't wanted.
-use crate::case::{Act, Case, Faults, Run};
-use crate::change::{apply, held, read_file};
+use crate::case::{Act, Case, Faults, NumberedRow, Run};
+use crate::change::{Change, apply, held};
+use crate::compare::{has_files, has_output};
 use crate::looks::{arcs_of, circuits_of};
 use crate::reason::{BadLine, Reason};
+use crate::slots::{Crash, Slots};
 use crate::told::{add_came, add_changed};
 use crate::want::{After, Output};
+use line_disk::MemDisk;
 use line_io::{Files, MemSink, MemStore, Store};
+use line_workers::FreeGate;
 use pull_cli::pull;
 use std::alloc::Global;
+use std::thread::Threads;
 
-/// A command that is tried over files.
+/// What a command finds: the files of the store, and the slots of the disk.
+#[derive(Drop)]
+struct Found {
+    files: Files,
+    slots: Slots,
+}
+
+/// A command that is tried over files and slots.
 #[derive(Clone, Copy)]
 struct Attempt<'a> {
     /// The line of the case.
     line: u64,
     words: &'a [String],
     files: &'a Files,
+    slots: &'a Slots,
     faults: Faults,
+    /// The crash that is left to the commands below.
+    crash: Option<Crash>,
     status: u8,
     output: &'a Output,
     after: &'a [After],
@@ -29,16 +44,36 @@ pub struct Came {
     pub written: Vec<u8>,
     /// What is told of the files where they are not those that are wanted.
     pub changed: Vec<u8>,
+    /// What the commands below find; nothing where it is what this one found.
+    left: Option<Left>,
+}
+
+/// What a command leaves to those below.
+#[derive(Drop)]
+struct Left {
+    /// The files of which something is wanted, as the command leaves them.
+    files: Files,
+    slots: Slots,
 }
 
 /// What a case comes to that isn't wanted; nothing where all is.
-pub fn run_case<S: Store>(alloc: Global, case: &Case, folder: &mut S) -> Result<Vec<u8>, BadLine> {
-    let mut files = Files::new(alloc);
+pub fn run_case<R: Threads + Sync, S: Store>(
+    rt: &R,
+    alloc: Global,
+    case: &Case,
+    folder: &mut S,
+) -> Result<Vec<u8>, BadLine> {
+    let mut found = Found {
+        files: Files::new(alloc),
+        slots: Slots::blank(alloc),
+    };
     let mut told = Vec::new(alloc);
     for step in case.steps.iter() {
         let done = match &step.act {
-            Act::Change(change) => apply(alloc, change, &mut files, folder),
-            Act::Run(run) => run_commands(alloc, run, step.line, &mut files, folder, &mut told),
+            Act::Change(change) => apply(alloc, change, &mut found.files, folder),
+            Act::Run(run) => {
+                run_commands(rt, alloc, run, step.line, &mut found, folder, &mut told)
+            }
         };
         if let Err(reason) = done {
             return Err(BadLine {
@@ -50,126 +85,227 @@ pub fn run_case<S: Store>(alloc: Global, case: &Case, folder: &mut S) -> Result<
     Ok(told)
 }
 
-/// Runs commands one after the other over the files.
-fn run_commands<S: Store>(
+/// Runs commands one after the other over what each finds.
+fn run_commands<R: Threads + Sync, S: Store>(
+    rt: &R,
     alloc: Global,
     run: &Run,
     line: u64,
-    files: &mut Files,
+    found: &mut Found,
     folder: &mut S,
     told: &mut Vec<u8>,
 ) -> Result<(), Reason> {
     for words in run.commands.iter() {
-        run_rows(alloc, run, words, files, folder, told)?;
+        for row in run.rows.iter() {
+            run_row(rt, alloc, run.faults, row, words, found, folder, told)?;
+        }
         if let Some(status) = run.want.status {
-            let attempt = Attempt {
-                line,
-                words,
-                files,
-                faults: run.faults,
-                status,
-                output: &run.want.output,
-                after: &run.want.after,
-            };
-            let came = tried(alloc, &attempt, folder, told)?;
-            if let Some(reads) = &run.each_fault {
-                fail_in_turn(alloc, &attempt, reads, came.written, folder, told)?;
-            }
-            hold(files, &run.want.after)?;
+            let attempt = attempt_of(run, line, words, found, status);
+            let left = run_command(rt, alloc, run, &attempt, folder, told)?;
+            leave(found, left)?;
         }
     }
     Ok(())
 }
 
-/// Gives files what they are to hold after a run.
-fn hold(files: &mut Files, after: &[After]) -> Result<(), Reason> {
-    for file in after {
-        let _ = files.insert(file.name.clone()?, file.bytes.clone()?)?;
+/// The attempt at a command of a run.
+fn attempt_of<'a>(
+    run: &'a Run,
+    line: u64,
+    words: &'a [String],
+    found: &'a Found,
+    status: u8,
+) -> Attempt<'a> {
+    Attempt {
+        line,
+        words,
+        files: &found.files,
+        slots: &found.slots,
+        faults: run.faults,
+        crash: run.crash,
+        status,
+        output: &run.want.output,
+        after: &run.want.after,
     }
-    Ok(())
 }
 
-/// Runs a command over the files of each row of a table.
-fn run_rows<S: Store>(
+/// Tries a command, and then with each fault in turn. Answers what it leaves.
+fn run_command<R: Threads + Sync, S: Store>(
+    rt: &R,
     alloc: Global,
     run: &Run,
-    words: &[String],
-    files: &Files,
+    attempt: &Attempt,
     folder: &mut S,
     told: &mut Vec<u8>,
-) -> Result<(), Reason> {
-    for numbered in run.rows.iter() {
-        let mut changed = files.clone()?;
-        for change in numbered.row.changes.iter() {
-            apply(alloc, change, &mut changed, folder)?;
+) -> Result<Option<Left>, Reason> {
+    let came = tried(rt, alloc, attempt, folder, told)?;
+    fail_in_turn(rt, alloc, run, attempt, &came.written, folder, told)?;
+    Ok(came.left)
+}
+
+/// Goes on with what a command leaves.
+fn leave(found: &mut Found, left: Option<Left>) -> Result<(), Reason> {
+    if let Some(left) = left {
+        for (name, bytes) in left.files.iter() {
+            let _ = found.files.insert(name.clone()?, bytes.clone()?)?;
         }
-        let attempt = Attempt {
-            line: numbered.line,
-            words,
-            files: &changed,
-            faults: run.faults,
-            status: numbered.row.want.status.unwrap_or(0),
-            output: &numbered.row.want.output,
-            after: &[],
-        };
-        tried(alloc, &attempt, folder, told)?;
+        found.slots = left.slots;
     }
     Ok(())
 }
 
-/// Makes each call of the store fail in turn, which are of these files, then one more, and then the first put, which keeps
-/// nothing or five bytes.
-fn fail_in_turn<S: Store>(
+/// Runs a command over the files of a row of a table.
+fn run_row<R: Threads + Sync, S: Store>(
+    rt: &R,
     alloc: Global,
-    attempt: &Attempt,
-    reads: &[String],
-    whole: Vec<u8>,
+    faults: Faults,
+    numbered: &NumberedRow,
+    words: &[String],
+    found: &Found,
     folder: &mut S,
     told: &mut Vec<u8>,
 ) -> Result<(), Reason> {
-    let mut call = 1u32;
-    for name in reads {
-        let text = format!(in alloc; "store: {}\n", name.as_str())?;
+    let files = changed_files(alloc, &found.files, &numbered.row.changes, folder)?;
+    let attempt = Attempt {
+        line: numbered.line,
+        words,
+        files: &files,
+        slots: &found.slots,
+        faults,
+        crash: None,
+        status: numbered.row.want.status.unwrap_or(0),
+        output: &numbered.row.want.output,
+        after: &[],
+    };
+    tried(rt, alloc, &attempt, folder, told)?;
+    Ok(())
+}
+
+/// The files with these changes.
+fn changed_files<S: Store>(
+    alloc: Global,
+    files: &Files,
+    changes: &[Change],
+    folder: &mut S,
+) -> Result<Files, Reason> {
+    let mut changed = files.clone()?;
+    for change in changes {
+        apply(alloc, change, &mut changed, folder)?;
+    }
+    Ok(changed)
+}
+
+/// Makes the calls of the store and of the disk fail in turn, and the first put, where a run is to have it so. Without a
+/// fault all of this was written.
+fn fail_in_turn<R: Threads + Sync, S: Store>(
+    rt: &R,
+    alloc: Global,
+    run: &Run,
+    attempt: &Attempt,
+    whole: &[u8],
+    folder: &mut S,
+    told: &mut Vec<u8>,
+) -> Result<(), Reason> {
+    if let Some(calls) = run.each_disk_fault {
+        fail_disk(rt, alloc, attempt, calls, folder, told)?;
+    }
+    if let Some(names) = &run.each_fault {
+        fail_store(rt, alloc, attempt, names, folder, told)?;
+        let nothing = Output::Whole(Vec::new(alloc));
+        fail_put(rt, alloc, attempt, 0, &nothing, folder, told)?;
+        let front = Output::Front(5, whole.to_vec(alloc)?);
+        fail_put(rt, alloc, attempt, 5, &front, folder, told)?;
+    }
+    Ok(())
+}
+
+/// Makes each call of the store fail in turn, which are of these files, then one more.
+fn fail_store<R: Threads + Sync, S: Store>(
+    rt: &R,
+    alloc: Global,
+    attempt: &Attempt,
+    names: &[String],
+    folder: &mut S,
+    told: &mut Vec<u8>,
+) -> Result<(), Reason> {
+    let mut store = 1u32;
+    for name in names {
+        let text = format!(in alloc;
+            "store: {}
+",
+            name.as_str()
+        )?;
         let failed = Attempt {
             status: 5,
             output: &Output::Whole(text.into_bytes()),
             after: &[],
             ..*attempt
         };
-        fail_call(alloc, &failed, call, folder, told)?;
-        call = call.saturating_add(1);
+        let faults = Faults {
+            store,
+            ..attempt.faults
+        };
+        try_failing(rt, alloc, &failed, faults, folder, told)?;
+        store = store.saturating_add(1);
     }
-    fail_call(alloc, attempt, call, folder, told)?;
-    fail_put(
-        alloc,
-        attempt,
-        0,
-        &Output::Whole(Vec::new(alloc)),
-        folder,
-        told,
-    )?;
-    fail_put(alloc, attempt, 5, &Output::Front(5, whole), folder, told)
+    let faults = Faults {
+        store,
+        ..attempt.faults
+    };
+    try_failing(rt, alloc, attempt, faults, folder, told)
 }
 
-/// Makes a call of the store fail.
-fn fail_call<S: Store>(
+/// Makes each call of the disk fail in turn, then one more.
+fn fail_disk<R: Threads + Sync, S: Store>(
+    rt: &R,
     alloc: Global,
     attempt: &Attempt,
-    call: u32,
+    calls: u32,
     folder: &mut S,
     told: &mut Vec<u8>,
 ) -> Result<(), Reason> {
+    let line = Output::Whole(b"disk\n".to_vec(alloc)?);
+    let failed = Attempt {
+        status: 12,
+        output: &line,
+        after: &[],
+        ..*attempt
+    };
+    for disk in 1..=calls {
+        let faults = Faults {
+            disk,
+            ..attempt.faults
+        };
+        try_failing(rt, alloc, &failed, faults, folder, told)?;
+    }
     let faults = Faults {
-        store: call,
+        disk: calls.saturating_add(1),
         ..attempt.faults
     };
-    let attempt = Attempt { faults, ..*attempt };
-    tried(alloc, &attempt, folder, told)?;
+    try_failing(rt, alloc, attempt, faults, folder, told)
+}
+
+/// Tries a command with these faults. No command below finds what it leaves.
+fn try_failing<R: Threads + Sync, S: Store>(
+    rt: &R,
+    alloc: Global,
+    attempt: &Attempt,
+    faults: Faults,
+    folder: &mut S,
+    told: &mut Vec<u8>,
+) -> Result<(), Reason> {
+    let failing = Attempt {
+        faults,
+        crash: None,
+        ..*attempt
+    };
+    tried(rt, alloc, &failing, folder, told)?;
     Ok(())
 }
 
 /// Makes the first put fail, after which this was written.
-fn fail_put<S: Store>(
+fn fail_put<R: Threads + Sync, S: Store>(
+    rt: &R,
     alloc: Global,
     attempt: &Attempt,
     keep: u32,
@@ -182,24 +318,23 @@ fn fail_put<S: Store>(
         keep,
         ..attempt.faults
     };
-    let attempt = Attempt {
-        faults,
+    let failed = Attempt {
         status: 6,
         output,
         ..*attempt
     };
-    tried(alloc, &attempt, folder, told)?;
-    Ok(())
+    try_failing(rt, alloc, &failed, faults, folder, told)
 }
 
 /// What comes of an attempt; it is told where it isn't wanted.
-fn tried<S: Store>(
+fn tried<R: Threads + Sync, S: Store>(
+    rt: &R,
     alloc: Global,
     attempt: &Attempt,
     folder: &mut S,
     told: &mut Vec<u8>,
 ) -> Result<Came, Reason> {
-    let came = call(alloc, attempt)?;
+    let came = call(rt, alloc, attempt)?;
     let fits = attempt.status == came.status
         && has_output(alloc, &came.written, attempt.output, folder)?
         && came.changed.is_empty();
@@ -209,8 +344,8 @@ fn tried<S: Store>(
     Ok(came)
 }
 
-/// Runs a command: the top call, or a look at a plant.
-fn call(alloc: Global, attempt: &Attempt) -> Result<Came, Reason> {
+/// Runs a command: the top call, or a look at a plant or at the slots.
+fn call<R: Threads + Sync>(rt: &R, alloc: Global, attempt: &Attempt) -> Result<Came, Reason> {
     match attempt.words {
         [program, name] if program.as_str() == "arcs" => {
             let text = arcs_of(alloc, held(attempt.files, name.as_str())?)?;
@@ -220,7 +355,10 @@ fn call(alloc: Global, attempt: &Attempt) -> Result<Came, Reason> {
             let text = circuits_of(alloc, held(attempt.files, name.as_str())?)?;
             Ok(looked(alloc, text))
         }
-        [_, words @ ..] => pulled(alloc, words, attempt),
+        [program] if program.as_str() == "slots" => {
+            Ok(looked(alloc, attempt.slots.text(alloc)?))
+        }
+        [_, words @ ..] => pulled(rt, alloc, words, attempt),
         [] => Err(Reason::NoDirective),
     }
 }
@@ -231,104 +369,84 @@ fn looked(alloc: Global, written: Vec<u8>) -> Came {
         status: 0,
         written,
         changed: Vec::new(alloc),
+        left: None,
     }
 }
 
 /// The status of the top call. What its contract says is let go here.
-fn status_of(alloc: Global, words: &[String], store: &mut MemStore, sink: &mut MemSink) -> u8 {
-    pull(alloc, words, store, sink)
+fn status_of<R: Threads + Sync>(
+    rt: &R,
+    alloc: Global,
+    words: &[String],
+    store: &mut MemStore,
+    sink: &mut MemSink,
+    disk: &mut MemDisk,
+) -> u8 {
+    pull(rt, alloc, words, store, sink, &FreeGate, disk)
 }
 
-/// Runs the top call over files and a sink in memory.
-fn pulled(alloc: Global, words: &[String], attempt: &Attempt) -> Result<Came, Reason> {
-    let faults = attempt.faults;
-    let files = attempt.files.clone()?;
-    let failing = vec![in alloc; faults.store]?;
-    let mut store = match faults.tear {
-        None => MemStore::new(alloc, files, failing),
-        Some(keep) => MemStore::torn(alloc, files, failing, keep),
+/// Runs the top call over files, a sink and a disk in memory.
+fn pulled<R: Threads + Sync>(
+    rt: &R,
+    alloc: Global,
+    words: &[String],
+    attempt: &Attempt,
+) -> Result<Came, Reason> {
+    let mut store = store_of(alloc, attempt.files, attempt.faults)?;
+    let mut sink = sink_of(alloc, attempt.faults)?;
+    let mut disk = attempt.slots.disk(alloc, attempt.faults.disk)?;
+    let status = status_of(rt, alloc, words, &mut store, &mut sink, &mut disk);
+    let left = Left {
+        files: wanted_files(alloc, store.files(), attempt.after)?,
+        slots: Slots::left_on(alloc, &disk, attempt.crash)?,
     };
-    let mut sink = MemSink::new(alloc, faults.room, vec![in alloc; faults.put]?, faults.keep)?;
-    let status = status_of(alloc, words, &mut store, &mut sink);
+    came_of(alloc, attempt, status, sink.written(), store.files(), left)
+}
+
+/// What came of a command that ended with this status, wrote this, and left these files.
+fn came_of(
+    alloc: Global,
+    attempt: &Attempt,
+    status: u8,
+    written: &[u8],
+    files: &Files,
+    left: Left,
+) -> Result<Came, Reason> {
     let mut changed = Vec::new(alloc);
-    if !has_files(store.files(), attempt.files, attempt.after) {
-        add_changed(alloc, &mut changed, attempt.files, store.files())?;
+    if !has_files(files, attempt.files, attempt.after) {
+        add_changed(alloc, &mut changed, attempt.files, files)?;
     }
     Ok(Came {
         status,
-        written: sink.written().to_vec(alloc)?,
+        written: written.to_vec(alloc)?,
         changed,
+        left: Some(left),
     })
 }
 
-/// Whether what was written is what is wanted.
-fn has_output<S: Store>(
-    alloc: Global,
-    written: &[u8],
-    output: &Output,
-    folder: &mut S,
-) -> Result<bool, Reason> {
-    match output {
-        Output::Whole(text) => Ok(written == text.as_slice()),
-        Output::Copy(file) => Ok(written == read_file(alloc, folder, file.as_str())?.as_slice()),
-        Output::End(text) => Ok(written.ends_with(text)),
-        Output::Front(count, text) => {
-            let front = text.get(..*count as usize).unwrap_or(text);
-            Ok(written == front)
-        }
-        Output::Rows(rows) => {
-            for row in rows.iter() {
-                if lines_of(alloc, written, row.label.as_str())?.as_bytes()
-                    != row.lines.as_slice()
-                {
-                    return Ok(false);
-                }
-            }
-            Ok(true)
-        }
-    }
+/// A sink with these faults.
+fn sink_of(alloc: Global, faults: Faults) -> Result<MemSink, Reason> {
+    let failing = vec![in alloc; faults.put]?;
+    Ok(MemSink::new(alloc, faults.room, failing, faults.keep)?)
 }
 
-/// The lines that begin with a label and a space; none where the bytes are no text.
-fn lines_of(alloc: Global, written: &[u8], label: &str) -> Result<String, Reason> {
-    let mut lines = String::new(alloc);
-    for line in str::from_utf8(written).unwrap_or("").lines() {
-        if let Some(rest) = line.strip_prefix(label) {
-            if rest.starts_with(" ") {
-                lines.push_str(line)?;
-                lines.push_str("\n")?;
-            }
-        }
-    }
-    Ok(lines)
+/// A store of these files, with these faults.
+fn store_of(alloc: Global, files: &Files, faults: Faults) -> Result<MemStore, Reason> {
+    let files = files.clone()?;
+    let failing = vec![in alloc; faults.store]?;
+    Ok(match faults.tear {
+        None => MemStore::new(alloc, files, failing),
+        Some(keep) => MemStore::torn(alloc, files, failing, keep),
+    })
 }
 
-/// Whether the files are those from before, but for these.
-fn has_files(files: &Files, before: &Files, after: &[After]) -> bool {
-    for (name, bytes) in before.iter() {
-        if !is_after(name, after) && files.get(name.as_str()) != Some(bytes) {
-            return false;
-        }
-    }
+/// The files of which something is wanted, as they are.
+fn wanted_files(alloc: Global, files: &Files, after: &[After]) -> Result<Files, Reason> {
+    let mut wanted = Files::new(alloc);
     for file in after {
-        if files.get(file.name.as_str()) != Some(&file.bytes) {
-            return false;
+        if let Some(bytes) = files.get(file.name.as_str()) {
+            let _ = wanted.insert(file.name.clone()?, bytes.clone()?)?;
         }
     }
-    for (name, _) in files.iter() {
-        if !is_after(name, after) && !before.contains_key(name.as_str()) {
-            return false;
-        }
-    }
-    true
-}
-
-/// Whether a file is among these.
-fn is_after(name: &String, after: &[After]) -> bool {
-    for file in after {
-        if file.name == *name {
-            return true;
-        }
-    }
-    false
+    Ok(wanted)
 }

@@ -26,8 +26,16 @@ pub enum Output {
     End(Vec<u8>),
     /// It is the first bytes of this, so many.
     Front(u32, Vec<u8>),
+    /// It begins with this.
+    Begin(Vec<u8>),
     /// Its lines of these labels are these.
     Rows(Vec<Row>),
+    /// It is this, with a number of this range in the place of `{}`.
+    Numbered {
+        text: Vec<u8>,
+        least: u32,
+        most: u32,
+    },
 }
 
 /// A file after a run.
@@ -35,8 +43,8 @@ pub enum Output {
 pub struct After {
     /// Its name.
     pub name: String,
-    /// What it holds.
-    pub bytes: Vec<u8>,
+    /// What it holds; none where that is left open.
+    pub bytes: Option<Vec<u8>>,
 }
 
 /// What is wanted by the words that are left: a status, and the one line that is written, or rows of dates, each behind a

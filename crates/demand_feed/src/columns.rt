@@ -1,14 +1,14 @@
 ghost use Rattle.std.specs.Prelude.{◌≡◌, ◌≤◌, ◌<◌, ◌==◌, All, Contains, IfErr, IfOk, Ok, length};
 ghost use Rattle.std.specs.List.{position_or_len};
 ghost use Rattle.std.specs.List.Sorted.{IsStrictlyIncreasing};
-ghost use Rattle.line_base.specs.declared.limits.TheConstants.{MAX_COLUMN, MAX_FILE_BYTES, MAX_TIME};
+ghost use Rattle.line_base.specs.declared.limits.TheConstants.{MAX_CHECKPOINT_BYTES, MAX_COLUMN, MAX_TIME};
 ghost use Rattle.demand_feed.specs.FeedError.{TellsBadRecord};
 ghost use Rattle.demand_feed.specs.JobTimes.{field_of, numbers_in};
 ghost use Rattle.demand_feed.specs.Times.{times_of};
 
 use crate::error::FeedError;
 use crate::rows::{Rows, read_rows};
-use line_base::{MAX_COLUMN, MAX_FILE_BYTES, MAX_TIME};
+use line_base::{MAX_CHECKPOINT_BYTES, MAX_COLUMN, MAX_TIME};
 use std::alloc::{AllocError, Global};
 use std::marker::Model;
 
@@ -92,7 +92,7 @@ fn place_of(columns: &[u32], column: u32) -> usize
 /// those of RFC 4180 as the crate `csv` reads them, of any number of fields each; a byte order mark
 /// at the front is no part of the first.
 pub fn read_times(alloc: Global, bytes: &[u8], columns: &[u32]) -> Result<Columns, FeedError>
-    requires size { length bytes.now ≤ MAX_FILE_BYTES }
+    requires size { length bytes.now ≤ MAX_CHECKPOINT_BYTES }
     requires ascending { IsStrictlyIncreasing columns.now }
     requires in_range { All (λ column. (1 ≤ column) × (column ≤ MAX_COLUMN)) columns.now }
     ensures columns { IfOk result (λ table. table.columns ≡ columns.now) }

@@ -1,6 +1,6 @@
 //! A draft becomes a plant, once the files that it names have been read.
 ghost use Rattle.std.specs.Prelude.{◌≡◌, ◌≢◌, ◌≤◌, ◌<◌, [], ◌∷◌, ℕ, List, Option, All, Ok, IfErr, IfOk, IfSome, map, is_some, option_map, option_copied, length, vec_len};
-ghost use Rattle.line_base.specs.declared.limits.TheConstants.{MAX_DEMAND_DATE, MAX_FILE_BYTES};
+ghost use Rattle.line_base.specs.declared.limits.TheConstants.{MAX_CHECKPOINT_BYTES, MAX_DEMAND_DATE};
 ghost use Rattle.demand_feed.specs.Dates.{dates_of};
 ghost use Rattle.demand_feed.specs.Times.{times_of};
 ghost use Rattle.plant_model.specs.Sound.{IsSound};
@@ -50,7 +50,7 @@ pub fn complete_draft(
 ) -> Result<Plant, PlantError>
     requires demands_where_used { is_some demands ≡ is_some (demands_file draft) }
     requires times_where_used { is_some times ≡ is_some draft.times_file }
-    requires times_size { IfSome times (λ bytes. length bytes.now ≤ MAX_FILE_BYTES) }
+    requires times_size { IfSome times (λ bytes. length bytes.now ≤ MAX_CHECKPOINT_BYTES) }
     ensures plant { AnswersPlant result (completed draft (option_copied demands.entry) (option_copied times.entry)) }
     ensures sound { IfOk result IsSound }
 
@@ -92,7 +92,7 @@ fn times_in(
     bytes: Option<&[u8]>,
 ) -> Result<Option<Columns>, PlantError>
     requires where_used { is_some bytes ≡ is_some draft.now.times_file }
-    requires size { IfSome bytes (λ bs. length bs.now ≤ MAX_FILE_BYTES) }
+    requires size { IfSome bytes (λ bs. length bs.now ≤ MAX_CHECKPOINT_BYTES) }
     ensures held { IfOk result (HoldsTimes draft.now (option_copied bytes.entry)) }
     ensures refused { IfErr result (λ e. e ≢ PlantError.NoMemory
         → bad_record_in (times_of (columns_of draft.now)) draft.now.times_file (option_copied bytes.entry) ≡ e ∷ []) }

@@ -1,7 +1,9 @@
 //! The program `pull`: it hands the words of the command line to the top call and ends with its status.
 #![tactic(auto)]
 
+use line_disk::FileDisk;
 use line_io::{FileStore, StdSink};
+use line_workers::FreeGate;
 use pull_cli::pull;
 use std::process::ExitCode;
 use std::rt::Env;
@@ -28,5 +30,15 @@ fn main(rt: HostRuntime) -> ExitCode {
     };
     let mut store = FileStore::new(&rt);
     let mut sink = StdSink::new(&rt);
-    pull(rt.alloc(), words.as_slice(), &mut store, &mut sink).into()
+    let mut disk = FileDisk::new(&rt);
+    pull(
+        &rt,
+        rt.alloc(),
+        words.as_slice(),
+        &mut store,
+        &mut sink,
+        &FreeGate,
+        &mut disk,
+    )
+    .into()
 }

@@ -1,4 +1,5 @@
-pub mod Commands
-pub mod FileReads
-pub mod PlantsOfFiles
-pub mod StepLemmas
+pub mod Causes
+pub mod Ending
+pub mod FileLemmas
+pub mod HeadlineLemmas
+pub mod Refusals

@@ -1,7 +1,4 @@
 pub mod Ends
-pub mod Line
-pub mod Outcome
-pub mod Outside
-pub mod Replies
-pub mod Steps
+pub mod Files
+pub mod Headline
 pub mod Verdict

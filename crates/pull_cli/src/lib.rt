@@ -1,11 +1,10 @@
-//! The top call of `pull`: it reads the words of the command line, the plant file and what else a command needs from a
-//! store, and writes what the command has to say to a sink.
+//! The top call of `pull`: it reads the words of the command line, the plant file and what else a
+//! command needs from a store, does what the command asks for, by workers, over a store and a disk,
+//! and writes what it has to say to a sink.
 #![tactic(auto)]
 
-mod files;
-mod line;
-mod outcome;
+mod commands;
 mod top;
 
-pub use pull_words::{Command, FileName, USAGE, WordsError, read_words};
+pub use command_words::{Command, FileName, Stop, USAGE, WordsError, read_words};
 pub use top::pull;

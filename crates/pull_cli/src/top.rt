@@ -1,59 +1,125 @@
-ghost use Rattle.std.specs.Prelude.{◌≡◌, ◌⊎◌, Err};
-ghost use Rattle.plant_model.specs.Graph.{graph};
-ghost use Rattle.plant_model.specs.Sound.{IsSound};
-ghost use Rattle.line_io.specs.Contents.{SameFiles};
-ghost use Rattle.pull_words.specs.Words.{texts, command_of};
-ghost use Rattle.line_core.specs.Schedule.{follow};
-ghost use Rattle.pull_words.specs.CheckText.{check_text as text_of_check};
-ghost use Rattle.pull_cli.specs.Ends.{Ends, OfWords, Finishes, Writes, WritesReply};
-ghost use Rattle.pull_cli.specs.Outcome.{answer_of};
-ghost use Rattle.pull_cli.specs.Outside.{store_over, sink_over};
-ghost use Rattle.pull_cli.specs.Steps.{Makes};
-ghost use Rattle.pull_cli.specs.Verdict.{OfCommand, IsReport, IsEnd};
+ghost use Rattle.std.specs.Prelude.{◌≡◌, ◌++◌, Err, OnOk, OnErr};
+ghost use Rattle.command_words.specs.Options.{texts};
+ghost use Rattle.command_words.specs.Ranges.{IsInRange};
+ghost use Rattle.command_words.specs.Usage.{as_line};
+ghost use Rattle.command_words.specs.Words.{command_of};
+ghost use Rattle.line_io.specs.Faults.{Rose};
+ghost use Rattle.line_io.specs.SinkView.{PutsAll, PutsFront};
+ghost use Rattle.pull_steps.specs.Deeds.{disk_over, Does};
+ghost use Rattle.pull_steps.specs.Outside.{store_over, sink_over};
+ghost use Rattle.pull_cli.specs.Ends.{Ends, Finishes, IsWrittenInParts, Writes, WritesReply};
+ghost use Rattle.pull_cli.specs.Files.{FilesStay};
+ghost use Rattle.pull_cli.specs.Headline.{Headline};
+ghost use Rattle.pull_cli.specs.Verdict.{CommandDoes, OfWords};
 
-use crate::files::read_file;
-use crate::line::{Line, read_line, report_of};
-use crate::outcome::Outcome;
-use line_core::replay;
-use line_io::{Failed, Sink, Store, put_all};
-use line_report::{Report, SinkFault};
-use pull_words::{
-    Command, OUT_OF_MEMORY, Reply, WordsError, check_text, read_words, schedule_reply,
+use crate::commands::{
+    check_plant, cycle_plant, edit_plant, replay_plant, resume_plant, resume_plant_from_slots,
+    run_or_stop_plant, run_plant_with_slots, size_plant,
 };
+use command_words::{Command, WordsError, read_words};
+use itoa::Buffer;
+use line_disk::Disk;
+use line_io::{Failed, Sink, Store, put_all};
+use line_workers::Gate;
+use pull_deeds::{Output, big};
+use pull_words::{OUT_OF_MEMORY, Reply};
 use std::alloc::Global;
+use std::thread::Threads;
 
-/// Does what the words after the program's name ask for, and answers the status that the program ends with. The words are
-/// read first, then the plant file and what it names, then the schedule. Nothing is written before all of this is done and
-/// tried. Each status but 0 and 6 has written exactly its one line.
-pub fn pull<S: Store, K: Sink>(alloc: Global, words: &[String], store: &mut S, sink: &mut K) -> u8
-    ensures ends { Ends (texts words.now) (store_over S.tells (S.shown store.old) (S.shown store.new))
+/// Does what the words after the program's name ask for, and answers the status that the program
+/// ends with. The words are read first, then the plant file and what it names, then the command's
+/// own file or the slots. Nothing but the line of a refusal is written before all of this is done
+/// and tried. Each status but 0 and 6 has written exactly its one line. No file changes but the
+/// one in which a run that is told to stop saves, and that one only with status 0, 5 or 6.
+pub fn pull<R: Threads + Sync, S: Store, K: Sink, G: Gate, D: Disk>(
+    rt: &R,
+    alloc: Global,
+    words: &[String],
+    store: &mut S,
+    sink: &mut K,
+    gate: &G,
+    disk: &mut D,
+) -> u8
+    ensures ends { Ends (texts words.now)
+        (store_over S.tells (S.shown store.old) (S.shown store.new))
+        (sink_over (K.shown sink.old) (K.shown sink.new))
+        (disk_over D.tells (D.shown disk.old) (D.shown disk.new)) result }
+    ensures headline { Headline (texts words.now)
+        (store_over S.tells (S.shown store.old) (S.shown store.new))
         (sink_over (K.shown sink.old) (K.shown sink.new)) result }
-    ensures files_stay { SameFiles S.tells (S.shown store.old).files (S.shown store.new).files }
+    ensures files { FilesStay (texts words.now)
+        (store_over S.tells (S.shown store.old) (S.shown store.new))
+        (sink_over (K.shown sink.old) (K.shown sink.new)) result }
 {
-    match outcome_of(alloc, words, store) {
-        Outcome::Reported { report } => write_report(report, sink),
-        Outcome::Said { reply } => write_reply(alloc, &reply, sink),
+    match outcome_of(rt, alloc, words, store, gate, disk) {
+        Ok(output) => write_output(output, sink),
+        Err(reply) => write_reply(alloc, &reply, sink),
     }
 }
 
-/// Writes a report, and answers the status, or 6 where the sink failed.
-fn write_report<K: Sink>(mut report: Report, sink: &mut K) -> u8
-    ensures { Finishes (sink_over (K.shown sink.old) (K.shown sink.new)) (Outcome.Reported report) result }
+/// Writes what writes itself, and answers the status, or 6 where the sink failed.
+fn write_output<K: Sink>(output: Output, sink: &mut K) -> u8
+    ensures { Finishes (sink_over (K.shown sink.old) (K.shown sink.new)) (Ok output) result }
 {
-    match report.write(sink) {
+    match output.write(sink) {
         Ok(()) => 0,
-        Err(SinkFault) => 6,
+        Err(Failed) => 6,
     }
 }
 
-/// Writes a reply, or the line of want of memory where there is none for its text, and answers the status.
+/// Writes a reply, and answers the status. What comes after a write of the checkpoint is written in
+/// parts and takes no memory, so that the status tells what became of its file.
 fn write_reply<K: Sink>(alloc: Global, reply: &Reply, sink: &mut K) -> u8
+    ensures { WritesReply (sink_over (K.shown sink.old) (K.shown sink.new)) reply.now result }
+{
+    match reply {
+        Reply::Stopped { fired } => {
+            let mut digits = Buffer::new();
+            let count = digits.format(*fired);
+            write_line(sink, reply.status(), b"stopped ", count.as_bytes())
+        }
+        Reply::StoreFault { file } => {
+            write_line(sink, reply.status(), b"store: ", file.as_str().as_bytes())
+        }
+        _ => write_text(alloc, reply, sink),
+    }
+}
+
+/// Writes the text of a reply, or the line of want of memory where there is none for it, and
+/// answers the status.
+fn write_text<K: Sink>(alloc: Global, reply: &Reply, sink: &mut K) -> u8
+    requires { ¬ (IsWrittenInParts reply.now) }
     ensures { WritesReply (sink_over (K.shown sink.old) (K.shown sink.new)) reply.now result }
 {
     match reply.text(alloc) {
         Ok(text) => write_all(sink, reply.status(), text.as_slice()),
         Err(_) => write_all(sink, Reply::NoMemory.status(), OUT_OF_MEMORY.as_bytes()),
     }
+}
+
+/// Writes a line of these words and what they are of, and answers the status, or 6 where the sink
+/// failed. It takes no memory.
+fn write_line<K: Sink>(sink: &mut K, status: u8, words: &[u8], named: &[u8]) -> u8
+    ensures { Writes (sink_over (K.shown sink.old) (K.shown sink.new))
+        (as_line (words.now ++ named.now)) status result }
+{
+    match put_line(sink, words, named) {
+        Ok(()) => status,
+        Err(Failed) => 6,
+    }
+}
+
+/// Puts a line of these words and what they are of.
+fn put_line<K: Sink>(sink: &mut K, words: &[u8], named: &[u8]) -> Result<(), Failed>
+    ensures appended { OnOk result (PutsAll (K.shown sink.old) (K.shown sink.new)
+        (as_line (words.now ++ named.now))) }
+    ensures front { OnErr result (PutsFront (K.shown sink.old) (K.shown sink.new)
+        (as_line (words.now ++ named.now))) }
+    ensures cause { OnErr result (Rose (K.shown sink.old).faults (K.shown sink.new).faults) }
+{
+    put_all(sink, words)?;
+    put_all(sink, named)?;
+    put_all(sink, b"\n")
 }
 
 /// Writes a text, and answers the status, or 6 where the sink failed.
@@ -67,100 +133,78 @@ fn write_all<K: Sink>(sink: &mut K, status: u8, text: &[u8]) -> u8
 }
 
 /// What the words come to.
-fn outcome_of<S: Store>(alloc: Global, words: &[String], store: &mut S) -> Outcome
-    ensures { Makes (store_over S.tells (S.shown store.old) (S.shown store.new))
-        (OfWords (command_of (texts words.now))) (answer_of result) }
+fn outcome_of<R: Threads + Sync, S: Store, G: Gate, D: Disk>(
+    rt: &R,
+    alloc: Global,
+    words: &[String],
+    store: &mut S,
+    gate: &G,
+    disk: &mut D,
+) -> Result<Output, Reply>
+    ensures { Does (store_over S.tells (S.shown store.old) (S.shown store.new))
+        (disk_over D.tells (D.shown disk.old) (D.shown disk.new))
+        (OfWords S.tells (S.shown store.old).files (command_of (texts words.now))) result }
 {
     match read_words(alloc, words) {
-        Ok(Command::Run { plant }) => run(alloc, store, plant.as_str()),
-        Ok(Command::Check { plant }) => check(alloc, store, plant.as_str()),
-        Ok(Command::Replay { plant, schedule }) => {
-            replay_schedule(alloc, store, plant.as_str(), schedule.as_str())
+        Ok(command) => do_command(rt, alloc, command, store, gate, disk),
+        Err(WordsError::Usage) => Err(Reply::Usage),
+        Err(WordsError::NoMemory) => Err(Reply::NoMemory),
+    }
+}
+
+/// What a command comes to.
+fn do_command<R: Threads + Sync, S: Store, G: Gate, D: Disk>(
+    rt: &R,
+    alloc: Global,
+    command: Command,
+    store: &mut S,
+    gate: &G,
+    disk: &mut D,
+) -> Result<Output, Reply>
+    requires { IsInRange command }
+    ensures { CommandDoes (store_over S.tells (S.shown store.old) (S.shown store.new))
+        (disk_over D.tells (D.shown disk.old) (D.shown disk.new)) command result }
+{
+    match command {
+        Command::Help => Err(Reply::Help),
+        Command::Version => Err(Reply::Version),
+        Command::Run {
+            plant,
+            workers,
+            stop,
+        } => { run_or_stop_plant(rt, alloc, store, plant.as_str(), workers, stop, gate) }
+        Command::RunSlots {
+            plant,
+            every,
+            workers,
+        } => { run_plant_with_slots(rt, alloc, store, plant.as_str(), every, workers, gate, disk) }
+        Command::Resume {
+            plant,
+            saved,
+            workers,
+        } => {
+            resume_plant(
+                rt,
+                alloc,
+                store,
+                plant.as_str(),
+                saved.as_str(),
+                workers,
+                gate,
+            )
         }
-        Ok(Command::Help) => said(Reply::Help),
-        Ok(Command::Version) => said(Reply::Version),
-        Err(WordsError::Usage) => said(Reply::Usage),
-        Err(WordsError::NoMemory) => said(Reply::NoMemory),
+        Command::ResumeSlots { plant, workers } => {
+            resume_plant_from_slots(rt, alloc, store, plant.as_str(), workers, gate, disk)
+        }
+        Command::Check { plant } => check_plant(alloc, store, plant.as_str()),
+        Command::Replay { plant, schedule } => {
+            replay_plant(alloc, store, plant.as_str(), schedule.as_str())
+        }
+        Command::Cycle { plant } => cycle_plant(alloc, store, plant.as_str()),
+        Command::Cards { plant, wait } => size_plant(alloc, store, plant.as_str(), wait),
+        Command::WhatIf { plant, edits } => {
+            edit_plant(alloc, store, plant.as_str(), edits.as_str())
+        }
+        Command::Big { seed, workers } => big(rt, alloc, seed, workers, gate),
     }
-}
-
-/// What `run PLANT` comes to.
-fn run<S: Store>(alloc: Global, store: &mut S, plant: &str) -> Outcome
-    ensures { Makes (store_over S.tells (S.shown store.old) (S.shown store.new))
-        (OfCommand (Command.Run plant.now)) (answer_of result) }
-{
-    match read_line(alloc, store, plant) {
-        Ok(line) => run_line(alloc, line),
-        Err(stop) => said(stop),
-    }
-}
-
-/// What a line comes to that is run.
-fn run_line(alloc: Global, line: Line) -> Outcome
-    requires sound { IsSound line.plant }
-    requires graph { line.live.graph ≡ graph line.plant }
-    ensures { IsReport line.plant (answer_of result) ⊎ (answer_of result ≡ Err Reply.NoMemory) }
-{
-    match line_core::run(alloc, &line.live) {
-        Ok(end) => report_of(alloc, line, end),
-        Err(_) => said(Reply::NoMemory),
-    }
-}
-
-/// What `check PLANT` comes to.
-fn check<S: Store>(alloc: Global, store: &mut S, plant: &str) -> Outcome
-    ensures { Makes (store_over S.tells (S.shown store.old) (S.shown store.new))
-        (OfCommand (Command.Check plant.now)) (answer_of result) }
-{
-    match read_line(alloc, store, plant) {
-        Ok(line) => check_line(alloc, &line),
-        Err(stop) => said(stop),
-    }
-}
-
-/// What a line comes to that is checked.
-fn check_line(alloc: Global, line: &Line) -> Outcome
-    requires sound { IsSound line.now.plant }
-    requires graph { line.now.live.graph ≡ graph line.now.plant }
-    ensures { answer_of result ≡ Err (Reply.Checked (text_of_check line.now.plant)) ⊎ (answer_of result ≡ Err Reply.NoMemory) }
-{
-    match check_text(alloc, &line.plant, line.live.graph()) {
-        Ok(text) => said(Reply::Checked { text }),
-        Err(_) => said(Reply::NoMemory),
-    }
-}
-
-/// What `replay PLANT SCHEDULE` comes to.
-fn replay_schedule<S: Store>(alloc: Global, store: &mut S, plant: &str, schedule: &str) -> Outcome
-    ensures { Makes (store_over S.tells (S.shown store.old) (S.shown store.new))
-        (OfCommand (Command.Replay plant.now schedule.now)) (answer_of result) }
-{
-    let line = match read_line(alloc, store, plant) {
-        Ok(line) => line,
-        Err(stop) => return said(stop),
-    };
-    match read_file(alloc, store, schedule) {
-        Ok(bytes) => replay_line(alloc, line, bytes.as_slice()),
-        Err(stop) => said(stop),
-    }
-}
-
-/// What a line comes to whose stations fire by a schedule.
-fn replay_line(alloc: Global, line: Line, schedule: &[u8]) -> Outcome
-    requires sound { IsSound line.plant }
-    requires graph { line.live.graph ≡ graph line.plant }
-    ensures { IsEnd line.plant (follow (graph line.plant) schedule.now) (answer_of result)
-        ⊎ (answer_of result ≡ Err Reply.NoMemory) }
-{
-    match replay(alloc, &line.live, schedule) {
-        Ok(end) => report_of(alloc, line, end),
-        Err(error) => said(schedule_reply(alloc, line.live.graph(), error)),
-    }
-}
-
-/// What a reply comes to.
-fn said(reply: Reply) -> Outcome
-    ensures { result ≡ Outcome.Said reply }
-{
-    Outcome::Said { reply }
 }

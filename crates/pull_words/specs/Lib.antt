@@ -6,5 +6,3 @@ pub mod Refusals
 pub mod Reply
 pub mod ScheduleLine
 pub mod ScheduleRefusals
-pub mod Usage
-pub mod Words

@@ -1,13 +1,16 @@
 -- What a command may answer in words, and the status and the text of each reply.
 use Rattle.std.specs.Prelude.{ℕ, List, ◌++◌, codes, decimal, ⊤}
 use Rattle.plant_model.specs.Reasons.{plant_reason}
-use Rattle.command_words.specs.Usage.{as_line}
+use Rattle.command_words.specs.Usage.{as_line, usage}
 use Rattle.pull_words.specs.CheckpointLine.{checkpoint_line}
 use Rattle.pull_words.specs.DeadLine.{dead_line}
 use Rattle.pull_words.specs.ScheduleLine.{schedule_line}
-use Rattle.pull_words.specs.Usage.{usage, version}
 use Rattle.pull_words.specs.declared.reply.Reply.{Reply}
 use Rattle.pull_words.specs.declared.reply.Reply.TheVariants.{Usage, Help, Version, Refused, Dead, StoreFault, NoMemory, TooLong, NotFollowed, Checked, Stopped, NotReached, Varying, Disk, NoCount, NothingSaved, NotEdited, NoSingleCount, CycleFound, CardsFound}
+
+-- the name and version of the program
+abbrev pub version : List ℕ
+version = as_line (codes "pull 0.1.0")
 
 -- the status that the program ends with
 abbrev pub status_of : Reply → ℕ

@@ -1,5 +1,4 @@
-//! The words of `pull`: those after its name, as a command, and those that it answers, as a reply with its status and its
-//! text.
+//! What `pull` answers in words: each reply, with its status and its text.
 #![tactic(auto)]
 
 mod check;
@@ -9,8 +8,6 @@ mod labels;
 mod refusals;
 mod reply;
 mod schedule;
-mod usage;
-mod words;
 
 pub use check::check_text;
 pub use checkpoint_refusal::{CheckpointRefusal, checkpoint_reply};
@@ -18,7 +15,5 @@ pub use command_words::FileName;
 pub use cycle::cycle_reply;
 pub use line_graph::dead_labels;
 pub use refusals::ScheduleRefusal;
-pub use reply::{OUT_OF_MEMORY, Reply};
+pub use reply::{OUT_OF_MEMORY, Reply, VERSION};
 pub use schedule::schedule_reply;
-pub use usage::{USAGE, VERSION};
-pub use words::{Command, WordsError, read_words};

@@ -1,20 +1,22 @@
 ghost use Rattle.std.specs.Prelude.{◌≡◌, ◌++◌, IfOk, OnErr, string_bytes};
 ghost use Rattle.std.specs.Cow.{cow_slice_items};
-ghost use Rattle.command_words.specs.Usage.{as_line};
+ghost use Rattle.command_words.specs.Usage.{as_line, usage};
 ghost use Rattle.pull_words.specs.Reply.{status_of, text_of, IsFixed};
 ghost use Rattle.pull_words.specs.Refusals.{sizing_reply, edits_reply};
 ghost use Rattle.pull_words.specs.declared.reply.Reply.TheVariants.{NoMemory};
 
 use crate::checkpoint_refusal::{CheckpointRefusal, checkpoint_line};
 use crate::refusals::{ScheduleRefusal, dead_line, schedule_line};
-use crate::usage::{USAGE, VERSION};
 use card_sizing::SizingError;
-use command_words::FileName;
+use command_words::{FileName, USAGE, usage_is_that_of_the_definitions};
 use line_base::{Items, Label};
 use plant_model::PlantError;
 use std::alloc::{AllocError, Global};
 use std::borrow::CowSlice;
 use what_if::RefusedLine;
+
+/// What `--version` shows.
+pub const VERSION: &str = "pull 0.1.0\n";
 
 /// The text of want of memory, which takes none.
 pub const OUT_OF_MEMORY: &str = "memory\n";
@@ -165,7 +167,7 @@ impl Reply {
     {
         let fixed = match self {
             Reply::Usage => "pull: the words are no command\n",
-            Reply::Help => USAGE,
+            Reply::Help => usage(),
             Reply::Version => VERSION,
             Reply::NoMemory => OUT_OF_MEMORY,
             Reply::Disk => "disk\n",
@@ -189,6 +191,14 @@ impl Reply {
         };
         Ok(CowSlice::Borrowed(fixed.as_bytes()))
     }
+}
+
+/// The text of `--help`.
+fn usage() -> &'static str
+    ensures { result.now ≡ usage }
+{
+    usage_is_that_of_the_definitions();
+    USAGE
 }
 
 /// A line of these words and the name of a file.

@@ -1,0 +1,141 @@
+//! What the two slots of a disk hold, from one command of a case to the next.
+use crate::reason::Reason;
+use line_disk::{Disk, DiskError, MemDisk};
+use slot_store::MAX_ROOM;
+use std::alloc::{AllocError, Global};
+
+/// The bytes of a slot before its content.
+const HEADER: u32 = 16;
+
+/// The address of slot 1.
+const START_OF_ONE: u64 = MAX_ROOM + 16;
+
+/// The most bytes of a slot that are kept.
+const MAX_KEPT: u32 = 67_108_864;
+
+/// The calls with which a disk is given what the slots hold, before the first call of a command.
+const FILLING: u32 = 3;
+
+/// The bytes of both slots: their heads, and behind each its content.
+#[derive(Drop)]
+pub struct Slots {
+    zero: Vec<u8>,
+    one: Vec<u8>,
+}
+
+/// A crash of the disk.
+#[derive(Clone, Copy)]
+pub struct Crash {
+    /// The call of the disk during which it comes, counted from 1.
+    pub call: u32,
+    /// What is left of a byte that was written and not yet stable: 0 the old one, 1 the new one, 2 the byte 255.
+    pub pick: u8,
+}
+
+impl From<DiskError> for Reason {
+    fn from(error: DiskError) -> Self {
+        match error {
+            DiskError::Failed => Reason::NoSuchCall,
+            DiskError::NoMemory => Reason::NoMemory,
+        }
+    }
+}
+
+impl Slots {
+    /// The slots of a disk of zeros.
+    pub fn blank(alloc: Global) -> Self {
+        Slots {
+            zero: Vec::new(alloc),
+            one: Vec::new(alloc),
+        }
+    }
+
+    /// A disk that holds the slots. This call of it fails, counted from 1; none at 0.
+    pub fn disk(&self, alloc: Global, failing: u32) -> Result<MemDisk, Reason> {
+        let failing = if failing == 0 {
+            0
+        } else {
+            failing.saturating_add(FILLING)
+        };
+        let mut disk = MemDisk::new(alloc, vec![in alloc; failing]?);
+        fill(&mut disk, 0, &self.zero)?;
+        fill(&mut disk, START_OF_ONE, &self.one)?;
+        disk.sync()?;
+        Ok(disk)
+    }
+
+    /// The slots as a command leaves them, or as a crash during one of its calls does.
+    pub fn left_on(alloc: Global, disk: &MemDisk, crash: Option<Crash>) -> Result<Self, Reason> {
+        let (call, pick) = match crash {
+            None => (disk.calls(), 1),
+            Some(crash) => (crash.call.saturating_add(FILLING), crash.pick),
+        };
+        if call > disk.calls() || pick > 2 {
+            return Err(Reason::NoSuchCall);
+        }
+        let mut left = disk.crash(call, pick)?;
+        let zero = slot_at(alloc, &mut left, 0)?;
+        let one = slot_at(alloc, &mut left, START_OF_ONE)?;
+        Ok(Slots { zero, one })
+    }
+
+    /// What the slots hold, as a text: for each a line with its gate, its number and its length, and its content where the
+    /// gate is open.
+    pub fn text(&self, alloc: Global) -> Result<Vec<u8>, AllocError> {
+        let mut text = Vec::new(alloc);
+        add_slot(alloc, &mut text, 0, &self.zero)?;
+        add_slot(alloc, &mut text, 1, &self.one)?;
+        Ok(text)
+    }
+}
+
+/// Writes the bytes of a slot, which begins there.
+fn fill(disk: &mut MemDisk, start: u64, bytes: &[u8]) -> Result<(), Reason> {
+    if start > START_OF_ONE || bytes.len() > MAX_KEPT as usize {
+        return Err(Reason::NoSuchCall);
+    }
+    disk.write_at(start, bytes)?;
+    Ok(())
+}
+
+/// The bytes of the slot that begins there.
+fn slot_at(alloc: Global, disk: &mut MemDisk, start: u64) -> Result<Vec<u8>, Reason> {
+    if start > START_OF_ONE {
+        return Err(Reason::NoSuchCall);
+    }
+    let head = disk.read(alloc, start, HEADER)?;
+    let count = HEADER.saturating_add(kept_length(&head));
+    Ok(disk.read(alloc, start, count)?)
+}
+
+/// How many bytes of content the head of a slot tells; none where it tells of more than are kept.
+fn kept_length(head: &[u8]) -> u32 {
+    match head {
+        &[_, _, 0, 0, 0, 0, a, b, c, d, ..] => {
+            let length = u32::from_be_bytes([a, b, c, d]);
+            if length < MAX_KEPT - HEADER {
+                length
+            } else {
+                0
+            }
+        }
+        _ => 0,
+    }
+}
+
+/// Adds what a slot holds.
+fn add_slot(alloc: Global, text: &mut Vec<u8>, slot: u32, bytes: &[u8]) -> Result<(), AllocError> {
+    let (gate, number) = match bytes {
+        &[gate, number, ..] => (gate, number),
+        _ => (0, 0),
+    };
+    let length = kept_length(bytes);
+    let head = format!(in alloc; "slot {slot} gate {gate}")?;
+    text.extend_from_slice(head.as_bytes())?;
+    let rest = format!(in alloc; " number {number} length {length}\n")?;
+    text.extend_from_slice(rest.as_bytes())?;
+    if gate == 1 {
+        text.extend_from_slice(bytes.get(HEADER as usize..).unwrap_or(&[]))?;
+    }
+    Ok(())
+}

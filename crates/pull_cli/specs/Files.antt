@@ -1,0 +1,57 @@
+-- Which file a call may change: FILE of a run that is told to stop, and no other.
+use Rattle.std.specs.Prelude.{◌≡◌, ◌≢◌, ◌⊎◌, ℕ, List, IsTrue, Option, Some, None}
+use Rattle.checkpoint.specs.Text.{text}
+use Rattle.checkpoint.specs.declared.format.Format.TheVariants.{Differences}
+use Rattle.command_words.specs.Words.{command_of}
+use Rattle.command_words.specs.declared.command.Command.{Command}
+use Rattle.command_words.specs.declared.command.Command.TheVariants as command
+use Rattle.command_words.specs.declared.command.Stop.{Stop}
+use Rattle.event_graph.specs.State.{State}
+use Rattle.line_core.specs.Consistent.{fired}
+use Rattle.line_io.specs.Contents.{IsTorn}
+use Rattle.line_io.specs.SinkView.{PutsAll}
+use Rattle.line_runs.specs.Headline.{MayBeResumed}
+use Rattle.line_runs.specs.Stop.{IsStopAt}
+use Rattle.plant_model.specs.declared.plant.Plant.{Plant}
+use Rattle.plant_model.specs.Graph.{graph}
+use Rattle.pull_words.specs.Reply.{text_of}
+use Rattle.pull_words.specs.declared.reply.Reply.TheVariants.{Stopped}
+use Rattle.pull_steps.specs.Outside.{StoreOver, SinkOver}
+use Rattle.pull_cli.specs.Headline.{IsPlantRead}
+
+-- FILE, where the words ask to save in it
+abbrev pub save_of : Option Command → Option (List ℕ)
+save_of (Some (command.Run plant workers (Some stop))) = Some stop.save
+save_of other = None
+
+-- what a run that stopped leaves of FILE: with status 0 these bytes, and with 5 or 6 what was there or a front of them
+abbrev pub LeavesSaved : ℕ → Option (List ℕ) → Option (List ℕ) → List ℕ → Type 0
+LeavesSaved status old new bytes =
+    ((status ≡ 0) × (new ≡ Some bytes)) ⊎ (((status ≡ 5) ⊎ (status ≡ 6)) × IsTorn old new bytes)
+
+-- The run of this plant file stopped at N firings or soon after, in a state from which it may be resumed, and left
+-- this of FILE. With status 0 it wrote that it stopped.
+pub record StopsAndSaves (name : List ℕ) (stop : Stop) (store : StoreOver) (sink : SinkOver) (status : ℕ) : Type 0 where
+  pub plant : Plant
+  pub read : IsPlantRead plant name store
+  pub state : State
+  pub stopped : MayBeResumed (graph plant) state
+  pub count : IsStopAt (graph plant) stop.after 0 (fired state)
+  pub leaves : LeavesSaved status (store.old.files stop.save) (store.new.files stop.save)
+      (text Differences (graph plant) state)
+  pub says : status ≡ 0 → PutsAll sink.old sink.new (text_of (Stopped (fired state)))
+
+-- FILE is as it was, or the run stopped
+abbrev pub StaysOrSaves : List ℕ → Stop → StoreOver → SinkOver → ℕ → Type 0
+StaysOrSaves name stop store sink status =
+    (store.new.files stop.save ≡ store.old.files stop.save) ⊎ StopsAndSaves name stop store sink status
+
+-- Where files are told, every file is as it was but FILE of a run that is told to stop, and with a status other than 0,
+-- 5 and 6 FILE too; and FILE is as it was where the run didn't stop.
+pub record FilesStay (words : List (List ℕ)) (store : StoreOver) (sink : SinkOver) (status : ℕ) : Type 0 where
+  pub others_stay : IsTrue store.tells → (q : List ℕ) → save_of (command_of words) ≢ Some q
+      → store.new.files q ≡ store.old.files q
+  pub file_stays : IsTrue store.tells → (q : List ℕ) → save_of (command_of words) ≡ Some q
+      → status ≢ 0 → status ≢ 5 → status ≢ 6 → store.new.files q ≡ store.old.files q
+  pub stays_or_saves : IsTrue store.tells → (name : List ℕ) (workers : ℕ) (stop : Stop)
+      → command_of words ≡ Some (command.Run name workers (Some stop)) → StaysOrSaves name stop store sink status

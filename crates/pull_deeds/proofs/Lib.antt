@@ -1,0 +1,5 @@
+pub mod Asking
+pub mod Deeds
+pub mod Resumings
+pub mod SlotRuns
+pub mod Stops

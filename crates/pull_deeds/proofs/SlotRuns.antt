@@ -1,0 +1,74 @@
+-- A run of a plant with the slots of a disk.
+use Rattle.std.proofs.Common.{◌≡◌, ◌⊎◌, ℕ, ◌+◌, ◌*◌, ◌≤◌, Bool, [], IsTrue, refl, sym, subst, inl, inr, arith}
+use Rattle.std.specs.Prelude.{Result, Err, IfErr}
+use Rattle.event_graph.specs.Network.{stations}
+use Rattle.event_graph.specs.State.{State, start}
+use Rattle.line_base.specs.declared.event.Parts.{Parts}
+use Rattle.line_base.specs.Limits.{most_checkpoint_bytes}
+use Rattle.line_core.specs.Consistent.{fired}
+use Rattle.line_disk.specs.DiskView.{DiskView, LeavesOnly, held_now}
+use Rattle.line_io.specs.Faults.{Rose}
+use Rattle.line_runs.proofs.Saving.{leaves_at_first}
+use Rattle.line_runs.specs.Saves.{IsOldOrState, IsLateState}
+use Rattle.line_runs.specs.Stop.{all_firings}
+use Rattle.plant_model.specs.declared.plant.Plant.{Plant}
+use Rattle.plant_model.specs.Graph.{graph}
+use Rattle.pull_words.specs.declared.reply.Reply.{Reply}
+use Rattle.pull_words.specs.declared.reply.Reply.TheVariants.{Disk, NoMemory}
+use Rattle.pull_steps.specs.Deeds.{disk_over, HasCause, DoesOnDisk}
+use Rattle.pull_steps.specs.Outside.{StoreOver}
+use Rattle.pull_deeds.proofs.Deeds.{no_memory_caused, uses_disk}
+use Rattle.pull_deeds.proofs.Stops.{fired_at_start, reported_caused}
+use Rattle.pull_deeds.specs.Answers.{IsReport}
+use Rattle.pull_deeds.specs.Saving.{Saves, RunsWithSlots, slot_reply}
+use Rattle.pull_deeds.specs.declared.output.Output.{Output}
+use Rattle.slot_store.specs.declared.error.SlotError.{SlotError}
+use Rattle.slot_store.specs.declared.error.SlotError.TheVariants as slot_error
+
+-- what a run with slots leaves of the disk, whatever it answers
+pub record Kept (tells : Bool) (old new : DiskView) (g : Parts) : Type 0 where
+  pub any_moment : IsTrue tells → LeavesOnly old new (IsOldOrState (held_now old) most_checkpoint_bytes g)
+  pub faults : old.faults ≤ new.faults
+
+-- a disk that isn't used
+pub kept_at_first : (tells : Bool) (view : DiskView) (g : Parts) → Kept tells view view g
+kept_at_first tells view g = record {
+  any_moment = λ told. leaves_at_first view most_checkpoint_bytes g;
+  faults = omega arith;
+}
+
+-- of the plant's graph
+pub kept_of : (tells : Bool) (old new : DiskView) (p : Plant) (g : Parts) → g ≡ graph p → Kept tells old new g → Kept tells old new (graph p)
+kept_of tells old new p g same kept = subst (Kept tells old new) same kept
+
+module _ (tells : Bool) (old new : DiskView) (p : Plant) (n : ℕ) (kept : Kept tells old new (graph p)) where
+  run_does : (answer : Result Output Reply) → ((store : StoreOver) → IfErr answer (HasCause store (disk_over tells old new) [])) → Saves p n (disk_over tells old new) answer ⊎ ((answer ≡ Err Disk) ⊎ (answer ≡ Err NoMemory)) → DoesOnDisk (disk_over tells old new) (RunsWithSlots p n) answer
+  run_does answer caused comes =
+      uses_disk (disk_over tells old new) (RunsWithSlots p n) answer kept.faults caused
+      (record { nothing = refl; any_moment = kept.any_moment; comes = comes })
+
+  pub run_no_memory : (answer : Result Output Reply) → answer ≡ Err NoMemory → DoesOnDisk (disk_over tells old new) (RunsWithSlots p n) answer
+  run_no_memory answer none = run_does answer (λ store. no_memory_caused store (disk_over tells old new) [] answer none) (inr (inr none))
+
+  -- a save failed
+  pub run_fails : (e : SlotError) → (e ≡ slot_error.DiskFault → Rose old.faults new.faults) → DoesOnDisk (disk_over tells old new) (RunsWithSlots p n) (Err (slot_reply e))
+  run_fails slot_error.DiskFault rose = run_does (Err Disk) (λ store. rose refl) (inr (inl refl))
+  run_fails slot_error.NoMemory rose = run_no_memory (Err NoMemory) refl
+  run_fails slot_error.NoneSaved rose = run_no_memory (Err NoMemory) refl
+  run_fails (slot_error.TooLong have) rose = run_no_memory (Err NoMemory) refl
+
+  run_comes : (answer : Result Output Reply) → (IsTrue tells → n + 16 * stations (graph p) ≤ all_firings (graph p) → IsLateState (graph p) n most_checkpoint_bytes (held_now new)) → IsReport p answer ⊎ (answer ≡ Err NoMemory) → Saves p n (disk_over tells old new) answer ⊎ ((answer ≡ Err Disk) ⊎ (answer ≡ Err NoMemory))
+  run_comes answer late (inl report) = inl (record { report = report; late = late })
+  run_comes answer late (inr none) = inr (inr none)
+
+  -- the run came to its end
+  pub run_saves : (answer : Result Output Reply) → (IsTrue tells → n + 16 * stations (graph p) ≤ all_firings (graph p) → IsLateState (graph p) n most_checkpoint_bytes (held_now new)) → IsReport p answer ⊎ (answer ≡ Err NoMemory) → DoesOnDisk (disk_over tells old new) (RunsWithSlots p n) answer
+  run_saves answer late is =
+      run_does answer (λ store. reported_caused store (disk_over tells old new) p answer is) (run_comes answer late is)
+
+-- the state that is saved last, of a run from the start
+pub late_of : (tells : Bool) (new : DiskView) (p : Plant) (g : Parts) (n : ℕ) (begun : State) → g ≡ graph p → begun ≡ start g → (IsTrue tells → fired begun + n + 16 * stations g ≤ all_firings g → IsLateState g n most_checkpoint_bytes (held_now new)) → IsTrue tells → n + 16 * stations (graph p) ≤ all_firings (graph p) → IsLateState (graph p) n most_checkpoint_bytes (held_now new)
+late_of tells new p g n begun same is late told many =
+    let none : fired begun ≡ 0 = fired_at_start g begun is in
+    let few : n + 16 * stations g ≤ all_firings g = subst (λ (h : Parts). n + 16 * stations h ≤ all_firings h) (sym same) many in
+    subst (λ (h : Parts). IsLateState h n most_checkpoint_bytes (held_now new)) same (late told (omega (arith, few, none)))

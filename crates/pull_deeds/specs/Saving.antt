@@ -1,0 +1,122 @@
+-- What a command comes to that saves states: into a file where it stops, or into the slots of a disk on the way; and what
+-- goes on from slots.
+use Rattle.std.specs.Prelude.{◌≡◌, ◌⊎◌, ℕ, ◌+◌, ◌*◌, ◌≤◌, List, [], ◌∷◌, IsTrue, Option, Some, None, Result, Ok, Err, ⊤}
+use Rattle.checkpoint.specs.declared.format.Format.TheVariants.{Differences}
+use Rattle.checkpoint.specs.Text.{text}
+use Rattle.event_graph.specs.Network.{stations}
+use Rattle.event_graph.specs.State.{State}
+use Rattle.line_base.specs.declared.event.Parts.{Parts}
+use Rattle.line_base.specs.Limits.{most_checkpoint_bytes}
+use Rattle.line_core.specs.Consistent.{fired}
+use Rattle.line_disk.specs.DiskView.{LeavesOnly, Stays, held_now}
+use Rattle.line_io.specs.Calls.{Asked, none_asked}
+use Rattle.line_io.specs.declared.store.StoreError.{StoreError}
+use Rattle.line_io.specs.declared.store.StoreError.TheVariants as store_error
+use Rattle.line_runs.specs.Headline.{MayBeResumed}
+use Rattle.line_runs.specs.declared.error.ResumeError.{ResumeError}
+use Rattle.line_runs.specs.declared.error.ResumeError.TheVariants as resume_error
+use Rattle.line_runs.specs.Saves.{IsOldOrState, IsLateState}
+use Rattle.line_runs.specs.Stop.{all_firings, IsShort, IsStopAt}
+use Rattle.plant_model.specs.declared.plant.Plant.{Plant}
+use Rattle.plant_model.specs.Graph.{graph}
+use Rattle.pull_words.specs.CheckpointRefusals.{checkpoint_reply, NamesStation}
+use Rattle.pull_words.specs.declared.reply.Reply.{Reply}
+use Rattle.pull_words.specs.declared.reply.Reply.TheVariants.{Disk, NoMemory, NothingSaved, Stopped, StoreFault}
+use Rattle.slot_store.specs.Crash.{bytes_now}
+use Rattle.slot_store.specs.declared.error.SlotError.{SlotError}
+use Rattle.slot_store.specs.declared.error.SlotError.TheVariants as slot_error
+use Rattle.slot_store.specs.Layout.{content}
+use Rattle.pull_steps.specs.Deeds.{DiskOver, Deed}
+use Rattle.pull_deeds.specs.Answers.{IsReport, IsResumed}
+use Rattle.pull_deeds.specs.declared.output.Output.{Output}
+
+-- what a run comes to that stopped after so many firings, by what the write of its state into this file was answered
+abbrev pub ComesOfWrite : List ℕ → ℕ → Result (Unit {0}) StoreError → Result Output Reply → Type 0
+ComesOfWrite file count (Ok done) answer = answer ≡ Err (Stopped count)
+ComesOfWrite file count (Err store_error.Failed) answer = answer ≡ Err (StoreFault file)
+ComesOfWrite file count (Err store_error.TooLong) answer = ⊥
+ComesOfWrite file count (Err store_error.NoMemory) answer = answer ≡ Err NoMemory
+
+-- these bytes were written to the file, once, and this came of it
+pub record WritesText (file bytes : List ℕ) (count : ℕ) (asked : Asked) (answer : Result Output Reply) : Type 0 where
+  pub given : Result (Unit {0}) StoreError
+  pub writes : asked ≡ record { reads = []; writes = record { name = file; bytes = bytes; answer = given } ∷ [] }
+  pub comes : ComesOfWrite file count given answer
+
+-- nothing was asked of the store, and there was no memory
+abbrev pub AsksNothing : Asked → Result Output Reply → Type 0
+AsksNothing asked answer = (asked ≡ none_asked) × (answer ≡ Err NoMemory)
+
+-- the bytes of a checkpoint of so many firings are saved in a file
+abbrev pub SavesText : List ℕ → List ℕ → ℕ → Deed Output
+SavesText file bytes count asked disk answer =
+    (disk.new ≡ disk.old) × (WritesText file bytes count asked answer ⊎ AsksNothing asked answer)
+
+-- the run stopped in a state from which it may be resumed, at n firings or soon after, and its text was written to the file
+pub record Stops (p : Plant) (n : ℕ) (file : List ℕ) (asked : Asked) (answer : Result Output Reply) : Type 0 where
+  pub state : State
+  pub resumed : MayBeResumed (graph p) state
+  pub stop : IsStopAt (graph p) n 0 (fired state)
+  pub saved : WritesText file (text Differences (graph p) state) (fired state) asked answer
+
+-- the run came to its end before it was stopped, and nothing was written to the store
+pub record Ends (p : Plant) (n : ℕ) (asked : Asked) (answer : Result Output Reply) : Type 0 where
+  pub nothing : asked ≡ none_asked
+  pub short : IsShort (graph p) n 0
+  pub report : IsReport p answer
+
+-- `run --stop-after N --save FILE`
+pub record RunsUntil (p : Plant) (n : ℕ) (file : List ℕ) (asked : Asked) (disk : DiskOver)
+    (answer : Result Output Reply) : Type 0 where
+  pub untouched : disk.new ≡ disk.old
+  pub comes : Stops p n file asked answer ⊎ (Ends p n asked answer ⊎ AsksNothing asked answer)
+
+-- the report, and the state that was saved last has few firings less than all; or the disk failed, or there was no memory
+pub record Saves (p : Plant) (n : ℕ) (disk : DiskOver) (answer : Result Output Reply) : Type 0 where
+  pub report : IsReport p answer
+  pub late : IsTrue disk.tells → n + 16 * stations (graph p) ≤ all_firings (graph p)
+      → IsLateState (graph p) n most_checkpoint_bytes (held_now disk.new)
+
+-- `run --every N --slots`: at any moment the slots hold what a crash could have left before, or the text of a state of the
+-- plant from which it may be resumed
+pub record RunsWithSlots (p : Plant) (n : ℕ) (asked : Asked) (disk : DiskOver) (answer : Result Output Reply) : Type 0 where
+  pub nothing : asked ≡ none_asked
+  pub any_moment : IsTrue disk.tells → LeavesOnly disk.old disk.new
+      (IsOldOrState (held_now disk.old) most_checkpoint_bytes (graph p))
+  pub comes : Saves p n disk answer ⊎ ((answer ≡ Err Disk) ⊎ (answer ≡ Err NoMemory))
+
+-- what is saved is resumed
+abbrev pub IsResumedOf : Plant → Option (List ℕ) → Result Output Reply → Type 0
+IsResumedOf p None answer = answer ≡ Err NothingSaved
+IsResumedOf p (Some bytes) answer = IsResumed p bytes answer
+
+-- what the slots hold is resumed, as the disk reads where it tells, and else as it was read
+pub record ResumesSaved (p : Plant) (disk : DiskOver) (answer : Result Output Reply) : Type 0 where
+  pub saved : Option (List ℕ)
+  pub told : IsTrue disk.tells → content (bytes_now disk.old) most_checkpoint_bytes ≡ saved
+  pub comes : IsResumedOf p saved answer
+
+-- `resume --slots`
+pub record ResumesSlots (p : Plant) (asked : Asked) (disk : DiskOver) (answer : Result Output Reply) : Type 0 where
+  pub nothing : asked ≡ none_asked
+  pub stays : IsTrue disk.tells → Stays disk.old disk.new
+  pub comes : ResumesSaved p disk answer ⊎ ((answer ≡ Err Disk) ⊎ (answer ≡ Err NoMemory))
+
+-- what a save comes to that didn't go well; every checkpoint fits the room of a slot
+abbrev pub slot_reply : SlotError → Reply
+slot_reply slot_error.DiskFault = Disk
+slot_reply slot_error.NoMemory = NoMemory
+slot_reply slot_error.NoneSaved = NoMemory
+slot_reply (slot_error.TooLong have) = NoMemory
+
+-- the station that a checkpoint's refusal names is one of the graph
+abbrev pub NamesStationOf : Parts → ResumeError → Type 0
+NamesStationOf g (resume_error.Checkpoint error) = NamesStation g error
+NamesStationOf g other = ⊤
+
+-- what slots come to from which no run goes on; want of memory may come in place of a checkpoint's refusal
+abbrev pub IsResumeReply : Parts → ResumeError → Reply → Type 0
+IsResumeReply g resume_error.NothingSaved reply = reply ≡ NothingSaved
+IsResumeReply g resume_error.DiskFault reply = reply ≡ Disk
+IsResumeReply g resume_error.NoMemory reply = reply ≡ NoMemory
+IsResumeReply g (resume_error.Checkpoint error) reply = (reply ≡ NoMemory) ⊎ (reply ≡ checkpoint_reply g error)

@@ -1,0 +1,173 @@
+//! Runs of a live plant by a line of workers.
+ghost use Rattle.std.specs.Prelude.{◌≡◌, ◌⊎◌, ◌≤◌, length, Err, IfOk, IsErrOf};
+ghost use Rattle.event_graph.specs.Live.{IsLive};
+ghost use Rattle.line_base.specs.Limits.{most_checkpoint_bytes, most_workers};
+ghost use Rattle.line_runs.specs.Table.{ComesToLeast};
+ghost use Rattle.plant_model.specs.Graph.{graph};
+ghost use Rattle.plant_model.specs.Sound.{IsSound};
+ghost use Rattle.pull_steps.specs.Deeds.{DoesOnStore};
+ghost use Rattle.pull_steps.specs.LivePlant.{IsLivePlant};
+ghost use Rattle.pull_steps.specs.Outside.{store_over};
+ghost use Rattle.pull_deeds.specs.Answers.{IsReport, IsResumed, IsSummary};
+ghost use Rattle.pull_deeds.specs.Saving.{ComesOfWrite, RunsUntil, SavesText};
+ghost use Rattle.line_core.specs.Consistent.{fired};
+ghost use Rattle.line_runs.specs.Store.{text_of};
+
+use crate::output::Output;
+use big_plant::big_plant;
+use command_words::Stop;
+use line_core::{State, Table};
+use line_graph::graph_of;
+use line_io::{Store, StoreError};
+use line_report::Report;
+use line_runs::{Outcome, run_to_end, save_state};
+use line_workers::{Gate, Line};
+use live_check::{Live, NotLive, rank};
+use plant_model::Plant;
+use pull_steps::LivePlant;
+use pull_words::{FileName, Reply, checkpoint_reply};
+use std::alloc::{AllocError, Global};
+use std::thread::Threads;
+
+/// The report of a live plant, over the table that a run of it came to.
+pub(crate) fn report_of(alloc: Global, line: LivePlant, table: Table) -> Result<Output, Reply>
+    requires plant { IsLivePlant line }
+    requires table { ComesToLeast line.live.graph table }
+    ensures { IsReport line.plant result ⊎ (result ≡ Err Reply.NoMemory) }
+{
+    let report = Report::new(alloc, line.plant, line.live, table)?;
+    Ok(Output::Reported { report })
+}
+
+/// Runs a live plant to its end, by so many workers.
+pub fn run<R: Threads + Sync, G: Gate>(
+    rt: &R,
+    alloc: Global,
+    line: LivePlant,
+    workers: u32,
+    gate: &G,
+) -> Result<Output, Reply>
+    requires plant { IsLivePlant line }
+    requires some { 1 ≤ workers }
+    requires few { workers ≤ most_workers }
+    ensures { IsReport line.plant result ⊎ (result ≡ Err Reply.NoMemory) }
+{
+    let table = table_of(rt, alloc, &line.live, workers, gate)?;
+    report_of(alloc, line, table)
+}
+
+/// The dates of a live graph, by so many workers.
+fn table_of<R: Threads + Sync, G: Gate>(
+    rt: &R,
+    alloc: Global,
+    live: &Live,
+    workers: u32,
+    gate: &G,
+) -> Result<Table, AllocError>
+    requires some { 1 ≤ workers }
+    requires few { workers ≤ most_workers }
+    ensures { IfOk result (ComesToLeast live.now.graph) }
+{
+    let work = Line::prepare(alloc, live, workers)?;
+    Ok(run_to_end(rt, live, work, gate))
+}
+
+/// Runs a live plant by so many workers until so many firings are made, and saves the state in
+/// which it stops; or to its end, where all firings are made first.
+pub fn run_until<R: Threads + Sync, G: Gate, S: Store>(
+    rt: &R,
+    alloc: Global,
+    line: LivePlant,
+    workers: u32,
+    stop: Stop,
+    gate: &G,
+    store: &mut S,
+) -> Result<Output, Reply>
+    requires plant { IsLivePlant line }
+    requires some { 1 ≤ workers }
+    requires few { workers ≤ most_workers }
+    ensures { DoesOnStore (store_over S.tells (S.shown store.old) (S.shown store.new))
+        (RunsUntil line.plant stop.after stop.save) result }
+{
+    let work = Line::prepare(alloc, &line.live, workers)?;
+    match line_runs::run_until(rt, &line.live, work, stop.after, gate) {
+        Outcome::Finished(table) => report_of(alloc, line, table),
+        Outcome::Stopped(state) => Err(save(alloc, &line.live, &state, stop, store)),
+    }
+}
+
+/// What a run comes to that stopped in this state: the state is saved in the file of the stop.
+fn save<S: Store>(alloc: Global, live: &Live, state: &State, stop: Stop, store: &mut S) -> Reply
+    requires { live.now.graph ≡ state.now.graph }
+    ensures { DoesOnStore (store_over S.tells (S.shown store.old) (S.shown store.new))
+        (SavesText stop.save (text_of state.now) (fired state.now.state)) (Err result) }
+{
+    let saved = save_state(alloc, live, state, store, stop.save.as_str());
+    save_reply(saved, state.fired(), stop.save)
+}
+
+/// What a run comes to that stopped after so many firings, by what the save of its state in this
+/// file was answered.
+fn save_reply(saved: Result<(), StoreError>, fired: u64, file: FileName) -> Reply
+    requires { ¬ (IsErrOf saved StoreError.TooLong) }
+    ensures { ComesOfWrite file fired saved (Err result) }
+{
+    match saved {
+        Ok(()) => Reply::Stopped { fired },
+        Err(StoreError::Failed) => Reply::StoreFault { file },
+        Err(StoreError::TooLong | StoreError::NoMemory) => Reply::NoMemory,
+    }
+}
+
+/// Goes on from the text of a state of a live plant, by so many workers, to the end.
+pub fn resume<R: Threads + Sync, G: Gate>(
+    rt: &R,
+    alloc: Global,
+    line: LivePlant,
+    bytes: &[u8],
+    workers: u32,
+    gate: &G,
+) -> Result<Output, Reply>
+    requires plant { IsLivePlant line }
+    requires some { 1 ≤ workers }
+    requires few { workers ≤ most_workers }
+    requires short { length bytes.now ≤ most_checkpoint_bytes }
+    ensures { IsResumed line.plant bytes.now result ⊎ (result ≡ Err Reply.NoMemory) }
+{
+    match line_runs::resume(rt, alloc, &line.live, bytes, workers, gate) {
+        Ok(table) => report_of(alloc, line, table),
+        Err(error) => Err(checkpoint_reply(alloc, line.live.graph(), error)),
+    }
+}
+
+/// Runs the plant of a seed to its end, by so many workers.
+pub fn big<R: Threads + Sync, G: Gate>(
+    rt: &R,
+    alloc: Global,
+    seed: u64,
+    workers: u32,
+    gate: &G,
+) -> Result<Output, Reply>
+    requires some { 1 ≤ workers }
+    requires few { workers ≤ most_workers }
+    ensures { IsSummary seed result ⊎ (result ≡ Err Reply.NoMemory) }
+{
+    let plant = big_plant(alloc, seed)?;
+    let live = live_graph(alloc, &plant)?;
+    let table = table_of(rt, alloc, &live, workers, gate)?;
+    let report = Report::new(alloc, plant, live, table)?;
+    Ok(Output::Summarized { report })
+}
+
+/// The live graph of a plant that has one. The only error is want of memory.
+fn live_graph(alloc: Global, plant: &Plant) -> Result<Live, AllocError>
+    requires sound { IsSound plant.now }
+    requires live { IsLive (graph plant.now) }
+    ensures { IfOk result (λ live. live.graph ≡ graph plant.now) }
+{
+    match rank(alloc, graph_of(alloc, plant)?) {
+        Ok(live) => Ok(live),
+        Err(NotLive::NoMemory { .. }) => Err(AllocError),
+        Err(NotLive::Dead { .. }) => unreachable!(),
+    }
+}

@@ -1,0 +1,88 @@
+//! Runs of a live plant with the two slots of a disk.
+ghost use Rattle.std.specs.Prelude.{◌≡◌, ◌≤◌};
+ghost use Rattle.line_base.specs.Limits.{most_workers};
+ghost use Rattle.pull_steps.specs.Deeds.{disk_over, DoesOnDisk};
+ghost use Rattle.pull_steps.specs.LivePlant.{IsLivePlant};
+ghost use Rattle.pull_deeds.specs.Saving.{RunsWithSlots, ResumesSlots, slot_reply};
+ghost use Rattle.pull_deeds.specs.Saving.{NamesStationOf, IsResumeReply};
+
+use crate::output::Output;
+use crate::runs::report_of;
+use event_graph::Graph;
+use line_disk::Disk;
+use line_runs::ResumeError;
+use line_workers::{Gate, Line};
+use pull_steps::LivePlant;
+use pull_words::{Reply, checkpoint_reply};
+use slot_store::SlotError;
+use std::alloc::Global;
+use std::thread::Threads;
+
+/// Runs a live plant to its end, by so many workers, and saves its state in the slots each time
+/// that so many firings were made since the last save or the start.
+pub fn run_with_slots<R: Threads + Sync, G: Gate, D: Disk>(
+    rt: &R,
+    alloc: Global,
+    line: LivePlant,
+    workers: u32,
+    every: u64,
+    gate: &G,
+    disk: &mut D,
+) -> Result<Output, Reply>
+    requires plant { IsLivePlant line }
+    requires some { 1 ≤ workers }
+    requires few { workers ≤ most_workers }
+    requires every { 1 ≤ every }
+    ensures { DoesOnDisk (disk_over D.tells (D.shown disk.old) (D.shown disk.new))
+        (RunsWithSlots line.plant every) result }
+{
+    let work = Line::prepare(alloc, &line.live, workers)?;
+    match line_runs::run_with_slots(rt, alloc, &line.live, work, every, gate, disk) {
+        Ok(table) => report_of(alloc, line, table),
+        Err(error) => Err(slot_reply(error)),
+    }
+}
+
+/// What a save comes to that didn't go well. Every checkpoint fits the room of a slot.
+fn slot_reply(error: SlotError) -> Reply
+    ensures { result ≡ slot_reply error }
+{
+    match error {
+        SlotError::DiskFault => Reply::Disk,
+        SlotError::NoMemory | SlotError::NoneSaved | SlotError::TooLong { .. } => Reply::NoMemory,
+    }
+}
+
+/// Goes on from what the slots hold, by so many workers, to the end.
+pub fn resume_slots<R: Threads + Sync, G: Gate, D: Disk>(
+    rt: &R,
+    alloc: Global,
+    line: LivePlant,
+    workers: u32,
+    gate: &G,
+    disk: &mut D,
+) -> Result<Output, Reply>
+    requires plant { IsLivePlant line }
+    requires some { 1 ≤ workers }
+    requires few { workers ≤ most_workers }
+    ensures { DoesOnDisk (disk_over D.tells (D.shown disk.old) (D.shown disk.new))
+        (ResumesSlots line.plant) result }
+{
+    match line_runs::resume_slots(rt, alloc, &line.live, disk, workers, gate) {
+        Ok(table) => report_of(alloc, line, table),
+        Err(error) => Err(resume_reply(alloc, line.live.graph(), error)),
+    }
+}
+
+/// What slots come to from which no run goes on.
+fn resume_reply(alloc: Global, graph: &Graph, error: ResumeError) -> Reply
+    requires { NamesStationOf graph.now error }
+    ensures { IsResumeReply graph.now error result }
+{
+    match error {
+        ResumeError::NothingSaved => Reply::NothingSaved,
+        ResumeError::DiskFault => Reply::Disk,
+        ResumeError::NoMemory => Reply::NoMemory,
+        ResumeError::Checkpoint(error) => checkpoint_reply(alloc, graph, error),
+    }
+}

@@ -1,0 +1,4 @@
+pub mod DeedLemmas
+pub mod FileReads
+pub mod PlantsOfFiles
+pub mod StepLemmas

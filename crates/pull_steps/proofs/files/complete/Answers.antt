@@ -1,0 +1,80 @@
+use Rattle.std.proofs.Common.{◌≡◌, ◌≢◌, Option, ℕ, List, ap, sym, subst, inl}
+use Rattle.std.specs.Prelude.{Ok, Err}
+use Rattle.plant_draft.specs.Draft.{demands_file}
+use Rattle.plant_file.specs.Finish.{completed}
+use Rattle.plant_model.specs.declared.error.PlantError.TheVariants as plant_error
+use Rattle.pull_steps.specs.Outside.{store_over}
+use Rattle.pull_steps.specs.Replies.{refusal_of}
+use Rattle.pull_steps.specs.Steps.{Step, Gives, LooksAtNamed, Then, Makes}
+use Rattle.pull_steps.specs.PlantSteps.{or_refused}
+use Rattle.plant_model.specs.declared.plant.Plant.{Plant}
+use Rattle.plant_draft.specs.declared.draft.DraftPlant.{DraftPlant}
+use Rattle.pull_steps.proofs.FileReads.{refusal_answers, refusal_caused}
+use Rattle.pull_steps.proofs.StepLemmas.{then_makes, then_settles, then_hands_on}
+use Rattle.pull_steps.proofs.files.complete.Goals as goal
+
+abbrev AfterTimes : DraftPlant → Option (List ℕ) → Option (List ℕ) → Step Plant
+AfterTimes d demands times = Gives (or_refused (completed d demands times))
+
+abbrev AfterDemands : DraftPlant → Option (List ℕ) → Step Plant
+AfterDemands d demands = Then (LooksAtNamed d.times_file) (AfterTimes d demands)
+
+pub returns-in_err-demands-clause-makes : goal.returns-in_err-demands-clause-makes
+returns-in_err-demands-clause-makes g c =
+    let tells = g.S.Store.tells in
+    let old = g.S.Store.shown c.args.store.now in
+    let new = g.S.Store.shown c.read_named.new.store in
+    let d = c.args.draft in
+    let stop = c.in_err-demands.field-0.0 in
+    then_hands_on tells old new (LooksAtNamed (demands_file d)) (AfterDemands d) stop c.from_residual.result c.from_residual.ensures.1
+    (subst (λ (n : Option (List ℕ)). Makes {A = Option (List ℕ)} (store_over tells old new) (LooksAtNamed n) (Err stop)) c.demands_file.ensures c.in_err-demands.ensures.makes)
+
+pub returns-in_err-times-clause-makes : goal.returns-in_err-times-clause-makes
+returns-in_err-times-clause-makes g c =
+    let tells = g.S.Store.tells in
+    let old = g.S.Store.shown c.args.store.now in
+    let between = g.S.Store.shown c.read_named.new.store in
+    let new = g.S.Store.shown c.read_named-2.new.store in
+    let d = c.args.draft in
+    let demands = c.in_ok-demands.demands in
+    let stop = c.in_err-times.field-0.0 in
+    let answer = c.from_residual-in_err-times.result in
+    then_makes tells old between new (LooksAtNamed (demands_file d)) (AfterDemands d) demands answer
+    (subst (λ (n : Option (List ℕ)). Makes (store_over tells old between) (LooksAtNamed n) (Ok demands)) c.demands_file.ensures c.in_ok-demands.ensures.makes)
+    (then_hands_on tells between new (LooksAtNamed d.times_file) (AfterTimes d demands) stop answer c.from_residual-in_err-times.ensures.1
+    (subst (λ (n : Option (List ℕ)). Makes {A = Option (List ℕ)} (store_over tells between new) (LooksAtNamed n) (Err stop)) c.times_file.ensures.name c.in_err-times.ensures.makes))
+
+pub returns-in-Ok-clause-makes : goal.returns-in-Ok-clause-makes
+returns-in-Ok-clause-makes g c =
+    let tells = g.S.Store.tells in
+    let old = g.S.Store.shown c.args.store.now in
+    let between = g.S.Store.shown c.read_named.new.store in
+    let new = g.S.Store.shown c.read_named-2.new.store in
+    let d = c.args.draft in
+    let demands = c.in_ok-demands.demands in
+    let times = c.in_ok-times.times in
+    let plant = c.in-Ok.plant in
+    let given : completed d demands times ≡ Ok plant = rw (← c.slice_of.ensures, ← c.slice_of-2.ensures) c.in-Ok.ensures.plant in
+    then_makes tells old between new (LooksAtNamed (demands_file d)) (AfterDemands d) demands (Ok plant)
+    (subst (λ (n : Option (List ℕ)). Makes (store_over tells old between) (LooksAtNamed n) (Ok demands)) c.demands_file.ensures c.in_ok-demands.ensures.makes)
+    (then_settles tells between new (LooksAtNamed d.times_file) (λ (times : Option (List ℕ)) answer. answer ≡ or_refused (completed d demands times)) times (Ok plant)
+    (subst (λ (n : Option (List ℕ)). Makes (store_over tells between new) (LooksAtNamed n) (Ok times)) c.times_file.ensures.name c.in_ok-times.ensures.makes)
+    (inl (sym (ap or_refused given))) tt)
+
+pub returns-clause-makes : goal.returns-clause-makes
+returns-clause-makes g c =
+    let tells = g.S.Store.tells in
+    let old = g.S.Store.shown c.args.store.now in
+    let between = g.S.Store.shown c.read_named.new.store in
+    let new = g.S.Store.shown c.read_named-2.new.store in
+    let d = c.args.draft in
+    let demands = c.in_ok-demands.demands in
+    let times = c.in_ok-times.times in
+    let error = c.in-Err.error in
+    let given : error ≢ plant_error.NoMemory → completed d demands times ≡ Err error = λ other. rw (← c.slice_of.ensures, ← c.slice_of-2.ensures) (c.in-Err.ensures.plant other) in
+    rw c.refusal_of.ensures
+    (then_makes tells old between new (LooksAtNamed (demands_file d)) (AfterDemands d) demands (Err (refusal_of error))
+    (subst (λ (n : Option (List ℕ)). Makes (store_over tells old between) (LooksAtNamed n) (Ok demands)) c.demands_file.ensures c.in_ok-demands.ensures.makes)
+    (then_settles tells between new (LooksAtNamed d.times_file) (λ (times : Option (List ℕ)) answer. answer ≡ or_refused (completed d demands times)) times (Err (refusal_of error))
+    (subst (λ (n : Option (List ℕ)). Makes (store_over tells between new) (LooksAtNamed n) (Ok times)) c.times_file.ensures.name c.in_ok-times.ensures.makes)
+    (refusal_answers (completed d demands times) error given) (refusal_caused tells new new error)))

@@ -1,0 +1,17 @@
+-- What contracts see of a live plant that was read.
+use Rattle.std.specs.Prelude.{◌≡◌, Result, Ok, Err}
+use Rattle.plant_model.specs.declared.plant.Plant.{Plant}
+use Rattle.plant_model.specs.Graph.{graph}
+use Rattle.plant_model.specs.Sound.{IsSound}
+use Rattle.pull_steps.specs.declared.live_plant.LivePlant.{LivePlant}
+use Rattle.pull_words.specs.declared.reply.Reply.{Reply}
+
+-- the plant, or the reply where there is none
+abbrev pub plant_in : Result LivePlant Reply → Result Plant Reply
+plant_in (Ok line) = Ok line.plant
+plant_in (Err reply) = Err reply
+
+-- the plant is sound, and the live graph is its graph
+pub record IsLivePlant (line : LivePlant) : Type 0 where
+  pub sound : IsSound line.plant
+  pub graph : line.live.graph ≡ graph line.plant

@@ -1,0 +1,70 @@
+ghost use Rattle.std.specs.Prelude.{◌≡◌, ◌⊎◌, IfOk, IfErr, OnOk};
+ghost use Rattle.plant_model.specs.Graph.{graph};
+ghost use Rattle.plant_model.specs.Sound.{IsSound};
+ghost use Rattle.event_graph.specs.Live.{IsLive};
+ghost use Rattle.live_check.specs.DeadCircuit.{IsDeadCircuit};
+ghost use Rattle.pull_steps.specs.LivePlant.{plant_in, IsLivePlant};
+ghost use Rattle.pull_steps.specs.Outside.{store_over};
+ghost use Rattle.pull_steps.specs.Steps.{Makes};
+ghost use Rattle.pull_steps.specs.PlantSteps.{OfPlantNamed, IsDeadReply};
+
+use crate::files::read_plant_files;
+use event_graph::Graph;
+use line_graph::graph_of;
+use line_io::Store;
+use live_check::{Live, NotLive, rank};
+use plant_model::Plant;
+use pull_words::{Reply, dead_labels};
+use std::alloc::Global;
+
+/// A plant that can be run: it is sound, and its graph is live.
+#[derive(Drop)]
+pub struct LivePlant {
+    /// The plant.
+    pub plant: Plant,
+    /// Its live graph.
+    pub live: Live,
+}
+
+/// The live plant of a plant file.
+pub fn read_live_plant<S: Store>(
+    alloc: Global,
+    store: &mut S,
+    name: &str,
+) -> Result<LivePlant, Reply>
+    ensures makes { Makes (store_over S.tells (S.shown store.old) (S.shown store.new))
+        (OfPlantNamed S.tells (S.shown store.old).files name.now) (plant_in result) }
+    ensures line { IfOk result IsLivePlant }
+{
+    let plant = read_plant_files(alloc, store, name)?;
+    let live = live_graph(alloc, &plant)?;
+    Ok(LivePlant { plant, live })
+}
+
+/// The live graph of a plant, or the circuit without a token that its graph has.
+fn live_graph(alloc: Global, plant: &Plant) -> Result<Live, Reply>
+    requires { IsSound plant.now }
+    ensures graph { IfOk result (λ live. live.graph ≡ graph plant.now) }
+    ensures live { OnOk result (IsLive (graph plant.now)) }
+    ensures dead { IfErr result (λ reply. IsDeadReply (graph plant.now) reply ⊎ (reply ≡ Reply.NoMemory)) }
+{
+    let Ok(graph) = graph_of(alloc, plant) else {
+        return Err(Reply::NoMemory);
+    };
+    match rank(alloc, graph) {
+        Ok(live) => Ok(live),
+        Err(NotLive::Dead { graph, arcs }) => Err(dead_reply(alloc, &graph, arcs.as_slice())),
+        Err(NotLive::NoMemory { .. }) => Err(Reply::NoMemory),
+    }
+}
+
+/// What a circuit without a token comes to.
+fn dead_reply(alloc: Global, graph: &Graph, arcs: &[u32]) -> Reply
+    requires { IsDeadCircuit graph.now arcs.now }
+    ensures { IsDeadReply graph.now result ⊎ (result ≡ Reply.NoMemory) }
+{
+    match dead_labels(alloc, graph, arcs) {
+        Ok(labels) => Reply::Dead { labels },
+        Err(_) => Reply::NoMemory,
+    }
+}
