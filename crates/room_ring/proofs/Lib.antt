@@ -1,0 +1,5 @@
+pub mod Views
+pub mod Steps
+pub mod Moves
+pub mod Ends
+mod Examples

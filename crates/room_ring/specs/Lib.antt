@@ -1,0 +1,7 @@
+pub mod View
+pub mod Rule
+pub mod Plays
+pub mod Ring
+pub mod Put
+pub mod Take
+pub mod Ends
