@@ -1,0 +1,118 @@
+-- No file of a plant is a checkpoint, so files that differ in checkpoints alone have one plant.
+use Rattle.std.proofs.Common.{◌≡◌, ℕ, Bool, true, false, not, ◌&&◌, List, [], ◌∷◌, refl, ap, ◌∙◌, subst, codes, arith, if◌then◌else◌}
+use Rattle.std.specs.Prelude.{Option, Some, None, Result, Ok, Err, IfSome, unwrap_or}
+use Rattle.std.specs.Option.{option_map_or}
+use Rattle.line_base.specs.Text.{is_file_name, is_checkpoint_name}
+use Rattle.plant_model.specs.declared.error.PlantError.{PlantError}
+use Rattle.plant_model.specs.declared.error.PlantError.TheVariants.{NotToml}
+use Rattle.plant_model.specs.declared.place.FileTable.TheVariants.{Top}
+use Rattle.plant_model.proofs.NoRefusals.{append-nil_left, append-nil_right, each-none, refuse_if-none}
+use Rattle.toml.specs.Data.{Data, get}
+use Rattle.plant_tree.specs.declared.keys.Class.TheVariants.{UnknownKeys, MissingKeys, WrongTypes, BadNames}
+use Rattle.plant_tree.specs.declared.keys.Kind.TheVariants.{StageText, FileName}
+use Rattle.plant_tree.specs.Keys.{Key, optional, top_keys, has_column}
+use Rattle.plant_tree.specs.Readers.{has, text_of, text_at}
+use Rattle.plant_tree.specs.Walk.{walk, key_refusals, table_refusals, value_refusals}
+use Rattle.plant_draft.specs.declared.draft.DraftDemands.TheVariants.{Given, File}
+use Rattle.plant_draft.specs.declared.draft.DraftPlant.{DraftPlant}
+use Rattle.plant_draft.specs.Draft.{file_of, demands_file}
+use Rattle.plant_draft.specs.Reading.{draft_of, tree_refusals, draft_or_first, tree_of, tree_reading, reading}
+use Rattle.plant_file.specs.Finish.{completed}
+use Rattle.plant_file.specs.PlantOfFiles.{Contents, bytes_at, bytes_of, plant_of_reading, plant_of}
+
+-- a name that no checkpoint has
+abbrev pub IsPlain : List ℕ → Type 0
+IsPlain name = is_checkpoint_name name ≡ false
+
+plain_of : (may ends : Bool) → (may && not ends) ≡ true → (may && ends) ≡ false
+plain_of true true h = absurd (cc)
+plain_of true false h = refl
+plain_of false ends h = refl
+
+-- so is the name of any other file
+pub file_is_plain : (name : List ℕ) → is_file_name name ≡ true → IsPlain name
+file_is_plain name h = plain_of _ _ h
+
+not_false : (b : Bool) → not b ≡ false → b ≡ true
+not_false true h = refl
+not_false false h = absurd (cc)
+
+-- the text at a key for a file's name, where no name is bad
+named_plain : (place : List ℕ) (o : Option Data) → option_map_or (value_refusals BadNames FileName place) o [] ≡ [] → IsPlain (option_map_or text_of o [])
+named_plain place None h = refl
+named_plain place (Some v) h = file_is_plain (text_of v) (not_false (is_file_name (text_of v)) (refuse_if-none (not (is_file_name (text_of v))) _ h))
+
+no_key : Key
+no_key = optional [] StageText
+
+-- a draft that names no checkpoint
+pub record NamesNoCheckpoint (d : DraftPlant) : Type 0 where
+  pub demands : IfSome (demands_file d) IsPlain
+  pub times : IfSome d.times_file IsPlain
+
+demands_plain : (given : Bool) (dates name : List ℕ) → IsPlain name → IfSome (file_of (if given then Given dates else File name)) IsPlain
+demands_plain true dates name plain = tt
+demands_plain false dates name plain = plain
+
+times_plain : (used : Bool) (name : List ℕ) → IsPlain name → IfSome (if used then Some name else None) IsPlain
+times_plain true name plain = plain
+times_plain false name plain = tt
+
+top_of_walk : (top : Data) → walk BadNames top ≡ [] → table_refusals BadNames Top top (top_keys top) ≡ []
+unfolding walk
+top_of_walk top h = append-nil_left (table_refusals BadNames Top top (top_keys top)) _ h
+
+bad_names : (top : Data) → tree_refusals top ≡ [] → walk BadNames top ≡ []
+unfolding tree_refusals
+bad_names top h =
+    append-nil_left (walk BadNames top) _
+    (append-nil_right (walk WrongTypes top) _ (append-nil_right (walk MissingKeys top) _ (append-nil_right (walk UnknownKeys top) _ h)))
+
+draft_names : (top : Data) → walk BadNames top ≡ [] → NamesNoCheckpoint (draft_of top)
+draft_names top h =
+    let keys = top_of_walk top h in
+    let demands = each-none (λ _ k. key_refusals BadNames Top top k) (top_keys top) 3 no_key (omega arith) keys in
+    let times = each-none (λ _ k. key_refusals BadNames Top top k) (top_keys top) 8 no_key (omega arith) keys in
+    record {
+      demands = demands_plain (has (codes "demands") top) _ (text_at (codes "demands_file") top) (named_plain _ (get (codes "demands_file") top) demands);
+      times = times_plain (has_column top) (text_at (codes "times_file") top) (named_plain _ (get (codes "times_file") top) times);
+    }
+
+-- a draft that is answered is the draft, and nothing is refused
+none_refused : (rs : List PlantError) (draft d : DraftPlant) → draft_or_first rs draft ≡ Ok d → rs ≡ []
+none_refused [] draft d is = refl
+none_refused (r ∷ rs) draft d is = absurd (cc)
+
+same_draft : (rs : List PlantError) (draft d : DraftPlant) → draft_or_first rs draft ≡ Ok d → draft ≡ d
+same_draft [] draft d is = cc
+same_draft (r ∷ rs) draft d is = absurd (cc)
+
+tree_names : (o : Option Data) (d : DraftPlant) → option_map_or tree_reading o (Err NotToml) ≡ Ok d → NamesNoCheckpoint d
+tree_names None d is = absurd (cc)
+tree_names (Some top) d is =
+    subst NamesNoCheckpoint (same_draft (tree_refusals top) (draft_of top) d is)
+    (draft_names top (bad_names top (none_refused (tree_refusals top) (draft_of top) d is)))
+
+-- a draft that was read names no checkpoint
+pub reading_names : (bytes : List ℕ) (d : DraftPlant) → reading bytes ≡ Ok d → NamesNoCheckpoint d
+unfolding reading
+reading_names bytes d is = tree_names (tree_of bytes) d is
+
+module _ (a b : Contents) (agree : (q : List ℕ) → IsPlain q → a q ≡ b q) where
+  bytes_same : (o : Option (List ℕ)) → IfSome o IsPlain → bytes_of a o ≡ bytes_of b o
+  bytes_same None plain = refl
+  bytes_same (Some name) plain = ap (λ (o : Option (List ℕ)). Some (unwrap_or o [])) (agree name plain)
+
+  reading_same : (r : Result DraftPlant PlantError) → ((d : DraftPlant) → r ≡ Ok d → NamesNoCheckpoint d) → plant_of_reading a r ≡ plant_of_reading b r
+  reading_same (Ok d) names =
+      let own = names d refl in
+      ap (λ (o : Option (List ℕ)). completed d o (bytes_of a d.times_file)) (bytes_same (demands_file d) own.demands)
+      ∙ ap (λ (o : Option (List ℕ)). completed d (bytes_of b (demands_file d)) o) (bytes_same d.times_file own.times)
+  reading_same (Err error) names = refl
+
+  -- files that differ in checkpoints alone have one plant
+  pub same_plant : (name : List ℕ) → IsPlain name → plant_of name a ≡ plant_of name b
+  unfolding plant_of
+  same_plant name plain =
+      ap (λ (o : Option (List ℕ)). plant_of_reading a (reading (unwrap_or o []))) (agree name plain)
+      ∙ reading_same (reading (bytes_at b name)) (reading_names (bytes_at b name))

@@ -1,0 +1,5 @@
+pub mod FileNames
+pub mod ResumeEnds
+pub mod ResumeStops
+pub mod ResumeWords
+pub mod Resuming

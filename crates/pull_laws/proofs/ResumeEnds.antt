@@ -1,0 +1,183 @@
+-- How a call ends that resumes what a run has saved.
+use Rattle.std.proofs.Common.{◌≡◌, ◌⊎◌, ℕ, List, [], ap, sym, ◌∙◌, subst, inl, inr, arith}
+use Rattle.std.specs.Prelude.{Option, Some, Result, Ok, Err, IfErr, All, Any, ⊤}
+use Rattle.checkpoint.specs.Text.{text}
+use Rattle.checkpoint.specs.declared.format.Format.TheVariants.{Differences}
+use Rattle.command_words.specs.declared.command.Command.{Command}
+use Rattle.command_words.specs.declared.command.Command.TheVariants.{Resume}
+use Rattle.command_words.specs.declared.command.Stop.{Stop}
+use Rattle.event_graph.specs.Live.{IsLive}
+use Rattle.line_graph.specs.DeadLabels.{AreDead}
+use Rattle.line_io.specs.Calls.{Read, Write, Asked}
+use Rattle.line_io.specs.Contents.{Contents, IsLongerThan}
+use Rattle.plant_file.specs.PlantOfFiles.{plant_of}
+use Rattle.plant_model.specs.declared.error.PlantError.{PlantError}
+use Rattle.plant_model.specs.declared.plant.Plant.{Plant}
+use Rattle.plant_model.specs.Graph.{graph}
+use Rattle.pull_words.specs.Reply.{status_of, text_of}
+use Rattle.pull_words.specs.declared.reply.Reply.{Reply}
+use Rattle.pull_words.specs.declared.reply.Reply.TheVariants.{Dead, NoMemory, Refused, StoreFault, TooLong}
+use Rattle.pull_steps.specs.Deeds.{HasCause, IsFailedWrite}
+use Rattle.pull_steps.specs.Outside.{limit_of, IsOfFile}
+use Rattle.pull_steps.specs.PlantSteps.{OfLivePlant, OfPlantNamed, IsLiveOrDead, IsOfPlant}
+use Rattle.pull_steps.specs.Steps.{GoesOn, LooksAt, Settles, Then}
+use Rattle.pull_steps.proofs.PlantsOfFiles.{then_leads, looked}
+use Rattle.pull_deeds.specs.Answers.{IsReport, IsResumed}
+use Rattle.pull_deeds.specs.Output.{output_bytes}
+use Rattle.pull_deeds.specs.declared.output.Output.{Output}
+use Rattle.pull_cli.specs.Ends.{Finishes, Writes, WritesReply}
+use Rattle.pull_cli.specs.Headline.{ResumesToReport}
+use Rattle.pull_laws.specs.Resuming.{Call, files_before, HasFailedRead, HasStopped, IsResumedBy, EndsResumed, reported, unread, unwritten, no_memory, too_long}
+use Rattle.pull_cli.specs.Verdict.{OfWords}
+use Rattle.pull_laws.proofs.ResumeStops.{look_stops, plant_stops}
+use Rattle.pull_laws.proofs.Resuming.{one_plant, second_plant, second_reports}
+
+-- the report, or a reply to a file that couldn't be read or is too long, or to want of memory
+abbrev pub ComesTo : Plant → Contents → Result Output Reply → Type 0
+ComesTo p files (Ok output) = IsReport p (Ok output)
+ComesTo p files (Err (StoreFault file)) = ⊤
+ComesTo p files (Err (TooLong file)) = IsLongerThan (limit_of file) (files file)
+ComesTo p files (Err NoMemory) = ⊤
+ComesTo p files (Err other) = ⊥
+
+-- a plant that was read is live
+live_settled : (q p : Plant) → IsLiveOrDead q (Ok p) ⊎ (◌≡◌ {A = Result Plant Reply} (Ok p) (Err NoMemory)) → IsLive (graph p)
+live_settled q p (inl live) = subst (λ (v : Plant). IsLive (graph v)) (sym live.0) live.1
+live_settled q p (inr none) = absurd (cc)
+
+no_plant : (p : Plant) (reply : Reply) → ◌≡◌ {A = Result Plant Reply} (Ok p) (Err reply) → ⊥
+no_plant p reply is = cc
+
+live_on : (between : Result Plant Reply) (after : List Read) (p : Plant) → GoesOn (λ q. Settles (IsLiveOrDead q)) between after (Ok p) → IsLive (graph p)
+live_on (Ok q) after p on = live_settled q p on.1
+live_on (Err reply) after p on = absurd (no_plant p reply on.1)
+
+live_of : (name : List ℕ) (reads : List Read) (p : Plant) → OfLivePlant name reads (Ok p) → IsLive (graph p)
+live_of name reads p steps = live_on steps.between steps.after p steps.goes_on
+
+-- no circuit of a live plant is dead
+not_dead : (p : Plant) (labels : List (List ℕ)) → IsLive (graph p) → AreDead (graph p) labels → ⊥
+not_dead p labels live dead = let some = live dead.arcs dead.dead.circuit in omega (arith, some, dead.dead.empty)
+
+no_error : (W : Result Plant PlantError) (p : Plant) (error : PlantError) → W ≡ Ok p → W ≡ Err error → ⊥
+no_error W p error is also = cc
+
+module _ (p : Plant) (live : IsLive (graph p)) (W : Result Plant PlantError) (is : W ≡ Ok p) (files : Contents) where
+  same_as : (q : Plant) → W ≡ Ok q → q ≡ p
+  same_as q also = one_plant W q p also is
+
+  not_refused : (error : PlantError) → IsOfPlant W (Err (Refused error)) → ComesTo p files (Err (Refused error))
+  not_refused error said = absurd (no_error W p error is said)
+
+  not_dead_plant : (labels : List (List ℕ)) → IsOfPlant W (Err (Dead labels)) → ComesTo p files (Err (Dead labels))
+  not_dead_plant labels said =
+      absurd (not_dead p labels live (subst (λ (q : Plant). AreDead (graph q) labels) (same_as said.0 said.1) said.2))
+
+-- a report that comes, or want of memory
+report_comes : (p : Plant) (files : Contents) (came : Result Output Reply) → IsReport p came → ComesTo p files came
+report_comes p files (Ok output) is = is
+report_comes p files (Err reply) is = absurd is
+
+settled_comes : (p : Plant) (files : Contents) (bytes : List ℕ) (came : Result Output Reply) → ResumesToReport p bytes → IsResumed p bytes came ⊎ (came ≡ Err NoMemory) → ComesTo p files came
+settled_comes p files bytes came resumes (inl is) = report_comes p files came (resumes came is)
+settled_comes p files bytes came resumes (inr none) = subst (ComesTo p files) (sym none) tt
+
+-- one content of a file
+one_content : (o : Option (List ℕ)) (xs ys : List ℕ) → o ≡ Some xs → o ≡ Some ys → ys ≡ xs
+one_content o xs ys is also = cc
+
+-- how a call ends by what it came to
+wrote : (p : Plant) (call : Call) (bytes : List ℕ) (good : ℕ) → (call.status ≡ good → EndsResumed p call) → Writes call.sink bytes good call.status → EndsResumed p call
+wrote p call bytes good ends (inl all) = ends all.0
+wrote p call bytes good ends (inr broke) = unwritten broke.0 broke.1
+
+wrote_reply : (p : Plant) (call : Call) (reply : Reply) → (call.status ≡ status_of reply → EndsResumed p call) → WritesReply call.sink reply call.status → EndsResumed p call
+wrote_reply p call reply ends (inl own) = wrote p call (text_of reply) (status_of reply) ends own
+wrote_reply p call reply ends (inr memory) = wrote p call (text_of NoMemory) (status_of NoMemory) (λ nine. no_memory nine) memory.2
+
+-- no write failed where there was none
+no_failed_write : (file : List ℕ) → Any (IsFailedWrite file) [] → ⊥
+no_failed_write file (k, w, below, here, failed) = omega (arith, below)
+
+-- the count of failed reads rose where a file couldn't be read, for the call writes none
+fault_of : (call : Call) (file : List ℕ) → HasCause call.store call.disk [] (StoreFault file) → HasFailedRead call file
+fault_of call file (inl read) = read
+fault_of call file (inr written) = absurd (no_failed_write file written.0)
+
+by_reply : (p : Plant) (call : Call) (reply : Reply) → HasCause call.store call.disk [] reply → ComesTo p (files_before call) (Err reply) → WritesReply call.sink reply call.status → EndsResumed p call
+by_reply p call (StoreFault file) cause comes wrote_it =
+    wrote_reply p call (StoreFault file) (λ five. unread file five (fault_of call file cause)) wrote_it
+by_reply p call (TooLong file) cause comes wrote_it =
+    wrote_reply p call (TooLong file) (λ ten. too_long file ten comes) wrote_it
+by_reply p call NoMemory cause comes wrote_it = wrote_reply p call NoMemory (λ nine. no_memory nine) wrote_it
+by_reply p call other cause comes wrote_it = absurd comes
+
+module _ (p : Plant) (name : List ℕ) (stop : Stop) (first second : Call) (stopped : HasStopped p name stop first) (resumed : IsResumedBy name stop first second) where
+  abbrev Held : Read → Type 0
+  Held = IsOfFile second.store
+
+  abbrev Comes : Result Output Reply → Type 0
+  Comes = ComesTo p (files_before second)
+
+  abbrev bytes : List ℕ
+  bytes = text Differences (graph p) stopped.saved.state
+
+  saved_there : files_before second stop.save ≡ Some bytes
+  saved_there = resumed.over stop.save ∙ stopped.saved.saved stopped.calls.told
+
+  -- the file is read
+  of_file : (reads : List Read) (came : Result Output Reply) → Then (LooksAt stop.save) (λ found. Settles (IsResumed p found)) reads came → All Held reads → Comes came
+  of_file reads came steps all =
+      then_leads (LooksAt stop.save) (λ found. Settles (IsResumed p found)) Held Comes reads came steps all
+      (λ reply before fits stops.
+      look_stops second.store resumed.calls.told (λ (r : Reply). Comes (Err r)) (λ file. tt) (λ file longer. longer) tt stop.save before reply stops fits)
+      (λ found before after fits rest looks on.
+      settled_comes p (files_before second) found came
+      (subst (ResumesToReport p) (one_content (files_before second stop.save) found bytes (looked second.store resumed.calls.told stop.save before found looks fits) saved_there) stopped.saved.resumes)
+      on.1)
+
+  -- the plant is read, and then the file
+  of_plant : (reads : List Read) (came : Result Output Reply) → Then (OfPlantNamed second.store.tells (files_before second) name) (λ q. Then (LooksAt stop.save) (λ found. Settles (IsResumed q found))) reads came → All Held reads → Comes came
+  of_plant reads came steps all =
+      let W = plant_of name (files_before second) in
+      let is : W ≡ Ok p = second_plant p name stop first stopped second resumed in
+      let live = live_of name stopped.read.reads p stopped.read.comes in
+      then_leads (OfPlantNamed second.store.tells (files_before second) name) (λ q. Then (LooksAt stop.save) (λ found. Settles (IsResumed q found))) Held Comes reads came steps all
+      (λ reply before fits stops.
+      plant_stops second.store resumed.calls.told (λ (r : Reply). IsOfPlant W (Err r) → Comes (Err r)) (λ file said. tt) (λ file longer said. longer) (λ said. tt)
+      (not_refused p live W is (files_before second)) (not_dead_plant p live W is (files_before second))
+      name before reply stops.comes fits (stops.of_files resumed.calls.told))
+      (λ q before after fits rest first_steps next.
+      of_file after came
+      (subst (λ (v : Plant). Then (LooksAt stop.save) (λ found. Settles (IsResumed v found)) after came) (same_as p live W is (files_before second) q (first_steps.of_files resumed.calls.told)) next)
+      rest)
+
+  -- how the call ends
+  of_came : (came : Result Output Reply) → Comes came → IfErr came (HasCause second.store second.disk []) → Finishes second.sink came second.status → EndsResumed p second
+  of_came (Ok output) comes cause wrote_it =
+      wrote p second (output_bytes output) 0 (λ zero. reported zero (second_reports p name stop first stopped second resumed zero)) wrote_it
+  of_came (Err reply) comes cause wrote_it = by_reply p second reply cause comes wrote_it
+
+  abbrev Resumes : Asked → Result Output Reply → Type 0
+  Resumes asks came = OfWords second.store.tells (files_before second) (Some (Resume name stop.save resumed.workers)) asks second.disk came
+
+  of_words : (asks : Asked) (came : Result Output Reply) → All Held asks.reads → Resumes asks came → Comes came
+  of_words asks came all (inl does) = of_plant asks.reads came does.comes all
+  of_words asks came all (inr wanting) = subst Comes (sym wanting.2) tt
+
+  -- it writes no file
+  unwritten_files : (asks : Asked) (came : Result Output Reply) → Resumes asks came → asks.writes ≡ []
+  unwritten_files asks came (inl does) = does.unwritten
+  unwritten_files asks came (inr wanting) = ap (λ (a : Asked). a.writes) wanting.0
+
+  -- the call ends with the report, or for one of those causes
+  pub ends_resumed : EndsResumed p second
+  ends_resumed =
+      let ends = resumed.calls.ends in
+      let does = ends.does in
+      let resumes : Resumes does.asks ends.came =
+      subst (λ (o : Option Command). OfWords second.store.tells (files_before second) o does.asks second.disk ends.came) resumed.calls.asked does.comes
+      in
+      of_came ends.came (of_words does.asks ends.came does.of_files resumes)
+      (subst (λ (ws : List Write). IfErr ends.came (HasCause second.store second.disk ws)) (unwritten_files does.asks ends.came resumes) does.caused)
+      ends.finishes
