@@ -1,3 +1,5 @@
+ghost use Rattle.std.specs.Prelude.{◌≤◌};
+
 use crate::same::same;
 use big_plant::big_plant;
 use plant_model::{Machine, Stage};
@@ -6,7 +8,9 @@ use std::process::Abort;
 use std::test::Fail;
 
 /// Asserts how many servers a machine has, and what it takes for a job.
-fn has_machine(rt: &impl Abort, machine: &Machine, servers: u32, job: u32, time: u64) {
+fn has_machine(rt: &impl Abort, machine: &Machine, servers: u32, job: u32, time: u64)
+    requires { 1 ≤ job }
+{
     same(rt, machine.servers, servers);
     same(rt, machine.times.at(job), time);
 }
