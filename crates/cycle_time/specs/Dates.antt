@@ -33,5 +33,5 @@ BoundsDates g c =
 -- at each station of the circuit, a job is later by the circuit's time than the one as many jobs before as it has tokens
 abbrev pub HoldsBack : Parts → List ℕ → Type 0
 HoldsBack g arcs =
-    (x : Table) → IsLeast g x → (t n : ℕ) → Contains (starting_stations g arcs) t → 1 ≤ n → n + tokens_on g arcs ≤ jobs g →
-    x t n + time_along g arcs ≤ x t (n + tokens_on g arcs)
+    (x : Table) → IsLeast g x → (t n : ℕ) → Contains (starting_stations g arcs) t → 1 ≤ n →
+    n + tokens_on g arcs ≤ jobs g → x t n + time_along g arcs ≤ x t (n + tokens_on g arcs)

@@ -74,13 +74,15 @@ pub record IsReached (g : Parts) (w : Weighing) (t potential : ℕ) : Type 0 whe
 pub record IsGrown (g : Parts) (w : Weighing) (p : Potentials) : Type 0 where
   pub potential_for_each : length p.potentials ≡ stations g
   pub entry_for_each : length p.entries ≡ stations g
-  pub enters : (t : ℕ) → t < stations g → slice_index p.entries t < arc_count g → (arc g (slice_index p.entries t)).to ≡ t
+  pub enters : (t : ℕ) → t < stations g → slice_index p.entries t < arc_count g →
+      (arc g (slice_index p.entries t)).to ≡ t
   pub comes : (t : ℕ) → t < stations g → slice_index p.entries t < arc_count g →
       slice_index p.potentials t + loss g w (slice_index p.entries t)
       ≤ slice_index p.potentials (arc g (slice_index p.entries t)).from + gain g w (slice_index p.entries t)
   pub grounded : (t : ℕ) → t < stations g → arc_count g ≤ slice_index p.entries t → slice_index p.potentials t ≡ 0
   pub reached : (t : ℕ) → t < stations g → IsReached g w t (slice_index p.potentials t)
-  pub heavier : (s : ℕ) (arcs : List ℕ) → 0 < length arcs → IsWalk g s arcs s → AreEntries g p.entries arcs → losses g w arcs < gains g w arcs
+  pub heavier : (s : ℕ) (arcs : List ℕ) → 0 < length arcs → IsWalk g s arcs s → AreEntries g p.entries arcs →
+      losses g w arcs < gains g w arcs
 
 -- what arc a gives, which is more than before
 pub record IsGiven (g : Parts) (w : Weighing) (potentials : List ℕ) (a before : ℕ) (offer : Offer) : Type 0 where
@@ -109,7 +111,8 @@ pub record IsBetter (g : Parts) (w : Weighing) (potentials : List ℕ) (a : ℕ)
 -- the potential that station t has and no arc exceeds, or the best that an arc gives it
 abbrev pub IsBestOffer : Parts → Weighing → List ℕ → ℕ → Offer → Type 0
 IsBestOffer g w potentials t offer =
-    ((offer.potential ≡ slice_index potentials t) × IsSettled g w potentials t) ⊎ IsBest g w potentials t offer.entry offer.potential
+    ((offer.potential ≡ slice_index potentials t) × IsSettled g w potentials t)
+    ⊎ IsBest g w potentials t offer.entry offer.potential
 
 -- the step of a pass over so many stations at which station t stands
 abbrev pub step_of : Sweep → ℕ → ℕ → ℕ

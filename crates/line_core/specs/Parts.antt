@@ -120,5 +120,6 @@ abbrev pub IsStateRefusal : Parts → List (List ℕ) → List (List ℕ) → St
 IsStateRefusal g logs places (Count t have limit) = state_refusal g logs places ≡ Some (Count t have limit)
 IsStateRefusal g logs places (Marking a have need) = state_refusal g logs places ≡ Some (Marking a have need)
 IsStateRefusal g logs places (Date t job have need) = state_refusal g logs places ≡ Some (Date t job have need)
-IsStateRefusal g logs places (PlaceDate a token have need) = state_refusal g logs places ≡ Some (PlaceDate a token have need)
+IsStateRefusal g logs places (PlaceDate a token have need) =
+    state_refusal g logs places ≡ Some (PlaceDate a token have need)
 IsStateRefusal g logs places NoMemory = ⊤

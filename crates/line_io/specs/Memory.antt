@@ -69,7 +69,8 @@ abbrev pub store_keep : MemStore → Option ℕ
 store_keep store = store.keep
 
 -- a store as it is made: of these files, these calls are to fail, a refused write keeps so much, and nothing was asked yet
-pub record IsNewStore (store : MemStore) (held : BTreeMap (String Global) (Vec ℕ Global)) (numbers : List ℕ) (kept : Option ℕ) : Type 0 where
+pub record IsNewStore (store : MemStore) (held : BTreeMap (String Global) (Vec ℕ Global)) (numbers : List ℕ)
+    (kept : Option ℕ) : Type 0 where
   pub files : store.files ≡ held
   pub keep : store.keep ≡ kept
   pub plan : IsNewPlan store.plan numbers

@@ -204,7 +204,8 @@ impl Store for MemStore {
         ensures cause { IsErrOf result StoreError.Failed
             → Rose ((store_view self.old).read_faults name.now) ((store_view self.new).read_faults name.now) }
         ensures files_stay { store_files self.new ≡ store_files self.old }
-        ensures read_faults_stay_or_rise { NeverFall (store_view self.old).read_faults (store_view self.new).read_faults }
+        ensures read_faults_stay_or_rise { NeverFall (store_view self.old).read_faults
+            (store_view self.new).read_faults }
         ensures write_faults_stay { failed_writes self.new ≡ failed_writes self.old }
     {
         self.taken = 0;
@@ -240,7 +241,8 @@ impl Store for MemStore {
             → Rose ((store_view self.old).write_faults name.now) ((store_view self.new).write_faults name.now) }
         ensures taken_stays { (store_view self.new).taken ≡ (store_view self.old).taken }
         ensures read_faults_stay { failed_reads self.new ≡ failed_reads self.old }
-        ensures write_faults_stay_or_rise { NeverFall (store_view self.old).write_faults (store_view self.new).write_faults }
+        ensures write_faults_stay_or_rise { NeverFall (store_view self.old).write_faults
+            (store_view self.new).write_faults }
     {
         if self.plan.next() {
             let answer = break_off(

@@ -19,7 +19,8 @@ pub record HasSoundNames (p : Plant) : Type 0 where
   pub none_reserved : (i : ℕ) → i < length p.stages → is_reserved (stage_at p i).name ≡ false
   pub stages_differ : (i j : ℕ) → i < j → j < length p.stages → (stage_at p i).name ≢ (stage_at p j).name
   pub machines_differ :
-      (i j k : ℕ) → i < length p.stages → j < k → k < length (stage_at p i).machines → (machine_at p i j).name ≢ (machine_at p i k).name
+      (i j k : ℕ) → i < length p.stages → j < k → k < length (stage_at p i).machines →
+      (machine_at p i j).name ≢ (machine_at p i k).name
 
 -- the sizes of the plant, its dates, and the numbers at the top of its file
 pub record HasSoundSizes (p : Plant) : Type 0 where
@@ -34,7 +35,8 @@ pub record HasSoundSizes (p : Plant) : Type 0 where
   pub short_card_time : p.card_time ≤ longest_time
   pub few_line_cards : line_cards p.policy ≤ most_cards
   pub early_demands : (k : ℕ) → k < length p.demands → slice_index_or p.demands k 0 ≤ last_demand
-  pub ordered_demands : (k : ℕ) → suc k < length p.demands → slice_index_or p.demands k 0 ≤ slice_index_or p.demands (suc k) 0
+  pub ordered_demands : (k : ℕ) → suc k < length p.demands →
+      slice_index_or p.demands k 0 ≤ slice_index_or p.demands (suc k) 0
   pub early_observed : (k : ℕ) → k < length p.observe → slice_index_or p.observe k 0 ≤ last_observed
 
 -- stage i is within the limits, has a machine, feeds a later stage if it isn't the last, and has a card for each stock
@@ -52,7 +54,8 @@ pub record IsSoundStage (p : Plant) (i : ℕ) : Type 0 where
 -- every job time is within the limit, and a list of times has one for each job
 abbrev pub AreSoundTimes : ℕ → Times → Type 0
 AreSoundTimes jobs (Fixed time) = time ≤ longest_time
-AreSoundTimes jobs (Each times) = (length times ≡ jobs) × ((k : ℕ) → k < length times → slice_index_or times k 0 ≤ longest_time)
+AreSoundTimes jobs (Each times) =
+    (length times ≡ jobs) × ((k : ℕ) → k < length times → slice_index_or times k 0 ≤ longest_time)
 
 -- machine j of stage i is within the limits
 pub record IsSoundMachine (p : Plant) (i j : ℕ) : Type 0 where

@@ -79,7 +79,8 @@ pub record Saves (p : Plant) (n : ℕ) (disk : DiskOver) (answer : Result Output
 
 -- `run --every N --slots`: at any moment the slots hold what a crash could have left before, or the text of a state of the
 -- plant from which it may be resumed
-pub record RunsWithSlots (p : Plant) (n : ℕ) (asked : Asked) (disk : DiskOver) (answer : Result Output Reply) : Type 0 where
+pub record RunsWithSlots (p : Plant) (n : ℕ) (asked : Asked) (disk : DiskOver)
+    (answer : Result Output Reply) : Type 0 where
   pub nothing : asked ≡ none_asked
   pub any_moment : IsTrue disk.tells → LeavesOnly disk.old disk.new
       (IsOldOrState (held_now disk.old) most_checkpoint_bytes (graph p))

@@ -108,7 +108,8 @@ pub record Does {A : Type 0} (store : StoreOver) (disk : DiskOver) (deed : Asked
   pub disk_faults_stay_or_rise : disk.old.faults ≤ disk.new.faults
 
 -- a deed that leaves every disk
-abbrev pub DoesOnStore : {A : Type 0} → StoreOver → (Asked → DiskOver → Result A Reply → Type 0) → Result A Reply → Type 0
+abbrev pub DoesOnStore : {A : Type 0} → StoreOver → (Asked → DiskOver → Result A Reply → Type 0) → Result A Reply →
+    Type 0
 DoesOnStore store deed answer = (disk : DiskOver) → disk.new ≡ disk.old → Does store disk deed answer
 
 -- a deed that leaves every store
