@@ -30,13 +30,19 @@ impl From<Failed> for SinkFault {
     }
 }
 
-/// The report of a finished run of a plant, and the memory for writing it. Contracts see the plant and the dates.
+/// A finished run of a plant: what writing its report looks at.
 #[derive(Drop)]
-pub struct Report {
+struct FinishedRun {
     plant: Plant,
     numbers: LineNumbers,
     live: Live,
     table: Table,
+}
+
+/// The report of a finished run of a plant, and the memory for writing it. Contracts see the plant and the dates.
+#[derive(Drop)]
+pub struct Report {
+    run: FinishedRun,
     out: Outgoing,
 }
 
@@ -48,49 +54,36 @@ impl Model for Report {
 
     ghost Value = { Reported };
 
-    ghost view = { λ r. record { plant = r.plant; rows = r.table.rows } };
+    ghost view = { λ r. record { plant = r.run.plant; rows = r.run.table.rows } };
 
-    ghost invariant = { λ r. AreOfPlant r.plant r.live r.table × IsLeastTable r.table × (r.out ≡ emptied false) × (r.numbers ≡ r.plant) };
+    ghost invariant = { λ r. AreOfPlant r.run.plant r.run.live r.run.table × IsLeastTable r.run.table
+        × (r.out ≡ emptied false) × (r.run.numbers ≡ r.run.plant) };
 }
 
 /// Writes the whole text of a report.
-fn write_text<K: Sink>(
-    out: &mut Outgoing,
-    sink: &mut K,
-    plant: &Plant,
-    numbers: &LineNumbers,
-    live: &Live,
-    table: &Table,
-)
-    requires numbers { numbers.now ≡ plant.now }
-    requires of_plant { AreOfPlant plant.now live.now table.now }
+fn write_text<K: Sink>(out: &mut Outgoing, sink: &mut K, run: &FinishedRun)
+    requires numbers { run.now.numbers ≡ run.now.plant }
+    requires of_plant { AreOfPlant run.now.plant run.now.live run.now.table }
     ensures { Pushed (stream (K.shown sink.old) out.old)
-        (stream (K.shown sink.new) out.new) (report plant.now (date_in table.now.rows)) }
+        (stream (K.shown sink.new) out.new) (report run.now.plant (date_in run.now.table.rows)) }
 {
-    write_dates(out, sink, live.graph(), table);
-    write_observed(out, sink, plant, numbers, table);
-    write_peaks(out, sink, plant, numbers, table);
-    write_totals(out, sink, table);
+    write_dates(out, sink, run.live.graph(), &run.table);
+    write_observed(out, sink, &run.plant, &run.numbers, &run.table);
+    write_peaks(out, sink, &run.plant, &run.numbers, &run.table);
+    write_totals(out, sink, &run.table);
 }
 
 /// Writes the whole text of a summary.
-fn write_short_text<K: Sink>(
-    out: &mut Outgoing,
-    sink: &mut K,
-    plant: &Plant,
-    numbers: &LineNumbers,
-    live: &Live,
-    table: &Table,
-)
-    requires numbers { numbers.now ≡ plant.now }
-    requires of_plant { AreOfPlant plant.now live.now table.now }
+fn write_short_text<K: Sink>(out: &mut Outgoing, sink: &mut K, run: &FinishedRun)
+    requires numbers { run.now.numbers ≡ run.now.plant }
+    requires of_plant { AreOfPlant run.now.plant run.now.live run.now.table }
     ensures { Pushed (stream (K.shown sink.old) out.old)
-        (stream (K.shown sink.new) out.new) (summary plant.now (date_in table.now.rows)) }
+        (stream (K.shown sink.new) out.new) (summary run.now.plant (date_in run.now.table.rows)) }
 {
-    write_sizes(out, sink, live.graph());
-    write_sum(out, sink, table);
-    write_peaks(out, sink, plant, numbers, table);
-    write_totals(out, sink, table);
+    write_sizes(out, sink, run.live.graph());
+    write_sum(out, sink, &run.table);
+    write_peaks(out, sink, &run.plant, &run.numbers, &run.table);
+    write_totals(out, sink, &run.table);
 }
 
 /// Sends what is left of a text, and says whether all of it went out.
@@ -114,11 +107,14 @@ impl Report {
     {
         let _stations = table.stations();
         let numbers = LineNumbers::of(alloc, &plant)?;
-        Ok(Report {
+        let run = FinishedRun {
             plant,
             numbers,
             live,
             table,
+        };
+        Ok(Report {
+            run,
             out: Outgoing::new(alloc)?,
         })
     }
@@ -136,14 +132,7 @@ impl Report {
         ensures same { self.new ≡ self.old }
         ensures least { IsReported self.old }
     {
-        write_text(
-            &mut self.out,
-            sink,
-            &self.plant,
-            &self.numbers,
-            &self.live,
-            &self.table,
-        );
+        write_text(&mut self.out, sink, &self.run);
         finish(&mut self.out, sink)
     }
 
@@ -159,14 +148,7 @@ impl Report {
         ensures same { self.new ≡ self.old }
         ensures least { IsReported self.old }
     {
-        write_short_text(
-            &mut self.out,
-            sink,
-            &self.plant,
-            &self.numbers,
-            &self.live,
-            &self.table,
-        );
+        write_short_text(&mut self.out, sink, &self.run);
         finish(&mut self.out, sink)
     }
 }

@@ -1,8 +1,7 @@
 -- The path of a stage of a sound plant has stages of the plant alone, and little stock.
-use Rattle.std.proofs.Common.{sym, ◌≡◌, ℕ, zero, suc, ◌*◌, ◌<◌, ◌≤◌, Bool, true, false, cond, eqb, ◌==◌, List, [], ◌∷◌, length, Option, None, Some, refl, ap, ◌∙◌, inl, inr, arith}
-use Rattle.std.specs.List.{sum_by, list_any, All}
+use Rattle.std.proofs.Common.{sym, ◌≡◌, ℕ, zero, suc, ◌*◌, ◌<◌, ◌≤◌, Bool, true, false, cond, eqb, List, [], ◌∷◌, length, Option, None, Some, refl, ap, ◌∙◌, arith}
+use Rattle.std.specs.List.{sum_by, All}
 use Rattle.std.specs.Option.{option_map_or}
-use Rattle.std.proofs.lemmas.Bool.{eqb-true, or_cases}
 use Rattle.std.proofs.lemmas.List.Sums.{sum_by-le}
 use Rattle.std.proofs.lemmas.List.Elements.{All-nil, All-cons, All-head, All-tail, All-weaker}
 use Rattle.line_base.specs.declared.limits.TheConstants.{MAX_CARDS}
@@ -11,6 +10,8 @@ use Rattle.plant_model.specs.declared.plant.Policy.TheVariants.{Kanban, Conwip, 
 use Rattle.plant_model.specs.declared.plant.Plant.{Plant}
 use Rattle.plant_model.specs.Line.{stage_at, next, stock_under, starting, path_within, path, up_to, is_downstream, path_stock, stock_between}
 use Rattle.plant_model.specs.Sound.{IsSound}
+use Rattle.plant_model.proofs.Soundness.{IsSound-FeedsLater}
+use Rattle.plant_model.proofs.PathTables.{is_downstream-exists as down-exists}
 use Rattle.plant_model.proofs.SoundPlants.{HasSoundSizes-sound, IsSoundStage-sound}
 
 -- each stage of a path exists, and stands no earlier than the first
@@ -95,15 +96,7 @@ stock_between-small p a b sound below =
 
 -- a stage that is downstream of another exists
 pub is_downstream-exists : (p : Plant) (a b : ℕ) → IsSound p → a < length p.stages → is_downstream p a b ≡ true → b < length p.stages
-is_downstream-exists p a b sound below h = found (path p a) (path-stages p a sound below) h
-  where
-    found : (is : List ℕ) → All (λ j. j < length p.stages) is → list_any (λ i. i == b) is ≡ true → b < length p.stages
-    found [] all h = cc
-    found (i ∷ is) all h =
-        elim (or_cases (i == b) (list_any (λ j. j == b) is) h) [
-          | inl is_b ↦ let e = eqb-true i b is_b in let lt = All-head (λ j. j < length p.stages) i is all in omega arith
-          | inr further ↦ found is (All-tail (λ j. j < length p.stages) i is all) further
-        ]
+is_downstream-exists p a b sound below h = down-exists p (IsSound-FeedsLater sound) a b below h
 
 -- what a walk to a stage downstream has met is the stock up to there
 pub some-stock : (p : Plant) (a b stock : ℕ) (o : Option ℕ) → o ≡ Some stock → o ≡ cond (is_downstream p a b) (Some (stock_between p a b)) None → is_downstream p a b ≡ true → stock ≡ stock_between p a b

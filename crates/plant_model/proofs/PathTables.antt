@@ -60,25 +60,32 @@ on-from : (p : Plant) → FeedsLater p → (i b : ℕ) → i < length p.stages �
 on-from p tree i b below other found =
     some-passes (λ j. is_downstream p j b) (next p i) (sym (is_downstream-rest p tree i b below other) ∙ found)
 
-through-within : (p : Plant) → FeedsLater p → (m i j b : ℕ) → i < length p.stages → length p.stages ≤ m + i → is_downstream p i j ≡ true → j ≤ b → is_downstream p i b ≡ is_downstream p j b
-through-within p tree zero i j b below enough found later = absurd (omega arith)
-through-within p tree (suc m) i j b below enough found later =
-    elim (cases_eq i j) [
-      | inl same ↦ ap (λ k. is_downstream p k b) same
+-- the same by the count `m` of the stages that are left
+down-within : (p : Plant) → FeedsLater p → (P : ℕ → Type 0) (b : ℕ) → (b < length p.stages → P b) → ((i k : ℕ) → i < length p.stages → i ≢ b → is_downstream p i b ≡ true → next p i ≡ Some k → P k → P i) → (m i : ℕ) → i < length p.stages → length p.stages ≤ m + i → is_downstream p i b ≡ true → P i
+down-within p tree P b last step zero i below enough found = absurd (omega arith)
+down-within p tree P b last step (suc m) i below enough found =
+    elim (cases_eq i b) [
+      | inl same ↦ subst P (sym same) (last (subst (λ j. j < length p.stages) same below))
       | inr other ↦
-          let step = on-from p tree i j below other found in
-          let k = step.0 in
-          let higher : i < k = tree.later i k below step.1 in
-          let up : i ≤ j = is_downstream-later p tree i j below found in
-          let apart : i ≢ b = omega arith in
-          is_downstream-rest p tree i b below apart
-          ∙ ap (λ o. option_map_or (λ l. is_downstream p l b) o false) step.1
-          ∙ through-within p tree m k j b (tree.exists i k below step.1) (omega arith) step.2 later
+          let on = on-from p tree i b below other found in
+          let higher : i < on.0 = tree.later i on.0 below on.1 in
+          let rest = down-within p tree P b last step m on.0 (tree.exists i on.0 below on.1) (omega arith) on.2 in
+          step i on.0 below other found on.1 rest
     ]
+
+-- what holds of stage b, and of a stage if of the one that it feeds, holds of each stage that b is down the path of
+down-path : (p : Plant) → FeedsLater p → (P : ℕ → Type 0) (b : ℕ) → (b < length p.stages → P b) → ((i k : ℕ) → i < length p.stages → i ≢ b → is_downstream p i b ≡ true → next p i ≡ Some k → P k → P i) → (i : ℕ) → i < length p.stages → is_downstream p i b ≡ true → P i
+down-path p tree P b last step i below found = down-within p tree P b last step (length p.stages) i below (omega arith) found
 
 -- a later stage is down a path where it is down that of a stage on the way
 pub is_downstream-through : (p : Plant) → FeedsLater p → (i j b : ℕ) → i < length p.stages → is_downstream p i j ≡ true → j ≤ b → is_downstream p i b ≡ is_downstream p j b
-is_downstream-through p tree i j b below found later = through-within p tree (length p.stages) i j b below (omega arith) found later
+is_downstream-through p tree i j b below found later =
+    down-path p tree (λ i. is_downstream p i b ≡ is_downstream p j b) j (λ _. refl)
+    (λ i k below other found fed rest.
+    let up : i ≤ j = is_downstream-later p tree i j below found in
+    let apart : i ≢ b = omega arith in
+    is_downstream-rest p tree i b below apart ∙ ap (λ o. option_map_or (λ l. is_downstream p l b) o false) fed ∙ rest)
+    i below found
 
 -- the stock from a stage to itself is its own
 stock_between-self : (p : Plant) → FeedsLater p → (i : ℕ) → i < length p.stages → stock_between p i i ≡ starting p i
@@ -86,28 +93,16 @@ stock_between-self p tree i below =
     let alone = rw (eq-eqb i i refl) at (ap (λ is. sum_by (starting p) (up_to i is)) (path-step p tree i below)) in
     omega (arith, alone, sum_by-cons (starting p) i [])
 
-between-within : (p : Plant) → FeedsLater p → (m i b : ℕ) → i < length p.stages → length p.stages ≤ m + i → is_downstream p i b ≡ true → stock_between p i b + path_stock p b ≡ path_stock p i + starting p b
-between-within p tree zero i b below enough found = absurd (omega arith)
-between-within p tree (suc m) i b below enough found =
-    elim (cases_eq i b) [
-      | inl same ↦
-          rw same (
-          let below : b < length p.stages = rw (← same) below in
-          omega (arith, stock_between-self p tree b below)
-          )
-      | inr other ↦
-          let step = on-from p tree i b below other found in
-          let k = step.0 in
-          let higher : i < k = tree.later i k below step.1 in
-          let rest = between-within p tree m k b (tree.exists i k below step.1) (omega arith) step.2 in
-          let own = rw step.1 at (path_stock-step p tree i below) in
-          let between = rw step.1 at (stock_between-step p tree i b below (ne_eqb i b other)) in
-          omega (arith, rest, own, between)
-    ]
-
 -- the stock down to a stage, and that on its path, which has its own stock once more
 pub stock_between-rest : (p : Plant) → FeedsLater p → (i b : ℕ) → i < length p.stages → is_downstream p i b ≡ true → stock_between p i b + path_stock p b ≡ path_stock p i + starting p b
-stock_between-rest p tree i b below found = between-within p tree (length p.stages) i b below (omega arith) found
+stock_between-rest p tree i b below found =
+    down-path p tree (λ i. stock_between p i b + path_stock p b ≡ path_stock p i + starting p b) b
+    (λ below. omega (arith, stock_between-self p tree b below))
+    (λ i k below other found fed rest.
+    let own = rw fed at (path_stock-step p tree i below) in
+    let between = rw fed at (stock_between-step p tree i b below (ne_eqb i b other)) in
+    omega (arith, rest, own, between))
+    i below found
 
 -- the row of the stage that stage i feeds
 pub record NextRow (p : Plant) (rows : List PathRow) (i k : ℕ) : Type 0 where
@@ -279,37 +274,19 @@ fed-inside p h i j s below here fed =
     (FeedsLater-from p h).exists i j below (ap (λ (t : Stage). t.feeds) (sym (here ∙ get_or_default p.stages i s no_stage below)) ∙ fed)
 
 -- what a path leads to is there
-exists-within : (p : Plant) → FeedsLater p → (m i b : ℕ) → i < length p.stages → length p.stages ≤ m + i → is_downstream p i b ≡ true → b < length p.stages
-exists-within p tree zero i b below enough found = absurd (omega arith)
-exists-within p tree (suc m) i b below enough found =
-    elim (cases_eq i b) [
-      | inl same ↦ rw (← same) below
-      | inr other ↦
-          let step = on-from p tree i b below other found in
-          let higher : i < step.0 = tree.later i step.0 below step.1 in
-          exists-within p tree m step.0 b (tree.exists i step.0 below step.1) (omega arith) step.2
-    ]
-
 pub is_downstream-exists : (p : Plant) → FeedsLater p → (i b : ℕ) → i < length p.stages → is_downstream p i b ≡ true → b < length p.stages
-is_downstream-exists p tree i b below found = exists-within p tree (length p.stages) i b below (omega arith) found
+is_downstream-exists p tree i b below found =
+    down-path p tree (λ _. b < length p.stages) b (λ there. there) (λ i k below other found fed there. there) i below found
 
-own-within : (p : Plant) → FeedsLater p → (m i b : ℕ) → i < length p.stages → length p.stages ≤ m + i → is_downstream p i b ≡ true → starting p b ≤ stock_between p i b
-own-within p tree zero i b below enough found = absurd (omega arith)
-own-within p tree (suc m) i b below enough found =
-    elim (cases_eq i b) [
-      | inl same ↦
-          rw same (
-          let below : b < length p.stages = rw (← same) below in
-          omega (arith, stock_between-self p tree b below)
-          )
-      | inr other ↦
-          let step = on-from p tree i b below other found in
-          let k = step.0 in
-          let higher : i < k = tree.later i k below step.1 in
-          let rest = own-within p tree m k b (tree.exists i k below step.1) (omega arith) step.2 in
-          let between = rw step.1 at (stock_between-step p tree i b below (ne_eqb i b other)) in
-          omega (arith, rest, between)
-    ]
+-- the stock down to a stage has the stage's own
+own-le : (p : Plant) → FeedsLater p → (i b : ℕ) → i < length p.stages → is_downstream p i b ≡ true → starting p b ≤ stock_between p i b
+own-le p tree i b below found =
+    down-path p tree (λ i. starting p b ≤ stock_between p i b) b
+    (λ below. omega (arith, stock_between-self p tree b below))
+    (λ i k below other found fed rest.
+    let between = rw fed at (stock_between-step p tree i b below (ne_eqb i b other)) in
+    omega (arith, rest, between))
+    i below found
 
 -- the stock between two stages by that on their paths: `all` on the first's, `rest` on the second's, `own` of the second
 pub record IsBetween (p : Plant) (i b all rest own : ℕ) : Type 0 where
@@ -321,7 +298,7 @@ pub IsBetween-from : (p : Plant) → FeedsLater p → (i b all rest own : ℕ) �
 IsBetween-from p tree i b all rest own below found all_is rest_is own_is =
     let there = is_downstream-exists p tree i b below found in
     let ahead = stock_between-rest p tree i b below found in
-    let least = own-within p tree (length p.stages) i b below (omega arith) found in
+    let least = own-le p tree i b below found in
     let step = path_stock-step p tree b there in
     record {
       less = omega (arith, ahead, least, all_is, rest_is);

@@ -6,6 +6,7 @@ use Rattle.line_base.specs.declared.times.Times.{Times}
 use Rattle.line_base.specs.declared.times.Times.TheVariants.{Fixed, Each}
 use Rattle.plant_model.specs.declared.plant.Policy.{Policy}
 use Rattle.plant_model.specs.declared.plant.Policy.TheVariants.{Kanban, Conwip, BaseStock, Extended}
+use Rattle.plant_model.specs.Stages.{Stage}
 use Rattle.plant_model.specs.declared.plant.CardLoop.{CardLoop}
 use Rattle.plant_model.specs.declared.plant.Plant.{Plant}
 use Rattle.plant_model.specs.declared.place.FileTable.TheVariants.{InStage, InMachine, InLoop}
@@ -15,7 +16,7 @@ use Rattle.plant_model.specs.Refusals.{too_few, above, larger, refusals, parts_r
 use Rattle.plant_model.specs.Sound.{IsSound}
 pub use Rattle.plant_model.specs.Sound.{HasSoundSizes, IsSoundStage, AreSoundTimes, IsSoundMachine, IsSoundLoop}
 use Rattle.plant_model.proofs.Soundness.{FeedsLater-from, last-from}
-use Rattle.plant_model.proofs.NoRefusals.{AreNil-append, append-nil_left, append-nil_right, refuse_if-none, above-none, larger-none, each-none}
+use Rattle.plant_model.proofs.NoRefusals.{AreNil, AreNil-append, append-nil_left, append-nil_right, refuse_if-none, above-none, larger-none, each-none}
 
 -- no class refuses the plant
 pub record PassesAll (p : Plant) : Type 0 where
@@ -49,6 +50,39 @@ PassesAll-sound p sound =
       small = append-nil_right _ _ whole_4;
     }
 
+-- no number at the top of a plant is out of its range
+abbrev pub IsTopInRange : Plant → Type 0
+IsTopInRange p =
+    AreNil
+    (above (codes "card_time") MAX_TIME p.card_time)
+    (cards_out_of_range p.policy)
+    (empty (codes "demands") p.demands)
+    (each (element_above (codes "demands") MAX_DEMAND_DATE) p.demands)
+    (each (element_above (codes "observe") MAX_OBSERVE_DATE) p.observe)
+    (empty (codes "stage") p.stages)
+
+pub top-in_range : (p : Plant) → out_of_range p ≡ [] → IsTopInRange p
+top-in_range p none = AreNil-append _ _ _ _ _ _ (append-nil_left (top_out_of_range p) _ none)
+
+-- no number of stage i, s, is out of its range
+abbrev pub IsStageInRange : ℕ → Stage → Type 0
+IsStageInRange i s =
+    AreNil
+    (above (key_of (InStage i) (codes "card_time")) MAX_TIME s.card_time)
+    (above (key_of (InStage i) (codes "cards")) MAX_CARDS s.cards)
+    (empty (key_of (InStage i) (codes "machine")) s.machines)
+    (above (key_of (InStage i) (codes "stock")) MAX_CARDS s.stock)
+    (above (key_of (InStage i) (codes "travel")) MAX_TIME s.travel)
+    (each (machine_out_of_range i) s.machines)
+
+pub stage_in_range-from : (i : ℕ) (s : Stage) → stage_out_of_range i s ≡ [] → IsStageInRange i s
+stage_in_range-from i s none = AreNil-append _ _ _ _ _ _ none
+
+stage-in_range : (p : Plant) (i : ℕ) → PassesAll p → i < length p.stages → IsStageInRange i (stage_at p i)
+stage-in_range p i passes below =
+    let stages = append-nil_left (each stage_out_of_range p.stages) _ (append-nil_right (top_out_of_range p) _ passes.in_range) in
+    stage_in_range-from i (stage_at p i) (each-none stage_out_of_range p.stages i no_stage below stages)
+
 -- what isn't refused as empty has an element
 empty-none : {X : Type 0} (place : List ℕ) (xs : List X) → empty place xs ≡ [] → 1 ≤ length xs
 empty-none place [] h = cc
@@ -71,16 +105,7 @@ ordered dates k below h =
 pub HasSoundSizes-sound : (p : Plant) → IsSound p → HasSoundSizes p
 HasSoundSizes-sound p sound =
     let passes = PassesAll-sound p sound in
-    let top =
-    AreNil-append
-    (above (codes "card_time") MAX_TIME p.card_time)
-    (cards_out_of_range p.policy)
-    (empty (codes "demands") p.demands)
-    (each (element_above (codes "demands") MAX_DEMAND_DATE) p.demands)
-    (each (element_above (codes "observe") MAX_OBSERVE_DATE) p.observe)
-    (empty (codes "stage") p.stages)
-    (append-nil_left (top_out_of_range p) _ passes.in_range)
-    in
+    let top = top-in_range p passes.in_range in
     let small =
     AreNil-append
     (larger (codes "stages") MAX_STAGES (length p.stages))
@@ -120,17 +145,7 @@ IsSoundStage-sound p i sound below =
     let passes = PassesAll-sound p sound in
     let s = stage_at p i in
     let tree = FeedsLater-from p passes.feeds_later in
-    let stages = append-nil_left (each stage_out_of_range p.stages) _ (append-nil_right (top_out_of_range p) _ passes.in_range) in
-    let range =
-    AreNil-append
-    (above (key_of (InStage i) (codes "card_time")) MAX_TIME s.card_time)
-    (above (key_of (InStage i) (codes "cards")) MAX_CARDS s.cards)
-    (empty (key_of (InStage i) (codes "machine")) s.machines)
-    (above (key_of (InStage i) (codes "stock")) MAX_CARDS s.stock)
-    (above (key_of (InStage i) (codes "travel")) MAX_TIME s.travel)
-    (each (machine_out_of_range i) s.machines)
-    (each-none stage_out_of_range p.stages i no_stage below stages)
-    in
+    let range = stage-in_range p i passes below in
     record {
       few_cards = above-none _ MAX_CARDS s.cards range.second;
       little_stock = above-none _ MAX_CARDS s.stock range.fourth;
@@ -156,17 +171,7 @@ IsSoundMachine-sound p i j sound below inside =
     let jobs = length p.demands in
     let s = stage_at p i in
     let m = machine_at p i j in
-    let stages = append-nil_left (each stage_out_of_range p.stages) _ (append-nil_right (top_out_of_range p) _ passes.in_range) in
-    let range =
-    AreNil-append
-    (above (key_of (InStage i) (codes "card_time")) MAX_TIME s.card_time)
-    (above (key_of (InStage i) (codes "cards")) MAX_CARDS s.cards)
-    (empty (key_of (InStage i) (codes "machine")) s.machines)
-    (above (key_of (InStage i) (codes "stock")) MAX_CARDS s.stock)
-    (above (key_of (InStage i) (codes "travel")) MAX_TIME s.travel)
-    (each (machine_out_of_range i) s.machines)
-    (each-none stage_out_of_range p.stages i no_stage below stages)
-    in
+    let range = stage-in_range p i passes below in
     let machine = each-none (machine_out_of_range i) s.machines j no_machine inside range.sixth in
     let servers = above (key_of (InMachine i j) (codes "servers")) MAX_CARDS m.servers in
     let counts = each-none (stage_times_count jobs) p.stages i no_stage below passes.times_counted in

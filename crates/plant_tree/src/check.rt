@@ -77,28 +77,15 @@ fn check_machines(
     ensures { AnswersFirst result (each (λ j m. machine_refusals class i j (view m)) machines.now) }
 {
     for (j, machine) in machines.iter().enumerate() {
-        check_machine(alloc, class, i, j, machine)?;
+        check_table(
+            alloc,
+            class,
+            FileTable::InMachine(i, j),
+            machine,
+            &machine_keys(machine),
+        )?;
     }
     Ok(())
-}
-
-/// The first refusal of the class in machine `j` of stage `i`.
-fn check_machine(
-    alloc: Global,
-    class: Class,
-    i: usize,
-    j: usize,
-    machine: &Value,
-) -> Result<(), PlantError>
-    ensures { AnswersFirst result (machine_refusals class i j (view machine.now)) }
-{
-    check_table(
-        alloc,
-        class,
-        FileTable::InMachine(i, j),
-        machine,
-        &machine_keys(machine),
-    )
 }
 
 /// The first refusal of the class in the loops.
@@ -106,16 +93,9 @@ fn check_loops(alloc: Global, class: Class, loops: &[Value]) -> Result<(), Plant
     ensures { AnswersFirst result (each (λ k l. loop_refusals class k (view l)) loops.now) }
 {
     for (k, card_loop) in loops.iter().enumerate() {
-        check_loop(alloc, class, k, card_loop)?;
+        check_table(alloc, class, FileTable::InLoop(k), card_loop, &loop_keys())?;
     }
     Ok(())
-}
-
-/// The first refusal of the class in loop `k`.
-fn check_loop(alloc: Global, class: Class, k: usize, card_loop: &Value) -> Result<(), PlantError>
-    ensures { AnswersFirst result (loop_refusals class k (view card_loop.now)) }
-{
-    check_table(alloc, class, FileTable::InLoop(k), card_loop, &loop_keys())
 }
 
 /// The first refusal of the class in a table with these keys.

@@ -4,8 +4,9 @@ use Rattle.toml.specs.View.{view}
 use Rattle.plant_tree.specs.Walk.{loop_refusals}
 use Rattle.plant_tree.proofs.check.check_loops.Goals as goal
 
-pub returns-in_err-check_loop : goal.returns-in_err-check_loop
-returns-in_err-check_loop c =
+pub returns-in_err-check_table : goal.returns-in_err-check_table
+returns-in_err-check_table c =
     stops (λ k l. loop_refusals c.args.class k (view l))
     c.args.loops.now c.loop-k.k c.index-loops-k.result
-    c.from_residual.result c.from_residual.ensures.1 c.loop-k.invariant (omega arith) c.index-loops-k.is c.in_err-check_loop.ensures
+    c.from_residual.result c.from_residual.ensures.1 c.loop-k.invariant (omega arith) c.index-loops-k.is
+    (rw c.loop_keys.ensures at c.in_err-check_table.ensures)

@@ -4,8 +4,9 @@ use Rattle.toml.specs.View.{view}
 use Rattle.plant_tree.specs.Walk.{machine_refusals}
 use Rattle.plant_tree.proofs.check.check_machines.Goals as goal
 
-pub returns-in_err-check_machine : goal.returns-in_err-check_machine
-returns-in_err-check_machine c =
+pub returns-in_err-check_table : goal.returns-in_err-check_table
+returns-in_err-check_table c =
     stops (λ j m. machine_refusals c.args.class c.args.i j (view m))
     c.args.machines.now c.loop-j.j c.index-machines-j.result
-    c.from_residual.result c.from_residual.ensures.1 c.loop-j.invariant (omega arith) c.index-machines-j.is c.in_err-check_machine.ensures
+    c.from_residual.result c.from_residual.ensures.1 c.loop-j.invariant (omega arith) c.index-machines-j.is
+    (rw c.machine_keys.ensures at c.in_err-check_table.ensures)
