@@ -1,3 +1,3 @@
 mod FinishAnswers
-mod PlantParts
+pub mod PlantParts
 pub mod PlantSteps

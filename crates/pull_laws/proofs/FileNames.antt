@@ -1,4 +1,5 @@
--- No file of a plant is a checkpoint, so files that differ in checkpoints alone have one plant.
+-- What a draft that was read says of names and limits: it names no checkpoint, so files that differ in checkpoints alone have one
+-- plant; and it is sound.
 use Rattle.std.proofs.Common.{◌≡◌, ℕ, Bool, true, false, not, ◌&&◌, List, [], ◌∷◌, refl, ap, ◌∙◌, subst, codes, arith, if◌then◌else◌}
 use Rattle.std.specs.Prelude.{Option, Some, None, Result, Ok, Err, IfSome, unwrap_or}
 use Rattle.std.specs.Option.{option_map_or}
@@ -8,14 +9,16 @@ use Rattle.plant_model.specs.declared.error.PlantError.TheVariants.{NotToml}
 use Rattle.plant_model.specs.declared.place.FileTable.TheVariants.{Top}
 use Rattle.plant_model.proofs.NoRefusals.{append-nil_left, append-nil_right, each-none, refuse_if-none}
 use Rattle.toml.specs.Data.{Data, get}
-use Rattle.plant_tree.specs.declared.keys.Class.TheVariants.{UnknownKeys, MissingKeys, WrongTypes, BadNames}
+use Rattle.plant_tree.specs.declared.keys.Class.TheVariants.{UnknownKeys, MissingKeys, WrongTypes, BadNames, OutOfRanges}
 use Rattle.plant_tree.specs.declared.keys.Kind.TheVariants.{StageText, FileName}
 use Rattle.plant_tree.specs.Keys.{Key, optional, top_keys, has_column}
 use Rattle.plant_tree.specs.Readers.{has, text_of, text_at}
-use Rattle.plant_tree.specs.Walk.{walk, key_refusals, table_refusals, value_refusals}
+use Rattle.plant_model.specs.Refusals.{feeds_not_later_in}
+use Rattle.plant_tree.specs.Walk.{walk, names_twice, key_refusals, table_refusals, value_refusals}
 use Rattle.plant_draft.specs.declared.draft.DraftDemands.TheVariants.{Given, File}
 use Rattle.plant_draft.specs.declared.draft.DraftPlant.{DraftPlant}
-use Rattle.plant_draft.specs.Draft.{file_of, demands_file}
+use Rattle.plant_draft.specs.Draft.{file_of, demands_file, IsSoundDraft}
+use Rattle.plant_draft.proofs.SoundDrafts.{sound_draft}
 use Rattle.plant_draft.specs.Reading.{draft_of, tree_refusals, draft_or_first, tree_of, tree_reading, reading}
 use Rattle.plant_file.specs.Finish.{completed}
 use Rattle.plant_file.specs.PlantOfFiles.{Contents, bytes_at, bytes_of, plant_of_reading, plant_of}
@@ -97,6 +100,33 @@ tree_names (Some top) d is =
 pub reading_names : (bytes : List ℕ) (d : DraftPlant) → reading bytes ≡ Ok d → NamesNoCheckpoint d
 unfolding reading
 reading_names bytes d is = tree_names (tree_of bytes) d is
+
+-- a draft in which nothing is refused is sound
+tree_sound : (top : Data) → tree_refusals top ≡ [] → IsSoundDraft (draft_of top)
+unfolding tree_refusals
+tree_sound top h =
+    let missing = append-nil_right (walk UnknownKeys top) _ h in
+    let types = append-nil_right (walk MissingKeys top) _ missing in
+    let bad = append-nil_right (walk WrongTypes top) _ types in
+    let twice = append-nil_right (walk BadNames top) _ bad in
+    let out = append-nil_right (names_twice top) _ twice in
+    let rest = append-nil_right (walk OutOfRanges top) _ out in
+    sound_draft top (append-nil_left (walk MissingKeys top) _ missing) (append-nil_left (walk BadNames top) _ bad)
+    (append-nil_left (names_twice top) _ twice) (append-nil_left (walk OutOfRanges top) _ out)
+    (append-nil_left (feeds_not_later_in (draft_of top).stages) _ rest)
+    (append-nil_right (feeds_not_later_in (draft_of top).stages) _ rest)
+
+answered_sound : (rs : List PlantError) (draft d : DraftPlant) → (rs ≡ [] → IsSoundDraft draft) → draft_or_first rs draft ≡ Ok d → IsSoundDraft d
+answered_sound [] draft d sound is = let same : draft ≡ d = cc in subst IsSoundDraft same (sound refl)
+answered_sound (r ∷ rs) draft d sound is = absurd (cc)
+
+read_sound : (o : Option Data) (d : DraftPlant) → option_map_or tree_reading o (Err NotToml) ≡ Ok d → IsSoundDraft d
+read_sound None d is = absurd (cc)
+read_sound (Some top) d is = answered_sound (tree_refusals top) (draft_of top) d (tree_sound top) is
+
+pub reading_sound : (bytes : List ℕ) (d : DraftPlant) → reading bytes ≡ Ok d → IsSoundDraft d
+unfolding reading
+reading_sound bytes d is = read_sound (tree_of bytes) d is
 
 module _ (a b : Contents) (agree : (q : List ℕ) → IsPlain q → a q ≡ b q) where
   bytes_same : (o : Option (List ℕ)) → IfSome o IsPlain → bytes_of a o ≡ bytes_of b o

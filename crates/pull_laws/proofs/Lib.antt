@@ -3,3 +3,4 @@ pub mod ResumeEnds
 pub mod ResumeStops
 pub mod ResumeWords
 pub mod Resuming
+pub mod SoundFiles

@@ -17,11 +17,12 @@ use Rattle.plant_model.specs.declared.error.PlantError.{PlantError}
 use Rattle.plant_model.specs.declared.plant.Plant.{Plant}
 use Rattle.plant_model.specs.Graph.{graph}
 use Rattle.plant_model.specs.Sound.{IsSound}
-use Rattle.plant_file.specs.PlantOfFiles.{plant_of}
+use Rattle.plant_file.specs.PlantOfFiles.{bytes_at, plant_of}
+use Rattle.pull_laws.proofs.SoundFiles.{plant_of-sound}
 use Rattle.pull_steps.specs.Deeds.{Changes}
 use Rattle.pull_cli.specs.Headline.{run_of, stop_of, HasReported, RunEndsWell}
 use Rattle.pull_laws.specs.Resuming.{Call, files_before, files_after, CallsFor, HasStopped, IsResumedBy, IsWholeRun, WroteTheSame}
-use Rattle.pull_laws.proofs.FileNames.{IsPlain, file_is_plain, same_plant}
+use Rattle.pull_laws.proofs.FileNames.{IsPlain, file_is_plain, reading_sound, same_plant}
 use Rattle.pull_cli.proofs.HeadlineLemmas.{headline_of}
 use Rattle.pull_laws.proofs.ResumeWords.{names_files}
 
@@ -82,5 +83,8 @@ module _ (p : Plant) (name : List ℕ) (stop : Stop) (first : Call) (stopped : H
     same_bytes sound one other a b =
         (report p (date_in a.rows), a.written, subst (PutsAll other.sink.old other.sink.new) (one_report p sound (date_in b.rows) (date_in a.rows) b.least a.least) b.written)
 
-    pub writes_the_same : IsSound p → second.status ≡ 0 → (whole : Call) → IsWholeRun name first whole → WroteTheSame second whole
-    writes_the_same sound zero whole run = same_bytes sound second whole (second_reports zero) (whole_reports whole run)
+    pub writes_the_same : second.status ≡ 0 → (whole : Call) → IsWholeRun name first whole → WroteTheSame second whole
+    writes_the_same zero whole run =
+        let files = files_before first in
+        let sound : IsSound p = plant_of-sound name files p (reading_sound (bytes_at files name)) (stopped.read.of_files stopped.calls.told) in
+        same_bytes sound second whole (second_reports zero) (whole_reports whole run)

@@ -9,7 +9,6 @@ use Rattle.line_io.specs.Contents.{Contents, IsLongerThan}
 use Rattle.line_io.specs.Faults.{Rose}
 use Rattle.line_io.specs.SinkView.{PutsAll}
 use Rattle.plant_model.specs.declared.plant.Plant.{Plant}
-use Rattle.plant_model.specs.Sound.{IsSound}
 use Rattle.pull_steps.specs.Deeds.{DiskOver}
 use Rattle.pull_steps.specs.Outside.{StoreOver, SinkOver, limit_of}
 use Rattle.pull_cli.specs.Ends.{Ends}
@@ -85,9 +84,9 @@ ResumingReports =
     (p : Plant) (name : List ℕ) (stop : Stop) (first second : Call) →
     HasStopped p name stop first → IsResumedBy name stop first second → EndsResumed p second
 
--- and the report, of a sound plant, is that which a run writes that never stops
+-- and the report is that which a run writes that never stops
 abbrev pub ResumingWritesTheSame : Type 0
 ResumingWritesTheSame =
-    (p : Plant) (name : List ℕ) (stop : Stop) (first second whole : Call) → IsSound p →
+    (p : Plant) (name : List ℕ) (stop : Stop) (first second whole : Call) →
     HasStopped p name stop first → IsResumedBy name stop first second → second.status ≡ 0 →
     IsWholeRun name first whole → WroteTheSame second whole
