@@ -45,14 +45,20 @@ station_fields =
         (
           Vec-send _ (as_row_send Outlet.the_field OutletSent.the_field_send),
           (
-            log_send,
+            search crosses,
             (
-              search sendable,
+              search crosses,
               (
-                search sendable,
+                log_send,
                 (
-                  search crosses,
-                  tt,
+                  search sendable,
+                  (
+                    search sendable,
+                    (
+                      search crosses,
+                      tt,
+                    ),
+                  ),
                 ),
               ),
             ),

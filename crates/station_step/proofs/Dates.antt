@@ -1,35 +1,35 @@
 -- The date of a job over the tokens of its inputs.
-use Rattle.std.proofs.Common.{◌≡◌, ◌≢◌, ℕ, zero, suc, ◌+◌, ◌-◌, ◌<◌, ◌≤◌, max, cond, List, length, get_or, refl, sym, ap, ◌∙◌, arith}
-use Rattle.std.specs.Prelude.{All, Bool, slice_index, if◌then◌else◌, nat_eq, false}
+use Rattle.std.proofs.Common.{◌≡◌, ℕ, zero, suc, ◌+◌, ◌<◌, ◌≤◌, max, cond, List, length, get_or, set, refl, sym, ap, ◌∙◌, arith, get_or-set_same, get_or-set_other}
+use Rattle.std.specs.Prelude.{All, Bool, None, slice_index, if◌then◌else◌, nat_eq, ◌==◌, false, unwrap_or}
 use Rattle.std.specs.List.{range_with_len}
 use Rattle.std.specs.Ordering.{ord_max, nat_cmp}
-use Rattle.std.proofs.lemmas.Bool.{ne_eqb}
+use Rattle.std.proofs.lemmas.List.{get_or-map}
 use Rattle.std.proofs.lemmas.Bool.Decides.{nat_tests}
-use Rattle.line_base.specs.declared.event.Arc.{Arc}
 use Rattle.line_base.specs.declared.event.Parts.{Parts}
-use Rattle.event_graph.specs.Network.{arc, ins, demand, time, IsGraph, EndsAt}
+use Rattle.event_graph.specs.Network.{arc, ins, outs, demand, delay, time, EndsAt}
 use Rattle.event_graph.specs.Term.{work}
 use Rattle.event_graph.specs.Firing.{greatest}
+use Rattle.station_step.specs.declared.ends.Inlet.TheVariants.{Local}
+use Rattle.station_step.specs.declared.input.Input.{Input}
+use Rattle.station_step.specs.Input.{input_at}
 use Rattle.station_step.specs.Kept.{saturating, asked, date_for}
+use Rattle.station_step.specs.Noted.{worked_into, delays_from}
+use Rattle.station_step.specs.Refilled.{hand_asks}
 
--- the feed's date, and that of every other station
-pub date_for-feed : (g : Parts) (t job : ℕ) (token : ℕ → ℕ) → t ≡ 0 → date_for g t job token ≡ demand g job
+-- the feed's date, and the latest that the tokens of every other station ask for
+pub date_for-is : (g : Parts) (t job latest : ℕ) (token : ℕ → ℕ) → latest ≡ greatest (asked g t job token) (range_with_len 0 (length (ins g t))) → (if t == 0 then demand g job else latest) ≡ date_for g t job token
 unfolding date_for
-date_for-feed g t job token feed =
-    let other = greatest (asked g t job token) (range_with_len 0 (length (ins g t))) in
-    ap (λ b. cond b (demand g job) other) (ap (λ n. nat_eq n 0) feed)
+date_for-is g t job latest token is = ap (λ m. if nat_eq t 0 then demand g job else m) is
 
-pub date_for-other : (g : Parts) (t job : ℕ) (token : ℕ → ℕ) → t ≢ 0 → date_for g t job token ≡ greatest (asked g t job token) (range_with_len 0 (length (ins g t)))
-unfolding date_for
-date_for-other g t job token other =
-    ap (λ b. cond b (demand g job) (greatest (asked g t job token) (range_with_len 0 (length (ins g t))))) (ne_eqb t 0 other)
+-- whether the arc of input k is worked, as it is noted
+pub worked-noted : (g : Parts) (t k : ℕ) (worked : List Bool) → k < length (ins g t) → worked ≡ worked_into g t → get_or worked k false ≡ (arc g (slice_index (ins g t) k)).worked
+worked-noted g t k worked low is =
+    ap (λ (l : List Bool). get_or l k false) is ∙ get_or-map (λ a. (arc g a).worked) (ins g t) k 0 false low
 
--- the arc of input k, as it is looked up
-pub arc-looked_up : (g : Parts) (t k : ℕ) (arcs : List Arc) (numbers : List ℕ) → arcs ≡ g.arcs → numbers ≡ ins g t → get_or arcs (get_or numbers k 0) (record { from = 0; to = 0; tokens = 0; worked = false }) ≡ arc g (slice_index (ins g t) k)
-arc-looked_up g t k arcs numbers arcs_are numbers_are =
-    let d : Arc = record { from = 0; to = 0; tokens = 0; worked = false } in
-    ap (λ (l : List Arc). get_or l (get_or numbers k 0) d) arcs_are
-    ∙ ap (λ (l : List ℕ). get_or g.arcs (get_or l k 0) d) numbers_are
+-- the delay of the arc of output k, as it is noted
+pub delay-noted : (g : Parts) (t k : ℕ) (delays : List ℕ) → k < length (outs g t) → delays ≡ delays_from g t → slice_index delays k ≡ delay g (slice_index (outs g t) k)
+delay-noted g t k delays low is =
+    ap (λ (l : List ℕ). slice_index l k) is ∙ get_or-map (delay g) (outs g t) k 0 0 low
 
 -- what the token on input k asks for, by whether its arc is worked and the job's time
 pub asked-is : (g : Parts) (t job k token takes : ℕ) (worked : Bool) → worked ≡ (arc g (slice_index (ins g t) k)).worked → (arc g (slice_index (ins g t) k)).to ≡ t → takes ≡ time g t job → saturating token (if worked then takes else 0) ≡ asked g t job (λ _. token) k
@@ -38,15 +38,12 @@ asked-is g t job k token takes worked worked_is to takes_is =
     ap (λ b. saturating token (cond b takes 0)) worked_is
     ∙ ap (λ n. saturating token (cond (arc g (slice_index (ins g t) k)).worked n 0)) (takes_is ∙ ap (λ n. time g n job) (sym to))
 
--- the greatest over the inputs from k on
-pub greatest-from : (f : ℕ → ℕ) (k n : ℕ) → k < n → greatest f (range_with_len k (n - k)) ≡ max (f k) (greatest f (range_with_len (k + 1) (n - (k + 1))))
+-- the greatest over one input more
+greatest-more : (f : ℕ → ℕ) (k n : ℕ) → greatest f (range_with_len k (suc n)) ≡ max (greatest f (range_with_len k n)) (f (k + n))
 unfolding greatest
-greatest-from f k n low =
-    let e : n - k ≡ suc (n - (k + 1)) = omega arith in ap (λ m. greatest f (range_with_len k m)) e
-
-pub greatest-none : (f : ℕ → ℕ) (k n : ℕ) → n ≤ k → greatest f (range_with_len k (n - k)) ≡ 0
-unfolding greatest
-greatest-none f k n past = let e : n - k ≡ 0 = omega arith in ap (λ m. greatest f (range_with_len k m)) e
+greatest-more f k zero = let at : k + zero ≡ k = omega arith in omega (arith, ap f at)
+greatest-more f k (suc n) =
+    let at : k + 1 + n ≡ k + suc n = omega arith in omega (arith, greatest-more f (k + 1) n, ap f at)
 
 -- functions that agree below n have the same greatest value there
 greatest-agree : (f h : ℕ → ℕ) (k n : ℕ) → ((j : ℕ) → k ≤ j → j < k + n → f j ≡ h j) → greatest f (range_with_len k n) ≡ greatest h (range_with_len k n)
@@ -68,7 +65,41 @@ date_for-agree g t job one other agree =
 pub ord_max-nat : (a b : ℕ) → ord_max nat_cmp a b ≡ max a b
 ord_max-nat a b = grind (arith, nat_tests)
 
--- no input of the feed is there
-pub feed-no_input : (g : Parts) (t k : ℕ) → t ≡ 0 → IsGraph g → All (EndsAt g t) (ins g t) → k < length (ins g t) → ⊥
-feed-no_input g t k feed graph each low =
-    let ends = each k 0 low in graph.feed_has_no_input (get_or (ins g t) k 0) ends.0 (ends.1 ∙ feed)
+-- ---- what the tokens in the hands ask for
+
+-- the latest where none is refilled yet
+pub latest-none : (f : ℕ → ℕ) → 0 ≡ greatest f (range_with_len 0 0)
+unfolding greatest
+latest-none f = refl
+
+-- the latest that they ask for, where one input more is refilled
+pub latest-more : (worked : List Bool) (takes k : ℕ) (inputs : List Input) (input : Input) (latest asks : ℕ) → k < length inputs → latest ≡ greatest (hand_asks worked takes inputs) (range_with_len 0 k) → asks ≡ saturating (unwrap_or input.hand 0) (if get_or worked k false then takes else 0) → ord_max nat_cmp latest asks ≡ greatest (hand_asks worked takes (set inputs k input)) (range_with_len 0 (k + 1))
+latest-more worked takes k inputs input latest asks low is asks_is =
+    let d : Input = record { inlet = Local 0; hand = None } in
+    let new = hand_asks worked takes (set inputs k input) in
+    let before : greatest (hand_asks worked takes inputs) (range_with_len 0 k) ≡ greatest new (range_with_len 0 k) =
+    greatest-agree (hand_asks worked takes inputs) new 0 k
+    (λ j from to.
+    ap (λ (i : Input). saturating (unwrap_or i.hand 0) (if get_or worked j false then takes else 0))
+    (sym (get_or-set_other inputs k j input d (λ e. absurd (omega (arith, e, to)))))) in
+    let at : k ≡ 0 + k = omega arith in
+    let here : asks ≡ new (0 + k) =
+    asks_is
+    ∙ ap (λ (i : Input). saturating (unwrap_or i.hand 0) (if get_or worked k false then takes else 0)) (sym (get_or-set_same inputs k input d low))
+    ∙ ap new at in
+    let next : suc k ≡ k + 1 = omega arith in
+    ord_max-nat latest asks
+    ∙ ap (λ m. max m asks) (is ∙ before)
+    ∙ ap (max (greatest new (range_with_len 0 k))) here
+    ∙ sym (greatest-more new 0 k)
+    ∙ ap (λ m. greatest new (range_with_len 0 m)) next
+
+-- it is what the arcs of the graph ask for
+pub latest-is : (g : Parts) (t job takes : ℕ) (worked : List Bool) (inputs : List Input) → length inputs ≡ length (ins g t) → worked ≡ worked_into g t → takes ≡ time g t job → All (EndsAt g t) (ins g t) → greatest (hand_asks worked takes inputs) (range_with_len 0 (length inputs)) ≡ greatest (asked g t job (λ k. unwrap_or (input_at inputs k).hand 0)) (range_with_len 0 (length (ins g t)))
+latest-is g t job takes worked inputs each noted takes_is ends =
+    let token : ℕ → ℕ = λ k. unwrap_or (input_at inputs k).hand 0 in
+    ap (λ n. greatest (hand_asks worked takes inputs) (range_with_len 0 n)) each
+    ∙ greatest-agree (hand_asks worked takes inputs) (asked g t job token) 0 (length (ins g t))
+    (λ k from to.
+    let low : k < length (ins g t) = omega (arith, to) in
+    asked-is g t job k (token k) takes (get_or worked k false) (worked-noted g t k worked low noted) (ends k 0 low).1 takes_is)

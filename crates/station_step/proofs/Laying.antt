@@ -7,25 +7,27 @@ use Rattle.std.proofs.lemmas.Bool.{cases_lt}
 use Rattle.card_queue.specs.Plain.{PlainQueue}
 use Rattle.station_step.specs.declared.tally.Tally.{Tally}
 use Rattle.station_step.specs.Shelf.{new_queue}
-use Rattle.station_step.specs.Table.{tally_at, seen_queue, seen_shelf, IsTable}
+use Rattle.station_step.specs.Table.{no_tally, tally_at, seen_queue, seen_shelf, IsTable}
 use Rattle.station_step.proofs.Tables.{length-seen, queue-seen}
 
--- a new queue, whose first tokens stand among these
-pub record IsLaid (first tokens : List ℕ) (tally : Tally) : Type 0 where
+-- a new queue in column q, whose first tokens stand among these
+pub record IsLaid (q : ℕ) (first tokens : List ℕ) (tally : Tally) : Type 0 where
   pub began : tally.start + tally.initial ≤ length tokens
   pub initial : tally.initial ≡ length first
   pub stand : take tally.initial (drop tally.start tokens) ≡ first
   pub puts : tally.puts ≡ 0
   pub takes : tally.takes ≡ 0
+  pub next_put : tally.put_place ≡ q
+  pub next_take : tally.take_place ≡ q
 
 -- the first n queues are laid
 pub record LaidUpTo (n : ℕ) (firsts : List (List ℕ)) (tokens : List ℕ) (tallies : List Tally) : Type 0 where
   pub count : length tallies ≡ n
-  pub each : (q : ℕ) → q < n → IsLaid (slice_index_or firsts q []) tokens (tally_at tallies q)
+  pub each : (q : ℕ) → q < n → IsLaid q (slice_index_or firsts q []) tokens (tally_at tallies q)
 
 -- more tokens behind them change nothing
-laid-longer : (first tokens more : List ℕ) (tally : Tally) → IsLaid first tokens tally → IsLaid first (tokens ++ more) tally
-laid-longer first tokens more tally is =
+laid-longer : (q : ℕ) (first tokens more : List ℕ) (tally : Tally) → IsLaid q first tokens tally → IsLaid q first (tokens ++ more) tally
+laid-longer q first tokens more tally is =
     let before : length (drop tally.start tokens) ≡ length tokens - tally.start = length-drop tally.start tokens in
     record {
       began = omega (arith, is.began, length-append tokens more);
@@ -35,15 +37,22 @@ laid-longer first tokens more tally is =
           ∙ is.stand;
       puts = is.puts;
       takes = is.takes;
+      next_put = is.next_put;
+      next_take = is.next_take;
     }
 
+-- its tally
+abbrev pub new_tally : ℕ → ℕ → ℕ → Tally
+new_tally q start initial =
+    record { start = start; put_place = q; take_place = q; initial = initial; puts = 0; takes = 0 }
+
 -- the next queue is laid
-pub laid_more : (n : ℕ) (firsts : List (List ℕ)) (tokens first : List ℕ) (tallies : List Tally) → first ≡ slice_index_or firsts n [] → LaidUpTo n firsts tokens tallies → LaidUpTo (n + 1) firsts (tokens ++ first) (tallies ++ record { start = length tokens; initial = length first; puts = 0; takes = 0 } ∷ [])
+pub laid_more : (n : ℕ) (firsts : List (List ℕ)) (tokens first : List ℕ) (tallies : List Tally) → first ≡ slice_index_or firsts n [] → LaidUpTo n firsts tokens tallies → LaidUpTo (n + 1) firsts (tokens ++ first) (tallies ++ new_tally n (length tokens) (length first) ∷ [])
 laid_more n firsts tokens first tallies first_is laid =
-    let tally : Tally = record { start = length tokens; initial = length first; puts = 0; takes = 0 } in
-    let none : Tally = record { start = 0; initial = 0; puts = 0; takes = 0 } in
+    let tally : Tally = new_tally n (length tokens) (length first) in
+    let none : Tally = no_tally in
     let tallies' = tallies ++ tally ∷ [] in
-    let last : IsLaid (slice_index_or firsts n []) (tokens ++ first) tally = record {
+    let last : IsLaid n (slice_index_or firsts n []) (tokens ++ first) tally = record {
       began = omega (arith, length-append tokens first);
       initial = ap length first_is;
       stand = ap (take (length first)) (drop_at tokens first (length tokens) refl)
@@ -51,18 +60,20 @@ laid_more n firsts tokens first tallies first_is laid =
           ∙ first_is;
       puts = refl;
       takes = refl;
+      next_put = refl;
+      next_take = refl;
     } in
     record {
       count = omega (arith, length-append tallies (tally ∷ []), laid.count);
       each = λ q low.
           ⊎_elim
           (λ (less : q < n).
-          subst (IsLaid (slice_index_or firsts q []) (tokens ++ first)) (sym (get_or_append_left tallies (tally ∷ []) none q (omega (arith, less, laid.count))))
-          (laid-longer (slice_index_or firsts q []) tokens first (tally_at tallies q) (laid.each q less)))
+          subst (IsLaid q (slice_index_or firsts q []) (tokens ++ first)) (sym (get_or_append_left tallies (tally ∷ []) none q (omega (arith, less, laid.count))))
+          (laid-longer q (slice_index_or firsts q []) tokens first (tally_at tallies q) (laid.each q less)))
           (λ (past : n ≤ q).
           let at : q ≡ n = omega (arith, low, past) in
-          subst (λ (m : ℕ). IsLaid (slice_index_or firsts m []) (tokens ++ first) (tally_at tallies' m)) (sym at)
-          (subst (IsLaid (slice_index_or firsts n []) (tokens ++ first)) (sym (get_or_push tallies tally none n laid.count)) last))
+          subst (λ (m : ℕ). IsLaid m (slice_index_or firsts m []) (tokens ++ first) (tally_at tallies' m)) (sym at)
+          (subst (IsLaid n (slice_index_or firsts n []) (tokens ++ first)) (sym (get_or_push tallies tally none n laid.count)) last))
           (cases_lt q n);
     }
 
@@ -99,11 +110,18 @@ table-laid firsts tokens table room tallies small full laid = record {
       let below : q < length firsts = omega (arith, low, laid.count) in
       let is = laid.each q below in
       let fits = small q below in
+      let tally = tally_at tallies q in
+      let w = length tallies in
+      let put_row : 0 ≡ tally.puts = sym is.puts in
+      let take_row : 0 ≡ tally.takes - tally.initial = omega (arith, is.takes) in
+      let first : q ≡ 0 * w + q = omega arith in
       record {
         began = is.began;
         within = omega (arith, is.puts);
         taken = omega (arith, is.takes);
         counted = omega (arith, is.initial, fits);
+        next_put = is.next_put ∙ first ∙ ap (λ n. n * w + q) put_row;
+        next_take = is.next_take ∙ first ∙ ap (λ n. n * w + q) take_row;
       };
 }
 

@@ -24,6 +24,17 @@ pub record RefilledUpTo (k : ℕ) (old new : List PlainQueue) (before after : Li
   pub only_takes : OnlyTakes old new
   pub others : (q : ℕ) → ((j : ℕ) → j < k → inlet_queue (input_at before j).inlet ≢ Some q) → queue_at new q ≡ queue_at old q
 
+-- none is refilled yet
+pub refilled_none : (shelf : List PlainQueue) (inputs : List Input) → RefilledUpTo 0 shelf shelf inputs inputs
+refilled_none shelf inputs = record {
+  count = refl;
+  same = refl;
+  done = λ j lt. absurd (omega (arith, lt));
+  rest = λ j le. refl;
+  only_takes = record { count = refl; puts = λ q. refl };
+  others = λ q none. refl;
+}
+
 -- a refilled input is one also where other queues changed later, or had changed before
 refilled-later : (old mid new : List PlainQueue) (before after : Input) → IsRefilled old mid before after → InletQueueStays mid new after.inlet → IsRefilled old new before after
 refilled-later old mid new before after is stays = record {
@@ -85,6 +96,9 @@ pub record IsFirstEmpty (k : ℕ) (found : Option ℕ) (inputs : List Input) : T
   pub there : IfSome found (λ i. i < k)
   pub empty : IfSome found (λ i. (input_at inputs i).hand ≡ None)
   pub first : IfSome found (λ i. (j : ℕ) → j < i → IsSome (input_at inputs j).hand)
+
+pub first-none : (inputs : List Input) → IsFirstEmpty 0 None inputs
+first-none inputs = record { none = λ j lt. absurd (omega (arith, lt)); there = tt; empty = tt; first = tt }
 
 -- an input before the one that changes
 before-set : (inputs : List Input) (k j : ℕ) (input : Input) → j < k → input_at (set inputs k input) j ≡ input_at inputs j

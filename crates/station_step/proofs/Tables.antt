@@ -1,21 +1,19 @@
 -- The queues of a shelf in its table: what is read there, and what a put or a take changes.
-use Rattle.std.proofs.Common.{◌≡◌, ◌≢◌, ℕ, ◌+◌, ◌-◌, ◌*◌, ◌<◌, ◌≤◌, List, [], ◌∷◌, ◌++◌, length, get_or, set, map, take, drop, refl, sym, ap, ◌∙◌, subst, arith, ⊎_elim, append_assoc, length-append, length-drop, get_or-set_same, get_or-set_other}
-use Rattle.std.specs.Prelude.{Option, None, Some, IsNone, ◌↔◌, option_to_list, slice_index}
+use Rattle.std.proofs.Common.{◌≡◌, ◌≢◌, ℕ, suc, cond, ◌+◌, ◌-◌, ◌*◌, ◌<◌, ◌≤◌, List, [], ◌∷◌, ◌++◌, length, get_or, set, map, take, drop, refl, sym, ap, ◌∙◌, subst, arith, ⊎_elim, append_assoc, length-append, length-drop, get_or-set_same, get_or-set_other}
+use Rattle.std.specs.Prelude.{Option, None, Some, true, false, nat_le, IsNone, ◌↔◌, option_to_list, slice_index}
 use Rattle.std.specs.List.{range_with_len}
 use Rattle.std.proofs.lemmas.List.{append-nil, length-set, set-get_or, length-take-le, get_or-take, get_or-drop, get_or_append_left, get_or-append_right, ext_get_or, drop_more, drop_all, take_more, take-append-le}
 use Rattle.std.proofs.lemmas.List.FromFn.{length-map-range_with_len, get_or-map-range_with_len, map-range_with_len_more, fill_by_all}
 use Rattle.std.proofs.lemmas.Nat.{mul-add-lt, same_from_place}
-use Rattle.std.proofs.lemmas.Bool.{cases_lt, cases_eq}
+use Rattle.std.proofs.Math.Nat.{suc-mul}
+use Rattle.std.proofs.lemmas.Bool.{cases_lt, cases_eq, le-leb, lt-leb}
 use Rattle.card_queue.specs.Plain.{PlainQueue, plain_tokens, plain_taken, plain_waiting}
 use Rattle.station_step.specs.declared.tally.Tally.{Tally}
 use Rattle.station_step.specs.Shelf.{queue_at, untaken}
-use Rattle.station_step.specs.Table.{tally_at, column, seen_queue, seen_shelf, IsTally, IsTable}
+use Rattle.station_step.specs.Table.{no_tally, tally_at, column, seen_queue, seen_shelf, IsTally, IsTable, one_put, one_taken}
 
 abbrev no_queue : PlainQueue
 no_queue = record { initial = []; added = []; room = 0; takes = 0 }
-
-abbrev no_tally : Tally
-no_tally = record { start = 0; initial = 0; puts = 0; takes = 0 }
 
 -- ---- columns
 
@@ -110,13 +108,13 @@ pub length-column : (table : List ℕ) (columns q count : ℕ) → length (colum
 length-column table columns q count = length-map-range_with_len (λ n. slice_index table (n * columns + q)) 0 count
 
 -- how many tokens it was given, and how many wait
-pub length-tokens : (firsts table : List ℕ) (room columns q : ℕ) (tally : Tally) → IsTally (length firsts) room tally → length (plain_tokens (seen_queue firsts table room columns q tally)) ≡ tally.initial + tally.puts
+pub length-tokens : (firsts table : List ℕ) (room columns q : ℕ) (tally : Tally) → IsTally (length firsts) room columns q tally → length (plain_tokens (seen_queue firsts table room columns q tally)) ≡ tally.initial + tally.puts
 length-tokens firsts table room columns q tally is =
     let initial = take tally.initial (drop tally.start firsts) in
     let added = column table columns q tally.puts in
     omega (arith, length-append initial added, length-firsts firsts tally is.began, length-column table columns q tally.puts)
 
-pub length-waiting : (firsts table : List ℕ) (room columns q : ℕ) (tally : Tally) → IsTally (length firsts) room tally → length (plain_waiting (seen_queue firsts table room columns q tally)) ≡ tally.initial + tally.puts - tally.takes
+pub length-waiting : (firsts table : List ℕ) (room columns q : ℕ) (tally : Tally) → IsTally (length firsts) room columns q tally → length (plain_waiting (seen_queue firsts table room columns q tally)) ≡ tally.initial + tally.puts - tally.takes
 length-waiting firsts table room columns q tally is =
     length-drop tally.takes (plain_tokens (seen_queue firsts table room columns q tally))
     ∙ ap (λ n. n - tally.takes) (length-tokens firsts table room columns q tally is)
@@ -126,7 +124,7 @@ front-there : (tokens : List ℕ) (i token : ℕ) → i < length tokens → get_
 front-there tokens i token low is =
     ap (λ n. n ∷ []) (sym is) ∙ sym (ap (take 1) (drop_more tokens i 0 low))
 
-pub front-initial : (firsts table : List ℕ) (room columns q : ℕ) (tally : Tally) → IsTally (length firsts) room tally → tally.takes < tally.initial → slice_index firsts (tally.start + tally.takes) ∷ [] ≡ take 1 (plain_waiting (seen_queue firsts table room columns q tally))
+pub front-initial : (firsts table : List ℕ) (room columns q : ℕ) (tally : Tally) → IsTally (length firsts) room columns q tally → tally.takes < tally.initial → slice_index firsts (tally.start + tally.takes) ∷ [] ≡ take 1 (plain_waiting (seen_queue firsts table room columns q tally))
 front-initial firsts table room columns q tally is less =
     let initial = take tally.initial (drop tally.start firsts) in
     let added = column table columns q tally.puts in
@@ -136,20 +134,32 @@ front-initial firsts table room columns q tally is less =
     ∙ get_or-take tally.initial (drop tally.start firsts) tally.takes 0 less
     ∙ get_or-drop tally.start firsts tally.takes 0)
 
-pub front-added : (firsts table : List ℕ) (room columns q : ℕ) (tally : Tally) → IsTally (length firsts) room tally → tally.initial ≤ tally.takes → tally.takes - tally.initial ≢ tally.puts → slice_index table ((tally.takes - tally.initial) * columns + q) ∷ [] ≡ take 1 (plain_waiting (seen_queue firsts table room columns q tally))
-front-added firsts table room columns q tally is past more =
+-- where the next token is taken is where the next is put exactly where all rows are taken
+same_row : (firsts rows columns q : ℕ) (tally : Tally) → q < columns → IsTally firsts rows columns q tally → tally.take_place ≡ tally.put_place → tally.takes - tally.initial ≡ tally.puts
+same_row firsts rows columns q tally low is same =
+    (same_from_place (tally.takes - tally.initial) q tally.puts q columns low low (sym is.next_take ∙ same ∙ is.next_put)).0
+
+other_row : (firsts rows columns q : ℕ) (tally : Tally) → IsTally firsts rows columns q tally → tally.take_place ≢ tally.put_place → tally.takes - tally.initial ≢ tally.puts
+other_row firsts rows columns q tally is other same =
+    other (is.next_take ∙ ap (λ n. n * columns + q) same ∙ sym is.next_put)
+
+pub front-added : (firsts table : List ℕ) (room columns q : ℕ) (tally : Tally) → IsTally (length firsts) room columns q tally → tally.initial ≤ tally.takes → tally.take_place ≢ tally.put_place → slice_index table tally.take_place ∷ [] ≡ take 1 (plain_waiting (seen_queue firsts table room columns q tally))
+front-added firsts table room columns q tally is past other =
     let initial = take tally.initial (drop tally.start firsts) in
     let added = column table columns q tally.puts in
     let row = tally.takes - tally.initial in
+    let more = other_row (length firsts) room columns q tally is other in
     let below : row < tally.puts = omega (arith, is.taken, past, more) in
     let long : length (initial ++ added) ≡ tally.initial + tally.puts = length-tokens firsts table room columns q tally is in
     front-there (initial ++ added) tally.takes _ (omega (arith, long, below, past))
     (get_or-append_right initial added tally.initial tally.takes 0 (length-firsts firsts tally is.began) past
-    ∙ get_or-map-range_with_len (λ n. slice_index table (n * columns + q)) 0 tally.puts row row 0 below (omega arith))
+    ∙ get_or-map-range_with_len (λ n. slice_index table (n * columns + q)) 0 tally.puts row row 0 below (omega arith)
+    ∙ ap (slice_index table) (sym is.next_take))
 
-pub front-none : (firsts table : List ℕ) (room columns q : ℕ) (tally : Tally) → IsTally (length firsts) room tally → tally.initial ≤ tally.takes → tally.takes - tally.initial ≡ tally.puts → [] ≡ take 1 (plain_waiting (seen_queue firsts table room columns q tally))
-front-none firsts table room columns q tally is past all =
+pub front-none : (firsts table : List ℕ) (room columns q : ℕ) (tally : Tally) → q < columns → IsTally (length firsts) room columns q tally → tally.initial ≤ tally.takes → tally.take_place ≡ tally.put_place → [] ≡ take 1 (plain_waiting (seen_queue firsts table room columns q tally))
+front-none firsts table room columns q tally low is past same =
     let tokens = plain_tokens (seen_queue firsts table room columns q tally) in
+    let all = same_row (length firsts) room columns q tally low is same in
     let long : length tokens ≡ tally.initial + tally.puts = length-tokens firsts table room columns q tally is in
     sym (ap (take 1) (drop_all tally.takes tokens (omega (arith, long, past, all))))
 
@@ -175,30 +185,31 @@ pub record PutOn (old new : List PlainQueue) (k date : ℕ) : Type 0 where
   pub added : queue_at new k ≡ record (queue_at old k) { added = (queue_at old k).added ++ date ∷ [] }
   pub taken : plain_taken (queue_at new k) ≡ plain_taken (queue_at old k)
 
--- the tally after it
-abbrev pub one_put : Tally → Tally
-one_put tally = record tally { puts = tally.puts + 1 }
-
 put-taken : (initial added : List ℕ) (takes date : ℕ) → takes ≤ length (initial ++ added) → take takes (initial ++ (added ++ date ∷ [])) ≡ take takes (initial ++ added)
 put-taken initial added takes date few =
     ap (take takes) (sym (append_assoc initial added (date ∷ []))) ∙ take-append-le takes (initial ++ added) (date ∷ []) few
 
-pub put-seen : (firsts table : List ℕ) (room : ℕ) (tallies : List Tally) (k date : ℕ) → IsTable firsts table room tallies → k < length tallies → (tally_at tallies k).puts < room → PutOn (seen_shelf firsts table room tallies) (seen_shelf firsts (set table ((tally_at tallies k).puts * length tallies + k) date) room (set tallies k (one_put (tally_at tallies k)))) k date
+pub put-seen : (firsts table : List ℕ) (room : ℕ) (tallies : List Tally) (k date : ℕ) → IsTable firsts table room tallies → k < length tallies → (tally_at tallies k).puts < room → PutOn (seen_shelf firsts table room tallies) (seen_shelf firsts (set table (tally_at tallies k).put_place date) room (set tallies k (one_put (length tallies) (tally_at tallies k)))) k date
 put-seen firsts table room tallies k date is low more =
     let w = length tallies in
     let tally = tally_at tallies k in
-    let table' = set table (tally.puts * w + k) date in
+    let table' = set table tally.put_place date in
+    let place : set table (tally.puts * w + k) date ≡ table' =
+    ap (λ n. set table n date) (sym (is.each k low).next_put) in
     let old = seen_shelf firsts table room tallies in
-    let new = seen_shelf firsts table' room (set tallies k (one_put tally)) in
+    let new = seen_shelf firsts table' room (set tallies k (one_put w tally)) in
     let was = seen_queue firsts table room w k tally in
-    let set_is : new ≡ set old k (seen_queue firsts table' room w k (one_put tally)) =
-    seen-set firsts table table' room tallies k (one_put tally) low
-    (λ q less ne. column-set_other table w k q tally.puts (tally_at tallies q).puts date low less ne) in
-    let now : queue_at new k ≡ seen_queue firsts table' room w k (one_put tally) =
+    let set_is : new ≡ set old k (seen_queue firsts table' room w k (one_put w tally)) =
+    seen-set firsts table table' room tallies k (one_put w tally) low
+    (λ q less ne.
+    ap (λ (l : List ℕ). column l w q (tally_at tallies q).puts) (sym place)
+    ∙ column-set_other table w k q tally.puts (tally_at tallies q).puts date low less ne) in
+    let now : queue_at new k ≡ seen_queue firsts table' room w k (one_put w tally) =
     queue-set old new k _ (omega (arith, low, length-seen firsts table room tallies)) set_is in
     let before : queue_at old k ≡ was = queue-seen firsts table room tallies k low in
     let column_is : column table' w k (tally.puts + 1) ≡ column table w k tally.puts ++ date ∷ [] =
-    column-set_more table w k tally.puts date low (place_there firsts table room tallies k tally.puts is low more) in
+    ap (λ (l : List ℕ). column l w k (tally.puts + 1)) (sym place)
+    ∙ column-set_more table w k tally.puts date low (place_there firsts table room tallies k tally.puts is low more) in
     let added : queue_at new k ≡ record (queue_at old k) { added = (queue_at old k).added ++ date ∷ [] } =
     now
     ∙ ap (λ (tokens : List ℕ). record was { added = tokens }) column_is
@@ -214,27 +225,40 @@ put-seen firsts table room tallies k date is low more =
     }
 
 -- the table is sound after it
-tally-set : (firsts rows : ℕ) (tallies : List Tally) (k : ℕ) (tally : Tally) → k < length tallies → ((q : ℕ) → q < length tallies → IsTally firsts rows (tally_at tallies q)) → IsTally firsts rows tally → (q : ℕ) → q < length (set tallies k tally) → IsTally firsts rows (tally_at (set tallies k tally) q)
+tally-set : (firsts rows : ℕ) (tallies : List Tally) (k : ℕ) (tally : Tally) → k < length tallies → ((q : ℕ) → q < length tallies → IsTally firsts rows (length tallies) q (tally_at tallies q)) → IsTally firsts rows (length tallies) k tally → (q : ℕ) → q < length (set tallies k tally) → IsTally firsts rows (length (set tallies k tally)) q (tally_at (set tallies k tally) q)
 tally-set firsts rows tallies k tally low each is q there =
-    ⊎_elim
+    subst (λ (n : ℕ). IsTally firsts rows n q (tally_at (set tallies k tally) q)) (sym (length-set tallies k tally))
+    (⊎_elim
     (λ (e : q ≡ k).
-    subst (λ (n : ℕ). IsTally firsts rows (tally_at (set tallies k tally) n)) (sym e)
-    (subst (IsTally firsts rows) (sym (get_or-set_same tallies k tally no_tally low)) is))
+    subst (λ (n : ℕ). IsTally firsts rows (length tallies) n (tally_at (set tallies k tally) n)) (sym e)
+    (subst (IsTally firsts rows (length tallies) k) (sym (get_or-set_same tallies k tally no_tally low)) is))
     (λ (ne : q ≢ k).
-    subst (IsTally firsts rows) (sym (get_or-set_other tallies k q tally no_tally ne))
+    subst (IsTally firsts rows (length tallies) q) (sym (get_or-set_other tallies k q tally no_tally ne))
     (each q (omega (arith, there, length-set tallies k tally))))
-    (cases_eq q k)
+    (cases_eq q k))
 
-pub put-sound : (firsts table : List ℕ) (room : ℕ) (tallies : List Tally) (k place date : ℕ) → IsTable firsts table room tallies → k < length tallies → (tally_at tallies k).puts < room → IsTable firsts (set table place date) room (set tallies k (one_put (tally_at tallies k)))
+-- the place of the same column in the next row
+next_place : (row columns q : ℕ) → row * columns + q + columns ≡ (row + 1) * columns + q
+next_place row columns q =
+    let e : suc row ≡ row + 1 = omega arith in
+    let next : suc row * columns ≡ row * columns + columns = suc-mul row columns in
+    let same : suc row * columns ≡ (row + 1) * columns = ap (λ n. n * columns) e in
+    omega (arith, next, same)
+
+pub put-sound : (firsts table : List ℕ) (room : ℕ) (tallies : List Tally) (k place date : ℕ) → IsTable firsts table room tallies → k < length tallies → (tally_at tallies k).puts < room → IsTable firsts (set table place date) room (set tallies k (one_put (length tallies) (tally_at tallies k)))
 put-sound firsts table room tallies k place date is low more =
     let was = is.each k low in
+    let w = length tallies in
+    let tally = tally_at tallies k in
     record {
-      full = length-set table place date ∙ is.full ∙ ap (λ n. n * room) (sym (length-set tallies k (one_put (tally_at tallies k))));
-      each = tally-set (length firsts) room tallies k (one_put (tally_at tallies k)) low is.each (record {
+      full = length-set table place date ∙ is.full ∙ ap (λ n. n * room) (sym (length-set tallies k (one_put w tally)));
+      each = tally-set (length firsts) room tallies k (one_put w tally) low is.each (record {
         began = was.began;
         within = omega (arith, more);
         taken = omega (arith, was.taken);
         counted = was.counted;
+        next_put = ap (λ n. n + w) was.next_put ∙ next_place tally.puts w k;
+        next_take = was.next_take;
       });
     }
 
@@ -246,8 +270,24 @@ pub record TakenFrom (old new : List PlainQueue) (k : ℕ) (token : Option ℕ) 
   pub none : IsNone token ↔ (plain_waiting (queue_at old k) ≡ [])
   pub puts : untaken (queue_at new k) ≡ untaken (queue_at old k)
 
-abbrev pub one_taken : Tally → Tally
-one_taken tally = record tally { takes = tally.takes + 1 }
+-- the place of the next take after it
+taken-place : (firsts rows columns q : ℕ) (tally : Tally) → IsTally firsts rows columns q tally → (one_taken columns tally).take_place ≡ (tally.takes + 1 - tally.initial) * columns + q
+taken-place firsts rows columns q tally is =
+    ⊎_elim
+    (λ (less : tally.takes < tally.initial).
+    let no : nat_le tally.initial tally.takes ≡ false = lt-leb tally.initial tally.takes less in
+    let row : tally.takes - tally.initial ≡ tally.takes + 1 - tally.initial = omega (arith, less) in
+    ap (λ b. cond b (tally.take_place + columns) tally.take_place) no
+    ∙ is.next_take
+    ∙ ap (λ n. n * columns + q) row)
+    (λ (past : tally.initial ≤ tally.takes).
+    let yes : nat_le tally.initial tally.takes ≡ true = le-leb tally.initial tally.takes past in
+    let row : tally.takes - tally.initial + 1 ≡ tally.takes + 1 - tally.initial = omega (arith, past) in
+    ap (λ b. cond b (tally.take_place + columns) tally.take_place) yes
+    ∙ ap (λ n. n + columns) is.next_take
+    ∙ next_place (tally.takes - tally.initial) columns q
+    ∙ ap (λ n. n * columns + q) row)
+    (cases_lt tally.takes tally.initial)
 
 -- a list whose front is there isn't empty
 front_below : (tokens : List ℕ) (i token : ℕ) → token ∷ [] ≡ take 1 (drop i tokens) → i < length tokens
@@ -277,15 +317,15 @@ take-none shelf k low front = record {
   puts = refl;
 }
 
-pub take-some : (firsts table : List ℕ) (room : ℕ) (tallies : List Tally) (k token : ℕ) → k < length tallies → token ∷ [] ≡ take 1 (plain_waiting (queue_at (seen_shelf firsts table room tallies) k)) → TakenFrom (seen_shelf firsts table room tallies) (seen_shelf firsts table room (set tallies k (one_taken (tally_at tallies k)))) k (Some token)
+pub take-some : (firsts table : List ℕ) (room : ℕ) (tallies : List Tally) (k token : ℕ) → k < length tallies → token ∷ [] ≡ take 1 (plain_waiting (queue_at (seen_shelf firsts table room tallies) k)) → TakenFrom (seen_shelf firsts table room tallies) (seen_shelf firsts table room (set tallies k (one_taken (length tallies) (tally_at tallies k)))) k (Some token)
 take-some firsts table room tallies k token low front =
     let w = length tallies in
     let tally = tally_at tallies k in
     let old = seen_shelf firsts table room tallies in
-    let new = seen_shelf firsts table room (set tallies k (one_taken tally)) in
+    let new = seen_shelf firsts table room (set tallies k (one_taken w tally)) in
     let was = seen_queue firsts table room w k tally in
-    let set_is : new ≡ set old k (seen_queue firsts table room w k (one_taken tally)) =
-    seen-set firsts table table room tallies k (one_taken tally) low (λ q less ne. refl) in
+    let set_is : new ≡ set old k (seen_queue firsts table room w k (one_taken w tally)) =
+    seen-set firsts table table room tallies k (one_taken w tally) low (λ q less ne. refl) in
     let now : queue_at new k ≡ record was { takes = was.takes + 1 } =
     queue-set old new k _ (omega (arith, low, length-seen firsts table room tallies)) set_is in
     let before : queue_at old k ≡ was = queue-seen firsts table room tallies k low in
@@ -303,21 +343,24 @@ take-some firsts table room tallies k token low front =
       puts = ap untaken now ∙ ap untaken (sym before);
     }
 
-pub take-sound : (firsts table : List ℕ) (room : ℕ) (tallies : List Tally) (k token : ℕ) → IsTable firsts table room tallies → k < length tallies → token ∷ [] ≡ take 1 (plain_waiting (queue_at (seen_shelf firsts table room tallies) k)) → IsTable firsts table room (set tallies k (one_taken (tally_at tallies k)))
+pub take-sound : (firsts table : List ℕ) (room : ℕ) (tallies : List Tally) (k token : ℕ) → IsTable firsts table room tallies → k < length tallies → token ∷ [] ≡ take 1 (plain_waiting (queue_at (seen_shelf firsts table room tallies) k)) → IsTable firsts table room (set tallies k (one_taken (length tallies) (tally_at tallies k)))
 take-sound firsts table room tallies k token is low front =
     let was = is.each k low in
+    let w = length tallies in
     let tally = tally_at tallies k in
     let queue = seen_queue firsts table room (length tallies) k tally in
     let front' : token ∷ [] ≡ take 1 (plain_waiting queue) =
     front ∙ ap (λ (q : PlainQueue). take 1 (plain_waiting q)) (queue-seen firsts table room tallies k low) in
     let more : tally.takes < length (plain_tokens queue) = front_below (plain_tokens queue) tally.takes token front' in
     record {
-      full = is.full ∙ ap (λ n. n * room) (sym (length-set tallies k (one_taken tally)));
-      each = tally-set (length firsts) room tallies k (one_taken tally) low is.each (record {
+      full = is.full ∙ ap (λ n. n * room) (sym (length-set tallies k (one_taken w tally)));
+      each = tally-set (length firsts) room tallies k (one_taken w tally) low is.each (record {
         began = was.began;
         within = was.within;
         taken = omega (arith, more, length-tokens firsts table room (length tallies) k tally was);
         counted = was.counted;
+        next_put = was.next_put;
+        next_take = taken-place (length firsts) room w k tally was;
       });
     }
 
@@ -325,9 +368,40 @@ take-sound firsts table room tallies k token is low front =
 pub takes_fit : (firsts table : List ℕ) (room : ℕ) (tallies : List Tally) (k token : ℕ) → IsTable firsts table room tallies → k < length tallies → token ∷ [] ≡ take 1 (plain_waiting (queue_at (seen_shelf firsts table room tallies) k)) → (tally_at tallies k).takes < (tally_at tallies k).initial + room
 takes_fit firsts table room tallies k token is low front =
     let was = is.each k low in
+    let w = length tallies in
     let tally = tally_at tallies k in
     let queue = seen_queue firsts table room (length tallies) k tally in
     let front' : token ∷ [] ≡ take 1 (plain_waiting queue) =
     front ∙ ap (λ (q : PlainQueue). take 1 (plain_waiting q)) (queue-seen firsts table room tallies k low) in
     let more : tally.takes < length (plain_tokens queue) = front_below (plain_tokens queue) tally.takes token front' in
     omega (arith, more, was.within, length-tokens firsts table room (length tallies) k tally was)
+
+-- the place of the next take is at most a row behind the table
+pub place_fits : (firsts table : List ℕ) (room : ℕ) (tallies : List Tally) (k : ℕ) → IsTable firsts table room tallies → k < length tallies → (tally_at tallies k).takes < (tally_at tallies k).initial + room → (tally_at tallies k).take_place < length table + length tallies
+place_fits firsts table room tallies k is low more =
+    let was = is.each k low in
+    let tally = tally_at tallies k in
+    let w = length tallies in
+    let row = tally.takes - tally.initial in
+    ⊎_elim
+    (λ (less : tally.takes < tally.initial).
+    let none : row ≡ 0 = omega (arith, less) in
+    let first : tally.take_place ≡ 0 * w + k = was.next_take ∙ ap (λ n. n * w + k) none in
+    omega (arith, first, low))
+    (λ (past : tally.initial ≤ tally.takes).
+    let below : row < room = omega (arith, past, more) in
+    let there : tally.take_place < length table =
+    subst (λ n. n < length table) (sym was.next_take) (place_there firsts table room tallies k row is low below) in
+    omega (arith, there))
+    (cases_lt tally.takes tally.initial)
+
+-- where a token that was put is next, its place is in the table
+pub take_there : (firsts table : List ℕ) (room : ℕ) (tallies : List Tally) (k : ℕ) → IsTable firsts table room tallies → k < length tallies → (tally_at tallies k).take_place ≢ (tally_at tallies k).put_place → (tally_at tallies k).take_place < length table
+take_there firsts table room tallies k is low other =
+    let was = is.each k low in
+    let tally = tally_at tallies k in
+    let w = length tallies in
+    let row = tally.takes - tally.initial in
+    let more : row ≢ tally.puts = other_row (length firsts) room w k tally was other in
+    let below : row < room = omega (arith, was.taken, was.within, more) in
+    subst (λ n. n < length table) (sym was.next_take) (place_there firsts table room tallies k row is low below)

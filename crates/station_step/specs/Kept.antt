@@ -32,7 +32,8 @@ token_for shelf s n k = slice_index (inlet_taken shelf (input_at s.inputs k).inl
 
 -- what output k got: the date of each firing, with the delay of its arc
 abbrev pub sent : WorkStation → ℕ → List ℕ
-sent s k = map (λ date. saturating date (delay s.graph (slice_index (outs s.graph s.number) k))) (drop s.made s.log.dates)
+sent s k =
+    map (λ date. saturating date (delay s.graph (slice_index (outs s.graph s.number) k))) (drop s.made s.log.dates)
 
 -- the log is the one that the station was made with, followed by a date for each firing, which follows from the
 -- tokens taken for it; each input gave a token for each firing, and one more to a full hand; each output got the dates

@@ -3,5 +3,7 @@ pub mod Table
 pub mod Ends
 pub mod Input
 pub mod Station
+pub mod Noted
 pub mod Kept
+pub mod Refilled
 pub mod Step

@@ -53,7 +53,8 @@ pub record OnlyRefilled (old new : List PlainQueue) (before after : WorkStation)
   pub log : after.log ≡ before.log
   pub outlets : after.outlets ≡ before.outlets
   pub puts : OnlyTakes old new
-  pub hands : (k : ℕ) → k < length before.inputs → IsRefilled old new (input_at before.inputs k) (input_at after.inputs k)
+  pub hands : (k : ℕ) → k < length before.inputs →
+      IsRefilled old new (input_at before.inputs k) (input_at after.inputs k)
 
 -- nothing but one turn more
 pub record OnlyTurned (old new : List PlainQueue) (before after : WorkStation) : Type 0 where

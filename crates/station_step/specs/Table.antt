@@ -1,13 +1,18 @@
--- How a shelf keeps its queues: the tokens that they began with stand queue after queue in one list, and those that were
--- put since in one table, a row for each time and a column for each queue. Only the shelf itself reads these words.
-use Rattle.std.specs.Prelude.{◌≡◌, ℕ, ◌+◌, ◌*◌, ◌^◌, ◌≤◌, ◌<◌, List, map, take, drop, length, slice_index, slice_index_or}
+-- How a shelf keeps its queues: the tokens that they began with stand queue after queue in one list, and those that
+-- were put since in one table, a row for each time and a column for each queue. Only the shelf itself reads these
+-- words.
+use Rattle.std.specs.Prelude.{◌≡◌, ℕ, ◌+◌, ◌-◌, ◌*◌, nat_le, if◌then◌else◌, ◌^◌, ◌≤◌, ◌<◌, List, map, take, drop, length, slice_index, slice_index_or}
 use Rattle.std.specs.List.{range_with_len}
 use Rattle.card_queue.specs.Plain.{PlainQueue}
 use Rattle.station_step.specs.declared.tally.Tally.{Tally}
 
+-- where there is no queue
+abbrev pub no_tally : Tally
+no_tally = record { start = 0; put_place = 0; take_place = 0; initial = 0; puts = 0; takes = 0 }
+
 -- the tally of queue q
 abbrev pub tally_at : List Tally → ℕ → Tally
-tally_at tallies q = slice_index_or tallies q (record { start = 0; initial = 0; puts = 0; takes = 0 })
+tally_at tallies q = slice_index_or tallies q no_tally
 
 -- the first tokens of column q in a table of so many columns
 abbrev pub column : List ℕ → ℕ → ℕ → ℕ → List ℕ
@@ -27,14 +32,27 @@ abbrev pub seen_shelf : List ℕ → List ℕ → ℕ → List Tally → List Pl
 seen_shelf firsts table room tallies =
     map (λ q. seen_queue firsts table room (length tallies) q (tally_at tallies q)) (range_with_len 0 (length tallies))
 
--- a tally over so many first tokens and rows: what it counts is there
-pub record IsTally (firsts rows : ℕ) (tally : Tally) : Type 0 where
+-- the tally of queue q over so many first tokens, rows and columns: what it counts is there, and the places are those
+-- of the next token that is put, and of the next that is taken among those that were put
+pub record IsTally (firsts rows columns q : ℕ) (tally : Tally) : Type 0 where
   pub began : tally.start + tally.initial ≤ firsts
   pub within : tally.puts ≤ rows
   pub taken : tally.takes ≤ tally.initial + tally.puts
   pub counted : tally.initial + rows < 2 ^ 32
+  pub next_put : tally.put_place ≡ tally.puts * columns + q
+  pub next_take : tally.take_place ≡ (tally.takes - tally.initial) * columns + q
+
+-- the tally after a put, and after a take
+abbrev pub one_put : ℕ → Tally → Tally
+one_put columns tally = record tally { puts = tally.puts + 1; put_place = tally.put_place + columns }
+
+abbrev pub one_taken : ℕ → Tally → Tally
+one_taken columns tally = record tally {
+  takes = tally.takes + 1;
+  take_place = if nat_le tally.initial tally.takes then tally.take_place + columns else tally.take_place;
+}
 
 -- the table has a place for each token that may be put
 pub record IsTable (firsts table : List ℕ) (room : ℕ) (tallies : List Tally) : Type 0 where
   pub full : length table ≡ length tallies * room
-  pub each : (q : ℕ) → q < length tallies → IsTally (length firsts) room (tally_at tallies q)
+  pub each : (q : ℕ) → q < length tallies → IsTally (length firsts) room (length tallies) q (tally_at tallies q)

@@ -1,12 +1,16 @@
-ghost use Rattle.std.specs.Prelude.{◌≡◌, ◌≢◌, ℕ, ◌<◌, ◌≤◌, if◌then◌else◌, None, map, length, IsSome, IfOk, IfSome, IfNone, unwrap_or};
-ghost use Rattle.event_graph.specs.Network.{stations, jobs, ins};
+ghost use Rattle.std.specs.Prelude.{◌≡◌, ◌≢◌, ℕ, ◌<◌, ◌≤◌, ◌==◌, if◌then◌else◌, None, map, length, IsSome, IfOk};
+ghost use Rattle.std.specs.List.{range_with_len};
+ghost use Rattle.event_graph.specs.Network.{jobs, demand};
+ghost use Rattle.event_graph.specs.Firing.{greatest};
 ghost use Rattle.station_step.specs.Shelf.{queue_at, OnlyTakes};
 ghost use Rattle.station_step.specs.Input.{empty_handed, input_at, IsRefilled, TakeWithin, TakeApart, NoneTakes};
 ghost use Rattle.station_step.specs.Station.{bare_input};
-ghost use Rattle.station_step.specs.Kept.{saturating, date_for};
+ghost use Rattle.station_step.specs.Kept.{saturating};
+ghost use Rattle.station_step.specs.Refilled.{IfFull, IfEmpty, hand_asks};
 
 use crate::ends::Inlet;
 use crate::input::Input;
+use crate::refilled::Refilled;
 use crate::shelf::Shelf;
 use event_graph::Graph;
 use line_base::Date;
@@ -22,8 +26,15 @@ pub(crate) fn with_empty_hands(alloc: Global, inlets: Vec<Inlet>) -> Result<Vec<
         .collect(alloc)
 }
 
-/// Takes a token into each empty hand whose inlet gives one. The answer is the first input whose hand stays empty.
-pub(crate) fn refill(inputs: &mut Vec<Input>, shelf: &mut Shelf) -> Option<usize>
+/// Takes a token into each empty hand whose inlet gives one. The answer is the greatest date that the tokens in the hands
+/// ask for, where all hands are full then; else the first input whose hand stays empty.
+pub(crate) fn refill(
+    inputs: &mut Vec<Input>,
+    worked: &[bool],
+    time: u64,
+    shelf: &mut Shelf,
+) -> Refilled
+    requires noted { length worked.now ≡ length inputs.old.items }
     requires within { TakeWithin (length shelf.old) inputs.old.items }
     requires apart { TakeApart inputs.old.items }
     ensures count { length inputs.new.items ≡ length inputs.old.items }
@@ -33,32 +44,34 @@ pub(crate) fn refill(inputs: &mut Vec<Input>, shelf: &mut Shelf) -> Option<usize
     ensures only_takes { OnlyTakes shelf.old shelf.new }
     ensures others { (q : ℕ) → NoneTakes q inputs.old.items →
         queue_at shelf.new q ≡ queue_at shelf.old q }
-    ensures none { IfNone result ((k : ℕ) → k < length inputs.new.items →
+    ensures full { IfFull result (λ _. (k : ℕ) → k < length inputs.new.items →
         IsSome (input_at inputs.new.items k).hand) }
-    ensures there { IfSome result (λ k. k < length inputs.new.items) }
-    ensures empty { IfSome result (λ k. (input_at inputs.new.items k).hand ≡ None) }
-    ensures first { IfSome result (λ k. (j : ℕ) → j < k →
+    ensures date { IfFull result (λ date. date ≡
+        greatest (hand_asks worked.now time inputs.new.items)
+        (range_with_len 0 (length inputs.new.items))) }
+    ensures there { IfEmpty result (λ k. k < length inputs.new.items) }
+    ensures empty { IfEmpty result (λ k. (input_at inputs.new.items k).hand ≡ None) }
+    ensures first { IfEmpty result (λ k. (j : ℕ) → j < k →
         IsSome (input_at inputs.new.items j).hand) }
 {
     let mut first = None;
+    let mut latest = 0;
     for k in 0..inputs.len() {
         let input = &mut inputs[k];
         input.refill(shelf);
         if input.hand.is_none() {
             first = first.or(Some(k));
         }
+        latest = latest.max(asked_date(worked[k], time, input.hand.unwrap_or(0)));
     }
-    first
+    match first {
+        None => Refilled::Full(latest),
+        Some(k) => Refilled::Empty(k),
+    }
 }
 
-/// The date of a job, for which the tokens are taken out of the hands. Every hand is empty then.
-pub(crate) fn next_date(graph: &Graph, t: u32, job: u32, inputs: &mut Vec<Input>) -> Date
-    requires station { t < stations graph.now }
-    requires from_one { 1 ≤ job }
-    requires job { job ≤ jobs graph.now }
-    requires an_input_each { length inputs.old.items ≡ length (ins graph.now t) }
-    ensures date { result ≡
-        date_for graph.now t job (λ k. unwrap_or (input_at inputs.old.items k).hand 0) }
+/// Takes the tokens out of all hands.
+pub(crate) fn empty_hands(inputs: &mut Vec<Input>)
     ensures count { length inputs.new.items ≡ length inputs.old.items }
     ensures inlets { (k : ℕ) →
         (input_at inputs.new.items k).inlet ≡ (input_at inputs.old.items k).inlet }
@@ -66,20 +79,19 @@ pub(crate) fn next_date(graph: &Graph, t: u32, job: u32, inputs: &mut Vec<Input>
     ensures hands { (k : ℕ) → k < length inputs.old.items →
         (input_at inputs.new.items k).hand ≡ None }
 {
-    let ins = graph.ins(t);
-    if t == 0 {
-        return graph.demand(job);
-    }
-    let arcs = graph.arcs();
-    let time = graph.time(t, job);
-    let mut latest = 0;
     for k in 0..inputs.len() {
-        let input = &mut inputs[k];
-        let token = input.hand.take().unwrap_or(0);
-        let worked = arcs[ins[k] as usize].worked;
-        latest = latest.max(asked_date(worked, time, token));
+        inputs[k].hand = None;
     }
-    latest
+}
+
+/// The date of a job: for the feed the demand date, else this one, the latest that the tokens ask for.
+#[inline]
+pub(crate) fn next_date(graph: &Graph, t: u32, job: u32, latest: Date) -> Date
+    requires from_one { 1 ≤ job }
+    requires job { job ≤ jobs graph.now }
+    ensures { result ≡ (if t == 0 then demand graph.now job else latest) }
+{
+    if t == 0 { graph.demand(job) } else { latest }
 }
 
 /// What a token asks of the date of a job that takes so long: its date, with the time where its arc is worked.

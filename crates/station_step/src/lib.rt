@@ -4,7 +4,9 @@
 mod ends;
 mod input;
 mod inputs;
+mod noted;
 mod outlets;
+mod refilled;
 mod shelf;
 mod station;
 mod stepped;

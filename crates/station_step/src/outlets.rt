@@ -1,5 +1,4 @@
 ghost use Rattle.std.specs.Prelude.{◌≡◌, ◌≢◌, ℕ, ◌<◌, ◌≤◌, ◌++◌, ◌∷◌, [], map, length, slice_index};
-ghost use Rattle.event_graph.specs.Network.{stations, outs, delay};
 ghost use Rattle.station_step.specs.Shelf.{queue_at, OnlyPuts};
 ghost use Rattle.station_step.specs.Ends.{outlet_added, bare_outlet, HasRingRoom, HasShelfRoom};
 ghost use Rattle.station_step.specs.Station.{outlet_at, PutWithin, PutApart, NonePuts};
@@ -8,19 +7,11 @@ ghost use Rattle.station_step.specs.Step.{Grows};
 
 use crate::ends::Outlet;
 use crate::shelf::Shelf;
-use event_graph::Graph;
 use line_base::Date;
 
-/// Puts a token on every output, later by the delay of its arc.
-pub(crate) fn put_all(
-    graph: &Graph,
-    t: u32,
-    outlets: &mut Vec<Outlet>,
-    shelf: &mut Shelf,
-    date: Date,
-)
-    requires station { t < stations graph.now }
-    requires an_outlet_each { length outlets.old.items ≡ length (outs graph.now t) }
+/// Puts a token on every output, later by its delay.
+pub(crate) fn put_all(delays: &[u64], outlets: &mut Vec<Outlet>, shelf: &mut Shelf, date: Date)
+    requires a_delay_each { length delays.now ≡ length outlets.old.items }
     requires within { PutWithin (length shelf.old) outlets.old.items }
     requires apart { PutApart outlets.old.items }
     requires ring_room { (k : ℕ) → k < length outlets.old.items →
@@ -32,15 +23,14 @@ pub(crate) fn put_all(
     ensures each { (k : ℕ) → k < length outlets.old.items →
         outlet_added shelf.new (outlet_at outlets.new.items k) ≡
         outlet_added shelf.old (outlet_at outlets.old.items k) ++
-        saturating date (delay graph.now (slice_index (outs graph.now t) k)) ∷ [] }
+        saturating date (slice_index delays.now k) ∷ [] }
     ensures only_puts { OnlyPuts shelf.old shelf.new }
     ensures grows { Grows shelf.old shelf.new }
     ensures others { (q : ℕ) → NonePuts q outlets.old.items →
         queue_at shelf.new q ≡ queue_at shelf.old q }
 {
-    let outs = graph.outs(t);
     for k in 0..outlets.len() {
-        let later = date.saturating_add(graph.delay(outs[k]));
+        let later = date.saturating_add(delays[k]);
         outlets[k].put(shelf, later);
     }
 }

@@ -46,8 +46,11 @@ impl Shelf {
         let mut tokens = Vec::new(alloc);
         let mut queues = Vec::with_capacity(alloc, firsts.len())?;
         for first in &firsts {
+            let column = queues.len();
             queues.push(Tally {
                 start: tokens.len(),
+                put_place: column,
+                take_place: column,
                 initial: first.len() as u32,
                 puts: 0,
                 takes: 0,
@@ -83,13 +86,8 @@ impl Shelf {
     {
         let columns = self.queues.len();
         let tally = &mut self.queues[k as usize];
-        let token = tally.front(
-            self.firsts.as_slice(),
-            self.table.as_slice(),
-            columns,
-            k as usize,
-        )?;
-        tally.takes += 1;
+        let token = tally.front(self.firsts.as_slice(), self.table.as_slice())?;
+        tally.note_take(columns);
         Some(token)
     }
 
@@ -105,7 +103,8 @@ impl Shelf {
     {
         let columns = self.queues.len();
         let tally = &mut self.queues[k as usize];
-        self.table[tally.puts as usize * columns + k as usize] = date;
+        self.table[tally.put_place] = date;
+        tally.put_place += columns;
         tally.puts += 1;
     }
 }

@@ -10,8 +10,10 @@ ghost use Rattle.station_step.specs.Step.{IsReady, IsDone, HasFired, IfBlocked, 
 
 use crate::ends::{Inlet, Outlet, meet_ends};
 use crate::input::Input;
-use crate::inputs::{next_date, refill, with_empty_hands};
+use crate::inputs::{empty_hands, next_date, refill, with_empty_hands};
+use crate::noted::{delays_from, worked_into};
 use crate::outlets::put_all;
+use crate::refilled::Refilled;
 use crate::shelf::Shelf;
 use crate::stepped::Stepped;
 use event_graph::Graph;
@@ -31,6 +33,9 @@ pub struct Station {
     number: u32,
     inputs: Vec<Input>,
     outlets: Vec<Outlet>,
+    // What each step asks of the graph: whether the arc of each input is worked, and the delay of each output's arc.
+    worked: Vec<bool>,
+    delays: Vec<u64>,
     log: Log,
     made: u32,
     turns: u64,
@@ -40,6 +45,7 @@ pub struct Station {
 
 impl Model for Station {
     ghost use Rattle.station_step.specs.Station.{WorkStation, IsStation};
+    ghost use Rattle.station_step.specs.Noted.{IsNoted};
 
     ghost Value = { WorkStation };
 
@@ -61,7 +67,7 @@ impl Model for Station {
       log = s.log;
       made = s.made;
       turns = s.turns;
-    }) };
+    }) × IsNoted s.graph.value s.number s.worked.items s.delays.items };
 }
 
 impl Station {
@@ -96,6 +102,8 @@ impl Station {
             number: t,
             inputs: with_empty_hands(alloc, inlets)?,
             outlets,
+            worked: worked_into(alloc, graph, t)?,
+            delays: delays_from(alloc, graph, t)?,
             log,
             made,
             turns: 0,
@@ -139,11 +147,16 @@ impl Station {
         if done == graph.jobs() {
             return Stepped::Done;
         }
-        if let Some(k) = refill(&mut self.inputs, shelf) {
-            return Stepped::Blocked(graph.ins(self.number)[k]);
-        }
-        let date = next_date(graph, self.number, done + 1, &mut self.inputs);
-        put_all(graph, self.number, &mut self.outlets, shelf, date);
+        let job = done + 1;
+        let time = graph.time(self.number, job);
+        let worked = self.worked.as_slice();
+        let latest = match refill(&mut self.inputs, worked, time, shelf) {
+            Refilled::Full(latest) => latest,
+            Refilled::Empty(k) => return Stepped::Blocked(graph.ins(self.number)[k]),
+        };
+        empty_hands(&mut self.inputs);
+        let date = next_date(graph, self.number, job, latest);
+        put_all(self.delays.as_slice(), &mut self.outlets, shelf, date);
         self.log.add(date);
         Stepped::Fired
     }

@@ -1,6 +1,6 @@
-ghost use Rattle.std.specs.Prelude.{◌≡◌, ℕ, ◌+◌, ◌*◌, ◌<◌, take, length, option_to_list};
+ghost use Rattle.std.specs.Prelude.{◌≡◌, ◌≢◌, ℕ, ◌+◌, ◌≤◌, ◌<◌, ◌^◌, take, length, option_to_list};
 ghost use Rattle.card_queue.specs.Plain.{plain_waiting};
-ghost use Rattle.station_step.specs.Table.{IsTally, seen_queue};
+ghost use Rattle.station_step.specs.Table.{IsTally, seen_queue, one_taken};
 
 use line_base::Date;
 
@@ -9,6 +9,10 @@ use line_base::Date;
 pub(crate) struct Tally {
     /// Where its first token stands among those that the queues began with.
     pub(crate) start: usize,
+    /// Where in the table the next token is put.
+    pub(crate) put_place: usize,
+    /// Where in the table the next token is taken, once those that the queue began with are.
+    pub(crate) take_place: usize,
     /// How many tokens it began with.
     pub(crate) initial: u32,
     /// How many were put on it since.
@@ -18,27 +22,36 @@ pub(crate) struct Tally {
 }
 
 impl Tally {
-    /// The front token of the queue, if there is one. The queue has column `q` of a table of so many columns.
+    /// The front token of the queue, if there is one, whatever its column of a table of so many columns.
     #[inline]
-    pub(crate) fn front(
-        &self,
-        firsts: &[Date],
-        table: &[Date],
-        columns: usize,
-        q: usize,
-    ) -> Option<Date>
-        requires tally { IsTally (length firsts.now) self.now.puts self.now }
-        requires places { (row : ℕ) → row < self.now.puts → row * columns + q < length table.now }
-        ensures { option_to_list result ≡
+    pub(crate) fn front(&self, firsts: &[Date], table: &[Date]) -> Option<Date>
+        requires began { self.now.start + self.now.initial ≤ length firsts.now }
+        requires there { self.now.take_place ≢ self.now.put_place →
+            self.now.take_place < length table.now }
+        ensures { (columns q : ℕ) → q < columns →
+            IsTally (length firsts.now) self.now.puts columns q self.now →
+            option_to_list result ≡
             take 1 (plain_waiting (seen_queue firsts.now table.now 0 columns q self.now)) }
     {
         if self.takes < self.initial {
             return Some(firsts[self.start + self.takes as usize]);
         }
-        let row = self.takes - self.initial;
-        if row == self.puts {
+        if self.take_place == self.put_place {
             return None;
         }
-        Some(table[row as usize * columns + q])
+        Some(table[self.take_place])
+    }
+
+    /// Notes that the front token was taken, with so many columns in the table.
+    #[inline]
+    pub(crate) fn note_take(&mut self, columns: usize)
+        requires takes { self.old.takes + 1 < 2 ^ 32 }
+        requires place { self.old.take_place + columns < 2 ^ 64 }
+        ensures { self.new ≡ one_taken columns self.old }
+    {
+        if self.initial <= self.takes {
+            self.take_place += columns;
+        }
+        self.takes += 1;
     }
 }

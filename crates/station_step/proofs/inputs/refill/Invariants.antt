@@ -1,3 +1,7 @@
+use Rattle.std.proofs.Common.{◌≡◌}
+use Rattle.std.specs.List.{range_with_len}
+use Rattle.event_graph.specs.Firing.{greatest}
+use Rattle.station_step.specs.Refilled.{hand_asks}
 use Rattle.station_step.proofs.Refilling.{RefilledUpTo, IsFirstEmpty}
 use Rattle.station_step.proofs.inputs.refill.Given as goal
 
@@ -5,4 +9,5 @@ abbrev pub invariant-loop-k : goal.invariant-loop-k
 invariant-loop-k l = record {
   refilled : RefilledUpTo l.k l.initial.shelf l.shelf l.initial.inputs.items l.inputs.items;
   found : IsFirstEmpty l.k l.first l.inputs.items;
+  date : l.latest ≡ greatest (hand_asks l.worked l.time l.inputs.items) (range_with_len 0 l.k);
 }

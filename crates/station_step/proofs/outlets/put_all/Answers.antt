@@ -1,7 +1,6 @@
-use Rattle.std.proofs.Common.{◌≡◌, ◌≢◌, ◌<◌, ◌++◌, ◌∷◌, [], ℕ, List, sym, subst, ap, ◌∙◌, arith, length, slice_index}
+use Rattle.std.proofs.Common.{◌≡◌, ◌≢◌, ◌<◌, ◌++◌, ◌∷◌, [], ℕ, sym, subst, ap, ◌∙◌, arith, length, slice_index}
 use Rattle.std.specs.Prelude.{Some}
 use Rattle.std.proofs.lemmas.List.{get_or_default}
-use Rattle.event_graph.specs.Network.{outs, delay}
 use Rattle.station_step.specs.declared.ends.Outlet.{Outlet}
 use Rattle.station_step.specs.Shelf.{queue_at}
 use Rattle.station_step.specs.Ends.{outlet_queue, outlet_added, bare_outlet, HasShelfRoom}
@@ -28,10 +27,9 @@ loop-k-preserved c =
     let at : c.index_mut.result.now ≡ outlet_at items k = c.index_mut.ensures.value ∙ get_or_default items k _ _ low in
     let mid = c.loop-k.shelf in
     let new = c.put.new.shelf in
-    let tokens = λ (j : ℕ). saturating c.args.date (delay c.args.graph.now (slice_index (outs c.args.graph.now c.args.t) j)) in
+    let tokens = λ (j : ℕ). saturating c.args.date (slice_index c.args.delays.now j) in
     let later : c.saturating_add-later.result ≡ tokens k =
-    c.saturating_add-later.ensures
-    ∙ ap (saturating c.args.date) (c.delay.ensures.delay ∙ ap (λ (l : List ℕ). delay c.args.graph.now (slice_index l k)) c.outs-outs.ensures.arcs) in
+    c.saturating_add-later.ensures in
     filled_more k tokens c.args.shelf.now mid new c.args.outlets.now.items items c.put.new.self c.requires.apart low c.loop-k.invariant
     (c.put.ensures.same ∙ ap bare_outlet at)
     (c.put.ensures.added ∙ ap (λ n. outlet_added mid c.index_mut.result.now ++ n ∷ []) later ∙ ap (λ (o : Outlet). outlet_added mid o ++ tokens k ∷ []) at)

@@ -2,8 +2,7 @@ use Rattle.std.proofs.Common.{◌≡◌, ◌<◌, ℕ, ◌+◌, ◌*◌, ◌^◌
 use Rattle.std.specs.Prelude.{Vec, slice_index_or}
 use Rattle.std.specs.declared.alloc.Global.{Global}
 use Rattle.std.proofs.lemmas.List.{get_or-map, length-map}
-use Rattle.station_step.specs.declared.tally.Tally.{Tally}
-use Rattle.station_step.proofs.Laying.{LaidUpTo, items_of, laid_none, laid_more, seen-laid, table-laid, new-queues}
+use Rattle.station_step.proofs.Laying.{LaidUpTo, new_tally, items_of, laid_none, laid_more, seen-laid, table-laid, new-queues}
 use Rattle.station_step.proofs.shelf.Shelf.new.Goals as goal
 
 pub loop-first-init : goal.loop-first-init
@@ -23,17 +22,19 @@ loop-first-preserved c =
     c.deref.ensures.value
     ∙ ap (λ (w : Vec ℕ Global). w.items) (c.first-item.is ∙ ap (λ (l : List (Vec ℕ Global)). get_or l n v) c.deref-first-items.ensures.value)
     ∙ sym (get_or-map (λ (w : Vec ℕ Global). w.items) firsts n v [] low) in
-    let tally : ℕ → ℕ → Tally = λ start initial. record { start = start; initial = initial; puts = 0; takes = 0 } in
+    let column : n ≡ c.len-column.result =
+    omega (arith, c.loop-first.invariant.count, c.loop-first.queues.ok.0, c.len-column.ensures) in
     let start : length tokens ≡ c.len-in-loop-first.result =
     omega (arith, c.len-in-loop-first.ensures, c.loop-first.tokens.ok.0) in
     let initial : length first ≡ c.len-in-loop-first-2.result =
     omega (arith, c.len-in-loop-first-2.ensures, ap length c.deref.ensures.value, v.ok.0) in
-    let pushed : tallies ++ tally (length tokens) (length first) ∷ [] ≡ c.push.new.self.items =
-    ap (λ (m : ℕ). tallies ++ tally m (length first) ∷ []) start
-    ∙ ap (λ (m : ℕ). tallies ++ tally c.len-in-loop-first.result m ∷ []) initial
+    let pushed : tallies ++ new_tally n (length tokens) (length first) ∷ [] ≡ c.push.new.self.items =
+    ap (λ (q : ℕ). tallies ++ new_tally q (length tokens) (length first) ∷ []) column
+    ∙ ap (λ (m : ℕ). tallies ++ new_tally c.len-column.result m (length first) ∷ []) start
+    ∙ ap (λ (m : ℕ). tallies ++ new_tally c.len-column.result c.len-in-loop-first.result m ∷ []) initial
     ∙ sym c.in_ok-push.ensures.items in
     subst (LaidUpTo (n + 1) (items_of firsts) c.extend_from_slice.new.self.items) pushed
-    (subst (λ (l : List ℕ). LaidUpTo (n + 1) (items_of firsts) l (tallies ++ tally (length tokens) (length first) ∷ [])) (sym c.in_ok-extend_from_slice.ensures.items)
+    (subst (λ (l : List ℕ). LaidUpTo (n + 1) (items_of firsts) l (tallies ++ new_tally n (length tokens) (length first) ∷ [])) (sym c.in_ok-extend_from_slice.ensures.items)
     (laid_more n (items_of firsts) tokens first tallies first_is c.loop-first.invariant))
 
 pub invariant_of-result : goal.invariant_of-result

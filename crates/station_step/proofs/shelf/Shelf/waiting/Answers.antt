@@ -15,9 +15,9 @@ there c =
 at : (c : goal.After-index-tally) → c.index-tally.result.now ≡ tally_at c.self.inside.queues.items c.args.k
 at c = c.index-tally.ensures ∙ get_or_default c.self.inside.queues.items c.args.k _ _ (there c)
 
-sound : (c : goal.After-index-tally) → IsTally (length c.self.inside.firsts.items) c.self.inside.room c.index-tally.result.now
+sound : (c : goal.After-index-tally) → IsTally (length c.self.inside.firsts.items) c.self.inside.room (length c.self.inside.queues.items) c.args.k c.index-tally.result.now
 sound c =
-    subst (IsTally (length c.self.inside.firsts.items) c.self.inside.room) (sym (at c)) (c.self.invariant.each c.args.k (there c))
+    subst (IsTally (length c.self.inside.firsts.items) c.self.inside.room (length c.self.inside.queues.items) c.args.k) (sym (at c)) (c.self.invariant.each c.args.k (there c))
 
 pub index-tally-requires : goal.index-tally-requires
 index-tally-requires c =

@@ -1,67 +1,100 @@
-use Rattle.std.proofs.Common.{subst, ◌∙◌, sym, ap, ◌≡◌, ◌≢◌, ◌+◌, ◌++◌, ◌∷◌, [], ℕ, List, length, slice_index}
+use Rattle.std.proofs.Common.{refl, subst, ◌∙◌, sym, ap, ◌≡◌, ◌≢◌, ◌+◌, ◌<◌, ◌++◌, ◌∷◌, [], ℕ, List, arith, length, slice_index}
 use Rattle.std.specs.Prelude.{unwrap_or}
 use Rattle.line_base.specs.declared.event.Parts.{Parts}
 use Rattle.line_base.specs.Roomy.{RoomyLog, with_date}
-use Rattle.event_graph.specs.Network.{jobs, delay, outs}
+use Rattle.event_graph.specs.Network.{jobs, delay, ins, outs}
 use Rattle.station_step.specs.Input.{input_at}
 use Rattle.station_step.specs.Ends.{outlet_added}
 use Rattle.station_step.specs.Station.{WorkStation, IsStation, IsSeated, outlet_at}
 use Rattle.station_step.specs.Kept.{IsKept, date_for, saturating}
 use Rattle.station_step.specs.Step.{MovesItsOwn, Grows}
+use Rattle.event_graph.proofs.ArcNumbers.{All-ins}
+use Rattle.station_step.specs.Noted.{worked_into}
+use Rattle.station_step.proofs.Dates.{delay-noted, date_for-is, latest-is}
 use Rattle.station_step.proofs.Keeping.{kept-waits, kept-fires, IsFiring, fired_station, station-fires, seated-same, own-waits, own-fires, grows-waits, grows-fires, kept-others, ready-others}
 use Rattle.station_step.specs.contracts.station.Station.{the_view}
 use Rattle.station_step.proofs.station.Station.step.Goals as goal
 
-pub returns-in-Some-clause-kept : goal.returns-in-Some-clause-kept
-returns-in-Some-clause-kept c =
+pub returns-in-Empty-clause-kept : goal.returns-in-Empty-clause-kept
+returns-in-Empty-clause-kept c =
     let new = c.refill.new.shelf in
     let full = c.refill.new.inputs.items in
     subst (λ (s : WorkStation). IsKept c.args.shelf.now s → IsKept new (record (the_view c.self.inside) { inputs = full; turns = c.self.inside.turns + 1 })) c.self.view_is
-    (kept-waits c.args.shelf.now new (the_view c.self.inside) full (c.self.inside.turns + 1) c.self.invariant.an_input_each c.refill.ensures.count c.refill.ensures.each c.refill.ensures.only_takes)
+    (kept-waits c.args.shelf.now new (the_view c.self.inside) full (c.self.inside.turns + 1) c.self.invariant.0.an_input_each c.refill.ensures.count c.refill.ensures.each c.refill.ensures.only_takes)
 
-pub returns-in-Some-clause-grows : goal.returns-in-Some-clause-grows
-returns-in-Some-clause-grows c = grows-waits c.args.shelf.now c.refill.new.shelf c.refill.ensures.only_takes
+pub returns-in-Empty-clause-seated : goal.returns-in-Empty-clause-seated
+returns-in-Empty-clause-seated c =
+    let old = c.args.shelf.now in
+    let s = the_view c.self.inside in
+    let full = c.refill.new.inputs.items in
+    let was : IsSeated old s = subst (IsSeated old) (sym c.self.view_is) c.requires.seated in
+    seated-same old c.refill.new.shelf s (record s { inputs = full; turns = c.self.inside.turns + 1 })
+    c.refill.ensures.only_takes.count c.refill.ensures.count refl c.refill.ensures.same refl was
+
+pub returns-in-Empty-clause-grows : goal.returns-in-Empty-clause-grows
+returns-in-Empty-clause-grows c = grows-waits c.args.shelf.now c.refill.new.shelf c.refill.ensures.only_takes
 
 own_in_waiting : (c : goal.After-shared_slice_known-1) → MovesItsOwn c.args.self.now c.args.shelf.now c.refill.new.shelf
 own_in_waiting c =
     subst (λ (s : WorkStation). MovesItsOwn s c.args.shelf.now c.refill.new.shelf) c.self.view_is
     (own-waits (the_view c.self.inside) c.args.shelf.now c.refill.new.shelf c.refill.ensures.only_takes c.refill.ensures.others)
 
-pub returns-in-Some-clause-own : goal.returns-in-Some-clause-own
-returns-in-Some-clause-own c = own_in_waiting c
+pub returns-in-Empty-clause-own : goal.returns-in-Empty-clause-own
+returns-in-Empty-clause-own c = own_in_waiting c
 
-pub returns-in-Some-clause-others : goal.returns-in-Some-clause-others
-returns-in-Some-clause-others c = kept-others c.args.shelf.now c.refill.new.shelf c.args.self.now (own_in_waiting c)
+pub returns-in-Empty-clause-others : goal.returns-in-Empty-clause-others
+returns-in-Empty-clause-others c = kept-others c.args.shelf.now c.refill.new.shelf c.args.self.now (own_in_waiting c)
 
-pub returns-in-Some-clause-ready : goal.returns-in-Some-clause-ready
-returns-in-Some-clause-ready c =
+pub returns-in-Empty-clause-ready : goal.returns-in-Empty-clause-ready
+returns-in-Empty-clause-ready c =
     ready-others c.args.shelf.now c.refill.new.shelf c.args.self.now (own_in_waiting c) (grows-waits c.args.shelf.now c.refill.new.shelf c.refill.ensures.only_takes)
 
+-- the delay of the arc of output k, as the station noted it
+delay_is : (c : goal.After-add) (k : ℕ) → k < length (the_view c.self.inside).outlets → slice_index c.as_slice.result.now k ≡ delay (the_view c.self.inside).graph (slice_index (outs (the_view c.self.inside).graph (the_view c.self.inside).number) k)
+delay_is c k low =
+    let s = the_view c.self.inside in
+    delay-noted s.graph s.number k c.as_slice.result.now (omega (arith, low, c.self.invariant.0.an_outlet_each)) (c.as_slice.ensures.value ∙ c.self.invariant.1.delays_is)
+
+-- the date of the job is what its tokens ask for
+date_is : (c : goal.After-add) → c.next_date-date.result ≡ date_for (the_view c.self.inside).graph c.self.inside.number (length c.self.inside.log.dates + 1) (λ k. unwrap_or (input_at c.refill.new.inputs.items k).hand 0)
+date_is c =
+    let s = the_view c.self.inside in
+    let full = c.refill.new.inputs.items in
+    let token : ℕ → ℕ = λ k. unwrap_or (input_at full k).hand 0 in
+    let g = c.graph-graph.result.now in
+    let graph : g ≡ s.graph =
+    c.graph-graph.ensures.graph ∙ c.requires.made_for ∙ sym (ap (λ (w : WorkStation). w.graph) c.self.view_is) in
+    let noted : c.as_slice-worked.result.now ≡ worked_into g s.number =
+    c.as_slice-worked.ensures.value ∙ c.self.invariant.1.worked_is ∙ ap (λ (h : Parts). worked_into h s.number) (sym graph) in
+    let each : length full ≡ length (ins g s.number) =
+    c.refill.ensures.count ∙ c.self.invariant.0.an_input_each ∙ ap (λ (h : Parts). length (ins h s.number)) (sym graph) in
+    let latest =
+    c.in-Full.ensures.date
+    ∙ latest-is g s.number (length c.dates.result.now + 1) c.time-time.result c.as_slice-worked.result.now full each noted c.time-time.ensures.time (All-ins g s.number) in
+    c.next_date-date.ensures
+    ∙ date_for-is g s.number (length c.dates.result.now + 1) c.in-Full.latest token latest
+    ∙ ap (λ (h : Parts). date_for h s.number (length c.dates.result.now + 1) token) graph
+    ∙ ap (λ (l : List ℕ). date_for s.graph s.number (length l + 1) token) c.dates.ensures
+
 -- the firing, as the lemmas have it
-firing : (c : goal.After-add) → IsFiring c.args.shelf.now c.refill.new.shelf c.put_all.new.shelf (the_view c.self.inside) c.refill.new.inputs.items c.next_date-date.new.inputs.items c.put_all.new.outlets.items c.next_date-date.result
+firing : (c : goal.After-add) → IsFiring c.args.shelf.now c.refill.new.shelf c.put_all.new.shelf (the_view c.self.inside) c.refill.new.inputs.items c.empty_hands.new.inputs.items c.put_all.new.outlets.items c.next_date-date.result
 firing c =
     let s = the_view c.self.inside in
     let full = c.refill.new.inputs.items in
     let date = c.next_date-date.result in
-    let token : ℕ → ℕ = λ k. unwrap_or (input_at full k).hand 0 in
-    let graph : c.graph-graph.result.now ≡ s.graph =
-    c.graph-graph.ensures.graph ∙ c.requires.made_for ∙ sym (ap (λ (w : WorkStation). w.graph) c.self.view_is) in
-    let dated : date ≡ date_for c.graph-graph.result.now s.number (length c.dates.result.now + 1) token = c.next_date-date.ensures.date in
     record {
       full_count = c.refill.ensures.count;
-      empty_count = c.next_date-date.ensures.count;
+      empty_count = c.empty_hands.ensures.count;
       outlet_count = c.put_all.ensures.count;
       refilled = c.refill.ensures.each;
-      are_full = c.in_default.ensures.none;
-      inlets = c.next_date-date.ensures.inlets;
-      are_empty = c.next_date-date.ensures.hands;
-      date_is = dated
-          ∙ ap (λ (g : Parts). date_for g s.number (length c.dates.result.now + 1) token) graph
-          ∙ ap (λ (l : List ℕ). date_for s.graph s.number (length l + 1) token) c.dates.ensures;
+      are_full = c.in-Full.ensures.full;
+      inlets = c.empty_hands.ensures.inlets;
+      are_empty = c.empty_hands.ensures.hands;
+      date_is = date_is c;
       outlets_same = c.put_all.ensures.same;
       got = λ k low.
           c.put_all.ensures.each k low
-          ∙ ap (λ (g : Parts). outlet_added c.refill.new.shelf (outlet_at s.outlets k) ++ saturating date (delay g (slice_index (outs g s.number) k)) ∷ []) graph;
+          ∙ ap (λ n. outlet_added c.refill.new.shelf (outlet_at s.outlets k) ++ saturating date n ∷ []) (delay_is c k low);
       only_takes = c.refill.ensures.only_takes;
       only_puts = c.put_all.ensures.only_puts;
     }
@@ -74,21 +107,22 @@ some_left c all =
     c.if-done-jobs.false (ap length c.dates.ensures ∙ all ∙ sym (ap jobs graph) ∙ sym c.jobs.ensures.count)
 
 -- the station after it
-fires_soundly : (c : goal.After-add) → IsStation (fired_station (the_view c.self.inside) c.next_date-date.new.inputs.items c.put_all.new.outlets.items c.next_date-date.result (c.self.inside.turns + 1))
+fires_soundly : (c : goal.After-add) → IsStation (fired_station (the_view c.self.inside) c.empty_hands.new.inputs.items c.put_all.new.outlets.items c.next_date-date.result (c.self.inside.turns + 1))
 fires_soundly c =
-    station-fires c.args.shelf.now c.refill.new.shelf c.put_all.new.shelf (the_view c.self.inside) c.refill.new.inputs.items c.next_date-date.new.inputs.items c.put_all.new.outlets.items c.next_date-date.result (c.self.inside.turns + 1) c.self.invariant (some_left c) (firing c)
+    station-fires c.args.shelf.now c.refill.new.shelf c.put_all.new.shelf (the_view c.self.inside) c.refill.new.inputs.items c.empty_hands.new.inputs.items c.put_all.new.outlets.items c.next_date-date.result (c.self.inside.turns + 1) c.self.invariant.0 (some_left c) (firing c)
 
 -- with its log as the call leaves it
 abbrev with_log : (c : goal.After-add) → RoomyLog → WorkStation
 with_log c log = record (the_view c.self.inside) {
-  inputs = c.next_date-date.new.inputs.items;
+  inputs = c.empty_hands.new.inputs.items;
   outlets = c.put_all.new.outlets.items;
   log = log;
   turns = c.self.inside.turns + 1;
 }
 
 pub invariant_of-self-2 : goal.invariant_of-self-2
-invariant_of-self-2 c = subst (λ (log : RoomyLog). IsStation (with_log c log)) (sym c.add.ensures) (fires_soundly c)
+invariant_of-self-2 c =
+    (subst (λ (log : RoomyLog). IsStation (with_log c log)) (sym c.add.ensures) (fires_soundly c), c.self.invariant.1)
 
 pub returns-clause-station : goal.returns-clause-station
 returns-clause-station c = subst (λ (log : RoomyLog). IsStation (with_log c log)) (sym c.add.ensures) (fires_soundly c)
@@ -100,9 +134,9 @@ returns-clause-seated c =
     let was : IsSeated old (the_view c.self.inside) = subst (IsSeated old) (sym c.self.view_is) c.requires.seated in
     seated-same old new (the_view c.self.inside) (with_log c c.add.new.self)
     (c.put_all.ensures.only_puts.count ∙ c.refill.ensures.only_takes.count)
-    (c.next_date-date.ensures.count ∙ c.refill.ensures.count)
+    (c.empty_hands.ensures.count ∙ c.refill.ensures.count)
     c.put_all.ensures.count
-    (c.next_date-date.ensures.same ∙ c.refill.ensures.same)
+    (c.empty_hands.ensures.same ∙ c.refill.ensures.same)
     c.put_all.ensures.same
     was
 
@@ -111,7 +145,7 @@ returns-clause-kept c =
     let old = c.args.shelf.now in
     let new = c.put_all.new.shelf in
     let kept : IsKept old (the_view c.self.inside) → IsKept new (with_log c (with_date c.self.inside.log c.next_date-date.result)) =
-    kept-fires old c.refill.new.shelf new (the_view c.self.inside) c.refill.new.inputs.items c.next_date-date.new.inputs.items c.put_all.new.outlets.items c.next_date-date.result (c.self.inside.turns + 1) c.self.invariant (firing c) in
+    kept-fires old c.refill.new.shelf new (the_view c.self.inside) c.refill.new.inputs.items c.empty_hands.new.inputs.items c.put_all.new.outlets.items c.next_date-date.result (c.self.inside.turns + 1) c.self.invariant.0 (firing c) in
     subst (λ (s : WorkStation). IsKept old s → IsKept new (with_log c c.add.new.self)) c.self.view_is
     (subst (λ (log : RoomyLog). IsKept old (the_view c.self.inside) → IsKept new (with_log c log)) (sym c.add.ensures) kept)
 

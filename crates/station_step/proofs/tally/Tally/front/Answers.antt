@@ -1,10 +1,14 @@
-use Rattle.station_step.proofs.Tables.{front-added, front-none}
+use Rattle.station_step.proofs.Tables.{front-initial, front-added, front-none}
 use Rattle.station_step.proofs.tally.Tally.front.Goals as goal
 
-pub returns-then-row-self : goal.returns-then-row-self
-returns-then-row-self c =
-    front-none c.args.firsts.now c.args.table.now c.args.self.now.puts c.args.columns c.args.q c.args.self.now c.requires.tally c.if-self.false c.if-row-self.true
+pub returns-then-self : goal.returns-then-self
+returns-then-self c columns q low is =
+    front-initial c.args.firsts.now c.args.table.now c.args.self.now.puts columns q c.args.self.now is c.if-self.true
+
+pub returns-then-self-2 : goal.returns-then-self-2
+returns-then-self-2 c columns q low is =
+    front-none c.args.firsts.now c.args.table.now c.args.self.now.puts columns q c.args.self.now low is c.if-self.false c.if-self-2.true
 
 pub returns : goal.returns
-returns c =
-    front-added c.args.firsts.now c.args.table.now c.args.self.now.puts c.args.columns c.args.q c.args.self.now c.requires.tally c.if-self.false c.if-row-self.false
+returns c columns q low is =
+    front-added c.args.firsts.now c.args.table.now c.args.self.now.puts columns q c.args.self.now is c.if-self.false c.if-self-2.false

@@ -1,0 +1,22 @@
+-- What came of a refill of a station's hands: only the station itself reads these words.
+use Rattle.std.specs.Prelude.{ℕ, Bool, false, List, ⊤, if◌then◌else◌, slice_index_or, unwrap_or}
+use Rattle.station_step.specs.declared.input.Input.{Input}
+use Rattle.station_step.specs.declared.refilled.Refilled.{Refilled}
+use Rattle.station_step.specs.declared.refilled.Refilled.TheVariants.{Full, Empty}
+use Rattle.station_step.specs.Input.{input_at}
+use Rattle.station_step.specs.Kept.{saturating}
+
+-- where all hands are full, this holds of the date that their tokens ask for
+abbrev pub IfFull : Refilled → (ℕ → Type 0) → Type 0
+IfFull (Full date) holds = holds date
+IfFull (Empty k) holds = ⊤
+
+-- where a hand is empty, this holds of its input
+abbrev pub IfEmpty : Refilled → (ℕ → Type 0) → Type 0
+IfEmpty (Full date) holds = ⊤
+IfEmpty (Empty k) holds = holds k
+
+-- what the token in the hand of input k asks of the date of a job that takes so long
+abbrev pub hand_asks : List Bool → ℕ → List Input → ℕ → ℕ
+hand_asks worked takes inputs k =
+    saturating (unwrap_or (input_at inputs k).hand 0) (if slice_index_or worked k false then takes else 0)
