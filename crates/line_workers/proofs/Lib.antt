@@ -19,6 +19,7 @@ pub mod MadeStations
 pub mod NewTeams
 pub mod Splitting
 pub mod AllCrews
+pub mod Turned
 pub mod Totals
 pub mod AllBurst
 pub mod LineBurst

@@ -13,9 +13,11 @@ use Rattle.line_workers.specs.Crews.{graph_of, AreCrews, AreSameCrews}
 pub record StationBurst (g : Parts) (old new : List WorkTeam) (t : ℕ) : Type 0 where
   pub kept : take (dates_of (station_of g old t)) (station_of g new t).log.dates ≡ (station_of g old t).log.dates
   pub turned : turns_of (station_of g old t) ≤ turns_of (station_of g new t)
-  pub steps : dates_of (station_of g new t) + turns_of (station_of g old t) ≤ dates_of (station_of g old t) + turns_of (station_of g new t)
+  pub steps : dates_of (station_of g new t) + turns_of (station_of g old t) ≤
+      dates_of (station_of g old t) + turns_of (station_of g new t)
   pub few : turns_of (station_of g new t) ≤ turns_of (station_of g old t) + 16
-  pub fired : IsReady (shelf_of g old t) (station_of g old t) → dates_of (station_of g old t) < dates_of (station_of g new t)
+  pub fired : IsReady (shelf_of g old t) (station_of g old t) →
+      dates_of (station_of g old t) < dates_of (station_of g new t)
 
 -- every station of the graph has made all of its dates
 abbrev pub AllMade : Parts → List WorkTeam → Type 0
@@ -28,7 +30,8 @@ EachMade g teams times = (t : ℕ) → t < stations g → dates_of (station_of g
 -- each station has made as many turns more as dates
 abbrev pub TurnsAsDates : Parts → List WorkTeam → List WorkTeam → Type 0
 TurnsAsDates g old new = (t : ℕ) → t < stations g →
-    turns_of (station_of g new t) + dates_of (station_of g old t) ≡ turns_of (station_of g old t) + dates_of (station_of g new t)
+    turns_of (station_of g new t) + dates_of (station_of g old t) ≡
+    turns_of (station_of g old t) + dates_of (station_of g new t)
 
 -- all crews have worked and every queue was met
 pub record CrewsBurst (old new : List WorkCrew) : Type 0 where
@@ -38,7 +41,9 @@ pub record CrewsBurst (old new : List WorkCrew) : Type 0 where
   pub each : (t : ℕ) → t < stations (graph_of old) → StationBurst (graph_of old) (teams_of old) (teams_of new) t
   pub idle : AllMade (graph_of old) (teams_of old) → (t : ℕ) → t < stations (graph_of old) →
       turns_of (station_of (graph_of old) (teams_of new) t) ≡ turns_of (station_of (graph_of old) (teams_of old) t)
-  pub alone : length old ≡ 1 → (times : ℕ) → times ≤ jobs (graph_of old) → EachMade (graph_of old) (teams_of old) times →
+  pub alone : length old ≡ 1 → (times : ℕ) → times ≤ jobs (graph_of old) →
+      EachMade (graph_of old) (teams_of old) times →
       EachMade (graph_of old) (teams_of new) (min (times + 16) (jobs (graph_of old)))
-  pub alone_turns : length old ≡ 1 → (times : ℕ) → times ≤ jobs (graph_of old) → EachMade (graph_of old) (teams_of old) times →
+  pub alone_turns : length old ≡ 1 → (times : ℕ) → times ≤ jobs (graph_of old) →
+      EachMade (graph_of old) (teams_of old) times →
       TurnsAsDates (graph_of old) (teams_of old) (teams_of new)

@@ -1,4 +1,5 @@
--- The logs of all stations of a line, in the order of their numbers: those with which the line is closed, and copies of them.
+-- The logs of all stations of a line, in the order of their numbers: those with which the line is closed, and copies
+-- of them.
 use Rattle.std.specs.Prelude.{◌≡◌, ℕ, ◌≤◌, List, map, length}
 use Rattle.std.specs.List.{range_with_len}
 use Rattle.line_base.specs.declared.event.Parts.{Parts}
@@ -33,5 +34,6 @@ copies_among g teams = first_logs (copy_of (jobs g)) g teams (stations g)
 
 -- these are what this gives of the stations of the first so many crews, with room for those of all
 pub record AreGiven (of : WorkStation → RoomyLog) (crews : List WorkCrew) (count : ℕ) (given : RoomyLogs) : Type 0 where
-  pub logs : given.logs ≡ first_logs of (graph_of crews) (teams_of crews) (first_of (length crews) (stations (graph_of crews)) count)
+  pub logs : given.logs ≡
+      first_logs of (graph_of crews) (teams_of crews) (first_of (length crews) (stations (graph_of crews)) count)
   pub room : stations (graph_of crews) ≤ given.room

@@ -79,7 +79,8 @@ pub record IsMeeting (live : LiveGraph) (old now : List WorkCrew) (arcs : ℕ) :
   pub met : (b : ℕ) → b < arcs → IsMetOn live.graph (teams_of now) b
 
 -- what a new crew is
-pub record IsNewCrew (live : LiveGraph) (begun : State) (workers worker : ℕ) (team : WorkTeam) (c : WorkCrew) : Type 0 where
+pub record IsNewCrew (live : LiveGraph) (begun : State) (workers worker : ℕ) (team : WorkTeam) (c : WorkCrew)
+    : Type 0 where
   pub crew : IsCrew c
   pub live_is : c.live ≡ live
   pub begun_is : c.begun ≡ begun
@@ -97,7 +98,8 @@ pub record AreNewCrews (live : LiveGraph) (begun : State) (workers : ℕ) (crews
   pub new : HaveBegun live.graph begun (teams_of crews)
 
 -- so many of them are made
-pub record AreMakingCrews (live : LiveGraph) (begun : State) (workers : ℕ) (teams left : List WorkTeam) (crews : List WorkCrew) (made : ℕ) : Type 0 where
+pub record AreMakingCrews (live : LiveGraph) (begun : State) (workers : ℕ) (teams left : List WorkTeam)
+    (crews : List WorkCrew) (made : ℕ) : Type 0 where
   pub count : length crews ≡ made
   pub left_is : left ≡ drop made teams
   pub each : (w : ℕ) → w < made → IsNewCrew live begun workers w (team_at teams w) (crew_at crews w)

@@ -34,8 +34,8 @@ pub record AreCrewsAfter (old new : List WorkCrew) : Type 0 where
   pub count : length new ≡ length old
   pub each : (w : ℕ) → w < length old → IsCrewAfter (crew_at old w) (crew_at new w)
 
--- the crews of a line that is made of these, where so many firings had been made: each queue was met, no log has changed,
--- and the turns count from 0
+-- the crews of a line that is made of these, where so many firings had been made: each queue was met, no log has
+-- changed, and the turns count from 0
 pub record Gathers (live : LiveGraph) (crews gathered : List WorkCrew) (made : ℕ) : Type 0 where
   pub rest : AreAtRest gathered made
   pub logs : (line_of gathered made).state.logs ≡ logs_in crews

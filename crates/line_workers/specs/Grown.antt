@@ -16,7 +16,8 @@ made_at begun t = length (log begun t)
 -- the tokens that arc a held then, and those put since: one for each date that the station where it starts has added
 unfoldable pub tokens_put : Parts → State → List (List ℕ) → ℕ → List ℕ
 tokens_put g begun logs a =
-    place begun a ++ map (λ date. saturating date (delay g a)) (drop (made_at begun (arc g a).from) (log_in logs (arc g a).from))
+    place begun a ++
+    map (λ date. saturating date (delay g a)) (drop (made_at begun (arc g a).from) (log_in logs (arc g a).from))
 
 -- the token with number n on input k of station t, where those put on each arc are these lists
 abbrev pub token_on : Parts → (ℕ → List ℕ) → ℕ → ℕ → ℕ → ℕ

@@ -29,4 +29,5 @@ SweepsLetLogsGrow =
 
 -- what comes of sweeps after sweeps is what comes of sweeps
 abbrev pub SweepsFollowSweeps : Type 0
-SweepsFollowSweeps = (crew later last : WorkCrew) → IsCrewAfter crew later → IsCrewAfter later last → IsCrewAfter crew last
+SweepsFollowSweeps =
+    (crew later last : WorkCrew) → IsCrewAfter crew later → IsCrewAfter later last → IsCrewAfter crew last

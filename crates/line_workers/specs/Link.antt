@@ -50,10 +50,12 @@ pub record IsRing (crews : List WorkCrew) (link : Link) : Type 0 where
   pub output : link.output < length (seated_at crews link.from).outlets
   pub to : IsSeat crews link.to
   pub input : link.input < length (seated_at crews link.to).inputs
-  pub ends : AreEnds (outlet_at (seated_at crews link.from).outlets link.output) (input_at (seated_at crews link.to).inputs link.input).inlet
+  pub ends : AreEnds (outlet_at (seated_at crews link.from).outlets link.output)
+      (input_at (seated_at crews link.to).inputs link.input).inlet
 
 -- the ends that stand there met
 pub record HaveMet (link : Link) (old new : List WorkCrew) : Type 0 where
   pub only : new ≡ slice_set old link.to.worker (crew_at new link.to.worker)
   pub same : IsSameCrew (crew_at old link.to.worker) (crew_at new link.to.worker)
-  pub met : MetAt (outlet_at (seated_at old link.from).outlets link.output) link.to.number link.input (crew_at old link.to.worker).team (crew_at new link.to.worker).team
+  pub met : MetAt (outlet_at (seated_at old link.from).outlets link.output) link.to.number link.input
+      (crew_at old link.to.worker).team (crew_at new link.to.worker).team

@@ -92,7 +92,8 @@ module _ {X : Type 0} where
 
 -- the ends with those of one more arc
 abbrev pub with_ends : QueueEnds → ℕ → ℕ → Outlet → Inlet → QueueEnds
-with_ends ends from to out into = record ends { outlets = with_one ends.outlets from out; inlets = with_one ends.inlets to into }
+with_ends ends from to out into =
+    record ends { outlets = with_one ends.outlets from out; inlets = with_one ends.inlets to into }
 
 -- of the first n arcs, those into station t, and those out of it
 unfoldable pub first_ins : Parts → ℕ → ℕ → List ℕ
@@ -149,7 +150,8 @@ pub record AreFit (g : Parts) (begun : State) (t : ℕ) (outlets : List Outlet) 
   pub untaken : (k : ℕ) → k < length inlets → IsUntaken (slice_index_or inlets k (inlet.Local 0))
 
 -- station t with these ends, which goes on from its log
-pub record IsNewStation (g : Parts) (begun : State) (t : ℕ) (out : List Outlet) (into : List Inlet) (s : WorkStation) : Type 0 where
+pub record IsNewStation (g : Parts) (begun : State) (t : ℕ) (out : List Outlet) (into : List Inlet) (s : WorkStation)
+    : Type 0 where
   pub graph : s.graph ≡ g
   pub number : s.number ≡ t
   pub inputs : s.inputs ≡ map empty_handed into
@@ -172,12 +174,14 @@ pub record SameShelvesFrom (w : ℕ) (old new : QueueEnds) : Type 0 where
   pub shelves : (v : ℕ) → w ≤ v → firsts_at new v ≡ firsts_at old v
 
 -- these are the stations from the first on, with the ends that were laid for them
-pub record AreNewStations (g : Parts) (begun : State) (first : ℕ) (ends : QueueEnds) (made : List WorkStation) : Type 0 where
+pub record AreNewStations (g : Parts) (begun : State) (first : ℕ) (ends : QueueEnds) (made : List WorkStation)
+    : Type 0 where
   pub each : (i : ℕ) → i < length made →
       IsNewStation g begun (first + i) (outlets_at ends (first + i)) (inlets_at ends (first + i)) (member made i)
 
 -- worker w's stations, and its shelf
-pub record IsNewTeam (g : Parts) (begun : State) (workers : ℕ) (ends : QueueEnds) (w : ℕ) (team : WorkTeam) : Type 0 where
+pub record IsNewTeam (g : Parts) (begun : State) (workers : ℕ) (ends : QueueEnds) (w : ℕ) (team : WorkTeam)
+    : Type 0 where
   pub size : first_of workers (stations g) w + length team.stations ≡ first_of workers (stations g) (w + 1)
   pub stations : AreNewStations g begun (first_of workers (stations g) w) ends team.stations
   pub shelf : team.shelf ≡ shelf_at g ends w

@@ -13,8 +13,10 @@ use Rattle.line_workers.specs.Work.{TeamsWorked, turns_of}
 -- input l of station j met this outlet
 pub record MetAt (outlet : Outlet) (j l : ℕ) (old new : WorkTeam) : Type 0 where
   pub only : new ≡ record { stations = slice_set old.stations j (member new.stations j); shelf = old.shelf }
-  pub inlet : member new.stations j ≡ with_inlet (member old.stations j) l (input_at (member new.stations j).inputs l).inlet
-  pub unseen : unseen_inlet (input_at (member new.stations j).inputs l).inlet ≡ unseen_inlet (input_at (member old.stations j).inputs l).inlet
+  pub inlet : member new.stations j ≡
+      with_inlet (member old.stations j) l (input_at (member new.stations j).inputs l).inlet
+  pub unseen : unseen_inlet (input_at (member new.stations j).inputs l).inlet ≡
+      unseen_inlet (input_at (member old.stations j).inputs l).inlet
   pub bare : bare_station (member new.stations j) ≡ bare_station (member old.stations j)
   pub met : AreMet outlet (input_at (member new.stations j).inputs l).inlet
 

@@ -31,7 +31,8 @@ worker_at g teams t = worker_of (length teams) (stations g) t
 -- station t of the graph, and the shelf of its worker
 abbrev pub station_of : Parts → List WorkTeam → ℕ → WorkStation
 station_of g teams t =
-    member (team_at teams (worker_at g teams t)).stations (t - first_of (length teams) (stations g) (worker_at g teams t))
+    member (team_at teams (worker_at g teams t)).stations
+    (t - first_of (length teams) (stations g) (worker_at g teams t))
 
 abbrev pub shelf_of : Parts → List WorkTeam → ℕ → List PlainQueue
 shelf_of g teams t = (team_at teams (worker_at g teams t)).shelf
@@ -66,7 +67,8 @@ abbrev pub ShareQueue : Outlet → Inlet → Type 0
 ShareQueue (outlet.Local q) (inlet.Local r) = q ≡ r
 ShareQueue _ _ = ⊥
 
--- arc a has one queue, which began with the place of the arc: a ring between two workers, else one of the worker's shelf
+-- arc a has one queue, which began with the place of the arc: a ring between two workers, else one of the worker's
+-- shelf
 pub record IsJoined (g : Parts) (begun : State) (teams : List WorkTeam) (a : ℕ) : Type 0 where
   pub ring : worker_at g teams (arc g a).from ≢ worker_at g teams (arc g a).to →
       AreEnds (outlet_on g teams a) (input_on g teams a).inlet
@@ -80,7 +82,8 @@ pub record IsJoined (g : Parts) (begun : State) (teams : List WorkTeam) (a : ℕ
 pub record AreTeams (g : Parts) (begun : State) (teams : List WorkTeam) : Type 0 where
   pub some : 1 ≤ length teams
   pub sizes : (w : ℕ) → w < length teams →
-      first_of (length teams) (stations g) w + length (team_at teams w).stations ≡ first_of (length teams) (stations g) (w + 1)
+      first_of (length teams) (stations g) w + length (team_at teams w).stations ≡
+      first_of (length teams) (stations g) (w + 1)
   pub each : (w : ℕ) → w < length teams → IsTeam g begun (first_of (length teams) (stations g) w) (team_at teams w)
   pub joined : (a : ℕ) → a < arc_count g → IsJoined g begun teams a
 
@@ -89,7 +92,8 @@ abbrev pub IsMetOn : Parts → List WorkTeam → ℕ → Type 0
 IsMetOn g teams a =
     let shelf = shelf_of g teams (arc g a).to in
     let inlet = (input_on g teams a).inlet in
-    inlet_taken shelf inlet ++ inlet_known shelf inlet ≡ outlet_tokens (shelf_of g teams (arc g a).from) (outlet_on g teams a)
+    inlet_taken shelf inlet ++ inlet_known shelf inlet ≡
+    outlet_tokens (shelf_of g teams (arc g a).from) (outlet_on g teams a)
 
 -- every queue was met
 abbrev pub AreAllMet : Parts → List WorkTeam → Type 0
@@ -107,7 +111,8 @@ abbrev pub place_of : Parts → List WorkTeam → ℕ → List ℕ
 place_of g teams a =
     let input = input_on g teams a in
     let taken = inlet_taken (shelf_of g teams (arc g a).to) input.inlet in
-    option_to_list input.hand ++ drop (length taken) (outlet_tokens (shelf_of g teams (arc g a).from) (outlet_on g teams a))
+    option_to_list input.hand ++
+    drop (length taken) (outlet_tokens (shelf_of g teams (arc g a).from) (outlet_on g teams a))
 
 -- log t is that of station t, and place a is the token in the hand, then those that were put and not taken
 unfoldable pub state_among : Parts → List WorkTeam → State

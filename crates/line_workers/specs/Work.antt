@@ -117,7 +117,8 @@ pub record IsBursting (old now : WorkCrew) (sweeps : ℕ) : Type 0 where
   pub worked : TeamWorked old.team now.team
   pub turned : (i : ℕ) → i < length old.team.stations →
       (member now.team.stations i).turns ≡ (member old.team.stations i).turns + sweeps
-  pub fired : 0 < sweeps → (i : ℕ) → i < length old.team.stations → IsReady old.team.shelf (member old.team.stations i) →
+  pub fired : 0 < sweeps → (i : ℕ) → i < length old.team.stations →
+      IsReady old.team.shelf (member old.team.stations i) →
       dates_of (member old.team.stations i) < dates_of (member now.team.stations i)
   pub undone : 0 < sweeps → ¬ AllDone old.target old.team
   pub few : (times : ℕ) → IsAlone old times → times ≤ old.target → times + sweeps ≤ old.target

@@ -47,6 +47,10 @@ pub(crate) fn work_all<R: Threads + Sync, G: Gate>(
         crews[0].work(live, gate);
         return;
     }
+    // A crew that begins before the crews up the line have put their tokens spends its burst
+    // blocked. `for_each_mut` runs the end of the slice on this thread at once, and the rest on
+    // threads that take time to start. So the crews are turned for the call: the first begins first.
+    crews.reverse();
     thread::for_each_mut(
         rt,
         crews,
@@ -56,6 +60,7 @@ pub(crate) fn work_all<R: Threads + Sync, G: Gate>(
             ensures { CrewWorked crew.entry.now crew.exit.now }
         { crew.work(live, gate) },
     );
+    crews.reverse();
 }
 
 /// The two ends of a ring meet, where the crew that puts comes before the one that takes.
@@ -131,6 +136,10 @@ pub(crate) fn meet_all(crews: &mut [Crew], live: &Live)
     ensures still { AreStill live.now.graph (teams_of crews.old) (teams_of crews.new) }
     ensures met { AreAllMet live.now.graph (teams_of crews.new) }
 {
+    // No arc leads from one worker to another.
+    if crews.len() == 1 {
+        return;
+    }
     for a in 0..live.graph().arcs().len() as u32 {
         meet_on(crews, live, a);
     }
