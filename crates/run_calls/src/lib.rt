@@ -7,4 +7,6 @@ mod of_line_runs;
 #[cfg(test)]
 mod of_line_workers;
 #[cfg(test)]
+mod of_standing_line;
+#[cfg(test)]
 mod same;

@@ -61,7 +61,7 @@ fn has_log(rt: &impl Abort, live: &Live, state: &State, t: u32, dates: &[Date])
 }
 
 /// Asserts that a state has all dates of the two stages.
-fn has_all_dates(rt: &impl Abort, live: &Live, state: &State)
+pub fn has_all_dates(rt: &impl Abort, live: &Live, state: &State)
     requires { live.now.graph ≡ state.now.graph }
 {
     same(rt, live.graph().stations(), 6);
