@@ -20,6 +20,11 @@ fn a_run_takes_its_options_in_any_order(rt: HostRuntime) -> Result<(), Fail> {
             "run a.toml --slots --every 50",
             "run a.toml by 1 into slots each 50",
         ),
+        ("run a.toml --stand", "run a.toml by 1 that stand"),
+        (
+            "run a.toml --stand --workers 3",
+            "run a.toml by 3 that stand",
+        ),
     ];
     for (line, wanted) in cases {
         same(&rt, answer(rt.alloc(), line)?.as_str(), wanted);
@@ -58,6 +63,7 @@ fn other_words_are_no_command(rt: HostRuntime) -> Result<(), Fail> {
         "run a.toml --workers 17",
         "run a.toml --save c.ckpt",
         "run a.toml --every 0 --slots",
+        "run a.toml --stand --every 1 --slots",
         "resume a.toml b.toml",
         "cards a.toml 10000000000000001",
     ];
@@ -115,6 +121,9 @@ fn shown(alloc: Global, command: &Command) -> Result<String, AllocError> {
                 "into slots each",
                 every.as_str(),
             )
+        }
+        Command::RunStand { plant, workers } => {
+            work(alloc, "run", plant, *workers, "that", "stand")
         }
         Command::ResumeSlots { plant, workers } => {
             work(alloc, "resume", plant, *workers, "from", "slots")

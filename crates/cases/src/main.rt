@@ -22,6 +22,7 @@ use reason::Reason;
 use runner::run_case;
 use std::alloc::Global;
 use std::process::ExitCode;
+use std::sync::Wait;
 use std::thread::Threads;
 
 /// The file that names the case files in order, one a line.
@@ -45,7 +46,7 @@ fn main(rt: HostRuntime) -> ExitCode {
 }
 
 /// Runs the cases of all case files. Answers whether each came to what is wanted.
-fn run_all<R: Threads + Sync, S: Store, K: Sink>(
+fn run_all<R: Threads + Wait + Sync, S: Store, K: Sink>(
     rt: &R,
     alloc: Global,
     folder: &mut S,
@@ -68,7 +69,7 @@ fn text_of<S: Store>(alloc: Global, folder: &mut S, name: &str) -> Result<String
 }
 
 /// Runs the cases of a file.
-fn run_file<R: Threads + Sync, S: Store, K: Sink>(
+fn run_file<R: Threads + Wait + Sync, S: Store, K: Sink>(
     rt: &R,
     alloc: Global,
     name: &str,
@@ -92,7 +93,7 @@ fn run_file<R: Threads + Sync, S: Store, K: Sink>(
 }
 
 /// Runs a case, and prints its line, or what came in full.
-fn report<R: Threads + Sync, S: Store, K: Sink>(
+fn report<R: Threads + Wait + Sync, S: Store, K: Sink>(
     rt: &R,
     alloc: Global,
     name: &str,

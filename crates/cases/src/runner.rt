@@ -12,6 +12,7 @@ use line_io::{Files, MemSink, MemStore, Store};
 use line_workers::FreeGate;
 use pull_cli::pull;
 use std::alloc::Global;
+use std::sync::Wait;
 use std::thread::Threads;
 
 /// What a command finds: the files of the store, and the slots of the disk.
@@ -57,7 +58,7 @@ struct Left {
 }
 
 /// What a case comes to that isn't wanted; nothing where all is.
-pub fn run_case<R: Threads + Sync, S: Store>(
+pub fn run_case<R: Threads + Wait + Sync, S: Store>(
     rt: &R,
     alloc: Global,
     case: &Case,
@@ -86,7 +87,7 @@ pub fn run_case<R: Threads + Sync, S: Store>(
 }
 
 /// Runs commands one after the other over what each finds.
-fn run_commands<R: Threads + Sync, S: Store>(
+fn run_commands<R: Threads + Wait + Sync, S: Store>(
     rt: &R,
     alloc: Global,
     run: &Run,
@@ -130,7 +131,7 @@ fn attempt_of<'a>(
 }
 
 /// Tries a command, and then with each fault in turn. Answers what it leaves.
-fn run_command<R: Threads + Sync, S: Store>(
+fn run_command<R: Threads + Wait + Sync, S: Store>(
     rt: &R,
     alloc: Global,
     run: &Run,
@@ -155,7 +156,7 @@ fn leave(found: &mut Found, left: Option<Left>) -> Result<(), Reason> {
 }
 
 /// Runs a command over the files of a row of a table.
-fn run_row<R: Threads + Sync, S: Store>(
+fn run_row<R: Threads + Wait + Sync, S: Store>(
     rt: &R,
     alloc: Global,
     faults: Faults,
@@ -197,7 +198,7 @@ fn changed_files<S: Store>(
 
 /// Makes the calls of the store and of the disk fail in turn, and the first put, where a run is to have it so. Without a
 /// fault all of this was written.
-fn fail_in_turn<R: Threads + Sync, S: Store>(
+fn fail_in_turn<R: Threads + Wait + Sync, S: Store>(
     rt: &R,
     alloc: Global,
     run: &Run,
@@ -220,7 +221,7 @@ fn fail_in_turn<R: Threads + Sync, S: Store>(
 }
 
 /// Makes each call of the store fail in turn, which are of these files, then one more.
-fn fail_store<R: Threads + Sync, S: Store>(
+fn fail_store<R: Threads + Wait + Sync, S: Store>(
     rt: &R,
     alloc: Global,
     attempt: &Attempt,
@@ -256,7 +257,7 @@ fn fail_store<R: Threads + Sync, S: Store>(
 }
 
 /// Makes each call of the disk fail in turn, then one more.
-fn fail_disk<R: Threads + Sync, S: Store>(
+fn fail_disk<R: Threads + Wait + Sync, S: Store>(
     rt: &R,
     alloc: Global,
     attempt: &Attempt,
@@ -286,7 +287,7 @@ fn fail_disk<R: Threads + Sync, S: Store>(
 }
 
 /// Tries a command with these faults. No command below finds what it leaves.
-fn try_failing<R: Threads + Sync, S: Store>(
+fn try_failing<R: Threads + Wait + Sync, S: Store>(
     rt: &R,
     alloc: Global,
     attempt: &Attempt,
@@ -304,7 +305,7 @@ fn try_failing<R: Threads + Sync, S: Store>(
 }
 
 /// Makes the first put fail, after which this was written.
-fn fail_put<R: Threads + Sync, S: Store>(
+fn fail_put<R: Threads + Wait + Sync, S: Store>(
     rt: &R,
     alloc: Global,
     attempt: &Attempt,
@@ -327,7 +328,7 @@ fn fail_put<R: Threads + Sync, S: Store>(
 }
 
 /// What comes of an attempt; it is told where it isn't wanted.
-fn tried<R: Threads + Sync, S: Store>(
+fn tried<R: Threads + Wait + Sync, S: Store>(
     rt: &R,
     alloc: Global,
     attempt: &Attempt,
@@ -345,7 +346,7 @@ fn tried<R: Threads + Sync, S: Store>(
 }
 
 /// Runs a command: the top call, or a look at a plant or at the slots.
-fn call<R: Threads + Sync>(rt: &R, alloc: Global, attempt: &Attempt) -> Result<Came, Reason> {
+fn call<R: Threads + Wait + Sync>(rt: &R, alloc: Global, attempt: &Attempt) -> Result<Came, Reason> {
     match attempt.words {
         [program, name] if program.as_str() == "arcs" => {
             let text = arcs_of(alloc, held(attempt.files, name.as_str())?)?;
@@ -374,7 +375,7 @@ fn looked(alloc: Global, written: Vec<u8>) -> Came {
 }
 
 /// The status of the top call. What its contract says is let go here.
-fn status_of<R: Threads + Sync>(
+fn status_of<R: Threads + Wait + Sync>(
     rt: &R,
     alloc: Global,
     words: &[String],
@@ -386,7 +387,7 @@ fn status_of<R: Threads + Sync>(
 }
 
 /// Runs the top call over files, a sink and a disk in memory.
-fn pulled<R: Threads + Sync>(
+fn pulled<R: Threads + Wait + Sync>(
     rt: &R,
     alloc: Global,
     words: &[String],

@@ -11,7 +11,7 @@ use Rattle.command_words.specs.Numbers.{number_in}
 use Rattle.command_words.specs.Options.{with_flag, with_value, options_after}
 use Rattle.command_words.specs.Settings.{asked}
 use Rattle.command_words.specs.Words.{after_big, after_resume, after_replay, after_whatif, after_cards, plant_command, after_plant_word, command_of}
-use Rattle.command_words.specs.declared.command.Command.TheVariants.{Run, Replay, Big, Resume, RunSlots, ResumeSlots, Cards, WhatIf, Help}
+use Rattle.command_words.specs.declared.command.Command.TheVariants.{Run, Replay, Big, Resume, RunSlots, RunStand, ResumeSlots, Cards, WhatIf, Help}
 
 own : IsNumeralModel (λ ds. list_all is_ascii_digit ds ≡ true) (digits_value 10)
 own = numerals_by_value _ (search rules)
@@ -44,6 +44,9 @@ commands : (command_of (codes "run" ∷ codes "a.toml" ∷ []) ≡ Some (Run (co
     ≡ Some (Run (codes "a.toml") 16 (Some (record { after = 2; save = codes "c.ckpt" }))))
     × (command_of (codes "run" ∷ codes "a.toml" ∷ codes "--slots" ∷ codes "--every" ∷ codes "2" ∷ [])
     ≡ Some (RunSlots (codes "a.toml") 2 1))
+    × (command_of (codes "run" ∷ codes "a.toml" ∷ codes "--stand" ∷ []) ≡ Some (RunStand (codes "a.toml") 1))
+    × (command_of (codes "run" ∷ codes "a.toml" ∷ codes "--workers" ∷ codes "2" ∷ codes "--stand" ∷ [])
+    ≡ Some (RunStand (codes "a.toml") 2))
     × (command_of (codes "resume" ∷ codes "a.toml" ∷ codes "c.ckpt" ∷ codes "--workers" ∷ codes "2" ∷ [])
     ≡ Some (Resume (codes "a.toml") (codes "c.ckpt") 2))
     × (command_of (codes "resume" ∷ codes "a.toml" ∷ codes "--slots" ∷ []) ≡ Some (ResumeSlots (codes "a.toml") 1))
@@ -57,6 +60,8 @@ commands = (
   refl,
   rw decimal-0 refl,
   rw (decimal-16, decimal-2) refl,
+  rw decimal-2 refl,
+  refl,
   rw decimal-2 refl,
   rw decimal-2 refl,
   refl,
@@ -80,6 +85,10 @@ others : IsNone (codes "--help" ∷ codes "run" ∷ [])
     × IsNone (codes "run" ∷ codes "a.toml" ∷ codes "--workers" ∷ codes "2" ∷ codes "--workers" ∷ codes "2" ∷ [])
     × IsNone (codes "run" ∷ codes "a.toml" ∷ codes "--save" ∷ codes "c.ckpt" ∷ [])
     × IsNone (codes "resume" ∷ codes "a.toml" ∷ codes "c.ckpt" ∷ codes "--slots" ∷ [])
+    × IsNone (codes "run" ∷ codes "a.toml" ∷ codes "--stand" ∷ codes "--stand" ∷ [])
+    × IsNone (codes "run" ∷ codes "a.toml" ∷ codes "--stand" ∷ codes "--save" ∷ codes "c.ckpt" ∷ codes "--stop-after" ∷ codes "2" ∷ [])
+    × IsNone (codes "run" ∷ codes "a.toml" ∷ codes "--stand" ∷ codes "--every" ∷ codes "2" ∷ codes "--slots" ∷ [])
+    × IsNone (codes "resume" ∷ codes "a.toml" ∷ codes "c.ckpt" ∷ codes "--stand" ∷ [])
     × IsNone (codes "check" ∷ codes "a.toml" ∷ codes "--workers" ∷ codes "2" ∷ [])
     × IsNone (codes "run" ∷ codes "--workers" ∷ codes "2" ∷ codes "a.toml" ∷ [])
     × IsNone (codes "run" ∷ codes "c.ckpt" ∷ [])
@@ -93,6 +102,10 @@ others = (
   rw decimal-0 refl,
   rw decimal-2 refl,
   refl,
+  refl,
+  refl,
+  rw decimal-2 refl,
+  rw decimal-2 refl,
   refl,
   refl,
   refl,

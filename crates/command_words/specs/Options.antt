@@ -1,6 +1,7 @@
 -- What the options of a command give, whatever their order.
-use Rattle.std.specs.Prelude.{ℕ, Bool, true, false, not, ◌&&◌, List, [], ◌∷◌, map, codes, if◌then◌else◌, Option, Some, None, option_map, option_and_then, String, string_bytes}
+use Rattle.std.specs.Prelude.{ℕ, Bool, true, false, not, ◌&&◌, ◌||◌, List, [], ◌∷◌, map, codes, if◌then◌else◌, Option, Some, None, option_map, option_and_then, String, string_bytes}
 use Rattle.std.specs.Str.{bytes_eq}
+use Rattle.std.specs.List.{list_any}
 use Rattle.std.specs.declared.alloc.Global.{Global}
 use Rattle.line_base.specs.Limits.{most_workers}
 use Rattle.line_base.specs.Text.{is_checkpoint_name}
@@ -11,13 +12,18 @@ use Rattle.command_words.specs.declared.options.Options.{Options}
 abbrev pub texts : List (String Global) → List (List ℕ)
 texts words = map string_bytes words
 
--- the value of each option that is given, and whether `--slots` is
+-- whether a word is `--stand`
+abbrev pub has_stand : List (List ℕ) → Bool
+has_stand words = list_any (λ word. bytes_eq word (codes "--stand")) words
+
+-- the value of each option that is given, and whether `--slots` and `--stand` are
 pub record Given : Type 0 where
   pub workers : Option ℕ
   pub stop_after : Option ℕ
   pub save : Option (List ℕ)
   pub every : Option ℕ
   pub slots : Bool
+  pub stand : Bool
 
 -- what the options of the code give
 abbrev pub seen : Options → Given
@@ -27,11 +33,12 @@ seen options = record {
   save = option_map (λ file. file.now) options.save;
   every = options.every;
   slots = options.slots;
+  stand = options.stand;
 }
 
 -- no option
 abbrev pub none_given : Given
-none_given = record { workers = None; stop_after = None; save = None; every = None; slots = false }
+none_given = record { workers = None; stop_after = None; save = None; every = None; slots = false; stand = false }
 
 -- the checkpoint that a word names
 abbrev pub checkpoint_in : List ℕ → Option (List ℕ)
@@ -44,12 +51,14 @@ once (Some before) value = None
 
 -- the options that take no value
 abbrev pub takes_no_value : List ℕ → Bool
-takes_no_value name = bytes_eq name (codes "--slots")
+takes_no_value name = bytes_eq name (codes "--slots") || bytes_eq name (codes "--stand")
 
 -- what is given with one more of the options that take no value
 unfoldable pub with_flag : Given → List ℕ → Option Given
 with_flag given name =
-    if bytes_eq name (codes "--slots") && not given.slots then Some (record given { slots = true }) else None
+    if bytes_eq name (codes "--slots") && not given.slots then Some (record given { slots = true })
+    else if bytes_eq name (codes "--stand") && not given.stand then Some (record given { stand = true })
+    else None
 
 -- what is given with one more of the options that take a value
 unfoldable pub with_value : Given → List ℕ → List ℕ → Option Given
@@ -76,4 +85,5 @@ unfoldable mutual
   -- what is given with an option and its value, and with the options behind them
   pub value_after : Given → List ℕ → List (List ℕ) → Option Given
   value_after given name [] = None
-  value_after given name (word ∷ words) = option_and_then (λ more. options_after more words) (with_value given name word)
+  value_after given name (word ∷ words) =
+      option_and_then (λ more. options_after more words) (with_value given name word)

@@ -3,7 +3,7 @@ use Rattle.std.specs.Prelude.{ℕ, ◌≤◌, ⊤, IfSome}
 use Rattle.line_base.specs.Limits.{most_workers}
 use Rattle.command_words.specs.Numbers.{most_firings, longest_wait}
 use Rattle.command_words.specs.declared.command.Command.{Command}
-use Rattle.command_words.specs.declared.command.Command.TheVariants.{Run, Big, Resume, RunSlots, ResumeSlots, Cards}
+use Rattle.command_words.specs.declared.command.Command.TheVariants.{Run, Big, Resume, RunSlots, RunStand, ResumeSlots, Cards}
 use Rattle.command_words.specs.declared.options.Options.{Options}
 use Rattle.command_words.specs.declared.settings.Mode.{Mode}
 use Rattle.command_words.specs.declared.settings.Mode.TheVariants.{Stopped, Saving}
@@ -38,6 +38,7 @@ IsInRange (Run plant workers stop) = AreWorkers workers × IfSome stop (λ s. s.
 IsInRange (Big seed workers) = AreWorkers workers
 IsInRange (Resume plant saved workers) = AreWorkers workers
 IsInRange (RunSlots plant every workers) = AreWorkers workers × IsInterval every
+IsInRange (RunStand plant workers) = AreWorkers workers
 IsInRange (ResumeSlots plant workers) = AreWorkers workers
 IsInRange (Cards plant wait) = wait ≤ longest_wait
 IsInRange other = ⊤

@@ -1,12 +1,12 @@
 -- Which words after the program's name are a command, and which command each list of them is.
-use Rattle.std.specs.Prelude.{◌≡◌, ◌↔◌, ℕ, ◌-◌, ◌^◌, List, [], ◌∷◌, codes, if◌then◌else◌, Option, Some, None, option_map, option_and_then, Result, IfOk, IsErrOf}
+use Rattle.std.specs.Prelude.{◌≡◌, ◌↔◌, ℕ, ◌-◌, ◌^◌, List, [], ◌∷◌, codes, if◌then◌else◌, Option, Some, None, option_map, option_and_then, Result, IfOk, IsErrOf, ⊤}
 use Rattle.std.specs.Str.{bytes_eq}
 use Rattle.line_base.specs.Text.{is_file_name, is_checkpoint_name}
 use Rattle.command_words.specs.Numbers.{number_in, longest_wait}
-use Rattle.command_words.specs.Settings.{Way, whole, stopped, saving, from_slots, asked}
+use Rattle.command_words.specs.Settings.{Way, whole, stopped, saving, from_slots, standing, asked}
 use Rattle.command_words.specs.Ranges.{IsInRange}
 use Rattle.command_words.specs.declared.command.Command.{Command}
-use Rattle.command_words.specs.declared.command.Command.TheVariants.{Run, Check, Replay, Big, Resume, Cycle, RunSlots, ResumeSlots, Cards, WhatIf, Help, Version}
+use Rattle.command_words.specs.declared.command.Command.TheVariants.{Run, Check, Replay, Big, Resume, Cycle, RunSlots, RunStand, ResumeSlots, Cards, WhatIf, Help, Version}
 use Rattle.command_words.specs.declared.command.WordsError.{WordsError}
 use Rattle.command_words.specs.declared.command.WordsError.TheVariants.{Usage}
 
@@ -15,11 +15,13 @@ abbrev pub alone : Command → List (List ℕ) → Option Command
 alone command [] = Some command
 alone command words = None
 
--- `run PLANT [--workers W] [--stop-after N --save FILE]` and `run PLANT --every N --slots [--workers W]`
+-- `run PLANT [--workers W] [--stop-after N --save FILE]`, `run PLANT --every N --slots [--workers W]`, and
+-- `run PLANT --stand [--workers W]`
 abbrev pub run_command : List ℕ → ℕ → Way → Option Command
 run_command plant workers whole = Some (Run plant workers None)
 run_command plant workers (stopped after save) = Some (Run plant workers (Some (record { after = after; save = save })))
 run_command plant workers (saving every) = Some (RunSlots plant every workers)
+run_command plant workers standing = Some (RunStand plant workers)
 run_command plant workers from_slots = None
 
 -- `resume PLANT FILE [--workers W]`
@@ -93,6 +95,11 @@ command_of (word ∷ words) =
     else if bytes_eq word (codes "--version") then alone Version words
     else if bytes_eq word (codes "big") then after_big words
     else after_plant_word word words
+
+-- a command that isn't done by standing workers
+abbrev pub IsStill : Command → Type 0
+IsStill (RunStand plant workers) = ⊥
+IsStill other = ⊤
 
 -- an answer is this command, with its numbers in their ranges, or want of memory; and `Usage` exactly where there is no command
 pub record IsReadAs (result : Result Command WordsError) (command : Option Command) : Type 0 where

@@ -68,6 +68,13 @@ pub enum Command {
         /// The workers, 1 to 16.
         workers: u32,
     },
+    /// `run PLANT --stand [--workers W]`: the report of the plant, by workers that stand until all firings are made.
+    RunStand {
+        /// The plant file.
+        plant: FileName,
+        /// The workers, 1 to 16.
+        workers: u32,
+    },
     /// `resume PLANT --slots [--workers W]`: the report of the plant, from the newest slot on.
     ResumeSlots {
         /// The plant file.

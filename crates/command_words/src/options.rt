@@ -1,6 +1,7 @@
-ghost use Rattle.std.specs.Prelude.{◌≡◌, option_map, IfSome};
+ghost use Rattle.std.specs.Prelude.{◌≡◌, codes, option_map, IfSome};
+ghost use Rattle.std.specs.Str.{bytes_eq};
 ghost use Rattle.command_words.specs.Ranges.{AreInRange};
-ghost use Rattle.command_words.specs.Options.{seen, none_given, with_flag, with_value, options_after, takes_no_value, texts};
+ghost use Rattle.command_words.specs.Options.{seen, none_given, with_flag, with_value, options_after, takes_no_value, has_stand, texts};
 
 use crate::first::first_word;
 use crate::limits::MAX_FIRINGS;
@@ -20,6 +21,8 @@ pub struct Options<'a> {
     pub every: Option<u64>,
     /// Whether `--slots` is given.
     pub slots: bool,
+    /// Whether `--stand` is given.
+    pub stand: bool,
 }
 
 impl<'a> Options<'a> {
@@ -34,6 +37,7 @@ impl<'a> Options<'a> {
             save: None,
             every: None,
             slots: false,
+            stand: false,
         }
     }
 }
@@ -42,7 +46,24 @@ impl<'a> Options<'a> {
 fn takes_no_value(name: &str) -> bool
     ensures { result ≡ takes_no_value name.now }
 {
-    name == "--slots"
+    name == "--slots" || is_stand(name)
+}
+
+/// Whether one of the words after the program's name is `--stand`. Where none is, they don't ask for standing workers.
+pub fn has_stand(words: &[String]) -> bool
+    ensures { result ≡ has_stand (texts words.now) }
+{
+    match first_word(words) {
+        None => false,
+        Some((word, words)) => is_stand(word) || has_stand(words),
+    }
+}
+
+/// Whether a word is `--stand`.
+fn is_stand(word: &str) -> bool
+    ensures { result ≡ bytes_eq word.now (codes "--stand") }
+{
+    word == "--stand"
 }
 
 /// The options with one more that takes no value.
@@ -55,6 +76,10 @@ fn with_flag<'a>(given: Options<'a>, name: &str) -> Option<Options<'a>>
     match name {
         "--slots" if !given.slots => Some(Options {
             slots: true,
+            ..given
+        }),
+        "--stand" if !given.stand => Some(Options {
+            stand: true,
             ..given
         }),
         _ => None,

@@ -24,6 +24,8 @@ pub enum Mode<'a> {
     },
     /// From the newest slot to the end.
     FromSlots,
+    /// To the end, by workers that stand until all firings are made.
+    Standing,
 }
 
 /// What the options of a command ask for.
@@ -60,11 +62,13 @@ fn mode_of<'a>(options: Options<'a>) -> Option<Mode<'a>>
         options.save,
         options.every,
         options.slots,
+        options.stand,
     ) {
-        (None, None, None, false) => Some(Mode::Whole),
-        (Some(after), Some(save), None, false) => Some(Mode::Stopped { after, save }),
-        (None, None, Some(every), true) => Some(Mode::Saving { every }),
-        (None, None, None, true) => Some(Mode::FromSlots),
+        (None, None, None, false, false) => Some(Mode::Whole),
+        (Some(after), Some(save), None, false, false) => Some(Mode::Stopped { after, save }),
+        (None, None, Some(every), true, false) => Some(Mode::Saving { every }),
+        (None, None, None, true, false) => Some(Mode::FromSlots),
+        (None, None, None, false, true) => Some(Mode::Standing),
         _ => None,
     }
 }

@@ -117,6 +117,10 @@ fn run(alloc: Global, plant: &str, words: &[String]) -> Result<Command, WordsErr
             every,
             workers,
         }),
+        Mode::Standing => Ok(Command::RunStand {
+            plant: FileName::of(alloc, plant)?,
+            workers,
+        }),
         Mode::FromSlots => Err(WordsError::Usage),
     }
 }

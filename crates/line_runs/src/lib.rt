@@ -11,7 +11,7 @@ mod store;
 
 pub use error::ResumeError;
 pub use resuming::{line_of_text, resume};
-pub use run::run_to_end;
+pub use run::{run_standing, run_to_end};
 pub use slots::run_with_slots;
 pub use slots_resuming::resume_slots;
 pub use stop::{Outcome, run_until};

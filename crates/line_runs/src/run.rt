@@ -6,6 +6,8 @@ ghost use Rattle.line_runs.specs.Table.{ComesToLeast};
 use line_core::Table;
 use line_workers::{Gate, Line};
 use live_check::Live;
+use standing_line::stand;
+use std::sync::Wait;
 use std::thread::Threads;
 
 /// Lets a line work for a burst that has firings left.
@@ -38,5 +40,21 @@ pub fn run_to_end<R: Threads + Sync, G: Gate>(rt: &R, live: &Live, line: Line, g
     while !line.finished() {
         burst_on(rt, live, &mut line, gate);
     }
+    table_of(live, line)
+}
+
+/// Lets the workers of a line stand in their threads until every station has fired once for each
+/// job, and only then meets them. The table is that of `run_to_end`. It takes no memory. It waits
+/// for its threads, and owes no return.
+pub fn run_standing<R: Threads + Wait + Sync, G: Gate>(
+    rt: &R,
+    live: &Live,
+    line: Line,
+    gate: &G,
+) -> Table
+    requires { live.now ≡ line.live }
+    ensures { ComesToLeast live.now.graph result }
+{
+    let line = stand(rt, line, live, gate);
     table_of(live, line)
 }

@@ -12,7 +12,7 @@ use Rattle.event_graph.specs.State.{State}
 use Rattle.event_graph.specs.Table.{date_in}
 use Rattle.line_base.specs.declared.event.Parts.{Parts}
 use Rattle.line_core.specs.Consistent.{fired}
-use Rattle.line_io.specs.Calls.{Read, Write, Asked, write_of, none_asked}
+use Rattle.line_io.specs.Calls.{Read, Write, Asked, write_of}
 use Rattle.line_io.specs.declared.store.StoreError.{StoreError}
 use Rattle.line_io.specs.declared.store.StoreError.TheVariants as store_error
 use Rattle.line_io.specs.SinkView.{PutsAll}
@@ -200,13 +200,19 @@ module _ (store : StoreOver) (sink : SinkOver) (disk : DiskOver) (came : Result 
   stop_well p stop after (inr (inl whole)) = inl (report_written p sink came ended whole.report)
   stop_well p stop after (inr (inr wanting)) = absurd (no_refusal sink came NoMemory ended wanting.1 (omega arith))
 
-  -- each command that runs a plant
-  of_command : (c : Command) (name : List ℕ) → run_of c ≡ Some name → OfCommand store.tells store.old.files c asks disk came → RunEndsWell name (stop_of c) store sink
-  of_command (command.Run plant workers None) name is does =
-      let same : plant ≡ name = cc in
+  -- a run to the end
+  run_well : (plant name : List ℕ) → plant ≡ name → Plainly (Then (OfPlantNamed store.tells store.old.files plant) (λ p. Settles (IsReport p))) asks disk came → RunEndsWell name None store sink
+  run_well plant name same does =
       subst (λ (n : List ℕ). RunEndsWell n None store sink) same
       (then_well plant None (λ p. Plainly (Settles (IsReport p))) (plainly_then (OfPlantNamed store.tells store.old.files plant) (λ p. Settles (IsReport p)) asks disk came does)
       (λ p after on. settled_reported p on.comes.1))
+
+  -- each command that runs a plant
+  of_command : (c : Command) (name : List ℕ) → run_of c ≡ Some name → OfCommand store.tells store.old.files c asks disk came → RunEndsWell name (stop_of c) store sink
+  of_command (command.Run plant workers None) name is does =
+      let same : plant ≡ name = cc in run_well plant name same does
+  of_command (command.RunStand plant workers) name is does =
+      let same : plant ≡ name = cc in run_well plant name same does
   of_command (command.Run plant workers (Some stop)) name is does =
       let same : plant ≡ name = cc in
       subst (λ (n : List ℕ). RunEndsWell n (Some stop) store sink) same

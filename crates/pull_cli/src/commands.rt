@@ -11,12 +11,13 @@ use line_disk::Disk;
 use line_io::Store;
 use line_workers::Gate;
 use pull_deeds::{
-    Output, cards, check, cycle_of, replay_schedule, resume, resume_slots, run, run_until,
-    run_with_slots, what_if,
+    Output, cards, check, cycle_of, replay_schedule, resume, resume_slots, run, run_standing,
+    run_until, run_with_slots, what_if,
 };
 use pull_steps::{read_file, read_live_plant};
 use pull_words::Reply;
 use std::alloc::Global;
+use std::sync::Wait;
 use std::thread::Threads;
 
 /// What `run PLANT [--workers W] [--stop-after N --save FILE]` comes to.
@@ -75,6 +76,24 @@ fn stop_plant<R: Threads + Sync, S: Store, G: Gate>(
 {
     let line = read_live_plant(alloc, store, plant)?;
     run_until(rt, alloc, line, workers, stop, gate, store)
+}
+
+/// What `run PLANT --stand [--workers W]` comes to. It waits for its threads, and owes no return.
+pub fn stand_plant<R: Threads + Wait + Sync, S: Store, G: Gate>(
+    rt: &R,
+    alloc: Global,
+    store: &mut S,
+    plant: &str,
+    workers: u32,
+    gate: &G,
+) -> Result<Output, Reply>
+    requires some { 1 ≤ workers }
+    requires few { workers ≤ most_workers }
+    ensures { CommandDoesOnStore (store_over S.tells (S.shown store.old) (S.shown store.new))
+        (command.RunStand plant.now workers) result }
+{
+    let line = read_live_plant(alloc, store, plant)?;
+    run_standing(rt, alloc, line, workers, gate)
 }
 
 /// What `resume PLANT FILE [--workers W]` comes to.

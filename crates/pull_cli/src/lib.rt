@@ -6,5 +6,5 @@
 mod commands;
 mod top;
 
-pub use command_words::{Command, FileName, Stop, USAGE, WordsError, read_words};
-pub use top::pull;
+pub use command_words::{Command, FileName, Stop, USAGE, WordsError, has_stand, read_words};
+pub use top::{pull, pull_still};

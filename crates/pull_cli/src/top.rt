@@ -1,8 +1,8 @@
-ghost use Rattle.std.specs.Prelude.{◌≡◌, ◌++◌, Err, OnOk, OnErr};
-ghost use Rattle.command_words.specs.Options.{texts};
+ghost use Rattle.std.specs.Prelude.{◌≡◌, ◌++◌, false, Err, OnOk, OnErr};
+ghost use Rattle.command_words.specs.Options.{has_stand, texts};
 ghost use Rattle.command_words.specs.Ranges.{IsInRange};
 ghost use Rattle.command_words.specs.Usage.{as_line};
-ghost use Rattle.command_words.specs.Words.{command_of};
+ghost use Rattle.command_words.specs.Words.{command_of, IsStill};
 ghost use Rattle.line_io.specs.Faults.{Rose};
 ghost use Rattle.line_io.specs.SinkView.{PutsAll, PutsFront};
 ghost use Rattle.pull_steps.specs.Deeds.{disk_over, Does};
@@ -14,9 +14,9 @@ ghost use Rattle.pull_cli.specs.Verdict.{CommandDoes, OfWords};
 
 use crate::commands::{
     check_plant, cycle_plant, edit_plant, replay_plant, resume_plant, resume_plant_from_slots,
-    run_or_stop_plant, run_plant_with_slots, size_plant,
+    run_or_stop_plant, run_plant_with_slots, size_plant, stand_plant,
 };
-use command_words::{Command, WordsError, read_words};
+use command_words::{Command, WordsError, has_stand, read_words};
 use itoa::Buffer;
 use line_disk::Disk;
 use line_io::{Failed, Sink, Store, put_all};
@@ -24,6 +24,7 @@ use line_workers::Gate;
 use pull_deeds::{Output, big};
 use pull_words::{OUT_OF_MEMORY, Reply};
 use std::alloc::Global;
+use std::sync::Wait;
 use std::thread::Threads;
 
 /// Does what the words after the program's name ask for, and answers the status that the program
@@ -31,7 +32,10 @@ use std::thread::Threads;
 /// own file or the slots. Nothing but the line of a refusal is written before all of this is done
 /// and tried. Each status but 0 and 6 has written exactly its one line. No file changes but the
 /// one in which a run that is told to stop saves, and that one only with status 0, 5 or 6.
-pub fn pull<R: Threads + Sync, S: Store, K: Sink, G: Gate, D: Disk>(
+///
+/// Where a word is `--stand` it may wait for standing workers, and owes no return. Where none is, it
+/// is `pull_still`.
+pub fn pull<R: Threads + Wait + Sync, S: Store, K: Sink, G: Gate, D: Disk>(
     rt: &R,
     alloc: Global,
     words: &[String],
@@ -51,7 +55,45 @@ pub fn pull<R: Threads + Sync, S: Store, K: Sink, G: Gate, D: Disk>(
         (store_over S.tells (S.shown store.old) (S.shown store.new))
         (sink_over (K.shown sink.old) (K.shown sink.new)) result }
 {
-    match outcome_of(rt, alloc, words, store, gate, disk) {
+    if has_stand(words) {
+        let outcome = outcome_of(rt, alloc, words, store, gate, disk);
+        write_outcome(alloc, outcome, sink)
+    } else {
+        pull_still(rt, alloc, words, store, sink, gate, disk)
+    }
+}
+
+/// `pull`, for words of which none is `--stand`. It waits for nothing, and returns.
+pub fn pull_still<R: Threads + Sync, S: Store, K: Sink, G: Gate, D: Disk>(
+    rt: &R,
+    alloc: Global,
+    words: &[String],
+    store: &mut S,
+    sink: &mut K,
+    gate: &G,
+    disk: &mut D,
+) -> u8
+    requires still { has_stand (texts words.now) ≡ false }
+    ensures ends { Ends (texts words.now)
+        (store_over S.tells (S.shown store.old) (S.shown store.new))
+        (sink_over (K.shown sink.old) (K.shown sink.new))
+        (disk_over D.tells (D.shown disk.old) (D.shown disk.new)) result }
+    ensures headline { Headline (texts words.now)
+        (store_over S.tells (S.shown store.old) (S.shown store.new))
+        (sink_over (K.shown sink.old) (K.shown sink.new)) result }
+    ensures files { FilesStay (texts words.now)
+        (store_over S.tells (S.shown store.old) (S.shown store.new))
+        (sink_over (K.shown sink.old) (K.shown sink.new)) result }
+{
+    let outcome = still_outcome_of(rt, alloc, words, store, gate, disk);
+    write_outcome(alloc, outcome, sink)
+}
+
+/// Writes what the words came to, and answers the status.
+fn write_outcome<K: Sink>(alloc: Global, outcome: Result<Output, Reply>, sink: &mut K) -> u8
+    ensures { Finishes (sink_over (K.shown sink.old) (K.shown sink.new)) outcome result }
+{
+    match outcome {
         Ok(output) => write_output(output, sink),
         Err(reply) => write_reply(alloc, &reply, sink),
     }
@@ -133,7 +175,7 @@ fn write_all<K: Sink>(sink: &mut K, status: u8, text: &[u8]) -> u8
 }
 
 /// What the words come to.
-fn outcome_of<R: Threads + Sync, S: Store, G: Gate, D: Disk>(
+fn outcome_of<R: Threads + Wait + Sync, S: Store, G: Gate, D: Disk>(
     rt: &R,
     alloc: Global,
     words: &[String],
@@ -146,14 +188,35 @@ fn outcome_of<R: Threads + Sync, S: Store, G: Gate, D: Disk>(
         (OfWords S.tells (S.shown store.old).files (command_of (texts words.now))) result }
 {
     match read_words(alloc, words) {
+        Ok(command) => do_or_stand(rt, alloc, command, store, gate, disk),
+        Err(WordsError::Usage) => Err(Reply::Usage),
+        Err(WordsError::NoMemory) => Err(Reply::NoMemory),
+    }
+}
+
+/// What words come to of which none is `--stand`.
+fn still_outcome_of<R: Threads + Sync, S: Store, G: Gate, D: Disk>(
+    rt: &R,
+    alloc: Global,
+    words: &[String],
+    store: &mut S,
+    gate: &G,
+    disk: &mut D,
+) -> Result<Output, Reply>
+    requires still { has_stand (texts words.now) ≡ false }
+    ensures { Does (store_over S.tells (S.shown store.old) (S.shown store.new))
+        (disk_over D.tells (D.shown disk.old) (D.shown disk.new))
+        (OfWords S.tells (S.shown store.old).files (command_of (texts words.now))) result }
+{
+    match read_words(alloc, words) {
         Ok(command) => do_command(rt, alloc, command, store, gate, disk),
         Err(WordsError::Usage) => Err(Reply::Usage),
         Err(WordsError::NoMemory) => Err(Reply::NoMemory),
     }
 }
 
-/// What a command comes to.
-fn do_command<R: Threads + Sync, S: Store, G: Gate, D: Disk>(
+/// What a command comes to, by standing workers where it asks for them.
+fn do_or_stand<R: Threads + Wait + Sync, S: Store, G: Gate, D: Disk>(
     rt: &R,
     alloc: Global,
     command: Command,
@@ -162,6 +225,28 @@ fn do_command<R: Threads + Sync, S: Store, G: Gate, D: Disk>(
     disk: &mut D,
 ) -> Result<Output, Reply>
     requires { IsInRange command }
+    ensures { CommandDoes (store_over S.tells (S.shown store.old) (S.shown store.new))
+        (disk_over D.tells (D.shown disk.old) (D.shown disk.new)) command result }
+{
+    match command {
+        Command::RunStand { plant, workers } => {
+            stand_plant(rt, alloc, store, plant.as_str(), workers, gate)
+        }
+        command => do_command(rt, alloc, command, store, gate, disk),
+    }
+}
+
+/// What a command comes to that isn't done by standing workers.
+fn do_command<R: Threads + Sync, S: Store, G: Gate, D: Disk>(
+    rt: &R,
+    alloc: Global,
+    command: Command,
+    store: &mut S,
+    gate: &G,
+    disk: &mut D,
+) -> Result<Output, Reply>
+    requires range { IsInRange command }
+    requires still { IsStill command }
     ensures { CommandDoes (store_over S.tells (S.shown store.old) (S.shown store.new))
         (disk_over D.tells (D.shown disk.old) (D.shown disk.new)) command result }
 {
@@ -178,6 +263,7 @@ fn do_command<R: Threads + Sync, S: Store, G: Gate, D: Disk>(
             every,
             workers,
         } => { run_plant_with_slots(rt, alloc, store, plant.as_str(), every, workers, gate, disk) }
+        Command::RunStand { .. } => unreachable!(),
         Command::Resume {
             plant,
             saved,

@@ -27,6 +27,7 @@ use plant_model::Plant;
 use pull_steps::LivePlant;
 use pull_words::{FileName, Reply, checkpoint_reply};
 use std::alloc::{AllocError, Global};
+use std::sync::Wait;
 use std::thread::Threads;
 
 /// The report of a live plant, over the table that a run of it came to.
@@ -70,6 +71,40 @@ fn table_of<R: Threads + Sync, G: Gate>(
 {
     let work = Line::prepare(alloc, live, workers)?;
     Ok(run_to_end(rt, live, work, gate))
+}
+
+/// Runs a live plant to its end, by so many workers that stand until all firings are made. It waits
+/// for its threads, and owes no return.
+pub fn run_standing<R: Threads + Wait + Sync, G: Gate>(
+    rt: &R,
+    alloc: Global,
+    line: LivePlant,
+    workers: u32,
+    gate: &G,
+) -> Result<Output, Reply>
+    requires plant { IsLivePlant line }
+    requires some { 1 ≤ workers }
+    requires few { workers ≤ most_workers }
+    ensures { IsReport line.plant result ⊎ (result ≡ Err Reply.NoMemory) }
+{
+    let table = standing_table_of(rt, alloc, &line.live, workers, gate)?;
+    report_of(alloc, line, table)
+}
+
+/// The dates of a live graph, by so many workers that stand until all firings are made.
+fn standing_table_of<R: Threads + Wait + Sync, G: Gate>(
+    rt: &R,
+    alloc: Global,
+    live: &Live,
+    workers: u32,
+    gate: &G,
+) -> Result<Table, AllocError>
+    requires some { 1 ≤ workers }
+    requires few { workers ≤ most_workers }
+    ensures { IfOk result (ComesToLeast live.now.graph) }
+{
+    let work = Line::prepare(alloc, live, workers)?;
+    Ok(line_runs::run_standing(rt, live, work, gate))
 }
 
 /// Runs a live plant by so many workers until so many firings are made, and saves the state in

@@ -8,9 +8,9 @@ use Rattle.pull_cli.proofs.top.outcome_of.Goals as goal
 
 pub returns-in-Ok : goal.returns-in-Ok
 returns-in-Ok g c =
-    command_does g.S.Store.tells (g.S.Store.shown c.args.store.now) (g.S.Store.shown c.do_command.new.store)
-    (disk_over g.D.Disk.tells (g.D.Disk.shown c.args.disk.now) (g.D.Disk.shown c.do_command.new.disk))
-    (command_of (texts c.args.words.now)) c.in-Ok.command c.do_command.result c.in-Ok.ensures.command c.do_command.ensures
+    command_does g.S.Store.tells (g.S.Store.shown c.args.store.now) (g.S.Store.shown c.do_or_stand.new.store)
+    (disk_over g.D.Disk.tells (g.D.Disk.shown c.args.disk.now) (g.D.Disk.shown c.do_or_stand.new.disk))
+    (command_of (texts c.args.words.now)) c.in-Ok.command c.do_or_stand.result c.in-Ok.ensures.command c.do_or_stand.ensures
 
 pub returns-in-Err-Usage : goal.returns-in-Err-Usage
 returns-in-Err-Usage g c =
