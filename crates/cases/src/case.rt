@@ -4,6 +4,7 @@ use crate::dates::row_of;
 use crate::directive::{Directive, Fault, OfRun, Row, directive_of};
 use crate::reason::{BadLine, Reason};
 use crate::slots::Crash;
+use crate::variants::Variants;
 use crate::want::{After, Output, Want};
 use std::alloc::Global;
 
@@ -41,7 +42,7 @@ pub struct Run {
     pub commands: Vec<Vec<String>>,
     /// What fails.
     pub faults: Faults,
-    /// What is wanted of each; no status where only the rows are run.
+    /// What is wanted of each; no status where only the rows and the variants are run.
     pub want: Want,
     /// The files of the calls of the store, where each is to fail in turn.
     pub each_fault: Option<Vec<String>>,
@@ -51,6 +52,8 @@ pub struct Run {
     pub crash: Option<Crash>,
     /// The runs over changed files.
     pub rows: Vec<NumberedRow>,
+    /// The files of each of whose variants there is a run.
+    pub variants: Vec<Variants>,
     /// Where a line of text goes.
     block: Block,
 }
@@ -132,8 +135,14 @@ impl Run {
             each_disk_fault: None,
             crash: None,
             rows: Vec::new(alloc),
+            variants: Vec::new(alloc),
             block: Block::Output,
         }
+    }
+
+    /// Whether nothing is wanted of its commands so far.
+    fn wants_nothing(&self) -> bool {
+        self.want.status.is_none() && self.rows.is_empty() && self.variants.is_empty()
     }
 
     /// Adds lines to the text that has begun.
@@ -170,6 +179,7 @@ impl Run {
             OfRun::Crash(crash) => self.crash = Some(crash),
             OfRun::EachFault(files) => self.each_fault = Some(files),
             OfRun::EachDiskFault(calls) => self.each_disk_fault = Some(calls),
+            OfRun::Variants(variants) => self.variants.push(variants)?,
             OfRun::Status(status) => self.want.status = Some(status),
             OfRun::Output(output) => {
                 self.want.output = output;
@@ -321,7 +331,7 @@ impl Builder {
     /// Adds a command to the run of commands that stand one below the other, or begins a run.
     fn add_command(&mut self, line: u64, words: Vec<String>) -> Result<(), Reason> {
         if let Open::Run(_, run) = &mut self.open {
-            if run.want.status.is_none() && run.rows.is_empty() {
+            if run.wants_nothing() {
                 run.commands.push(words)?;
                 return Ok(());
             }

@@ -2,6 +2,7 @@
 use crate::change::{Change, change_of};
 use crate::reason::Reason;
 use crate::slots::Crash;
+use crate::variants::{Kind, Variants, variants_of};
 use crate::want::{After, Output, Want, want_of};
 use crate::words::{Token, Words};
 use std::alloc::Global;
@@ -36,6 +37,8 @@ pub enum OfRun {
     EachFault(Vec<String>),
     /// `each disk fault in turn COUNT`: each call of the disk, which are so many, fails in turn.
     EachDiskFault(u32),
+    /// `each prefix of FILE` or `each byte of FILE changed`: the command is run over each of these variants.
+    Variants(Variants),
     /// `status NUMBER`: the status that is wanted.
     Status(u8),
     /// `output ..`: what is to be written.
@@ -206,8 +209,14 @@ fn after_of(alloc: Global, words: &mut Words) -> Result<After, Reason> {
     Ok(After { name, bytes })
 }
 
-/// The faults that stand behind `each`.
+/// The faults or the variants that stand behind `each`.
 fn each_of(words: &mut Words) -> Result<OfRun, Reason> {
+    if words.passes("prefix") {
+        return Ok(OfRun::Variants(variants_of(Kind::Prefix, words)?));
+    }
+    if words.passes("byte") {
+        return Ok(OfRun::Variants(variants_of(Kind::Byte, words)?));
+    }
     let of_disk = words.passes("disk");
     words.expect_word("fault")?;
     words.expect_word("in")?;

@@ -12,6 +12,7 @@ mod reason;
 mod runner;
 mod slots;
 mod told;
+mod variants;
 mod want;
 mod words;
 
@@ -103,15 +104,15 @@ fn report<R: Threads + Wait + Sync, S: Store, K: Sink>(
 ) -> Result<bool, Reason> {
     let title = case.title.as_str();
     match run_case(rt, alloc, case, folder) {
-        Ok(told) if told.is_empty() => {
-            let line = format!(in alloc; "{name}: {title} ok\n")?;
+        Ok(told) if told.text.is_empty() => {
+            let line = format!(in alloc; "{name}: {title} ok{}\n", runs_of(alloc, told.runs)?)?;
             print(sink, line.as_bytes())?;
             Ok(true)
         }
         Ok(told) => {
             let line = format!(in alloc; "{name}: {title} FAILED\n")?;
             print(sink, line.as_bytes())?;
-            print(sink, &told)?;
+            print(sink, &told.text)?;
             Ok(false)
         }
         Err(broken) => {
@@ -123,6 +124,14 @@ fn report<R: Threads + Wait + Sync, S: Store, K: Sink>(
             Ok(false)
         }
     }
+}
+
+/// How many runs over variants there were, where there were any.
+fn runs_of(alloc: Global, runs: u64) -> Result<String, Reason> {
+    if runs == 0 {
+        return Ok(String::new(alloc));
+    }
+    Ok(format!(in alloc; ", {runs} runs")?)
 }
 
 /// Prints some bytes.

@@ -5,7 +5,8 @@ use crate::compare::{has_files, has_output};
 use crate::looks::{arcs_of, circuits_of};
 use crate::reason::{BadLine, Reason};
 use crate::slots::{Crash, Slots};
-use crate::told::{add_came, add_changed};
+use crate::told::{Told, add_came, add_changed, add_variant};
+use crate::variants::{Variants, is_answer};
 use crate::want::{After, Output};
 use line_disk::MemDisk;
 use line_io::{Files, MemSink, MemStore, Store};
@@ -57,18 +58,21 @@ struct Left {
     slots: Slots,
 }
 
-/// What a case comes to that isn't wanted; nothing where all is.
+/// What is told of a case.
 pub fn run_case<R: Threads + Wait + Sync, S: Store>(
     rt: &R,
     alloc: Global,
     case: &Case,
     folder: &mut S,
-) -> Result<Vec<u8>, BadLine> {
+) -> Result<Told, BadLine> {
     let mut found = Found {
         files: Files::new(alloc),
         slots: Slots::blank(alloc),
     };
-    let mut told = Vec::new(alloc);
+    let mut told = Told {
+        text: Vec::new(alloc),
+        runs: 0,
+    };
     for step in case.steps.iter() {
         let done = match &step.act {
             Act::Change(change) => apply(alloc, change, &mut found.files, folder),
@@ -94,11 +98,14 @@ fn run_commands<R: Threads + Wait + Sync, S: Store>(
     line: u64,
     found: &mut Found,
     folder: &mut S,
-    told: &mut Vec<u8>,
+    told: &mut Told,
 ) -> Result<(), Reason> {
     for words in run.commands.iter() {
         for row in run.rows.iter() {
             run_row(rt, alloc, run.faults, row, words, found, folder, told)?;
+        }
+        for variants in run.variants.iter() {
+            run_variants(rt, alloc, run, line, words, found, variants, told)?;
         }
         if let Some(status) = run.want.status {
             let attempt = attempt_of(run, line, words, found, status);
@@ -107,6 +114,50 @@ fn run_commands<R: Threads + Wait + Sync, S: Store>(
         }
     }
     Ok(())
+}
+
+/// Runs a command over each variant of a file.
+fn run_variants<R: Threads + Wait + Sync>(
+    rt: &R,
+    alloc: Global,
+    run: &Run,
+    line: u64,
+    words: &[String],
+    found: &Found,
+    variants: &Variants,
+    told: &mut Told,
+) -> Result<(), Reason> {
+    let name = variants.file.as_str();
+    let whole = held(&found.files, name)?;
+    for number in 0..variants.kind.count(whole.len()) {
+        let mut files = found.files.clone()?;
+        let variant = variants.kind.variant(alloc, whole, number)?;
+        let _ = files.insert(variants.file.clone()?, variant)?;
+        let attempt = Attempt {
+            files: &files,
+            ..attempt_of(run, line, words, found, 0)
+        };
+        if !run_variant(rt, alloc, &attempt, told)? {
+            add_variant(alloc, told, name, number)?;
+        }
+    }
+    Ok(())
+}
+
+/// Runs a command over a variant of a file, and tells what came where it is no answer. Answers whether it is one.
+fn run_variant<R: Threads + Wait + Sync>(
+    rt: &R,
+    alloc: Global,
+    attempt: &Attempt,
+    told: &mut Told,
+) -> Result<bool, Reason> {
+    let came = call(rt, alloc, attempt)?;
+    told.runs = told.runs.saturating_add(1);
+    let fits = is_answer(came.status, &came.written) && came.changed.is_empty();
+    if !fits {
+        add_came(alloc, told, attempt.line, attempt.words, &came)?;
+    }
+    Ok(fits)
 }
 
 /// The attempt at a command of a run.
@@ -137,7 +188,7 @@ fn run_command<R: Threads + Wait + Sync, S: Store>(
     run: &Run,
     attempt: &Attempt,
     folder: &mut S,
-    told: &mut Vec<u8>,
+    told: &mut Told,
 ) -> Result<Option<Left>, Reason> {
     let came = tried(rt, alloc, attempt, folder, told)?;
     fail_in_turn(rt, alloc, run, attempt, &came.written, folder, told)?;
@@ -164,7 +215,7 @@ fn run_row<R: Threads + Wait + Sync, S: Store>(
     words: &[String],
     found: &Found,
     folder: &mut S,
-    told: &mut Vec<u8>,
+    told: &mut Told,
 ) -> Result<(), Reason> {
     let files = changed_files(alloc, &found.files, &numbered.row.changes, folder)?;
     let attempt = Attempt {
@@ -205,7 +256,7 @@ fn fail_in_turn<R: Threads + Wait + Sync, S: Store>(
     attempt: &Attempt,
     whole: &[u8],
     folder: &mut S,
-    told: &mut Vec<u8>,
+    told: &mut Told,
 ) -> Result<(), Reason> {
     if let Some(calls) = run.each_disk_fault {
         fail_disk(rt, alloc, attempt, calls, folder, told)?;
@@ -227,7 +278,7 @@ fn fail_store<R: Threads + Wait + Sync, S: Store>(
     attempt: &Attempt,
     names: &[String],
     folder: &mut S,
-    told: &mut Vec<u8>,
+    told: &mut Told,
 ) -> Result<(), Reason> {
     let mut store = 1u32;
     for name in names {
@@ -263,7 +314,7 @@ fn fail_disk<R: Threads + Wait + Sync, S: Store>(
     attempt: &Attempt,
     calls: u32,
     folder: &mut S,
-    told: &mut Vec<u8>,
+    told: &mut Told,
 ) -> Result<(), Reason> {
     let line = Output::Whole(b"disk\n".to_vec(alloc)?);
     let failed = Attempt {
@@ -293,7 +344,7 @@ fn try_failing<R: Threads + Wait + Sync, S: Store>(
     attempt: &Attempt,
     faults: Faults,
     folder: &mut S,
-    told: &mut Vec<u8>,
+    told: &mut Told,
 ) -> Result<(), Reason> {
     let failing = Attempt {
         faults,
@@ -312,7 +363,7 @@ fn fail_put<R: Threads + Wait + Sync, S: Store>(
     keep: u32,
     output: &Output,
     folder: &mut S,
-    told: &mut Vec<u8>,
+    told: &mut Told,
 ) -> Result<(), Reason> {
     let faults = Faults {
         put: 1,
@@ -333,7 +384,7 @@ fn tried<R: Threads + Wait + Sync, S: Store>(
     alloc: Global,
     attempt: &Attempt,
     folder: &mut S,
-    told: &mut Vec<u8>,
+    told: &mut Told,
 ) -> Result<Came, Reason> {
     let came = call(rt, alloc, attempt)?;
     let fits = attempt.status == came.status
@@ -346,7 +397,11 @@ fn tried<R: Threads + Wait + Sync, S: Store>(
 }
 
 /// Runs a command: the top call, or a look at a plant or at the slots.
-fn call<R: Threads + Wait + Sync>(rt: &R, alloc: Global, attempt: &Attempt) -> Result<Came, Reason> {
+fn call<R: Threads + Wait + Sync>(
+    rt: &R,
+    alloc: Global,
+    attempt: &Attempt,
+) -> Result<Came, Reason> {
     match attempt.words {
         [program, name] if program.as_str() == "arcs" => {
             let text = arcs_of(alloc, held(attempt.files, name.as_str())?)?;

@@ -3,15 +3,25 @@ use crate::runner::Came;
 use line_io::Files;
 use std::alloc::{AllocError, Global};
 
+/// What is told of a case.
+#[derive(Drop)]
+pub struct Told {
+    /// What came that isn't wanted; nothing where all is.
+    pub text: Vec<u8>,
+    /// How many runs over variants there were.
+    pub runs: u64,
+}
+
 /// Adds what came of the command in this line of a case: its status, all that it wrote, and
 /// what is told of the files.
 pub fn add_came(
     alloc: Global,
-    told: &mut Vec<u8>,
+    told: &mut Told,
     line: u64,
     words: &[String],
     came: &Came,
 ) -> Result<(), AllocError> {
+    let told = &mut told.text;
     let head = format!(in alloc; "line {line}: $")?;
     told.extend_from_slice(head.as_bytes())?;
     for word in words {
@@ -22,6 +32,18 @@ pub fn add_came(
     told.extend_from_slice(status.as_bytes())?;
     told.extend_from_slice(&came.written)?;
     told.extend_from_slice(&came.changed)?;
+    Ok(())
+}
+
+/// Adds which variant of a file it was, counted from 0.
+pub fn add_variant(
+    alloc: Global,
+    told: &mut Told,
+    file: &str,
+    number: usize,
+) -> Result<(), AllocError> {
+    let text = format!(in alloc; "variant {number} of {file}\n")?;
+    told.text.extend_from_slice(text.as_bytes())?;
     Ok(())
 }
 
