@@ -7,7 +7,7 @@ use line_workers::FreeGate;
 use pull_cli::pull;
 use std::process::ExitCode;
 use std::rt::Env;
-use std::{env, io};
+use std::{env, fs, io};
 
 /// The status where the machine doesn't hand over the words, as where one is no UTF-8. The top call never answers it.
 const NO_WORDS: u8 = 1;
@@ -23,6 +23,14 @@ fn words_of<R: Env + AllocGlobal>(rt: &R) -> io::Result<Vec<String>> {
 }
 
 fn main(rt: HostRuntime) -> ExitCode {
+    // Where the program is started without standard input, output or error, the file that is opened
+    // next gets its number. These get it first, and can only be read: a write to standard output
+    // then fails, and no report goes into another file.
+    let _held = [
+        fs::open(&rt, "/dev/null"),
+        fs::open(&rt, "/dev/null"),
+        fs::open(&rt, "/dev/null"),
+    ];
     let words = match words_of(&rt) {
         Ok(words) => words,
         Err(error) if error.kind() == io::ErrorKind::OutOfMemory => return NO_MEMORY.into(),
