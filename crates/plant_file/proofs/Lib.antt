@@ -1,3 +1,4 @@
 mod FinishAnswers
+mod LeftOut
 pub mod PlantParts
 pub mod PlantSteps

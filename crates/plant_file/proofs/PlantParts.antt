@@ -2,7 +2,6 @@
 use Rattle.std.proofs.Common.{◌≡◌, ℕ, zero, suc, ◌+◌, ◌-◌, ◌<◌, ◌≤◌, Bool, true, false, cond, List, [], ◌∷◌, ◌++◌, length, map, take, get_or, All, Option, Some, None, Vec, refl, ap, ◌∙◌, inl, inr, arith}
 use Rattle.std.specs.Prelude.{Contains, IfSome, ◌&&◌, ◌||◌, not, nat_le, is_some, option_map, bytes_eq, codes, vec_len}
 use Rattle.std.specs.Global.{Global}
-use Rattle.std.specs.Option.{option_map_or}
 use Rattle.std.specs.List.{filter, list_all, list_any, range_with_len}
 use Rattle.std.proofs.lemmas.Bool.{cases_lt, leb-true, le-ltb, eq-eqb}
 use Rattle.std.proofs.lemmas.List.{length-map, take-map, get_or_past}
@@ -28,6 +27,7 @@ use Rattle.plant_draft.specs.declared.draft.DraftLoop.{DraftLoop}
 use Rattle.plant_draft.specs.declared.draft.DraftPlant.{DraftPlant}
 use Rattle.plant_tree.specs.Readers.{is_filled}
 use Rattle.plant_draft.specs.Draft.{IsSoundDraft, file_of, demands_file, columns_of, is_used, uses, are_up_to, are_sound_times, is_sound_machine, is_sound_stage, is_sound_loop, is_sound_policy, are_sound_demands}
+use Rattle.plant_file.specs.Counts.{table_within}
 use Rattle.plant_file.specs.Finish.{HasColumn, HasColumns, IsWithinLimit, dates_with, times_with, machine_with, stage_with, loop_with, plant_with}
 
 -- both of two tests pass
@@ -128,7 +128,7 @@ has-column table used (Column column) same is_used =
 has-column table used (Fixed time) same is_used = tt
 has-column table used (Each times) same is_used = tt
 
-pub HasColumns-draft : (d : DraftPlant) (table : Option JobTimes) → IsSoundDraft d → IfSome table (λ (t : JobTimes). t.columns ≡ columns_of d) → All (HasColumns table) d.stages
+HasColumns-draft : (d : DraftPlant) (table : Option JobTimes) → IsSoundDraft d → IfSome table (λ (t : JobTimes). t.columns ≡ columns_of d) → All (HasColumns table) d.stages
 HasColumns-draft d table sound same i s in_stages j m in_machines =
     has-column table (columns_of d) (get_or (get_or d.stages i s).machines j m).times same
     (λ column is.
@@ -136,6 +136,11 @@ HasColumns-draft d table sound same i s in_stages j m in_machines =
     let machine = tested-at is_sound_machine (get_or d.stages i s).machines j m stage.machines in_machines in
     let test = (and-both (nat_le (get_or (get_or d.stages i s).machines j m).servers MAX_CARDS) _ machine).1 in
     used-column d i j column s m in_stages in_machines is (rw is at test))
+
+-- the same of the table that is used
+pub HasColumns-within : (d : DraftPlant) (within : Bool) (table : Option JobTimes) → IsSoundDraft d → IfSome table (λ (t : JobTimes). t.columns ≡ columns_of d) → All (HasColumns (table_within within table)) d.stages
+HasColumns-within d true table sound same = HasColumns-draft d table sound same
+HasColumns-within d false table sound same = HasColumns-draft d None sound tt
 
 -- 2. Nothing is refused of the parts.
 
@@ -172,7 +177,7 @@ each_from-made f g test k (x ∷ xs) all none =
     rw (none k x h.0) (each_from-made f g test (k + 1) xs h.1 none)
 
 -- what is refused of elements is what is refused of what they become
-each_from-map : {X Y : Type 0} (f : ℕ → Y → List PlantError) (h : ℕ → X → List PlantError) (g : X → Y) (k : ℕ) (xs : List X) → ((i : ℕ) (x : X) → f i (g x) ≡ h i x) → each_from f k (map g xs) ≡ each_from h k xs
+pub each_from-map : {X Y : Type 0} (f : ℕ → Y → List PlantError) (h : ℕ → X → List PlantError) (g : X → Y) (k : ℕ) (xs : List X) → ((i : ℕ) (x : X) → f i (g x) ≡ h i x) → each_from f k (map g xs) ≡ each_from h k xs
 each_from-map f h g k [] same = refl
 each_from-map f h g k (x ∷ xs) same = rw (same k x) (ap (λ rest. h k x ++ rest) (each_from-map f h g (k + 1) xs same))
 
@@ -183,7 +188,7 @@ bad_names-none d dates table sound =
     (λ i s test. rw (HasSoundKeys-from s test).name refl)
 
 -- whether an element of what others become passes
-list_any-map : {X Y : Type 0} (test : Y → Bool) (g : X → Y) (xs : List X) → list_any test (map g xs) ≡ list_any (λ x. test (g x)) xs
+pub list_any-map : {X Y : Type 0} (test : Y → Bool) (g : X → Y) (xs : List X) → list_any test (map g xs) ≡ list_any (λ x. test (g x)) xs
 list_any-map test g [] = refl
 list_any-map test g (x ∷ xs) = ap (λ rest. test (g x) || rest) (list_any-map test g xs)
 
@@ -234,10 +239,10 @@ numbers-within t column low =
     (λ row h. number-within row _ MAX_TIME h) t.rows low)
 
 -- 7, of a column of the table
-column-none : (place : List ℕ) (table : Option JobTimes) (column : ℕ) → IfSome table IsWithinLimit → each (element_above place MAX_TIME) (option_map_or (λ t. numbers_in t column) table []) ≡ []
-column-none place None column low = refl
-column-none place (Some t) column low =
-    each_from-none (element_above place MAX_TIME) (λ n. n ≤ MAX_TIME) 0 (numbers_in t column) (numbers-within t column low)
+column-none : (machine : FileTable) (table : Option JobTimes) (column : ℕ) → IfSome table IsWithinLimit → times_out_of_range machine (times_with table (Column column)) ≡ []
+column-none machine None column low = refl
+column-none machine (Some t) column low =
+    each_from-none (element_above _ MAX_TIME) (λ n. n ≤ MAX_TIME) 0 (numbers_in t column) (numbers-within t column low)
     (λ i n h. above-none _ MAX_TIME n h)
 
 -- 7, of a list of numbers
@@ -247,7 +252,7 @@ numbers-none place limit numbers h =
 
 -- 7, of job times
 times-none : (machine : FileTable) (table : Option JobTimes) (t : DraftTimes) → IfSome table IsWithinLimit → are_sound_times t ≡ true → times_out_of_range machine (times_with table t) ≡ []
-times-none machine table (Column column) low h = column-none _ table column low
+times-none machine table (Column column) low h = column-none machine table column low
 times-none machine table (Fixed time) low h = above-tested _ MAX_TIME time h
 times-none machine table (Each times) low h = numbers-none _ MAX_TIME times h
 

@@ -43,9 +43,9 @@ abbrev pub dates_with : DraftDemands → Option (List ℕ) → List ℕ
 dates_with (Given dates) read = dates
 dates_with (File name) read = unwrap_or read []
 
--- the job times of a machine: one time, a list, or a column of the times file
+-- the job times of a machine: one time, a list, or a column of the times file, and the time 0 where there is no table
 abbrev pub times_with : Option JobTimes → DraftTimes → Times
-times_with table (Column column) = made.Each (option_map_or (λ t. numbers_in t column) table [])
+times_with table (Column column) = option_map_or (λ t. made.Each (numbers_in t column)) table (made.Fixed 0)
 times_with table (Fixed time) = made.Fixed time
 times_with table (Each times) = made.Each times
 

@@ -1,3 +1,4 @@
 pub mod Complete
+pub mod Counts
 pub mod Finish
 pub mod PlantOfFiles

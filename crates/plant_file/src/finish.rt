@@ -9,6 +9,7 @@ ghost use Rattle.plant_file.specs.Finish.{AnswersPlant, HasColumn, HasColumns, I
 ghost use Rattle.plant_file.specs.Complete.{HoldsDates, HoldsTimes, refusal_of};
 ghost use Rattle.plant_file.specs.PlantOfFiles.{Contents, IsReadFrom, plant_of};
 
+use crate::counts::{check_counts, count_demands, table_within};
 use demand_feed::{Columns, FeedError, read_dates, read_times};
 use line_base::{Date, Items, Times};
 use plant_draft::{
@@ -17,9 +18,10 @@ use plant_draft::{
 use plant_model::{CardLoop, Machine, Plant, PlantError, Stage, Text};
 use std::alloc::{AllocError, Global};
 
-/// The plant of a draft, with the dates of its demand file and the times of its times file where it uses them. The error is
-/// the first of the refusals 11 to 15 of `PlantError`. A loop's end that names no stage becomes the number of stages, which
-/// class 14 refuses. Want of memory may come before any refusal.
+/// The plant of a draft, with the dates of its demand file and the times of its times file where it uses them. The error
+/// is the first of the refusals 11 to 15 of `PlantError`. A loop's end that names no stage becomes the number of stages,
+/// which class 14 refuses. Want of memory may come before any refusal. No column of the times is copied before the
+/// number of records has been held against that of the dates, and both against their limits.
 pub fn finish_draft(
     alloc: Global,
     draft: Draft,
@@ -34,7 +36,11 @@ pub fn finish_draft(
     ensures plant { AnswersPlant result (finished draft (option_map (λ read. read.items) dates) times) }
     ensures sound { IfOk result IsSound }
 {
-    let plant = plant_with(alloc, draft.into_plant(), dates, times)?;
+    let draft = draft.into_plant();
+    let jobs = count_demands(&draft.demands, &dates);
+    check_counts(alloc, jobs, draft.stages.as_slice(), &times)?;
+    let times = table_within(jobs, draft.stages.as_slice(), times);
+    let plant = plant_with(alloc, draft, dates, times)?;
     plant.check_whole(alloc)?;
     Ok(plant)
 }
@@ -255,7 +261,7 @@ fn machines_with(
     Ok(Items::from_vec(made))
 }
 
-/// The job times of a machine: one time, a list, or a column of the times file.
+/// The job times of a machine: one time, a list, or a column of the times file, and the time 0 where there is no table.
 fn times_with(
     alloc: Global,
     times: DraftTimes,
@@ -267,12 +273,9 @@ fn times_with(
     match times {
         DraftTimes::Fixed(time) => Ok(Times::Fixed(time)),
         DraftTimes::Each(times) => Ok(Times::Each(times)),
-        DraftTimes::Column(column) => {
-            let times = match table {
-                Some(table) => table.column(alloc, column)?,
-                None => Vec::new(alloc),
-            };
-            Ok(Times::Each(Items::from_vec(times)))
-        }
+        DraftTimes::Column(column) => match table {
+            Some(table) => Ok(Times::Each(Items::from_vec(table.column(alloc, column)?))),
+            None => Ok(Times::Fixed(0)),
+        },
     }
 }

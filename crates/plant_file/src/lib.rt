@@ -1,6 +1,7 @@
 //! Plant files: the plant of a file and of the files that it names, or the first refusal.
 #![tactic(auto)]
 
+mod counts;
 mod finish;
 
 pub use finish::{complete_draft, finish_draft};

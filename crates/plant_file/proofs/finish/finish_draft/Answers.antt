@@ -1,23 +1,53 @@
-use Rattle.std.proofs.Common.{subst}
-use Rattle.plant_model.specs.Refusals.{whole_refusals}
+use Rattle.std.proofs.Common.{Ok, subst, sym, ap, ◌∙◌}
+use Rattle.plant_model.specs.Refusals.{whole_refusals, first}
 use Rattle.plant_draft.specs.Draft.{IsSoundDraft}
-use Rattle.plant_file.proofs.PlantParts.{HasColumns-draft, AreDates-from, parts-none}
+use Rattle.plant_file.specs.Counts.{stays_within, table_within}
+use Rattle.plant_file.specs.Finish.{plant_with}
+use Rattle.plant_file.proofs.PlantParts.{HasColumns-within, AreDates-from, parts-none}
 use Rattle.plant_file.proofs.FinishAnswers.{AnswersPlant-refused}
+use Rattle.plant_file.proofs.LeftOut.{first-counted, whole_refusals-counted, finished-counted}
 use Rattle.plant_file.proofs.finish.finish_draft.Goals as goal
 
 pub plant_with-requires : goal.plant_with-requires
 plant_with-requires c =
-    let sound = subst IsSoundDraft c.into_plant.ensures.plant c.into_plant.ensures.sound in
-    rw c.into_plant.ensures.plant (record { columns = HasColumns-draft c.args.draft c.args.times sound c.requires.times_columns })
+    let sound = subst IsSoundDraft c.into_plant-draft.ensures.plant c.into_plant-draft.ensures.sound in
+    rw (c.table_within-times.ensures, c.into_plant-draft.ensures.plant)
+    (record { columns = HasColumns-within c.args.draft _ c.args.times sound c.requires.times_columns })
 
 pub check_whole-requires : goal.check_whole-requires
 check_whole-requires c =
-    let sound = subst IsSoundDraft c.into_plant.ensures.plant c.into_plant.ensures.sound in
+    let sound = subst IsSoundDraft c.into_plant-draft.ensures.plant c.into_plant-draft.ensures.sound in
     let dates = AreDates-from c.args.draft c.args.dates c.requires.dates_where_used c.requires.some_dates c.requires.dates_limit in
-    rw (c.in_ok-plant.ensures.plant, c.into_plant.ensures.plant) (parts-none c.args.draft _ c.args.times sound dates c.in_ok-plant.ensures.limit)
+    rw (c.in_ok-plant.ensures.plant, c.into_plant-draft.ensures.plant)
+    (parts-none c.args.draft _ c.table_within-times.result sound dates c.in_ok-plant.ensures.limit)
+
+pub returns-in_err-check_counts-clause-plant : goal.returns-in_err-check_counts-clause-plant
+returns-in_err-check_counts-clause-plant c =
+    let d = c.into_plant-draft.result in
+    let found = rw c.as_slice.ensures at c.in_err-check_counts.ensures in
+    rw (← c.into_plant-draft.ensures.plant)
+    (AnswersPlant-refused c.from_residual.result (whole_refusals (plant_with d _ c.args.times)) (plant_with d _ c.args.times)
+    c.from_residual.ensures.1
+    (λ ne. first-counted d _ c.args.times c.count_demands-jobs.result _ c.count_demands-jobs.ensures (found ne)))
 
 pub returns-in_err-check_whole-clause-plant : goal.returns-in_err-check_whole-clause-plant
 returns-in_err-check_whole-clause-plant c =
-    rw (← c.into_plant.ensures.plant, ← c.in_ok-plant.ensures.plant)
-    (AnswersPlant-refused c.from_residual-in_err-check_whole.result (whole_refusals c.in_ok-plant.plant) c.in_ok-plant.plant
-    c.from_residual-in_err-check_whole.ensures.1 c.in_err-check_whole.ensures.first)
+    let d = c.into_plant-draft.result in
+    let table = c.table_within-times.ensures ∙ ap (λ stages. table_within (stays_within c.count_demands-jobs.result stages) c.args.times) c.as_slice-2.ensures in
+    let plant = c.in_ok-plant.ensures.plant ∙ ap (plant_with d _) table in
+    let counted = rw c.as_slice.ensures at c.in_ok-check_counts.ensures in
+    let whole = ap whole_refusals plant ∙ whole_refusals-counted d _ c.args.times c.count_demands-jobs.result c.count_demands-jobs.ensures counted in
+    rw (← c.into_plant-draft.ensures.plant)
+    (AnswersPlant-refused c.from_residual-in_err-check_whole.result (whole_refusals (plant_with d _ c.args.times)) (plant_with d _ c.args.times)
+    c.from_residual-in_err-check_whole.ensures.1
+    (λ ne. ap first (sym whole) ∙ c.in_err-check_whole.ensures.first ne))
+
+pub returns-clause-plant : goal.returns-clause-plant
+returns-clause-plant c =
+    let d = c.into_plant-draft.result in
+    let table = c.table_within-times.ensures ∙ ap (λ stages. table_within (stays_within c.count_demands-jobs.result stages) c.args.times) c.as_slice-2.ensures in
+    let plant = c.in_ok-plant.ensures.plant ∙ ap (plant_with d _) table in
+    let counted = rw c.as_slice.ensures at c.in_ok-check_counts.ensures in
+    let none = ap whole_refusals (sym plant) ∙ c.in_ok-check_whole.ensures.first in
+    rw (← c.into_plant-draft.ensures.plant)
+    (finished-counted d _ c.args.times c.count_demands-jobs.result c.count_demands-jobs.ensures counted none ∙ ap Ok (sym plant))
