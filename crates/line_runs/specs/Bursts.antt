@@ -1,17 +1,18 @@
 -- How far bursts lead a line, in whatever order its stations fire meanwhile.
-use Rattle.std.specs.Prelude.{◌≡◌, ℕ, ◌+◌, ◌*◌, ◌<◌, ◌≤◌, length}
+use Rattle.std.specs.Prelude.{◌≡◌, ℕ, ◌+◌, ◌*◌, ◌<◌, ◌≤◌, None, length}
 use Rattle.event_graph.specs.Network.{stations}
 use Rattle.event_graph.specs.State.{log}
 use Rattle.event_graph.specs.Firing.{CanFire}
 use Rattle.line_core.specs.Consistent.{IsFinished, fired}
 use Rattle.line_workers.specs.Line.{WorkLine, IsLine, LogsGrow}
 
--- each station that could fire has fired, and maybe more often; no date has changed
+-- some station has fired, and where no ring's room is bounded each that could fire has, and maybe more
+-- often; no date has changed
 pub record IsBurst (old new : WorkLine) : Type 0 where
   pub line : IsLine new
   pub frame : new ≡ record old { state = new.state; turns = new.turns }
   pub logs : LogsGrow old.live.graph old.state new.state
-  pub ready : (t : ℕ) → CanFire old.live.graph old.state t →
+  pub ready : old.room ≡ None → (t : ℕ) → CanFire old.live.graph old.state t →
       length (log old.state t) < length (log new.state t)
   pub some : fired old.state < fired new.state
   pub few : fired new.state ≤ fired old.state + 16 * stations old.live.graph

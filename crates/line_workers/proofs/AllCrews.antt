@@ -1,32 +1,32 @@
 -- The crews of a line as teams, and a meeting among them.
-use Rattle.std.proofs.Common.{◌≡◌, ℕ, ◌+◌, ◌-◌, ◌<◌, ◌≤◌, List, [], length, set, refl, ap, ◌∙◌, sym, subst, arith, ⊎_elim}
+use Rattle.std.proofs.Common.{◌≡◌, ℕ, ◌+◌, ◌-◌, ◌<◌, ◌≤◌, List, [], Option, length, set, refl, ap, ◌∙◌, sym, subst, arith, ⊎_elim}
 use Rattle.std.proofs.lemmas.Bool.{cases_eq}
 use Rattle.std.proofs.lemmas.List.{length-map, length-set, get_or-map, get_or-set_other, map-set}
 use Rattle.line_base.specs.declared.event.Parts.{Parts}
 use Rattle.event_graph.specs.Network.{stations, arc, arc_count, ins, outs}
 use Rattle.live_check.specs.Order.{LiveGraph, IsRanked}
-use Rattle.station_step.specs.declared.ends.Outlet.{Outlet}
-use Rattle.station_step.specs.Ends.{AreEnds}
+use Rattle.station_step.specs.Ends.{AreEnds, AreMet}
 use Rattle.station_step.specs.Input.{input_at}
 use Rattle.station_step.specs.Station.{WorkStation, outlet_at}
 use Rattle.line_workers.specs.Share.{worker_of, first_of}
 use Rattle.line_workers.specs.Team.{WorkTeam, IsTeam, member}
-use Rattle.line_workers.specs.Teams.{team_at, worker_at, station_of, place_in, outlet_on, IsJoined, AreTeams, IsMetOn, state_among}
+use Rattle.line_workers.specs.Teams.{team_at, worker_at, station_of, place_in, outlet_on, IsJoined, AreOfRoom, AreTeams, IsMetOn, state_among}
 use Rattle.line_workers.specs.Crew.{WorkCrew, with_team, teams_of}
 use Rattle.line_workers.specs.Work.{dates_of, turns_of, dates_made, turns_made, TeamsWorked}
-use Rattle.line_workers.specs.Meeting.{MetAt, MeetsOn}
+use Rattle.line_workers.specs.Meeting.{OutletMet, InletMet, MeetsOn}
 use Rattle.line_workers.specs.declared.link.Link.{Link}
 use Rattle.line_workers.specs.Link.{seat_of, link_of, seated_at, IsInside, IsSeat, IsRing, HaveMet}
-use Rattle.line_workers.specs.Crews.{crew_at, no_crew, live_of, graph_of, begun_of, AreCrews, IsSameCrew, AreSameCrews, IsMeeting}
+use Rattle.line_workers.specs.Crews.{crew_at, no_crew, live_of, graph_of, begun_of, room_of, AreCrews, IsSameCrew, AreSameCrews, IsMeeting}
 use Rattle.line_workers.proofs.Share.{first-le, next-above, first-rises, first-all, worker-below}
 use Rattle.line_workers.proofs.Places.{in-stands, out-stands}
 use Rattle.line_workers.proofs.Standing.{inputs-many, outlets-many}
-use Rattle.line_workers.proofs.Working.{idle_team, then_team, teams-worked, local_is_met}
+use Rattle.line_workers.proofs.Working.{idle_team, then_team, teams-worked, rooms-worked, local_is_met}
 use Rattle.line_workers.proofs.Meeting.{meets_on}
 use Rattle.line_workers.proofs.Totals.{sum_by-map, of_worker, sum-among}
 use Rattle.line_core.specs.Consistent.{fired}
 use Rattle.line_workers.specs.Line.{turns_among}
 use Rattle.std.specs.List.{sum_by, sum, range_with_len}
+use Rattle.std.specs.Prelude.{IfSome}
 
 pub count-teams : (crews : List WorkCrew) → length (teams_of crews) ≡ length crews
 count-teams crews = length-map crews (λ (c : WorkCrew). c.team)
@@ -178,41 +178,73 @@ module _ (crews : List WorkCrew) (are : AreCrews crews) where
 
     -- and its ends have met
     module _ (new : List WorkCrew) (met : HaveMet (link_of (graph_of crews) (length crews) a) crews new) where
+      abbrev from_seat : ℕ
+      from_seat = worker_of (length crews) (stations (graph_of crews)) (arc (graph_of crews) a).from
+
       abbrev to_seat : ℕ
       to_seat = worker_of (length crews) (stations (graph_of crews)) (arc (graph_of crews) a).to
 
-      teams-new : teams_of new ≡ set (teams_of crews) to_seat (crew_at new to_seat).team
-      teams-new = ap teams_of met.only ∙ map-set (λ (c : WorkCrew). c.team) crews to_seat (crew_at new to_seat)
+      teams-new : teams_of new ≡ set (set (teams_of crews) from_seat (crew_at new from_seat).team) to_seat (crew_at new to_seat).team
+      teams-new =
+          let team : WorkCrew → WorkTeam = λ (c : WorkCrew). c.team in
+          ap teams_of met.only
+          ∙ map-set team (set crews from_seat (crew_at new from_seat)) to_seat (crew_at new to_seat)
+          ∙ ap (λ l. set l to_seat (crew_at new to_seat).team) (map-set team crews from_seat (crew_at new from_seat))
 
-      pub meets_there : MeetsOn (graph_of crews) (teams_of crews) (teams_of new) a
-      meets_there =
+      pub meets_there : (IsInside (graph_of crews) (length crews) a → ⊥) → MeetsOn (graph_of crews) (teams_of crews) (teams_of new) a
+      meets_there apart =
           let teams = teams_of crews in
+          let T = stations g in
+          let from = (arc g a).from in
           let to = (arc g a).to in
-          let team = (crew_at new to_seat).team in
+          let first = (crew_at new from_seat).team in
+          let last = (crew_at new to_seat).team in
+          let k = place_in (outs g from) a in
           let l = place_in (ins g to) a in
-          let Met : Outlet → ℕ → ℕ → WorkTeam → Type 0 = λ o n w old. MetAt o (to - first_of n (stations g) w) l old team in
-          let at_outlet : Met (outlet_on g teams a) (length crews) to_seat (crew_at crews to_seat).team =
-          subst (λ (s : WorkStation). Met (outlet_at s.outlets (place_in (outs g (arc g a).from) a)) (length crews) to_seat (crew_at crews to_seat).team) (seated (arc g a).from from_there) met.met in
-          let at_team : Met (outlet_on g teams a) (length crews) to_seat (team_at teams to_seat) =
-          subst (Met (outlet_on g teams a) (length crews) to_seat) (sym (team_at-crews crews to_seat (worker_there to to_there))) at_outlet in
-          let at_count : Met (outlet_on g teams a) (length teams) (worker_at g teams to) (team_at teams (worker_at g teams to)) =
-          subst (λ n. Met (outlet_on g teams a) n (worker_of n (stations g) to) (team_at teams (worker_of n (stations g) to))) (sym (count-teams crews)) at_team in
-          let same : set teams (worker_at g teams to) team ≡ teams_of new = ap (λ w. set teams w team) (worker-is to to_there) ∙ sym teams-new in
+          let two : worker_at g teams from ≡ worker_at g teams to → ⊥ =
+          λ same. apart (sym (worker-is from from_there) ∙ same ∙ worker-is to to_there) in
+          let Puts : ℕ → WorkTeam → Type 0 = λ n old. OutletMet (from - first_of n T (worker_of n T from)) k old first in
+          let Takes : ℕ → WorkTeam → Type 0 = λ n old. InletMet (to - first_of n T (worker_of n T to)) l old last in
+          let Meet : ℕ → Type 0 =
+          λ n. AreMet (outlet_at (member first.stations (from - first_of n T (worker_of n T from))).outlets k) (input_at (member last.stations (to - first_of n T (worker_of n T to))).inputs l).inlet in
+          let puts : Puts (length crews) (team_at teams from_seat) =
+          subst (Puts (length crews)) (sym (team_at-crews crews from_seat (worker_there from from_there))) met.from in
+          let takes : Takes (length crews) (team_at teams to_seat) =
+          subst (Takes (length crews)) (sym (team_at-crews crews to_seat (worker_there to to_there))) met.to in
+          let all = sym (count-teams crews) in
+          let same : set (set teams (worker_at g teams from) first) (worker_at g teams to) last ≡ teams_of new =
+          ap (λ v. set (set teams v first) (worker_at g teams to) last) (worker-is from from_there)
+          ∙ ap (λ w. set (set teams from_seat first) w last) (worker-is to to_there)
+          ∙ sym teams-new in
           subst (λ (ts : List WorkTeam). MeetsOn g teams ts a) same (
-          meets_on g (begun_of crews) teams ranked.sound any crews_are_teams a listed team at_count)
+          meets_on g (begun_of crews) teams ranked.sound any crews_are_teams a listed two first last
+          (subst (λ n. Puts n (team_at teams (worker_of n T from))) all puts)
+          (subst (λ n. Takes n (team_at teams (worker_of n T to))) all takes)
+          (subst Meet all met.met))
 
       pub same_there : AreSameCrews crews new
       same_there =
           let Same : ℕ → Type 0 = λ v. IsSameCrew (crew_at crews v) (crew_at new v) in
+          let first = crew_at new from_seat in
+          let last = crew_at new to_seat in
           record {
-            count = ap (λ (l : List WorkCrew). length l) met.only ∙ length-set crews to_seat (crew_at new to_seat);
+            count =
+                ap (λ (l : List WorkCrew). length l) met.only
+                ∙ length-set (set crews from_seat first) to_seat last
+                ∙ length-set crews from_seat first;
             each = λ v low.
                 ⊎_elim
-                (λ here. subst Same (sym here) met.same)
+                (λ here. subst Same (sym here) met.to_same)
                 (λ apart.
+                ⊎_elim
+                (λ here. subst Same (sym here) met.from_same)
+                (λ other.
                 let else : crew_at new v ≡ crew_at crews v =
-                ap (λ (l : List WorkCrew). crew_at l v) met.only ∙ get_or-set_other crews to_seat v (crew_at new to_seat) no_crew apart in
+                ap (λ (l : List WorkCrew). crew_at l v) met.only
+                ∙ get_or-set_other (set crews from_seat first) to_seat v last no_crew apart
+                ∙ get_or-set_other crews from_seat v first no_crew other in
                 subst (IsSameCrew (crew_at crews v)) (sym else) (record { crew = are.each v low; frame = refl }))
+                (cases_eq v from_seat))
                 (cases_eq v to_seat);
           }
 
@@ -223,6 +255,7 @@ module _ (crews : List WorkCrew) (are : AreCrews crews) where
       let back = λ (v : ℕ) (low : v < length new). (let at : v < length crews = omega (arith, low, same.count) in at) in
       let live_same : live_of new ≡ live_of crews = ap (λ (c : WorkCrew). c.live) (frame 0 first_there) in
       let begun_same : begun_of new ≡ begun_of crews = ap (λ (c : WorkCrew). c.begun) (frame 0 first_there) in
+      let room_same : room_of new ≡ room_of crews = ap (λ (c : WorkCrew). c.room) (frame 0 first_there) in
       let g_same = ap (λ (l : LiveGraph). l.graph) live_same in
       let teams = teams-worked g (begun_of crews) (teams_of crews) (teams_of new) any crews_are_teams worked ranked.sound
       (λ w low.
@@ -248,6 +281,12 @@ module _ (crews : List WorkCrew) (are : AreCrews crews) where
         joined =
             subst (λ gr. (a : ℕ) → a < arc_count gr → IsJoined gr (begun_of new) (teams_of new) a) (sym g_same) (
             subst (λ b. (a : ℕ) → a < arc_count g → IsJoined g b (teams_of new) a) (sym begun_same) teams.joined);
+        kinds = λ v low. ap (λ (c : WorkCrew). c.room) (frame v (back v low)) ∙ are.kinds v (back v low) ∙ sym room_same;
+        some_room = subst (λ (r : Option ℕ). IfSome r (λ n. 1 ≤ n)) (sym room_same) are.some_room;
+        rooms =
+            subst (λ gr. AreOfRoom (room_of new) gr (teams_of new)) (sym g_same) (
+            subst (λ r. AreOfRoom r g (teams_of new)) (sym room_same) (
+            rooms-worked g (begun_of crews) (teams_of crews) (teams_of new) any crews_are_teams worked ranked.sound (room_of crews) are.rooms));
       }
 
 -- ---- as the code has them
@@ -277,11 +316,21 @@ module _ (crews : List WorkCrew) (are : AreCrews crews) (live : LiveGraph) (made
       met_here : HaveMet (link_of (graph_of crews) (length crews) a) crews new
       met_here = subst (λ (l : Link). HaveMet l crews new) link-is met
 
-      pub met_between : MeetsOn live.graph (teams_of crews) (teams_of new) a
-      met_between = subst (Meets new) (sym made_for) (meets_there crews are a there_a new met_here)
+      pub met_between : (IsInside live.graph (length crews) a → ⊥) → MeetsOn live.graph (teams_of crews) (teams_of new) a
+      met_between apart =
+          subst (Meets new) (sym made_for) (
+          meets_there crews are a there_a new met_here (λ inside. apart (subst (λ (v : LiveGraph). IsInside v.graph (length crews) a) (sym made_for) inside)))
 
       pub same_after : AreSameCrews crews new
       same_after = same_there crews are a there_a new met_here
+
+  -- one crew has both stations of each arc, so its queue is one of the shelf
+  pub alone_is_met : length crews ≡ 1 → IsMetOn live.graph (teams_of crews) a
+  alone_is_met one =
+      let starts = worker_there crews are (arc (graph_of crews) a).from (from_there crews are a there_a) in
+      let ends = worker_there crews are (arc (graph_of crews) a).to (to_there crews are a there_a) in
+      let inside : IsInside (graph_of crews) (length crews) a = omega (arith, one, starts, ends) in
+      subst (λ (v : LiveGraph). IsMetOn v.graph (teams_of crews) a) (sym made_for) (stays_met crews are a there_a inside).met
 
 -- crews to which nothing happened
 pub crews-stay : (crews : List WorkCrew) → AreCrews crews → AreSameCrews crews crews

@@ -16,6 +16,7 @@ use Rattle.line_workers.specs.Crew.{WorkCrew, IsCrew, with_team}
 use Rattle.line_workers.specs.Work.{dates_of, TeamWorked, TeamsWorked, SteppedAt, IsSweeping, IsAlone}
 use Rattle.line_workers.proofs.Share.{first-zero, first-all, worker-below}
 use Rattle.line_workers.proofs.Standing.{stands_for_reached, log-among, can_fire_is_ready}
+use Rattle.line_workers.proofs.Spacing.{spaces, inside-space}
 use Rattle.line_workers.proofs.Sweeping.{listed-at_place, place-of_listed}
 use Rattle.line_workers.proofs.Working.{local_is_met, teams-worked}
 
@@ -130,7 +131,10 @@ module _ (c : WorkCrew) (is : IsCrew c) (one : c.workers ≡ 1) where
             (cases_lt (place_in c.order u) p);
       } in
       let can = can_fire_next g c.live.places state times at t is.ranked (is_reached g state sound is.ranked.limits reached) round more t_there refl in
-      let ready = can_fire_is_ready g c.begun teams sound some are met t can in
+      let space = spaces g c.begun teams sound some are t t_there (λ a listed _.
+      inside-space g c.begun teams sound some are a listed
+      (one-worker (arc g a).from (sound.starts_exist a listed) ∙ sym (one-worker (arc g a).to (sound.ends_exist a listed)))) in
+      let ready = can_fire_is_ready g c.begun teams sound some are met t can space in
       subst (λ s. IsReady c.team.shelf s) (station-alone t t_there) (
       subst (λ shelf. IsReady shelf (station_of g teams t)) (shelf-alone t t_there) ready)
 

@@ -54,7 +54,10 @@ crew_fields =
                       search crosses,
                       (
                         search crosses,
-                        tt,
+                        (
+                          search crosses,
+                          tt,
+                        ),
                       ),
                     ),
                   ),

@@ -1,5 +1,5 @@
 -- The ends of one more arc are laid down: those of the arcs before it stay where they are, and no queue is used twice.
-use Rattle.std.proofs.Common.{◌≡◌, ◌≢◌, ℕ, ◌+◌, ◌^◌, ◌<◌, ◌≤◌, false, List, [], ◌∷◌, ◌++◌, Some, Result, Ok, Err, OnOk, length, get_or, replicate, refl, sym, ap, ◌∙◌, subst, arith, ⊎_elim}
+use Rattle.std.proofs.Common.{◌≡◌, ◌≢◌, ℕ, ◌+◌, ◌^◌, ◌<◌, ◌≤◌, false, List, [], ◌∷◌, ◌++◌, Option, Some, Result, Ok, Err, OnOk, length, get_or, replicate, refl, sym, ap, ◌∙◌, subst, arith, ⊎_elim}
 use Rattle.line_base.specs.declared.event.Arc.{Arc}
 use Rattle.std.proofs.lemmas.Bool.{cases_eq, cases_lt}
 use Rattle.std.proofs.lemmas.List.{length-set, length-replicate, get_or-replicate, get_or_past}
@@ -11,7 +11,7 @@ use Rattle.station_step.specs.declared.ends.Outlet.{Outlet}
 use Rattle.station_step.specs.declared.ends.Inlet.TheVariants as inlet
 use Rattle.station_step.specs.declared.ends.Outlet.TheVariants as outlet
 use Rattle.station_step.specs.Ends.{outlet_queue, inlet_queue}
-use Rattle.line_workers.specs.Making.{HasRing, HasPlain, QueueEnds, outlets_at, inlets_at, firsts_at, first_tokens, with_one, with_ends, first_ins, first_outs, outlet_of, inlet_of, putter, taker, HasEnds, AreLaid}
+use Rattle.line_workers.specs.Making.{AreNewEnds, HasRing, HasPlain, QueueEnds, outlets_at, inlets_at, firsts_at, first_tokens, with_one, with_ends, first_ins, first_outs, outlet_of, inlet_of, putter, taker, HasEnds, AreLaid}
 use Rattle.line_workers.proofs.ArcOrder.{length-first_ins-here, length-first_ins-other, length-first_outs-here, length-first_outs-other, first_ins-below, first_outs-below, first_ins-none, first_outs-none}
 use Rattle.line_workers.proofs.LaidLists.{get_or-with_one, last-with_one, length-with_one-here, length-with_one-other, length-with_one-le}
 
@@ -19,17 +19,27 @@ use Rattle.line_workers.proofs.LaidLists.{get_or-with_one, last-with_one, length
 
 module _ (g : Parts) (begun : State) (a q : ℕ) where
   -- an outlet on a ring has no queue of the shelf
-  pub ring-no_queue : (o : Outlet) (i : Inlet) → HasRing g begun a o i → outlet_queue o ≡ Some q → ⊥
+  pub ring-no_queue : (o : Outlet) (i : Inlet) → AreNewEnds g begun a o i → outlet_queue o ≡ Some q → ⊥
   ring-no_queue (outlet.Ring put) (inlet.Ring take) has same = cc
   ring-no_queue (outlet.Ring put) (inlet.Local r) has same = absurd has
   ring-no_queue (outlet.Local p) (inlet.Ring take) has same = absurd has
   ring-no_queue (outlet.Local p) (inlet.Local r) has same = absurd has
+  ring-no_queue (outlet.Ring put) (inlet.Room take) has same = absurd has
+  ring-no_queue (outlet.Room put) (inlet.Ring take) has same = absurd has
+  ring-no_queue (outlet.Room put) (inlet.Room take) has same = cc
+  ring-no_queue (outlet.Room put) (inlet.Local r) has same = absurd has
+  ring-no_queue (outlet.Local p) (inlet.Room take) has same = absurd has
 
-  pub ring-no_queue_in : (o : Outlet) (i : Inlet) → HasRing g begun a o i → inlet_queue i ≡ Some q → ⊥
+  pub ring-no_queue_in : (o : Outlet) (i : Inlet) → AreNewEnds g begun a o i → inlet_queue i ≡ Some q → ⊥
   ring-no_queue_in (outlet.Ring put) (inlet.Ring take) has same = cc
   ring-no_queue_in (outlet.Ring put) (inlet.Local r) has same = absurd has
   ring-no_queue_in (outlet.Local p) (inlet.Ring take) has same = absurd has
   ring-no_queue_in (outlet.Local p) (inlet.Local r) has same = absurd has
+  ring-no_queue_in (outlet.Ring put) (inlet.Room take) has same = absurd has
+  ring-no_queue_in (outlet.Room put) (inlet.Ring take) has same = absurd has
+  ring-no_queue_in (outlet.Room put) (inlet.Room take) has same = cc
+  ring-no_queue_in (outlet.Room put) (inlet.Local r) has same = absurd has
+  ring-no_queue_in (outlet.Local p) (inlet.Room take) has same = absurd has
 
   -- a queue of the shelf is there
   pub plain-within : (firsts : List (List ℕ)) (o : Outlet) (i : Inlet) → HasPlain begun firsts a o i → outlet_queue o ≡ Some q → q < length firsts
@@ -37,6 +47,11 @@ module _ (g : Parts) (begun : State) (a q : ℕ) where
   plain-within firsts (outlet.Local p) (inlet.Ring take) has same = absurd has
   plain-within firsts (outlet.Ring put) (inlet.Ring take) has same = absurd has
   plain-within firsts (outlet.Ring put) (inlet.Local r) has same = absurd has
+  plain-within firsts (outlet.Ring put) (inlet.Room take) has same = absurd has
+  plain-within firsts (outlet.Room put) (inlet.Ring take) has same = absurd has
+  plain-within firsts (outlet.Room put) (inlet.Room take) has same = absurd has
+  plain-within firsts (outlet.Room put) (inlet.Local r) has same = absurd has
+  plain-within firsts (outlet.Local p) (inlet.Room take) has same = absurd has
 
   -- and both ends have it
   pub plain-outlet : (firsts : List (List ℕ)) (o : Outlet) (i : Inlet) → HasPlain begun firsts a o i → inlet_queue i ≡ Some q → outlet_queue o ≡ Some q
@@ -44,6 +59,11 @@ module _ (g : Parts) (begun : State) (a q : ℕ) where
   plain-outlet firsts (outlet.Local p) (inlet.Ring take) has same = absurd has
   plain-outlet firsts (outlet.Ring put) (inlet.Ring take) has same = absurd has
   plain-outlet firsts (outlet.Ring put) (inlet.Local r) has same = absurd has
+  plain-outlet firsts (outlet.Ring put) (inlet.Room take) has same = absurd has
+  plain-outlet firsts (outlet.Room put) (inlet.Ring take) has same = absurd has
+  plain-outlet firsts (outlet.Room put) (inlet.Room take) has same = absurd has
+  plain-outlet firsts (outlet.Room put) (inlet.Local r) has same = absurd has
+  plain-outlet firsts (outlet.Local p) (inlet.Room take) has same = absurd has
 
 -- the first tokens of a shelf on which every queue of another stands at its place
 pub record Extends (firsts longer : List (List ℕ)) : Type 0 where
@@ -59,6 +79,11 @@ plain-extends begun a firsts longer (outlet.Local p) (inlet.Local r) more has = 
 plain-extends begun a firsts longer (outlet.Local p) (inlet.Ring take) more has = absurd has
 plain-extends begun a firsts longer (outlet.Ring put) (inlet.Ring take) more has = absurd has
 plain-extends begun a firsts longer (outlet.Ring put) (inlet.Local r) more has = absurd has
+plain-extends begun a firsts longer (outlet.Ring put) (inlet.Room take) more has = absurd has
+plain-extends begun a firsts longer (outlet.Room put) (inlet.Ring take) more has = absurd has
+plain-extends begun a firsts longer (outlet.Room put) (inlet.Room take) more has = absurd has
+plain-extends begun a firsts longer (outlet.Room put) (inlet.Local r) more has = absurd has
+plain-extends begun a firsts longer (outlet.Local p) (inlet.Room take) more has = absurd has
 
 -- ---- one arc more
 
@@ -67,7 +92,7 @@ pub queue-within : (g : Parts) (begun : State) (workers : ℕ) (ends : QueueEnds
 queue-within g begun workers ends a q has same =
     ⊎_elim
     (λ one. plain-within g begun a q (firsts_at ends (putter g workers a)) (outlet_of g ends a) (inlet_of g ends a) (has.shelf one) same)
-    (λ two. absurd (ring-no_queue g begun a q (outlet_of g ends a) (inlet_of g ends a) (has.ring two) same))
+    (λ two. absurd (ring-no_queue g begun a q (outlet_of g ends a) (inlet_of g ends a) (has.ring two).ends same))
     (cases_eq (putter g workers a) (taker g workers a))
 
 module _ (g : Parts) (begun : State) (workers : ℕ) (ends : QueueEnds) (n : ℕ) (graph : IsGraph g) (listed : n < arc_count g) (laid : AreLaid g begun workers ends n) (shelves : List (List (List ℕ))) (out : Outlet) (into : Inlet) where
@@ -146,7 +171,7 @@ module _ (g : Parts) (begun : State) (workers : ℕ) (ends : QueueEnds) (n : ℕ
       omega (arith, length-with_one-other ends.inlets to into t other, length-first_ins-other g n t other, laid.inlets t there))
       (cases_eq t to)
 
-  module _ (count : length shelves ≡ workers) (few : (w : ℕ) → length (get_or shelves w []) ≤ n + 1) (small : (w q : ℕ) → q < length (get_or shelves w []) → length (first_tokens (get_or shelves w []) q) + jobs g < 2 ^ 32) (extends : (w : ℕ) → Extends (firsts_at ends w) (get_or shelves w [])) (ring : putter g workers n ≢ taker g workers n → HasRing g begun n out into) (plain : putter g workers n ≡ taker g workers n → HasPlain begun (get_or shelves (putter g workers n) []) n out into) (fresh : (a q : ℕ) → a < n → putter g workers a ≡ putter g workers n → outlet_queue (outlet_of g ends a) ≡ Some q → outlet_queue out ≢ Some q) where
+  module _ (count : length shelves ≡ workers) (few : (w : ℕ) → length (get_or shelves w []) ≤ n + 1) (small : (w q : ℕ) → q < length (get_or shelves w []) → length (first_tokens (get_or shelves w []) q) + jobs g < 2 ^ 32) (extends : (w : ℕ) → Extends (firsts_at ends w) (get_or shelves w [])) (ring : putter g workers n ≢ taker g workers n → HasRing ends.room g begun n out into) (plain : putter g workers n ≡ taker g workers n → HasPlain begun (get_or shelves (putter g workers n) []) n out into) (fresh : (a q : ℕ) → a < n → putter g workers a ≡ putter g workers n → outlet_queue (outlet_of g ends a) ≡ Some q → outlet_queue out ≢ Some q) where
     before : (a : ℕ) → a < n → HasEnds g begun workers more a
     before a low =
         let has = laid.each a low in
@@ -154,8 +179,8 @@ module _ (g : Parts) (begun : State) (workers : ℕ) (ends : QueueEnds) (n : ℕ
         let in_is = sym (inlet_of-before a low) in
         record {
           ring = λ two.
-              subst (λ (o : Outlet). HasRing g begun a o (inlet_of g more a)) out_is (
-              subst (λ (i : Inlet). HasRing g begun a (outlet_of g ends a) i) in_is (has.ring two));
+              subst (λ (o : Outlet). HasRing ends.room g begun a o (inlet_of g more a)) out_is (
+              subst (λ (i : Inlet). HasRing ends.room g begun a (outlet_of g ends a) i) in_is (has.ring two));
           shelf = λ one.
               let longer = get_or shelves (putter g workers a) [] in
               subst (λ (o : Outlet). HasPlain begun longer a o (inlet_of g more a)) out_is (
@@ -169,8 +194,8 @@ module _ (g : Parts) (begun : State) (workers : ℕ) (ends : QueueEnds) (n : ℕ
         let in_is = sym inlet_of-last in
         record {
           ring = λ two.
-              subst (λ (o : Outlet). HasRing g begun n o (inlet_of g more n)) out_is (
-              subst (λ (i : Inlet). HasRing g begun n out i) in_is (ring two));
+              subst (λ (o : Outlet). HasRing ends.room g begun n o (inlet_of g more n)) out_is (
+              subst (λ (i : Inlet). HasRing ends.room g begun n out i) in_is (ring two));
           shelf = λ one.
               let longer = get_or shelves (putter g workers n) [] in
               subst (λ (o : Outlet). HasPlain begun longer n o (inlet_of g more n)) out_is (
@@ -220,7 +245,7 @@ module _ (g : Parts) (begun : State) (workers : ℕ) (ends : QueueEnds) (n : ℕ
 
 -- ---- the two kinds of arcs, and none
 
-pub laid_ring : (g : Parts) (begun : State) (workers : ℕ) (ends : QueueEnds) (n : ℕ) (out : Outlet) (into : Inlet) → IsGraph g → n < arc_count g → AreLaid g begun workers ends n → putter g workers n ≢ taker g workers n → HasRing g begun n out into → AreLaid g begun workers (with_ends ends (arc g n).from (arc g n).to out into) (n + 1)
+pub laid_ring : (g : Parts) (begun : State) (workers : ℕ) (ends : QueueEnds) (n : ℕ) (out : Outlet) (into : Inlet) → IsGraph g → n < arc_count g → AreLaid g begun workers ends n → putter g workers n ≢ taker g workers n → HasRing ends.room g begun n out into → AreLaid g begun workers (with_ends ends (arc g n).from (arc g n).to out into) (n + 1)
 laid_ring g begun workers ends n out into graph listed laid two has =
     laid_more
     g
@@ -240,7 +265,7 @@ laid_ring g begun workers ends n out into graph listed laid two has =
     (λ w. record { there = λ q low. low; queues = λ q low. refl })
     (λ _. has)
     (λ one. absurd (two one))
-    (λ a q low one had at_out. ring-no_queue g begun n q out into has at_out)
+    (λ a q low one had at_out. ring-no_queue g begun n q out into has.ends at_out)
 
 pub laid_plain : (g : Parts) (begun : State) (workers : ℕ) (ends : QueueEnds) (n w number : ℕ) (tokens : List ℕ) → IsGraph g → n < arc_count g → AreLaid g begun workers ends n → w < workers → putter g workers n ≡ w → taker g workers n ≡ w → tokens ≡ place begun n → length tokens + jobs g < 2 ^ 32 → number ≡ length (firsts_at ends w) → AreLaid g begun workers (with_ends (record ends { shelves = with_one ends.shelves w tokens }) (arc g n).from (arc g n).to (outlet.Local number) (inlet.Local number)) (n + 1)
 laid_plain g begun workers ends n w number tokens graph listed laid w_there puts takes are short numbered =
@@ -323,8 +348,8 @@ module _ (g : Parts) (begun : State) (workers : ℕ) (ends : QueueEnds) (shelves
   }
 
 -- equal parts make equal ends
-pub ends-same : (o o' : List (List Outlet)) (i i' : List (List Inlet)) (s s' : List (List (List ℕ))) → o ≡ o' → i ≡ i' → s ≡ s' → (let left : QueueEnds = record { outlets = o; inlets = i; shelves = s } in let right : QueueEnds = record { outlets = o'; inlets = i'; shelves = s' } in left ≡ right)
-ends-same o o' i i' s s' outs ins shelves = cc
+pub ends-same : (o o' : List (List Outlet)) (i i' : List (List Inlet)) (s s' : List (List (List ℕ))) (r r' : Option ℕ) → o ≡ o' → i ≡ i' → s ≡ s' → r ≡ r' → (let left : QueueEnds = record { outlets = o; inlets = i; shelves = s; room = r } in let right : QueueEnds = record { outlets = o'; inlets = i'; shelves = s'; room = r' } in left ≡ right)
+ends-same o o' i i' s s' r r' outs ins shelves room = cc
 
 -- ---- as the code has it
 
@@ -333,7 +358,7 @@ pub on_ok : {T E : Type 0} (r : Result T E) (P Q : Type 0) → (P → Q) → OnO
 on_ok (Ok x) P Q gives has = gives has
 on_ok (Err e) P Q gives has = tt
 
-pub laid_ring_read : (g : Parts) (begun : State) (workers : ℕ) (ends new : QueueEnds) (n : ℕ) (read : Arc) (out : Outlet) (into : Inlet) → IsGraph g → n < arc_count g → read ≡ arc g n → AreLaid g begun workers ends n → putter g workers n ≢ taker g workers n → HasRing g begun n out into → new ≡ with_ends ends read.from read.to out into → AreLaid g begun workers new (n + 1)
+pub laid_ring_read : (g : Parts) (begun : State) (workers : ℕ) (ends new : QueueEnds) (n : ℕ) (read : Arc) (out : Outlet) (into : Inlet) → IsGraph g → n < arc_count g → read ≡ arc g n → AreLaid g begun workers ends n → putter g workers n ≢ taker g workers n → HasRing ends.room g begun n out into → new ≡ with_ends ends read.from read.to out into → AreLaid g begun workers new (n + 1)
 laid_ring_read g begun workers ends new n read out into graph listed same laid two has new_is =
     subst (λ (e : QueueEnds). AreLaid g begun workers e (n + 1)) (sym (new_is ∙ ap (λ (r : Arc). with_ends ends r.from r.to out into) same)) (
     laid_ring g begun workers ends n out into graph listed laid two has)

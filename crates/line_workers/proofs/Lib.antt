@@ -3,6 +3,7 @@ pub mod Grown
 pub mod Share
 pub mod Places
 pub mod Standing
+pub mod Spacing
 pub mod Stepping
 pub mod Working
 pub mod Sweeping
@@ -19,7 +20,6 @@ pub mod MadeStations
 pub mod NewTeams
 pub mod Splitting
 pub mod AllCrews
-pub mod Turned
 pub mod Totals
 pub mod AllBurst
 pub mod LineBurst

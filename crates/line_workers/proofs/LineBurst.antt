@@ -1,12 +1,12 @@
 -- What a burst means for the line: firings, steps, progress.
-use Rattle.std.proofs.Common.{◌≡◌, ℕ, zero, suc, ◌+◌, ◌-◌, ◌*◌, ◌^◌, ◌<◌, ◌≤◌, ◌↔◌, List, map, take, min, length, get_or, zero-add, refl, ap, ◌∙◌, sym, subst, arith, ⊎_elim}
+use Rattle.std.proofs.Common.{◌≡◌, ℕ, zero, suc, ◌+◌, ◌-◌, ◌*◌, ◌^◌, ◌<◌, ◌≤◌, ◌↔◌, List, Option, None, map, take, min, length, get_or, zero-add, refl, ap, ◌∙◌, sym, subst, arith, ⊎_elim}
 use Rattle.std.specs.List.{sum_by, sum, range_with_len, All}
 use Rattle.std.proofs.lemmas.Bool.{cases_lt}
 use Rattle.std.proofs.lemmas.List.{length-take, get_or_default}
 use Rattle.std.proofs.lemmas.List.FromFn.{map-range_with_len_more, length-map-range_with_len, get_or-map-range_with_len}
 use Rattle.std.proofs.lemmas.List.Sums.{sum_by_push}
 use Rattle.line_base.specs.declared.event.Parts.{Parts}
-use Rattle.event_graph.specs.Network.{stations, jobs}
+use Rattle.event_graph.specs.Network.{stations, jobs, arc, arc_count}
 use Rattle.event_graph.specs.State.{log}
 use Rattle.event_graph.specs.Firing.{CanFire}
 use Rattle.event_graph.specs.Reached.{Reached}
@@ -15,18 +15,20 @@ use Rattle.line_core.specs.Consistent.{IsConsistent, IsFinished, fired}
 use Rattle.line_core.specs.Round.{HasFired}
 use Rattle.line_core.proofs.Consistency.{reached_is_consistent}
 use Rattle.line_core.proofs.Bounds.{fired-le}
-use Rattle.line_core.proofs.Progress.{some_can_fire}
 use Rattle.line_core.proofs.Runs.{is_reached}
+use Rattle.station_step.specs.Ends.{HasSpace}
 use Rattle.line_workers.specs.Team.{WorkTeam, member}
 use Rattle.line_workers.specs.Share.{worker_of, first_of}
-use Rattle.line_workers.specs.Teams.{station_of, AreTeams, AreAllMet, state_among}
+use Rattle.line_workers.specs.Teams.{station_of, outlet_on, AreOfRoom, AreTeams, AreAllMet, state_among}
 use Rattle.line_workers.specs.Crew.{WorkCrew, teams_of}
 use Rattle.line_workers.specs.Work.{dates_of, turns_of, TurnsBelow}
-use Rattle.line_workers.specs.Crews.{crew_at, no_crew, live_of, graph_of, begun_of, AreCrews}
+use Rattle.line_workers.specs.Crews.{crew_at, no_crew, live_of, graph_of, begun_of, room_of, AreCrews}
 use Rattle.line_workers.specs.Burst.{AllMade, EachMade, CrewsBurst}
-use Rattle.line_workers.specs.Line.{WorkLine, turns_among, line_of, run_in, KeepsPace, AreAtRest, IsLine, LogsGrow}
+use Rattle.line_workers.specs.Line.{WorkLine, turns_among, line_of, run_in, KeepsPace, AreAtRest, IsLine, IsWithinRooms, LogsGrow}
 use Rattle.line_workers.proofs.AllCrews.{ranked, crews_are_teams, seat_there, seated, of_seat}
 use Rattle.line_workers.proofs.Standing.{log-among, stands_for_reached, can_fire_is_ready}
+use Rattle.line_workers.proofs.Spacing.{spaces, free-spaces, few-spaces, first_can_fire}
+use Rattle.line_workers.proofs.Lines.{within_rooms}
 
 -- ---- totals over the numbers below n
 
@@ -80,7 +82,7 @@ pub record LineBurst (old new : WorkLine) (f s : ℕ) : Type 0 where
   pub steps : sum new.turns ≡ sum old.turns + s
   pub at_most : f ≤ s
   pub few : s ≤ 16 * stations old.live.graph
-  pub ready : (t : ℕ) → CanFire old.live.graph old.state t → length (log old.state t) < length (log new.state t)
+  pub ready : old.room ≡ None → (t : ℕ) → CanFire old.live.graph old.state t → length (log old.state t) < length (log new.state t)
   pub idle : (f ≡ 0) ↔ IsFinished old.live.graph old.state
   pub rest : IsFinished old.live.graph old.state → s ≡ 0
   pub alone : (times : ℕ) → old.workers ≡ 1 → HasFired (run_in old) times → HasFired (run_in new) (min (times + 16) (jobs old.live.graph))
@@ -153,6 +155,7 @@ module _ (old new : List WorkCrew) (made : ℕ) (rest : AreAtRest old made) (b :
     state = state_among (graph_of old) (teams_of new);
     turns = turns_among (graph_of old) (teams_of new);
     workers = length old;
+    room = room_of old;
     made = made;
   }
 
@@ -184,8 +187,9 @@ module _ (old new : List WorkCrew) (made : ℕ) (rest : AreAtRest old made) (b :
 
   pub line-seen : line_of new made ≡ seen
   line-seen =
-      ap (λ (l : LiveGraph). record { live = l; state = state_among l.graph (teams_of new); turns = turns_among l.graph (teams_of new); workers = length new; made = made }) live_same
-      ∙ ap (λ n. record seen { workers = n }) b.same.count
+      ap (λ (l : LiveGraph). record { live = l; state = state_among l.graph (teams_of new); turns = turns_among l.graph (teams_of new); workers = length new; room = room_of new; made = made }) live_same
+      ∙ ap (λ n. record seen { workers = n; room = room_of new }) b.same.count
+      ∙ ap (λ (r : Option ℕ). record seen { room = r }) (ap (λ (c : WorkCrew). c.room) (b.same.each 0 first).frame)
 
   begun_reached : Reached g (begun_of old)
   begun_reached = (are.each 0 first).reached
@@ -230,16 +234,31 @@ module _ (old new : List WorkCrew) (made : ℕ) (rest : AreAtRest old made) (b :
     turns_is : total U' (stations g) ≡ total U (stations g) + s
     turns_is = omega (arith, steps_is, turns-total g (teams_of old), turns-total g (teams_of new))
 
-    fires : (t : ℕ) → CanFire g (state_among g (teams_of old)) t → D t < D' t
-    fires t can =
-        (b.each t can.exists).fired (can_fire_is_ready g (begun_of old) (teams_of old) ranks.sound some teams_old rest.met t can)
+    -- a station that can fire does, where its outlets have space
+    fires : (t : ℕ) → CanFire g (state_among g (teams_of old)) t → ((a : ℕ) → a < arc_count g → (arc g a).from ≡ t → HasSpace (outlet_on g (teams_of old) a)) → D t < D' t
+    fires t can space =
+        (b.each t can.exists).fired (
+        can_fire_is_ready g (begun_of old) (teams_of old) ranks.sound some teams_old rest.met t can (
+        spaces g (begun_of old) (teams_of old) ranks.sound some teams_old t can.exists space))
+
+    fires_freely : room_of old ≡ None → (t : ℕ) → CanFire g (state_among g (teams_of old)) t → D t < D' t
+    fires_freely free t can =
+        fires t can (λ a listed _.
+        free-spaces g (begun_of old) (teams_of old) ranks.sound some teams_old (subst (λ (r : Option ℕ). AreOfRoom r g (teams_of old)) free are.rooms) a listed)
 
     none-finished : f ≡ 0 → IsFinished g (state_among g (teams_of old))
     none-finished none t there =
         ⊎_elim
         (λ undone.
-        let next = some_can_fire g (state_among g (teams_of old)) (live_of old).places ranks.sound ranks.upward.upward old_is t there undone in
-        absurd (omega (arith, none, dates_is, total-lt D D' (stations g) next.0 next.1.exists grows (fires next.0 next.1))))
+        let next = first_can_fire g (state_among g (teams_of old)) (live_of old).places ranks.sound ranks.upward.upward old_is t there undone in
+        absurd (omega (
+          arith,
+          none,
+          dates_is,
+          total-lt D D' (stations g) next.0 next.1.exists grows (
+              fires next.0 next.1 (λ a listed starts.
+              few-spaces g (begun_of old) (teams_of old) ranks.sound some teams_old rest.met (room_of old) are.some_room are.rooms a listed (next.2 a listed starts))),
+        )))
         (λ done. omega (arith, done, old_is.few_dates t there))
         (cases_lt (length (log (state_among g (teams_of old)) t)) (jobs g))
 
@@ -284,6 +303,7 @@ module _ (old new : List WorkCrew) (made : ℕ) (rest : AreAtRest old made) (b :
         ranked = ranks;
         reached = is_reached g (state_among g (teams_of new)) ranks.sound ranks.limits reached_new;
         pace = pace;
+        within = subst IsWithinRooms line-seen (within_rooms new made b.whole (subst (λ (l : LiveGraph). AreAllMet l.graph (teams_of new)) (sym live_same) b.met));
       };
       frame = refl;
       logs = λ t there.
@@ -295,7 +315,7 @@ module _ (old new : List WorkCrew) (made : ℕ) (rest : AreAtRest old made) (b :
       steps = steps_is;
       at_most = fewer;
       few = omega (arith, turns_is, total-more U' U 16 (stations g) (λ t there. (b.each t there).few));
-      ready = λ t can. omega (arith, fires t can, ap length (old-log t can.exists), ap length (new-log t can.exists));
+      ready = λ free t can. omega (arith, fires_freely free t can, ap length (old-log t can.exists), ap length (new-log t can.exists));
       idle = (none-finished, λ finished. omega (arith, fewer, no_steps finished));
       rest = no_steps;
       alone = λ times one has t there. ap length (new-log t there) ∙ b.alone one times (times-few times has) (each_made times has) t there;

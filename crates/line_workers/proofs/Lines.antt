@@ -1,9 +1,9 @@
 -- A line at rest stands for a reached state; a new one for the state that it was made from.
-use Rattle.std.proofs.Common.{◌≡◌, ℕ, ◌+◌, ◌-◌, ◌<◌, ◌≤◌, List, [], length, zero-add, ap, ◌∙◌, sym, subst, arith}
+use Rattle.std.proofs.Common.{◌≡◌, ℕ, ◌+◌, ◌-◌, ◌<◌, ◌≤◌, List, [], Option, length, zero-add, ap, ◌∙◌, sym, subst, arith}
 use Rattle.std.specs.List.{All}
 use Rattle.std.proofs.lemmas.List.FromFn.{fill_by_all, length-map-range_with_len, get_or-map-range_with_len}
 use Rattle.line_base.specs.declared.event.Parts.{Parts}
-use Rattle.event_graph.specs.Network.{stations, jobs}
+use Rattle.event_graph.specs.Network.{stations, jobs, arc}
 use Rattle.event_graph.specs.State.{State, log}
 use Rattle.event_graph.specs.Reached.{Reached}
 use Rattle.live_check.specs.Order.{LiveGraph, IsRanked}
@@ -12,13 +12,14 @@ use Rattle.line_core.proofs.Consistency.{reached_is_consistent}
 use Rattle.line_core.proofs.Runs.{is_reached}
 use Rattle.line_core.proofs.Unwinding.{state_of-logs}
 use Rattle.line_workers.specs.Share.{worker_of, first_of}
-use Rattle.line_workers.specs.Teams.{station_of, state_among, AreAllMet}
+use Rattle.line_workers.specs.Teams.{station_of, state_among, AreOfRoom, AreAllMet}
 use Rattle.line_workers.specs.Crew.{WorkCrew, teams_of}
 use Rattle.line_workers.specs.Work.{dates_of, turns_of, AllDone}
 use Rattle.line_workers.specs.Crews.{crew_at, live_of, graph_of, begun_of, AreCrews, AreNewCrews}
-use Rattle.line_workers.specs.Line.{line_of, turns_among, AreAtRest, IsLine, Stands}
+use Rattle.line_workers.specs.Line.{line_of, turns_among, AreAtRest, IsWithinRooms, IsLine, StandsIn}
 use Rattle.line_workers.proofs.Standing.{stands_for_reached, state_among-is, log-among}
-use Rattle.line_workers.proofs.AllCrews.{ranked, crews_are_teams, graph-same, worker_there, seat_there, seated, of_seat}
+use Rattle.line_workers.proofs.Spacing.{place-within}
+use Rattle.line_workers.proofs.AllCrews.{ranked, crews_are_teams, graph-same, worker_there, worker-is, seat_there, seated, of_seat}
 
 -- ---- at rest
 
@@ -40,6 +41,20 @@ module _ (crews : List WorkCrew) (are : AreCrews crews) (met : AreAllMet (graph_
   pub rest-log : (t : ℕ) → t < stations (graph_of crews) → log (state_among (graph_of crews) (teams_of crews)) t ≡ (station_of (graph_of crews) (teams_of crews) t).log.dates
   rest-log = log-among (graph_of crews) (begun_of crews) (teams_of crews) ranks.sound ranks.limits.some_station (crews_are_teams crews are)
 
+pub within_rooms : (crews : List WorkCrew) (made : ℕ) → AreCrews crews → AreAllMet (graph_of crews) (teams_of crews) → IsWithinRooms (line_of crews made)
+within_rooms crews made are met room is a listed between =
+    let g = graph_of crews in
+    let r = ranked crews are in
+    place-within g (begun_of crews) (teams_of crews) r.sound r.limits.some_station (crews_are_teams crews are) met room
+    (subst (λ (n : Option ℕ). AreOfRoom n g (teams_of crews)) is are.rooms)
+    a
+    listed
+    (λ same.
+    between (
+    sym (worker-is crews are (arc g a).from (r.sound.starts_exist a listed))
+    ∙ same
+    ∙ worker-is crews are (arc g a).to (r.sound.ends_exist a listed)))
+
 pub at_rest_is_line : (crews : List WorkCrew) (made : ℕ) → AreAtRest crews made → IsLine (line_of crews made)
 at_rest_is_line crews made rest =
     let r = ranked crews rest.whole in
@@ -47,11 +62,12 @@ at_rest_is_line crews made rest =
       ranked = r;
       reached = is_reached (graph_of crews) (state_among (graph_of crews) (teams_of crews)) r.sound r.limits (rest_is_reached crews rest.whole rest.met);
       pace = rest.pace;
+      within = within_rooms crews made rest.whole rest.met;
     }
 
 -- ---- a new line
 
-module _ (live : LiveGraph) (begun : State) (workers : ℕ) (crews : List WorkCrew) (made : ℕ) (new : AreNewCrews live begun workers crews) (reached : Reached live.graph begun) (few : workers ≤ 16) (made_is : made ≡ fired begun) where
+module _ (live : LiveGraph) (begun : State) (workers : ℕ) (room : Option ℕ) (crews : List WorkCrew) (made : ℕ) (new : AreNewCrews live begun workers room crews) (reached : Reached live.graph begun) (few : workers ≤ 16) (made_is : made ≡ fired begun) where
   abbrev g : Parts
   g = live.graph
 
@@ -94,11 +110,12 @@ module _ (live : LiveGraph) (begun : State) (workers : ℕ) (crews : List WorkCr
     pace = (omega (arith, made_is, ap fired state-is), λ t d low. omega (arith, no-turns t d low));
   }
 
-  pub new_stands : Stands live begun workers (line_of crews made)
+  pub new_stands : StandsIn room live begun workers (line_of crews made)
   new_stands = record {
     live_is = new.live_is;
     state_is = state-is;
     workers_are = new.count;
+    room_is = new.room_is;
     made_is = made_is;
     no_turns = no-turns;
   }

@@ -1,5 +1,6 @@
 -- Teams whose stations took the ends that were laid for them: what a line begins with.
-use Rattle.std.proofs.Common.{◌≡◌, ◌≢◌, ℕ, zero, suc, ◌+◌, ◌-◌, ◌<◌, ◌≤◌, List, [], ◌++◌, Option, Some, None, Result, Ok, Err, IfOk, Vec, Global, ◌⊎◌, inl, inr, map, take, length, get_or, refl, sym, ap, ◌∙◌, subst, arith, ⊎_elim}
+use Rattle.std.proofs.Common.{◌≡◌, ◌≢◌, ℕ, zero, suc, ◌+◌, ◌-◌, ◌<◌, ◌≤◌, List, [], ◌++◌, Option, Some, None, Result, Ok, Err, IfOk, Vec, Global, ◌⊎◌, inl, inr, map, take, drop, length, get_or, refl, sym, ap, ◌∙◌, subst, arith, ⊎_elim, length-append}
+use mathlib.Core.List.{IsPrefix}
 use Rattle.std.specs.Prelude.{IfSome}
 use Rattle.std.specs.declared.alloc.AllocError.{AllocError}
 use Rattle.std.proofs.lemmas.Bool.{cases_eq}
@@ -15,14 +16,14 @@ use Rattle.station_step.specs.declared.ends.Inlet.TheVariants as inlet
 use Rattle.station_step.specs.declared.ends.Outlet.TheVariants as outlet
 use Rattle.station_step.specs.declared.input.Input.{Input}
 use Rattle.station_step.specs.Shelf.{queue_at, new_queue}
-use Rattle.station_step.specs.Ends.{inlet_taken, inlet_known, inlet_queue, outlet_queue, AreEnds, HasRingRoom, IsUntaken, IsUnfilled}
+use Rattle.station_step.specs.Ends.{inlet_queue, outlet_queue, AreEnds, HasRingRoom, IsUntaken, IsUnfilled}
 use Rattle.station_step.specs.Input.{input_at, empty_handed, NoneTakes}
 use Rattle.station_step.specs.Station.{WorkStation, IsSeated, NonePuts, outlet_at}
 use Rattle.station_step.specs.Kept.{IsFresh}
 use Rattle.line_workers.specs.Share.{worker_of, first_of}
 use Rattle.line_workers.specs.Team.{WorkTeam, IsMember, IsTeam, member}
-use Rattle.line_workers.specs.Teams.{team_at, station_of, shelf_of, place_in, input_on, outlet_on, outlet_initial, outlet_tokens, ShareQueue, IsJoined, AreTeams, IsMetOn, AreAllMet, HaveBegun}
-use Rattle.line_workers.specs.Making.{room_on, new_shelf, HasRing, HasPlain, QueueEnds, outlets_at, inlets_at, firsts_at, shelf_at, first_tokens, first_ins, first_outs, outlet_of, inlet_of, putter, taker, HasEnds, AreLaid, AreFit, AreFitFrom, IsNewStation, AreNewTeams}
+use Rattle.line_workers.specs.Teams.{team_at, station_of, shelf_of, place_in, input_on, outlet_on, outlet_initial, ShareQueue, IsJoined, IsOfRoom, AreOfRoom, AreTeams, IsQueueMet, IsMetOn, AreAllMet, HaveBegun}
+use Rattle.line_workers.specs.Making.{room_on, new_shelf, AreNewEnds, HasPlain, QueueEnds, outlets_at, inlets_at, firsts_at, shelf_at, first_tokens, first_ins, first_outs, outlet_of, inlet_of, putter, taker, HasEnds, AreLaid, AreFit, AreFitFrom, IsNewStation, AreNewTeams}
 use Rattle.line_workers.proofs.Share.{first-le, next-above, worker_is, worker-below, first-all, first-rises}
 use Rattle.line_workers.proofs.ArcOrder.{first_ins-below, first_ins-all, first_outs-all, rank-ins, rank-outs, place_in-ins, place_in-outs}
 use Rattle.line_workers.proofs.LaidEnds.{ring-no_queue, ring-no_queue_in, plain-outlet, queue-within}
@@ -30,45 +31,95 @@ use Rattle.line_workers.proofs.LaidEnds.{ring-no_queue, ring-no_queue_in, plain-
 -- ---- the ends of an arc, by their kinds
 
 module _ (g : Parts) (begun : State) (a : ℕ) where
-  ring-room : (o : Outlet) (i : Inlet) → HasRing g begun a o i → HasRingRoom (room_on g begun a) o
+  ring-room : (o : Outlet) (i : Inlet) → AreNewEnds g begun a o i → HasRingRoom (room_on g begun a) o
   ring-room (outlet.Ring put) (inlet.Ring take) has = omega (arith, ap length has.added, has.room)
   ring-room (outlet.Ring put) (inlet.Local r) has = absurd has
   ring-room (outlet.Local q) (inlet.Ring take) has = absurd has
   ring-room (outlet.Local q) (inlet.Local r) has = absurd has
+  ring-room (outlet.Ring put) (inlet.Room take) has = absurd has
+  ring-room (outlet.Room put) (inlet.Ring take) has = absurd has
+  ring-room (outlet.Room put) (inlet.Room take) has = omega (arith, ap length has.added, has.few)
+  ring-room (outlet.Room put) (inlet.Local r) has = absurd has
+  ring-room (outlet.Local p) (inlet.Room take) has = absurd has
 
-  ring-unfilled : (o : Outlet) (i : Inlet) → HasRing g begun a o i → IsUnfilled o
+  ring-unfilled : (o : Outlet) (i : Inlet) → AreNewEnds g begun a o i → IsUnfilled o
   ring-unfilled (outlet.Ring put) (inlet.Ring take) has = has.added
   ring-unfilled (outlet.Ring put) (inlet.Local r) has = absurd has
   ring-unfilled (outlet.Local q) (inlet.Ring take) has = absurd has
   ring-unfilled (outlet.Local q) (inlet.Local r) has = absurd has
+  ring-unfilled (outlet.Ring put) (inlet.Room take) has = absurd has
+  ring-unfilled (outlet.Room put) (inlet.Ring take) has = absurd has
+  ring-unfilled (outlet.Room put) (inlet.Room take) has = has.added
+  ring-unfilled (outlet.Room put) (inlet.Local r) has = absurd has
+  ring-unfilled (outlet.Local p) (inlet.Room take) has = absurd has
 
-  ring-untaken : (o : Outlet) (i : Inlet) → HasRing g begun a o i → IsUntaken i
+  ring-untaken : (o : Outlet) (i : Inlet) → AreNewEnds g begun a o i → IsUntaken i
   ring-untaken (outlet.Ring put) (inlet.Ring take) has = has.taken
   ring-untaken (outlet.Ring put) (inlet.Local r) has = absurd has
   ring-untaken (outlet.Local q) (inlet.Ring take) has = absurd has
   ring-untaken (outlet.Local q) (inlet.Local r) has = absurd has
+  ring-untaken (outlet.Ring put) (inlet.Room take) has = absurd has
+  ring-untaken (outlet.Room put) (inlet.Ring take) has = absurd has
+  ring-untaken (outlet.Room put) (inlet.Room take) has = has.taken
+  ring-untaken (outlet.Room put) (inlet.Local r) has = absurd has
+  ring-untaken (outlet.Local p) (inlet.Room take) has = absurd has
 
-  ring-ends : (o : Outlet) (i : Inlet) → HasRing g begun a o i → AreEnds o i
+  ring-ends : (o : Outlet) (i : Inlet) → AreNewEnds g begun a o i → AreEnds o i
   ring-ends (outlet.Ring put) (inlet.Ring take) has = has.ends
   ring-ends (outlet.Ring put) (inlet.Local r) has = absurd has
   ring-ends (outlet.Local q) (inlet.Ring take) has = absurd has
   ring-ends (outlet.Local q) (inlet.Local r) has = absurd has
+  ring-ends (outlet.Ring put) (inlet.Room take) has = absurd has
+  ring-ends (outlet.Room put) (inlet.Ring take) has = absurd has
+  ring-ends (outlet.Room put) (inlet.Room take) has = has.ends
+  ring-ends (outlet.Room put) (inlet.Local r) has = absurd has
+  ring-ends (outlet.Local p) (inlet.Room take) has = absurd has
 
-  ring-initial : (shelf : List PlainQueue) (o : Outlet) (i : Inlet) → HasRing g begun a o i → outlet_initial shelf o ≡ place begun a
+  ring-initial : (shelf : List PlainQueue) (o : Outlet) (i : Inlet) → AreNewEnds g begun a o i → outlet_initial shelf o ≡ place begun a
   ring-initial shelf (outlet.Ring put) (inlet.Ring take) has = has.initial
   ring-initial shelf (outlet.Ring put) (inlet.Local r) has = absurd has
   ring-initial shelf (outlet.Local q) (inlet.Ring take) has = absurd has
   ring-initial shelf (outlet.Local q) (inlet.Local r) has = absurd has
+  ring-initial shelf (outlet.Ring put) (inlet.Room take) has = absurd has
+  ring-initial shelf (outlet.Room put) (inlet.Ring take) has = absurd has
+  ring-initial shelf (outlet.Room put) (inlet.Room take) has = has.initial
+  ring-initial shelf (outlet.Room put) (inlet.Local r) has = absurd has
+  ring-initial shelf (outlet.Local p) (inlet.Room take) has = absurd has
 
-  ring-met : (shelf other : List PlainQueue) (o : Outlet) (i : Inlet) → HasRing g begun a o i → inlet_taken other i ++ inlet_known other i ≡ outlet_tokens shelf o
+  ring-met : (shelf other : List PlainQueue) (o : Outlet) (i : Inlet) → AreNewEnds g begun a o i → IsQueueMet shelf other o i
   ring-met shelf other (outlet.Ring put) (inlet.Ring take) has =
+      let all : take.taken ++ take.known ≡ put.initial ++ put.added =
       ap (λ l. l ++ take.known) has.taken
       ∙ has.known
       ∙ sym (append-nil (place begun a))
       ∙ ap (λ l. l ++ []) (sym has.initial)
-      ∙ ap (λ l. put.initial ++ l) (sym has.added)
+      ∙ ap (λ l. put.initial ++ l) (sym has.added) in
+      record {
+        in_order = (take.known, all);
+        known = omega (arith, ap length all, length-append take.taken take.known);
+        room = tt;
+      }
+  ring-met shelf other (outlet.Ring put) (inlet.Room take) has = absurd has
   ring-met shelf other (outlet.Ring put) (inlet.Local r) has = absurd has
+  ring-met shelf other (outlet.Room put) (inlet.Ring take) has = absurd has
+  ring-met shelf other (outlet.Room put) (inlet.Room take) has =
+      let none = ap length has.taken in
+      let many : length (put.initial ++ put.added) ≡ length (place begun a) =
+      length-append put.initial put.added ∙ ap (λ n. n + length put.added) (ap length has.initial) ∙ (let last : length (place begun a) + length put.added ≡ length (place begun a) = omega (arith, ap length has.added) in last) in
+      let order : IsPrefix take.taken (put.initial ++ put.added) = (put.initial ++ put.added, ap (λ l. l ++ (put.initial ++ put.added)) has.taken) in
+      record {
+        in_order = order;
+        known = omega (arith, has.known, many, none);
+        room = record {
+          in_order = order;
+          within = omega (arith, has.space, many, none);
+          known = omega (arith, has.known, many, none);
+          space = omega (arith, has.space, many, none);
+        };
+      }
+  ring-met shelf other (outlet.Room put) (inlet.Local r) has = absurd has
   ring-met shelf other (outlet.Local q) (inlet.Ring take) has = absurd has
+  ring-met shelf other (outlet.Local q) (inlet.Room take) has = absurd has
   ring-met shelf other (outlet.Local q) (inlet.Local r) has = absurd has
 
   -- a queue of a new shelf
@@ -84,38 +135,75 @@ module _ (g : Parts) (begun : State) (a : ℕ) where
     plain-room more (outlet.Local q) (inlet.Ring take) has = absurd has
     plain-room more (outlet.Ring put) (inlet.Ring take) has = absurd has
     plain-room more (outlet.Ring put) (inlet.Local r) has = absurd has
+    plain-room more (outlet.Ring put) (inlet.Room take) has = absurd has
+    plain-room more (outlet.Room put) (inlet.Ring take) has = absurd has
+    plain-room more (outlet.Room put) (inlet.Room take) has = absurd has
+    plain-room more (outlet.Room put) (inlet.Local r) has = absurd has
+    plain-room more (outlet.Local p) (inlet.Room take) has = absurd has
 
     plain-unfilled : (o : Outlet) (i : Inlet) → HasPlain begun firsts a o i → IsUnfilled o
     plain-unfilled (outlet.Local q) (inlet.Local r) has = tt
     plain-unfilled (outlet.Local q) (inlet.Ring take) has = absurd has
     plain-unfilled (outlet.Ring put) (inlet.Ring take) has = absurd has
     plain-unfilled (outlet.Ring put) (inlet.Local r) has = absurd has
+    plain-unfilled (outlet.Ring put) (inlet.Room take) has = absurd has
+    plain-unfilled (outlet.Room put) (inlet.Ring take) has = absurd has
+    plain-unfilled (outlet.Room put) (inlet.Room take) has = absurd has
+    plain-unfilled (outlet.Room put) (inlet.Local r) has = absurd has
+    plain-unfilled (outlet.Local p) (inlet.Room take) has = absurd has
 
     plain-untaken : (o : Outlet) (i : Inlet) → HasPlain begun firsts a o i → IsUntaken i
     plain-untaken (outlet.Local q) (inlet.Local r) has = tt
     plain-untaken (outlet.Local q) (inlet.Ring take) has = absurd has
     plain-untaken (outlet.Ring put) (inlet.Ring take) has = absurd has
     plain-untaken (outlet.Ring put) (inlet.Local r) has = absurd has
+    plain-untaken (outlet.Ring put) (inlet.Room take) has = absurd has
+    plain-untaken (outlet.Room put) (inlet.Ring take) has = absurd has
+    plain-untaken (outlet.Room put) (inlet.Room take) has = absurd has
+    plain-untaken (outlet.Room put) (inlet.Local r) has = absurd has
+    plain-untaken (outlet.Local p) (inlet.Room take) has = absurd has
 
     plain-shared : (o : Outlet) (i : Inlet) → HasPlain begun firsts a o i → ShareQueue o i
     plain-shared (outlet.Local q) (inlet.Local r) has = sym has.same
     plain-shared (outlet.Local q) (inlet.Ring take) has = absurd has
     plain-shared (outlet.Ring put) (inlet.Ring take) has = absurd has
     plain-shared (outlet.Ring put) (inlet.Local r) has = absurd has
+    plain-shared (outlet.Ring put) (inlet.Room take) has = absurd has
+    plain-shared (outlet.Room put) (inlet.Ring take) has = absurd has
+    plain-shared (outlet.Room put) (inlet.Room take) has = absurd has
+    plain-shared (outlet.Room put) (inlet.Local r) has = absurd has
+    plain-shared (outlet.Local p) (inlet.Room take) has = absurd has
 
     plain-initial : (o : Outlet) (i : Inlet) → HasPlain begun firsts a o i → outlet_initial shelf o ≡ place begun a
     plain-initial (outlet.Local q) (inlet.Local r) has = ap (λ (p : PlainQueue). p.initial) (shelf-queue firsts q has.there) ∙ has.tokens
     plain-initial (outlet.Local q) (inlet.Ring take) has = absurd has
     plain-initial (outlet.Ring put) (inlet.Ring take) has = absurd has
     plain-initial (outlet.Ring put) (inlet.Local r) has = absurd has
+    plain-initial (outlet.Ring put) (inlet.Room take) has = absurd has
+    plain-initial (outlet.Room put) (inlet.Ring take) has = absurd has
+    plain-initial (outlet.Room put) (inlet.Room take) has = absurd has
+    plain-initial (outlet.Room put) (inlet.Local r) has = absurd has
+    plain-initial (outlet.Local p) (inlet.Room take) has = absurd has
 
-    plain-met : (o : Outlet) (i : Inlet) → HasPlain begun firsts a o i → inlet_taken shelf i ++ inlet_known shelf i ≡ outlet_tokens shelf o
+    plain-met : (o : Outlet) (i : Inlet) → HasPlain begun firsts a o i → IsQueueMet shelf shelf o i
     plain-met (outlet.Local q) (inlet.Local r) has =
-        take-append-drop (queue_at shelf r).takes ((queue_at shelf r).initial ++ (queue_at shelf r).added)
-        ∙ ap (λ n. (queue_at shelf n).initial ++ (queue_at shelf n).added) has.same
+        let queue = queue_at shelf r in
+        let tokens = queue.initial ++ queue.added in
+        let all : take queue.takes tokens ++ drop queue.takes tokens ≡ (queue_at shelf q).initial ++ (queue_at shelf q).added =
+        take-append-drop queue.takes tokens ∙ ap (λ n. (queue_at shelf n).initial ++ (queue_at shelf n).added) has.same in
+        record {
+          in_order = (drop queue.takes tokens, all);
+          known = omega (arith, ap length all, length-append (take queue.takes tokens) (drop queue.takes tokens));
+          room = tt;
+        }
     plain-met (outlet.Local q) (inlet.Ring take) has = absurd has
     plain-met (outlet.Ring put) (inlet.Ring take) has = absurd has
     plain-met (outlet.Ring put) (inlet.Local r) has = absurd has
+    plain-met (outlet.Ring put) (inlet.Room take) has = absurd has
+    plain-met (outlet.Room put) (inlet.Ring take) has = absurd has
+    plain-met (outlet.Room put) (inlet.Room take) has = absurd has
+    plain-met (outlet.Room put) (inlet.Local r) has = absurd has
+    plain-met (outlet.Local p) (inlet.Room take) has = absurd has
 
     plain-queue : (q : ℕ) (o : Outlet) (i : Inlet) → HasPlain begun firsts a o i → outlet_queue o ≡ Some q → queue_at shelf q ≡ new_queue (jobs g) (place begun a)
     plain-queue q (outlet.Local p) (inlet.Local r) has same =
@@ -124,6 +212,11 @@ module _ (g : Parts) (begun : State) (a : ℕ) where
     plain-queue q (outlet.Local p) (inlet.Ring take) has same = absurd has
     plain-queue q (outlet.Ring put) (inlet.Ring take) has same = absurd has
     plain-queue q (outlet.Ring put) (inlet.Local r) has same = absurd has
+    plain-queue q (outlet.Ring put) (inlet.Room take) has same = absurd has
+    plain-queue q (outlet.Room put) (inlet.Ring take) has same = absurd has
+    plain-queue q (outlet.Room put) (inlet.Room take) has same = absurd has
+    plain-queue q (outlet.Room put) (inlet.Local r) has same = absurd has
+    plain-queue q (outlet.Local p) (inlet.Room take) has same = absurd has
 
 if_some : (o : Option ℕ) (P : ℕ → Type 0) → ((q : ℕ) → o ≡ Some q → P q) → IfSome o P
 if_some None P holds = tt
@@ -148,28 +241,28 @@ module _ (g : Parts) (begun : State) (workers : ℕ) (ends : QueueEnds) (a : ℕ
   end-room =
       ⊎_elim
       (λ one. plain-room g begun a own_firsts (room_on g begun a) out_end in_end (has.shelf one))
-      (λ two. ring-room g begun a out_end in_end (has.ring two))
+      (λ two. ring-room g begun a out_end in_end (has.ring two).ends)
       (cases_eq (putter g workers a) (taker g workers a))
 
   end-unfilled : IsUnfilled out_end
   end-unfilled =
       ⊎_elim
       (λ one. plain-unfilled g begun a own_firsts out_end in_end (has.shelf one))
-      (λ two. ring-unfilled g begun a out_end in_end (has.ring two))
+      (λ two. ring-unfilled g begun a out_end in_end (has.ring two).ends)
       (cases_eq (putter g workers a) (taker g workers a))
 
   end-untaken : IsUntaken in_end
   end-untaken =
       ⊎_elim
       (λ one. plain-untaken g begun a own_firsts out_end in_end (has.shelf one))
-      (λ two. ring-untaken g begun a out_end in_end (has.ring two))
+      (λ two. ring-untaken g begun a out_end in_end (has.ring two).ends)
       (cases_eq (putter g workers a) (taker g workers a))
 
   end-queue : (q : ℕ) → outlet_queue out_end ≡ Some q → queue_at own_shelf q ≡ new_queue (jobs g) (place begun a)
   end-queue q same =
       ⊎_elim
       (λ one. plain-queue g begun a own_firsts q out_end in_end (has.shelf one) same)
-      (λ two. absurd (ring-no_queue g begun a q out_end in_end (has.ring two) same))
+      (λ two. absurd (ring-no_queue g begun a q out_end in_end (has.ring two).ends same))
       (cases_eq (putter g workers a) (taker g workers a))
 
   -- an inlet on a queue of the shelf is that of an arc inside one worker
@@ -177,7 +270,7 @@ module _ (g : Parts) (begun : State) (workers : ℕ) (ends : QueueEnds) (a : ℕ
   end-inside q same =
       ⊎_elim
       (λ one. one)
-      (λ two. absurd (ring-no_queue_in g begun a q out_end in_end (has.ring two) same))
+      (λ two. absurd (ring-no_queue_in g begun a q out_end in_end (has.ring two).ends same))
       (cases_eq (putter g workers a) (taker g workers a))
 
   end-shared : (q : ℕ) → inlet_queue in_end ≡ Some q → outlet_queue out_end ≡ Some q
@@ -187,16 +280,16 @@ module _ (g : Parts) (begun : State) (workers : ℕ) (ends : QueueEnds) (a : ℕ
   end-initial =
       ⊎_elim
       (λ one. plain-initial g begun a own_firsts out_end in_end (has.shelf one))
-      (λ two. ring-initial g begun a own_shelf out_end in_end (has.ring two))
+      (λ two. ring-initial g begun a own_shelf out_end in_end (has.ring two).ends)
       (cases_eq (putter g workers a) (taker g workers a))
 
-  end-met : inlet_taken (shelf_at g ends (taker g workers a)) in_end ++ inlet_known (shelf_at g ends (taker g workers a)) in_end ≡ outlet_tokens own_shelf out_end
+  end-met : IsQueueMet own_shelf (shelf_at g ends (taker g workers a)) out_end in_end
   end-met =
       ⊎_elim
       (λ one.
-      ap (λ w. inlet_taken (shelf_at g ends w) in_end ++ inlet_known (shelf_at g ends w) in_end) (sym one)
-      ∙ plain-met g begun a own_firsts out_end in_end (has.shelf one))
-      (λ two. ring-met g begun a own_shelf (shelf_at g ends (taker g workers a)) out_end in_end (has.ring two))
+      subst (λ w. IsQueueMet own_shelf (shelf_at g ends w) out_end in_end) one (
+      plain-met g begun a own_firsts out_end in_end (has.shelf one)))
+      (λ two. ring-met g begun a own_shelf (shelf_at g ends (taker g workers a)) out_end in_end (has.ring two).ends)
       (cases_eq (putter g workers a) (taker g workers a))
 
 -- a search among the first n
@@ -524,7 +617,7 @@ module _ (g : Parts) (begun : State) (ends : QueueEnds) (teams : List WorkTeam) 
         ring = λ two.
             subst (λ (o : Outlet). AreEnds o (input_on g teams a).inlet) (sym out_is) (
             subst (λ (i : Inlet). AreEnds (outlet_of g ends a) i) (sym in_is) (
-            ring-ends g begun a (outlet_of g ends a) (inlet_of g ends a) (has.ring two)));
+            ring-ends g begun a (outlet_of g ends a) (inlet_of g ends a) (has.ring two).ends));
         shelf = λ one.
             subst (λ (o : Outlet). ShareQueue o (input_on g teams a).inlet) (sym out_is) (
             subst (λ (i : Inlet). ShareQueue (outlet_of g ends a) i) (sym in_is) (
@@ -550,11 +643,15 @@ module _ (g : Parts) (begun : State) (ends : QueueEnds) (teams : List WorkTeam) 
       let in_is = input_on-is a listed in
       let to_shelf = shelf-is (arc g a).to (graph.ends_exist a listed) in
       let from_shelf = shelf-is (arc g a).from (graph.starts_exist a listed) in
-      ap (λ l. inlet_taken l (input_on g teams a).inlet ++ inlet_known l (input_on g teams a).inlet) to_shelf
-      ∙ ap (λ i. inlet_taken (shelf_at g ends (taker g (length teams) a)) i ++ inlet_known (shelf_at g ends (taker g (length teams) a)) i) in_is
-      ∙ end-met g begun (length teams) ends a has
-      ∙ ap (λ o. outlet_tokens (shelf_at g ends (putter g (length teams) a)) o) (sym out_is)
-      ∙ ap (λ l. outlet_tokens l (outlet_on g teams a)) (sym from_shelf)
+      subst (λ l. IsQueueMet l (shelf_of g teams (arc g a).to) (outlet_on g teams a) (input_on g teams a).inlet) (sym from_shelf) (
+      subst (λ l. IsQueueMet (shelf_at g ends (putter g (length teams) a)) l (outlet_on g teams a) (input_on g teams a).inlet) (sym to_shelf) (
+      subst (λ o. IsQueueMet (shelf_at g ends (putter g (length teams) a)) (shelf_at g ends (taker g (length teams) a)) o (input_on g teams a).inlet) (sym out_is) (
+      subst (λ i. IsQueueMet (shelf_at g ends (putter g (length teams) a)) (shelf_at g ends (taker g (length teams) a)) (outlet_of g ends a) i) (sym in_is) (
+      end-met g begun (length teams) ends a has))))
+
+  pub new_are_of_room : AreOfRoom ends.room g teams
+  new_are_of_room a listed two =
+      subst (IsOfRoom ends.room (arc g a).tokens) (sym (outlet_on-is a listed)) ((laid.each a listed).ring two).kind
 
   pub new_are_met : AreAllMet g teams
   new_are_met = met
@@ -568,23 +665,25 @@ module _ (g : Parts) (begun : State) (ends : QueueEnds) (teams : List WorkTeam) 
 -- ---- as the code has them
 
 -- what holds of the teams of a worker each, however many there are
-pub record HaveAll (g : Parts) (begun : State) (teams : List WorkTeam) : Type 0 where
+pub record HaveAll (room : Option ℕ) (g : Parts) (begun : State) (teams : List WorkTeam) : Type 0 where
   pub teams_are : AreTeams g begun teams
+  pub rooms_are : AreOfRoom room g teams
   pub met : AreAllMet g teams
   pub begun_are : HaveBegun g begun teams
 
-pub all_new : (g : Parts) (begun : State) (workers : ℕ) (ends : QueueEnds) (teams : List WorkTeam) → IsGraph g → 1 ≤ stations g → 1 ≤ workers → AreLaid g begun workers ends (arc_count g) → length teams ≡ workers → AreNewTeams g begun workers ends teams → HaveAll g begun teams
+pub all_new : (g : Parts) (begun : State) (workers : ℕ) (ends : QueueEnds) (teams : List WorkTeam) → IsGraph g → 1 ≤ stations g → 1 ≤ workers → AreLaid g begun workers ends (arc_count g) → length teams ≡ workers → AreNewTeams g begun workers ends teams → HaveAll ends.room g begun teams
 all_new g begun workers ends teams graph any some laid count new =
     let some_team : 1 ≤ length teams = omega arith in
     let laid_for = subst (λ (w : ℕ). AreLaid g begun w ends (arc_count g)) (sym count) laid in
     let new_for = subst (λ (w : ℕ). AreNewTeams g begun w ends teams) (sym count) new in
     record {
       teams_are = new_are_teams g begun ends teams graph any some_team laid_for new_for;
+      rooms_are = new_are_of_room g begun ends teams graph any some_team laid_for new_for;
       met = new_are_met g begun ends teams graph any some_team laid_for new_for;
       begun_are = new_have_begun g begun ends teams graph any some_team laid_for new_for;
     }
 
-pub all_new_ok : (g : Parts) (begun : State) (workers : ℕ) (ends : QueueEnds) (r : Result (Vec WorkTeam Global) AllocError) → IsGraph g → 1 ≤ stations g → 1 ≤ workers → AreLaid g begun workers ends (arc_count g) → IfOk r (λ teams. length teams.items ≡ workers) → IfOk r (λ teams. AreNewTeams g begun workers ends teams.items) → IfOk r (λ teams. HaveAll g begun teams.items)
+pub all_new_ok : (g : Parts) (begun : State) (workers : ℕ) (ends : QueueEnds) (r : Result (Vec WorkTeam Global) AllocError) → IsGraph g → 1 ≤ stations g → 1 ≤ workers → AreLaid g begun workers ends (arc_count g) → IfOk r (λ teams. length teams.items ≡ workers) → IfOk r (λ teams. AreNewTeams g begun workers ends teams.items) → IfOk r (λ teams. HaveAll ends.room g begun teams.items)
 all_new_ok g begun workers ends (Ok teams) graph any some laid count new = all_new g begun workers ends teams.items graph any some laid count new
 all_new_ok g begun workers ends (Err e) graph any some laid count new = tt
 

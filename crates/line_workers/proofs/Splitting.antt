@@ -1,30 +1,29 @@
--- A list in two parts, one element of which was changed, and a meeting over the two.
-use Rattle.std.proofs.Common.{◌≡◌, ℕ, ◌-◌, ◌<◌, List, ◌++◌, length, get_or, set, ap, ◌∙◌, sym, subst, arith}
-use Rattle.std.proofs.lemmas.List.{set-get_or, set-append_left, set-append_right, get_or_append_left, get_or-append_right, get_or-set_same}
+-- A list in two parts, an element of each of which was changed, and a meeting over the two.
+use Rattle.std.proofs.Common.{◌≡◌, ◌≢◌, ℕ, ◌-◌, ◌<◌, List, ◌++◌, length, get_or, set, ap, ◌∙◌, sym, subst, arith}
+use Rattle.std.proofs.lemmas.List.{length-set, set-append_left, set-append_right, get_or_append_left, get_or-append_right, get_or-set_same, get_or-set_other}
+use Rattle.station_step.specs.Ends.{AreMet}
+use Rattle.station_step.specs.Input.{input_at}
 use Rattle.station_step.specs.Station.{outlet_at}
 use Rattle.line_workers.specs.declared.link.Link.{Link}
 use Rattle.line_workers.specs.Team.{member}
 use Rattle.line_workers.specs.Crew.{WorkCrew}
 use Rattle.line_workers.specs.Crews.{crew_at, no_crew, IsSameCrew}
-use Rattle.line_workers.specs.Meeting.{MetAt}
+use Rattle.line_workers.specs.Meeting.{OutletMet, InletMet}
 use Rattle.line_workers.specs.Link.{HaveMet}
 
--- the change is at the front of the second part; the first has one of its own elements again
-pub changed_behind : (xs low high : List WorkCrew) (m f : ℕ) (v u d : WorkCrew) → xs ≡ low ++ high → length low ≡ m → v ≡ get_or low f d → set low f v ++ set high 0 u ≡ set xs m u
-changed_behind xs low high m f v u d parts many same =
-    ap (λ (x : WorkCrew). set low f x ++ set high 0 u) same
-    ∙ ap (λ l. l ++ set high 0 u) (set-get_or low f d)
-    ∙ ap (λ i. low ++ set high i u) (let zero : 0 ≡ m - m = omega arith in zero)
-    ∙ sym (set-append_right low high m m u many (omega arith))
-    ∙ ap (λ l. set l m u) (sym parts)
+-- one change at the front of the second part, after one in the first
+pub changed_behind : (xs low high : List WorkCrew) (m f : ℕ) (v u : WorkCrew) → xs ≡ low ++ high → length low ≡ m → f < length low → set low f v ++ set high 0 u ≡ set (set xs f v) m u
+changed_behind xs low high m f v u parts many there =
+    ap (λ i. set low f v ++ set high i u) (let zero : 0 ≡ m - m = omega arith in zero)
+    ∙ sym (set-append_right (set low f v) high m m u (length-set low f v ∙ many) (omega arith))
+    ∙ ap (λ l. set l m u) (sym (set-append_left low high f v there) ∙ ap (λ l. set l f v) (sym parts))
 
--- the change is in the first part; the second has its first element again
-pub changed_before : (xs low high : List WorkCrew) (t : ℕ) (v u d : WorkCrew) → xs ≡ low ++ high → t < length low → v ≡ get_or high 0 d → set low t u ++ set high 0 v ≡ set xs t u
-changed_before xs low high t v u d parts there same =
-    ap (λ (x : WorkCrew). set low t u ++ set high 0 x) same
-    ∙ ap (λ l. set low t u ++ l) (set-get_or high 0 d)
-    ∙ sym (set-append_left low high t u there)
-    ∙ ap (λ l. set l t u) (sym parts)
+-- one change in the first part, after one at the front of the second
+pub changed_before : (xs low high : List WorkCrew) (m t : ℕ) (v u : WorkCrew) → xs ≡ low ++ high → length low ≡ m → t < length low → set low t u ++ set high 0 v ≡ set (set xs m v) t u
+changed_before xs low high m t v u parts many there =
+    sym (set-append_left low (set high 0 v) t u there)
+    ∙ ap (λ i. set (low ++ set high i v) t u) (let zero : 0 ≡ m - m = omega arith in zero)
+    ∙ ap (λ l. set l t u) (sym (set-append_right low high m m v many (omega arith)) ∙ ap (λ l. set l m v) (sym parts))
 
 pub front_of_second : (xs low high : List WorkCrew) (m : ℕ) (d : WorkCrew) → xs ≡ low ++ high → length low ≡ m → get_or xs m d ≡ get_or high 0 d
 front_of_second xs low high m d parts many =
@@ -35,17 +34,28 @@ front_of_second xs low high m d parts many =
 pub of_first : (xs low high : List WorkCrew) (t : ℕ) (d : WorkCrew) → xs ≡ low ++ high → t < length low → get_or xs t d ≡ get_or low t d
 of_first xs low high t d parts there = ap (λ l. get_or l t d) parts ∙ get_or_append_left low high d t there
 
--- f was the crew that puts, t the one that takes, and u is the latter now
-pub have_met : (crews new : List WorkCrew) (link : Link) (f t u : WorkCrew) → link.to.worker < length crews → new ≡ set crews link.to.worker u → crew_at crews link.from.worker ≡ f → crew_at crews link.to.worker ≡ t → IsSameCrew t u → MetAt (outlet_at (member f.team.stations link.from.number).outlets link.output) link.to.number link.input t.team u.team → HaveMet link crews new
-have_met crews new link f t u there is was_from was_to same met =
+-- f was the crew that puts, t the one that takes, and v and u are these now
+pub have_met : (crews new : List WorkCrew) (link : Link) (f t v u : WorkCrew) → link.from.worker ≢ link.to.worker → link.from.worker < length crews → link.to.worker < length crews → new ≡ set (set crews link.from.worker v) link.to.worker u → crew_at crews link.from.worker ≡ f → crew_at crews link.to.worker ≡ t → IsSameCrew f v → IsSameCrew t u → OutletMet link.from.number link.output f.team v.team → InletMet link.to.number link.input t.team u.team → AreMet (outlet_at (member v.team.stations link.from.number).outlets link.output) (input_at (member u.team.stations link.to.number).inputs link.input).inlet → HaveMet link crews new
+have_met crews new link f t v u apart from_there to_there is was_from was_to from_same to_same from_met to_met met =
+    let from = link.from.worker in
     let to = link.to.worker in
-    let at : crew_at new to ≡ u = ap (λ l. crew_at l to) is ∙ get_or-set_same crews to u no_crew there in
-    let Met = λ (x y z : WorkCrew). MetAt (outlet_at (member x.team.stations link.from.number).outlets link.output) link.to.number link.input y.team z.team in
+    let to_within : to < length (set crews from v) = omega (arith, to_there, length-set crews from v) in
+    let at_to : crew_at new to ≡ u = ap (λ l. crew_at l to) is ∙ get_or-set_same (set crews from v) to u no_crew to_within in
+    let at_from : crew_at new from ≡ v =
+    ap (λ l. crew_at l from) is
+    ∙ get_or-set_other (set crews from v) to from u no_crew apart
+    ∙ get_or-set_same crews from v no_crew from_there in
     record {
-      only = is ∙ ap (set crews to) (sym at);
-      same = subst (λ (y : WorkCrew). IsSameCrew y (crew_at new to)) (sym was_to) (subst (IsSameCrew t) (sym at) same);
+      only = is ∙ ap (λ (x : WorkCrew). set (set crews from x) to u) (sym at_from) ∙ ap (set (set crews from (crew_at new from)) to) (sym at_to);
+      from_same = subst (λ (x : WorkCrew). IsSameCrew x (crew_at new from)) (sym was_from) (subst (IsSameCrew f) (sym at_from) from_same);
+      to_same = subst (λ (x : WorkCrew). IsSameCrew x (crew_at new to)) (sym was_to) (subst (IsSameCrew t) (sym at_to) to_same);
+      from =
+          subst (λ (x : WorkCrew). OutletMet link.from.number link.output x.team (crew_at new from).team) (sym was_from) (
+          subst (λ (x : WorkCrew). OutletMet link.from.number link.output f.team x.team) (sym at_from) from_met);
+      to =
+          subst (λ (x : WorkCrew). InletMet link.to.number link.input x.team (crew_at new to).team) (sym was_to) (
+          subst (λ (x : WorkCrew). InletMet link.to.number link.input t.team x.team) (sym at_to) to_met);
       met =
-          subst (λ (x : WorkCrew). Met x (crew_at crews to) (crew_at new to)) (sym was_from) (
-          subst (λ (y : WorkCrew). Met f y (crew_at new to)) (sym was_to) (
-          subst (Met f t) (sym at) met));
+          subst (λ (x : WorkCrew). AreMet (outlet_at (member x.team.stations link.from.number).outlets link.output) (input_at (member (crew_at new to).team.stations link.to.number).inputs link.input).inlet) (sym at_from) (
+          subst (λ (x : WorkCrew). AreMet (outlet_at (member v.team.stations link.from.number).outlets link.output) (input_at (member x.team.stations link.to.number).inputs link.input).inlet) (sym at_to) met);
     }

@@ -3,7 +3,7 @@ use Rattle.std.proofs.Common.{◌≡◌, ℕ, ◌+◌, ◌-◌, ◌<◌, ◌≤�
 use Rattle.std.specs.Prelude.{option_to_list}
 use Rattle.std.specs.List.{range_with_len}
 use Rattle.std.proofs.Math.Seq.{drop-append_seam}
-use Rattle.std.proofs.lemmas.List.{get_or_append_left, drop-drop, drop-append-le}
+use Rattle.std.proofs.lemmas.List.{get_or_append_left, drop-drop, drop-append-le, length-drop}
 use Rattle.std.proofs.lemmas.List.FromFn.{length-range_with_len, get_or-range_with_len, length-map-range_with_len, get_or-map-range_with_len, fill_by_all}
 use Rattle.line_base.specs.declared.event.Parts.{Parts}
 use Rattle.card_queue.specs.Plain.{PlainQueue}
@@ -12,15 +12,15 @@ use Rattle.event_graph.specs.Term.{work}
 use Rattle.event_graph.specs.State.{State, place}
 use Rattle.event_graph.specs.Firing.{CanFire}
 use Rattle.event_graph.specs.Reached.{Reached}
-use Rattle.event_graph.proofs.ArcNumbers.{All-ins}
+use Rattle.event_graph.proofs.ArcNumbers.{All-ins, All-outs}
 use Rattle.live_check.specs.Order.{IsRanked, LiveGraph}
 use Rattle.line_core.specs.Consistent.{all_tokens, tokens_left, state_of}
 use Rattle.event_graph.proofs.Greatest.{greatest-same}
 use Rattle.station_step.specs.declared.ends.Outlet.{Outlet}
 use Rattle.station_step.specs.declared.ends.Outlet.TheVariants as outlet
-use Rattle.station_step.specs.Ends.{inlet_taken, inlet_known, outlet_added}
-use Rattle.station_step.specs.Input.{input_at, IsHeld, tokens_known}
-use Rattle.station_step.specs.Station.{firings}
+use Rattle.station_step.specs.Ends.{inlet_taken, outlet_added, HasSpace}
+use Rattle.station_step.specs.Input.{input_at, IsHeld, tokens_ahead}
+use Rattle.station_step.specs.Station.{firings, outlet_at}
 use Rattle.station_step.specs.Kept.{saturating, asked, date_for, token_for}
 use Rattle.station_step.specs.Step.{IsReady}
 use Rattle.line_workers.specs.Grown.{log_in, made_at, tokens_put, token_on, HasGrown}
@@ -28,7 +28,7 @@ use Rattle.line_workers.specs.Share.{first_of}
 use Rattle.line_workers.specs.Team.{WorkTeam, IsMember}
 use Rattle.line_workers.specs.Teams.{worker_at, station_of, shelf_of, place_in, input_on, outlet_on, outlet_initial, outlet_tokens, AreTeams, AreAllMet, place_of, state_among}
 use Rattle.line_workers.proofs.Share.{first-le, next-above, worker-below}
-use Rattle.line_workers.proofs.Places.{place_in-at, distinct-ins, in-stands, out-stands}
+use Rattle.line_workers.proofs.Places.{place_in-at, distinct-ins, distinct-outs, in-stands, out-stands}
 use Rattle.line_workers.proofs.Grown.{grown_is_reached, tokens_put-held}
 
 -- ---- dates
@@ -51,6 +51,7 @@ date_for-same g t job f h same =
 
 outlet_tokens-is : (shelf : List PlainQueue) (o : Outlet) → outlet_tokens shelf o ≡ outlet_initial shelf o ++ outlet_added shelf o
 outlet_tokens-is shelf (outlet.Ring put) = refl
+outlet_tokens-is shelf (outlet.Room put) = refl
 outlet_tokens-is shelf (outlet.Local q) = refl
 
 -- ---- all teams
@@ -132,19 +133,37 @@ module _ (g : Parts) (begun : State) (teams : List WorkTeam) (sound : IsGraph g)
       ap (λ u. input_at (station_of g teams u).inputs (place_in (ins g u) a)) at.1
       ∙ ap (input_at (station_of g teams t).inputs) (place_in-at (ins g t) k a (distinct-ins g t) low refl)
 
+  -- the outlet of a station with this number is that of its arc
+  pub outlet_on-is : (t k : ℕ) → k < length (outs g t) → outlet_on g teams (get_or (outs g t) k 0) ≡ outlet_at (station_of g teams t).outlets k
+  outlet_on-is t k low =
+      let a = get_or (outs g t) k 0 in
+      let at = All-outs g t k 0 low in
+      ap (λ u. outlet_at (station_of g teams u).outlets (place_in (outs g u) a)) at.1
+      ∙ ap (outlet_at (station_of g teams t).outlets) (place_in-at (outs g t) k a (distinct-outs g t) low refl)
+
+  -- what is on an arc: the token in the hand, and those put and not taken
+  pub length-place : (a : ℕ) → a < arc_count g → length (place (state_among g teams) a) ≡ length (option_to_list (input_on g teams a).hand) + (length (outlet_tokens (shelf_of g teams (arc g a).from) (outlet_on g teams a)) - length (inlet_taken (shelf_of g teams (arc g a).to) (input_on g teams a).inlet))
+  length-place a listed =
+      let input = input_on g teams a in
+      let taken = inlet_taken (shelf_of g teams (arc g a).to) input.inlet in
+      let tokens = outlet_tokens (shelf_of g teams (arc g a).from) (outlet_on g teams a) in
+      ap length (place-among a listed)
+      ∙ length-append (option_to_list input.hand) (drop (length taken) tokens)
+      ∙ ap (λ n. length (option_to_list input.hand) + n) (length-drop (length taken) tokens)
+
   module _ (met : AreAllMet g teams) where
     -- what was taken are the first tokens that were put
     taken_are_first : (a n : ℕ) → a < arc_count g → n < length (inlet_taken (shelf_of g teams (arc g a).to) (input_on g teams a).inlet) → get_or (inlet_taken (shelf_of g teams (arc g a).to) (input_on g teams a).inlet) n 0 ≡ get_or (tokens_put g begun (state_among g teams).logs a) n 0
     taken_are_first a n listed low =
         let taken = inlet_taken (shelf_of g teams (arc g a).to) (input_on g teams a).inlet in
-        let known = inlet_known (shelf_of g teams (arc g a).to) (input_on g teams a).inlet in
-        sym (get_or_append_left taken known 0 n low) ∙ ap (λ l. get_or l n 0) (met a listed ∙ put_is a listed)
+        let known = (met a listed).in_order.0 in
+        sym (get_or_append_left taken known 0 n low) ∙ ap (λ l. get_or l n 0) ((met a listed).in_order.1 ∙ put_is a listed)
 
     pub taken-le : (a : ℕ) → a < arc_count g → length (inlet_taken (shelf_of g teams (arc g a).to) (input_on g teams a).inlet) ≤ length (tokens_put g begun (state_among g teams).logs a)
     taken-le a listed =
         let taken = inlet_taken (shelf_of g teams (arc g a).to) (input_on g teams a).inlet in
-        let known = inlet_known (shelf_of g teams (arc g a).to) (input_on g teams a).inlet in
-        omega (arith, length-append taken known, ap length (met a listed ∙ put_is a listed))
+        let known = (met a listed).in_order.0 in
+        omega (arith, length-append taken known, ap length ((met a listed).in_order.1 ∙ put_is a listed))
 
     date-among : (t n : ℕ) → t < stations g → made_at begun t + n < length (log_in (state_among g teams).logs t) → get_or (log_in (state_among g teams).logs t) (made_at begun t + n) 0 ≡ date_for g t (made_at begun t + n + 1) (token_on g (tokens_put g begun (state_among g teams).logs) t n)
     date-among t n there low =
@@ -202,12 +221,12 @@ module _ (g : Parts) (begun : State) (teams : List WorkTeam) (sound : IsGraph g)
           let s = station_of g teams to in
           let input = input_on g teams a in
           let taken = inlet_taken (shelf_of g teams to) input.inlet in
-          let known = inlet_known (shelf_of g teams to) input.inlet in
+          let known = (met a listed).in_order.0 in
           let held = input_held a listed in
           let live : LiveGraph = record { graph = g; places = places } in
-          let put = met a listed ∙ put_is a listed in
+          let put = (met a listed).in_order.1 ∙ put_is a listed in
           let logs = (state_among g teams).logs in
-          ap (λ l. option_to_list input.hand ++ drop (length taken) l) (sym (met a listed))
+          ap (λ l. option_to_list input.hand ++ drop (length taken) l) (sym (met a listed).in_order.1)
           ∙ ap (λ l. option_to_list input.hand ++ l) (drop-append_seam taken known)
           ∙ ap (λ l. l ++ known) (sym held.rest)
           ∙ sym (drop-append-le (firings s) taken known held.enough)
@@ -234,18 +253,12 @@ module _ (g : Parts) (begun : State) (teams : List WorkTeam) (sound : IsGraph g)
           subst (Reached g) (sym state_among-is) (grown_is_reached live begun (state_among g teams).logs ranked reached has_grown)
 
     -- what is on an arc is known to the station where it ends
-    place-known : (a : ℕ) → a < arc_count g → place (state_among g teams) a ≡ tokens_known (shelf_of g teams (arc g a).to) (input_on g teams a)
-    place-known a listed =
-        let input = input_on g teams a in
-        let taken = inlet_taken (shelf_of g teams (arc g a).to) input.inlet in
-        let known = inlet_known (shelf_of g teams (arc g a).to) input.inlet in
-        place-among a listed
-        ∙ ap (λ l. option_to_list input.hand ++ drop (length taken) l) (sym (met a listed))
-        ∙ ap (λ l. option_to_list input.hand ++ l) (drop-append_seam taken known)
+    place-known : (a : ℕ) → a < arc_count g → length (place (state_among g teams) a) ≤ tokens_ahead (shelf_of g teams (arc g a).to) (input_on g teams a)
+    place-known a listed = omega (arith, length-place a listed, (met a listed).known)
 
-    -- a station that can fire is ready to
-    pub can_fire_is_ready : (t : ℕ) → CanFire g (state_among g teams) t → IsReady (shelf_of g teams t) (station_of g teams t)
-    can_fire_is_ready t can =
+    -- a station that can fire is ready to, where its outlets have space
+    pub can_fire_is_ready : (t : ℕ) → CanFire g (state_among g teams) t → ((k : ℕ) → k < length (station_of g teams t).outlets → HasSpace (outlet_at (station_of g teams t).outlets k)) → IsReady (shelf_of g teams t) (station_of g teams t)
+    can_fire_is_ready t can space =
         let m = member_is t can.exists in
         let s = station_of g teams t in
         record {
@@ -255,6 +268,7 @@ module _ (g : Parts) (begun : State) (teams : List WorkTeam) (sound : IsGraph g)
               let within : k < length (ins g t) = omega (arith, low, many) in
               let a = get_or (ins g t) k 0 in
               let at = All-ins g t k 0 within in
-              let known = place-known a at.0 ∙ ap (λ i. tokens_known (shelf_of g teams (arc g a).to) i) (input_on-is t k within) ∙ ap (λ u. tokens_known (shelf_of g teams u) (input_at s.inputs k)) at.1 in
-              omega (arith, can.tokens a at.0 at.1, ap length known);
+              let here = ap (λ i. tokens_ahead (shelf_of g teams (arc g a).to) i) (input_on-is t k within) ∙ ap (λ u. tokens_ahead (shelf_of g teams u) (input_at s.inputs k)) at.1 in
+              omega (arith, can.tokens a at.0 at.1, place-known a at.0, here);
+          space = space;
         }

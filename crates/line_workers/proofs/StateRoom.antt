@@ -1,15 +1,17 @@
 -- A reached state is small: no log is longer than the jobs, and no place is long.
 use Rattle.std.proofs.Common.{◌≡◌, ℕ, ◌+◌, ◌^◌, ◌<◌, ◌≤◌, false, List, length, get_or, ap, ◌∙◌, arith}
-use Rattle.std.proofs.lemmas.List.{length-drop}
+use Rattle.std.proofs.lemmas.List.{length-drop, length-replicate}
 use Rattle.line_base.specs.declared.limits.TheConstants.{MAX_CARDS}
 use Rattle.line_base.specs.declared.event.Arc.{Arc}
 use Rattle.line_base.specs.declared.event.Parts.{Parts}
 use Rattle.event_graph.specs.Network.{stations, jobs, arc, arc_count}
 use Rattle.event_graph.specs.State.{log, place}
+use Rattle.event_graph.proofs.Places.{place-start}
 use Rattle.line_core.specs.Consistent.{all_tokens}
-use Rattle.line_core.specs.Run.{Run, IsReached}
+use Rattle.line_core.specs.Run.{Run, IsReached, begun}
 use Rattle.line_core.proofs.Consistency.{reached_is_consistent}
 use Rattle.line_core.proofs.Runs.{length-tokens}
+use Rattle.line_workers.specs.Making.{FitsRoom}
 
 log-few_dates : (r : Run) (t : ℕ) → IsReached r → t < stations r.graph → length (log r.state t) ≤ jobs r.graph
 log-few_dates r t reached there = (reached_is_consistent r.graph r.state reached.reached).few_dates t there
@@ -40,3 +42,13 @@ few_dates_from g r a arcs same reached there are =
     let no_arc : Arc = record { from = 0; to = 0; tokens = 0; worked = false } in
     let from : (get_or arcs a no_arc).from ≡ (arc r.graph a).from = ap (λ l. (get_or l a no_arc).from) (are ∙ ap (λ (h : Parts). h.arcs) same) in
     omega (arith, ap jobs same, ap (λ t. length (log r.state t)) from, log-few_dates r (arc r.graph a).from reached starts)
+
+-- the start has on each arc the tokens that its ring has room for
+pub start_fits : (g : Parts) (r : Run) (room : ℕ) → r ≡ begun g → 1 ≤ room → room ≤ 10000 → FitsRoom room g r.state
+start_fits g r room is some most = record {
+  some = some;
+  most = most;
+  fits = λ a there.
+      let many = ap (λ (s : Run). length (place s.state a)) is ∙ ap length (place-start g a there) ∙ length-replicate {A = ℕ} (arc g a).tokens 0 in
+      omega (arith, many);
+}

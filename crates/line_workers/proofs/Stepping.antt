@@ -8,7 +8,7 @@ use Rattle.card_queue.specs.Plain.{PlainQueue}
 use Rattle.event_graph.specs.Network.{stations}
 use Rattle.event_graph.specs.State.{State}
 use Rattle.station_step.specs.declared.stepped.Stepped.{Stepped}
-use Rattle.station_step.specs.declared.stepped.Stepped.TheVariants.{Fired, Blocked, Done}
+use Rattle.station_step.specs.declared.stepped.Stepped.TheVariants.{Fired, Blocked, Full, Done}
 use Rattle.station_step.specs.Ends.{bare_outlet}
 use Rattle.station_step.specs.Input.{NoneTakes, input_at}
 use Rattle.station_step.specs.Station.{WorkStation, IsStation, IsSeated, AreApart, NonePuts, bare_station, bare_input, outlet_at}
@@ -86,12 +86,14 @@ pub record IsStep (old new : List PlainQueue) (before after : WorkStation) : Typ
 pub gains-did : (r : Stepped) (old new : List PlainQueue) (before after : WorkStation) → Did r old new before after → Gains before after
 gains-did Fired old new before after did = one (get_or after.log.dates (length before.log.dates) 0) (ap (λ (l : RoomyLog). l.dates) did.log)
 gains-did (Blocked _) old new before after did = none (ap (λ (l : RoomyLog). l.dates) did.log)
+gains-did (Full _) old new before after did = none (ap (λ (l : RoomyLog). l.dates) did.refilled.log)
 gains-did Done old new before after did = none (ap (λ (s : WorkStation). s.log.dates) did.station)
 
 pub more-did : (r : Stepped) (old new : List PlainQueue) (before after : WorkStation) → HasFired r → Did r old new before after → dates_of after ≡ dates_of before + 1
 more-did Fired old new before after fired did =
     ap (λ (l : RoomyLog). length l.dates) did.log ∙ length-append before.log.dates (get_or after.log.dates (length before.log.dates) 0 ∷ [])
 more-did (Blocked _) old new before after fired did = absurd fired
+more-did (Full _) old new before after fired did = absurd fired
 more-did Done old new before after fired did = absurd fired
 
 kept-gains : (before after : WorkStation) → Gains before after → (n : ℕ) → n ≤ dates_of before → take n after.log.dates ≡ take n before.log.dates
@@ -243,6 +245,7 @@ count-in seen now stations shelf view same =
 pub none-did : (r : Stepped) (old new : List PlainQueue) (before after : WorkStation) → (r ≡ Fired → ⊥) → Did r old new before after → dates_of after ≡ dates_of before
 none-did Fired old new before after not did = absurd (not refl)
 none-did (Blocked _) old new before after not did = ap (λ (l : RoomyLog). length l.dates) did.log
+none-did (Full _) old new before after not did = ap (λ (l : RoomyLog). length l.dates) did.refilled.log
 none-did Done old new before after not did = ap (λ (s : WorkStation). length s.log.dates) did.station
 
 -- a station that met others

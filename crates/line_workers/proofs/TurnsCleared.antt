@@ -1,5 +1,6 @@
 -- Crews whose stations count their turns from 0 again: nothing else is changed.
-use Rattle.std.proofs.Common.{◌≡◌, ℕ, zero, suc, ◌+◌, ◌-◌, ◌<◌, ◌≤◌, List, [], ◌∷◌, map, length, refl, ap, ◌∙◌, sym, subst, arith, zero-add}
+use Rattle.std.proofs.Common.{◌≡◌, ℕ, zero, suc, ◌+◌, ◌-◌, ◌<◌, ◌≤◌, List, [], ◌∷◌, Option, map, length, refl, ap, ◌∙◌, sym, subst, arith, zero-add}
+use Rattle.std.specs.Prelude.{IfSome}
 use Rattle.std.specs.List.{range_with_len, All}
 use Rattle.std.proofs.lemmas.List.{length-map, get_or-map}
 use Rattle.std.proofs.lemmas.List.FromFn.{fill_by_all, length-map-range_with_len, get_or-map-range_with_len}
@@ -18,12 +19,12 @@ use Rattle.station_step.specs.Input.{input_at}
 use Rattle.station_step.specs.Station.{WorkStation, IsStation, AreApart, outlet_at}
 use Rattle.line_workers.specs.Share.{worker_of, first_of}
 use Rattle.line_workers.specs.Team.{WorkTeam, IsMember, IsTeam, member}
-use Rattle.line_workers.specs.Teams.{team_at, worker_at, station_of, shelf_of, place_in, input_on, outlet_on, outlet_initial, ShareQueue, IsJoined, AreAllMet, state_among}
+use Rattle.line_workers.specs.Teams.{team_at, worker_at, station_of, shelf_of, place_in, input_on, outlet_on, outlet_initial, ShareQueue, IsJoined, IsOfRoom, AreOfRoom, AreAllMet, state_among}
 use Rattle.line_workers.specs.Crew.{WorkCrew, IsCrew, teams_of}
 use Rattle.line_workers.specs.Work.{turns_of, TeamsWorked}
 use Rattle.line_workers.specs.Meeting.{AreStill}
-use Rattle.line_workers.specs.Crews.{crew_at, no_crew, live_of, graph_of, begun_of, AreCrews, AreSameCrews}
-use Rattle.line_workers.specs.Line.{line_of, turns_among, AreAtRest, Stands}
+use Rattle.line_workers.specs.Crews.{crew_at, no_crew, live_of, graph_of, begun_of, room_of, AreCrews, AreSameCrews}
+use Rattle.line_workers.specs.Line.{line_of, turns_among, AreAtRest, StandsIn}
 use Rattle.line_workers.specs.Gather.{cleared, cleared_team, cleared_crew, logs_in, Gathers}
 use Rattle.line_core.specs.Consistent.{fired}
 use Rattle.line_workers.proofs.Stepping.{crew-with_team}
@@ -130,6 +131,11 @@ module _ (g : Parts) (teams : List WorkTeam) where
             ∙ is.initial;
       }
 
+  rooms_cleared : (room : Option ℕ) → AreOfRoom room g teams → AreOfRoom room g (map cleared_team teams)
+  rooms_cleared room are a listed apart =
+      subst (IsOfRoom room (arc g a).tokens) (sym (outlet-cleared a)) (
+      are a listed (λ same. apart (worker-cleared (arc g a).from ∙ same ∙ sym (worker-cleared (arc g a).to))))
+
 -- ---- all crews
 
 pub crew_cleared : (c : WorkCrew) → IsCrew c → IsCrew (cleared_crew c)
@@ -160,6 +166,9 @@ module _ (crews : List WorkCrew) where
     begun-cleared : begun_of (map cleared_crew crews) ≡ begun_of crews
     begun-cleared = ap (λ (c : WorkCrew). c.begun) (at 0 first)
 
+    pub room-cleared : room_of (map cleared_crew crews) ≡ room_of crews
+    room-cleared = ap (λ (c : WorkCrew). c.room) (at 0 first)
+
     pub crews_cleared : AreCrews (map cleared_crew crews)
     crews_cleared =
         let many = length-map crews cleared_crew in
@@ -176,6 +185,13 @@ module _ (crews : List WorkCrew) where
               subst (λ b. (a : ℕ) → a < arc_count (graph_of crews) → IsJoined (graph_of crews) b (teams_of (map cleared_crew crews)) a) (sym begun-cleared) (
               subst (λ (ts : List WorkTeam). (a : ℕ) → a < arc_count (graph_of crews) → IsJoined (graph_of crews) (begun_of crews) ts a) (sym teams-cleared) (
               λ a listed. joined_cleared (graph_of crews) (teams_of crews) (begun_of crews) a (are.joined a listed))));
+          kinds = λ w low. ap (λ (c : WorkCrew). c.room) (at w (within w low)) ∙ are.kinds w (within w low) ∙ sym room-cleared;
+          some_room = subst (λ (r : Option ℕ). IfSome r (λ n. 1 ≤ n)) (sym room-cleared) are.some_room;
+          rooms =
+              subst (λ (l : LiveGraph). AreOfRoom (room_of (map cleared_crew crews)) l.graph (teams_of (map cleared_crew crews))) (sym live-cleared) (
+              subst (λ r. AreOfRoom r (graph_of crews) (teams_of (map cleared_crew crews))) (sym room-cleared) (
+              subst (λ (ts : List WorkTeam). AreOfRoom (room_of crews) (graph_of crews) ts) (sym teams-cleared) (
+              rooms_cleared (graph_of crews) (teams_of crews) (room_of crews) are.rooms)));
         }
 
 -- ---- a meeting after that
@@ -233,11 +249,12 @@ module _ (crews : List WorkCrew) (are : AreCrews crews) (new : List WorkCrew) (s
     pace = (omega (arith, made_is), λ t d low. omega (arith, no-turns t d low));
   }
 
-  pub gathered_stands : Stands (live_of crews) (line_of new made).state (length crews) (line_of new made)
+  pub gathered_stands : StandsIn (room_of crews) (live_of crews) (line_of new made).state (length crews) (line_of new made)
   gathered_stands = record {
     live_is = live-gathered;
     state_is = refl;
     workers_are = many;
+    room_is = ap (λ (c : WorkCrew). c.room) (same.each 0 some).frame ∙ room-cleared crews are;
     made_is = made_is;
     no_turns = no-turns;
   }

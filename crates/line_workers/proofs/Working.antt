@@ -1,5 +1,5 @@
 -- Teams that have worked are teams of the same line.
-use Rattle.std.proofs.Common.{◌≡◌, ℕ, ◌+◌, ◌-◌, ◌<◌, ◌≤◌, List, ◌++◌, take, length, refl, ap, ◌∙◌, sym, subst, arith}
+use Rattle.std.proofs.Common.{◌≡◌, ℕ, ◌+◌, ◌-◌, ◌<◌, ◌≤◌, List, ◌++◌, Option, Some, None, take, drop, length, refl, ap, ◌∙◌, sym, subst, arith, length-append}
 use Rattle.std.proofs.lemmas.List.{take-append-drop, take-take, take_all, length-take}
 use Rattle.line_base.specs.declared.event.Parts.{Parts}
 use Rattle.card_queue.specs.Plain.{PlainQueue, plain_tokens}
@@ -10,12 +10,12 @@ use Rattle.station_step.specs.declared.ends.Outlet.{Outlet}
 use Rattle.station_step.specs.declared.ends.Inlet.TheVariants as inlet
 use Rattle.station_step.specs.declared.ends.Outlet.TheVariants as outlet
 use Rattle.station_step.specs.Shelf.{queue_at}
-use Rattle.station_step.specs.Ends.{bare_inlet, bare_outlet, inlet_taken, inlet_known, AreEnds}
+use Rattle.station_step.specs.Ends.{bare_inlet, bare_outlet, AreEnds}
 use Rattle.station_step.specs.Station.{WorkStation}
 use Rattle.station_step.proofs.OwnQueues.{input-same, outlet-same}
 use Rattle.line_workers.specs.Share.{worker_of, first_of}
 use Rattle.line_workers.specs.Team.{WorkTeam, IsTeam, member}
-use Rattle.line_workers.specs.Teams.{team_at, worker_at, station_of, shelf_of, place_in, input_on, outlet_on, outlet_initial, outlet_tokens, ShareQueue, IsJoined, AreTeams, IsMetOn}
+use Rattle.line_workers.specs.Teams.{team_at, worker_at, station_of, shelf_of, place_in, input_on, outlet_on, outlet_initial, ShareQueue, IsJoined, IsOfRoom, AreOfRoom, AreTeams, IsQueueMet, IsMetOn}
 use Rattle.line_workers.specs.Work.{dates_of, HasWorked, IsSameShelf, TeamWorked, TeamsWorked}
 use Rattle.line_workers.proofs.Share.{first-le, next-above, worker-below}
 use Rattle.line_workers.proofs.Stepping.{inputs-same, outlets-same}
@@ -60,34 +60,56 @@ then_team s t u first next = record {
 
 to_bare_ends : (o : Outlet) (i : Inlet) → AreEnds o i → AreEnds (bare_outlet o) (bare_inlet i)
 to_bare_ends (outlet.Ring put) (inlet.Ring take) ends = ends
+to_bare_ends (outlet.Ring put) (inlet.Room take) ends = ends
 to_bare_ends (outlet.Ring put) (inlet.Local q) ends = ends
+to_bare_ends (outlet.Room put) (inlet.Ring take) ends = ends
+to_bare_ends (outlet.Room put) (inlet.Room take) ends = ends
+to_bare_ends (outlet.Room put) (inlet.Local q) ends = ends
 to_bare_ends (outlet.Local q) (inlet.Ring take) ends = ends
+to_bare_ends (outlet.Local q) (inlet.Room take) ends = ends
 to_bare_ends (outlet.Local q) (inlet.Local r) ends = ends
 
 of_bare_ends : (o : Outlet) (i : Inlet) → AreEnds (bare_outlet o) (bare_inlet i) → AreEnds o i
 of_bare_ends (outlet.Ring put) (inlet.Ring take) ends = ends
+of_bare_ends (outlet.Ring put) (inlet.Room take) ends = ends
 of_bare_ends (outlet.Ring put) (inlet.Local q) ends = ends
+of_bare_ends (outlet.Room put) (inlet.Ring take) ends = ends
+of_bare_ends (outlet.Room put) (inlet.Room take) ends = ends
+of_bare_ends (outlet.Room put) (inlet.Local q) ends = ends
 of_bare_ends (outlet.Local q) (inlet.Ring take) ends = ends
+of_bare_ends (outlet.Local q) (inlet.Room take) ends = ends
 of_bare_ends (outlet.Local q) (inlet.Local r) ends = ends
 
 to_bare_queue : (o : Outlet) (i : Inlet) → ShareQueue o i → ShareQueue (bare_outlet o) (bare_inlet i)
 to_bare_queue (outlet.Ring put) (inlet.Ring take) share = share
+to_bare_queue (outlet.Ring put) (inlet.Room take) share = share
 to_bare_queue (outlet.Ring put) (inlet.Local q) share = share
+to_bare_queue (outlet.Room put) (inlet.Ring take) share = share
+to_bare_queue (outlet.Room put) (inlet.Room take) share = share
+to_bare_queue (outlet.Room put) (inlet.Local q) share = share
 to_bare_queue (outlet.Local q) (inlet.Ring take) share = share
+to_bare_queue (outlet.Local q) (inlet.Room take) share = share
 to_bare_queue (outlet.Local q) (inlet.Local r) share = share
 
 of_bare_queue : (o : Outlet) (i : Inlet) → ShareQueue (bare_outlet o) (bare_inlet i) → ShareQueue o i
 of_bare_queue (outlet.Ring put) (inlet.Ring take) share = share
+of_bare_queue (outlet.Ring put) (inlet.Room take) share = share
 of_bare_queue (outlet.Ring put) (inlet.Local q) share = share
+of_bare_queue (outlet.Room put) (inlet.Ring take) share = share
+of_bare_queue (outlet.Room put) (inlet.Room take) share = share
+of_bare_queue (outlet.Room put) (inlet.Local q) share = share
 of_bare_queue (outlet.Local q) (inlet.Ring take) share = share
+of_bare_queue (outlet.Local q) (inlet.Room take) share = share
 of_bare_queue (outlet.Local q) (inlet.Local r) share = share
 
 initial-bare : (shelf : List PlainQueue) (o : Outlet) → outlet_initial shelf (bare_outlet o) ≡ outlet_initial shelf o
 initial-bare shelf (outlet.Ring put) = refl
+initial-bare shelf (outlet.Room put) = refl
 initial-bare shelf (outlet.Local q) = refl
 
 initial-shelf : (old new : List PlainQueue) (o : Outlet) → IsSameShelf old new → outlet_initial new o ≡ outlet_initial old o
 initial-shelf old new (outlet.Ring put) same = refl
+initial-shelf old new (outlet.Room put) same = refl
 initial-shelf old new (outlet.Local q) same = ap (λ (queue : PlainQueue). queue.initial) (same.queues q)
 
 -- ends that are the same without their tokens
@@ -107,6 +129,26 @@ module _ (o o' : Outlet) (i i' : Inlet) (out_same : bare_outlet o' ≡ bare_outl
 initial-same : (old new : List PlainQueue) (o o' : Outlet) → IsSameShelf old new → bare_outlet o' ≡ bare_outlet o → outlet_initial new o' ≡ outlet_initial old o
 initial-same old new o o' shelf same =
     sym (initial-bare new o') ∙ ap (outlet_initial new) same ∙ initial-bare new o ∙ initial-shelf old new o shelf
+
+to_bare_room : (room : Option ℕ) (tokens : ℕ) (o : Outlet) → IsOfRoom room tokens o → IsOfRoom room tokens (bare_outlet o)
+to_bare_room None tokens (outlet.Ring put) is = is
+to_bare_room None tokens (outlet.Room put) is = is
+to_bare_room None tokens (outlet.Local q) is = is
+to_bare_room (Some room) tokens (outlet.Ring put) is = is
+to_bare_room (Some room) tokens (outlet.Room put) is = is
+to_bare_room (Some room) tokens (outlet.Local q) is = is
+
+of_bare_room : (room : Option ℕ) (tokens : ℕ) (o : Outlet) → IsOfRoom room tokens (bare_outlet o) → IsOfRoom room tokens o
+of_bare_room None tokens (outlet.Ring put) is = is
+of_bare_room None tokens (outlet.Room put) is = is
+of_bare_room None tokens (outlet.Local q) is = is
+of_bare_room (Some room) tokens (outlet.Ring put) is = is
+of_bare_room (Some room) tokens (outlet.Room put) is = is
+of_bare_room (Some room) tokens (outlet.Local q) is = is
+
+room-same : (room : Option ℕ) (tokens : ℕ) (o o' : Outlet) → bare_outlet o' ≡ bare_outlet o → IsOfRoom room tokens o → IsOfRoom room tokens o'
+room-same room tokens o o' same is =
+    of_bare_room room tokens o' (subst (IsOfRoom room tokens) (sym same) (to_bare_room room tokens o is))
 
 -- ---- all teams
 
@@ -163,6 +205,12 @@ module _ (g : Parts) (begun : State) (old new : List WorkTeam) (some : 1 ≤ sta
             ∙ was.initial;
       }
 
+  -- and each ring is of the kind that it was
+  pub rooms-worked : IsGraph g → (room : Option ℕ) → AreOfRoom room g old → AreOfRoom room g new
+  rooms-worked sound room was a listed apart =
+      room-same room (arc g a).tokens (outlet_on g old a) (outlet_on g new a) (outlet-worked a (sound.starts_exist a listed)) (
+      was a listed (λ same. apart (worker-same (arc g a).from ∙ same ∙ sym (worker-same (arc g a).to))))
+
   -- teams that have worked, each with its own stations still, are the teams of the line
   pub teams-worked : IsGraph g → ((w : ℕ) → w < length old → IsTeam g begun (first_of (length old) (stations g) w) (team_at new w)) → AreTeams g begun new
   teams-worked sound each = record {
@@ -182,16 +230,30 @@ module _ (g : Parts) (begun : State) (old new : List WorkTeam) (some : 1 ≤ sta
 
 -- ---- an arc inside one worker
 
-shared-is_met : (shelf : List PlainQueue) (o : Outlet) (i : Inlet) → ShareQueue o i → inlet_taken shelf i ++ inlet_known shelf i ≡ outlet_tokens shelf o
+shared-is_met : (shelf : List PlainQueue) (o : Outlet) (i : Inlet) → ShareQueue o i → IsQueueMet shelf shelf o i
 shared-is_met shelf (outlet.Ring put) (inlet.Ring take) share = absurd share
+shared-is_met shelf (outlet.Ring put) (inlet.Room take) share = absurd share
 shared-is_met shelf (outlet.Ring put) (inlet.Local q) share = absurd share
+shared-is_met shelf (outlet.Room put) (inlet.Ring take) share = absurd share
+shared-is_met shelf (outlet.Room put) (inlet.Room take) share = absurd share
+shared-is_met shelf (outlet.Room put) (inlet.Local q) share = absurd share
 shared-is_met shelf (outlet.Local q) (inlet.Ring take) share = absurd share
+shared-is_met shelf (outlet.Local q) (inlet.Room take) share = absurd share
 shared-is_met shelf (outlet.Local q) (inlet.Local r) share =
-    take-append-drop (queue_at shelf r).takes (plain_tokens (queue_at shelf r)) ∙ ap (λ k. plain_tokens (queue_at shelf k)) (sym share)
+    let queue = queue_at shelf r in
+    let tokens = plain_tokens queue in
+    let all : take queue.takes tokens ++ drop queue.takes tokens ≡ plain_tokens (queue_at shelf q) =
+    take-append-drop queue.takes tokens ∙ ap (λ k. plain_tokens (queue_at shelf k)) (sym share) in
+    record {
+      in_order = (drop queue.takes tokens, all);
+      known = omega (arith, ap length all, length-append (take queue.takes tokens) (drop queue.takes tokens));
+      room = tt;
+    }
 
 -- its queue is met at every moment
 pub local_is_met : (g : Parts) (begun : State) (teams : List WorkTeam) (a : ℕ) → IsJoined g begun teams a → worker_at g teams (arc g a).from ≡ worker_at g teams (arc g a).to → IsMetOn g teams a
 local_is_met g begun teams a joined same =
-    let shelf = shelf_of g teams (arc g a).to in
-    shared-is_met shelf (outlet_on g teams a) (input_on g teams a).inlet (joined.shelf same)
-    ∙ ap (λ w. outlet_tokens (team_at teams w).shelf (outlet_on g teams a)) (sym same)
+    let o = outlet_on g teams a in
+    let i = (input_on g teams a).inlet in
+    subst (λ w. IsQueueMet (team_at teams w).shelf (shelf_of g teams (arc g a).to) o i) (sym same) (
+    shared-is_met (shelf_of g teams (arc g a).to) o i (joined.shelf same))

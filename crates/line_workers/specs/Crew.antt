@@ -1,5 +1,5 @@
 -- What contracts see of a crew: a worker's team, the line that it belongs to, and the order in which its stations step.
-use Rattle.std.specs.Prelude.{◌≡◌, ℕ, ◌+◌, ◌<◌, ◌≤◌, List, [], map, length, slice_index}
+use Rattle.std.specs.Prelude.{◌≡◌, ℕ, ◌+◌, ◌<◌, ◌≤◌, List, [], Option, map, length, slice_index}
 use Rattle.line_base.specs.Roomy.{RoomyLogs}
 use Rattle.event_graph.specs.Network.{stations, jobs}
 use Rattle.event_graph.specs.State.{State}
@@ -14,6 +14,7 @@ pub record WorkCrew : Type 0 where
   pub live : LiveGraph  -- the graph that the line was made for, and the places of its stations
   pub begun : State  -- the state with which the line began
   pub workers : ℕ  -- how many crews the line has
+  pub room : Option ℕ  -- how much a ring has beyond the tokens with which its arc starts; none: without bound
   pub worker : ℕ  -- which of them this is
   pub first : ℕ  -- the number of its first station
   pub team : WorkTeam

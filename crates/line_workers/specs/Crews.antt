@@ -1,11 +1,11 @@
 -- The crews of one line.
-use Rattle.std.specs.Prelude.{◌≡◌, ℕ, ◌^◌, ◌<◌, ◌≤◌, List, [], drop, length, slice_index_or}
+use Rattle.std.specs.Prelude.{◌≡◌, ℕ, ◌^◌, ◌<◌, ◌≤◌, List, [], Option, None, IfSome, drop, length, slice_index_or}
 use Rattle.line_base.specs.declared.event.Parts.{Parts}
 use Rattle.event_graph.specs.Network.{arc_count}
 use Rattle.event_graph.specs.State.{State}
 use Rattle.live_check.specs.Order.{LiveGraph}
 use Rattle.line_workers.specs.Team.{WorkTeam, no_station}
-use Rattle.line_workers.specs.Teams.{team_at, IsJoined, IsMetOn, AreAllMet, HaveBegun}
+use Rattle.line_workers.specs.Teams.{team_at, IsJoined, AreOfRoom, IsMetOn, AreAllMet, HaveBegun}
 use Rattle.line_workers.specs.Crew.{WorkCrew, IsCrew, with_team, teams_of}
 use Rattle.line_workers.specs.Work.{HasBurst, HasBurstAlone, IsAlone, TurnsBelow, TeamsWorked}
 use Rattle.line_workers.specs.Meeting.{AreStill}
@@ -16,6 +16,7 @@ no_crew = record {
   live = record { graph = no_station.graph; places = [] };
   begun = record { logs = []; places = [] };
   workers = 0;
+  room = None;
   worker = 0;
   first = 0;
   team = record { stations = []; shelf = [] };
@@ -38,7 +39,11 @@ graph_of crews = (live_of crews).graph
 abbrev pub begun_of : List WorkCrew → State
 begun_of crews = (crew_at crews 0).begun
 
--- all crews of one line, in order: each arc has its queue among them
+-- how much room the rings of the line have beyond the tokens with which their arcs start
+abbrev pub room_of : List WorkCrew → Option ℕ
+room_of crews = (crew_at crews 0).room
+
+-- all crews of one line, in order: each arc has its queue among them, and each ring its room
 pub record AreCrews (crews : List WorkCrew) : Type 0 where
   pub some : 1 ≤ length crews
   pub each : (w : ℕ) → w < length crews → IsCrew (crew_at crews w)
@@ -47,6 +52,9 @@ pub record AreCrews (crews : List WorkCrew) : Type 0 where
   pub lives : (w : ℕ) → w < length crews → (crew_at crews w).live ≡ live_of crews
   pub begun : (w : ℕ) → w < length crews → (crew_at crews w).begun ≡ begun_of crews
   pub joined : (a : ℕ) → a < arc_count (graph_of crews) → IsJoined (graph_of crews) (begun_of crews) (teams_of crews) a
+  pub kinds : (w : ℕ) → w < length crews → (crew_at crews w).room ≡ room_of crews
+  pub some_room : IfSome (room_of crews) (λ room. 1 ≤ room)
+  pub rooms : AreOfRoom (room_of crews) (graph_of crews) (teams_of crews)
 
 -- the crew is the same but for its team
 pub record IsSameCrew (old new : WorkCrew) : Type 0 where
@@ -79,27 +87,30 @@ pub record IsMeeting (live : LiveGraph) (old now : List WorkCrew) (arcs : ℕ) :
   pub met : (b : ℕ) → b < arcs → IsMetOn live.graph (teams_of now) b
 
 -- what a new crew is
-pub record IsNewCrew (live : LiveGraph) (begun : State) (workers worker : ℕ) (team : WorkTeam) (c : WorkCrew)
-    : Type 0 where
+pub record IsNewCrew (live : LiveGraph) (begun : State) (workers : ℕ) (room : Option ℕ) (worker : ℕ) (team : WorkTeam)
+    (c : WorkCrew) : Type 0 where
   pub crew : IsCrew c
   pub live_is : c.live ≡ live
   pub begun_is : c.begun ≡ begun
   pub workers_are : c.workers ≡ workers
+  pub room_is : c.room ≡ room
   pub worker_is : c.worker ≡ worker
   pub team_is : c.team ≡ team
 
 -- the crews of a line that begins with this state
-pub record AreNewCrews (live : LiveGraph) (begun : State) (workers : ℕ) (crews : List WorkCrew) : Type 0 where
+pub record AreNewCrews (live : LiveGraph) (begun : State) (workers : ℕ) (room : Option ℕ) (crews : List WorkCrew)
+    : Type 0 where
   pub count : length crews ≡ workers
   pub whole : AreCrews crews
   pub live_is : live_of crews ≡ live
   pub begun_is : begun_of crews ≡ begun
+  pub room_is : room_of crews ≡ room
   pub met : AreAllMet live.graph (teams_of crews)
   pub new : HaveBegun live.graph begun (teams_of crews)
 
 -- so many of them are made
-pub record AreMakingCrews (live : LiveGraph) (begun : State) (workers : ℕ) (teams left : List WorkTeam)
-    (crews : List WorkCrew) (made : ℕ) : Type 0 where
+pub record AreMakingCrews (live : LiveGraph) (begun : State) (workers : ℕ) (room : Option ℕ)
+    (teams left : List WorkTeam) (crews : List WorkCrew) (made : ℕ) : Type 0 where
   pub count : length crews ≡ made
   pub left_is : left ≡ drop made teams
-  pub each : (w : ℕ) → w < made → IsNewCrew live begun workers w (team_at teams w) (crew_at crews w)
+  pub each : (w : ℕ) → w < made → IsNewCrew live begun workers room w (team_at teams w) (crew_at crews w)

@@ -6,8 +6,8 @@ use Rattle.line_workers.specs.Team.{WorkTeam}
 use Rattle.line_workers.specs.Teams.{state_among}
 use Rattle.line_workers.specs.Crew.{WorkCrew, with_team, teams_of}
 use Rattle.line_workers.specs.Work.{TeamWorked}
-use Rattle.line_workers.specs.Crews.{crew_at, graph_of, IsSameCrew}
-use Rattle.line_workers.specs.Line.{line_of, AreAtRest, Stands}
+use Rattle.line_workers.specs.Crews.{crew_at, graph_of, room_of, IsSameCrew}
+use Rattle.line_workers.specs.Line.{line_of, AreAtRest, StandsIn}
 
 -- the logs of the stations of all crews, in the order of their numbers
 abbrev pub logs_in : List WorkCrew → List (List ℕ)
@@ -39,4 +39,4 @@ pub record AreCrewsAfter (old new : List WorkCrew) : Type 0 where
 pub record Gathers (live : LiveGraph) (crews gathered : List WorkCrew) (made : ℕ) : Type 0 where
   pub rest : AreAtRest gathered made
   pub logs : (line_of gathered made).state.logs ≡ logs_in crews
-  pub stands : Stands live (line_of gathered made).state (length crews) (line_of gathered made)
+  pub stands : StandsIn (room_of crews) live (line_of gathered made).state (length crews) (line_of gathered made)

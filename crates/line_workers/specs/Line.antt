@@ -1,17 +1,18 @@
 -- What contracts see of a line: what it was made for, the state that it stands for, and counts. Nothing of queues.
-use Rattle.std.specs.Prelude.{◌≡◌, ℕ, ◌-◌, ◌*◌, ◌<◌, ◌≤◌, List, map, take, length, All}
+use Rattle.std.specs.Prelude.{◌≡◌, ◌≢◌, ℕ, ◌+◌, ◌-◌, ◌*◌, ◌<◌, ◌≤◌, List, Option, None, Some, map, take, length, All}
 use Rattle.std.specs.List.{range_with_len}
 use Rattle.line_base.specs.declared.event.Parts.{Parts}
-use Rattle.event_graph.specs.Network.{stations}
-use Rattle.event_graph.specs.State.{State, log}
+use Rattle.event_graph.specs.Network.{stations, arc, arc_count}
+use Rattle.event_graph.specs.State.{State, log, place}
 use Rattle.live_check.specs.Order.{LiveGraph, IsRanked}
 use Rattle.line_core.specs.Consistent.{fired}
 use Rattle.line_core.specs.Run.{Run, IsReached}
+use Rattle.line_workers.specs.Share.{worker_of}
 use Rattle.line_workers.specs.Team.{WorkTeam}
 use Rattle.line_workers.specs.Teams.{station_of, state_among, AreAllMet}
 use Rattle.line_workers.specs.Crew.{WorkCrew, teams_of}
 use Rattle.line_workers.specs.Work.{turns_of}
-use Rattle.line_workers.specs.Crews.{live_of, graph_of, AreCrews}
+use Rattle.line_workers.specs.Crews.{live_of, graph_of, room_of, AreCrews}
 
 -- what contracts see of a `Line`
 pub record WorkLine : Type 0 where
@@ -19,6 +20,7 @@ pub record WorkLine : Type 0 where
   pub state : State  -- the state that it stands for
   pub turns : List ℕ  -- how many steps each station has made
   pub workers : ℕ
+  pub room : Option ℕ  -- how much room a ring has beyond the tokens with which its arc starts; none: without bound
   pub made : ℕ  -- how many firings had been made when the turns began to count
 
 -- the turns of the stations of some teams
@@ -32,6 +34,7 @@ line_of crews made = record {
   state = state_among (graph_of crews) (teams_of crews);
   turns = turns_among (graph_of crews) (teams_of crews);
   workers = length crews;
+  room = room_of crews;
   made = made;
 }
 
@@ -54,20 +57,37 @@ pub record AreAtRest (crews : List WorkCrew) (made : ℕ) : Type 0 where
   pub met : AreAllMet (graph_of crews) (teams_of crews)
   pub pace : KeepsPace (line_of crews made)
 
--- what holds of each line: the graph is live, and firings lead to its state
+-- two workers have the stations of arc a
+abbrev pub IsBetween : WorkLine → ℕ → Type 0
+IsBetween l a =
+    worker_of l.workers (stations l.live.graph) (arc l.live.graph a).from ≢
+    worker_of l.workers (stations l.live.graph) (arc l.live.graph a).to
+
+-- on an arc between two workers no more tokens wait than those with which it starts, the room and one in the hand
+abbrev pub IsWithinRooms : WorkLine → Type 0
+IsWithinRooms l = (room : ℕ) → l.room ≡ Some room → (a : ℕ) → a < arc_count l.live.graph → IsBetween l a →
+    length (place l.state a) ≤ (arc l.live.graph a).tokens + room + 1
+
+-- what holds of each line: the graph is live, firings lead to its state, and tokens wait only where there is room
 pub record IsLine (l : WorkLine) : Type 0 where
   pub ranked : IsRanked l.live
   pub reached : IsReached (run_in l)
   pub pace : KeepsPace l
+  pub within : IsWithinRooms l
 
 -- each log has the dates that it had, and maybe more behind them
 abbrev pub LogsGrow : Parts → State → State → Type 0
 LogsGrow g old new = (t : ℕ) → t < stations g → take (length (log old t)) (log new t) ≡ log old t
 
--- a new line of so many workers, which stands for this state
-pub record Stands (live : LiveGraph) (state : State) (workers : ℕ) (l : WorkLine) : Type 0 where
+-- a new line of so many workers, with rings of this room, which stands for this state
+pub record StandsIn (room : Option ℕ) (live : LiveGraph) (state : State) (workers : ℕ) (l : WorkLine) : Type 0 where
   pub live_is : l.live ≡ live
   pub state_is : l.state ≡ state
   pub workers_are : l.workers ≡ workers
+  pub room_is : l.room ≡ room
   pub made_is : l.made ≡ fired state
   pub no_turns : All (λ turns. turns ≡ 0) l.turns
+
+-- a new line of so many workers, with rings whose room has no bound, which stands for this state
+abbrev pub Stands : LiveGraph → State → ℕ → WorkLine → Type 0
+Stands live state workers = StandsIn None live state workers

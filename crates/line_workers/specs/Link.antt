@@ -2,7 +2,7 @@
 use Rattle.std.specs.Prelude.{◌≡◌, ◌≢◌, ℕ, ◌-◌, ◌<◌, List, length, slice_set}
 use Rattle.line_base.specs.declared.event.Parts.{Parts}
 use Rattle.event_graph.specs.Network.{stations, arc, ins, outs}
-use Rattle.station_step.specs.Ends.{AreEnds}
+use Rattle.station_step.specs.Ends.{AreEnds, AreMet}
 use Rattle.station_step.specs.Input.{input_at}
 use Rattle.station_step.specs.Station.{WorkStation, outlet_at}
 use Rattle.line_workers.specs.declared.link.Seat.{Seat}
@@ -11,7 +11,7 @@ use Rattle.line_workers.specs.Share.{worker_of, first_of}
 use Rattle.line_workers.specs.Team.{member}
 use Rattle.line_workers.specs.Teams.{place_in}
 use Rattle.line_workers.specs.Crew.{WorkCrew}
-use Rattle.line_workers.specs.Meeting.{MetAt}
+use Rattle.line_workers.specs.Meeting.{OutletMet, InletMet}
 use Rattle.line_workers.specs.Crews.{crew_at, IsSameCrew}
 
 -- the worker of station t, and the station's number in the team
@@ -55,7 +55,12 @@ pub record IsRing (crews : List WorkCrew) (link : Link) : Type 0 where
 
 -- the ends that stand there met
 pub record HaveMet (link : Link) (old new : List WorkCrew) : Type 0 where
-  pub only : new ≡ slice_set old link.to.worker (crew_at new link.to.worker)
-  pub same : IsSameCrew (crew_at old link.to.worker) (crew_at new link.to.worker)
-  pub met : MetAt (outlet_at (seated_at old link.from).outlets link.output) link.to.number link.input
-      (crew_at old link.to.worker).team (crew_at new link.to.worker).team
+  pub only : new ≡ slice_set (slice_set old link.from.worker (crew_at new link.from.worker)) link.to.worker
+      (crew_at new link.to.worker)
+  pub from_same : IsSameCrew (crew_at old link.from.worker) (crew_at new link.from.worker)
+  pub to_same : IsSameCrew (crew_at old link.to.worker) (crew_at new link.to.worker)
+  pub from : OutletMet link.from.number link.output (crew_at old link.from.worker).team
+      (crew_at new link.from.worker).team
+  pub to : InletMet link.to.number link.input (crew_at old link.to.worker).team (crew_at new link.to.worker).team
+  pub met : AreMet (outlet_at (seated_at new link.from).outlets link.output)
+      (input_at (seated_at new link.to).inputs link.input).inlet

@@ -1,12 +1,15 @@
 -- Making the teams: first a queue for each arc, its two ends laid down by station; then the stations, which take them.
-use Rattle.std.specs.Prelude.{◌≡◌, ◌≢◌, ℕ, ◌+◌, ◌-◌, ◌^◌, ◌<◌, ◌≤◌, ◌==◌, List, [], ◌∷◌, ◌++◌, Some, map, length, filter, slice_index_or, slice_set}
+use Rattle.std.specs.Prelude.{◌≡◌, ◌≢◌, ℕ, ◌+◌, ◌-◌, ◌^◌, ◌<◌, ◌≤◌, ◌==◌, ⊤, List, [], ◌∷◌, ◌++◌, Option, None, Some, map, length, filter, slice_index_or, slice_set}
 use Rattle.std.specs.List.{range_with_len}
 use Rattle.line_base.specs.declared.event.Parts.{Parts}
 use Rattle.card_queue.specs.Plain.{PlainQueue}
 use Rattle.card_queue.specs.Put.{PutEnd}
 use Rattle.card_queue.specs.Take.{TakeEnd}
 use Rattle.card_queue.specs.Queue.{IsQueue}
-use Rattle.event_graph.specs.Network.{stations, jobs, arc, ins, outs}
+use Rattle.room_ring.specs.Put.{RoomPutEnd, room_space}
+use Rattle.room_ring.specs.Take.{RoomTakeEnd, room_known}
+use Rattle.room_ring.specs.Ends.{IsRoomRing}
+use Rattle.event_graph.specs.Network.{stations, jobs, arc, arc_count, ins, outs}
 use Rattle.event_graph.specs.State.{State, log, place}
 use Rattle.station_step.specs.declared.ends.Inlet.{Inlet}
 use Rattle.station_step.specs.declared.ends.Outlet.{Outlet}
@@ -19,7 +22,7 @@ use Rattle.station_step.specs.Station.{WorkStation, IsStation, outlet_at}
 use Rattle.station_step.specs.Kept.{IsFresh, IsKept}
 use Rattle.line_workers.specs.Share.{worker_of, first_of}
 use Rattle.line_workers.specs.Team.{WorkTeam, member}
-use Rattle.line_workers.specs.Teams.{team_at}
+use Rattle.line_workers.specs.Teams.{team_at, IsOfRoom}
 
 -- ---- the queue of an arc
 
@@ -36,6 +39,28 @@ pub record IsNewRing (g : Parts) (begun : State) (a : ℕ) (put : PutEnd) (take 
   pub taken : take.taken ≡ []
   pub known : take.known ≡ place begun a
 
+-- the ends of a ring of bounded room that begins with the tokens on arc a: all of them are known, and all else is space
+pub record IsNewRoom (g : Parts) (begun : State) (a : ℕ) (put : RoomPutEnd) (take : RoomTakeEnd) : Type 0 where
+  pub ends : IsRoomRing put take
+  pub initial : put.initial ≡ place begun a
+  pub added : put.added ≡ []
+  pub few : room_on g begun a ≤ 2 ^ 40
+  pub taken : take.taken ≡ []
+  pub known : length (place begun a) ≤ room_known take
+  pub space : room_space put + length (place begun a) ≡ put.ring.room
+
+-- the room is 1 to 10,000, and a ring with room for its arc's tokens at the start and so many more takes those there
+-- now
+pub record FitsRoom (room : ℕ) (g : Parts) (begun : State) : Type 0 where
+  pub some : 1 ≤ room
+  pub most : room ≤ 10000
+  pub fits : (a : ℕ) → a < arc_count g → length (place begun a) ≤ (arc g a).tokens + room
+
+-- so it is, where a room is given
+abbrev pub MayHold : Option ℕ → Parts → State → Type 0
+MayHold None g begun = ⊤
+MayHold (Some room) g begun = FitsRoom room g begun
+
 -- the tokens with which queue q of a shelf begins
 abbrev pub first_tokens : List (List ℕ) → ℕ → List ℕ
 first_tokens firsts q = slice_index_or firsts q []
@@ -46,9 +71,15 @@ pub record IsNewPlain (begun : State) (firsts : List (List ℕ)) (a q r : ℕ) :
   pub there : q < length firsts
   pub tokens : first_tokens firsts q ≡ place begun a
 
-abbrev pub HasRing : Parts → State → ℕ → Outlet → Inlet → Type 0
-HasRing g begun a (outlet.Ring put) (inlet.Ring take) = IsNewRing g begun a put take
-HasRing g begun a _ _ = ⊥
+abbrev pub AreNewEnds : Parts → State → ℕ → Outlet → Inlet → Type 0
+AreNewEnds g begun a (outlet.Ring put) (inlet.Ring take) = IsNewRing g begun a put take
+AreNewEnds g begun a (outlet.Room put) (inlet.Room take) = IsNewRoom g begun a put take
+AreNewEnds g begun a _ _ = ⊥
+
+-- the ends of a ring of this kind that begins with the tokens on arc a
+pub record HasRing (room : Option ℕ) (g : Parts) (begun : State) (a : ℕ) (out : Outlet) (into : Inlet) : Type 0 where
+  pub ends : AreNewEnds g begun a out into
+  pub kind : IsOfRoom room (arc g a).tokens out
 
 abbrev pub HasPlain : State → List (List ℕ) → ℕ → Outlet → Inlet → Type 0
 HasPlain begun firsts a (outlet.Local q) (inlet.Local r) = IsNewPlain begun firsts a q r
@@ -56,12 +87,13 @@ HasPlain begun firsts a _ _ = ⊥
 
 -- ---- the ends by station
 
--- for each station its outlets and its inlets, in the order of the arcs, and for each worker the tokens with which the
--- queues of its shelf begin
+-- for each station its outlets and its inlets, in the order of the arcs, for each worker the tokens with which the
+-- queues of its shelf begin, and the kind of the rings
 pub record QueueEnds : Type 0 where
   pub outlets : List (List Outlet)
   pub inlets : List (List Inlet)
   pub shelves : List (List (List ℕ))
+  pub room : Option ℕ
 
 abbrev pub outlets_at : QueueEnds → ℕ → List Outlet
 outlets_at ends t = slice_index_or ends.outlets t []
@@ -118,7 +150,8 @@ taker g workers a = worker_of workers (stations g) (arc g a).to
 
 -- arc a has its ends: those of a ring between two workers, else of a queue on the worker's shelf
 pub record HasEnds (g : Parts) (begun : State) (workers : ℕ) (ends : QueueEnds) (a : ℕ) : Type 0 where
-  pub ring : putter g workers a ≢ taker g workers a → HasRing g begun a (outlet_of g ends a) (inlet_of g ends a)
+  pub ring : putter g workers a ≢ taker g workers a →
+      HasRing ends.room g begun a (outlet_of g ends a) (inlet_of g ends a)
   pub shelf : putter g workers a ≡ taker g workers a →
       HasPlain begun (firsts_at ends (putter g workers a)) a (outlet_of g ends a) (inlet_of g ends a)
 

@@ -1,9 +1,11 @@
 -- The teams of a line: each station and each arc of the graph among them.
-use Rattle.std.specs.Prelude.{◌≡◌, ◌≢◌, ℕ, ◌+◌, ◌-◌, ◌<◌, ◌≤◌, ◌==◌, List, [], ◌++◌, map, drop, length, slice_index_or, option_to_list}
+use Rattle.std.specs.Prelude.{◌≡◌, ◌≢◌, ℕ, ◌+◌, ◌-◌, ◌<◌, ◌≤◌, ◌==◌, ⊤, List, [], ◌++◌, Option, None, Some, map, drop, length, slice_index_or, option_to_list}
 use Rattle.std.specs.List.{position_or_len, range_with_len}
+use mathlib.Core.List.{IsPrefix}
 use Rattle.line_base.specs.declared.event.Parts.{Parts}
 use Rattle.card_queue.specs.Plain.{PlainQueue, plain_tokens}
 use Rattle.card_queue.specs.Put.{put_tokens}
+use Rattle.room_ring.specs.Put.{room_tokens}
 use Rattle.event_graph.specs.Network.{stations, arc_count, arc, ins, outs}
 use Rattle.event_graph.specs.State.{State, log, place}
 use Rattle.station_step.specs.declared.ends.Inlet.{Inlet}
@@ -12,7 +14,7 @@ use Rattle.station_step.specs.declared.ends.Inlet.TheVariants as inlet
 use Rattle.station_step.specs.declared.ends.Outlet.TheVariants as outlet
 use Rattle.station_step.specs.declared.input.Input.{Input}
 use Rattle.station_step.specs.Shelf.{queue_at}
-use Rattle.station_step.specs.Ends.{inlet_taken, inlet_known, AreEnds}
+use Rattle.station_step.specs.Ends.{inlet_taken, inlet_ahead, AreEnds, AreRoomMet}
 use Rattle.station_step.specs.Input.{input_at}
 use Rattle.station_step.specs.Station.{WorkStation, outlet_at}
 use Rattle.line_workers.specs.Share.{worker_of, first_of}
@@ -55,11 +57,13 @@ outlet_on g teams a =
 -- the tokens that the queue of an outlet began with
 abbrev pub outlet_initial : List PlainQueue → Outlet → List ℕ
 outlet_initial shelf (outlet.Ring put) = put.initial
+outlet_initial shelf (outlet.Room put) = put.initial
 outlet_initial shelf (outlet.Local q) = (queue_at shelf q).initial
 
 -- every token of the queue of an outlet in order of putting, the initial ones first
 abbrev pub outlet_tokens : List PlainQueue → Outlet → List ℕ
 outlet_tokens shelf (outlet.Ring put) = put_tokens put
+outlet_tokens shelf (outlet.Room put) = room_tokens put
 outlet_tokens shelf (outlet.Local q) = plain_tokens (queue_at shelf q)
 
 -- the outlet and the inlet are those of one queue of a shelf
@@ -76,6 +80,12 @@ pub record IsJoined (g : Parts) (begun : State) (teams : List WorkTeam) (a : ℕ
       ShareQueue (outlet_on g teams a) (input_on g teams a).inlet
   pub initial : outlet_initial (shelf_of g teams (arc g a).from) (outlet_on g teams a) ≡ place begun a
 
+-- where a room is given, the ring has the room of so many tokens and so much more; else its room has no bound
+abbrev pub IsOfRoom : Option ℕ → ℕ → Outlet → Type 0
+IsOfRoom None tokens (outlet.Ring put) = ⊤
+IsOfRoom (Some room) tokens (outlet.Room put) = put.ring.room ≡ tokens + room
+IsOfRoom _ _ _ = ⊥
+
 -- ---- all of them
 
 -- a team for each worker, with its stations, and a queue for each arc
@@ -87,13 +97,29 @@ pub record AreTeams (g : Parts) (begun : State) (teams : List WorkTeam) : Type 0
   pub each : (w : ℕ) → w < length teams → IsTeam g begun (first_of (length teams) (stations g) w) (team_at teams w)
   pub joined : (a : ℕ) → a < arc_count g → IsJoined g begun teams a
 
--- what was taken from the queue of arc a, and then what is known to come next, is all that was put, in order
+-- each ring between two workers is of this kind, for the tokens with which the arc starts
+abbrev pub AreOfRoom : Option ℕ → Parts → List WorkTeam → Type 0
+AreOfRoom room g teams = (a : ℕ) → a < arc_count g → worker_at g teams (arc g a).from ≢ worker_at g teams (arc g a).to →
+    IsOfRoom room (arc g a).tokens (outlet_on g teams a)
+
+-- in a ring of bounded room no more tokens wait than there is room for, and the space is at least the room less their
+-- number
+abbrev pub IfRoomMet : Outlet → Inlet → Type 0
+IfRoomMet (outlet.Room put) (inlet.Room take) = AreRoomMet put take
+IfRoomMet _ _ = ⊤
+
+-- what was taken from a queue begins what was put, and all the rest is known to come next; its ends stand over these
+-- shelves
+pub record IsQueueMet (from to : List PlainQueue) (out : Outlet) (into : Inlet) : Type 0 where
+  pub in_order : IsPrefix (inlet_taken to into) (outlet_tokens from out)
+  pub known : length (outlet_tokens from out) ≤ length (inlet_taken to into) + inlet_ahead to into
+  pub room : IfRoomMet out into
+
+-- the queue of arc a was met
 abbrev pub IsMetOn : Parts → List WorkTeam → ℕ → Type 0
 IsMetOn g teams a =
-    let shelf = shelf_of g teams (arc g a).to in
-    let inlet = (input_on g teams a).inlet in
-    inlet_taken shelf inlet ++ inlet_known shelf inlet ≡
-    outlet_tokens (shelf_of g teams (arc g a).from) (outlet_on g teams a)
+    IsQueueMet (shelf_of g teams (arc g a).from) (shelf_of g teams (arc g a).to) (outlet_on g teams a)
+    (input_on g teams a).inlet
 
 -- every queue was met
 abbrev pub AreAllMet : Parts → List WorkTeam → Type 0

@@ -3,12 +3,12 @@ ghost use Rattle.std.specs.List.{Any};
 ghost use Rattle.event_graph.specs.Network.{jobs, stations};
 ghost use Rattle.event_graph.specs.Reached.{Reached};
 ghost use Rattle.line_workers.specs.Share.{first_of};
-ghost use Rattle.station_step.specs.Ends.{AreEnds};
+ghost use Rattle.station_step.specs.Ends.{AreEnds, AreMet};
 ghost use Rattle.station_step.specs.Input.{input_at};
 ghost use Rattle.station_step.specs.Station.{outlet_at};
 ghost use Rattle.line_workers.specs.Team.{member, IsTeam};
 ghost use Rattle.line_workers.specs.Crews.{IsSameCrew};
-ghost use Rattle.line_workers.specs.Meeting.{MetAt};
+ghost use Rattle.line_workers.specs.Meeting.{OutletMet, InletMet};
 ghost use Rattle.line_workers.specs.Crew.{IsCrew, with_team};
 ghost use Rattle.line_workers.specs.Close.{log_of, copy_of};
 ghost use Rattle.line_workers.specs.Gather.{cleared_crew};
@@ -44,9 +44,11 @@ pub struct Crew {
     // An empty list with room for the logs of all stations, for the end of the line.
     spare: Logs,
     alloc: Global,
-    // How many crews the line has. Contracts alone read it, as the next two: what the line was made for, and the state
-    // with which it began.
+    // How many crews the line has. Contracts alone read it, as the next three: how much room a ring of the line has
+    // beyond the tokens with which its arc starts, if it has a bound; what the line was made for; and the state with
+    // which it began.
     workers: u32,
+    room: Snapshot<Option<u32>>,
     live: Snapshot<Live>,
     begun: Snapshot<State>,
 }
@@ -60,6 +62,7 @@ impl Model for Crew {
       live = c.live.value;
       begun = c.begun.value.state;
       workers = c.workers;
+      room = c.room.value;
       worker = c.worker;
       first = c.first;
       team = c.team;
@@ -72,6 +75,7 @@ impl Model for Crew {
       live = c.live.value;
       begun = c.begun.value.state;
       workers = c.workers;
+      room = c.room.value;
       worker = c.worker;
       first = c.first;
       team = c.team;
@@ -88,6 +92,7 @@ impl Crew {
         live: &Live,
         state: &State,
         workers: u32,
+        room: Option<u32>,
         worker: u32,
         team: Team,
     ) -> Result<Crew, AllocError>
@@ -102,6 +107,7 @@ impl Crew {
         ensures live { IfOk result (λ crew. crew.live ≡ live.now) }
         ensures begun { IfOk result (λ crew. crew.begun ≡ state.now.state) }
         ensures workers { IfOk result (λ crew. crew.workers ≡ workers) }
+        ensures room { IfOk result (λ crew. crew.room ≡ room) }
         ensures worker { IfOk result (λ crew. crew.worker ≡ worker) }
         ensures team { IfOk result (λ crew. crew.team ≡ team) }
     {
@@ -118,12 +124,14 @@ impl Crew {
             spare,
             alloc,
             workers,
+            room: Snapshot::of(&room),
             live: Snapshot::of(live),
             begun: Snapshot::of(state),
         })
     }
 
     /// Lets one station of the crew make a step. Answers whether it fired.
+    #[inline]
     fn step(&mut self, live: &Live, i: u32) -> bool
         requires made_for { live.now ≡ self.old.live }
         requires station { i < length self.old.team.stations }
@@ -139,7 +147,9 @@ impl Crew {
         matches!(stepped, Stepped::Fired)
     }
 
-    /// Lets the station whose turn comes at a place of the order make a step, behind the gate. Answers whether it fired.
+    /// Lets the station whose turn comes at a place of the order make a step, behind the gate. Answers whether it
+    /// fired.
+    #[inline]
     fn turn<G: Gate>(&mut self, live: &Live, gate: &G, place: usize) -> bool
         requires made_for { live.now ≡ self.old.live }
         requires place { place < length self.old.order }
@@ -155,8 +165,8 @@ impl Crew {
         self.step(live, i)
     }
 
-    /// Lets each station of the crew make one step, in the order of their places, with the gate before each step. Answers
-    /// the number of firings, by which the logs of its stations together grew. It takes no memory.
+    /// Lets each station of the crew make one step, in the order of their places, with the gate before each step.
+    /// Answers the number of firings, by which the logs of its stations together grew. It takes no memory.
     pub fn sweep<G: Gate>(&mut self, live: &Live, gate: &G) -> u64
         requires made_for { live.now ≡ self.old.live }
         requires turns { TurnsBelow (2 ^ 39) self.old.team }
@@ -234,8 +244,8 @@ impl Crew {
         most_turns(&self.team.stations)
     }
 
-    /// Brings the two ends of a ring together: output `k` of the crew's station `i`, and input `l` of station `j` of another
-    /// crew. All that was put and not taken is then known there.
+    /// Brings the two ends of a ring together: output `k` of the crew's station `i`, and input `l` of station `j` of
+    /// another crew. All that was put and not taken is then known there, and what was taken to the crew.
     pub(crate) fn meet(&mut self, i: u32, k: u32, to: &mut Crew, j: u32, l: u32)
         requires from { i < length self.old.team.stations }
         requires output { k < length (member self.old.team.stations i).outlets }
@@ -243,10 +253,12 @@ impl Crew {
         requires input { l < length (member to.old.team.stations j).inputs }
         requires ends { AreEnds (outlet_at (member self.old.team.stations i).outlets k)
             (input_at (member to.old.team.stations j).inputs l).inlet }
-        ensures from { self.new ≡ self.old }
-        ensures same { IsSameCrew to.old to.new }
-        ensures met { MetAt (outlet_at (member self.old.team.stations i).outlets k) j l to.old.team
-            to.new.team }
+        ensures from_same { IsSameCrew self.old self.new }
+        ensures to_same { IsSameCrew to.old to.new }
+        ensures from { OutletMet i k self.old.team self.new.team }
+        ensures to { InletMet j l to.old.team to.new.team }
+        ensures met { AreMet (outlet_at (member self.new.team.stations i).outlets k)
+            (input_at (member to.new.team.stations j).inputs l).inlet }
     {
         meet_teams(&mut self.team, i, k, &mut to.team, j, l);
     }

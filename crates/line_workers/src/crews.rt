@@ -13,7 +13,8 @@ ghost use Rattle.line_workers.specs.Share.{worker_of, first_of};
 ghost use Rattle.line_workers.specs.Teams.{place_in, state_among, AreAllMet};
 ghost use Rattle.line_workers.specs.Crew.{WorkCrew, teams_of};
 ghost use Rattle.line_workers.specs.Work.{TurnsBelow, TeamsWorked};
-ghost use Rattle.line_workers.specs.Meeting.{MetAt, AreStill, MeetsOn};
+ghost use Rattle.line_workers.specs.Making.{MayHold};
+ghost use Rattle.line_workers.specs.Meeting.{AreStill, MeetsOn};
 ghost use Rattle.line_workers.specs.Gather.{Gathers};
 ghost use Rattle.line_workers.specs.Link.{IsRing, HaveMet};
 ghost use Rattle.line_workers.specs.Crews.{crew_at, live_of, graph_of, AreCrews, AreSameCrews, IsSameCrew, CrewWorked, IsReadyFor, AreNewCrews};
@@ -24,9 +25,11 @@ use crate::gate::Gate;
 use crate::line::Burst;
 use crate::link::{Link, is_inside, link_of};
 use crate::making::teams_of;
+use crate::pace::{Pace, PacedGate};
 use line_core::State;
 use live_check::Live;
 use std::alloc::{AllocError, Global};
+use std::sync::atomic::AtomicU64;
 use std::thread;
 use std::thread::Threads;
 
@@ -47,10 +50,9 @@ pub(crate) fn work_all<R: Threads + Sync, G: Gate>(
         crews[0].work(live, gate);
         return;
     }
-    // A crew that begins before the crews up the line have put their tokens spends its burst
-    // blocked. `for_each_mut` runs the end of the slice on this thread at once, and the rest on
-    // threads that take time to start. So the crews are turned for the call: the first begins first.
-    crews.reverse();
+    // A crew that sweeps before the crews up the line have put their tokens, or those down the line
+    // their cards, spends its sweeps blocked. So the crews keep pace.
+    let begun = AtomicU64::new(0);
     thread::for_each_mut(
         rt,
         crews,
@@ -58,9 +60,12 @@ pub(crate) fn work_all<R: Threads + Sync, G: Gate>(
         &|_, crew: &mut Crew|
             requires { IsReadyFor live.now crew.now }
             ensures { CrewWorked crew.entry.now crew.exit.now }
-        { crew.work(live, gate) },
+        {
+            let pace = Pace::new(threads as u64, &begun);
+            crew.work(live, &PacedGate { pace: &pace, gate });
+            pace.leave();
+        },
     );
-    crews.reverse();
 }
 
 /// The two ends of a ring meet, where the crew that puts comes before the one that takes.
@@ -224,17 +229,20 @@ pub(crate) fn crews_of(
     live: &Live,
     state: &State,
     workers: u32,
+    room: Option<u32>,
 ) -> Result<Vec<Crew>, AllocError>
     requires made_for { live.now.graph ≡ state.now.graph }
     requires some { 1 ≤ workers }
     requires few { workers ≤ 16 }
     requires reached { Reached live.now.graph state.now.state }
-    ensures { IfOk result (λ crews. AreNewCrews live.now state.now.state workers crews.items) }
+    requires fits { MayHold room live.now.graph state.now.state }
+    ensures { IfOk result
+        (λ crews. AreNewCrews live.now state.now.state workers room crews.items) }
 {
-    let mut teams = teams_of(alloc, live, state, workers)?;
+    let mut teams = teams_of(alloc, live, state, workers, room)?;
     let mut crews = Vec::with_capacity(alloc, workers as usize)?;
     for worker in 0..workers {
-        let crew = Crew::of(alloc, live, state, workers, worker, teams.remove(0))?;
+        let crew = Crew::of(alloc, live, state, workers, room, worker, teams.remove(0))?;
         crews.push(crew)?;
     }
     Ok(crews)
@@ -254,8 +262,8 @@ pub(crate) fn all_done(crews: &[Crew]) -> bool
     true
 }
 
-/// Brings the crews of a line together after their sweeps: the turns of the stations count from 0 again, and the ends of
-/// every queue meet. Answers how many firings have been made.
+/// Brings the crews of a line together after their sweeps: the turns of the stations count from 0 again, and the ends
+/// of every queue meet. Answers how many firings have been made.
 pub(crate) fn gather_crews(crews: &mut [Crew], live: &Live) -> u64
     requires crews { AreCrews crews.old }
     requires made_for { live.now ≡ live_of crews.old }

@@ -9,8 +9,8 @@ pub fn logs_that_grow_from_a_state_are_reached()
     ensures { GrownIsReached }
 {}
 
-/// A law of the definitions: the crews that a line hands out are the crews of one line still after any sweeps of each, so
-/// that `Line::gather` takes them.
+/// A law of the definitions: the crews that a line hands out are the crews of one line still after any sweeps of
+/// each, so that `Line::gather` takes them.
 pub fn swept_crews_are_crews()
     ensures { SweptCrewsAreCrews }
 {}

@@ -1,25 +1,28 @@
-ghost use Rattle.std.specs.Prelude.{◌≡◌, ◌≢◌, ◌+◌, ◌<◌, ◌≤◌, ◌^◌, [], map, length, replicate, IfOk, OnOk, slice_set};
-ghost use Rattle.event_graph.specs.Network.{stations, jobs, arc_count, IsGraph};
+ghost use Rattle.std.specs.Prelude.{◌≡◌, ◌≢◌, ◌+◌, ◌<◌, ◌≤◌, ◌^◌, [], None, Some, map, length, replicate, IfOk, OnOk, slice_set};
+ghost use Rattle.event_graph.specs.Network.{stations, jobs, arc, arc_count, IsGraph};
 ghost use Rattle.event_graph.specs.State.{place};
-ghost use Rattle.line_workers.specs.Making.{room_on, HasRing, QueueEnds, outlets_at, inlets_at, firsts_at, with_one, with_ends, without, putter, taker, AreLaid};
+ghost use Rattle.line_workers.specs.Making.{room_on, FitsRoom, MayHold, HasRing, QueueEnds, outlets_at, inlets_at, firsts_at, with_one, with_ends, without, putter, taker, AreLaid};
 
 use crate::owner::worker_of;
 use card_queue::queue;
 use line_base::Date;
 use line_core::State;
 use live_check::Live;
+use room_ring::room_ring;
 use station_step::{Inlet, Outlet};
 use std::alloc::{AllocError, Global};
 use std::marker::Model;
 use std::mem;
 
 /// The ends of the queues of the arcs: for each station its outlets and its inlets, in the order of the arcs, and for
-/// each worker the tokens with which the queues of its shelf begin.
+/// each worker the tokens with which the queues of its shelf begin; and how much room a ring has beyond the tokens with
+/// which its arc starts, if it has a bound.
 #[derive(Drop)]
 pub(crate) struct Ends {
     outlets: Vec<Vec<Outlet>>,
     inlets: Vec<Vec<Inlet>>,
     shelves: Vec<Vec<Vec<Date>>>,
+    room: Option<u32>,
 }
 
 impl Model for Ends {
@@ -32,6 +35,7 @@ impl Model for Ends {
       outlets = map (λ l. l.items) e.outlets.items;
       inlets = map (λ l. l.items) e.inlets.items;
       shelves = map (λ l. map (λ tokens. tokens.items) l.items) e.shelves.items;
+      room = e.room;
     } };
 }
 
@@ -56,8 +60,36 @@ fn room_on(live: &Live, state: &State, a: u32) -> u32
     graph.jobs() - state.log(arc.from).len() as u32
 }
 
-/// A ring for arc `a`.
-fn new_ring(
+/// How many tokens arc `a` starts with.
+fn tokens_at_start(live: &Live, a: u32) -> u32
+    requires { a < arc_count live.now.graph }
+    ensures tokens { result ≡ (arc live.now.graph a).tokens }
+    ensures few { result ≤ 10_000 }
+{
+    live.graph().tokens(a)
+}
+
+/// A ring for arc `a` whose room is bounded: that of the tokens with which the arc starts, and so much more.
+fn bounded_ring(
+    alloc: Global,
+    live: &Live,
+    state: &State,
+    a: u32,
+    room: u32,
+) -> Result<(Outlet, Inlet), AllocError>
+    requires made_for { live.now.graph ≡ state.now.graph }
+    requires arc { a < arc_count live.now.graph }
+    requires fits { FitsRoom room live.now.graph state.now.state }
+    ensures { IfOk result
+        (λ ends. HasRing (Some room) live.now.graph state.now.state a ends.0 ends.1) }
+{
+    let tokens = tokens_on(alloc, live, state, a)?;
+    let (put, take) = room_ring(alloc, &tokens, tokens_at_start(live, a) + room)?;
+    Ok((Outlet::Room(put), Inlet::Room(take)))
+}
+
+/// A ring for arc `a` whose room has no bound.
+fn unbounded_ring(
     alloc: Global,
     live: &Live,
     state: &State,
@@ -65,11 +97,30 @@ fn new_ring(
 ) -> Result<(Outlet, Inlet), AllocError>
     requires made_for { live.now.graph ≡ state.now.graph }
     requires arc { a < arc_count live.now.graph }
-    ensures { IfOk result (λ ends. HasRing live.now.graph state.now.state a ends.0 ends.1) }
+    ensures { IfOk result (λ ends. HasRing None live.now.graph state.now.state a ends.0 ends.1) }
 {
     let tokens = tokens_on(alloc, live, state, a)?;
     let (put, take) = queue(alloc, &tokens, room_on(live, state, a))?;
     Ok((Outlet::Ring(put), Inlet::Ring(take)))
+}
+
+/// A ring for arc `a`, of this kind.
+fn new_ring(
+    alloc: Global,
+    live: &Live,
+    state: &State,
+    a: u32,
+    room: Option<u32>,
+) -> Result<(Outlet, Inlet), AllocError>
+    requires made_for { live.now.graph ≡ state.now.graph }
+    requires arc { a < arc_count live.now.graph }
+    requires fits { MayHold room live.now.graph state.now.state }
+    ensures { IfOk result (λ ends. HasRing room live.now.graph state.now.state a ends.0 ends.1) }
+{
+    match room {
+        Some(room) => bounded_ring(alloc, live, state, a, room),
+        None => unbounded_ring(alloc, live, state, a),
+    }
 }
 
 /// So many empty lists.
@@ -85,15 +136,22 @@ fn empty_lists<T: Drop>(alloc: Global, count: u32) -> Result<Vec<Vec<T>>, AllocE
 
 impl Ends {
     /// No ends yet.
-    fn none(alloc: Global, stations: u32, workers: u32) -> Result<Ends, AllocError>
+    fn none(
+        alloc: Global,
+        stations: u32,
+        workers: u32,
+        room: Option<u32>,
+    ) -> Result<Ends, AllocError>
         ensures outlets { IfOk result (λ ends. ends.outlets ≡ replicate stations []) }
         ensures inlets { IfOk result (λ ends. ends.inlets ≡ replicate stations []) }
         ensures shelves { IfOk result (λ ends. ends.shelves ≡ replicate workers []) }
+        ensures room { IfOk result (λ ends. ends.room ≡ room) }
     {
         Ok(Ends {
             outlets: empty_lists(alloc, stations)?,
             inlets: empty_lists(alloc, stations)?,
             shelves: empty_lists(alloc, workers)?,
+            room,
         })
     }
 
@@ -137,7 +195,9 @@ impl Ends {
         requires puts { putter live.now.graph workers a ≡ worker }
         requires takes { taker live.now.graph workers a ≡ worker }
         requires laid { AreLaid live.now.graph state.now.state workers self.old a }
-        ensures { OnOk result (AreLaid live.now.graph state.now.state workers self.new (a + 1)) }
+        ensures laid { OnOk result
+            (AreLaid live.now.graph state.now.state workers self.new (a + 1)) }
+        ensures room { OnOk result (self.new.room ≡ self.old.room) }
     {
         let arc = live.graph().arcs()[a as usize];
         let number = self.shelve(worker, tokens_on(alloc, live, state, a)?)?;
@@ -161,11 +221,14 @@ impl Ends {
         requires made_for { live.now.graph ≡ state.now.graph }
         requires arc { a < arc_count live.now.graph }
         requires two { putter live.now.graph workers a ≢ taker live.now.graph workers a }
+        requires fits { MayHold self.old.room live.now.graph state.now.state }
         requires laid { AreLaid live.now.graph state.now.state workers self.old a }
-        ensures { OnOk result (AreLaid live.now.graph state.now.state workers self.new (a + 1)) }
+        ensures laid { OnOk result
+            (AreLaid live.now.graph state.now.state workers self.new (a + 1)) }
+        ensures room { OnOk result (self.new.room ≡ self.old.room) }
     {
         let arc = live.graph().arcs()[a as usize];
-        let (outlet, inlet) = new_ring(alloc, live, state, a)?;
+        let (outlet, inlet) = new_ring(alloc, live, state, a, self.room)?;
         self.lay(arc.from, arc.to, outlet, inlet)
     }
 
@@ -182,8 +245,11 @@ impl Ends {
         requires some { 1 ≤ workers }
         requires workers { workers ≤ 16 }
         requires arc { a < arc_count live.now.graph }
+        requires fits { MayHold self.old.room live.now.graph state.now.state }
         requires laid { AreLaid live.now.graph state.now.state workers self.old a }
-        ensures { OnOk result (AreLaid live.now.graph state.now.state workers self.new (a + 1)) }
+        ensures laid { OnOk result
+            (AreLaid live.now.graph state.now.state workers self.new (a + 1)) }
+        ensures room { OnOk result (self.new.room ≡ self.old.room) }
     {
         let graph = live.graph();
         let stations = graph.stations();
@@ -203,19 +269,22 @@ impl Ends {
         live: &Live,
         state: &State,
         workers: u32,
+        room: Option<u32>,
     ) -> Result<Ends, AllocError>
         requires made_for { live.now.graph ≡ state.now.graph }
         requires some { 1 ≤ workers }
         requires workers { workers ≤ 16 }
+        requires fits { MayHold room live.now.graph state.now.state }
         ensures laid { IfOk result
             (λ ends. AreLaid live.now.graph state.now.state workers ends
             (arc_count live.now.graph)) }
+        ensures room { IfOk result (λ ends. ends.room ≡ room) }
         ensures sound { OnOk result (IsGraph live.now.graph) }
         ensures some_station { OnOk result (1 ≤ stations live.now.graph) }
         ensures few_arcs { OnOk result (arc_count live.now.graph < 2 ^ 32) }
     {
         let graph = live.graph();
-        let mut ends = Ends::none(alloc, graph.stations(), workers)?;
+        let mut ends = Ends::none(alloc, graph.stations(), workers, room)?;
         for a in 0..graph.arcs().len() as u32 {
             ends.join(alloc, live, state, workers, a)?;
         }

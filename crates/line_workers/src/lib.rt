@@ -14,6 +14,7 @@ mod link;
 mod making;
 mod order;
 mod owner;
+mod pace;
 mod team;
 
 pub use crew::Crew;

@@ -1,4 +1,4 @@
-ghost use Rattle.std.specs.Prelude.{◌≡◌, ◌+◌, ◌*◌, ◌^◌, ◌<◌, ◌≤◌, ◌↔◌, ℕ, length, sum, min, All, IsTrue, IfOk, IfErr};
+ghost use Rattle.std.specs.Prelude.{◌≡◌, ◌+◌, ◌*◌, ◌^◌, ◌<◌, ◌≤◌, ◌↔◌, ℕ, None, Some, length, sum, min, All, IsTrue, IfOk, IfErr};
 ghost use Rattle.event_graph.specs.Network.{stations, jobs};
 ghost use Rattle.event_graph.specs.State.{log, start};
 ghost use Rattle.event_graph.specs.Firing.{CanFire};
@@ -7,10 +7,11 @@ ghost use Rattle.event_graph.specs.Least.{IsLeast};
 ghost use Rattle.line_core.specs.Consistent.{IsFinished, fired};
 ghost use Rattle.line_core.specs.Round.{HasFired};
 ghost use Rattle.line_core.specs.Run.{IsReached};
-ghost use Rattle.line_workers.specs.Crews.{live_of, AreCrews};
+ghost use Rattle.line_workers.specs.Making.{MayHold};
+ghost use Rattle.line_workers.specs.Crews.{live_of, room_of, AreCrews};
 ghost use Rattle.line_workers.specs.Work.{TurnsBelow};
 ghost use Rattle.line_workers.specs.Gather.{logs_in};
-ghost use Rattle.line_workers.specs.Line.{IsLine, Stands, LogsGrow, run_in, line_of};
+ghost use Rattle.line_workers.specs.Line.{IsLine, Stands, StandsIn, LogsGrow, run_in, line_of};
 
 use crate::closing::{copies_of, logs_of};
 use crate::crew::Crew;
@@ -22,9 +23,9 @@ use std::alloc::{AllocError, Global};
 use std::marker::Model;
 use std::thread::Threads;
 
-/// An event graph that several workers run at once, burst by burst. Between two bursts it stands for a state of the graph
-/// that firings reach: the log of each station, and on each arc the token in the hand that the arc fills, then the tokens
-/// that were put into its queue and not taken.
+/// An event graph that several workers run at once, burst by burst. Between two bursts it stands for a state of the
+/// graph that firings reach: the log of each station, and on each arc the token in the hand that the arc fills, then
+/// the tokens that were put into its queue and not taken.
 ///
 /// Each call that takes a `Live` takes the one that the line was made for.
 #[derive(Drop)]
@@ -55,20 +56,27 @@ pub struct Burst {
 
 impl Line {
     /// The line that goes on from a state.
-    fn of(alloc: Global, live: &Live, state: &State, workers: u32) -> Result<Line, AllocError>
+    fn of(
+        alloc: Global,
+        live: &Live,
+        state: &State,
+        workers: u32,
+        room: Option<u32>,
+    ) -> Result<Line, AllocError>
         requires made_for { live.now.graph ≡ state.now.graph }
         requires some { 1 ≤ workers }
         requires few { workers ≤ 16 }
+        requires fits { MayHold room live.now.graph state.now.state }
         ensures line { IfOk result IsLine }
-        ensures stands { IfOk result (Stands live.now state.now.state workers) }
+        ensures stands { IfOk result (StandsIn room live.now state.now.state workers) }
     {
         let made = state.fired();
-        let crews = crews_of(alloc, live, state, workers)?;
+        let crews = crews_of(alloc, live, state, workers, room)?;
         Ok(Line { crews, made })
     }
 
-    /// The line at the start: no station has fired. Station `t` belongs to worker `t * workers / stations`, rounded down.
-    /// It takes all memory of the run, and fails only for want of it.
+    /// The line at the start: no station has fired. Station `t` belongs to worker `t * workers / stations`, rounded
+    /// down. It takes all memory of the run, and fails only for want of it.
     pub fn prepare(alloc: Global, live: &Live, workers: u32) -> Result<Line, AllocError>
         requires some { 1 ≤ workers }
         requires few { workers ≤ 16 }
@@ -76,7 +84,28 @@ impl Line {
         ensures stands { IfOk result (Stands live.now (start live.now.graph) workers) }
     {
         let state = State::start(alloc, live)?;
-        Line::of(alloc, live, &state, workers)
+        Line::of(alloc, live, &state, workers, None)
+    }
+
+    /// The line of `prepare`, in which the room of a ring between two workers is bounded: each such ring has room for
+    /// the tokens with which its arc starts and for `room` more, 1 to 10,000. A station fires only where its outputs
+    /// have space.
+    pub fn prepare_room(
+        alloc: Global,
+        live: &Live,
+        workers: u32,
+        room: u32,
+    ) -> Result<Line, AllocError>
+        requires some { 1 ≤ workers }
+        requires few { workers ≤ 16 }
+        requires some_room { 1 ≤ room }
+        requires most_room { room ≤ 10_000 }
+        ensures line { IfOk result IsLine }
+        ensures stands { IfOk result
+            (StandsIn (Some room) live.now (start live.now.graph) workers) }
+    {
+        let state = State::start(alloc, live)?;
+        Line::of(alloc, live, &state, workers, Some(room))
     }
 
     /// The line that goes on from a state, of which it keeps copies. Where memory runs out, the state is handed back
@@ -89,7 +118,7 @@ impl Line {
         ensures stands { IfOk result (Stands live.now state.state workers) }
         ensures handed_back { IfErr result (λ back. back ≡ state) }
     {
-        match Line::of(alloc, live, &state, workers) {
+        match Line::of(alloc, live, &state, workers, None) {
             Ok(line) => Ok(line),
             Err(_) => Err(state),
         }
@@ -111,12 +140,13 @@ impl Line {
         all_done(&self.crews)
     }
 
-    /// Lets each worker go over its stations 16 times, or fewer where all of them are done before, each worker on a thread
-    /// of its own, and then lets the ends of every queue meet on this thread. One worker works on this thread. It takes no
-    /// memory and waits for no lock.
+    /// Lets each worker go over its stations 16 times, or fewer where all of them are done before, each worker on a
+    /// thread of its own, and then lets the ends of every queue meet on this thread. One worker works on this thread.
+    /// It takes no memory and waits for no lock.
     ///
-    /// Whatever the threads do meanwhile, the line stands for a state that firings reach. `fired` and `steps` are 0 exactly
-    /// where every station had fired once for each job.
+    /// Whatever the threads do meanwhile, the line stands for a state that firings reach. `fired` and `steps` are 0
+    /// exactly where every station had fired once for each job. Where the room of rings is bounded, no more tokens
+    /// wait on an arc between two workers at the end than those with which it starts, the room, and one in a hand.
     pub fn burst<R: Threads + Sync, G: Gate>(&mut self, rt: &R, live: &Live, gate: &G) -> Burst
         requires made_for { live.now ≡ self.old.live }
 
@@ -131,7 +161,8 @@ impl Line {
         ensures steps { sum self.new.turns ≡ sum self.old.turns + result.steps }
         ensures at_most { result.fired ≤ result.steps }
         ensures few { result.steps ≤ 16 * stations self.old.live.graph }
-        ensures ready { (t : ℕ) → CanFire self.old.live.graph self.old.state t →
+        ensures ready { self.old.room ≡ None → (t : ℕ) →
+            CanFire self.old.live.graph self.old.state t →
             length (log self.old.state t) < length (log self.new.state t) }
         ensures idle { (result.fired ≡ 0) ↔ IsFinished self.old.live.graph self.old.state }
         ensures rest { IsFinished self.old.live.graph self.old.state → result.steps ≡ 0 }
@@ -145,7 +176,8 @@ impl Line {
         burst_of(rt, &mut self.crews, live, gate)
     }
 
-    /// A copy of the state that the line stands for. It can go on firing by itself: it takes the room of all later firings.
+    /// A copy of the state that the line stands for. It can go on firing by itself: it takes the room of all later
+    /// firings.
     pub fn state(&self, alloc: Global, live: &Live) -> Result<State, AllocError>
         requires made_for { live.now ≡ self.now.live }
         ensures state { IfOk result (λ state. state ≡ run_in self.now) }
@@ -178,14 +210,15 @@ impl Line {
         self.crews
     }
 
-    /// The line of these crews, all those of one line, in order. The ends of every queue meet on this thread, and the turns
-    /// of the stations count from 0 again. It takes no memory.
+    /// The line of these crews, all those of one line, in order. The ends of every queue meet on this thread, and the
+    /// turns of the stations count from 0 again. It takes no memory.
     pub fn gather(live: &Live, crews: Vec<Crew>) -> Line
         requires crews { AreCrews crews.items }
         requires made_for { live.now ≡ live_of crews.items }
         ensures line { IsLine result }
         ensures logs { result.state.logs ≡ logs_in crews.items }
-        ensures stands { Stands live.now result.state (length crews.items) result }
+        ensures stands { StandsIn (room_of crews.items) live.now result.state
+            (length crews.items) result }
     {
         let mut crews = crews;
         let made = gather_crews(&mut crews, live);

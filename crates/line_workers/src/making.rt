@@ -2,8 +2,8 @@ ghost use Rattle.std.specs.Prelude.{◌≡◌, ℕ, ◌+◌, ◌<◌, ◌≤◌,
 ghost use Rattle.event_graph.specs.Network.{stations, jobs};
 ghost use Rattle.event_graph.specs.State.{log};
 ghost use Rattle.line_workers.specs.Share.{first_of};
-ghost use Rattle.line_workers.specs.Teams.{AreTeams, AreAllMet, HaveBegun};
-ghost use Rattle.line_workers.specs.Making.{outlets_at, inlets_at, firsts_at, new_shelf, without, MayShelve, AreFitFrom, IsNewStation, AreNewStations, IsNewTeam, AreNewTeams, SameStationsFrom, SameShelvesFrom};
+ghost use Rattle.line_workers.specs.Teams.{AreTeams, AreOfRoom, AreAllMet, HaveBegun};
+ghost use Rattle.line_workers.specs.Making.{outlets_at, inlets_at, firsts_at, new_shelf, without, MayHold, MayShelve, AreFitFrom, IsNewStation, AreNewStations, IsNewTeam, AreNewTeams, SameStationsFrom, SameShelvesFrom};
 
 use crate::closing::log_with;
 use crate::laying::Ends;
@@ -144,21 +144,25 @@ fn new_teams(
 ///
 /// A queue stands for each arc and begins with the tokens that the state has there: a ring between two workers, else a
 /// queue on the worker's shelf. Each ring, and each log, has room for the dates that are left to be made. Each queue on
-/// a shelf has room for a token of each job.
+/// a shelf has room for a token of each job. Where a room is given, a ring has that of the tokens with which its arc
+/// starts and so much more.
 pub(crate) fn teams_of(
     alloc: Global,
     live: &Live,
     state: &State,
     workers: u32,
+    room: Option<u32>,
 ) -> Result<Vec<Team>, AllocError>
     requires made_for { live.now.graph ≡ state.now.graph }
     requires some { 1 ≤ workers }
     requires few { workers ≤ 16 }
+    requires fits { MayHold room live.now.graph state.now.state }
     ensures count { IfOk result (λ teams. length teams.items ≡ workers) }
     ensures teams { IfOk result (λ teams. AreTeams live.now.graph state.now.state teams.items) }
+    ensures rooms { IfOk result (λ teams. AreOfRoom room live.now.graph teams.items) }
     ensures met { IfOk result (λ teams. AreAllMet live.now.graph teams.items) }
     ensures begun { IfOk result (λ teams. HaveBegun live.now.graph state.now.state teams.items) }
 {
-    let ends = Ends::of(alloc, live, state, workers)?;
+    let ends = Ends::of(alloc, live, state, workers, room)?;
     new_teams(alloc, live, state, ends, workers)
 }

@@ -1,11 +1,11 @@
 ghost use Rattle.std.specs.Prelude.{◌≡◌, ℕ, ◌<◌, length};
 ghost use Rattle.line_base.specs.declared.event.Parts.{Parts};
 ghost use Rattle.event_graph.specs.State.{State};
-ghost use Rattle.station_step.specs.Ends.{AreEnds};
+ghost use Rattle.station_step.specs.Ends.{AreEnds, AreMet};
 ghost use Rattle.station_step.specs.Input.{input_at};
 ghost use Rattle.station_step.specs.Station.{outlet_at};
 ghost use Rattle.line_workers.specs.Team.{member, IsTeam};
-ghost use Rattle.line_workers.specs.Meeting.{MetAt};
+ghost use Rattle.line_workers.specs.Meeting.{OutletMet, InletMet};
 ghost use Rattle.line_workers.specs.Gather.{cleared_team};
 
 use crate::clearing::clear_stations;
@@ -27,8 +27,8 @@ impl Model for Team {
     ghost view = { λ t. record { stations = t.stations.items; shelf = t.shelf } };
 }
 
-/// Brings the two ends of a ring together: output `k` of station `i` of a team, and input `l` of station `j` of another. All
-/// that was put and not taken is then known there.
+/// Brings the two ends of a ring together: output `k` of station `i` of a team, and input `l` of station `j` of
+/// another. All that was put and not taken is then known there, and what was taken to the outlet.
 pub(crate) fn meet_teams(from: &mut Team, i: u32, k: u32, to: &mut Team, j: u32, l: u32)
     requires from { i < length from.old.stations }
     requires output { k < length (member from.old.stations i).outlets }
@@ -36,9 +36,13 @@ pub(crate) fn meet_teams(from: &mut Team, i: u32, k: u32, to: &mut Team, j: u32,
     requires input { l < length (member to.old.stations j).inputs }
     requires ends { AreEnds (outlet_at (member from.old.stations i).outlets k)
         (input_at (member to.old.stations j).inputs l).inlet }
-    ensures from { from.new ≡ from.old }
-    ensures met { MetAt (outlet_at (member from.old.stations i).outlets k) j l to.old to.new }
-    ensures team { (g : Parts) (begun : State) (first : ℕ) → IsTeam g begun first to.old →
+    ensures from { OutletMet i k from.old from.new }
+    ensures to { InletMet j l to.old to.new }
+    ensures met { AreMet (outlet_at (member from.new.stations i).outlets k)
+        (input_at (member to.new.stations j).inputs l).inlet }
+    ensures from_team { (g : Parts) (begun : State) (first : ℕ) → IsTeam g begun first from.old →
+        IsTeam g begun first from.new }
+    ensures to_team { (g : Parts) (begun : State) (first : ℕ) → IsTeam g begun first to.old →
         IsTeam g begun first to.new }
 {
     meet_at(

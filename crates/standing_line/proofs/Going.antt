@@ -15,6 +15,7 @@ stays l is = record {
   line = is;
   live = refl;
   workers = refl;
+  room = refl;
   logs = λ t there. take_all (length (log l.state t)) (log l.state t) (omega arith);
 }
 
@@ -29,6 +30,7 @@ goes_on_more first now next before after = record {
   line = after.line;
   live = after.live ∙ before.live;
   workers = after.workers ∙ before.workers;
+  room = after.room ∙ before.room;
   logs = λ t there.
       let same : stations now.live.graph ≡ stations first.live.graph = ap (λ (v : LiveGraph). stations v.graph) before.live in
       kept-more (log first.state t) (log now.state t) (log next.state t) (before.logs t there) (after.logs t (omega (arith, there, same)));

@@ -9,9 +9,9 @@ use Rattle.live_check.specs.Order.{LiveGraph}
 use Rattle.line_workers.specs.Teams.{state_among}
 use Rattle.line_workers.specs.Crew.{WorkCrew, IsCrew, with_team, teams_of}
 use Rattle.line_workers.specs.Work.{HasSwept}
-use Rattle.line_workers.specs.Crews.{crew_at, no_crew, live_of, graph_of, AreCrews}
+use Rattle.line_workers.specs.Crews.{crew_at, no_crew, live_of, graph_of, room_of, AreCrews}
 use Rattle.line_workers.specs.Gather.{logs_in, IsCrewAfter, AreCrewsAfter}
-use Rattle.line_workers.specs.Line.{WorkLine, line_of, IsLine, LogsGrow, Stands}
+use Rattle.line_workers.specs.Line.{WorkLine, line_of, IsLine, LogsGrow, StandsIn}
 use Rattle.line_workers.proofs.Working.{idle_team}
 use Rattle.line_workers.proofs.AfterSweeps.{after_more, logs_grow}
 use Rattle.standing_line.specs.Standing.{GoesOn}
@@ -72,11 +72,17 @@ live_after old new are after =
     let some : 0 < length old = omega (arith, are.some) in
     ap (λ (c : WorkCrew). c.live) (after.each 0 some).same.frame
 
-pub gathered_goes_on : (live : LiveGraph) (line later : WorkLine) (old new : List WorkCrew) → AreCrews old → line_of old line.made ≡ line → live ≡ line.live → AreCrewsAfter old new → IsLine later → later.state.logs ≡ logs_in new → Stands live later.state (length new) later → GoesOn line later
+room_after : (old new : List WorkCrew) → AreCrews old → AreCrewsAfter old new → room_of new ≡ room_of old
+room_after old new are after =
+    let some : 0 < length old = omega (arith, are.some) in
+    ap (λ (c : WorkCrew). c.room) (after.each 0 some).same.frame
+
+pub gathered_goes_on : (live : LiveGraph) (line later : WorkLine) (old new : List WorkCrew) → AreCrews old → line_of old line.made ≡ line → live ≡ line.live → AreCrewsAfter old new → IsLine later → later.state.logs ≡ logs_in new → StandsIn (room_of new) live later.state (length new) later → GoesOn line later
 gathered_goes_on live line later old new are is made_for after sound logs stands = record {
   line = sound;
   live = stands.live_is ∙ made_for;
   workers = stands.workers_are ∙ after.count ∙ ap (λ (l : WorkLine). l.workers) is;
+  room = stands.room_is ∙ room_after old new are after ∙ ap (λ (l : WorkLine). l.room) is;
   logs =
       let g = graph_of old in
       let before = state_among g (teams_of old) in

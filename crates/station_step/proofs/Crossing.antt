@@ -45,18 +45,24 @@ station_fields =
         (
           Vec-send _ (as_row_send Outlet.the_field OutletSent.the_field_send),
           (
-            search crosses,
+            search sendable depth 12,
             (
               search crosses,
               (
-                log_send,
+                search crosses,
                 (
                   search sendable,
                   (
-                    search sendable,
+                    log_send,
                     (
-                      search crosses,
-                      tt,
+                      search sendable,
+                      (
+                        search sendable,
+                        (
+                          search crosses,
+                          tt,
+                        ),
+                      ),
                     ),
                   ),
                 ),

@@ -1,12 +1,16 @@
 -- The date of a job over the tokens of its inputs.
 use Rattle.std.proofs.Common.{◌≡◌, ℕ, zero, suc, ◌+◌, ◌<◌, ◌≤◌, max, cond, List, length, get_or, set, refl, sym, ap, ◌∙◌, arith, get_or-set_same, get_or-set_other}
-use Rattle.std.specs.Prelude.{All, Bool, None, slice_index, if◌then◌else◌, nat_eq, ◌==◌, false, unwrap_or}
+use Rattle.std.specs.Prelude.{All, Bool, None, slice_index, slice_index_or, if◌then◌else◌, nat_eq, ◌==◌, false, unwrap_or}
 use Rattle.std.specs.List.{range_with_len}
 use Rattle.std.specs.Ordering.{ord_max, nat_cmp}
 use Rattle.std.proofs.lemmas.List.{get_or-map}
 use Rattle.std.proofs.lemmas.Bool.Decides.{nat_tests}
+use Rattle.line_base.specs.declared.times.Times.{Times}
+use Rattle.line_base.specs.declared.times.Times.TheVariants.{Fixed, Each}
+use Rattle.line_base.specs.Times.{time_at}
 use Rattle.line_base.specs.declared.event.Parts.{Parts}
 use Rattle.event_graph.specs.Network.{arc, ins, outs, demand, delay, time, EndsAt}
+use Rattle.event_graph.specs.Varying.{IsList, Varies}
 use Rattle.event_graph.specs.Term.{work}
 use Rattle.event_graph.specs.Firing.{greatest}
 use Rattle.station_step.specs.declared.ends.Inlet.TheVariants.{Local}
@@ -20,6 +24,15 @@ use Rattle.station_step.specs.Refilled.{hand_asks}
 pub date_for-is : (g : Parts) (t job latest : ℕ) (token : ℕ → ℕ) → latest ≡ greatest (asked g t job token) (range_with_len 0 (length (ins g t))) → (if t == 0 then demand g job else latest) ≡ date_for g t job token
 unfolding date_for
 date_for-is g t job latest token is = ap (λ m. if nat_eq t 0 then demand g job else m) is
+
+one_time : (times : Times) → (IsList times → ⊥) → (n m : ℕ) → time_at times n ≡ time_at times m
+one_time (Fixed takes) no_list n m = refl
+one_time (Each list) no_list n m = absurd (no_list tt)
+
+-- a station without a list of times takes as long for each job
+pub time-fixed : (g : Parts) (t n m : ℕ) → (Varies g t → ⊥) → time g t n ≡ time g t m
+unfolding time
+time-fixed g t n m no_list = one_time (slice_index_or g.times t (Fixed 0)) no_list n m
 
 -- whether the arc of input k is worked, as it is noted
 pub worked-noted : (g : Parts) (t k : ℕ) (worked : List Bool) → k < length (ins g t) → worked ≡ worked_into g t → get_or worked k false ≡ (arc g (slice_index (ins g t) k)).worked

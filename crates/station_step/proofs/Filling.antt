@@ -42,11 +42,13 @@ grows-elsewhere mid new q same =
 
 grows-here : (mid new : List PlainQueue) (k : ℕ) (o : Outlet) (token : ℕ) → outlet_queue o ≡ Some k → outlet_added new o ≡ (queue_at mid k).added ++ token ∷ [] → IsPrefix (queue_at mid k).added (queue_at new k).added
 grows-here mid new k (outlet.Ring put) token which added = absurd (None-Some which)
+grows-here mid new k (outlet.Room put) token which added = absurd (None-Some which)
 grows-here mid new k (outlet.Local j) token which added =
     (token ∷ [], sym added ∙ ap (λ n. (queue_at new n).added) (Some-injective which))
 
 put_grows : (mid new : List PlainQueue) (before after : Outlet) (token : ℕ) → bare_outlet after ≡ bare_outlet before → outlet_added new after ≡ outlet_added mid before ++ token ∷ [] → ((q : ℕ) → outlet_queue before ≢ Some q → queue_at new q ≡ queue_at mid q) → Grows mid new
 put_grows mid new (outlet.Ring put) after token same added others q = grows-elsewhere mid new q (others q None-Some)
+put_grows mid new (outlet.Room put) after token same added others q = grows-elsewhere mid new q (others q None-Some)
 put_grows mid new (outlet.Local k) after token same added others q =
     ⊎_elim
     (λ (e : q ≡ k).
@@ -58,6 +60,7 @@ put_grows mid new (outlet.Local k) after token same added others q =
 -- an outlet that got nothing yet still has its room
 HasShelfRoom-same : (old new : List PlainQueue) (o : Outlet) → OutletQueueStays old new o → HasShelfRoom old o → HasShelfRoom new o
 HasShelfRoom-same old new (outlet.Ring put) stays has = has
+HasShelfRoom-same old new (outlet.Room put) stays has = has
 HasShelfRoom-same old new (outlet.Local q) stays has = subst (λ (queue : PlainQueue). length queue.added < queue.room) (sym (stays q refl)) has
 
 -- before the turn of an outlet its queue is as it was

@@ -16,34 +16,40 @@ use Rattle.station_step.specs.declared.ends.Inlet.TheVariants as inlet
 use Rattle.station_step.specs.declared.ends.Outlet.TheVariants as outlet
 use Rattle.station_step.specs.declared.input.Input.{Input}
 use Rattle.station_step.specs.Shelf.{queue_at, unused, OnlyTakes, OnlyPuts}
-use Rattle.station_step.specs.Ends.{inlet_taken, inlet_known, inlet_queue, outlet_added, outlet_room, outlet_queue, bare_inlet, unseen_inlet, bare_outlet, IsUntaken, IsUnfilled, HasRingRoom, HasShelfRoom}
+use Rattle.station_step.specs.Ends.{inlet_taken, inlet_ahead, inlet_queue, outlet_added, outlet_room, outlet_queue, bare_inlet, unseen_inlet, bare_outlet, unseen_outlet, IsUntaken, IsUnfilled, HasRingRoom, HasShelfRoom}
 use Rattle.station_step.specs.Input.{empty_handed, input_at, IsHeld, IsRefilled, NoneTakes}
 use Rattle.station_step.specs.Station.{WorkStation, firings, outlet_at, NonePuts, AreApart, IsStation, IsSeated, MayPut, bare_input, new_station}
 use Rattle.station_step.specs.Kept.{IsKept, IsFresh, date_for, token_for, saturating, sent}
 use Rattle.station_step.specs.Step.{MovesItsOwn, Grows, IsReady}
 use Rattle.station_step.proofs.OwnQueues.{input-same, outlet-same, inlet_queue-same, outlet_queue-same, bare-unseen, taken-unseen}
+use Rattle.station_step.proofs.Looking.{AreAlike, bare-alike, added-alike, ring_room-alike, at-set, beside-set}
 use Rattle.station_step.proofs.Dates.{date_for-agree}
 
 -- ---- what a shelf keeps for one end
 
 taken-after_puts : (old new : List PlainQueue) (i : Inlet) → OnlyPuts old new → inlet_taken new i ≡ inlet_taken old i
 taken-after_puts old new (inlet.Ring take) only = refl
+taken-after_puts old new (inlet.Room take) only = refl
 taken-after_puts old new (inlet.Local q) only = only.taken q
 
 added-after_takes : (old new : List PlainQueue) (o : Outlet) → OnlyTakes old new → outlet_added new o ≡ outlet_added old o
 added-after_takes old new (outlet.Ring put) only = refl
+added-after_takes old new (outlet.Room put) only = refl
 added-after_takes old new (outlet.Local q) only = ap (λ (queue : PlainQueue). queue.added) (only.puts q)
 
 room-after_takes : (old new : List PlainQueue) (o : Outlet) → OnlyTakes old new → outlet_room new o ≡ outlet_room old o
 room-after_takes old new (outlet.Ring put) only = refl
+room-after_takes old new (outlet.Room put) only = refl
 room-after_takes old new (outlet.Local q) only = ap (λ (queue : PlainQueue). queue.room) (only.puts q)
 
 room-after_puts : (old new : List PlainQueue) (o : Outlet) → OnlyPuts old new → outlet_room new o ≡ outlet_room old o
 room-after_puts old new (outlet.Ring put) only = refl
+room-after_puts old new (outlet.Room put) only = refl
 room-after_puts old new (outlet.Local q) only = ap (λ (queue : PlainQueue). queue.room) (only.takes q)
 
 room-bare : (shelf : List PlainQueue) (o : Outlet) → outlet_room shelf (bare_outlet o) ≡ outlet_room shelf o
 room-bare shelf (outlet.Ring put) = refl
+room-bare shelf (outlet.Room put) = refl
 room-bare shelf (outlet.Local q) = refl
 
 room-same : (shelf : List PlainQueue) (before after : Outlet) → bare_outlet after ≡ bare_outlet before → outlet_room shelf after ≡ outlet_room shelf before
@@ -115,6 +121,61 @@ kept-waits old new s inputs turns each count refilled only kept =
       added = λ k low. added-after_takes old new (outlet_at s.outlets k) only ∙ kept.added k low;
       room = λ k low. subst (λ room. jobs s.graph ≤ s.made + room) (sym (room-after_takes old new (outlet_at s.outlets k) only)) (kept.room k low);
     }
+
+pub station-waits : (s : WorkStation) (inputs : List Input) (turns : ℕ) → length inputs ≡ length s.inputs → IsStation s → IsStation (record s { inputs = inputs; turns = turns })
+station-waits s inputs turns count sound = record {
+  exists = sound.exists;
+  an_input_each = count ∙ sound.an_input_each;
+  an_outlet_each = sound.an_outlet_each;
+  made = sound.made;
+  few_dates = sound.few_dates;
+  log_room = sound.log_room;
+  ring_room = sound.ring_room;
+}
+
+-- ---- a station whose outlets have seen more
+
+pub kept-alike : (shelf : List PlainQueue) (s : WorkStation) (outlets : List Outlet) → AreAlike s.outlets outlets → IsKept shelf s → IsKept shelf (record s { outlets = outlets })
+kept-alike shelf s outlets alike kept = record {
+  held = kept.held;
+  dates = kept.dates;
+  added = λ k low.
+      let below : k < length s.outlets = omega (arith, alike.count) in
+      added-alike shelf (outlet_at s.outlets k) (outlet_at outlets k) (alike.each k below) ∙ kept.added k below;
+  room = λ k low.
+      let below : k < length s.outlets = omega (arith, alike.count) in
+      let same : outlet_room shelf (outlet_at outlets k) ≡ outlet_room shelf (outlet_at s.outlets k) =
+      room-same shelf (outlet_at s.outlets k) (outlet_at outlets k) (bare-alike (outlet_at s.outlets k) (outlet_at outlets k) (alike.each k below)) in
+      subst (λ room. jobs s.graph ≤ s.made + room) (sym same) (kept.room k below);
+}
+
+pub station-alike : (s : WorkStation) (outlets : List Outlet) → AreAlike s.outlets outlets → IsStation s → IsStation (record s { outlets = outlets })
+station-alike s outlets alike sound = record {
+  exists = sound.exists;
+  an_input_each = sound.an_input_each;
+  an_outlet_each = alike.count ∙ sound.an_outlet_each;
+  made = sound.made;
+  few_dates = sound.few_dates;
+  log_room = sound.log_room;
+  ring_room = λ k low.
+      let below : k < length s.outlets = omega (arith, alike.count) in
+      ring_room-alike (jobs s.graph - length s.log.dates) (outlet_at s.outlets k) (outlet_at outlets k) (alike.each k below) (sound.ring_room k below);
+}
+
+-- where one outlet has seen more
+pub alike-set : (outlets : List Outlet) (k : ℕ) (o : Outlet) → k < length outlets → unseen_outlet o ≡ unseen_outlet (outlet_at outlets k) → AreAlike outlets (set outlets k o)
+alike-set outlets k o low same = record {
+  count = length-set outlets k o;
+  each = λ j there.
+      ⊎_elim
+      (λ (e : j ≡ k).
+      ap (λ (n : ℕ). unseen_outlet (outlet_at (set outlets k o) n)) e
+      ∙ ap unseen_outlet (at-set outlets k o low)
+      ∙ same
+      ∙ ap (λ (n : ℕ). unseen_outlet (outlet_at outlets n)) (sym e))
+      (λ (ne : j ≢ k). ap unseen_outlet (beside-set outlets k j o ne))
+      (cases_eq j k);
+}
 
 -- ---- a station that fires
 
@@ -217,7 +278,12 @@ ring_room-after : (mid new : List PlainQueue) (before after : Outlet) (date more
 ring_room-after mid new (outlet.Ring put) (outlet.Ring put') date more less same added fewer has =
     let room : put'.room ≡ put.room = room-same [] (outlet.Ring put) (outlet.Ring put') same in
     omega (arith, room, ap length added ∙ length-append put.added (date ∷ []), has)
+ring_room-after mid new (outlet.Room put) (outlet.Room put') date more less same added fewer has =
+    omega (arith, ap length added ∙ length-append put.added (date ∷ []), has)
+ring_room-after mid new (outlet.Room put) (outlet.Ring put') date more less same added fewer has = absurd (cc)
+ring_room-after mid new (outlet.Ring put) (outlet.Room put') date more less same added fewer has = absurd (cc)
 ring_room-after mid new (outlet.Local q) (outlet.Ring put') date more less same added fewer has = absurd (cc)
+ring_room-after mid new (outlet.Local q) (outlet.Room put') date more less same added fewer has = absurd (cc)
 ring_room-after mid new before (outlet.Local q) date more less same added fewer has = tt
 
 pub station-fires : (old mid new : List PlainQueue) (s : WorkStation) (full empty : List Input) (outlets : List Outlet) (date turns : ℕ) → IsStation s → length s.log.dates ≢ jobs s.graph → IsFiring old mid new s full empty outlets date → IsStation (fired_station s empty outlets date turns)
@@ -298,14 +364,17 @@ puts-apart s other q k apart low is =
 
 taken-apart : (old new : List PlainQueue) (s : WorkStation) (i : Inlet) → MovesItsOwn s old new → ((q : ℕ) → inlet_queue i ≡ Some q → NoneTakes q s.inputs) → inlet_taken new i ≡ inlet_taken old i
 taken-apart old new s (inlet.Ring take) own none = refl
+taken-apart old new s (inlet.Room take) own none = refl
 taken-apart old new s (inlet.Local q) own none = own.taken q (none q refl)
 
 added-apart : (old new : List PlainQueue) (s : WorkStation) (o : Outlet) → MovesItsOwn s old new → ((q : ℕ) → outlet_queue o ≡ Some q → NonePuts q s.outlets) → outlet_added new o ≡ outlet_added old o
 added-apart old new s (outlet.Ring put) own none = refl
+added-apart old new s (outlet.Room put) own none = refl
 added-apart old new s (outlet.Local q) own none = own.puts q (none q refl)
 
 room-apart : (old new : List PlainQueue) (s : WorkStation) (o : Outlet) → MovesItsOwn s old new → outlet_room new o ≡ outlet_room old o
 room-apart old new s (outlet.Ring put) own = refl
+room-apart old new s (outlet.Room put) own = refl
 room-apart old new s (outlet.Local q) own = ap (λ (queue : PlainQueue). queue.room) (own.made q)
 
 pub kept-others : (old new : List PlainQueue) (s : WorkStation) → MovesItsOwn s old new → (other : WorkStation) → IsStation other → AreApart s other → IsKept old other → IsKept new other
@@ -342,9 +411,10 @@ waiting-grows old new q made takes grows =
     length-drop is.takes (is.initial ++ is.added) ∙ ap (λ n. n - is.takes) (length-append is.initial is.added) in
     omega (arith, before, after, more, takes, ap length initial)
 
-known-apart : (old new : List PlainQueue) (s : WorkStation) (i : Inlet) → MovesItsOwn s old new → Grows old new → ((q : ℕ) → inlet_queue i ≡ Some q → NoneTakes q s.inputs) → length (inlet_known old i) ≤ length (inlet_known new i)
-known-apart old new s (inlet.Ring take) own grows none = omega arith
-known-apart old new s (inlet.Local q) own grows none = waiting-grows old new q (own.made q) (own.takes q (none q refl)) grows
+ahead-apart : (old new : List PlainQueue) (s : WorkStation) (i : Inlet) → MovesItsOwn s old new → Grows old new → ((q : ℕ) → inlet_queue i ≡ Some q → NoneTakes q s.inputs) → inlet_ahead old i ≤ inlet_ahead new i
+ahead-apart old new s (inlet.Ring take) own grows none = omega arith
+ahead-apart old new s (inlet.Room take) own grows none = omega arith
+ahead-apart old new s (inlet.Local q) own grows none = waiting-grows old new q (own.made q) (own.takes q (none q refl)) grows
 
 pub ready-others : (old new : List PlainQueue) (s : WorkStation) → MovesItsOwn s old new → Grows old new → (other : WorkStation) → AreApart s other → IsReady old other → IsReady new other
 ready-others old new s own grows other apart ready = record {
@@ -352,10 +422,9 @@ ready-others old new s own grows other apart ready = record {
   tokens = λ k low.
       let input = input_at other.inputs k in
       let had = ready.tokens k low in
-      let known = known-apart old new s input.inlet own grows (λ q is. takes-apart s other q k apart low is) in
-      let before = length-append (option_to_list input.hand) (inlet_known old input.inlet) in
-      let after = length-append (option_to_list input.hand) (inlet_known new input.inlet) in
-      omega (arith, had, known, before, after);
+      let ahead = ahead-apart old new s input.inlet own grows (λ q is. takes-apart s other q k apart low is) in
+      omega (arith, had, ahead);
+  space = ready.space;
 }
 
 -- ---- before a step
@@ -363,6 +432,7 @@ ready-others old new s own grows other apart ready = record {
 -- where dates are left to be made, every output has room for one
 shelf_room-left : (shelf : List PlainQueue) (o : Outlet) → length (outlet_added shelf o) < outlet_room shelf o → HasShelfRoom shelf o
 shelf_room-left shelf (outlet.Ring put) less = tt
+shelf_room-left shelf (outlet.Room put) less = tt
 shelf_room-left shelf (outlet.Local q) less = less
 
 pub kept-may_put : (shelf : List PlainQueue) (s : WorkStation) → IsStation s → IsKept shelf s → MayPut shelf s
@@ -437,14 +507,17 @@ kept-met shelf s j i hand low same held kept =
 
 taken-fresh : (shelf : List PlainQueue) (i : Inlet) → IsUntaken i → IfSome (inlet_queue i) (λ q. plain_taken (queue_at shelf q) ≡ []) → inlet_taken shelf i ≡ []
 taken-fresh shelf (inlet.Ring take) ring local = ring
+taken-fresh shelf (inlet.Room take) ring local = ring
 taken-fresh shelf (inlet.Local q) ring local = local
 
 added-fresh : (shelf : List PlainQueue) (o : Outlet) → IsUnfilled o → IfSome (outlet_queue o) (λ q. (queue_at shelf q).added ≡ []) → outlet_added shelf o ≡ []
 added-fresh shelf (outlet.Ring put) ring local = ring
+added-fresh shelf (outlet.Room put) ring local = ring
 added-fresh shelf (outlet.Local q) ring local = local
 
 room-fresh : (shelf : List PlainQueue) (o : Outlet) (all made : ℕ) → HasRingRoom (all - made) o → IfSome (outlet_queue o) (λ q. all ≤ made + (queue_at shelf q).room) → all ≤ made + outlet_room shelf o
 room-fresh shelf (outlet.Ring put) all made ring local = omega (arith, ring)
+room-fresh shelf (outlet.Room put) all made ring local = omega (arith, ring)
 room-fresh shelf (outlet.Local q) all made ring local = local
 
 -- its inlets, and its hands

@@ -3,6 +3,7 @@ pub mod Laying
 pub mod OwnQueues
 pub mod Refilling
 pub mod Emptying
+pub mod Looking
 pub mod Filling
 pub mod Dates
 pub mod Keeping

@@ -1,5 +1,5 @@
 -- What is seen of an end follows from its own queue, and which queue that is stays.
-use Rattle.std.proofs.Common.{◌≡◌, ◌≢◌, ℕ, List, get_or, map, refl, sym, ap, ◌∙◌}
+use Rattle.std.proofs.Common.{◌≡◌, ◌≢◌, ℕ, List, length, get_or, map, refl, sym, ap, ◌∙◌}
 use Rattle.std.specs.Prelude.{None, Some}
 use Rattle.std.proofs.Math.ListN.{get_or-map}
 use Rattle.card_queue.specs.Plain.{PlainQueue, plain_taken, plain_waiting}
@@ -9,7 +9,7 @@ use Rattle.station_step.specs.declared.ends.Inlet.TheVariants as inlet
 use Rattle.station_step.specs.declared.ends.Outlet.TheVariants as outlet
 use Rattle.station_step.specs.declared.input.Input.{Input}
 use Rattle.station_step.specs.Shelf.{queue_at, OnlyTakes, OnlyPuts}
-use Rattle.station_step.specs.Ends.{inlet_taken, inlet_known, inlet_queue, bare_inlet, unseen_inlet, outlet_added, outlet_queue, bare_outlet}
+use Rattle.station_step.specs.Ends.{inlet_taken, inlet_ahead, inlet_queue, bare_inlet, unseen_inlet, outlet_added, outlet_queue, bare_outlet}
 use Rattle.station_step.specs.Input.{input_at}
 use Rattle.station_step.specs.Station.{bare_input, outlet_at}
 
@@ -28,23 +28,28 @@ OutletQueueStays old new o = (q : ℕ) → outlet_queue o ≡ Some q → queue_a
 
 pub inlet_taken-same : (old new : List PlainQueue) (i : Inlet) → InletQueueStays old new i → inlet_taken new i ≡ inlet_taken old i
 inlet_taken-same old new (inlet.Ring take) stays = refl
+inlet_taken-same old new (inlet.Room take) stays = refl
 inlet_taken-same old new (inlet.Local q) stays = ap plain_taken (stays q refl)
 
-pub inlet_known-same : (old new : List PlainQueue) (i : Inlet) → InletQueueStays old new i → inlet_known new i ≡ inlet_known old i
-inlet_known-same old new (inlet.Ring take) stays = refl
-inlet_known-same old new (inlet.Local q) stays = ap plain_waiting (stays q refl)
+pub inlet_ahead-same : (old new : List PlainQueue) (i : Inlet) → InletQueueStays old new i → inlet_ahead new i ≡ inlet_ahead old i
+inlet_ahead-same old new (inlet.Ring take) stays = refl
+inlet_ahead-same old new (inlet.Room take) stays = refl
+inlet_ahead-same old new (inlet.Local q) stays = ap (λ queue. length (plain_waiting queue)) (stays q refl)
 
 pub outlet_added-same : (old new : List PlainQueue) (o : Outlet) → OutletQueueStays old new o → outlet_added new o ≡ outlet_added old o
 outlet_added-same old new (outlet.Ring put) stays = refl
+outlet_added-same old new (outlet.Room put) stays = refl
 outlet_added-same old new (outlet.Local q) stays = ap (λ queue. queue.added) (stays q refl)
 
 -- which queue an end has follows from the end without its tokens
 pub inlet_queue-bare : (i : Inlet) → inlet_queue (bare_inlet i) ≡ inlet_queue i
 inlet_queue-bare (inlet.Ring take) = refl
+inlet_queue-bare (inlet.Room take) = refl
 inlet_queue-bare (inlet.Local q) = refl
 
 pub outlet_queue-bare : (o : Outlet) → outlet_queue (bare_outlet o) ≡ outlet_queue o
 outlet_queue-bare (outlet.Ring put) = refl
+outlet_queue-bare (outlet.Room put) = refl
 outlet_queue-bare (outlet.Local q) = refl
 
 pub inlet_queue-same : (before after : Inlet) → bare_inlet after ≡ bare_inlet before → inlet_queue after ≡ inlet_queue before
@@ -83,8 +88,10 @@ OnlyPuts-trans first next = record {
 -- what an inlet knows says nothing of its queue and of the tokens that were taken
 pub bare-unseen : (i : Inlet) → bare_inlet (unseen_inlet i) ≡ bare_inlet i
 bare-unseen (inlet.Ring take) = refl
+bare-unseen (inlet.Room take) = refl
 bare-unseen (inlet.Local q) = refl
 
 pub taken-unseen : (shelf : List PlainQueue) (i : Inlet) → inlet_taken shelf (unseen_inlet i) ≡ inlet_taken shelf i
 taken-unseen shelf (inlet.Ring take) = refl
+taken-unseen shelf (inlet.Room take) = refl
 taken-unseen shelf (inlet.Local q) = refl

@@ -1,6 +1,6 @@
 -- The inputs of a station while its hands are refilled, one after the other.
 use Rattle.std.specs.Option.{option_or}
-use Rattle.std.proofs.Common.{◌≡◌, ◌≢◌, ℕ, ◌+◌, ◌<◌, ◌≤◌, List, [], ◌++◌, length, set, map, refl, sym, ap, ◌∙◌, subst, arith, ⊎_elim, get_or-set_same, get_or-set_other}
+use Rattle.std.proofs.Common.{◌≡◌, ◌≢◌, ℕ, ◌+◌, ◌<◌, ◌≤◌, List, ◌++◌, length, set, map, refl, sym, ap, ◌∙◌, subst, arith, ⊎_elim, get_or-set_same, get_or-set_other}
 use Rattle.std.specs.Prelude.{Option, None, Some, is_some, false, IsSome, IfNone, IfSome, option_to_list}
 use Rattle.std.proofs.Math.Seq.{map-set_same}
 use Rattle.std.proofs.lemmas.Bool.{cases_eq}
@@ -13,7 +13,7 @@ use Rattle.station_step.specs.Shelf.{queue_at, OnlyTakes}
 use Rattle.station_step.specs.Ends.{inlet_queue}
 use Rattle.station_step.specs.Input.{input_at, IsRefilled, TakeApart}
 use Rattle.station_step.specs.Station.{bare_input}
-use Rattle.station_step.proofs.OwnQueues.{InletQueueStays, inlet_taken-same, inlet_known-same, inlet_queue-same, OnlyTakes-trans}
+use Rattle.station_step.proofs.OwnQueues.{InletQueueStays, inlet_taken-same, inlet_ahead-same, inlet_queue-same, OnlyTakes-trans}
 
 -- the inputs below k are refilled, the others as they were
 pub record RefilledUpTo (k : ℕ) (old new : List PlainQueue) (before after : List Input) : Type 0 where
@@ -49,7 +49,7 @@ refilled-earlier old mid new before after is stays = record {
   same = is.same;
   taken = is.taken ∙ ap (λ xs. xs ++ option_to_list after.hand) (inlet_taken-same old mid before.inlet stays);
   full = is.full;
-  empty = subst (λ (xs : List ℕ). IfNone after.hand (option_to_list before.hand ++ xs ≡ [])) (inlet_known-same old mid before.inlet stays) is.empty;
+  empty = subst (λ (n : ℕ). IfNone after.hand (length (option_to_list before.hand) + n ≡ 0)) (inlet_ahead-same old mid before.inlet stays) is.empty;
 }
 
 -- the next input is refilled

@@ -1,10 +1,10 @@
 -- An input of a station: an inlet, and the hand that it fills.
-use Rattle.std.specs.Prelude.{◌≡◌, ◌≢◌, ℕ, ◌≤◌, ◌<◌, List, [], ◌++◌, None, Some, IfSome, IsSome, IfNone, drop, length, slice_index_or, option_to_list}
+use Rattle.std.specs.Prelude.{◌≡◌, ◌≢◌, ℕ, ◌+◌, ◌≤◌, ◌<◌, List, ◌++◌, None, Some, IfSome, IsSome, IfNone, drop, length, slice_index_or, option_to_list}
 use Rattle.card_queue.specs.Plain.{PlainQueue}
 use Rattle.station_step.specs.declared.ends.Inlet.{Inlet}
 use Rattle.station_step.specs.declared.ends.Inlet.TheVariants.{Local}
 use Rattle.station_step.specs.declared.input.Input.{Input}
-use Rattle.station_step.specs.Ends.{inlet_taken, inlet_known, inlet_queue, bare_inlet}
+use Rattle.station_step.specs.Ends.{inlet_taken, inlet_ahead, inlet_queue, bare_inlet}
 
 -- an input with an empty hand
 abbrev pub empty_handed : Inlet → Input
@@ -19,9 +19,9 @@ pub record IsHeld (shelf : List PlainQueue) (fired : ℕ) (input : Input) : Type
   pub enough : fired ≤ length (inlet_taken shelf input.inlet)
   pub rest : drop fired (inlet_taken shelf input.inlet) ≡ option_to_list input.hand
 
--- the tokens on the arc of an input, as far as they are known: the one in the hand, then those that come next
-abbrev pub tokens_known : List PlainQueue → Input → List ℕ
-tokens_known shelf input = option_to_list input.hand ++ inlet_known shelf input.inlet
+-- how many tokens are on the arc of an input, as far as they are known: the one in the hand, and those that come next
+abbrev pub tokens_ahead : List PlainQueue → Input → ℕ
+tokens_ahead shelf input = length (option_to_list input.hand) + inlet_ahead shelf input.inlet
 
 -- a full hand stays; an empty one takes the next token, and is empty after that only where none was known
 pub record IsRefilled (old new : List PlainQueue) (before after : Input) : Type 0 where
@@ -29,7 +29,7 @@ pub record IsRefilled (old new : List PlainQueue) (before after : Input) : Type 
   pub taken : inlet_taken new after.inlet ++ option_to_list before.hand ≡
       inlet_taken old before.inlet ++ option_to_list after.hand
   pub full : IsSome before.hand → after.hand ≡ before.hand
-  pub empty : IfNone after.hand (tokens_known old before ≡ [])
+  pub empty : IfNone after.hand (tokens_ahead old before ≡ 0)
 
 -- the inputs with these numbers take from no queue of the shelf twice
 abbrev pub TakeApart : List Input → Type 0

@@ -38,6 +38,10 @@ abbrev pub with_inlet : WorkStation → ℕ → Inlet → WorkStation
 with_inlet s k inlet =
     record s { inputs = slice_set s.inputs k (record (input_at s.inputs k) { inlet = inlet }) }
 
+-- a station with another outlet at output k
+abbrev pub with_outlet : WorkStation → ℕ → Outlet → WorkStation
+with_outlet s k outlet = record s { outlets = slice_set s.outlets k outlet }
+
 -- how many firings it made
 abbrev pub firings : WorkStation → ℕ
 firings s = length s.log.dates - s.made

@@ -1,23 +1,27 @@
-ghost use Rattle.std.specs.Prelude.{◌≡◌, ◌≢◌, ℕ, ◌+◌, ◌<◌, ◌≤◌, ◌++◌, ◌∷◌, [], Some, length, IfSome, IfNone, option_to_list};
-ghost use mathlib.Core.List.{IsPrefix};
+ghost use Rattle.std.specs.Prelude.{◌≡◌, ◌≢◌, ℕ, ◌+◌, ◌<◌, ◌≤◌, ◌++◌, ◌∷◌, ◌↔◌, [], Some, length, IsTrue, IfSome, IfNone, option_to_list};
 ghost use Rattle.station_step.specs.Shelf.{queue_at, OnlyTakes, OnlyPuts};
-ghost use Rattle.station_step.specs.Ends.{inlet_taken, inlet_known, outlet_added, bare_inlet, bare_outlet, unseen_inlet, inlet_queue, outlet_queue, HasRingRoom, HasShelfRoom, AreEnds, AreMet};
+ghost use Rattle.station_step.specs.Ends.{inlet_taken, inlet_ahead, outlet_added, bare_inlet, bare_outlet, unseen_inlet, unseen_outlet, inlet_queue, outlet_queue, HasRingRoom, HasShelfRoom, is_bounded, HasSpace, HasLooked, AreEnds, AreMet, KnowsMore, HasMoreSpace};
 
 use crate::shelf::Shelf;
 use card_queue::{Put, Take};
 use line_base::Date;
+use room_ring::{RoomPut, RoomTake};
 
-/// Where the tokens of an input come from: the end of a ring, or the queue with this number on the worker's shelf.
+/// Where the tokens of an input come from: the end of a ring, that of a ring of bounded room, or the queue with this
+/// number on the worker's shelf.
 #[derive(Drop)]
 pub enum Inlet {
     Ring(Take),
+    Room(RoomTake),
     Local(u32),
 }
 
-/// Where the tokens of an output go to: the end of a ring, or the queue with this number on the worker's shelf.
+/// Where the tokens of an output go to: the end of a ring, that of a ring of bounded room, or the queue with this
+/// number on the worker's shelf.
 #[derive(Drop)]
 pub enum Outlet {
     Ring(Put),
+    Room(RoomPut),
     Local(u32),
 }
 
@@ -29,25 +33,47 @@ impl Inlet {
         ensures same { bare_inlet self.new ≡ bare_inlet self.old }
         ensures taken { inlet_taken shelf.new self.new ≡ inlet_taken shelf.old self.old ++
             option_to_list result }
-        ensures none { IfNone result (inlet_known shelf.old self.old ≡ []) }
+        ensures none { IfNone result (inlet_ahead shelf.old self.old ≡ 0) }
         ensures only_takes { OnlyTakes shelf.old shelf.new }
         ensures others { (q : ℕ) → inlet_queue self.old ≢ Some q →
             queue_at shelf.new q ≡ queue_at shelf.old q }
     {
         match self {
             Inlet::Ring(take) => take.take(),
+            Inlet::Room(take) => take.take(),
             Inlet::Local(k) => shelf.take(*k),
         }
     }
 }
 
 impl Outlet {
+    /// Whether it can lack space, as the end of a ring of bounded room alone can.
+    #[inline]
+    pub(crate) fn is_bounded(&self) -> bool
+        ensures { result ≡ is_bounded self.now }
+    {
+        matches!(self, Outlet::Room(_))
+    }
+
+    /// Looks for space where none is known, which can be of a ring of bounded room alone. Tells whether there is some.
+    #[inline]
+    pub(crate) fn look(&mut self) -> bool
+        ensures looked { HasLooked self.old self.new }
+        ensures space { IsTrue result ↔ HasSpace self.new }
+    {
+        match self {
+            Outlet::Ring(_) | Outlet::Local(_) => true,
+            Outlet::Room(put) => put.space() > 0 || put.look() > 0,
+        }
+    }
+
     /// Puts a token behind all others. It takes no memory.
     #[inline]
     pub(crate) fn put(&mut self, shelf: &mut Shelf, date: Date)
         requires there { IfSome (outlet_queue self.old) (λ q. q < length shelf.old) }
         requires ring_room { HasRingRoom 1 self.old }
         requires shelf_room { HasShelfRoom shelf.old self.old }
+        requires space { HasSpace self.old }
         ensures same { bare_outlet self.new ≡ bare_outlet self.old }
         ensures added { outlet_added shelf.new self.new ≡ outlet_added shelf.old self.old ++
             date ∷ [] }
@@ -57,6 +83,10 @@ impl Outlet {
     {
         match self {
             Outlet::Ring(put) => put.put(date),
+            Outlet::Room(put) => {
+                // There is space for it.
+                let _ = put.put(date);
+            }
             Outlet::Local(k) => shelf.put(*k, date),
         }
     }
@@ -65,12 +95,15 @@ impl Outlet {
 /// Brings the two ends of one ring together on one thread.
 pub(crate) fn meet_ends(outlet: &mut Outlet, inlet: &mut Inlet)
     requires { AreEnds outlet.old inlet.old }
-    ensures outlet { outlet.new ≡ outlet.old }
-    ensures same { unseen_inlet inlet.new ≡ unseen_inlet inlet.old }
-    ensures known { IsPrefix (inlet_known [] inlet.old) (inlet_known [] inlet.new) }
+    ensures outlet { unseen_outlet outlet.new ≡ unseen_outlet outlet.old }
+    ensures inlet { unseen_inlet inlet.new ≡ unseen_inlet inlet.old }
+    ensures space { HasMoreSpace outlet.old outlet.new }
+    ensures known { KnowsMore inlet.old inlet.new }
     ensures met { AreMet outlet.new inlet.new }
 {
-    if let (Outlet::Ring(put), Inlet::Ring(take)) = (outlet, inlet) {
-        card_queue::meet(put, take);
+    match (outlet, inlet) {
+        (Outlet::Ring(put), Inlet::Ring(take)) => card_queue::meet(put, take),
+        (Outlet::Room(put), Inlet::Room(take)) => room_ring::meet(put, take),
+        _ => {}
     }
 }

@@ -79,8 +79,8 @@ pub(crate) fn empty_hands(inputs: &mut Vec<Input>)
     ensures hands { (k : ℕ) → k < length inputs.old.items →
         (input_at inputs.new.items k).hand ≡ None }
 {
-    for k in 0..inputs.len() {
-        inputs[k].hand = None;
+    for input in inputs.iter_mut() {
+        input.hand = None;
     }
 }
 
@@ -99,9 +99,5 @@ pub(crate) fn next_date(graph: &Graph, t: u32, job: u32, latest: Date) -> Date
 fn asked_date(worked: bool, time: u64, token: Date) -> Date
     ensures { result ≡ saturating token (if worked then time else 0) }
 {
-    if worked {
-        token.saturating_add(time)
-    } else {
-        token
-    }
+    token.saturating_add(if worked { time } else { 0 })
 }

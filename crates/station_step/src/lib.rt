@@ -1,4 +1,5 @@
-//! One station of an event graph at work: it takes tokens into its hands, and fires where all of them are full.
+//! One station of an event graph at work: it takes tokens into its hands, and fires where all of them are full
+//! and there is space for what it puts.
 #![tactic(auto)]
 
 mod ends;

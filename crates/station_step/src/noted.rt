@@ -1,9 +1,39 @@
-ghost use Rattle.std.specs.Prelude.{◌≡◌, ◌<◌, IfOk};
-ghost use Rattle.event_graph.specs.Network.{stations};
-ghost use Rattle.station_step.specs.Noted.{worked_into, delays_from};
+ghost use Rattle.std.specs.Prelude.{◌≡◌, ◌<◌, ◌≤◌, IfOk, IfSome};
+ghost use Rattle.std.specs.List.{list_any};
+ghost use Rattle.event_graph.specs.Network.{stations, jobs, time};
+ghost use Rattle.station_step.specs.Ends.{is_bounded};
+ghost use Rattle.station_step.specs.Noted.{IsFixedTime, worked_into, delays_from};
 
+use crate::ends::Outlet;
 use event_graph::Graph;
 use std::alloc::{AllocError, Global};
+
+/// The time that station `t` takes for every job, in the plant's unit. `None` where it has a list of times.
+pub(crate) fn fixed_time(graph: &Graph, t: u32) -> Option<u64>
+    requires { t < stations graph.now }
+    ensures { IfSome result (IsFixedTime graph.now t) }
+{
+    if graph.varies(t) {
+        None
+    } else {
+        Some(graph.time(t, 1))
+    }
+}
+
+/// The time that station `t` takes for a job, in the plant's unit, where it noted the time that it takes for every job.
+#[inline]
+pub(crate) fn job_time(fixed: Option<u64>, graph: &Graph, t: u32, job: u32) -> u64
+    requires station { t < stations graph.now }
+    requires from_one { 1 ≤ job }
+    requires job { job ≤ jobs graph.now }
+    requires noted { IfSome fixed (IsFixedTime graph.now t) }
+    ensures { result ≡ time graph.now t job }
+{
+    match fixed {
+        Some(time) => time,
+        None => graph.time(t, job),
+    }
+}
 
 /// Of each arc into station `t`, whether it is worked.
 pub(crate) fn worked_into(alloc: Global, graph: &Graph, t: u32) -> Result<Vec<bool>, AllocError>
@@ -29,4 +59,11 @@ pub(crate) fn delays_from(alloc: Global, graph: &Graph, t: u32) -> Result<Vec<u6
         delays.push(graph.delay(outs[k]))?;
     }
     Ok(delays)
+}
+
+/// Whether one of these outlets can lack space.
+pub(crate) fn has_bounded(outlets: &[Outlet]) -> bool
+    ensures { result ≡ list_any is_bounded outlets.now }
+{
+    outlets.iter().any(|outlet| outlet.is_bounded())
 }

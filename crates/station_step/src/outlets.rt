@@ -1,6 +1,7 @@
-ghost use Rattle.std.specs.Prelude.{◌≡◌, ◌≢◌, ℕ, ◌<◌, ◌≤◌, ◌++◌, ◌∷◌, [], map, length, slice_index};
+ghost use Rattle.std.specs.Prelude.{◌≡◌, ◌≢◌, ℕ, ◌<◌, ◌≤◌, ◌++◌, ◌∷◌, [], map, length, slice_index, IfSome, IfNone};
+ghost use Rattle.std.specs.List.{list_any};
 ghost use Rattle.station_step.specs.Shelf.{queue_at, OnlyPuts};
-ghost use Rattle.station_step.specs.Ends.{outlet_added, bare_outlet, HasRingRoom, HasShelfRoom};
+ghost use Rattle.station_step.specs.Ends.{outlet_added, bare_outlet, HasRingRoom, HasShelfRoom, is_bounded, HasSpace, HasNoSpace, HasLooked};
 ghost use Rattle.station_step.specs.Station.{outlet_at, PutWithin, PutApart, NonePuts};
 ghost use Rattle.station_step.specs.Kept.{saturating};
 ghost use Rattle.station_step.specs.Step.{Grows};
@@ -8,6 +9,33 @@ ghost use Rattle.station_step.specs.Step.{Grows};
 use crate::ends::Outlet;
 use crate::shelf::Shelf;
 use line_base::Date;
+
+/// Looks for space at each output that knows of none. The answer is the first output that has none after that. No output
+/// is asked where none of them can lack space.
+pub(crate) fn look_all(bounded: bool, outlets: &mut Vec<Outlet>) -> Option<usize>
+    requires noted { bounded ≡ list_any is_bounded outlets.old.items }
+    ensures count { length outlets.new.items ≡ length outlets.old.items }
+    ensures same { map bare_outlet outlets.new.items ≡ map bare_outlet outlets.old.items }
+    ensures looked { (k : ℕ) → k < length outlets.old.items →
+        HasLooked (outlet_at outlets.old.items k) (outlet_at outlets.new.items k) }
+    ensures none { IfNone result ((k : ℕ) → k < length outlets.new.items →
+        HasSpace (outlet_at outlets.new.items k)) }
+    ensures there { IfSome result (λ k. k < length outlets.new.items) }
+    ensures full { IfSome result (λ k. HasNoSpace (outlet_at outlets.new.items k)) }
+    ensures first { IfSome result (λ k. (j : ℕ) → j < k →
+        HasSpace (outlet_at outlets.new.items j)) }
+{
+    if !bounded {
+        return None;
+    }
+    let mut first = None;
+    for k in 0..outlets.len() {
+        if !outlets[k].look() {
+            first = first.or(Some(k));
+        }
+    }
+    first
+}
 
 /// Puts a token on every output, later by its delay.
 pub(crate) fn put_all(delays: &[u64], outlets: &mut Vec<Outlet>, shelf: &mut Shelf, date: Date)
@@ -18,6 +46,8 @@ pub(crate) fn put_all(delays: &[u64], outlets: &mut Vec<Outlet>, shelf: &mut She
         HasRingRoom 1 (outlet_at outlets.old.items k) }
     requires shelf_room { (k : ℕ) → k < length outlets.old.items →
         HasShelfRoom shelf.old (outlet_at outlets.old.items k) }
+    requires space { (k : ℕ) → k < length outlets.old.items →
+        HasSpace (outlet_at outlets.old.items k) }
     ensures count { length outlets.new.items ≡ length outlets.old.items }
     ensures same { map bare_outlet outlets.new.items ≡ map bare_outlet outlets.old.items }
     ensures each { (k : ℕ) → k < length outlets.old.items →

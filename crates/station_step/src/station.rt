@@ -1,18 +1,17 @@
 ghost use Rattle.std.specs.Prelude.{◌≡◌, ℕ, ◌+◌, ◌-◌, ◌<◌, ◌≤◌, ◌^◌, ◌↔◌, List, [], All, length, IfOk};
 ghost use Rattle.card_queue.specs.Plain.{PlainQueue};
 ghost use Rattle.event_graph.specs.Network.{stations, jobs, ins, outs};
-ghost use mathlib.Core.List.{IsPrefix};
-ghost use Rattle.station_step.specs.Ends.{IsUntaken, IsUnfilled, HasRingRoom, inlet_known, unseen_inlet, AreEnds, AreMet};
+ghost use Rattle.station_step.specs.Ends.{IsUntaken, IsUnfilled, HasRingRoom, unseen_inlet, unseen_outlet, AreEnds, AreMet, KnowsMore, HasMoreSpace};
 ghost use Rattle.station_step.specs.Input.{input_at};
-ghost use Rattle.station_step.specs.Station.{WorkStation, IsStation, IsSeated, MayPut, AreApart, outlet_at, bare_station, new_station, with_inlet};
+ghost use Rattle.station_step.specs.Station.{WorkStation, IsStation, IsSeated, MayPut, AreApart, outlet_at, bare_station, new_station, with_inlet, with_outlet};
 ghost use Rattle.station_step.specs.Kept.{IsKept, IsFresh};
-ghost use Rattle.station_step.specs.Step.{IsReady, IsDone, HasFired, IfBlocked, IsBlocked, Did, MovesItsOwn, Grows};
+ghost use Rattle.station_step.specs.Step.{IsReady, IsDone, HasFired, IfBlocked, IsBlocked, IfFull, IsFull, Did, MovesItsOwn, Grows};
 
 use crate::ends::{Inlet, Outlet, meet_ends};
 use crate::input::Input;
 use crate::inputs::{empty_hands, next_date, refill, with_empty_hands};
-use crate::noted::{delays_from, worked_into};
-use crate::outlets::put_all;
+use crate::noted::{delays_from, fixed_time, has_bounded, job_time, worked_into};
+use crate::outlets::{look_all, put_all};
 use crate::refilled::Refilled;
 use crate::shelf::Shelf;
 use crate::stepped::Stepped;
@@ -33,9 +32,13 @@ pub struct Station {
     number: u32,
     inputs: Vec<Input>,
     outlets: Vec<Outlet>,
-    // What each step asks of the graph: whether the arc of each input is worked, and the delay of each output's arc.
+    // What each step asks of the graph: the time of every job, if it is one, whether the arc of each input is worked, and
+    // the delay of each output's arc.
+    fixed: Option<u64>,
     worked: Vec<bool>,
     delays: Vec<u64>,
+    // Whether an output can lack space.
+    bounded: bool,
     log: Log,
     made: u32,
     turns: u64,
@@ -67,7 +70,7 @@ impl Model for Station {
       log = s.log;
       made = s.made;
       turns = s.turns;
-    }) × IsNoted s.graph.value s.number s.worked.items s.delays.items };
+    }) × IsNoted s.graph.value s.number s.outlets.items s.fixed s.worked.items s.delays.items s.bounded };
 }
 
 impl Station {
@@ -98,12 +101,15 @@ impl Station {
     {
         let graph = live.graph();
         let made = log.dates().len() as u32;
+        let bounded = has_bounded(outlets.as_slice());
         Ok(Station {
             number: t,
             inputs: with_empty_hands(alloc, inlets)?,
             outlets,
+            fixed: fixed_time(graph, t),
             worked: worked_into(alloc, graph, t)?,
             delays: delays_from(alloc, graph, t)?,
+            bounded,
             log,
             made,
             turns: 0,
@@ -112,12 +118,15 @@ impl Station {
     }
 
     /// Makes one step. Where the log has a date for each job it answers `Done` and takes nothing. Else it takes a token
-    /// into each empty hand whose queue gives one. Where all hands are then full, the station fires: the new date is the
-    /// greatest of the tokens, each with the job time where its arc is worked, and for the feed the demand date. It goes
-    /// to the end of the log and, later by the arc's delay, on every output; the hands are empty then. Else the answer
-    /// is `Blocked`, with the first arc that has no token, and the tokens taken stay in the hands. Sums saturate.
+    /// into each empty hand whose queue gives one. Where a hand stays empty, the answer is `Blocked`, with the first
+    /// arc that has no token, and the tokens taken stay in the hands. Else it looks at each output that knows of no
+    /// space, as only one over a ring of bounded room may. Where one has none after that, the answer is `Full`, with
+    /// the first such arc; nothing is put, and the hands keep their tokens. Else the station fires: the new date is the
+    /// greatest of the tokens, each with the job time where its arc is worked, and for the feed the demand date. It
+    /// goes to the end of the log and, later by the arc's delay, on every output; the hands are empty then. Sums
+    /// saturate.
     ///
-    /// It takes no memory, and looks at each of its queues once.
+    /// It takes no memory, and goes over its inputs and its outputs at most twice each.
     ///
     /// Source of the rule: Baccelli, Cohen, Olsder and Quadrat, Synchronization and Linearity, on event graphs.
     pub fn step(&mut self, live: &Live, shelf: &mut Shelf) -> Stepped
@@ -131,6 +140,7 @@ impl Station {
         ensures seated { IsSeated shelf.new self.new }
         ensures done { IsDone result ↔ (length self.old.log.dates ≡ jobs self.old.graph) }
         ensures blocked { IfBlocked result (IsBlocked shelf.old self.old self.new) }
+        ensures full { IfFull result (IsFull self.old self.new) }
         ensures fires { IsReady shelf.old self.old → HasFired result }
         ensures did { Did result shelf.old shelf.new self.old self.new }
         ensures kept { IsKept shelf.old self.old → IsKept shelf.new self.new }
@@ -148,12 +158,15 @@ impl Station {
             return Stepped::Done;
         }
         let job = done + 1;
-        let time = graph.time(self.number, job);
+        let time = job_time(self.fixed, graph, self.number, job);
         let worked = self.worked.as_slice();
         let latest = match refill(&mut self.inputs, worked, time, shelf) {
             Refilled::Full(latest) => latest,
             Refilled::Empty(k) => return Stepped::Blocked(graph.ins(self.number)[k]),
         };
+        if let Some(k) = look_all(self.bounded, &mut self.outlets) {
+            return Stepped::Full(graph.outs(self.number)[k]);
+        }
         empty_hands(&mut self.inputs);
         let date = next_date(graph, self.number, job, latest);
         put_all(self.delays.as_slice(), &mut self.outlets, shelf, date);
@@ -202,22 +215,28 @@ impl Station {
     }
 }
 
-/// Brings the two ends of one ring together on one thread: output `k` of a station and input `j` of another. All that was
-/// put and not taken is then known. It takes no memory.
+/// Brings the two ends of one ring together on one thread: output `k` of a station and input `j` of another. All that
+/// was put and not taken is then known, and where the room is bounded, the space is at least the room less what was put
+/// and not taken. Nothing else of the stations changes. It takes no memory.
 pub fn meet_at(from: &mut Station, k: u32, to: &mut Station, j: u32)
     requires output { k < length from.old.outlets }
     requires input { j < length to.old.inputs }
     requires ends { AreEnds (outlet_at from.old.outlets k) (input_at to.old.inputs j).inlet }
-    ensures from { from.new ≡ from.old }
+    ensures from { from.new ≡ with_outlet from.old k (outlet_at from.new.outlets k) }
     ensures to { to.new ≡ with_inlet to.old j (input_at to.new.inputs j).inlet }
-    ensures same { unseen_inlet (input_at to.new.inputs j).inlet ≡
+    ensures outlet { unseen_outlet (outlet_at from.new.outlets k) ≡
+        unseen_outlet (outlet_at from.old.outlets k) }
+    ensures inlet { unseen_inlet (input_at to.new.inputs j).inlet ≡
         unseen_inlet (input_at to.old.inputs j).inlet }
-    ensures known { IsPrefix (inlet_known [] (input_at to.old.inputs j).inlet)
-        (inlet_known [] (input_at to.new.inputs j).inlet) }
+    ensures space { HasMoreSpace (outlet_at from.old.outlets k) (outlet_at from.new.outlets k) }
+    ensures known { KnowsMore (input_at to.old.inputs j).inlet (input_at to.new.inputs j).inlet }
     ensures met { AreMet (outlet_at from.new.outlets k) (input_at to.new.inputs j).inlet }
-    ensures bare { bare_station to.new ≡ bare_station to.old }
-    ensures station { IsStation to.new }
-    ensures kept { (shelf : List PlainQueue) → IsKept shelf to.old → IsKept shelf to.new }
+    ensures from_bare { bare_station from.new ≡ bare_station from.old }
+    ensures to_bare { bare_station to.new ≡ bare_station to.old }
+    ensures from_station { IsStation from.new }
+    ensures to_station { IsStation to.new }
+    ensures from_kept { (shelf : List PlainQueue) → IsKept shelf from.old → IsKept shelf from.new }
+    ensures to_kept { (shelf : List PlainQueue) → IsKept shelf to.old → IsKept shelf to.new }
 {
     meet_ends(
         &mut from.outlets[k as usize],

@@ -11,12 +11,17 @@ returns c =
     let low = c.split_at_mut-low.result.0.now in
     let high = c.split_at_mut-low.result.1.now in
     let p = c.split_at_mut-low.ensures in
+    let e = c.meet.ensures in
+    let ring = c.requires.ring in
     let mine = c.index-high-0.result in
     let other = c.index-low-to.result in
     let some : link.to.worker < length low = omega (arith, p.front_len, c.requires.order) in
-    have_met xs _ link (get_or high 0 mine) (get_or low link.to.worker other) c.meet.new.to c.requires.ring.to.worker
-    (changed_before xs low high link.to.worker c.meet.new.self c.meet.new.to mine p.value some c.meet.ensures.from)
-    (front_of_second xs low high link.from.worker no_crew p.value p.front_len ∙ get_or_default high 0 no_crew mine (omega (arith, p.back_len, c.requires.ring.from.worker)))
+    have_met xs _ link (get_or high 0 mine) (get_or low link.to.worker other) c.meet.new.self c.meet.new.to ring.apart ring.from.worker ring.to.worker
+    (changed_before xs low high link.from.worker link.to.worker c.meet.new.self c.meet.new.to p.value p.front_len some)
+    (front_of_second xs low high link.from.worker no_crew p.value p.front_len ∙ get_or_default high 0 no_crew mine (omega (arith, p.back_len, ring.from.worker)))
     (of_first xs low high link.to.worker no_crew p.value some ∙ get_or_default low link.to.worker no_crew other some)
-    c.meet.ensures.same
-    c.meet.ensures.met
+    e.from_same
+    e.to_same
+    e.from
+    e.to
+    e.met

@@ -19,4 +19,4 @@ returns-clause-same c =
 
 pub returns-clause-met : goal.returns-clause-met
 returns-clause-met c =
-    met_between c.args.crews.now c.requires.crews c.args.live.now c.requires.made_for c.args.a c.requires.arc c.link_of-link.result c.link_of-link.ensures c.meet_over.new.crews c.meet_over.ensures
+    met_between c.args.crews.now c.requires.crews c.args.live.now c.requires.made_for c.args.a c.requires.arc c.link_of-link.result c.link_of-link.ensures c.meet_over.new.crews c.meet_over.ensures (λ inside. true≢false (sym (c.is_inside.ensures.1 inside) ∙ c.if-is_inside.false))

@@ -1,11 +1,10 @@
-use Rattle.std.proofs.Common.{ℕ, ◌≡◌, ◌<◌, length, get_or, set, sym, subst, arith, rules}
+use Rattle.std.proofs.Common.{ℕ, ◌≡◌, ◌<◌, length, get_or, set, sym, subst, arith}
 use Rattle.std.proofs.lemmas.List.{get_or_default, get_or-set_same}
 use Rattle.line_workers.specs.Crew.{WorkCrew}
 use Rattle.line_workers.specs.Crews.{crew_at, no_crew, CrewWorked}
 use denote.Exit.{yes}
 use denote.Param.Send.{param_send, arg_send}
 use Rattle.line_workers.proofs.Crossing.{crew_send}
-use Rattle.line_workers.proofs.Turned.{turned_back}
 use Rattle.line_workers.proofs.crews.work_all.Goals as goal
 
 pub for_each_mut-requires-send-T : goal.for_each_mut-requires-send-T
@@ -25,11 +24,3 @@ returns-then-threads-eq1 g c =
     subst Worked zero (
     subst (λ (old : WorkCrew). CrewWorked old (crew_at (set crews 0 new) 0)) (get_or_default crews 0 c.index-crews-0.result no_crew there) (
     subst (CrewWorked crew) (sym (get_or-set_same crews 0 new no_crew there)) worked))
-
-pub returns : goal.returns
-returns g c =
-    let old = c.args.crews.now in
-    let turned = c.reverse.new.self in
-    let worked = c.for_each_mut.new.s in
-    let each : (k : ℕ) → k < length turned → CrewWorked (crew_at turned k) (crew_at worked k) = search rules in
-    turned_back old turned worked c.reverse-2.new.self c.reverse.ensures.after c.reverse-2.ensures.after (search rules) each

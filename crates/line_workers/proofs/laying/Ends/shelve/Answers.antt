@@ -13,6 +13,9 @@ returns-clause-shelved c =
     _
     _
     _
+    _
+    _
     (ap (λ (e : QueueEnds). e.outlets) c.self.view_is)
     (ap (λ (e : QueueEnds). e.inlets) c.self.view_is)
     (map-with_tokens c.self.inside.shelves.items c.args.worker c.index_mut.result.now c.push.new.self c.args.tokens c.args.self.now.shelves (ap (λ (e : QueueEnds). e.shelves) c.self.view_is) c.requires.worker c.index_mut.ensures.value c.in_ok-push.ensures.items)
+    (ap (λ (e : QueueEnds). e.room) c.self.view_is)

@@ -13,6 +13,9 @@ returns-clause-rest c =
     _
     _
     _
+    _
+    _
     (ap (λ (e : QueueEnds). e.outlets) c.self.view_is)
     (ap (λ (e : QueueEnds). e.inlets) c.self.view_is)
     (map-no_tokens c.self.inside.shelves.items c.args.worker c.replace.new.dest c.args.self.now.shelves (ap (λ (e : QueueEnds). e.shelves) c.self.view_is) (ap (λ (v : Vec (Vec ℕ Global) Global). v.items) c.replace.ensures.after ∙ c.new.ensures.items))
+    (ap (λ (e : QueueEnds). e.room) c.self.view_is)

@@ -1,9 +1,10 @@
-use Rattle.std.proofs.Common.{◌^◌, ap, ◌∙◌, sym, subst, arith}
+use Rattle.std.proofs.Common.{◌^◌, List, ap, ◌∙◌, sym, subst, arith}
 use Rattle.std.specs.List.{All}
 use Rattle.std.proofs.lemmas.List.{with_items_is}
-use Rattle.line_workers.specs.Crew.{WorkCrew}
+use Rattle.line_workers.specs.Teams.{AreAllMet}
+use Rattle.line_workers.specs.Crew.{WorkCrew, teams_of}
 use Rattle.line_workers.specs.Work.{TurnsBelow}
-use Rattle.line_workers.specs.Crews.{live_of}
+use Rattle.line_workers.specs.Crews.{live_of, graph_of}
 use Rattle.line_workers.specs.Line.{WorkLine}
 use Rattle.line_workers.proofs.LineBurst.{turns-low, line_after}
 use Rattle.line_workers.proofs.line.Line.burst.Goals as goal
@@ -15,6 +16,10 @@ burst_of-requires-clause-turns g c =
 pub burst_of-requires-clause-made_for : goal.burst_of-requires-clause-made_for
 burst_of-requires-clause-made_for g c =
     λ κs h. c.requires.made_for ∙ sym (ap (λ (l : WorkLine). l.live) c.self.view_is) ∙ ap live_of (sym c.deref_mut.ensures.value)
+
+pub burst_of-requires-clause-met : goal.burst_of-requires-clause-met
+burst_of-requires-clause-met g c =
+    λ κs h. subst (λ (l : List WorkCrew). AreAllMet (graph_of l) (teams_of l)) (sym c.deref_mut.ensures.value) c.self.invariant.met
 
 pub invariant_of-self : goal.invariant_of-self
 invariant_of-self g c =

@@ -7,12 +7,12 @@ use Rattle.line_workers.proofs.line.Line.of.Goals as goal
 pub invariant_of-result : goal.invariant_of-result
 invariant_of-result c =
     let reached = subst (λ (g : Parts). Reached g c.args.state.now.state) (sym c.requires.made_for) c.fired-made.ensures.reached.reached in
-    new_at_rest c.args.live.now c.args.state.now.state c.args.workers c.in_ok-crews.crews.items c.fired-made.result c.in_ok-crews.ensures reached c.requires.few c.fired-made.ensures.fired
+    new_at_rest c.args.live.now c.args.state.now.state c.args.workers c.args.room c.in_ok-crews.crews.items c.fired-made.result c.in_ok-crews.ensures reached c.requires.few c.fired-made.ensures.fired
 
 pub returns-clause-stands : goal.returns-clause-stands
 returns-clause-stands c =
     let reached = subst (λ (g : Parts). Reached g c.args.state.now.state) (sym c.requires.made_for) c.fired-made.ensures.reached.reached in
-    new_stands c.args.live.now c.args.state.now.state c.args.workers c.in_ok-crews.crews.items c.fired-made.result c.in_ok-crews.ensures reached c.requires.few c.fired-made.ensures.fired
+    new_stands c.args.live.now c.args.state.now.state c.args.workers c.args.room c.in_ok-crews.crews.items c.fired-made.result c.in_ok-crews.ensures reached c.requires.few c.fired-made.ensures.fired
 
 pub returns-clause-line : goal.returns-clause-line
 returns-clause-line c = at_rest_is_line c.in_ok-crews.crews.items c.fired-made.result (invariant_of-result c)

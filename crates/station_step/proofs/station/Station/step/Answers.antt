@@ -1,17 +1,20 @@
 use Rattle.std.proofs.Common.{refl, subst, ◌∙◌, sym, ap, ◌≡◌, ◌≢◌, ◌+◌, ◌<◌, ◌++◌, ◌∷◌, [], ℕ, List, arith, length, slice_index}
-use Rattle.std.specs.Prelude.{unwrap_or}
+use Rattle.std.specs.Prelude.{unwrap_or, IfSome}
 use Rattle.line_base.specs.declared.event.Parts.{Parts}
 use Rattle.line_base.specs.Roomy.{RoomyLog, with_date}
 use Rattle.event_graph.specs.Network.{jobs, delay, ins, outs}
-use Rattle.station_step.specs.Input.{input_at}
+use Rattle.card_queue.specs.Plain.{PlainQueue}
+use Rattle.station_step.specs.Shelf.{queue_at, OnlyTakes}
+use Rattle.station_step.specs.Input.{input_at, NoneTakes}
 use Rattle.station_step.specs.Ends.{outlet_added}
-use Rattle.station_step.specs.Station.{WorkStation, IsStation, IsSeated, outlet_at}
+use Rattle.station_step.specs.Station.{WorkStation, IsStation, IsSeated, MayPut, outlet_at}
 use Rattle.station_step.specs.Kept.{IsKept, date_for, saturating}
 use Rattle.station_step.specs.Step.{MovesItsOwn, Grows}
 use Rattle.event_graph.proofs.ArcNumbers.{All-ins}
-use Rattle.station_step.specs.Noted.{worked_into}
+use Rattle.station_step.specs.Noted.{IsFixedTime, worked_into}
 use Rattle.station_step.proofs.Dates.{delay-noted, date_for-is, latest-is}
-use Rattle.station_step.proofs.Keeping.{kept-waits, kept-fires, IsFiring, fired_station, station-fires, seated-same, own-waits, own-fires, grows-waits, grows-fires, kept-others, ready-others}
+use Rattle.station_step.proofs.Keeping.{kept-waits, kept-fires, IsFiring, fired_station, station-fires, seated-same, own-waits, own-fires, grows-waits, grows-fires, kept-others, ready-others, kept-alike, station-alike}
+use Rattle.station_step.proofs.Looking.{AreAlike, alike-looked, NonePuts-alike, noted-same, shelf_room-alike, shelf_room-after_takes}
 use Rattle.station_step.specs.contracts.station.Station.{the_view}
 use Rattle.station_step.proofs.station.Station.step.Goals as goal
 
@@ -34,20 +37,92 @@ returns-in-Empty-clause-seated c =
 pub returns-in-Empty-clause-grows : goal.returns-in-Empty-clause-grows
 returns-in-Empty-clause-grows c = grows-waits c.args.shelf.now c.refill.new.shelf c.refill.ensures.only_takes
 
-own_in_waiting : (c : goal.After-shared_slice_known-1) → MovesItsOwn c.args.self.now c.args.shelf.now c.refill.new.shelf
-own_in_waiting c =
-    subst (λ (s : WorkStation). MovesItsOwn s c.args.shelf.now c.refill.new.shelf) c.self.view_is
-    (own-waits (the_view c.self.inside) c.args.shelf.now c.refill.new.shelf c.refill.ensures.only_takes c.refill.ensures.others)
+-- what the refilling of the hands did to the shelf
+own_waiting : (s now : WorkStation) (old mid : List PlainQueue) → s ≡ now → OnlyTakes old mid → ((q : ℕ) → NoneTakes q s.inputs → queue_at mid q ≡ queue_at old q) → MovesItsOwn now old mid
+own_waiting s now old mid same only others = subst (λ (w : WorkStation). MovesItsOwn w old mid) same (own-waits s old mid only others)
 
 pub returns-in-Empty-clause-own : goal.returns-in-Empty-clause-own
-returns-in-Empty-clause-own c = own_in_waiting c
+returns-in-Empty-clause-own c =
+    own_waiting (the_view c.self.inside) c.args.self.now c.args.shelf.now c.refill.new.shelf c.self.view_is c.refill.ensures.only_takes c.refill.ensures.others
 
 pub returns-in-Empty-clause-others : goal.returns-in-Empty-clause-others
-returns-in-Empty-clause-others c = kept-others c.args.shelf.now c.refill.new.shelf c.args.self.now (own_in_waiting c)
+returns-in-Empty-clause-others c =
+    let own = own_waiting (the_view c.self.inside) c.args.self.now c.args.shelf.now c.refill.new.shelf c.self.view_is c.refill.ensures.only_takes c.refill.ensures.others in
+    kept-others c.args.shelf.now c.refill.new.shelf c.args.self.now own
 
 pub returns-in-Empty-clause-ready : goal.returns-in-Empty-clause-ready
 returns-in-Empty-clause-ready c =
-    ready-others c.args.shelf.now c.refill.new.shelf c.args.self.now (own_in_waiting c) (grows-waits c.args.shelf.now c.refill.new.shelf c.refill.ensures.only_takes)
+    let own = own_waiting (the_view c.self.inside) c.args.self.now c.args.shelf.now c.refill.new.shelf c.self.view_is c.refill.ensures.only_takes c.refill.ensures.others in
+    ready-others c.args.shelf.now c.refill.new.shelf c.args.self.now own (grows-waits c.args.shelf.now c.refill.new.shelf c.refill.ensures.only_takes)
+
+-- the time of the job is asked of the graph that the station noted
+pub job_time-time-requires-clause-noted : goal.job_time-time-requires-clause-noted
+job_time-time-requires-clause-noted c =
+    let s = c.self.inside in
+    let graph : c.graph-graph.result.now ≡ s.graph.value =
+    c.graph-graph.ensures.graph ∙ c.requires.made_for ∙ sym (ap (λ (w : WorkStation). w.graph) c.self.view_is) in
+    subst (λ (g : Parts). IfSome s.fixed (IsFixedTime g s.number)) (sym graph) c.self.invariant.1.fixed_is
+
+-- ---- an output has no space
+
+pub returns-in-Some-clause-kept : goal.returns-in-Some-clause-kept
+returns-in-Some-clause-kept c =
+    let old = c.args.shelf.now in
+    let mid = c.refill.new.shelf in
+    let s = the_view c.self.inside in
+    let full = c.refill.new.inputs.items in
+    let looked = c.look_all.new.outlets.items in
+    let turns = c.self.inside.turns + 1 in
+    let kept : IsKept old s → IsKept mid (record s { inputs = full; outlets = looked; turns = turns }) =
+    λ was.
+    kept-alike mid (record s { inputs = full; turns = turns }) looked (alike-looked s.outlets looked c.look_all.ensures.count c.look_all.ensures.looked)
+    (kept-waits old mid s full turns c.self.invariant.0.an_input_each c.refill.ensures.count c.refill.ensures.each c.refill.ensures.only_takes was) in
+    subst (λ (w : WorkStation). IsKept old w → IsKept mid (record s { inputs = full; outlets = looked; turns = turns })) c.self.view_is kept
+
+pub returns-in-Some-clause-grows : goal.returns-in-Some-clause-grows
+returns-in-Some-clause-grows c = grows-waits c.args.shelf.now c.refill.new.shelf c.refill.ensures.only_takes
+
+pub returns-in-Some-clause-own : goal.returns-in-Some-clause-own
+returns-in-Some-clause-own c =
+    own_waiting (the_view c.self.inside) c.args.self.now c.args.shelf.now c.refill.new.shelf c.self.view_is c.refill.ensures.only_takes c.refill.ensures.others
+
+pub returns-in-Some-clause-others : goal.returns-in-Some-clause-others
+returns-in-Some-clause-others c =
+    let own = own_waiting (the_view c.self.inside) c.args.self.now c.args.shelf.now c.refill.new.shelf c.self.view_is c.refill.ensures.only_takes c.refill.ensures.others in
+    kept-others c.args.shelf.now c.refill.new.shelf c.args.self.now own
+
+pub returns-in-Some-clause-ready : goal.returns-in-Some-clause-ready
+returns-in-Some-clause-ready c =
+    let own = own_waiting (the_view c.self.inside) c.args.self.now c.args.shelf.now c.refill.new.shelf c.self.view_is c.refill.ensures.only_takes c.refill.ensures.others in
+    ready-others c.args.shelf.now c.refill.new.shelf c.args.self.now own (grows-waits c.args.shelf.now c.refill.new.shelf c.refill.ensures.only_takes)
+
+-- ---- the station fires
+
+pub put_all-requires-clause-shelf_room : goal.put_all-requires-clause-shelf_room
+put_all-requires-clause-shelf_room c k low =
+    let old = c.args.shelf.now in
+    let mid = c.refill.new.shelf in
+    let s = the_view c.self.inside in
+    let looked = c.look_all.new.outlets.items in
+    let below : k < length s.outlets = omega (arith, low, c.look_all.ensures.count) in
+    let graph : c.graph-graph.result.now ≡ s.graph =
+    c.graph-graph.ensures.graph ∙ c.requires.made_for ∙ sym (ap (λ (w : WorkStation). w.graph) c.self.view_is) in
+    let left : length s.log.dates ≢ jobs s.graph =
+    λ all. c.if-done-jobs.false (ap length c.dates.ensures ∙ all ∙ sym (ap jobs graph) ∙ sym c.jobs.ensures.count) in
+    let more : length s.log.dates < jobs s.graph = omega (arith, left, c.self.invariant.0.few_dates) in
+    let may : MayPut old s = subst (MayPut old) (sym c.self.view_is) c.requires.may_put in
+    shelf_room-alike mid (outlet_at s.outlets k) (outlet_at looked k) (c.look_all.ensures.looked k below).same
+    (shelf_room-after_takes old mid (outlet_at s.outlets k) c.refill.ensures.only_takes (may more k below))
+
+-- the station when its outlets have looked
+abbrev looked_station : (c : goal.After-add) → WorkStation
+looked_station c = record (the_view c.self.inside) { outlets = c.look_all.new.outlets.items }
+
+looked_alike : (c : goal.After-add) → AreAlike (the_view c.self.inside).outlets c.look_all.new.outlets.items
+looked_alike c = alike-looked (the_view c.self.inside).outlets c.look_all.new.outlets.items c.look_all.ensures.count c.look_all.ensures.looked
+
+looks_soundly : (c : goal.After-add) → IsStation (looked_station c)
+looks_soundly c = station-alike (the_view c.self.inside) c.look_all.new.outlets.items (looked_alike c) c.self.invariant.0
 
 -- the delay of the arc of output k, as the station noted it
 delay_is : (c : goal.After-add) (k : ℕ) → k < length (the_view c.self.inside).outlets → slice_index c.as_slice.result.now k ≡ delay (the_view c.self.inside).graph (slice_index (outs (the_view c.self.inside).graph (the_view c.self.inside).number) k)
@@ -70,14 +145,14 @@ date_is c =
     c.refill.ensures.count ∙ c.self.invariant.0.an_input_each ∙ ap (λ (h : Parts). length (ins h s.number)) (sym graph) in
     let latest =
     c.in-Full.ensures.date
-    ∙ latest-is g s.number (length c.dates.result.now + 1) c.time-time.result c.as_slice-worked.result.now full each noted c.time-time.ensures.time (All-ins g s.number) in
+    ∙ latest-is g s.number (length c.dates.result.now + 1) c.job_time-time.result c.as_slice-worked.result.now full each noted c.job_time-time.ensures (All-ins g s.number) in
     c.next_date-date.ensures
     ∙ date_for-is g s.number (length c.dates.result.now + 1) c.in-Full.latest token latest
     ∙ ap (λ (h : Parts). date_for h s.number (length c.dates.result.now + 1) token) graph
     ∙ ap (λ (l : List ℕ). date_for s.graph s.number (length l + 1) token) c.dates.ensures
 
 -- the firing, as the lemmas have it
-firing : (c : goal.After-add) → IsFiring c.args.shelf.now c.refill.new.shelf c.put_all.new.shelf (the_view c.self.inside) c.refill.new.inputs.items c.empty_hands.new.inputs.items c.put_all.new.outlets.items c.next_date-date.result
+firing : (c : goal.After-add) → IsFiring c.args.shelf.now c.refill.new.shelf c.put_all.new.shelf (looked_station c) c.refill.new.inputs.items c.empty_hands.new.inputs.items c.put_all.new.outlets.items c.next_date-date.result
 firing c =
     let s = the_view c.self.inside in
     let full = c.refill.new.inputs.items in
@@ -94,7 +169,7 @@ firing c =
       outlets_same = c.put_all.ensures.same;
       got = λ k low.
           c.put_all.ensures.each k low
-          ∙ ap (λ n. outlet_added c.refill.new.shelf (outlet_at s.outlets k) ++ saturating date n ∷ []) (delay_is c k low);
+          ∙ ap (λ n. outlet_added c.refill.new.shelf (outlet_at c.look_all.new.outlets.items k) ++ saturating date n ∷ []) (delay_is c k (omega (arith, low, c.look_all.ensures.count)));
       only_takes = c.refill.ensures.only_takes;
       only_puts = c.put_all.ensures.only_puts;
     }
@@ -109,7 +184,7 @@ some_left c all =
 -- the station after it
 fires_soundly : (c : goal.After-add) → IsStation (fired_station (the_view c.self.inside) c.empty_hands.new.inputs.items c.put_all.new.outlets.items c.next_date-date.result (c.self.inside.turns + 1))
 fires_soundly c =
-    station-fires c.args.shelf.now c.refill.new.shelf c.put_all.new.shelf (the_view c.self.inside) c.refill.new.inputs.items c.empty_hands.new.inputs.items c.put_all.new.outlets.items c.next_date-date.result (c.self.inside.turns + 1) c.self.invariant.0 (some_left c) (firing c)
+    station-fires c.args.shelf.now c.refill.new.shelf c.put_all.new.shelf (looked_station c) c.refill.new.inputs.items c.empty_hands.new.inputs.items c.put_all.new.outlets.items c.next_date-date.result (c.self.inside.turns + 1) (looks_soundly c) (some_left c) (firing c)
 
 -- with its log as the call leaves it
 abbrev with_log : (c : goal.After-add) → RoomyLog → WorkStation
@@ -122,7 +197,11 @@ with_log c log = record (the_view c.self.inside) {
 
 pub invariant_of-self-2 : goal.invariant_of-self-2
 invariant_of-self-2 c =
-    (subst (λ (log : RoomyLog). IsStation (with_log c log)) (sym c.add.ensures) (fires_soundly c), c.self.invariant.1)
+    let s = c.self.inside in (
+      subst (λ (log : RoomyLog). IsStation (with_log c log)) (sym c.add.ensures) (fires_soundly c),
+      noted-same s.graph.value s.number s.outlets.items c.put_all.new.outlets.items s.fixed s.worked.items s.delays.items s.bounded
+          (c.put_all.ensures.same ∙ c.look_all.ensures.same) c.self.invariant.1,
+    )
 
 pub returns-clause-station : goal.returns-clause-station
 returns-clause-station c = subst (λ (log : RoomyLog). IsStation (with_log c log)) (sym c.add.ensures) (fires_soundly c)
@@ -135,9 +214,9 @@ returns-clause-seated c =
     seated-same old new (the_view c.self.inside) (with_log c c.add.new.self)
     (c.put_all.ensures.only_puts.count ∙ c.refill.ensures.only_takes.count)
     (c.empty_hands.ensures.count ∙ c.refill.ensures.count)
-    c.put_all.ensures.count
+    (c.put_all.ensures.count ∙ c.look_all.ensures.count)
     (c.empty_hands.ensures.same ∙ c.refill.ensures.same)
-    c.put_all.ensures.same
+    (c.put_all.ensures.same ∙ c.look_all.ensures.same)
     was
 
 pub returns-clause-kept : goal.returns-clause-kept
@@ -145,14 +224,17 @@ returns-clause-kept c =
     let old = c.args.shelf.now in
     let new = c.put_all.new.shelf in
     let kept : IsKept old (the_view c.self.inside) → IsKept new (with_log c (with_date c.self.inside.log c.next_date-date.result)) =
-    kept-fires old c.refill.new.shelf new (the_view c.self.inside) c.refill.new.inputs.items c.empty_hands.new.inputs.items c.put_all.new.outlets.items c.next_date-date.result (c.self.inside.turns + 1) c.self.invariant.0 (firing c) in
+    λ was.
+    kept-fires old c.refill.new.shelf new (looked_station c) c.refill.new.inputs.items c.empty_hands.new.inputs.items c.put_all.new.outlets.items c.next_date-date.result (c.self.inside.turns + 1) (looks_soundly c) (firing c)
+    (kept-alike old (the_view c.self.inside) c.look_all.new.outlets.items (looked_alike c) was) in
     subst (λ (s : WorkStation). IsKept old s → IsKept new (with_log c c.add.new.self)) c.self.view_is
     (subst (λ (log : RoomyLog). IsKept old (the_view c.self.inside) → IsKept new (with_log c log)) (sym c.add.ensures) kept)
 
 own_in_firing : (c : goal.After-add) → MovesItsOwn c.args.self.now c.args.shelf.now c.put_all.new.shelf
 own_in_firing c =
     subst (λ (s : WorkStation). MovesItsOwn s c.args.shelf.now c.put_all.new.shelf) c.self.view_is
-    (own-fires (the_view c.self.inside) c.args.shelf.now c.refill.new.shelf c.put_all.new.shelf c.refill.ensures.only_takes c.refill.ensures.others c.put_all.ensures.only_puts c.put_all.ensures.others)
+    (own-fires (the_view c.self.inside) c.args.shelf.now c.refill.new.shelf c.put_all.new.shelf c.refill.ensures.only_takes c.refill.ensures.others c.put_all.ensures.only_puts
+    (λ q none. c.put_all.ensures.others q (NonePuts-alike q (the_view c.self.inside).outlets c.look_all.new.outlets.items (looked_alike c) none)))
 
 grows_in_firing : (c : goal.After-add) → Grows c.args.shelf.now c.put_all.new.shelf
 grows_in_firing c = grows-fires c.args.shelf.now c.refill.new.shelf c.put_all.new.shelf c.refill.ensures.only_takes c.put_all.ensures.grows
