@@ -11,7 +11,7 @@ use Rattle.command_words.specs.Numbers.{number_in}
 use Rattle.command_words.specs.Options.{with_flag, with_value, options_after}
 use Rattle.command_words.specs.Settings.{asked}
 use Rattle.command_words.specs.Words.{after_big, after_resume, after_replay, after_whatif, after_cards, plant_command, after_plant_word, command_of}
-use Rattle.command_words.specs.declared.command.Command.TheVariants.{Run, Replay, Big, Resume, RunSlots, RunStand, ResumeSlots, Cards, WhatIf, Help}
+use Rattle.command_words.specs.declared.command.Command.TheVariants.{Run, Replay, Big, Resume, RunSlots, RunRoom, RunStand, ResumeSlots, Cards, WhatIf, Help}
 
 own : IsNumeralModel (λ ds. list_all is_ascii_digit ds ≡ true) (digits_value 10)
 own = numerals_by_value _ (search rules)
@@ -26,6 +26,12 @@ decimal-0 = decimal-digits (codes "0") refl refl (lit< tt) (lit< tt)
 
 decimal-2 : decimal 2 ≡ codes "2"
 decimal-2 = decimal-digits (codes "2") refl refl (lit< tt) (lit< tt)
+
+decimal-10000 : decimal 10_000 ≡ codes "10000"
+decimal-10000 = decimal-digits (codes "10000") refl refl (lit< tt) (lit< tt)
+
+decimal-10001 : decimal 10_001 ≡ codes "10001"
+decimal-10001 = decimal-digits (codes "10001") refl refl (lit< tt) (lit< tt)
 
 decimal-16 : decimal 16 ≡ codes "16"
 decimal-16 = decimal-digits (codes "16") refl refl (lit< tt) (lit< tt)
@@ -44,6 +50,10 @@ commands : (command_of (codes "run" ∷ codes "a.toml" ∷ []) ≡ Some (Run (co
     ≡ Some (Run (codes "a.toml") 16 (Some (record { after = 2; save = codes "c.ckpt" }))))
     × (command_of (codes "run" ∷ codes "a.toml" ∷ codes "--slots" ∷ codes "--every" ∷ codes "2" ∷ [])
     ≡ Some (RunSlots (codes "a.toml") 2 1))
+    × (command_of (codes "run" ∷ codes "a.toml" ∷ codes "--room" ∷ codes "10000" ∷ [])
+    ≡ Some (RunRoom (codes "a.toml") 10_000 1))
+    × (command_of (codes "run" ∷ codes "a.toml" ∷ codes "--workers" ∷ codes "2" ∷ codes "--room" ∷ codes "16" ∷ [])
+    ≡ Some (RunRoom (codes "a.toml") 16 2))
     × (command_of (codes "run" ∷ codes "a.toml" ∷ codes "--stand" ∷ []) ≡ Some (RunStand (codes "a.toml") 1))
     × (command_of (codes "run" ∷ codes "a.toml" ∷ codes "--workers" ∷ codes "2" ∷ codes "--stand" ∷ [])
     ≡ Some (RunStand (codes "a.toml") 2))
@@ -61,6 +71,8 @@ commands = (
   rw decimal-0 refl,
   rw (decimal-16, decimal-2) refl,
   rw decimal-2 refl,
+  rw decimal-10000 refl,
+  rw (decimal-2, decimal-16) refl,
   refl,
   rw decimal-2 refl,
   rw decimal-2 refl,
@@ -89,6 +101,14 @@ others : IsNone (codes "--help" ∷ codes "run" ∷ [])
     × IsNone (codes "run" ∷ codes "a.toml" ∷ codes "--stand" ∷ codes "--save" ∷ codes "c.ckpt" ∷ codes "--stop-after" ∷ codes "2" ∷ [])
     × IsNone (codes "run" ∷ codes "a.toml" ∷ codes "--stand" ∷ codes "--every" ∷ codes "2" ∷ codes "--slots" ∷ [])
     × IsNone (codes "resume" ∷ codes "a.toml" ∷ codes "c.ckpt" ∷ codes "--stand" ∷ [])
+    × IsNone (codes "run" ∷ codes "a.toml" ∷ codes "--room" ∷ codes "0" ∷ [])
+    × IsNone (codes "run" ∷ codes "a.toml" ∷ codes "--room" ∷ codes "10001" ∷ [])
+    × IsNone (codes "run" ∷ codes "a.toml" ∷ codes "--room" ∷ [])
+    × IsNone (codes "run" ∷ codes "a.toml" ∷ codes "--room" ∷ codes "2" ∷ codes "--room" ∷ codes "2" ∷ [])
+    × IsNone (codes "run" ∷ codes "a.toml" ∷ codes "--room" ∷ codes "2" ∷ codes "--stand" ∷ [])
+    × IsNone (codes "run" ∷ codes "a.toml" ∷ codes "--room" ∷ codes "2" ∷ codes "--stop-after" ∷ codes "2" ∷ codes "--save" ∷ codes "c.ckpt" ∷ [])
+    × IsNone (codes "run" ∷ codes "a.toml" ∷ codes "--room" ∷ codes "2" ∷ codes "--every" ∷ codes "2" ∷ codes "--slots" ∷ [])
+    × IsNone (codes "resume" ∷ codes "a.toml" ∷ codes "c.ckpt" ∷ codes "--room" ∷ codes "2" ∷ [])
     × IsNone (codes "check" ∷ codes "a.toml" ∷ codes "--workers" ∷ codes "2" ∷ [])
     × IsNone (codes "run" ∷ codes "--workers" ∷ codes "2" ∷ codes "a.toml" ∷ [])
     × IsNone (codes "run" ∷ codes "c.ckpt" ∷ [])
@@ -107,6 +127,14 @@ others = (
   rw decimal-2 refl,
   rw decimal-2 refl,
   refl,
+  rw decimal-0 refl,
+  rw decimal-10001 refl,
+  refl,
+  rw decimal-2 refl,
+  rw decimal-2 refl,
+  rw decimal-2 refl,
+  rw decimal-2 refl,
+  rw decimal-2 refl,
   refl,
   refl,
   refl,

@@ -5,9 +5,9 @@ use Rattle.std.specs.Str.{bytes_eq}
 use Rattle.std.proofs.lemmas.Bool.{and_parts, or_parts, true≢false}
 use Rattle.line_base.specs.Limits.{most_workers}
 use Rattle.line_base.specs.Text.{is_file_name, is_checkpoint_name}
-use Rattle.command_words.specs.Numbers.{number_in, most_firings, longest_wait}
+use Rattle.command_words.specs.Numbers.{number_in, most_firings, most_ring_room, longest_wait}
 use Rattle.command_words.specs.Options.{Given, none_given, once, checkpoint_in, takes_no_value, with_flag, with_value, options_after, value_after, has_stand}
-use Rattle.command_words.specs.Settings.{Way, Asked, whole, stopped, saving, from_slots, standing, way_by, way_of, asked_by, asked}
+use Rattle.command_words.specs.Settings.{Way, Asked, whole, stopped, saving, from_slots, bounded, standing, way_by, way_of, asked_by, asked}
 use Rattle.command_words.specs.Words.{IsStill, alone, run_command, resume_command, resume_slots_command, big_command, with_options, after_big, after_resume, after_replay, after_whatif, after_cards, plant_command, after_plant_word, command_of}
 use Rattle.command_words.specs.declared.command.Command.{Command}
 use Rattle.command_words.specs.declared.command.Command.TheVariants.{Check, Replay, Cycle, Cards, WhatIf, Help, Version}
@@ -51,9 +51,11 @@ value_still given name word still =
     (λ is. map_gives IsNotGiven (λ n. record given { stop_after = Some n }) (once given.stop_after (number_in 0 most_firings word)) (λ n. still))
     (λ isnt. if_gives IsNotGiven (bytes_eq name (codes "--save")) _ _
     (λ is. map_gives IsNotGiven (λ file. record given { save = Some file }) (once given.save (checkpoint_in word)) (λ file. still))
-    (λ isnt. if_gives IsNotGiven (bytes_eq name (codes "--every")) _ None
+    (λ isnt. if_gives IsNotGiven (bytes_eq name (codes "--every")) _ _
     (λ is. map_gives IsNotGiven (λ n. record given { every = Some n }) (once given.every (number_in 1 most_firings word)) (λ n. still))
-    (λ isnt. tt))))
+    (λ isnt. if_gives IsNotGiven (bytes_eq name (codes "--room")) _ None
+    (λ is. map_gives IsNotGiven (λ n. record given { room = Some n }) (once given.room (number_in 1 most_ring_room word)) (λ n. still))
+    (λ isnt. tt)))))
 
 -- the words behind the first are without it too
 rest_still : (word : List ℕ) (words : List (List ℕ)) → has_stand (word ∷ words) ≡ false → has_stand words ≡ false
@@ -82,16 +84,17 @@ abbrev IsStillWay : Way → Type 0
 IsStillWay standing = ⊥
 IsStillWay other = ⊤
 
-by_still : (stop_after : Option ℕ) (save : Option (List ℕ)) (every : Option ℕ) (slots stand : Bool) → stand ≡ false → IfSome (way_by stop_after save every slots stand) IsStillWay
-by_still None None None false false is = tt
-by_still (Some after) (Some save) None false false is = tt
-by_still None None (Some interval) true false is = tt
-by_still None None None true false is = tt
-by_still stop_after save every slots true is = absurd (true≢false is)
-by_still stop_after save every slots false is = tt
+by_still : (stop_after : Option ℕ) (save : Option (List ℕ)) (every room : Option ℕ) (slots stand : Bool) → stand ≡ false → IfSome (way_by stop_after save every room slots stand) IsStillWay
+by_still None None None None false false is = tt
+by_still (Some after) (Some save) None None false false is = tt
+by_still None None (Some interval) None true false is = tt
+by_still None None None None true false is = tt
+by_still None None None (Some space) false false is = tt
+by_still stop_after save every room slots true is = absurd (true≢false is)
+by_still stop_after save every room slots false is = tt
 
 way_still : (given : Given) → IsNotGiven given → IfSome (way_of given) IsStillWay
-way_still given still = by_still given.stop_after given.save given.every given.slots given.stand still
+way_still given still = by_still given.stop_after given.save given.every given.room given.slots given.stand still
 
 asked_by_still : (given : Given) → IsNotGiven given → IfSome (asked_by given) (λ a. IsStillWay a.way)
 asked_by_still given still = made (way_of given) (way_still given still)
@@ -120,6 +123,7 @@ run_still plant workers whole still = tt
 run_still plant workers (stopped after save) still = tt
 run_still plant workers (saving every) still = tt
 run_still plant workers from_slots still = tt
+run_still plant workers (bounded room) still = tt
 
 resume_still : (plant saved : List ℕ) (workers : ℕ) (way : Way) → Still (resume_command plant saved workers way)
 resume_still plant saved workers whole = tt

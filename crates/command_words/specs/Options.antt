@@ -5,7 +5,7 @@ use Rattle.std.specs.List.{list_any}
 use Rattle.std.specs.declared.alloc.Global.{Global}
 use Rattle.line_base.specs.Limits.{most_workers}
 use Rattle.line_base.specs.Text.{is_checkpoint_name}
-use Rattle.command_words.specs.Numbers.{number_in, most_firings}
+use Rattle.command_words.specs.Numbers.{number_in, most_firings, most_ring_room}
 use Rattle.command_words.specs.declared.options.Options.{Options}
 
 -- the bytes of each word
@@ -22,6 +22,7 @@ pub record Given : Type 0 where
   pub stop_after : Option ℕ
   pub save : Option (List ℕ)
   pub every : Option ℕ
+  pub room : Option ℕ
   pub slots : Bool
   pub stand : Bool
 
@@ -32,13 +33,22 @@ seen options = record {
   stop_after = options.stop_after;
   save = option_map (λ file. file.now) options.save;
   every = options.every;
+  room = options.room;
   slots = options.slots;
   stand = options.stand;
 }
 
 -- no option
 abbrev pub none_given : Given
-none_given = record { workers = None; stop_after = None; save = None; every = None; slots = false; stand = false }
+none_given = record {
+  workers = None;
+  stop_after = None;
+  save = None;
+  every = None;
+  room = None;
+  slots = false;
+  stand = false;
+}
 
 -- the checkpoint that a word names
 abbrev pub checkpoint_in : List ℕ → Option (List ℕ)
@@ -71,6 +81,8 @@ with_value given name word =
     then option_map (λ file. record given { save = Some file }) (once given.save (checkpoint_in word))
     else if bytes_eq name (codes "--every")
     then option_map (λ n. record given { every = Some n }) (once given.every (number_in 1 most_firings word))
+    else if bytes_eq name (codes "--room")
+    then option_map (λ n. record given { room = Some n }) (once given.room (number_in 1 most_ring_room word))
     else None
 
 unfoldable mutual

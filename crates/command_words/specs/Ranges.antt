@@ -1,12 +1,12 @@
 -- The ranges of the numbers that a command takes.
 use Rattle.std.specs.Prelude.{ℕ, ◌≤◌, ⊤, IfSome}
 use Rattle.line_base.specs.Limits.{most_workers}
-use Rattle.command_words.specs.Numbers.{most_firings, longest_wait}
+use Rattle.command_words.specs.Numbers.{most_firings, most_ring_room, longest_wait}
 use Rattle.command_words.specs.declared.command.Command.{Command}
-use Rattle.command_words.specs.declared.command.Command.TheVariants.{Run, Big, Resume, RunSlots, RunStand, ResumeSlots, Cards}
+use Rattle.command_words.specs.declared.command.Command.TheVariants.{Run, Big, Resume, RunSlots, RunRoom, RunStand, ResumeSlots, Cards}
 use Rattle.command_words.specs.declared.options.Options.{Options}
 use Rattle.command_words.specs.declared.settings.Mode.{Mode}
-use Rattle.command_words.specs.declared.settings.Mode.TheVariants.{Stopped, Saving}
+use Rattle.command_words.specs.declared.settings.Mode.TheVariants.{Stopped, Saving, Bounded}
 use Rattle.command_words.specs.declared.settings.Settings.{Settings}
 
 -- a number of workers
@@ -17,15 +17,21 @@ AreWorkers n = (1 ≤ n) × (n ≤ most_workers)
 abbrev pub IsInterval : ℕ → Type 0
 IsInterval n = (1 ≤ n) × (n ≤ most_firings)
 
+-- the room of a ring between two workers
+abbrev pub IsRingRoom : ℕ → Type 0
+IsRingRoom n = (1 ≤ n) × (n ≤ most_ring_room)
+
 -- each number that is given is in its range
 pub record AreInRange (options : Options) : Type 0 where
   pub workers : IfSome options.workers AreWorkers
   pub stop_after : IfSome options.stop_after (λ n. n ≤ most_firings)
   pub every : IfSome options.every IsInterval
+  pub room : IfSome options.room IsRingRoom
 
 abbrev pub IsModeInRange : Mode → Type 0
 IsModeInRange (Stopped after save) = after ≤ most_firings
 IsModeInRange (Saving every) = IsInterval every
+IsModeInRange (Bounded room) = IsRingRoom room
 IsModeInRange other = ⊤
 
 pub record AreSettingsInRange (settings : Settings) : Type 0 where
@@ -38,6 +44,7 @@ IsInRange (Run plant workers stop) = AreWorkers workers × IfSome stop (λ s. s.
 IsInRange (Big seed workers) = AreWorkers workers
 IsInRange (Resume plant saved workers) = AreWorkers workers
 IsInRange (RunSlots plant every workers) = AreWorkers workers × IsInterval every
+IsInRange (RunRoom plant room workers) = AreWorkers workers × IsRingRoom room
 IsInRange (RunStand plant workers) = AreWorkers workers
 IsInRange (ResumeSlots plant workers) = AreWorkers workers
 IsInRange (Cards plant wait) = wait ≤ longest_wait

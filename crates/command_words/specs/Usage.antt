@@ -12,6 +12,7 @@ usage_lines =
     codes "pull run PLANT                             writes the report of the plant"
     ∷ codes "pull run PLANT --stop-after N --save FILE  stops after N firings, and writes the checkpoint FILE"
     ∷ codes "pull run PLANT --every N --slots           writes the report, and a checkpoint into a slot each N firings"
+    ∷ codes "pull run PLANT --room B                    writes the report, with room for B more tokens between workers"
     ∷ codes "pull run PLANT --stand                     writes the report, by workers that stand until all is done"
     ∷ codes "pull resume PLANT FILE                     writes the report, from the checkpoint FILE on"
     ∷ codes "pull resume PLANT --slots                  writes the report, from the newest slot on"

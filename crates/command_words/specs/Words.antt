@@ -3,10 +3,10 @@ use Rattle.std.specs.Prelude.{◌≡◌, ◌↔◌, ℕ, ◌-◌, ◌^◌, List,
 use Rattle.std.specs.Str.{bytes_eq}
 use Rattle.line_base.specs.Text.{is_file_name, is_checkpoint_name}
 use Rattle.command_words.specs.Numbers.{number_in, longest_wait}
-use Rattle.command_words.specs.Settings.{Way, whole, stopped, saving, from_slots, standing, asked}
+use Rattle.command_words.specs.Settings.{Way, whole, stopped, saving, from_slots, bounded, standing, asked}
 use Rattle.command_words.specs.Ranges.{IsInRange}
 use Rattle.command_words.specs.declared.command.Command.{Command}
-use Rattle.command_words.specs.declared.command.Command.TheVariants.{Run, Check, Replay, Big, Resume, Cycle, RunSlots, RunStand, ResumeSlots, Cards, WhatIf, Help, Version}
+use Rattle.command_words.specs.declared.command.Command.TheVariants.{Run, Check, Replay, Big, Resume, Cycle, RunSlots, RunRoom, RunStand, ResumeSlots, Cards, WhatIf, Help, Version}
 use Rattle.command_words.specs.declared.command.WordsError.{WordsError}
 use Rattle.command_words.specs.declared.command.WordsError.TheVariants.{Usage}
 
@@ -15,12 +15,13 @@ abbrev pub alone : Command → List (List ℕ) → Option Command
 alone command [] = Some command
 alone command words = None
 
--- `run PLANT [--workers W] [--stop-after N --save FILE]`, `run PLANT --every N --slots [--workers W]`, and
--- `run PLANT --stand [--workers W]`
+-- `run PLANT [--workers W] [--stop-after N --save FILE]`, `run PLANT --every N --slots [--workers W]`,
+-- `run PLANT --room B [--workers W]`, and `run PLANT --stand [--workers W]`
 abbrev pub run_command : List ℕ → ℕ → Way → Option Command
 run_command plant workers whole = Some (Run plant workers None)
 run_command plant workers (stopped after save) = Some (Run plant workers (Some (record { after = after; save = save })))
 run_command plant workers (saving every) = Some (RunSlots plant every workers)
+run_command plant workers (bounded room) = Some (RunRoom plant room workers)
 run_command plant workers standing = Some (RunStand plant workers)
 run_command plant workers from_slots = None
 
@@ -101,7 +102,8 @@ abbrev pub IsStill : Command → Type 0
 IsStill (RunStand plant workers) = ⊥
 IsStill other = ⊤
 
--- an answer is this command, with its numbers in their ranges, or want of memory; and `Usage` exactly where there is no command
+-- an answer is this command, with its numbers in their ranges, or want of memory; and `Usage` exactly where there is no
+-- command
 pub record IsReadAs (result : Result Command WordsError) (command : Option Command) : Type 0 where
   pub command_is : IfOk result (λ c. command ≡ Some c)
   pub usage : IsErrOf result Usage ↔ (command ≡ None)

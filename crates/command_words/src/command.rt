@@ -59,12 +59,21 @@ pub enum Command {
         /// The plant file.
         plant: FileName,
     },
-    /// `run PLANT --every N --slots [--workers W]`: the report of the plant, with checkpoints into the slots on the way.
+    /// `run PLANT --every N --slots [--workers W]`: the report of the plant, and checkpoints into the slots on the way.
     RunSlots {
         /// The plant file.
         plant: FileName,
         /// The firings between two checkpoints, 1 to 1,000,000.
         every: u64,
+        /// The workers, 1 to 16.
+        workers: u32,
+    },
+    /// `run PLANT --room B [--workers W]`: the report of the plant, with bounded rings between two workers.
+    RunRoom {
+        /// The plant file.
+        plant: FileName,
+        /// The room of a ring beyond the tokens with which its arc starts, 1 to 10,000.
+        room: u32,
         /// The workers, 1 to 16.
         workers: u32,
     },

@@ -13,7 +13,7 @@ mod words;
 
 pub use command::{Command, Stop, WordsError};
 pub use file_name::FileName;
-pub use limits::{MAX_FIRINGS, MAX_WAIT, limits_are_those_of_the_definitions};
+pub use limits::{MAX_FIRINGS, MAX_RING_ROOM, MAX_WAIT, limits_are_those_of_the_definitions};
 pub use options::has_stand;
 pub use usage::{USAGE, usage_is_that_of_the_definitions};
 pub use words::read_words;

@@ -1,8 +1,9 @@
 ghost use Rattle.std.specs.Prelude.{◌≡◌, ◌≤◌, IfSome};
 ghost use Rattle.line_base.specs.Limits.{most_workers};
-ghost use Rattle.command_words.specs.Numbers.{number_in};
-ghost use Rattle.command_words.specs.Ranges.{AreWorkers};
+ghost use Rattle.command_words.specs.Numbers.{number_in, most_ring_room};
+ghost use Rattle.command_words.specs.Ranges.{AreWorkers, IsRingRoom};
 
+use crate::limits::MAX_RING_ROOM;
 use line_base::{MAX_WORKERS, number_of};
 
 /// The number that a word is, where it is one from `least` to `most`.
@@ -22,4 +23,13 @@ pub fn workers_in(word: &str) -> Option<u32>
 {
     let workers = number_in(word, 1, MAX_WORKERS as u64)?;
     Some(workers as u32)
+}
+
+/// The room that a word is.
+pub fn room_in(word: &str) -> Option<u32>
+    ensures read { result ≡ number_in 1 most_ring_room word.now }
+    ensures range { IfSome result IsRingRoom }
+{
+    let room = number_in(word, 1, MAX_RING_ROOM as u64)?;
+    Some(room as u32)
 }

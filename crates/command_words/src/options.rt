@@ -5,7 +5,7 @@ ghost use Rattle.command_words.specs.Options.{seen, none_given, with_flag, with_
 
 use crate::first::first_word;
 use crate::limits::MAX_FIRINGS;
-use crate::number::{number_in, workers_in};
+use crate::number::{number_in, room_in, workers_in};
 use line_base::is_checkpoint_name;
 
 /// What the options of a command give.
@@ -19,6 +19,8 @@ pub struct Options<'a> {
     pub save: Option<&'a str>,
     /// The value of `--every`.
     pub every: Option<u64>,
+    /// The value of `--room`.
+    pub room: Option<u32>,
     /// Whether `--slots` is given.
     pub slots: bool,
     /// Whether `--stand` is given.
@@ -36,6 +38,7 @@ impl<'a> Options<'a> {
             stop_after: None,
             save: None,
             every: None,
+            room: None,
             slots: false,
             stand: false,
         }
@@ -108,6 +111,10 @@ fn with_value<'a>(given: Options<'a>, name: &str, word: &'a str) -> Option<Optio
         }),
         "--every" if given.every.is_none() => Some(Options {
             every: Some(number_in(word, 1, MAX_FIRINGS)?),
+            ..given
+        }),
+        "--room" if given.room.is_none() => Some(Options {
+            room: Some(room_in(word)?),
             ..given
         }),
         _ => None,

@@ -24,6 +24,11 @@ pub enum Mode<'a> {
     },
     /// From the newest slot to the end.
     FromSlots,
+    /// To the end, with bounded rings between two workers.
+    Bounded {
+        /// The room of a ring beyond the tokens with which its arc starts.
+        room: u32,
+    },
     /// To the end, by workers that stand until all firings are made.
     Standing,
 }
@@ -61,14 +66,16 @@ fn mode_of<'a>(options: Options<'a>) -> Option<Mode<'a>>
         options.stop_after,
         options.save,
         options.every,
+        options.room,
         options.slots,
         options.stand,
     ) {
-        (None, None, None, false, false) => Some(Mode::Whole),
-        (Some(after), Some(save), None, false, false) => Some(Mode::Stopped { after, save }),
-        (None, None, Some(every), true, false) => Some(Mode::Saving { every }),
-        (None, None, None, true, false) => Some(Mode::FromSlots),
-        (None, None, None, false, true) => Some(Mode::Standing),
+        (None, None, None, None, false, false) => Some(Mode::Whole),
+        (Some(after), Some(save), None, None, false, false) => Some(Mode::Stopped { after, save }),
+        (None, None, Some(every), None, true, false) => Some(Mode::Saving { every }),
+        (None, None, None, None, true, false) => Some(Mode::FromSlots),
+        (None, None, None, Some(room), false, false) => Some(Mode::Bounded { room }),
+        (None, None, None, None, false, true) => Some(Mode::Standing),
         _ => None,
     }
 }

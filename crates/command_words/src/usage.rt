@@ -6,6 +6,7 @@ pub const USAGE: &str = "\
 pull run PLANT                             writes the report of the plant
 pull run PLANT --stop-after N --save FILE  stops after N firings, and writes the checkpoint FILE
 pull run PLANT --every N --slots           writes the report, and a checkpoint into a slot each N firings
+pull run PLANT --room B                    writes the report, with room for B more tokens between workers
 pull run PLANT --stand                     writes the report, by workers that stand until all is done
 pull resume PLANT FILE                     writes the report, from the checkpoint FILE on
 pull resume PLANT --slots                  writes the report, from the newest slot on

@@ -117,6 +117,11 @@ fn run(alloc: Global, plant: &str, words: &[String]) -> Result<Command, WordsErr
             every,
             workers,
         }),
+        Mode::Bounded { room } => Ok(Command::RunRoom {
+            plant: FileName::of(alloc, plant)?,
+            room,
+            workers,
+        }),
         Mode::Standing => Ok(Command::RunStand {
             plant: FileName::of(alloc, plant)?,
             workers,

@@ -211,6 +211,8 @@ module _ (store : StoreOver) (sink : SinkOver) (disk : DiskOver) (came : Result 
   of_command : (c : Command) (name : List ℕ) → run_of c ≡ Some name → OfCommand store.tells store.old.files c asks disk came → RunEndsWell name (stop_of c) store sink
   of_command (command.Run plant workers None) name is does =
       let same : plant ≡ name = cc in run_well plant name same does
+  of_command (command.RunRoom plant room workers) name is does =
+      let same : plant ≡ name = cc in run_well plant name same does
   of_command (command.RunStand plant workers) name is does =
       let same : plant ≡ name = cc in run_well plant name same does
   of_command (command.Run plant workers (Some stop)) name is does =

@@ -32,6 +32,7 @@ use Rattle.pull_deeds.specs.declared.output.Output.{Output}
 abbrev pub run_of : Command → Option (List ℕ)
 run_of (command.Run plant workers stop) = Some plant
 run_of (command.RunSlots plant every workers) = Some plant
+run_of (command.RunRoom plant room workers) = Some plant
 run_of (command.RunStand plant workers) = Some plant
 run_of (command.Resume plant saved workers) = Some plant
 run_of (command.ResumeSlots plant workers) = Some plant

@@ -28,6 +28,8 @@ OfCommand tells files (command.Run plant workers (Some stop)) =
     ThenDoes (OfPlantNamed tells files plant) (λ p. RunsUntil p stop.after stop.save)
 OfCommand tells files (command.RunSlots plant every workers) =
     ThenDoes (OfPlantNamed tells files plant) (λ p. RunsWithSlots p every)
+OfCommand tells files (command.RunRoom plant room workers) =
+    Plainly (Then (OfPlantNamed tells files plant) (λ p. Settles (IsReport p)))
 OfCommand tells files (command.RunStand plant workers) =
     Plainly (Then (OfPlantNamed tells files plant) (λ p. Settles (IsReport p)))
 OfCommand tells files (command.Resume plant saved workers) =

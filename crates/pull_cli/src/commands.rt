@@ -1,5 +1,6 @@
 //! What each command comes to.
 ghost use Rattle.std.specs.Prelude.{◌≡◌, ◌≤◌, Some, None};
+ghost use Rattle.command_words.specs.Numbers.{most_ring_room};
 ghost use Rattle.command_words.specs.declared.command.Command.TheVariants as command;
 ghost use Rattle.line_base.specs.Limits.{most_workers};
 ghost use Rattle.pull_steps.specs.Deeds.{disk_over};
@@ -12,7 +13,7 @@ use line_io::Store;
 use line_workers::Gate;
 use pull_deeds::{
     Output, cards, check, cycle_of, replay_schedule, resume, resume_slots, run, run_standing,
-    run_until, run_with_slots, what_if,
+    run_until, run_with_room, run_with_slots, what_if,
 };
 use pull_steps::{read_file, read_live_plant};
 use pull_words::Reply;
@@ -76,6 +77,27 @@ fn stop_plant<R: Threads + Sync, S: Store, G: Gate>(
 {
     let line = read_live_plant(alloc, store, plant)?;
     run_until(rt, alloc, line, workers, stop, gate, store)
+}
+
+/// What `run PLANT --room B [--workers W]` comes to.
+pub fn run_plant_with_room<R: Threads + Sync, S: Store, G: Gate>(
+    rt: &R,
+    alloc: Global,
+    store: &mut S,
+    plant: &str,
+    room: u32,
+    workers: u32,
+    gate: &G,
+) -> Result<Output, Reply>
+    requires some { 1 ≤ workers }
+    requires few { workers ≤ most_workers }
+    requires some_room { 1 ≤ room }
+    requires little_room { room ≤ most_ring_room }
+    ensures { CommandDoesOnStore (store_over S.tells (S.shown store.old) (S.shown store.new))
+        (command.RunRoom plant.now room workers) result }
+{
+    let line = read_live_plant(alloc, store, plant)?;
+    run_with_room(rt, alloc, line, workers, room, gate)
 }
 
 /// What `run PLANT --stand [--workers W]` comes to. It waits for its threads, and owes no return.

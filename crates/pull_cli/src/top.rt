@@ -14,7 +14,7 @@ ghost use Rattle.pull_cli.specs.Verdict.{CommandDoes, OfWords};
 
 use crate::commands::{
     check_plant, cycle_plant, edit_plant, replay_plant, resume_plant, resume_plant_from_slots,
-    run_or_stop_plant, run_plant_with_slots, size_plant, stand_plant,
+    run_or_stop_plant, run_plant_with_room, run_plant_with_slots, size_plant, stand_plant,
 };
 use command_words::{Command, WordsError, has_stand, read_words};
 use itoa::Buffer;
@@ -263,6 +263,11 @@ fn do_command<R: Threads + Sync, S: Store, G: Gate, D: Disk>(
             every,
             workers,
         } => { run_plant_with_slots(rt, alloc, store, plant.as_str(), every, workers, gate, disk) }
+        Command::RunRoom {
+            plant,
+            room,
+            workers,
+        } => { run_plant_with_room(rt, alloc, store, plant.as_str(), room, workers, gate) }
         Command::RunStand { .. } => unreachable!(),
         Command::Resume {
             plant,

@@ -9,5 +9,5 @@ mod slots;
 
 pub use asks::{cards, check, cycle_of, replay_schedule, what_if};
 pub use output::Output;
-pub use runs::{big, resume, run, run_standing, run_until};
+pub use runs::{big, resume, run, run_standing, run_until, run_with_room};
 pub use slots::{resume_slots, run_with_slots};

@@ -1,5 +1,6 @@
 //! Runs of a live plant by a line of workers.
 ghost use Rattle.std.specs.Prelude.{◌≡◌, ◌⊎◌, ◌≤◌, length, Err, IfOk, IsErrOf};
+ghost use Rattle.command_words.specs.Numbers.{most_ring_room};
 ghost use Rattle.event_graph.specs.Live.{IsLive};
 ghost use Rattle.line_base.specs.Limits.{most_checkpoint_bytes, most_workers};
 ghost use Rattle.line_runs.specs.Table.{ComesToLeast};
@@ -70,6 +71,46 @@ fn table_of<R: Threads + Sync, G: Gate>(
     ensures { IfOk result (ComesToLeast live.now.graph) }
 {
     let work = Line::prepare(alloc, live, workers)?;
+    Ok(run_to_end(rt, live, work, gate))
+}
+
+/// Runs a live plant to its end, by so many workers. The ring of an arc between two of them has room for
+/// the tokens with which its arc starts, and for so many more.
+pub fn run_with_room<R: Threads + Sync, G: Gate>(
+    rt: &R,
+    alloc: Global,
+    line: LivePlant,
+    workers: u32,
+    room: u32,
+    gate: &G,
+) -> Result<Output, Reply>
+    requires plant { IsLivePlant line }
+    requires some { 1 ≤ workers }
+    requires few { workers ≤ most_workers }
+    requires some_room { 1 ≤ room }
+    requires little_room { room ≤ most_ring_room }
+    ensures { IsReport line.plant result ⊎ (result ≡ Err Reply.NoMemory) }
+{
+    let table = table_with_room(rt, alloc, &line.live, workers, room, gate)?;
+    report_of(alloc, line, table)
+}
+
+/// The dates of a live graph, by so many workers with so much room in the rings between them.
+fn table_with_room<R: Threads + Sync, G: Gate>(
+    rt: &R,
+    alloc: Global,
+    live: &Live,
+    workers: u32,
+    room: u32,
+    gate: &G,
+) -> Result<Table, AllocError>
+    requires some { 1 ≤ workers }
+    requires few { workers ≤ most_workers }
+    requires some_room { 1 ≤ room }
+    requires little_room { room ≤ most_ring_room }
+    ensures { IfOk result (ComesToLeast live.now.graph) }
+{
+    let work = Line::prepare_room(alloc, live, workers, room)?;
     Ok(run_to_end(rt, live, work, gate))
 }
 

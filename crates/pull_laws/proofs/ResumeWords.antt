@@ -4,7 +4,7 @@ use Rattle.std.specs.Prelude.{Option, Some, None, option_map, option_and_then, I
 use Rattle.std.specs.Str.{bytes_eq}
 use Rattle.line_base.specs.Text.{is_file_name, is_checkpoint_name}
 use Rattle.command_words.specs.Numbers.{number_in, longest_wait}
-use Rattle.command_words.specs.Settings.{Way, whole, stopped, saving, from_slots, standing, asked}
+use Rattle.command_words.specs.Settings.{Way, whole, stopped, saving, from_slots, bounded, standing, asked}
 use Rattle.command_words.specs.Words.{alone, run_command, resume_command, resume_slots_command, big_command, with_options, after_big, after_resume, after_replay, after_whatif, after_cards, plant_command, after_plant_word, command_of}
 use Rattle.command_words.specs.declared.command.Command.{Command}
 use Rattle.command_words.specs.declared.command.Command.TheVariants.{Check, Replay, Resume, Cycle, Cards, WhatIf, Help, Version}
@@ -42,6 +42,7 @@ run_fine plant workers whole = tt
 run_fine plant workers (stopped after save) = tt
 run_fine plant workers (saving every) = tt
 run_fine plant workers from_slots = tt
+run_fine plant workers (bounded room) = tt
 run_fine plant workers standing = tt
 
 resume_fine : (plant saved : List ℕ) → is_file_name plant ≡ true → is_checkpoint_name saved ≡ true → (workers : ℕ) (way : Way) → Fine (resume_command plant saved workers way)
@@ -49,6 +50,7 @@ resume_fine plant saved file checkpoint workers whole = (file, checkpoint)
 resume_fine plant saved file checkpoint workers (stopped after save) = tt
 resume_fine plant saved file checkpoint workers (saving every) = tt
 resume_fine plant saved file checkpoint workers from_slots = tt
+resume_fine plant saved file checkpoint workers (bounded room) = tt
 resume_fine plant saved file checkpoint workers standing = tt
 
 slots_fine : (plant : List ℕ) (workers : ℕ) (way : Way) → Fine (resume_slots_command plant workers way)
@@ -56,6 +58,7 @@ slots_fine plant workers whole = tt
 slots_fine plant workers (stopped after save) = tt
 slots_fine plant workers (saving every) = tt
 slots_fine plant workers from_slots = tt
+slots_fine plant workers (bounded room) = tt
 slots_fine plant workers standing = tt
 
 big_fine : (seed workers : ℕ) (way : Way) → Fine (big_command seed workers way)
@@ -63,6 +66,7 @@ big_fine seed workers whole = tt
 big_fine seed workers (stopped after save) = tt
 big_fine seed workers (saving every) = tt
 big_fine seed workers from_slots = tt
+big_fine seed workers (bounded room) = tt
 big_fine seed workers standing = tt
 
 after_big_fine : (words : List (List ℕ)) → Fine (after_big words)

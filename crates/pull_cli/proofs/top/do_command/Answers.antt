@@ -31,6 +31,12 @@ returns-in-Run g c =
 pub returns-in-RunSlots : goal.returns-in-RunSlots
 returns-in-RunSlots g c = rw c.in-RunSlots.is (rw c.as_str-in-RunSlots.ensures at c.run_plant_with_slots.ensures)
 
+pub returns-in-RunRoom : goal.returns-in-RunRoom
+returns-in-RunRoom g c =
+    let view = g.D.Disk.shown c.args.disk.now in
+    let disk : DiskOver = disk_over g.D.Disk.tells view view in
+    rw c.in-RunRoom.is (rw c.as_str-in-RunRoom.ensures at (c.run_plant_with_room.ensures disk refl))
+
 pub returns-in-Resume : goal.returns-in-Resume
 returns-in-Resume g c =
     let view = g.D.Disk.shown c.args.disk.now in
