@@ -4,6 +4,8 @@
 #![tactic(auto)]
 
 #[cfg(test)]
+mod got;
+#[cfg(test)]
 mod of_card_queue;
 #[cfg(test)]
 mod of_circuit_sums;
@@ -25,5 +27,7 @@ mod of_live_check;
 mod of_plant_file;
 #[cfg(test)]
 mod of_plant_model;
+#[cfg(test)]
+mod of_room_ring;
 #[cfg(test)]
 mod same;

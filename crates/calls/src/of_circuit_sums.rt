@@ -1,3 +1,4 @@
+use crate::got::got;
 use crate::same::same;
 use circuit_sums::{CardCircuit, CircuitKind, bound_of, card_circuits, sum};
 use event_graph::Marking;
@@ -8,10 +9,10 @@ use std::process::Abort;
 use std::test::Fail;
 
 /// The card circuits of the two stages.
-fn circuits(alloc: Global) -> Result<Items<CardCircuit>, Fail> {
+fn circuits(rt: &impl Abort, alloc: Global) -> Result<Items<CardCircuit>, Fail> {
     let plant = two_stages(alloc)?;
     let live = live_of(alloc, &plant)?;
-    Ok(card_circuits(alloc, &plant, live.graph())?)
+    Ok(got(rt, card_circuits(alloc, &plant, live.graph())))
 }
 
 /// Asserts that a circuit is of a stage with one card, and goes by these arcs.
@@ -23,7 +24,7 @@ fn is_of_stage(rt: &impl Abort, circuit: &CardCircuit, stage: u32, arcs: &[u32])
 
 #[test]
 fn circuits_are_of_the_cards(rt: HostRuntime) -> Result<(), Fail> {
-    let circuits = circuits(rt.alloc())?;
+    let circuits = circuits(&rt, rt.alloc())?;
     let [cut, weld] = circuits.as_slice() else {
         return Err("there are two circuits".into());
     };

@@ -20,6 +20,11 @@ fn a_run_takes_its_options_in_any_order(rt: HostRuntime) -> Result<(), Fail> {
             "run a.toml --slots --every 50",
             "run a.toml by 1 into slots each 50",
         ),
+        ("run a.toml --room 1", "run a.toml by 1 with room 1"),
+        (
+            "run a.toml --workers 2 --room 10000",
+            "run a.toml by 2 with room 10000",
+        ),
         ("run a.toml --stand", "run a.toml by 1 that stand"),
         (
             "run a.toml --stand --workers 3",
@@ -64,6 +69,8 @@ fn other_words_are_no_command(rt: HostRuntime) -> Result<(), Fail> {
         "run a.toml --save c.ckpt",
         "run a.toml --every 0 --slots",
         "run a.toml --stand --every 1 --slots",
+        "run a.toml --room 10001",
+        "run a.toml --room 2 --stand",
         "resume a.toml b.toml",
         "cards a.toml 10000000000000001",
     ];
@@ -121,6 +128,14 @@ fn shown(alloc: Global, command: &Command) -> Result<String, AllocError> {
                 "into slots each",
                 every.as_str(),
             )
+        }
+        Command::RunRoom {
+            plant,
+            room,
+            workers,
+        } => {
+            let room = room.to_string(alloc)?;
+            work(alloc, "run", plant, *workers, "with room", room.as_str())
         }
         Command::RunStand { plant, workers } => {
             work(alloc, "run", plant, *workers, "that", "stand")

@@ -1,20 +1,13 @@
 ghost use Rattle.std.specs.Prelude.{◌≡◌};
 
 use crate::same::same;
-use event_graph::Arc;
 use line_base::Date;
 use line_core::{FireError, State, replay, run};
-use live_check::{Live, rank};
-use sample_plants::{live_of, plain, two_stages, two_stations};
+use live_check::Live;
+use sample_plants::{live_pair, live_stages};
 use std::alloc::Global;
 use std::process::Abort;
 use std::test::Fail;
-
-/// The live graph of the two stages. What is known of it is let go here.
-fn live_stages(alloc: Global) -> Result<Live, Fail> {
-    let plant = two_stages(alloc)?;
-    live_of(alloc, &plant)
-}
 
 /// Asserts what firing a station answers.
 fn fires(rt: &impl Abort, live: &Live, state: &mut State, t: u32, answer: Result<(), FireError>)
@@ -58,16 +51,6 @@ fn fires_in_turn(rt: &impl Abort, live: &Live, mut state: State, back: Date, dat
     has_log(rt, live, &state, 1, dates);
 }
 
-/// Two stations, of which the second gives its token back to itself this much later.
-fn live_pair(alloc: Global, delay: u64) -> Result<Live, Fail> {
-    let own = Arc {
-        worked: true,
-        ..plain(1, 1, 1)
-    };
-    let graph = two_stations(alloc, &[plain(0, 1, 0), own], &[4, delay])??;
-    Ok(rank(alloc, graph).ok().ok_or("not live")?)
-}
-
 /// Asserts the dates of two stations, of which the second gives its token back to itself this much
 /// later.
 fn keeps_back(
@@ -80,8 +63,8 @@ fn keeps_back(
     let live = live_pair(alloc, delay)?;
     same(rt, live.graph().stations(), 2);
     same(rt, live.graph().arcs().len(), 2);
-    let state = State::start(alloc, &live)?;
-    fires_in_turn(rt, &live, state, back, dates);
+    let state = State::start(alloc, live)?;
+    fires_in_turn(rt, live, state, back, dates);
     Ok(())
 }
 
@@ -103,7 +86,7 @@ fn starts_with(rt: &impl Abort, alloc: Global, live: &Live, tokens: &[u32]) -> R
 fn a_start_has_its_marking(rt: HostRuntime) -> Result<(), Fail> {
     let live = live_stages(rt.alloc())?;
     let tokens = [0, 1, 1, 1, 0, 1, 1, 1, 0, 0, 0];
-    starts_with(&rt, rt.alloc(), &live, &tokens)
+    starts_with(&rt, rt.alloc(), live, &tokens)
 }
 
 /// Asserts that a run has the dates of the two stages.
@@ -125,8 +108,8 @@ fn schedule_has_the_dates(rt: &impl Abort, alloc: Global, live: &Live) -> Result
 #[test]
 fn a_run_and_a_schedule_come_to_the_same_dates(rt: HostRuntime) -> Result<(), Fail> {
     let live = live_stages(rt.alloc())?;
-    run_has_the_dates(&rt, rt.alloc(), &live)?;
-    schedule_has_the_dates(&rt, rt.alloc(), &live)
+    run_has_the_dates(&rt, rt.alloc(), live)?;
+    schedule_has_the_dates(&rt, rt.alloc(), live)
 }
 
 /// Asserts some of the dates of the two stages in a finished state of them.

@@ -4,6 +4,8 @@
 #![tactic(auto)]
 
 #[cfg(test)]
+mod got;
+#[cfg(test)]
 mod of_big_plant;
 #[cfg(test)]
 mod of_card_sizing;

@@ -1,11 +1,7 @@
-ghost use Rattle.std.specs.Prelude.{IfOk};
-ghost use Rattle.plant_model.specs.Sound.{IsSound};
-
+use crate::got::got;
 use crate::same::same;
 use card_sizing::{Below, Sizing, SizingError, least_cards};
-use plant_file::{complete_draft, read_plant};
-use plant_model::Plant;
-use sample_plants::live_of;
+use sample_plants::{live_of, plant_of};
 use std::alloc::Global;
 use std::process::Abort;
 use std::test::Fail;
@@ -52,17 +48,6 @@ stage = [
 ]
 ";
 
-/// The plant of this text, which names no file.
-fn plant_of(alloc: Global, text: &str) -> Result<Plant, Fail>
-    ensures { IfOk result IsSound }
-{
-    let draft = read_plant(alloc, text.as_bytes())?;
-    if draft.demands_file().is_some() || draft.times_file().is_some() {
-        return Err("the plant names a file".into());
-    }
-    Ok(complete_draft(alloc, draft, None, None)?)
-}
-
 /// The least cards of the plant of this text, or why there are none.
 fn least(alloc: Global, text: &str, wait: u64) -> Result<Result<Sizing, SizingError>, Fail> {
     let plant = plant_of(alloc, text)?;
@@ -80,15 +65,15 @@ fn job_below(sizing: &Sizing) -> Option<(u32, u64)> {
 }
 
 /// The labels of the circuit that has no token with one card less, each with a space before it.
-fn dead_below(alloc: Global, sizing: &Sizing) -> Result<Vec<u8>, Fail> {
+fn dead_below(rt: &impl Abort, alloc: Global, sizing: &Sizing) -> Vec<u8> {
     let mut text = Vec::new(alloc);
     if let Below::Dead { labels } = &sizing.below {
         for label in labels.as_slice() {
-            text.push(b' ')?;
-            text.extend_from_slice(label.text())?;
+            got(rt, text.push(b' '));
+            got(rt, text.extend_from_slice(label.text()));
         }
     }
-    Ok(text)
+    text
 }
 
 /// Asserts the least cards of the plant of this text, and the job that waits longer with one card less.
@@ -100,7 +85,7 @@ fn has_least(
     cards: u32,
     below: (u32, u64),
 ) -> Result<(), Fail> {
-    let sizing = least(alloc, text, wait)??;
+    let sizing = got(rt, least(alloc, text, wait)?);
     same(rt, sizing.cards, cards);
     same(rt, job_below(&sizing), Some(below));
     Ok(())
@@ -115,8 +100,8 @@ fn the_job_that_waits_with_one_card_less_is_named(rt: HostRuntime) -> Result<(),
 // Without a card both stages are dead; which of them is named is free.
 #[test]
 fn the_circuit_that_is_dead_with_one_card_less_is_named(rt: HostRuntime) -> Result<(), Fail> {
-    let sizing = least(rt.alloc(), KANBAN, 6)??;
-    let dead = dead_below(rt.alloc(), &sizing)?;
+    let sizing = got(&rt, least(rt.alloc(), KANBAN, 6)?);
+    let dead = dead_below(&rt, rt.alloc(), &sizing);
     let dead = dead.as_slice();
     same(&rt, sizing.cards, 1);
     assert!(rt;
@@ -127,7 +112,7 @@ fn the_circuit_that_is_dead_with_one_card_less_is_named(rt: HostRuntime) -> Resu
 
 #[test]
 fn the_stock_has_a_card_each(rt: HostRuntime) -> Result<(), Fail> {
-    let sizing = least(rt.alloc(), CONWIP, 1000)??;
+    let sizing = got(&rt, least(rt.alloc(), CONWIP, 1000)?);
     same(&rt, sizing.cards, 1);
     assert!(rt; matches!(&sizing.below, Below::Lowest));
     Ok(())

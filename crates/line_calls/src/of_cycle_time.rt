@@ -1,9 +1,8 @@
+use crate::got::got;
 use crate::same::same;
 use cycle_time::{Certificate, CycleError, accept, cycle};
-use event_graph::Arc;
-use live_check::{Live, rank};
-use plant_file::{complete_draft, read_plant};
-use sample_plants::{live_of, plain, two_stations};
+use live_check::Live;
+use sample_plants::{live_of_file, live_pair};
 use std::alloc::Global;
 use std::process::Abort;
 use std::test::Fail;
@@ -41,28 +40,20 @@ stage = [
 ]
 ";
 
-/// What `cycle` answers for the graph of a plant file.
-fn answer_for(alloc: Global, text: &str) -> Result<Result<Certificate, CycleError>, Fail> {
-    let draft = read_plant(alloc, text.as_bytes())?;
-    if draft.demands_file().is_some() || draft.times_file().is_some() {
-        return Err("the plant names a file".into());
-    }
-    let plant = complete_draft(alloc, draft, None, None)?;
-    let live = live_of(alloc, &plant)?;
-    let answer = cycle(alloc, &live);
+/// What `cycle` answers for a graph, with a certificate that is accepted.
+fn answer_for(rt: &impl Abort, alloc: Global, live: &Live) -> Result<Certificate, CycleError> {
+    let answer = cycle(alloc, live);
     if let Ok(certificate) = &answer {
-        if !accept(&live, certificate) {
-            return Err("the certificate isn't accepted".into());
-        }
+        assert!(rt; accept(live, certificate));
     }
-    Ok(answer)
+    answer
 }
 
 /// The arcs of the circuit, ascending.
-fn sorted_arcs(alloc: Global, certificate: &Certificate) -> Result<Vec<u32>, Fail> {
-    let mut arcs = Vec::from_slice(alloc, certificate.circuit.as_slice())?;
-    arcs.sort()?;
-    Ok(arcs)
+fn sorted_arcs(rt: &impl Abort, alloc: Global, certificate: &Certificate) -> Vec<u32> {
+    let mut arcs = got(rt, Vec::from_slice(alloc, certificate.circuit.as_slice()));
+    got(rt, arcs.sort());
+    arcs
 }
 
 /// Asserts the cycle time of a plant file as a time and a number of cards, the arcs of its circuit,
@@ -75,8 +66,9 @@ fn has_cycle(
     arcs: &[u32],
     potentials: &[i128],
 ) -> Result<(), Fail> {
-    let certificate = answer_for(alloc, text)?.ok().ok_or("refused")?;
-    let sorted = sorted_arcs(alloc, &certificate)?;
+    let live = live_of_file(alloc, text)?;
+    let certificate = got(rt, answer_for(rt, alloc, live));
+    let sorted = sorted_arcs(rt, alloc, &certificate);
     same(rt, (certificate.time, certificate.cards), cycle_time);
     same(rt, sorted.as_slice(), arcs);
     same(rt, certificate.potentials.as_slice(), potentials);
@@ -106,7 +98,8 @@ fn a_slow_machine_is_critical(rt: HostRuntime) -> Result<(), Fail> {
 // The machine mill.m is station 2.
 #[test]
 fn the_first_station_with_a_list_of_times_is_named(rt: HostRuntime) -> Result<(), Fail> {
-    let error = answer_for(rt.alloc(), LIST)?.err();
+    let live = live_of_file(rt.alloc(), LIST)?;
+    let error = answer_for(&rt, rt.alloc(), live).err();
     same(&rt, error, Some(CycleError::Varying { station: 2 }));
     Ok(())
 }
@@ -118,21 +111,11 @@ fn travel_and_card_times_count(rt: HostRuntime) -> Result<(), Fail> {
     has_cycle(&rt, rt.alloc(), TRAVEL, (8, 1), &[0, 3, 9], &potentials)
 }
 
-/// Two stations, of which the second takes 3 and gives its token back to itself 2 later.
-fn live_pair(alloc: Global) -> Result<Live, Fail> {
-    let own = Arc {
-        worked: true,
-        ..plain(1, 1, 1)
-    };
-    let graph = two_stations(alloc, &[plain(0, 1, 0), own], &[4, 2])??;
-    Ok(rank(alloc, graph).ok().ok_or("the graph isn't live")?)
-}
-
 // A station that takes 3 gives its token back to itself 2 later.
 #[test]
 fn the_delay_of_an_arc_counts(rt: HostRuntime) -> Result<(), Fail> {
-    let live = live_pair(rt.alloc())?;
-    let certificate = cycle(rt.alloc(), &live).ok().ok_or("refused")?;
+    let live = live_pair(rt.alloc(), 2)?;
+    let certificate = got(&rt, cycle(rt.alloc(), live));
     same(&rt, (certificate.time, certificate.cards), (5, 1));
     same(&rt, certificate.circuit.as_slice(), [1].as_slice());
     same(&rt, certificate.potentials.as_slice(), [0, 4].as_slice());

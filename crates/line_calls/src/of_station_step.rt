@@ -1,23 +1,22 @@
 use crate::one_shelf::{fresh_line, fresh_shelf, hand_at, step_at};
 use crate::same::same;
-use event_graph::Arc;
 use live_check::rank;
-use sample_plants::{live_of, plain, two_stages, two_stations};
+use sample_plants::{live_pair, live_stages, plain, two_stations};
 use station_step::Stepped;
 use std::test::Fail;
 
 // The release `cut` waits for the card of arc 9; the feed fires once for each of the three demands.
 #[test]
 fn a_step_fires_or_names_the_first_arc_without_a_token(rt: HostRuntime) -> Result<(), Fail> {
-    let live = live_of(rt.alloc(), &two_stages(rt.alloc())?)?;
+    let live = live_stages(rt.alloc())?;
     assert!(rt; live.graph().stations() == 6);
     let mut shelf = fresh_shelf(rt.alloc(), live.graph())?;
-    let mut line = fresh_line(rt.alloc(), &live, &shelf)?;
-    let cut = step_at(&live, &mut shelf, &mut line, 1);
-    let first = step_at(&live, &mut shelf, &mut line, 0);
-    let second = step_at(&live, &mut shelf, &mut line, 0);
-    let third = step_at(&live, &mut shelf, &mut line, 0);
-    let fourth = step_at(&live, &mut shelf, &mut line, 0);
+    let mut line = fresh_line(rt.alloc(), live, &shelf)?;
+    let cut = step_at(live, &mut shelf, &mut line, 1);
+    let first = step_at(live, &mut shelf, &mut line, 0);
+    let second = step_at(live, &mut shelf, &mut line, 0);
+    let third = step_at(live, &mut shelf, &mut line, 0);
+    let fourth = step_at(live, &mut shelf, &mut line, 0);
     same(&rt, cut, Stepped::Blocked(9));
     same(&rt, [first, second, third], [Stepped::Fired; 3]);
     same(&rt, fourth, Stepped::Done);
@@ -27,19 +26,14 @@ fn a_step_fires_or_names_the_first_arc_without_a_token(rt: HostRuntime) -> Resul
 // A token of the feed comes 4 later, and one that `a` gives back to itself 2 later and 3 more.
 #[test]
 fn dates_come_out_of_two_stations_with_their_delays(rt: HostRuntime) -> Result<(), Fail> {
-    let own = Arc {
-        worked: true,
-        ..plain(1, 1, 1)
-    };
-    let graph = two_stations(rt.alloc(), &[plain(0, 1, 0), own], &[4, 2])??;
-    let live = rank(rt.alloc(), graph).ok().ok_or("the graph isn't live")?;
+    let live = live_pair(rt.alloc(), 2)?;
     assert!(rt; live.graph().stations() == 2);
     let mut shelf = fresh_shelf(rt.alloc(), live.graph())?;
-    let mut line = fresh_line(rt.alloc(), &live, &shelf)?;
-    let feed = step_at(&live, &mut shelf, &mut line, 0);
-    let a = step_at(&live, &mut shelf, &mut line, 1);
-    let feed_again = step_at(&live, &mut shelf, &mut line, 0);
-    let a_again = step_at(&live, &mut shelf, &mut line, 1);
+    let mut line = fresh_line(rt.alloc(), live, &shelf)?;
+    let feed = step_at(live, &mut shelf, &mut line, 0);
+    let a = step_at(live, &mut shelf, &mut line, 1);
+    let feed_again = step_at(live, &mut shelf, &mut line, 0);
+    let a_again = step_at(live, &mut shelf, &mut line, 1);
     same(&rt, [feed, a, feed_again, a_again], [Stepped::Fired; 4]);
     same(&rt, line[1].log(), [4, 9].as_slice());
     Ok(())

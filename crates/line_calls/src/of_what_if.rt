@@ -5,18 +5,18 @@ use crate::same::same;
 use line_base::Date;
 use line_core::run;
 use live_check::Live;
-use sample_plants::{live_of, two_stages};
+use sample_plants::live_stages;
 use std::alloc::{AllocError, Global};
 use std::process::Abort;
 use std::test::Fail;
 use what_if::{Sheet, follow_edits};
 
 /// The live graph of the two stages, with six stations and three jobs.
-fn two_stage_live(rt: &impl Abort, alloc: Global) -> Result<Live, Fail>
-    ensures stations { IfOk result (λ live. stations live.graph ≡ 6) }
-    ensures jobs { IfOk result (λ live. jobs live.graph ≡ 3) }
+fn two_stage_live(rt: &impl Abort, alloc: Global) -> Result<&'static Live, Fail>
+    ensures stations { IfOk result (λ live. stations live.now.graph ≡ 6) }
+    ensures jobs { IfOk result (λ live. jobs live.now.graph ≡ 3) }
 {
-    let live = live_of(alloc, &two_stages(alloc)?)?;
+    let live = live_stages(alloc)?;
     assert!(rt; live.graph().stations() == 6 && live.graph().jobs() == 3);
     Ok(live)
 }
@@ -36,19 +36,19 @@ fn settled(rt: &impl Abort, alloc: Global, edits: &[u8]) -> Result<Sheet, Fail>
     ensures jobs { IfOk result (λ sheet. jobs sheet.live.graph ≡ 3) }
 {
     let live = two_stage_live(rt, alloc)?;
-    let mut sheet = sheet_of(alloc, &live)?;
-    if follow_edits(&mut sheet, &live, edits).is_err() {
+    let mut sheet = sheet_of(alloc, live)?;
+    if follow_edits(&mut sheet, live, edits).is_err() {
         return Err("a line is refused".into());
     }
-    sheet.settle(&live);
+    sheet.settle(live);
     Ok(sheet)
 }
 
 /// The line at which edits of the two stages are refused, and 0 where they are followed.
 fn refused_at(rt: &impl Abort, alloc: Global, edits: &[u8]) -> Result<u64, Fail> {
     let live = two_stage_live(rt, alloc)?;
-    let mut sheet = sheet_of(alloc, &live)?;
-    Ok(follow_edits(&mut sheet, &live, edits).map_or_else(|refused| refused.line, |()| 0))
+    let mut sheet = sheet_of(alloc, live)?;
+    Ok(follow_edits(&mut sheet, live, edits).map_or_else(|refused| refused.line, |()| 0))
 }
 
 /// The dates of a station for the three jobs.
@@ -64,12 +64,9 @@ fn has_dates(rt: &impl Abort, sheet: &Sheet, dates: [[Date; 3]; 6])
     requires stations { stations sheet.now.live.graph ≡ 6 }
     requires jobs { jobs sheet.now.live.graph ≡ 3 }
 {
-    same(rt, dates_at(sheet, 0), dates[0]);
-    same(rt, dates_at(sheet, 1), dates[1]);
-    same(rt, dates_at(sheet, 2), dates[2]);
-    same(rt, dates_at(sheet, 3), dates[3]);
-    same(rt, dates_at(sheet, 4), dates[4]);
-    same(rt, dates_at(sheet, 5), dates[5]);
+    for t in 0..6 {
+        same(rt, dates_at(sheet, t), dates[t as usize]);
+    }
 }
 
 // Job 2 takes 3 longer at the torch, so the torch is late, and with its card all of job 3.
@@ -138,10 +135,10 @@ fn an_edit_that_says_what_holds_changes_nothing(rt: HostRuntime) -> Result<(), F
 #[test]
 fn an_evaluation_marks_the_dates_that_read_it(rt: HostRuntime) -> Result<(), Fail> {
     let live = two_stage_live(&rt, rt.alloc())?;
-    let mut sheet = sheet_of(rt.alloc(), &live)?;
-    sheet.set_time(&live, 4, 2, 8);
+    let mut sheet = sheet_of(rt.alloc(), live)?;
+    sheet.set_time(live, 4, 2, 8);
     assert!(rt; sheet.marked(4, 2));
-    let changed = sheet.evaluate(&live, 4, 2);
+    let changed = sheet.evaluate(live, 4, 2);
     assert!(rt; changed && sheet.marks() == 2 && sheet.evaluations() == 1);
     Ok(())
 }

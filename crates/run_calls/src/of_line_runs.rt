@@ -12,7 +12,7 @@ use line_runs::{
 };
 use line_workers::{FreeGate, Gate};
 use live_check::Live;
-use sample_plants::{forty_jobs, live_of};
+use sample_plants::{FIVE_FIRINGS, forty_jobs, live_of};
 use slot_store::{MAX_ROOM, SlotError, Slots};
 use std::alloc::Global;
 use std::process::Abort;
@@ -38,29 +38,6 @@ place 4 0
 place 5 1 0
 place 6 1 0
 place 7 1 0
-place 8 0
-place 9 0
-place 10 0
-end
-";
-
-/// The two stages after the firings feed, deliver, weld, cut, cut.saw.
-const FIVE_FIRINGS: &str = "\
-pull-checkpoint 1
-station feed 1 0
-station cut 1 0
-station cut.saw 1 3
-station weld 1 0
-station weld.torch 0
-station deliver 1 0
-place 0 0
-place 1 1 3
-place 2 1 3
-place 3 1 3
-place 4 1 0
-place 5 1 0
-place 6 1 0
-place 7 0
 place 8 0
 place 9 0
 place 10 0

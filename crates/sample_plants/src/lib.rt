@@ -49,8 +49,31 @@ stage = [
 ]
 ";
 
+/// The checkpoint of the two stages after the firings feed, deliver, weld, cut, cut.saw, in format 1.
+pub const FIVE_FIRINGS: &str = "\
+pull-checkpoint 1
+station feed 1 0
+station cut 1 0
+station cut.saw 1 3
+station weld 1 0
+station weld.torch 0
+station deliver 1 0
+place 0 0
+place 1 1 3
+place 2 1 3
+place 3 1 3
+place 4 1 0
+place 5 1 0
+place 6 1 0
+place 7 0
+place 8 0
+place 9 0
+place 10 0
+end
+";
+
 /// The plant of a plant file that names no other file.
-fn plant_of(alloc: Global, file: &str) -> Result<Plant, Fail>
+pub fn plant_of(alloc: Global, file: &str) -> Result<Plant, Fail>
     ensures { IfOk result IsSound }
 {
     let draft = read_plant(alloc, file.as_bytes())?;
@@ -74,13 +97,6 @@ pub fn forty_jobs(alloc: Global) -> Result<Plant, Fail>
     plant_of(alloc, FORTY_JOBS)
 }
 
-/// The plant of two stages in which a part takes 4 from `cut` to `weld`, and a card of `cut` 1 on its way back.
-pub fn two_stages_apart(alloc: Global) -> Result<Plant, Fail>
-    ensures { IfOk result IsSound }
-{
-    plant_of(alloc, TWO_STAGES_APART)
-}
-
 /// The live graph of a plant.
 pub fn live_of(alloc: Global, plant: &Plant) -> Result<Live, Fail>
     requires { IsSound plant.now }
@@ -88,6 +104,47 @@ pub fn live_of(alloc: Global, plant: &Plant) -> Result<Live, Fail>
 {
     let graph = graph_of(alloc, plant)?;
     Ok(rank(alloc, graph).ok().ok_or("the graph isn't live")?)
+}
+
+// The graphs below are leaked: no test lets one go, since each place at which a value of many lists is let go is dear
+// to prove. What is known of them is let go here.
+
+/// A graph that is never let go.
+fn leaked(alloc: Global, live: Live) -> Result<&'static Live, AllocError> {
+    Ok(Box::leak(Box::new(alloc, live)?))
+}
+
+/// The live graph of the plant of a plant file.
+pub fn live_of_file(alloc: Global, file: &str) -> Result<&'static Live, Fail> {
+    let plant = plant_of(alloc, file)?;
+    Ok(leaked(alloc, live_of(alloc, &plant)?)?)
+}
+
+/// The live graph of the two stages.
+pub fn live_stages(alloc: Global) -> Result<&'static Live, Fail> {
+    live_of_file(alloc, TWO_STAGES)
+}
+
+/// The live graph of the two stages with forty demands.
+pub fn live_forty_jobs(alloc: Global) -> Result<&'static Live, Fail> {
+    live_of_file(alloc, FORTY_JOBS)
+}
+
+/// The live graph of the two stages with ways between them.
+pub fn live_stages_apart(alloc: Global) -> Result<&'static Live, Fail> {
+    live_of_file(alloc, TWO_STAGES_APART)
+}
+
+/// The live graph of two stations, a feed whose tokens come 4 later, and a station that gives its token back to itself
+/// this much later.
+pub fn live_pair(alloc: Global, delay: u64) -> Result<&'static Live, Fail> {
+    let own = Arc {
+        worked: true,
+        ..plain(1, 1, 1)
+    };
+    let graph = two_stations(alloc, &[plain(0, 1, 0), own], &[4, delay])??;
+    let live = rank(alloc, graph).ok().ok_or("the graph isn't live")?;
+    Ok(leaked(alloc, live)?)
 }
 
 /// An arc that isn't worked.

@@ -3,6 +3,8 @@
 #![tactic(auto)]
 
 #[cfg(test)]
+mod new_disk;
+#[cfg(test)]
 mod of_checkpoint;
 #[cfg(test)]
 mod of_line_disk;

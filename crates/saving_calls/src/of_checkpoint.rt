@@ -4,7 +4,7 @@ use crate::same::same;
 use checkpoint::{CheckpointError, read_state, write_state};
 use line_core::{State, run};
 use live_check::Live;
-use sample_plants::{live_of, two_stages, two_stages_apart};
+use sample_plants::{FIVE_FIRINGS, live_stages, live_stages_apart};
 use std::alloc::Global;
 use std::process::Abort;
 use std::test::Fail;
@@ -26,29 +26,6 @@ place 4 0
 place 5 1 0
 place 6 1 0
 place 7 1 0
-place 8 0
-place 9 0
-place 10 0
-end
-";
-
-/// The two stages after the firings feed, deliver, weld, cut, cut.saw, in format 1.
-const FIVE_FIRINGS: &str = "\
-pull-checkpoint 1
-station feed 1 0
-station cut 1 0
-station cut.saw 1 3
-station weld 1 0
-station weld.torch 0
-station deliver 1 0
-place 0 0
-place 1 1 3
-place 2 1 3
-place 3 1 3
-place 4 1 0
-place 5 1 0
-place 6 1 0
-place 7 0
 place 8 0
 place 9 0
 place 10 0
@@ -78,12 +55,6 @@ place 9 0
 place 10 0
 end
 ";
-
-/// The live graph of the two stages. What is known of it is let go here.
-fn live_stages(alloc: Global) -> Result<Live, Fail> {
-    let plant = two_stages(alloc)?;
-    live_of(alloc, &plant)
-}
 
 /// What is answered to a text: how many firings made the state, or the error.
 fn answer(
@@ -129,7 +100,7 @@ fn answers(
 ) -> Result<(), Fail> {
     let live = live_stages(alloc)?;
     let text = with_piece(alloc, text, pieces)?;
-    answers_to(rt, alloc, &live, text.as_str(), wanted);
+    answers_to(rt, alloc, live, text.as_str(), wanted);
     Ok(())
 }
 
@@ -217,7 +188,7 @@ fn start_in_format_2(alloc: Global) -> Result<String, Fail> {
 #[test]
 fn a_finished_state_is_written(rt: HostRuntime) -> Result<(), Fail> {
     let live = live_stages(rt.alloc())?;
-    let text = text_of_run(rt.alloc(), &live)?;
+    let text = text_of_run(rt.alloc(), live)?;
     same(&rt, text.as_slice(), FINISHED.as_bytes());
     Ok(())
 }
@@ -225,7 +196,7 @@ fn a_finished_state_is_written(rt: HostRuntime) -> Result<(), Fail> {
 #[test]
 fn a_start_is_written(rt: HostRuntime) -> Result<(), Fail> {
     let live = live_stages(rt.alloc())?;
-    let text = text_of_start(rt.alloc(), &live)?;
+    let text = text_of_start(rt.alloc(), live)?;
     let wanted = start_in_format_2(rt.alloc())?;
     same(&rt, text.as_slice(), wanted.as_bytes());
     Ok(())
@@ -245,14 +216,14 @@ fn goes_on_firing(rt: &impl Abort, alloc: Global, live: &Live) -> Result<(), Fai
 #[test]
 fn a_state_that_is_read_goes_on_firing(rt: HostRuntime) -> Result<(), Fail> {
     let live = live_stages(rt.alloc())?;
-    goes_on_firing(&rt, rt.alloc(), &live)
+    goes_on_firing(&rt, rt.alloc(), live)
 }
 
 #[test]
 fn a_state_that_is_read_knows_its_firings(rt: HostRuntime) -> Result<(), Fail> {
     let live = live_stages(rt.alloc())?;
-    answers_to(&rt, rt.alloc(), &live, FINISHED, Ok(18));
-    answers_to(&rt, rt.alloc(), &live, START, Ok(0));
+    answers_to(&rt, rt.alloc(), live, FINISHED, Ok(18));
+    answers_to(&rt, rt.alloc(), live, START, Ok(0));
     Ok(())
 }
 
@@ -367,31 +338,25 @@ fn a_date_may_be_as_late_as_a_number_and_earlier_than_the_one_before(
 #[test]
 fn fronts_of_a_checkpoint_are_refused_with_their_line(rt: HostRuntime) -> Result<(), Fail> {
     let live = live_stages(rt.alloc())?;
-    each_front_is_refused(&rt, rt.alloc(), &live, FIVE_FIRINGS.as_bytes());
-    each_front_is_refused(&rt, rt.alloc(), &live, FINISHED.as_bytes());
+    each_front_is_refused(&rt, rt.alloc(), live, FIVE_FIRINGS.as_bytes());
+    each_front_is_refused(&rt, rt.alloc(), live, FINISHED.as_bytes());
     Ok(())
-}
-
-/// The live graph of the two stages with ways between them. What is known of it is let go here.
-fn live_stages_apart(alloc: Global) -> Result<Live, Fail> {
-    let plant = two_stages_apart(alloc)?;
-    live_of(alloc, &plant)
 }
 
 #[test]
 fn delays_stand_in_the_second_line(rt: HostRuntime) -> Result<(), Fail> {
     let live = live_stages_apart(rt.alloc())?;
-    let text = text_of_start(rt.alloc(), &live)?;
+    let text = text_of_start(rt.alloc(), live)?;
     let front = b"pull-checkpoint 2\ndelays 2 3 4 9 1\nstation feed 0\n";
     assert!(rt; text.starts_with(front));
-    same(&rt, answer(&rt, rt.alloc(), &live, text.as_slice()), Ok(0));
+    same(&rt, answer(&rt, rt.alloc(), live, text.as_slice()), Ok(0));
     Ok(())
 }
 
 #[test]
 fn texts_without_the_delays_are_refused(rt: HostRuntime) -> Result<(), Fail> {
     let live = live_stages_apart(rt.alloc())?;
-    answers_to(&rt, rt.alloc(), &live, FIVE_FIRINGS, line(1));
-    answers_to(&rt, rt.alloc(), &live, FINISHED, line(2));
+    answers_to(&rt, rt.alloc(), live, FIVE_FIRINGS, line(1));
+    answers_to(&rt, rt.alloc(), live, FINISHED, line(2));
     Ok(())
 }

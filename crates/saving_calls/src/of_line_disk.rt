@@ -1,3 +1,4 @@
+use crate::new_disk::new_disk;
 use crate::same::same;
 use line_disk::{Disk, DiskError, FileDisk, MemDisk};
 use slot_store::{SlotError, Slots};
@@ -9,8 +10,8 @@ use std::test::Fail;
 const FILE: &str = "pull.slots";
 
 /// A disk after a write, a sync, a write over a part of the first, a read, and a write that fails.
-fn written(alloc: Global) -> Result<MemDisk, Fail> {
-    let mut disk = MemDisk::new(alloc, vec![in alloc; 5]?);
+fn written(alloc: Global) -> Result<&'static mut MemDisk, Fail> {
+    let disk = new_disk(alloc, vec![in alloc; 5]?)?;
     disk.write_at(2, b"ab")?;
     disk.sync()?;
     disk.write_at(3, b"c")?;
@@ -30,7 +31,7 @@ fn left(alloc: Global, disk: &MemDisk, call: u32, pick: u8) -> Result<Vec<u8>, F
 #[test]
 fn a_disk_in_memory_reads_what_was_written(rt: HostRuntime) -> Result<(), Fail> {
     let alloc = rt.alloc();
-    let mut disk = written(alloc)?;
+    let disk = written(alloc)?;
     same(&rt, disk.calls(), 5);
     same(
         &rt,
@@ -43,7 +44,7 @@ fn a_disk_in_memory_reads_what_was_written(rt: HostRuntime) -> Result<(), Fail> 
 #[test]
 fn a_call_on_the_list_fails(rt: HostRuntime) -> Result<(), Fail> {
     let alloc = rt.alloc();
-    let mut disk = MemDisk::new(alloc, vec![in alloc; 2, 4]?);
+    let disk = new_disk(alloc, vec![in alloc; 2, 4]?)?;
     same(&rt, disk.sync(), Ok(()));
     same(&rt, disk.sync(), Err(DiskError::Failed));
     same(&rt, disk.write_at(0, b"a"), Ok(()));
@@ -70,7 +71,7 @@ fn a_crash_leaves_the_bytes_before_a_write_or_those_written_or_255(
         (5, 2, b"\0a\xff\xff\0"),
     ];
     for (call, pick, bytes) in cases {
-        same(&rt, left(alloc, &disk, call, pick)?.as_slice(), bytes);
+        same(&rt, left(alloc, disk, call, pick)?.as_slice(), bytes);
     }
     Ok(())
 }

@@ -1,3 +1,4 @@
+use crate::new_disk::new_disk;
 use crate::same::same;
 use line_disk::{Disk, MemDisk};
 use slot_store::{SlotError, Slots};
@@ -18,12 +19,15 @@ fn load(alloc: Global, disk: &mut MemDisk) -> Result<Vec<u8>, SlotError> {
 }
 
 /// A disk on which the three texts were saved, where the calls of these numbers fail, and how each save ended.
-fn saved(alloc: Global, failing: Vec<u32>) -> (MemDisk, [Result<(), SlotError>; 3]) {
-    let mut disk = MemDisk::new(alloc, failing);
-    let first = save(alloc, &mut disk, TEXTS[0]);
-    let second = save(alloc, &mut disk, TEXTS[1]);
-    let third = save(alloc, &mut disk, TEXTS[2]);
-    (disk, [first, second, third])
+fn saved(
+    alloc: Global,
+    failing: Vec<u32>,
+) -> Result<(&'static mut MemDisk, [Result<(), SlotError>; 3]), Fail> {
+    let disk = new_disk(alloc, failing)?;
+    let first = save(alloc, disk, TEXTS[0]);
+    let second = save(alloc, disk, TEXTS[1]);
+    let third = save(alloc, disk, TEXTS[2]);
+    Ok((disk, [first, second, third]))
 }
 
 /// The place among the three texts of what a load gives, or 3 where it gives nothing.
@@ -66,35 +70,31 @@ fn crashes(alloc: Global, disk: &MemDisk, first: u32, last: u32) -> Result<[u32;
 #[test]
 fn nothing_is_saved_on_a_disk_of_zeros(rt: HostRuntime) -> Result<(), Fail> {
     let alloc = rt.alloc();
-    let mut disk = MemDisk::new(alloc, Vec::new(alloc));
-    same(
-        &rt,
-        load(alloc, &mut disk).err(),
-        Some(SlotError::NoneSaved),
-    );
+    let disk = new_disk(alloc, Vec::new(alloc))?;
+    same(&rt, load(alloc, disk).err(), Some(SlotError::NoneSaved));
     Ok(())
 }
 
 #[test]
 fn a_save_stands_in_slot_0_with_its_gate_number_and_length(rt: HostRuntime) -> Result<(), Fail> {
     let alloc = rt.alloc();
-    let mut disk = MemDisk::new(alloc, Vec::new(alloc));
-    save(alloc, &mut disk, b"hello")?;
+    let disk = new_disk(alloc, Vec::new(alloc))?;
+    save(alloc, disk, b"hello")?;
     let bytes = disk.read(alloc, 0, 21)?;
     same(
         &rt,
         bytes.as_slice(),
         b"\x01\0\0\0\0\0\0\0\0\x05\0\0\0\0\0\0hello".as_slice(),
     );
-    same(&rt, load(alloc, &mut disk)?.as_slice(), b"hello".as_slice());
+    same(&rt, load(alloc, disk)?.as_slice(), b"hello".as_slice());
     Ok(())
 }
 
 #[test]
 fn bytes_beyond_the_room_are_refused(rt: HostRuntime) -> Result<(), Fail> {
     let alloc = rt.alloc();
-    let mut disk = MemDisk::new(alloc, Vec::new(alloc));
-    let saved = Slots::new(&mut disk, 4).save(alloc, b"hello");
+    let disk = new_disk(alloc, Vec::new(alloc))?;
+    let saved = Slots::new(disk, 4).save(alloc, b"hello");
     same(&rt, saved, Err(SlotError::TooLong { have: 5 }));
     same(&rt, disk.calls(), 0);
     Ok(())
@@ -107,22 +107,22 @@ fn each_crash_of_a_save_leaves_the_text_from_before_or_the_new_one(
     rt: HostRuntime,
 ) -> Result<(), Fail> {
     let alloc = rt.alloc();
-    let (mut disk, ends) = saved(alloc, Vec::new(alloc));
+    let (disk, ends) = saved(alloc, Vec::new(alloc))?;
     same(&rt, ends, [Ok(()); 3]);
     same(&rt, disk.calls(), 26);
-    same(&rt, crashes(alloc, &disk, 0, 8)?, [2, 0, 0, 25]);
-    same(&rt, crashes(alloc, &disk, 9, 16)?, [22, 2, 0, 0]);
-    same(&rt, crashes(alloc, &disk, 17, 26)?, [0, 28, 2, 0]);
-    same(&rt, load(alloc, &mut disk)?.as_slice(), TEXTS[2]);
+    same(&rt, crashes(alloc, disk, 0, 8)?, [2, 0, 0, 25]);
+    same(&rt, crashes(alloc, disk, 9, 16)?, [22, 2, 0, 0]);
+    same(&rt, crashes(alloc, disk, 17, 26)?, [0, 28, 2, 0]);
+    same(&rt, load(alloc, disk)?.as_slice(), TEXTS[2]);
     Ok(())
 }
 
 #[test]
 fn a_save_whose_first_sync_fails_keeps_the_text_from_before(rt: HostRuntime) -> Result<(), Fail> {
     let alloc = rt.alloc();
-    let (mut disk, ends) = saved(alloc, vec![in alloc; 17]?);
+    let (disk, ends) = saved(alloc, vec![in alloc; 17]?)?;
     same(&rt, ends, [Ok(()), Ok(()), Err(SlotError::DiskFault)]);
-    same(&rt, load(alloc, &mut disk)?.as_slice(), TEXTS[1]);
+    same(&rt, load(alloc, disk)?.as_slice(), TEXTS[1]);
     Ok(())
 }
 
@@ -130,16 +130,16 @@ fn a_save_whose_first_sync_fails_keeps_the_text_from_before(rt: HostRuntime) -> 
 /// this number failed; 8 where another number of saves answers one, or where a crash of the third leaves a text from
 /// before the second.
 fn place_with_fault(alloc: Global, call: u32) -> Result<usize, Fail> {
-    let (mut disk, ends) = saved(alloc, vec![in alloc; call]?);
+    let (disk, ends) = saved(alloc, vec![in alloc; call]?)?;
     let faults = ends
         .iter()
         .filter(|end| **end == Err(SlotError::DiskFault))
         .count();
-    let [hello, _, _, none] = crashes(alloc, &disk, call.max(17), 26)?;
+    let [hello, _, _, none] = crashes(alloc, disk, call.max(17), 26)?;
     if faults != 1 || (call > 16 && (hello > 0 || none > 0)) {
         return Ok(8);
     }
-    Ok(place_of(alloc, &mut disk)?)
+    Ok(place_of(alloc, disk)?)
 }
 
 /// How often each text stands at the end, where each of the calls fails in turn.

@@ -1,0 +1,97 @@
+ghost use Rattle.std.specs.Prelude.{◌≡◌, []};
+
+use crate::same::same;
+use room_ring::{Full, RoomPut, RoomTake, meet, room_ring};
+use std::test::Fail;
+use std::thread;
+
+#[test]
+fn a_full_ring_refuses_until_a_token_is_taken(rt: HostRuntime) -> Result<(), Fail> {
+    let (mut put, mut take) = room_ring(rt.alloc(), &[0], 2)?;
+    same(&rt, put.space(), 1);
+    same(&rt, put.put(5), Ok(()));
+    same(&rt, put.put(7), Err(Full));
+    same(&rt, take.take(), Some(0));
+    same(&rt, put.put(7), Ok(()));
+    for date in [Some(5), Some(7), None] {
+        same(&rt, take.take(), date);
+    }
+    same(&rt, put.space(), 0);
+    same(&rt, put.look(), 2);
+    Ok(())
+}
+
+#[test]
+fn a_token_taken_is_room_for_another_after_a_meeting(rt: HostRuntime) -> Result<(), Fail> {
+    let (mut put, mut take) = room_ring(rt.alloc(), &[0], 2)?;
+    same(&rt, put.put(4), Ok(()));
+    same(&rt, put.put(9), Err(Full));
+    same(&rt, take.take(), Some(0));
+    meet(&mut put, &mut take);
+    same(&rt, put.put(9), Ok(()));
+    meet(&mut put, &mut take);
+    for date in [Some(4), Some(9), None] {
+        same(&rt, take.take(), date);
+    }
+    Ok(())
+}
+
+#[test]
+fn a_meeting_tells_both_ends(rt: HostRuntime) -> Result<(), Fail> {
+    let (mut put, mut take) = room_ring(rt.alloc(), &[1, 2], 3)?;
+    same(&rt, put.put(3), Ok(()));
+    same(&rt, take.take(), Some(1));
+    same(&rt, take.known(), 1);
+    meet(&mut put, &mut take);
+    same(&rt, take.known(), 2);
+    same(&rt, put.space(), 1);
+    Ok(())
+}
+
+const DATES: u32 = 10_000;
+
+/// How often each thread tries, so that it ends whatever the other thread does.
+const TRIES: u32 = 100_000_000;
+
+/// Puts the dates 0, 3, 6, .. and counts them.
+fn put_all(mut put: RoomPut) -> u32
+    requires { put.added ≡ [] }
+{
+    let mut given = 0;
+    for _ in 0..TRIES {
+        if given == DATES {
+            break;
+        }
+        if put.put(3 * u64::from(given)).is_ok() {
+            given += 1;
+        } else {
+            thread::yield_now();
+        }
+    }
+    given
+}
+
+/// Takes what there is, and counts those that came as they were put.
+fn take_all(mut take: RoomTake) -> u32 {
+    let mut taken = 0;
+    for _ in 0..TRIES {
+        if taken == DATES {
+            break;
+        }
+        match take.take() {
+            Some(date) if date == 3 * u64::from(taken) => taken += 1,
+            Some(_) => break,
+            None => thread::yield_now(),
+        }
+    }
+    taken
+}
+
+#[test]
+fn two_threads_move_every_date_in_order_through_a_small_ring(rt: HostRuntime) -> Result<(), Fail> {
+    let (put, take) = room_ring(rt.alloc(), &[], 3)?;
+    let (given, taken) = thread::join(&rt, move || put_all(put), move || take_all(take));
+    same(&rt, given, DATES);
+    same(&rt, taken, DATES);
+    Ok(())
+}
