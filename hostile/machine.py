@@ -50,6 +50,8 @@ COMMANDS = [
     Command("run two-stage.toml", ["two-stage.toml"]),
     Command("run mill.toml", ["mill.toml", "mill-demands.csv", "mill-times.csv"]),
     Command("run assembly.toml --workers 3", ["assembly.toml"]),
+    Command("run assembly.toml --room 1 --workers 3", ["assembly.toml"]),
+    Command("run assembly.toml --stand --workers 3", ["assembly.toml"]),
     Command(STOP, ["forty.toml"], "forty.ckpt"),
     Command(STOP.replace("50", "120"), ["forty.toml"], "forty.ckpt", [STOP]),
     Command(SAVE, ["forty.toml"], SLOTS),
