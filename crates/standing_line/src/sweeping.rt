@@ -7,6 +7,7 @@ use line_workers::{Crew, Gate};
 use live_check::Live;
 use std::snapshot::Snapshot;
 use std::sync::atomic::{AtomicBool, Ordering};
+use std::thread;
 use std::thread::Promise;
 
 /// With as many turns of a station its crew ends, to be gathered.
@@ -29,15 +30,23 @@ fn may_sweep(crew: &Crew) -> bool
     !crew.done() && crew.turns() < MAX_TURNS
 }
 
+/// Lets another thread run after a sweep in which nothing was fired. With more workers than processors one that has
+/// something to fire may then go on instead.
+fn rest(fired: u64) {
+    if fired == 0 {
+        thread::yield_now();
+    }
+}
+
 /// Lets a crew sweep until it is done, the stop word is set, or a station has made as many turns as
-/// it may. An idle sweep is followed by another: the crew never parks.
+/// it may. An idle sweep is followed by another: the crew never parks, but lets another thread run.
 pub(crate) fn sweep_on<G: Gate>(crew: Crew, live: &Live, gate: &G, stop: &AtomicBool) -> Crew
     requires { IsCrewFor live.now crew }
     ensures { IsCrewAfter crew result }
 {
     let mut crew = crew;
     while !stop.load(Ordering::SeqCst) && may_sweep(&crew) {
-        crew.sweep(live, gate);
+        rest(crew.sweep(live, gate));
     }
     crew
 }
