@@ -1,7 +1,9 @@
 use line_workers::Gate;
+use std::hint;
 use std::sync::atomic::{AtomicBool, AtomicU64, Ordering};
 
-/// How often a worker that is held looks whether the gate is open.
+/// How often a worker that is held looks whether the gate is open: for some seconds, since the other may come late on a
+/// busy machine.
 const LOOKS: u64 = 200_000_000;
 
 /// A gate for two workers that holds the first pass of one until the other has passed so often. It counts how often it
@@ -49,6 +51,7 @@ impl HeldGate {
             if self.is_open() {
                 return;
             }
+            hint::spin_loop();
         }
         self.missed.store(true, Ordering::SeqCst);
     }

@@ -4,7 +4,11 @@
 #![tactic(auto)]
 
 #[cfg(test)]
+mod got;
+#[cfg(test)]
 mod held_gate;
+#[cfg(test)]
+mod kept;
 #[cfg(test)]
 mod of_line_runs;
 #[cfg(test)]

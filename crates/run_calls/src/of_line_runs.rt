@@ -1,6 +1,8 @@
 ghost use Rattle.std.specs.Prelude.{◌≡◌, ◌≤◌, IfOk};
 
-use crate::of_line_workers::{live_stages, new_line};
+use crate::got::got;
+use crate::kept::kept;
+use crate::of_line_workers::{ALL_DATES, new_line};
 use crate::same::same;
 use checkpoint::{CheckpointError, read_state, write_state};
 use line_base::Date;
@@ -12,7 +14,7 @@ use line_runs::{
 };
 use line_workers::{FreeGate, Gate};
 use live_check::Live;
-use sample_plants::{FIVE_FIRINGS, forty_jobs, live_of};
+use sample_plants::{FIVE_FIRINGS, live_forty_jobs, live_stages};
 use slot_store::{MAX_ROOM, SlotError, Slots};
 use std::alloc::Global;
 use std::process::Abort;
@@ -91,12 +93,6 @@ fn stopped<R: Threads + Sync>(
 
 // What is known of what the functions below make is let go there: their callers have few facts.
 
-/// The live graph of the two stages, with forty jobs.
-fn forty_jobs_live(alloc: Global) -> Result<Live, Fail> {
-    let plant = forty_jobs(alloc)?;
-    live_of(alloc, &plant)
-}
-
 /// A run that was stopped: how many firings it had made, and the text of its state.
 #[derive(Drop)]
 struct StoppedRun {
@@ -105,7 +101,7 @@ struct StoppedRun {
 }
 
 /// A run of so many workers that stops after so many firings.
-fn saved<R: Threads + Sync>(
+fn saved<R: Abort + Threads + Sync>(
     rt: &R,
     alloc: Global,
     live: &Live,
@@ -116,7 +112,7 @@ fn saved<R: Threads + Sync>(
         return Err("no such number of workers".into());
     }
     let state = stopped(rt, alloc, live, workers, firings)?;
-    let text = write_state(alloc, live, &state)?;
+    let text = got(rt, write_state(alloc, live, &state));
     let fired = state.fired();
     Ok(StoppedRun { fired, text })
 }
@@ -127,10 +123,10 @@ fn finished<R: Threads + Sync>(
     alloc: Global,
     live: &Live,
     firings: u64,
-) -> Result<Table, Fail> {
+) -> Result<&'static Table, Fail> {
     let line = new_line(alloc, live, 1)?;
     match run_until(rt, live, line, firings, &FreeGate) {
-        Outcome::Finished(table) => Ok(table),
+        Outcome::Finished(table) => Ok(kept(alloc, table)?),
         Outcome::Stopped(_) => Err("the run was stopped".into()),
     }
 }
@@ -141,13 +137,12 @@ fn whole<R: Threads + Sync, G: Gate>(
     alloc: Global,
     live: &Live,
     gate: &G,
-) -> Result<Table, Fail> {
+) -> Result<&'static Table, Fail> {
     let line = new_line(alloc, live, 1)?;
-    Ok(run_to_end(rt, live, line, gate))
+    Ok(kept(alloc, run_to_end(rt, live, line, gate))?)
 }
 
-/// What resuming a text by so many workers comes to, through a gate. It fails where the text is
-/// long.
+/// What resuming a text by so many workers comes to, through a gate. It fails where the text is long.
 fn resumed<R: Threads + Sync, G: Gate>(
     rt: &R,
     alloc: Global,
@@ -162,6 +157,19 @@ fn resumed<R: Threads + Sync, G: Gate>(
     Ok(resume(rt, alloc, live, text, workers, gate))
 }
 
+/// The table of a run by so many workers that goes on from a text, through a gate.
+fn gone_on<R: Threads + Sync, G: Gate>(
+    rt: &R,
+    alloc: Global,
+    live: &Live,
+    text: &[u8],
+    workers: u32,
+    gate: &G,
+) -> Result<&'static Table, Fail> {
+    let table = resumed(rt, alloc, live, text, workers, gate)??;
+    Ok(kept(alloc, table)?)
+}
+
 /// The dates of a station.
 fn dates_of<'a>(rt: &impl Abort, table: &'a Table, t: u32) -> &'a [Date] {
     assert!(rt; t < table.stations());
@@ -171,12 +179,9 @@ fn dates_of<'a>(rt: &impl Abort, table: &'a Table, t: u32) -> &'a [Date] {
 /// Asserts that a table has the dates of the two stages with three demands.
 fn has_all_dates(rt: &impl Abort, table: &Table) {
     same(rt, table.stations(), 6);
-    same(rt, dates_of(rt, table, 0), [0, 2, 4].as_slice());
-    same(rt, dates_of(rt, table, 1), [0, 5, 10].as_slice());
-    same(rt, dates_of(rt, table, 2), [3, 8, 13].as_slice());
-    same(rt, dates_of(rt, table, 3), [0, 5, 10].as_slice());
-    same(rt, dates_of(rt, table, 4), [5, 10, 15].as_slice());
-    same(rt, dates_of(rt, table, 5), [0, 5, 10].as_slice());
+    for (t, dates) in ALL_DATES {
+        same(rt, dates_of(rt, table, t), dates.as_slice());
+    }
 }
 
 /// Asserts that a part is delivered every five, forty in all.
@@ -203,49 +208,49 @@ fn comes_to_all_dates<R: Abort + Threads + Sync>(
     live: &Live,
     text: &[u8],
 ) -> Result<(), Fail> {
-    let table = resumed(rt, alloc, live, text, 2, &FreeGate)??;
-    has_all_dates(rt, &table);
+    let table = gone_on(rt, alloc, live, text, 2, &FreeGate)?;
+    has_all_dates(rt, table);
     Ok(())
 }
 
 #[test]
 fn a_run_that_is_to_stop_at_once_stops_at_the_start(rt: HostRuntime) -> Result<(), Fail> {
     let live = live_stages(rt.alloc())?;
-    let start = saved(&rt, rt.alloc(), &live, 1, 0)?;
+    let start = saved(&rt, rt.alloc(), live, 1, 0)?;
     same(&rt, start.text.as_slice(), START.as_bytes());
-    comes_to_all_dates(&rt, rt.alloc(), &live, &start.text)
+    comes_to_all_dates(&rt, rt.alloc(), live, &start.text)
 }
 
 #[test]
 fn a_run_that_makes_all_firings_first_is_finished(rt: HostRuntime) -> Result<(), Fail> {
     let live = live_stages(rt.alloc())?;
-    let table = finished(&rt, rt.alloc(), &live, 18)?;
-    has_all_dates(&rt, &table);
+    let table = finished(&rt, rt.alloc(), live, 18)?;
+    has_all_dates(&rt, table);
     Ok(())
 }
 
 #[test]
 fn a_text_that_was_written_by_hand_is_resumed(rt: HostRuntime) -> Result<(), Fail> {
     let live = live_stages(rt.alloc())?;
-    comes_to_all_dates(&rt, rt.alloc(), &live, FIVE_FIRINGS.as_bytes())
+    comes_to_all_dates(&rt, rt.alloc(), live, FIVE_FIRINGS.as_bytes())
 }
 
 #[test]
 fn two_workers_stop_soon_and_three_go_on(rt: HostRuntime) -> Result<(), Fail> {
-    let live = forty_jobs_live(rt.alloc())?;
-    let seventh = saved(&rt, rt.alloc(), &live, 2, 7)?;
+    let live = live_forty_jobs(rt.alloc())?;
+    let seventh = saved(&rt, rt.alloc(), live, 2, 7)?;
     assert!(rt; 7 <= seventh.fired && seventh.fired < 103);
-    let table = resumed(&rt, rt.alloc(), &live, &seventh.text, 3, &FreeGate)??;
-    has_forty_dates(&rt, &table);
+    let table = gone_on(&rt, rt.alloc(), live, &seventh.text, 3, &FreeGate)?;
+    has_forty_dates(&rt, table);
     Ok(())
 }
 
 #[test]
 fn a_whole_run_makes_a_step_for_each_firing(rt: HostRuntime) -> Result<(), Fail> {
-    let live = forty_jobs_live(rt.alloc())?;
+    let live = live_forty_jobs(rt.alloc())?;
     let gate = CountingGate::new();
-    let table = whole(&rt, rt.alloc(), &live, &gate)?;
-    has_forty_dates(&rt, &table);
+    let table = whole(&rt, rt.alloc(), live, &gate)?;
+    has_forty_dates(&rt, table);
     same(&rt, gate.steps(), 240);
     Ok(())
 }
@@ -253,12 +258,12 @@ fn a_whole_run_makes_a_step_for_each_firing(rt: HostRuntime) -> Result<(), Fail>
 // Sixteen sweeps of six stations are 96 firings, of 240; who begins anew makes all of them.
 #[test]
 fn a_run_goes_on_from_where_it_stopped(rt: HostRuntime) -> Result<(), Fail> {
-    let live = forty_jobs_live(rt.alloc())?;
-    let first = saved(&rt, rt.alloc(), &live, 1, 96)?;
+    let live = live_forty_jobs(rt.alloc())?;
+    let first = saved(&rt, rt.alloc(), live, 1, 96)?;
     same(&rt, first.fired, 96);
     let rest = CountingGate::new();
-    let table = resumed(&rt, rt.alloc(), &live, &first.text, 1, &rest)??;
-    has_forty_dates(&rt, &table);
+    let table = gone_on(&rt, rt.alloc(), live, &first.text, 1, &rest)?;
+    has_forty_dates(&rt, table);
     same(&rt, rest.steps(), 144);
     Ok(())
 }
@@ -267,7 +272,7 @@ fn a_run_goes_on_from_where_it_stopped(rt: HostRuntime) -> Result<(), Fail> {
 fn a_text_without_its_last_line_is_refused(rt: HostRuntime) -> Result<(), Fail> {
     let live = live_stages(rt.alloc())?;
     let cut = FIVE_FIRINGS.strip_suffix("end\n").ok_or("no end")?;
-    let refused = resumed(&rt, rt.alloc(), &live, cut.as_bytes(), 1, &FreeGate)?.err();
+    let refused = resumed(&rt, rt.alloc(), live, cut.as_bytes(), 1, &FreeGate)?.err();
     same(&rt, refused, Some(CheckpointError::Line { number: 19 }));
     Ok(())
 }
@@ -291,14 +296,19 @@ fn a_state_is_saved_in_a_file_or_the_store_failed(rt: HostRuntime) -> Result<(),
     let mut store = MemStore::new(alloc, Files::new(alloc), vec![in alloc; 3]?);
     same(
         &rt,
-        save_start(&rt, alloc, &live, &mut store, "a.ckpt")?,
+        save_start(&rt, alloc, live, &mut store, "a.ckpt")?,
         Ok(()),
     );
     let text = store.read(alloc, "a.ckpt", 9_999)?;
     same(&rt, text.as_slice(), START.as_bytes());
-    let failed = save_start(&rt, alloc, &live, &mut store, "b.ckpt")?;
+    let failed = save_start(&rt, alloc, live, &mut store, "b.ckpt")?;
     same(&rt, failed, Err(StoreError::Failed));
     Ok(())
+}
+
+/// A new disk whose calls of these numbers fail.
+fn disk_of(alloc: Global, failing: Vec<u32>) -> Result<&'static mut MemDisk, Fail> {
+    Ok(kept(alloc, MemDisk::new(alloc, failing))?)
 }
 
 /// A run of forty jobs by one worker, with the state saved after every fifty firings.
@@ -310,6 +320,17 @@ fn run_saving<R: Threads + Sync>(
 ) -> Result<Result<Table, SlotError>, Fail> {
     let line = new_line(alloc, live, 1)?;
     Ok(run_with_slots(rt, alloc, live, line, 50, &FreeGate, disk))
+}
+
+/// The table of a run of forty jobs that saves its state.
+fn saved_run<R: Threads + Sync>(
+    rt: &R,
+    alloc: Global,
+    live: &Live,
+    disk: &mut MemDisk,
+) -> Result<&'static Table, Fail> {
+    let table = run_saving(rt, alloc, live, disk)??;
+    Ok(kept(alloc, table)?)
 }
 
 /// How many firings made the state in the slots of a disk.
@@ -338,13 +359,12 @@ fn resumed_from_slots<R: Threads + Sync>(
 #[test]
 fn a_run_saves_after_fifty_firings(rt: HostRuntime) -> Result<(), Fail> {
     let alloc = rt.alloc();
-    let live = forty_jobs_live(alloc)?;
-    let mut disk = MemDisk::new(alloc, Vec::new(alloc));
-    let table = run_saving(&rt, alloc, &live, &mut disk)??;
-    has_forty_dates(&rt, &table);
-    same(&rt, fired_in_slots(alloc, &live, &mut disk)?, 192);
-    let table = resumed_from_slots(&rt, alloc, &live, &mut disk, 2)?;
-    has_forty_dates(&rt, &table);
+    let live = live_forty_jobs(alloc)?;
+    let disk = disk_of(alloc, Vec::new(alloc))?;
+    has_forty_dates(&rt, saved_run(&rt, alloc, live, disk)?);
+    same(&rt, fired_in_slots(alloc, live, disk)?, 192);
+    let table = kept(alloc, resumed_from_slots(&rt, alloc, live, disk, 2)?)?;
+    has_forty_dates(&rt, table);
     Ok(())
 }
 
@@ -359,10 +379,10 @@ fn leaves_nothing<R: Abort + Threads + Sync>(
     pick: u8,
 ) -> Result<bool, Fail> {
     assert!(rt; call <= disk.calls() && pick <= 2);
-    let mut left = disk.crash(call, pick)?;
-    match resumed_from_slots(rt, alloc, live, &mut left, 1) {
+    let left = kept(alloc, disk.crash(call, pick)?)?;
+    match resumed_from_slots(rt, alloc, live, left, 1) {
         Ok(table) => {
-            has_forty_dates(rt, &table);
+            has_forty_dates(rt, kept(alloc, table)?);
             Ok(false)
         }
         Err(error) => {
@@ -375,13 +395,13 @@ fn leaves_nothing<R: Abort + Threads + Sync>(
 #[test]
 fn a_run_that_crashed_is_resumed(rt: HostRuntime) -> Result<(), Fail> {
     let alloc = rt.alloc();
-    let live = forty_jobs_live(alloc)?;
-    let mut disk = MemDisk::new(alloc, Vec::new(alloc));
-    let _ = run_saving(&rt, alloc, &live, &mut disk)??;
+    let live = live_forty_jobs(alloc)?;
+    let disk = disk_of(alloc, Vec::new(alloc))?;
+    let _ = saved_run(&rt, alloc, live, disk)?;
     let mut was_blank = false;
     for call in 0..disk.calls() {
         for pick in 0..3 {
-            was_blank |= leaves_nothing(&rt, alloc, &live, &disk, call, pick)?;
+            was_blank |= leaves_nothing(&rt, alloc, live, disk, call, pick)?;
         }
     }
     assert!(rt; was_blank);
@@ -391,9 +411,9 @@ fn a_run_that_crashed_is_resumed(rt: HostRuntime) -> Result<(), Fail> {
 #[test]
 fn a_disk_that_fails_stops_the_run(rt: HostRuntime) -> Result<(), Fail> {
     let alloc = rt.alloc();
-    let live = forty_jobs_live(alloc)?;
-    let mut disk = MemDisk::new(alloc, vec![in alloc; 1]?);
-    let failed = run_saving(&rt, alloc, &live, &mut disk)?.err();
+    let live = live_forty_jobs(alloc)?;
+    let disk = disk_of(alloc, vec![in alloc; 1]?)?;
+    let failed = run_saving(&rt, alloc, live, disk)?.err();
     same(&rt, failed, Some(SlotError::DiskFault));
     Ok(())
 }
@@ -402,8 +422,8 @@ fn a_disk_that_fails_stops_the_run(rt: HostRuntime) -> Result<(), Fail> {
 fn nothing_is_saved_on_a_new_disk(rt: HostRuntime) -> Result<(), Fail> {
     let alloc = rt.alloc();
     let live = live_stages(alloc)?;
-    let mut disk = MemDisk::new(alloc, Vec::new(alloc));
-    let none = resumed_from_slots(&rt, alloc, &live, &mut disk, 1).err();
+    let disk = disk_of(alloc, Vec::new(alloc))?;
+    let none = resumed_from_slots(&rt, alloc, live, disk, 1).err();
     same(&rt, none, Some(ResumeError::NothingSaved));
     Ok(())
 }

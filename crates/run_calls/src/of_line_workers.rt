@@ -2,14 +2,15 @@ ghost use Rattle.std.specs.Prelude.{◌≡◌, ◌≤◌, ◌^◌, All, IfOk};
 ghost use Rattle.line_workers.specs.Work.{TurnsBelow};
 ghost use Rattle.line_workers.specs.Crews.{live_of, AreCrews};
 
+use crate::got::got;
 use crate::same::same;
-use event_graph::Arc;
 use line_base::Date;
 use line_core::State;
 use line_workers::{Burst, Crew, FreeGate, Gate, Line};
-use live_check::{Live, rank};
-use sample_plants::{forty_jobs, live_of, plain, two_stages, two_stations};
+use live_check::Live;
+use sample_plants::{live_forty_jobs, live_pair, live_stages};
 use std::alloc::Global;
+use std::hint;
 use std::process::Abort;
 use std::sync::atomic::{AtomicU64, Ordering};
 use std::test::Fail;
@@ -46,12 +47,6 @@ fn worked_line<R: Threads + Sync, G: Gate>(
     Ok(line)
 }
 
-/// The live graph of the two stages. What is known of it is let go here.
-pub fn live_stages(alloc: Global) -> Result<Live, Fail> {
-    let plant = two_stages(alloc)?;
-    live_of(alloc, &plant)
-}
-
 /// Asserts that a state has these dates of a station.
 fn has_log(rt: &impl Abort, live: &Live, state: &State, t: u32, dates: &[Date])
     requires { live.now.graph ≡ state.now.graph }
@@ -60,17 +55,32 @@ fn has_log(rt: &impl Abort, live: &Live, state: &State, t: u32, dates: &[Date])
     same(rt, state.log(t), dates);
 }
 
+/// All dates of the two stages, by station.
+pub const ALL_DATES: [(u32, [Date; 3]); 6] = [
+    (0, [0, 2, 4]),
+    (1, [0, 5, 10]),
+    (2, [3, 8, 13]),
+    (3, [0, 5, 10]),
+    (4, [5, 10, 15]),
+    (5, [0, 5, 10]),
+];
+
 /// Asserts that a state has all dates of the two stages.
-pub fn has_all_dates(rt: &impl Abort, live: &Live, state: &State)
+fn has_all_dates(rt: &impl Abort, live: &Live, state: &State)
     requires { live.now.graph ≡ state.now.graph }
 {
     same(rt, live.graph().stations(), 6);
-    has_log(rt, live, state, 0, &[0, 2, 4]);
-    has_log(rt, live, state, 1, &[0, 5, 10]);
-    has_log(rt, live, state, 2, &[3, 8, 13]);
-    has_log(rt, live, state, 3, &[0, 5, 10]);
-    has_log(rt, live, state, 4, &[5, 10, 15]);
-    has_log(rt, live, state, 5, &[0, 5, 10]);
+    for (t, dates) in ALL_DATES {
+        has_log(rt, live, state, t, &dates);
+    }
+}
+
+/// Asserts that the state of a line has all dates of the two stages.
+pub fn closes_with_all_dates(rt: &impl Abort, live: &Live, line: Line)
+    requires { live.now ≡ line.live }
+{
+    let state = line.close(live);
+    has_all_dates(rt, live, &state);
 }
 
 /// Asserts that the next burst of a line fires so often, and makes no other step.
@@ -87,21 +97,21 @@ fn fires<R: Abort + Threads + Sync>(rt: &R, live: &Live, line: &mut Line, times:
 // Sixteen sweeps of six stations are 96 steps; of forty jobs eight are left for the third burst.
 #[test]
 fn one_worker_fires_with_every_step(rt: HostRuntime) -> Result<(), Fail> {
-    let live = live_of(rt.alloc(), &forty_jobs(rt.alloc())?)?;
-    let mut line = new_line(rt.alloc(), &live, 1)?;
-    fires(&rt, &live, &mut line, 96);
-    fires(&rt, &live, &mut line, 96);
-    fires(&rt, &live, &mut line, 48);
-    fires(&rt, &live, &mut line, 0);
+    let live = live_forty_jobs(rt.alloc())?;
+    let mut line = new_line(rt.alloc(), live, 1)?;
+    fires(&rt, live, &mut line, 96);
+    fires(&rt, live, &mut line, 96);
+    fires(&rt, live, &mut line, 48);
+    fires(&rt, live, &mut line, 0);
     Ok(())
 }
 
 #[test]
 fn three_jobs_are_one_burst_of_one_worker(rt: HostRuntime) -> Result<(), Fail> {
     let live = live_stages(rt.alloc())?;
-    let mut line = new_line(rt.alloc(), &live, 1)?;
-    fires(&rt, &live, &mut line, 18);
-    fires(&rt, &live, &mut line, 0);
+    let mut line = new_line(rt.alloc(), live, 1)?;
+    fires(&rt, live, &mut line, 18);
+    fires(&rt, live, &mut line, 0);
     Ok(())
 }
 
@@ -138,6 +148,7 @@ impl Gate for PairGate {
             if self.has_come(1 - worker % 2) {
                 return;
             }
+            hint::spin_loop();
         }
         self.missed.store(1, Ordering::SeqCst);
     }
@@ -148,10 +159,10 @@ impl Gate for PairGate {
 fn two_workers_are_at_work_at_once(rt: HostRuntime) -> Result<(), Fail> {
     let live = live_stages(rt.alloc())?;
     let gate = PairGate::new();
-    let line = worked_line(&rt, rt.alloc(), &live, 2, &gate)?;
+    let line = worked_line(&rt, rt.alloc(), live, 2, &gate)?;
     assert!(rt; gate.has_come(0) && gate.has_come(1));
     same(&rt, gate.missed.load(Ordering::SeqCst), 0);
-    has_all_dates(&rt, &live, &line.close(&live));
+    closes_with_all_dates(&rt, live, line);
     Ok(())
 }
 
@@ -159,20 +170,18 @@ fn two_workers_are_at_work_at_once(rt: HostRuntime) -> Result<(), Fail> {
 fn a_thousand_runs_come_to_the_same_dates(rt: HostRuntime) -> Result<(), Fail> {
     let live = live_stages(rt.alloc())?;
     for run in 0..1000 {
-        let line = worked_line(&rt, rt.alloc(), &live, 2 + run % 15, &FreeGate)?;
-        has_all_dates(&rt, &live, &line.close(&live));
+        let line = worked_line(&rt, rt.alloc(), live, 2 + run % 15, &FreeGate)?;
+        closes_with_all_dates(&rt, live, line);
     }
     Ok(())
 }
 
-/// Two stations, of which the second gives its token back to itself this much later.
-fn live_pair(alloc: Global, delay: u64) -> Result<Live, Fail> {
-    let own = Arc {
-        worked: true,
-        ..plain(1, 1, 1)
-    };
-    let graph = two_stations(alloc, &[plain(0, 1, 0), own], &[4, delay])??;
-    Ok(rank(alloc, graph).ok().ok_or("the graph isn't live")?)
+/// Asserts that the state of a line has these dates of a station.
+fn closes_with(rt: &impl Abort, live: &Live, line: Line, t: u32, dates: &[Date])
+    requires { live.now ≡ line.live }
+{
+    let state = line.close(live);
+    has_log(rt, live, &state, t, dates);
 }
 
 /// Asserts the dates of the second station where its token comes back to it this much later.
@@ -184,8 +193,8 @@ fn keeps_back<R: Abort + Threads + Sync>(
 ) -> Result<(), Fail> {
     let live = live_pair(alloc, delay)?;
     same(rt, live.graph().stations(), 2);
-    let line = worked_line(rt, alloc, &live, 2, &FreeGate)?;
-    has_log(rt, &live, &line.close(&live), 1, dates);
+    let line = worked_line(rt, alloc, live, 2, &FreeGate)?;
+    closes_with(rt, live, line, 1, dates);
     Ok(())
 }
 
@@ -193,6 +202,15 @@ fn keeps_back<R: Abort + Threads + Sync>(
 fn two_workers_keep_tokens_back_by_the_delays(rt: HostRuntime) -> Result<(), Fail> {
     keeps_back(&rt, rt.alloc(), 2, &[4, 9])?;
     keeps_back(&rt, rt.alloc(), 0, &[4, 7])
+}
+
+/// The start of a graph, of whose stations the feed has fired.
+fn fed(rt: &impl Abort, alloc: Global, live: &Live) -> Result<State, Fail>
+    ensures { IfOk result (λ state. state.graph ≡ live.now.graph) }
+{
+    let mut state = State::start(alloc, live)?;
+    same(rt, state.fire(live, 0), Ok(()));
+    Ok(state)
 }
 
 /// The line of three workers that goes on from a state.
@@ -210,12 +228,19 @@ fn line_from(alloc: Global, live: &Live, state: State) -> Result<Line, Fail>
 #[test]
 fn a_line_goes_on_from_a_state(rt: HostRuntime) -> Result<(), Fail> {
     let live = live_stages(rt.alloc())?;
-    let mut state = State::start(rt.alloc(), &live)?;
-    same(&rt, state.fire(&live, 0), Ok(()));
-    let line = line_from(rt.alloc(), &live, state)?;
-    same(&rt, line.state(rt.alloc(), &live)?.fired(), 1);
-    same(&rt, line.close(&live).fired(), 1);
+    let state = fed(&rt, rt.alloc(), live)?;
+    let line = line_from(rt.alloc(), live, state)?;
+    has_fired(&rt, rt.alloc(), live, line, 1);
     Ok(())
+}
+
+/// Asserts how often the stations fired in the state of a line: a copy, and what it closes with.
+fn has_fired(rt: &impl Abort, alloc: Global, live: &Live, line: Line, times: u64)
+    requires { live.now ≡ line.live }
+{
+    let copy = got(rt, line.state(alloc, live));
+    same(rt, copy.fired(), times);
+    same(rt, line.close(live).fired(), times);
 }
 
 /// Lets the first crew of a line make a sweep. Answers how often its stations fired.
@@ -233,18 +258,18 @@ fn sweep_first(live: &Live, crews: &mut Vec<Crew>) -> u64
 #[test]
 fn a_sweep_counts_after_its_crew_is_gathered(rt: HostRuntime) -> Result<(), Fail> {
     let live = live_stages(rt.alloc())?;
-    let mut crews = new_line(rt.alloc(), &live, 2)?.crews();
-    let fired = sweep_first(&live, &mut crews);
+    let mut crews = new_line(rt.alloc(), live, 2)?.crews();
+    let fired = sweep_first(live, &mut crews);
     same(&rt, fired, 1);
-    same(&rt, Line::gather(&live, crews).fired(), 1);
+    same(&rt, Line::gather(live, crews).fired(), 1);
     Ok(())
 }
 
 #[test]
 fn crews_come_together_again(rt: HostRuntime) -> Result<(), Fail> {
     let live = live_stages(rt.alloc())?;
-    let crews = new_line(rt.alloc(), &live, 2)?.crews();
+    let crews = new_line(rt.alloc(), live, 2)?.crews();
     same(&rt, crews.len(), 2);
-    same(&rt, Line::gather(&live, crews).fired(), 0);
+    same(&rt, Line::gather(live, crews).fired(), 0);
     Ok(())
 }

@@ -1,3 +1,4 @@
+use crate::got::got;
 use crate::held_gate::HeldGate;
 use crate::same::same;
 use line_disk::MemDisk;
@@ -7,7 +8,6 @@ use pull_cli::pull;
 use std::alloc::{AllocError, Global};
 use std::process::Abort;
 use std::sync::Wait;
-use std::test::Fail;
 use std::thread::Threads;
 
 /// Two stages without cards, with a part in each stock and forty demands.
@@ -61,28 +61,27 @@ fn written<R: Abort + Threads + Wait + Sync, G: Gate>(
     alloc: Global,
     line: &str,
     gate: &G,
-) -> Result<Vec<u8>, Fail> {
-    let words = words_of(alloc, line)?;
-    let mut store = store_of(alloc, "a.toml", FORTY_FROM_STOCK)?;
-    let mut sink = MemSink::new(alloc, 100_000, Vec::new(alloc), 0)?;
+) -> Vec<u8> {
+    let words = got(rt, words_of(alloc, line));
+    let mut store = got(rt, store_of(alloc, "a.toml", FORTY_FROM_STOCK));
+    let mut sink = got(rt, MemSink::new(alloc, 100_000, Vec::new(alloc), 0));
     let status = status_of(rt, alloc, &words, &mut store, &mut sink, gate);
     same(rt, status, 0);
-    Ok(Vec::from_slice(alloc, sink.written())?)
+    got(rt, Vec::from_slice(alloc, sink.written()))
 }
 
 // Worker 1 begins when worker 0 has made all of its first burst. With room for one token the feed has then come to a
 // stop, and most of its demands are left for later bursts; without a bound each pass lets it fire.
 #[test]
-fn a_bounded_ring_holds_the_feed_back(rt: HostRuntime) -> Result<(), Fail> {
+fn a_bounded_ring_holds_the_feed_back(rt: HostRuntime) {
     let alloc = rt.alloc();
     let free = HeldGate::new(1, PASSES);
-    let report = written(&rt, alloc, "run a.toml --workers 2", &free)?;
+    let report = written(&rt, alloc, "run a.toml --workers 2", &free);
     same(&rt, free.has_missed(), false);
     same(&rt, free.feeds(), 40);
     let bounded = HeldGate::new(1, PASSES);
-    let same_report = written(&rt, alloc, "run a.toml --room 1 --workers 2", &bounded)?;
+    let same_report = written(&rt, alloc, "run a.toml --room 1 --workers 2", &bounded);
     same(&rt, bounded.has_missed(), false);
     assert!(rt; bounded.feeds() >= 55);
     same(&rt, same_report, report);
-    Ok(())
 }

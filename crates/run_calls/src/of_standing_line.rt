@@ -1,7 +1,8 @@
 use crate::held_gate::HeldGate;
-use crate::of_line_workers::{has_all_dates, live_stages, new_line};
+use crate::of_line_workers::{closes_with_all_dates, new_line};
 use crate::same::same;
 use line_workers::FreeGate;
+use sample_plants::live_stages;
 use standing_line::stand;
 use std::test::Fail;
 
@@ -9,8 +10,8 @@ use std::test::Fail;
 fn standing_workers_come_to_the_least_dates(rt: HostRuntime) -> Result<(), Fail> {
     let live = live_stages(rt.alloc())?;
     for workers in 1..4 {
-        let line = stand(&rt, new_line(rt.alloc(), &live, workers)?, &live, &FreeGate);
-        has_all_dates(&rt, &live, &line.close(&live));
+        let line = stand(&rt, new_line(rt.alloc(), live, workers)?, live, &FreeGate);
+        closes_with_all_dates(&rt, live, line);
     }
     Ok(())
 }
@@ -23,9 +24,9 @@ const PASSES: u64 = 49;
 fn a_worker_stays_in_its_thread_between_sweeps(rt: HostRuntime) -> Result<(), Fail> {
     let live = live_stages(rt.alloc())?;
     let gate = HeldGate::new(0, PASSES);
-    let line = stand(&rt, new_line(rt.alloc(), &live, 2)?, &live, &gate);
+    let line = stand(&rt, new_line(rt.alloc(), live, 2)?, live, &gate);
     assert!(rt; gate.is_open());
     same(&rt, gate.has_missed(), false);
-    has_all_dates(&rt, &live, &line.close(&live));
+    closes_with_all_dates(&rt, live, line);
     Ok(())
 }
