@@ -19,7 +19,7 @@ use Rattle.plant_model.specs.Refusals.{refuse_if, each_from, each, bad_name, bad
 use Rattle.plant_model.specs.Sound.{IsSound}
 use Rattle.plant_model.proofs.NoRefusals.{append-nil_left, append-nil_right, AreNil-append, above-none}
 use Rattle.plant_model.proofs.Soundness.{Parts, Parts-from}
-use Rattle.plant_model.proofs.SoundPlants.{PassesAll, PassesAll-sound}
+use Rattle.plant_model.proofs.SoundPlants.{PassesAll, PassesAll-sound, stage_in_range-from}
 use Rattle.event_graph.specs.Firing.{greatest}
 use Rattle.event_graph.proofs.Greatest.{le-greatest}
 use Rattle.line_graph.specs.MoreCards.{no_loop}
@@ -91,16 +91,7 @@ cards_under-small Extended c own few small = few
 
 stage-in_range : (policy : Policy) (c i : ℕ) (s : Stage) → c ≤ MAX_CARDS → stage_out_of_range i s ≡ [] → stage_out_of_range i (stage_with policy c s) ≡ []
 stage-in_range policy c i s few none =
-    let range =
-    AreNil-append
-    (above (key_of (InStage i) (codes "card_time")) MAX_TIME s.card_time)
-    (above (key_of (InStage i) (codes "cards")) MAX_CARDS s.cards)
-    (empty (key_of (InStage i) (codes "machine")) s.machines)
-    (above (key_of (InStage i) (codes "stock")) MAX_CARDS s.stock)
-    (above (key_of (InStage i) (codes "travel")) MAX_TIME s.travel)
-    (each (machine_out_of_range i) s.machines)
-    none
-    in
+    let range = stage_in_range-from i s none in
     let cards = above-fits (key_of (InStage i) (codes "cards")) MAX_CARDS (cards_under policy c s.cards) (cards_under-small policy c s.cards few (above-none _ MAX_CARDS s.cards range.second)) in
     both-nil _ _ range.first (both-nil _ _ cards (both-nil _ _ range.third (both-nil _ _ range.fourth (both-nil _ _ range.fifth range.sixth))))
 

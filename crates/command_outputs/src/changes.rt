@@ -49,11 +49,7 @@ fn write_change<K: Sink>(
     out.push(sink, label);
     out.push(sink, b" ");
     out.push_number(sink, job as u64);
-    out.push(sink, b" ");
-    out.push_number(sink, old);
-    out.push(sink, b" ");
-    out.push_number(sink, new);
-    out.push(sink, b"\n");
+    out.push_last_two_numbers(sink, old, new);
 }
 
 /// Writes that line where the dates differ, and answers how many lines that are.

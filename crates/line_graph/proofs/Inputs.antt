@@ -73,7 +73,7 @@ receiver-input p i sound below =
     (onward p i j, h, onward-last p i j (omega arith))
 
 -- a stage that isn't first is fed by one
-feeds-next : (i : ℕ) (s : Stage) → feeds i s ≡ true → s.feeds ≡ Some i
+pub feeds-next : (i : ℕ) (s : Stage) → feeds i s ≡ true → s.feeds ≡ Some i
 feeds-next i s h = by_fed s.feeds h
   where
     by_fed : (o : Option ℕ) → option_map_or (λ j. eqb j i) o false ≡ true → o ≡ Some i

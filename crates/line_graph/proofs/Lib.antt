@@ -17,3 +17,4 @@ pub mod RowPairs
 pub mod CardlessPlants
 pub mod MoreCards
 pub mod DeadCircuits
+pub mod Turned

@@ -15,7 +15,7 @@ use Rattle.plant_model.specs.Graph.{machine_rows, stage_rows, feed_row, card_row
 use Rattle.plant_model.specs.Sound.{IsSound}
 use Rattle.event_graph.specs.Network.{stations, arc_count}
 use Rattle.plant_model.proofs.SoundPlants.{HasSoundSizes-sound}
-use Rattle.line_base.proofs.RangeLists.{flat_map-range_more}
+use Rattle.line_base.proofs.RangeLists.{flat_map-range_more, length-flat_map-range}
 use Rattle.line_graph.proofs.PolicyRows.{policy_rows-kanban, policy_rows-base_stock, policy_rows-extended, policy_rows-conwip}
 
 -- two sums of the same terms are the same
@@ -56,16 +56,6 @@ arc_count-graph p = length-map (rows p) (λ r. r.arc)
 pub length-delays : (p : Plant) → length (graph p).delays ≡ length (rows p)
 unfolding graph
 length-delays p = length-map (rows p) (λ r. r.delay)
-
--- lists of one length, one after the other
-length-flat_map-range : {X : Type 0} (f : ℕ → List X) (c n : ℕ) → ((i : ℕ) → length (f i) ≡ c) → length (flat_map f (range_with_len 0 n)) ≡ n * c
-length-flat_map-range f c zero each = omega arith
-length-flat_map-range f c (suc n) each =
-    let before = length-flat_map-range f c n each in
-    let here = each n in
-    let e : n + 1 ≡ suc n = omega arith in
-    let joined = ap length (flat_map-range_more f n) ∙ length-append (flat_map f (range_with_len 0 n)) (f n) in
-    ap (λ m. length (flat_map f (range_with_len 0 m))) (sym e) ∙ omega arith
 
 -- a stage has one row and three a machine
 length-stage_rows : (p : Plant) (i : ℕ) → length (stage_rows p i) ≡ 1 + 3 * length (stage_at p i).machines

@@ -1,15 +1,10 @@
 -- The stations along a circuit without a token, by their labels.
-use Rattle.std.specs.Prelude.{◌≡◌, ℕ, ◌≤◌, List, ◌++◌, take, drop, map, slice_index, All}
+use Rattle.std.specs.Prelude.{◌≡◌, ℕ, List, map}
 use Rattle.line_base.specs.declared.event.Parts.{Parts}
 use Rattle.event_graph.specs.Network.{label}
 use Rattle.event_graph.specs.Circuit.{starting_stations}
 use Rattle.live_check.specs.DeadCircuit.{IsDeadCircuit}
-
--- the stations of a circuit, turned round so that the one with the least number is the first
-pub record IsTurned (stations turned : List ℕ) : Type 0 where
-  pub at : ℕ
-  pub turned_is : turned ≡ drop at stations ++ take at stations
-  pub least_first : All (λ t. slice_index turned 0 ≤ t) turned
+use Rattle.line_graph.specs.Turned.{IsTurned}
 
 -- the labels are those of the stations along a circuit of the graph that holds no token, from the one with the least
 -- number on

@@ -1,3 +1,4 @@
 pub mod Laws
 pub mod MoreCards
 pub mod DeadLabels
+pub mod Turned

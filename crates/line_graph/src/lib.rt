@@ -2,6 +2,7 @@
 #![tactic(auto)]
 
 mod arcs;
+mod circuit;
 mod dead;
 mod delays;
 mod graph;
@@ -9,6 +10,7 @@ mod labels;
 mod laws;
 mod times;
 
+pub use circuit::circuit_stations;
 pub use dead::dead_labels;
 pub use graph::graph_of;
 pub use labels::station_labels;

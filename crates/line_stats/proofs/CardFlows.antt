@@ -21,20 +21,13 @@ use Rattle.event_graph.specs.Table.{Table}
 use Rattle.event_graph.specs.Solves.{Solves}
 use Rattle.line_base.proofs.RangeLists.{Contains-map-filter}
 use Rattle.line_graph.proofs.PolicyRows.{policy_rows-conwip}
-use Rattle.line_graph.proofs.Inputs.{in_policy}
+use Rattle.line_graph.proofs.Inputs.{in_policy, feeds-next}
 use Rattle.line_graph.proofs.SharedRows.{in_kanban, in_extended_card}
 use Rattle.plant_model.specs.Bound.{bound}
 use Rattle.line_stats.specs.Counts.{done}
 use Rattle.line_stats.proofs.Flows.{row-flow_soon, process-flow, move-flow, stock-flow}
 
 -- a stage that isn't first is fed by one
-feeds-next : (i : ℕ) (s : Stage) → feeds i s ≡ true → s.feeds ≡ Some i
-feeds-next i s h = by_fed s.feeds h
-  where
-    by_fed : (o : Option ℕ) → option_map_or (λ j. eqb j i) o false ≡ true → o ≡ Some i
-    by_fed None e = cc
-    by_fed (Some j) e = ap Some (eqb-true j i e)
-
 fed-by : (p : Plant) (i : ℕ) → is_first p i ≡ false → (k : ℕ) × (k < length p.stages) × (next p k ≡ Some i)
 fed-by p i h =
     let some = Any-from_list_any (feeds i) p.stages (not-false (list_any (feeds i) p.stages) h) in

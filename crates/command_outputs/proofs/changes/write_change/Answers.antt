@@ -5,8 +5,4 @@ pub returns : goal.returns
 returns g c =
     pushed_after c.push.ensures
     (pushed_after c.push-2.ensures
-    (pushed_after c.push_number.ensures
-    (pushed_after c.push-3.ensures
-    (pushed_after c.push_number-2.ensures
-    (pushed_after c.push-4.ensures
-    (pushed_after c.push_number-3.ensures c.push-5.ensures))))))
+    (pushed_after c.push_number.ensures c.push_last_two_numbers.ensures))

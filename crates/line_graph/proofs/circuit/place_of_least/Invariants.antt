@@ -1,5 +1,5 @@
 use Rattle.std.proofs.Common.{ℕ, ◌<◌, ◌≤◌, get_or}
-use Rattle.command_outputs.proofs.circuit.place_of_least.Given as goal
+use Rattle.line_graph.proofs.circuit.place_of_least.Given as goal
 
 abbrev pub invariant-loop-place : goal.invariant-loop-place
 invariant-loop-place l = record {
