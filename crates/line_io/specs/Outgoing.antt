@@ -1,5 +1,5 @@
 -- What a sink and the buffer before it did with the bytes that they got, for callers of `Outgoing`.
-use Rattle.std.specs.Prelude.{◌≡◌, ℕ, ◌≤◌, List, [], ◌++◌, Bool, true, false}
+use Rattle.std.specs.Prelude.{◌≡◌, ℕ, ◌≤◌, List, [], ◌++◌, Bool, true, false, codes, decimal}
 use Rattle.line_io.specs.Faults.{Rose}
 use Rattle.line_io.specs.SinkView.{SinkView, PutsAll}
 
@@ -25,6 +25,11 @@ waiting bytes failed = record { bytes = bytes; failed = failed }
 -- nothing waits, and the sink has failed or not
 abbrev pub emptied : Bool → Pending
 emptied failed = waiting [] failed
+
+-- the end of a line: two numbers in decimal, each after a space, and a line feed
+abbrev pub last_two_numbers : ℕ → ℕ → List ℕ
+last_two_numbers first second =
+    codes " " ++ (decimal first ++ (codes " " ++ (decimal second ++ codes "\n")))
 
 -- Bytes were given to a stream. A front of what waited and of them was sent, and the rest waits,
 -- until the sink fails; from then on nothing more is sent.

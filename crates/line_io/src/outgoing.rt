@@ -1,5 +1,5 @@
 ghost use Rattle.std.specs.Prelude.{◌≡◌, ◌+◌, ◌≤◌, ◌<◌, ◌++◌, [], false, length, decimal, is_err, IfOk};
-ghost use Rattle.line_io.specs.Outgoing.{Pushed, stream, emptied, waiting};
+ghost use Rattle.line_io.specs.Outgoing.{Pushed, stream, emptied, waiting, last_two_numbers};
 
 use crate::piece_buffer::{MAX_OVER, PieceBuffer};
 use crate::pieces::put_all;
@@ -64,8 +64,8 @@ impl Outgoing {
         self.failed = send_full(&mut self.buffer, self.failed, sink);
     }
 
-    /// Gives bytes to the sink, by pieces of 4,096 bytes.
-    pub fn push<K: Sink>(&mut self, sink: &mut K, bytes: &[u8])
+    /// Gives bytes to the sink, part by part.
+    fn push_parts<K: Sink>(&mut self, sink: &mut K, bytes: &[u8])
         ensures { Pushed (stream (K.shown sink.old) self.old)
             (stream (K.shown sink.new) self.new) bytes.now }
     {
@@ -77,12 +77,34 @@ impl Outgoing {
         }
     }
 
+    /// Gives bytes to the sink, by pieces of 4,096 bytes.
+    pub fn push<K: Sink>(&mut self, sink: &mut K, bytes: &[u8])
+        ensures { Pushed (stream (K.shown sink.old) self.old)
+            (stream (K.shown sink.new) self.new) bytes.now }
+    {
+        if bytes.len() <= MAX_OVER {
+            self.push_part(sink, bytes);
+        } else {
+            self.push_parts(sink, bytes);
+        }
+    }
+
     /// Gives a number in decimal to the sink. Its digits are written where they go out from.
     pub fn push_number<K: Sink>(&mut self, sink: &mut K, n: u64)
         ensures { Pushed (stream (K.shown sink.old) self.old)
             (stream (K.shown sink.new) self.new) (decimal n) }
     {
         self.buffer.add_number(n);
+        self.failed = send_full(&mut self.buffer, self.failed, sink);
+    }
+
+    /// Gives the end of a line to the sink: two numbers in decimal, each after a space, and a line feed. It looks once
+    /// whether a piece is full.
+    pub fn push_last_two_numbers<K: Sink>(&mut self, sink: &mut K, first: u64, second: u64)
+        ensures { Pushed (stream (K.shown sink.old) self.old)
+            (stream (K.shown sink.new) self.new) (last_two_numbers first second) }
+    {
+        self.buffer.add_last_two_numbers(first, second);
         self.failed = send_full(&mut self.buffer, self.failed, sink);
     }
 

@@ -1,5 +1,6 @@
 //! The bytes that wait until a piece is full.
-ghost use Rattle.std.specs.Prelude.{◌≡◌, ◌+◌, ◌-◌, ◌*◌, ◌<◌, ◌≤◌, [], ◌++◌, length, take, drop, decimal, IfOk};
+ghost use Rattle.std.specs.Prelude.{◌≡◌, ◌+◌, ◌-◌, ◌*◌, ◌<◌, ◌≤◌, [], ◌++◌, ◌∷◌, length, take, drop, decimal, IfOk};
+ghost use Rattle.line_io.specs.Outgoing.{last_two_numbers};
 
 use crate::sink::MAX_PIECE;
 use itoa::write_digits;
@@ -39,6 +40,14 @@ fn write_at(room: &mut [u8], at: usize, part: &[u8])
     ensures { take (at + length part.now) room.new ≡ take at room.old ++ part.now }
 {
     room[at..at + part.len()].copy_from_slice(part);
+}
+
+/// Writes a byte over the one at `at`.
+fn write_byte(room: &mut [u8], at: usize, byte: u8)
+    requires { at < length room.old }
+    ensures { take (at + 1) room.new ≡ take at room.old ++ byte ∷ [] }
+{
+    room[at] = byte;
 }
 
 /// Writes a number in decimal over the bytes from `at` on, and answers where it ends.
@@ -121,12 +130,34 @@ impl PieceBuffer {
         self.filled += part.len();
     }
 
+    /// Adds a byte at the end.
+    fn add_byte(&mut self, byte: u8)
+        requires { length self.old < ROOM }
+        ensures { self.new ≡ self.old ++ byte ∷ [] }
+    {
+        write_byte(&mut self.room, self.filled, byte);
+        self.filled += 1;
+    }
+
     /// Adds a number in decimal at the end.
     pub fn add_number(&mut self, n: u64)
-        requires { length self.old < MAX_PIECE }
-        ensures { self.new ≡ self.old ++ decimal n }
+        requires { length self.old + MAX_DIGITS ≤ ROOM }
+        ensures added { self.new ≡ self.old ++ decimal n }
+        ensures short { length self.new ≤ length self.old + MAX_DIGITS }
     {
         self.filled = write_number(&mut self.room, self.filled, n);
+    }
+
+    /// Adds the end of a line: two numbers in decimal, each after a space, and a line feed.
+    pub fn add_last_two_numbers(&mut self, first: u64, second: u64)
+        requires { length self.old < MAX_PIECE }
+        ensures { self.new ≡ self.old ++ last_two_numbers first second }
+    {
+        self.add_byte(b' ');
+        self.add_number(first);
+        self.add_byte(b' ');
+        self.add_number(second);
+        self.add_byte(b'\n');
     }
 
     /// The first piece.

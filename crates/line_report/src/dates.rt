@@ -16,11 +16,7 @@ fn write_date<K: Sink>(out: &mut Outgoing, sink: &mut K, label: &[u8], job: u32,
         (stream (K.shown sink.new) out.new) (line (label.now ∷ decimal job ∷ decimal date ∷ [])) }
 {
     out.push(sink, label);
-    out.push(sink, b" ");
-    out.push_number(sink, job as u64);
-    out.push(sink, b" ");
-    out.push_number(sink, date);
-    out.push(sink, b"\n");
+    out.push_last_two_numbers(sink, job as u64, date);
 }
 
 /// Writes the dates of all jobs at a station.

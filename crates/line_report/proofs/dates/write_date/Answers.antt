@@ -2,9 +2,4 @@ use Rattle.line_io.proofs.OutgoingLemmas.{pushed_after}
 use Rattle.line_report.proofs.dates.write_date.Goals as goal
 
 pub returns : goal.returns
-returns g c =
-    pushed_after c.push.ensures
-    (pushed_after c.push-2.ensures
-    (pushed_after c.push_number.ensures
-    (pushed_after c.push-3.ensures
-    (pushed_after c.push_number-2.ensures c.push-4.ensures))))
+returns g c = pushed_after c.push.ensures c.push_last_two_numbers.ensures

@@ -1,6 +1,6 @@
 use Rattle.std.proofs.Common.{◌≡◌, ℕ, List, ◌++◌, length}
 use Rattle.line_io.specs.Outgoing.{Pushed, stream}
-use Rattle.line_io.proofs.outgoing.Outgoing.push.Given as goal
+use Rattle.line_io.proofs.outgoing.Outgoing.push_parts.Given as goal
 
 -- what is done was pushed, and the rest is still to go
 abbrev pub invariant-loop-rest : goal.invariant-loop-rest

@@ -1,7 +1,7 @@
 use Rattle.std.proofs.Common.{◌≡◌, ℕ, List, [], ◌++◌, take, drop, refl, append_assoc}
 use Rattle.std.proofs.lemmas.List.{take-append-drop}
 use Rattle.line_io.proofs.OutgoingLemmas.{pushed_none, pushed_after}
-use Rattle.line_io.proofs.outgoing.Outgoing.push.Goals as goal
+use Rattle.line_io.proofs.outgoing.Outgoing.push_parts.Goals as goal
 
 pub loop-rest-init : goal.loop-rest-init
 loop-rest-init g c = ([], refl, pushed_none _)
