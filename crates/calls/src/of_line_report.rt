@@ -22,7 +22,8 @@ fn goes_out(report: &mut Report, sink: &mut MemSink) -> bool {
     report.write(sink).is_ok()
 }
 
-/// What a sink with room for 1,000 bytes holds whose put of this number keeps only `keep` bytes, and whether the report went out whole.
+/// What a sink with room for 1,000 bytes holds whose put of this number keeps only `keep` bytes, and whether the report
+/// went out whole.
 fn written(
     rt: &impl Abort,
     alloc: Global,
