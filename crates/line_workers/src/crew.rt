@@ -131,7 +131,7 @@ impl Crew {
     }
 
     /// Lets one station of the crew make a step. Answers whether it fired.
-    #[inline]
+    #[inline(always)]
     fn step(&mut self, live: &Live, i: u32) -> bool
         requires made_for { live.now ≡ self.old.live }
         requires station { i < length self.old.team.stations }
@@ -149,7 +149,7 @@ impl Crew {
 
     /// Lets the station whose turn comes at a place of the order make a step, behind the gate. Answers whether it
     /// fired.
-    #[inline]
+    #[inline(always)]
     fn turn<G: Gate>(&mut self, live: &Live, gate: &G, place: usize) -> bool
         requires made_for { live.now ≡ self.old.live }
         requires place { place < length self.old.order }

@@ -5,15 +5,15 @@ use denote.Param.SendFields.{as_row_send, declared_send}
 use Rattle.std.proofs.Crossing.{crosses, Vec-send}
 use Rattle.line_base.specs.contracts.log.Log as Log
 use Rattle.line_base.specs.contracts.log.Log.TheInside as LogInside
-use Rattle.station_step.specs.contracts.ends.Outlet as Outlet
-use Rattle.station_step.specs.contracts.input.Input as Input
+use Rattle.station_step.specs.contracts.noted.NotedInput as NotedInput
+use Rattle.station_step.specs.contracts.noted.NotedOutlet as NotedOutlet
 use Rattle.station_step.specs.contracts.shelf.Shelf as Shelf
 use Rattle.station_step.specs.contracts.shelf.Shelf.TheInside as ShelfInside
 use Rattle.station_step.specs.contracts.station.Station as Station
 use Rattle.station_step.specs.contracts.station.Station.TheInside as StationInside
 use Rattle.station_step.specs.contracts.tally.Tally as Tally
-use Rattle.station_step.proofs.ends.Outlet.TheSendSync as OutletSent
-use Rattle.station_step.proofs.input.Input.TheSendSync as InputSent
+use Rattle.station_step.proofs.noted.NotedInput.TheSendSync as InputSent
+use Rattle.station_step.proofs.noted.NotedOutlet.TheSendSync as OutletSent
 use Rattle.station_step.proofs.tally.Tally.TheSendSync as TallySent
 
 log_send : IsSend Log.the_row
@@ -41,27 +41,24 @@ station_fields =
     declared_send StationInside.the_type (
       search sendable,
       (
-        Vec-send Input.the_row (as_row_send Input.the_field InputSent.the_field_send),
+        Vec-send NotedInput.the_row (as_row_send NotedInput.the_field InputSent.the_field_send),
         (
-          Vec-send _ (as_row_send Outlet.the_field OutletSent.the_field_send),
+          Vec-send NotedOutlet.the_row (as_row_send NotedOutlet.the_field OutletSent.the_field_send),
           (
-            search sendable depth 12,
+            search sendable,
             (
               search crosses,
               (
-                search crosses,
+                search sendable,
                 (
-                  search sendable,
+                  log_send,
                   (
-                    log_send,
+                    search sendable,
                     (
                       search sendable,
                       (
-                        search sendable,
-                        (
-                          search crosses,
-                          tt,
-                        ),
+                        search crosses,
+                        tt,
                       ),
                     ),
                   ),

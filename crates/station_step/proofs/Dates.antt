@@ -1,6 +1,6 @@
 -- The date of a job over the tokens of its inputs.
-use Rattle.std.proofs.Common.{◌≡◌, ℕ, zero, suc, ◌+◌, ◌<◌, ◌≤◌, max, cond, List, length, get_or, set, refl, sym, ap, ◌∙◌, arith, get_or-set_same, get_or-set_other}
-use Rattle.std.specs.Prelude.{All, Bool, None, slice_index, slice_index_or, if◌then◌else◌, nat_eq, ◌==◌, false, unwrap_or}
+use Rattle.std.proofs.Common.{◌≡◌, ℕ, zero, suc, ◌+◌, ◌<◌, ◌≤◌, max, List, length, set, refl, sym, ap, ◌∙◌, arith, get_or-set_same, get_or-set_other}
+use Rattle.std.specs.Prelude.{None, slice_index, slice_index_or, if◌then◌else◌, nat_eq, ◌==◌, unwrap_or}
 use Rattle.std.specs.List.{range_with_len}
 use Rattle.std.specs.Ordering.{ord_max, nat_cmp}
 use Rattle.std.proofs.lemmas.List.{get_or-map}
@@ -9,7 +9,7 @@ use Rattle.line_base.specs.declared.times.Times.{Times}
 use Rattle.line_base.specs.declared.times.Times.TheVariants.{Fixed, Each}
 use Rattle.line_base.specs.Times.{time_at}
 use Rattle.line_base.specs.declared.event.Parts.{Parts}
-use Rattle.event_graph.specs.Network.{arc, ins, outs, demand, delay, time, EndsAt}
+use Rattle.event_graph.specs.Network.{ins, outs, demand, delay, time}
 use Rattle.event_graph.specs.Varying.{IsList, Varies}
 use Rattle.event_graph.specs.Term.{work}
 use Rattle.event_graph.specs.Firing.{greatest}
@@ -17,7 +17,7 @@ use Rattle.station_step.specs.declared.ends.Inlet.TheVariants.{Local}
 use Rattle.station_step.specs.declared.input.Input.{Input}
 use Rattle.station_step.specs.Input.{input_at}
 use Rattle.station_step.specs.Kept.{saturating, asked, date_for}
-use Rattle.station_step.specs.Noted.{worked_into, delays_from}
+use Rattle.station_step.specs.Noted.{extras_into, delays_from}
 use Rattle.station_step.specs.Refilled.{hand_asks}
 
 -- the feed's date, and the latest that the tokens of every other station ask for
@@ -34,22 +34,15 @@ pub time-fixed : (g : Parts) (t n m : ℕ) → (Varies g t → ⊥) → time g t
 unfolding time
 time-fixed g t n m no_list = one_time (slice_index_or g.times t (Fixed 0)) no_list n m
 
--- whether the arc of input k is worked, as it is noted
-pub worked-noted : (g : Parts) (t k : ℕ) (worked : List Bool) → k < length (ins g t) → worked ≡ worked_into g t → get_or worked k false ≡ (arc g (slice_index (ins g t) k)).worked
-worked-noted g t k worked low is =
-    ap (λ (l : List Bool). get_or l k false) is ∙ get_or-map (λ a. (arc g a).worked) (ins g t) k 0 false low
-
 -- the delay of the arc of output k, as it is noted
 pub delay-noted : (g : Parts) (t k : ℕ) (delays : List ℕ) → k < length (outs g t) → delays ≡ delays_from g t → slice_index delays k ≡ delay g (slice_index (outs g t) k)
 delay-noted g t k delays low is =
     ap (λ (l : List ℕ). slice_index l k) is ∙ get_or-map (delay g) (outs g t) k 0 0 low
 
--- what the token on input k asks for, by whether its arc is worked and the job's time
-pub asked-is : (g : Parts) (t job k token takes : ℕ) (worked : Bool) → worked ≡ (arc g (slice_index (ins g t) k)).worked → (arc g (slice_index (ins g t) k)).to ≡ t → takes ≡ time g t job → saturating token (if worked then takes else 0) ≡ asked g t job (λ _. token) k
-unfolding work
-asked-is g t job k token takes worked worked_is to takes_is =
-    ap (λ b. saturating token (cond b takes 0)) worked_is
-    ∙ ap (λ n. saturating token (cond (arc g (slice_index (ins g t) k)).worked n 0)) (takes_is ∙ ap (λ n. time g n job) (sym to))
+-- what a job adds to the token on input k, as it is noted
+pub extra-noted : (g : Parts) (t job k : ℕ) (extras : List ℕ) → k < length (ins g t) → extras ≡ extras_into g t job → slice_index extras k ≡ work g (slice_index (ins g t) k) job
+extra-noted g t job k extras low is =
+    ap (λ (l : List ℕ). slice_index l k) is ∙ get_or-map (λ a. work g a job) (ins g t) k 0 0 low
 
 -- the greatest over one input more
 greatest-more : (f : ℕ → ℕ) (k n : ℕ) → greatest f (range_with_len k (suc n)) ≡ max (greatest f (range_with_len k n)) (f (k + n))
@@ -86,19 +79,19 @@ unfolding greatest
 latest-none f = refl
 
 -- the latest that they ask for, where one input more is refilled
-pub latest-more : (worked : List Bool) (takes k : ℕ) (inputs : List Input) (input : Input) (latest asks : ℕ) → k < length inputs → latest ≡ greatest (hand_asks worked takes inputs) (range_with_len 0 k) → asks ≡ saturating (unwrap_or input.hand 0) (if get_or worked k false then takes else 0) → ord_max nat_cmp latest asks ≡ greatest (hand_asks worked takes (set inputs k input)) (range_with_len 0 (k + 1))
-latest-more worked takes k inputs input latest asks low is asks_is =
+pub latest-more : (extras : List ℕ) (k : ℕ) (inputs : List Input) (input : Input) (latest asks : ℕ) → k < length inputs → latest ≡ greatest (hand_asks extras inputs) (range_with_len 0 k) → asks ≡ saturating (unwrap_or input.hand 0) (slice_index extras k) → ord_max nat_cmp latest asks ≡ greatest (hand_asks extras (set inputs k input)) (range_with_len 0 (k + 1))
+latest-more extras k inputs input latest asks low is asks_is =
     let d : Input = record { inlet = Local 0; hand = None } in
-    let new = hand_asks worked takes (set inputs k input) in
-    let before : greatest (hand_asks worked takes inputs) (range_with_len 0 k) ≡ greatest new (range_with_len 0 k) =
-    greatest-agree (hand_asks worked takes inputs) new 0 k
+    let new = hand_asks extras (set inputs k input) in
+    let before : greatest (hand_asks extras inputs) (range_with_len 0 k) ≡ greatest new (range_with_len 0 k) =
+    greatest-agree (hand_asks extras inputs) new 0 k
     (λ j from to.
-    ap (λ (i : Input). saturating (unwrap_or i.hand 0) (if get_or worked j false then takes else 0))
+    ap (λ (i : Input). saturating (unwrap_or i.hand 0) (slice_index extras j))
     (sym (get_or-set_other inputs k j input d (λ e. absurd (omega (arith, e, to)))))) in
     let at : k ≡ 0 + k = omega arith in
     let here : asks ≡ new (0 + k) =
     asks_is
-    ∙ ap (λ (i : Input). saturating (unwrap_or i.hand 0) (if get_or worked k false then takes else 0)) (sym (get_or-set_same inputs k input d low))
+    ∙ ap (λ (i : Input). saturating (unwrap_or i.hand 0) (slice_index extras k)) (sym (get_or-set_same inputs k input d low))
     ∙ ap new at in
     let next : suc k ≡ k + 1 = omega arith in
     ord_max-nat latest asks
@@ -108,11 +101,9 @@ latest-more worked takes k inputs input latest asks low is asks_is =
     ∙ ap (λ m. greatest new (range_with_len 0 m)) next
 
 -- it is what the arcs of the graph ask for
-pub latest-is : (g : Parts) (t job takes : ℕ) (worked : List Bool) (inputs : List Input) → length inputs ≡ length (ins g t) → worked ≡ worked_into g t → takes ≡ time g t job → All (EndsAt g t) (ins g t) → greatest (hand_asks worked takes inputs) (range_with_len 0 (length inputs)) ≡ greatest (asked g t job (λ k. unwrap_or (input_at inputs k).hand 0)) (range_with_len 0 (length (ins g t)))
-latest-is g t job takes worked inputs each noted takes_is ends =
+pub latest-is : (g : Parts) (t job : ℕ) (extras : List ℕ) (inputs : List Input) (count : ℕ) → count ≡ length (ins g t) → extras ≡ extras_into g t job → greatest (hand_asks extras inputs) (range_with_len 0 count) ≡ greatest (asked g t job (λ k. unwrap_or (input_at inputs k).hand 0)) (range_with_len 0 (length (ins g t)))
+latest-is g t job extras inputs count each noted =
     let token : ℕ → ℕ = λ k. unwrap_or (input_at inputs k).hand 0 in
-    ap (λ n. greatest (hand_asks worked takes inputs) (range_with_len 0 n)) each
-    ∙ greatest-agree (hand_asks worked takes inputs) (asked g t job token) 0 (length (ins g t))
-    (λ k from to.
-    let low : k < length (ins g t) = omega (arith, to) in
-    asked-is g t job k (token k) takes (get_or worked k false) (worked-noted g t k worked low noted) (ends k 0 low).1 takes_is)
+    ap (λ n. greatest (hand_asks extras inputs) (range_with_len 0 n)) each
+    ∙ greatest-agree (hand_asks extras inputs) (asked g t job token) 0 (length (ins g t))
+    (λ k from to. ap (saturating (token k)) (extra-noted g t job k extras (omega (arith, to)) noted))

@@ -1,5 +1,5 @@
 -- The hands of a station while they are emptied, one after the other.
-use Rattle.std.proofs.Common.{◌≡◌, ◌≢◌, ℕ, ◌+◌, ◌<◌, ◌≤◌, List, length, set, map, sym, ap, ◌∙◌, arith, ⊎_elim, get_or-set_same, get_or-set_other}
+use Rattle.std.proofs.Common.{◌≡◌, ◌≢◌, ℕ, ◌+◌, ◌<◌, ◌≤◌, List, length, set, map, refl, sym, ap, ◌∙◌, arith, ⊎_elim, get_or-set_same, get_or-set_other}
 use Rattle.std.specs.Prelude.{None}
 use Rattle.std.proofs.Math.Seq.{map-set_same}
 use Rattle.std.proofs.lemmas.Bool.{cases_eq}
@@ -17,6 +17,16 @@ pub record EmptiedUpTo (k : ℕ) (before after : List Input) : Type 0 where
   pub same : map bare_input after ≡ map bare_input before
   pub hands : (j : ℕ) → j < k → (input_at after j).hand ≡ None
   pub rest : (j : ℕ) → k ≤ j → input_at after j ≡ input_at before j
+
+-- none is emptied yet
+pub emptied_none : (inputs : List Input) → EmptiedUpTo 0 inputs inputs
+emptied_none inputs = record {
+  count = refl;
+  inlets = λ j. refl;
+  same = refl;
+  hands = λ j lt. absurd (omega (arith, lt));
+  rest = λ j le. refl;
+}
 
 -- the next hand is emptied
 pub emptied_more : (k : ℕ) (before after : List Input) (input : Input) → k < length after → EmptiedUpTo k before after → input.inlet ≡ (input_at after k).inlet → input.hand ≡ None → EmptiedUpTo (k + 1) before (set after k input)

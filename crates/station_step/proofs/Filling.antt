@@ -35,6 +35,18 @@ Grows-trans old mid new first next q = (
       ∙ (next q).1,
 )
 
+-- none got a token yet
+pub filled_none : (tokens : ℕ → ℕ) (shelf : List PlainQueue) (outlets : List Outlet) → FilledUpTo 0 tokens shelf shelf outlets outlets
+filled_none tokens shelf outlets = record {
+  count = refl;
+  same = refl;
+  done = λ j lt. absurd (omega (arith, lt));
+  rest = λ j le. refl;
+  only_puts = record { count = refl; takes = λ q. refl; taken = λ q. refl };
+  grows = Grows-refl shelf;
+  others = λ q none. refl;
+}
+
 -- a put adds to its own queue, and no other changes
 grows-elsewhere : (mid new : List PlainQueue) (q : ℕ) → queue_at new q ≡ queue_at mid q → IsPrefix (queue_at mid q).added (queue_at new q).added
 grows-elsewhere mid new q same =

@@ -9,7 +9,7 @@ use mathlib.Core.List.{IsPrefix}
 use Rattle.line_base.specs.declared.event.Parts.{Parts}
 use Rattle.line_base.specs.Roomy.{RoomyLog, with_date}
 use Rattle.card_queue.specs.Plain.{PlainQueue, plain_taken, plain_waiting}
-use Rattle.event_graph.specs.Network.{jobs, delay, ins, outs}
+use Rattle.event_graph.specs.Network.{stations, jobs, delay, ins, outs}
 use Rattle.station_step.specs.declared.ends.Inlet.{Inlet}
 use Rattle.station_step.specs.declared.ends.Outlet.{Outlet}
 use Rattle.station_step.specs.declared.ends.Inlet.TheVariants as inlet
@@ -18,7 +18,7 @@ use Rattle.station_step.specs.declared.input.Input.{Input}
 use Rattle.station_step.specs.Shelf.{queue_at, unused, OnlyTakes, OnlyPuts}
 use Rattle.station_step.specs.Ends.{inlet_taken, inlet_ahead, inlet_queue, outlet_added, outlet_room, outlet_queue, bare_inlet, unseen_inlet, bare_outlet, unseen_outlet, IsUntaken, IsUnfilled, HasRingRoom, HasShelfRoom}
 use Rattle.station_step.specs.Input.{empty_handed, input_at, IsHeld, IsRefilled, NoneTakes}
-use Rattle.station_step.specs.Station.{WorkStation, firings, outlet_at, NonePuts, AreApart, IsStation, IsSeated, MayPut, bare_input, new_station}
+use Rattle.station_step.specs.Station.{new_station, WorkStation, firings, outlet_at, NonePuts, AreApart, IsStation, IsSeated, MayPut, bare_input}
 use Rattle.station_step.specs.Kept.{IsKept, IsFresh, date_for, token_for, saturating, sent}
 use Rattle.station_step.specs.Step.{MovesItsOwn, Grows, IsReady}
 use Rattle.station_step.proofs.OwnQueues.{input-same, outlet-same, inlet_queue-same, outlet_queue-same, bare-unseen, taken-unseen}
@@ -452,6 +452,10 @@ met_station s j inlet hand = record s { inputs = set s.inputs j (record { inlet 
 abbrev no_input : Input
 no_input = record { inlet = inlet.Local 0; hand = None }
 
+pub station-met : (s : WorkStation) (j : ℕ) (i : Inlet) (hand : Option ℕ) → IsStation s → IsStation (met_station s j i hand)
+station-met s j i hand sound =
+    station-waits s (set s.inputs j (record { inlet = i; hand = hand })) s.turns (length-set s.inputs j (record { inlet = i; hand = hand })) sound
+
 pub bare-met : (inputs : List Input) (j : ℕ) (i : Inlet) (hand : Option ℕ) → unseen_inlet i ≡ unseen_inlet (input_at inputs j).inlet → map bare_input (set inputs j (record { inlet = i; hand = hand })) ≡ map bare_input inputs
 bare-met inputs j i hand same =
     let bare : bare_inlet i ≡ bare_inlet (input_at inputs j).inlet =
@@ -523,6 +527,17 @@ room-fresh shelf (outlet.Local q) all made ring local = local
 -- its inlets, and its hands
 fresh-input : (inlets : List Inlet) (k : ℕ) → input_at (map empty_handed inlets) k ≡ empty_handed (get_or inlets k (inlet.Local 0))
 fresh-input inlets k = get_or-map empty_handed inlets k (inlet.Local 0)
+
+pub station-new : (g : Parts) (t : ℕ) (inlets : List Inlet) (outlets : List Outlet) (log : RoomyLog) → t < stations g → length inlets ≡ length (ins g t) → length outlets ≡ length (outs g t) → length log.dates ≤ jobs g → jobs g ≤ log.room → ((k : ℕ) → k < length outlets → HasRingRoom (jobs g - length log.dates) (outlet_at outlets k)) → IsStation (new_station g t inlets outlets log)
+station-new g t inlets outlets log exists inlet_each outlet_each few room ring = record {
+  exists = exists;
+  an_input_each = length-map inlets empty_handed ∙ inlet_each;
+  an_outlet_each = outlet_each;
+  made = omega arith;
+  few_dates = few;
+  log_room = room;
+  ring_room = ring;
+}
 
 pub kept-fresh : (g : Parts) (t : ℕ) (inlets : List Inlet) (outlets : List Outlet) (log : RoomyLog) → All IsUntaken inlets → All IsUnfilled outlets → ((k : ℕ) → k < length outlets → HasRingRoom (jobs g - length log.dates) (outlet_at outlets k)) → (shelf : List PlainQueue) → IsFresh shelf (new_station g t inlets outlets log) → IsKept shelf (new_station g t inlets outlets log)
 kept-fresh g t inlets outlets log untaken unfilled ring_room shelf fresh =

@@ -1,13 +1,14 @@
 -- The tallies of a new shelf, while the first tokens of its queues are laid one after the other.
-use Rattle.std.proofs.Common.{◌≡◌, ℕ, ◌+◌, ◌-◌, ◌*◌, ◌^◌, ◌<◌, ◌≤◌, List, [], ◌∷◌, ◌++◌, length, map, take, drop, refl, sym, ap, ◌∙◌, subst, arith, ⊎_elim, length-append, length-drop}
+use Rattle.std.proofs.Common.{◌≡◌, ℕ, ◌+◌, ◌-◌, ◌*◌, ◌/◌, ◌^◌, ◌<◌, ◌≤◌, List, [], ◌∷◌, ◌++◌, length, map, take, drop, refl, sym, ap, ◌∙◌, subst, arith, ⊎_elim, length-append, length-drop}
 use Rattle.std.specs.Prelude.{Vec, slice_index_or}
 use Rattle.std.specs.declared.alloc.Global.{Global}
 use Rattle.std.proofs.lemmas.List.{get_or_append_left, get_or_push, get_or-map, ext_get_or, drop_at, take_all, length-map, drop-append-le, take-append-le}
+use Rattle.std.proofs.lemmas.Nat.{div-mul-add}
 use Rattle.std.proofs.lemmas.Bool.{cases_lt}
 use Rattle.card_queue.specs.Plain.{PlainQueue}
 use Rattle.station_step.specs.declared.tally.Tally.{Tally}
 use Rattle.station_step.specs.Shelf.{new_queue}
-use Rattle.station_step.specs.Table.{no_tally, tally_at, seen_queue, seen_shelf, IsTable}
+use Rattle.station_step.specs.Table.{no_tally, tally_at, column, seen_shelf, IsTable, puts_of, rows_taken, takes_of}
 use Rattle.station_step.proofs.Tables.{length-seen, queue-seen}
 
 -- a new queue in column q, whose first tokens stand among these
@@ -15,8 +16,7 @@ pub record IsLaid (q : ℕ) (first tokens : List ℕ) (tally : Tally) : Type 0 w
   pub began : tally.start + tally.initial ≤ length tokens
   pub initial : tally.initial ≡ length first
   pub stand : take tally.initial (drop tally.start tokens) ≡ first
-  pub puts : tally.puts ≡ 0
-  pub takes : tally.takes ≡ 0
+  pub firsts_taken : tally.firsts_taken ≡ 0
   pub next_put : tally.put_place ≡ q
   pub next_take : tally.take_place ≡ q
 
@@ -35,8 +35,7 @@ laid-longer q first tokens more tally is =
       stand = ap (take tally.initial) (drop-append-le tally.start tokens more (omega (arith, is.began)))
           ∙ take-append-le tally.initial (drop tally.start tokens) more (omega (arith, is.began, before))
           ∙ is.stand;
-      puts = is.puts;
-      takes = is.takes;
+      firsts_taken = is.firsts_taken;
       next_put = is.next_put;
       next_take = is.next_take;
     }
@@ -44,7 +43,7 @@ laid-longer q first tokens more tally is =
 -- its tally
 abbrev pub new_tally : ℕ → ℕ → ℕ → Tally
 new_tally q start initial =
-    record { start = start; put_place = q; take_place = q; initial = initial; puts = 0; takes = 0 }
+    record { start = start; put_place = q; take_place = q; initial = initial; firsts_taken = 0 }
 
 -- the next queue is laid
 pub laid_more : (n : ℕ) (firsts : List (List ℕ)) (tokens first : List ℕ) (tallies : List Tally) → first ≡ slice_index_or firsts n [] → LaidUpTo n firsts tokens tallies → LaidUpTo (n + 1) firsts (tokens ++ first) (tallies ++ new_tally n (length tokens) (length first) ∷ [])
@@ -58,8 +57,7 @@ laid_more n firsts tokens first tallies first_is laid =
       stand = ap (take (length first)) (drop_at tokens first (length tokens) refl)
           ∙ take_all (length first) first (omega arith)
           ∙ first_is;
-      puts = refl;
-      takes = refl;
+      firsts_taken = refl;
       next_put = refl;
       next_take = refl;
     } in
@@ -77,6 +75,12 @@ laid_more n firsts tokens first tallies first_is laid =
           (cases_lt q n);
     }
 
+-- its places are in row 0
+first_row : (w q place : ℕ) → q < w → place ≡ q → place / w ≡ 0
+first_row w q place low is =
+    let first : place ≡ 0 * w + q = omega (arith, is) in
+    ap (λ n. n / w) first ∙ div-mul-add 0 w q low
+
 -- the shelf of all of them
 pub seen-laid : (firsts : List (List ℕ)) (tokens table : List ℕ) (room : ℕ) (tallies : List Tally) → LaidUpTo (length firsts) firsts tokens tallies → seen_shelf tokens table room tallies ≡ map (new_queue room) firsts
 seen-laid firsts tokens table room tallies laid =
@@ -89,17 +93,21 @@ seen-laid firsts tokens table room tallies laid =
     let low : q < length firsts = omega (arith, there, count) in
     let tally = tally_at tallies q in
     let is = laid.each q low in
+    let w = length tallies in
+    let below : q < w = omega (arith, low, laid.count) in
+    let first = slice_index_or firsts q [] in
+    let takes : takes_of w tally ≡ 0 = omega (arith, is.firsts_taken, first_row w q tally.take_place below is.next_take) in
     let queue : ℕ → ℕ → List ℕ → PlainQueue =
     λ puts takes initial. record {
       initial = initial;
-      added = (seen_queue tokens table room (length tallies) q (record tally { puts = puts })).added;
+      added = column table w q puts;
       room = room;
       takes = takes;
     } in
-    queue-seen tokens table room tallies q (omega (arith, low, laid.count))
-    ∙ ap (queue tally.puts tally.takes) is.stand
-    ∙ ap (λ n. queue tally.puts n (slice_index_or firsts q [])) is.takes
-    ∙ ap (λ n. queue n 0 (slice_index_or firsts q [])) is.puts
+    queue-seen tokens table room tallies q below
+    ∙ ap (queue (puts_of w tally) (takes_of w tally)) is.stand
+    ∙ ap (λ n. queue (puts_of w tally) n first) takes
+    ∙ ap (λ n. queue n 0 first) (first_row w q tally.put_place below is.next_put)
     ∙ sym (get_or-map (new_queue room) firsts q [] none low))
 
 -- its table is sound
@@ -107,21 +115,23 @@ pub table-laid : (firsts : List (List ℕ)) (tokens table : List ℕ) (room : �
 table-laid firsts tokens table room tallies small full laid = record {
   full = full ∙ ap (λ n. n * room) (sym laid.count);
   each = λ q low.
-      let below : q < length firsts = omega (arith, low, laid.count) in
-      let is = laid.each q below in
-      let fits = small q below in
+      let there : q < length firsts = omega (arith, low, laid.count) in
+      let is = laid.each q there in
+      let fits = small q there in
       let tally = tally_at tallies q in
       let w = length tallies in
-      let put_row : 0 ≡ tally.puts = sym is.puts in
-      let take_row : 0 ≡ tally.takes - tally.initial = omega (arith, is.takes) in
-      let first : q ≡ 0 * w + q = omega arith in
+      let puts : puts_of w tally ≡ 0 = first_row w q tally.put_place low is.next_put in
+      let rows : rows_taken w tally ≡ 0 = first_row w q tally.take_place low is.next_take in
+      let place : q ≡ 0 * w + q = omega arith in
       record {
         began = is.began;
-        within = omega (arith, is.puts);
-        taken = omega (arith, is.takes);
+        within = omega (arith, puts);
+        few_firsts = omega (arith, is.firsts_taken);
+        taken = omega (arith, rows);
+        firsts_first = λ _. rows;
         counted = omega (arith, is.initial, fits);
-        next_put = is.next_put ∙ first ∙ ap (λ n. n * w + q) put_row;
-        next_take = is.next_take ∙ first ∙ ap (λ n. n * w + q) take_row;
+        next_put = is.next_put ∙ place ∙ ap (λ n. n * w + q) (sym puts);
+        next_take = is.next_take ∙ place ∙ ap (λ n. n * w + q) (sym rows);
       };
 }
 

@@ -5,6 +5,7 @@ pub mod Refilling
 pub mod Emptying
 pub mod Looking
 pub mod Filling
+pub mod Noting
 pub mod Dates
 pub mod Keeping
 pub mod Crossing

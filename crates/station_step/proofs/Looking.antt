@@ -3,7 +3,7 @@
 use Rattle.std.specs.Option.{option_or}
 use Rattle.std.proofs.Common.{◌≡◌, ◌≢◌, ℕ, ◌+◌, ◌<◌, ◌≤◌, List, length, set, map, refl, sym, ap, ◌∙◌, subst, arith, ⊎_elim, get_or-set_same, get_or-set_other}
 use Rattle.std.specs.List.{list_any}
-use Rattle.std.specs.Prelude.{Option, None, Some, Bool, true, false, ◌||◌, [], ◌∷◌, IfNone, IfSome}
+use Rattle.std.specs.Prelude.{Option, None, Some, Bool, true, false, ◌||◌, [], ◌∷◌, IfNone, IfSome, IsTrue}
 use Rattle.std.proofs.Math.Seq.{map-set_same}
 use Rattle.std.proofs.lemmas.Bool.{cases_eq}
 use Rattle.std.proofs.lemmas.List.{length-set}
@@ -15,7 +15,9 @@ use Rattle.station_step.specs.declared.ends.Outlet.TheVariants as outlet
 use Rattle.station_step.specs.Ends.{outlet_added, bare_outlet, unseen_outlet, HasRingRoom, HasShelfRoom, is_bounded, HasSpace, HasNoSpace, HasLooked}
 use Rattle.station_step.specs.Shelf.{OnlyTakes}
 use Rattle.station_step.specs.Station.{outlet_at, NonePuts}
-use Rattle.station_step.specs.Noted.{IsNoted}
+use Rattle.station_step.specs.declared.noted.NotedInput.{NotedInput}
+use Rattle.station_step.specs.declared.noted.NotedOutlet.{NotedOutlet}
+use Rattle.station_step.specs.Noted.{IsNoted, extras_of, outlets_of, delays_of}
 use Rattle.station_step.proofs.OwnQueues.{outlet_queue-same}
 
 -- ---- one outlet, with and without what it has seen
@@ -114,16 +116,17 @@ any_bounded-bare (o ∷ outlets) =
     ap (λ (b : Bool). b || list_any is_bounded (map bare_outlet outlets)) (bounded-bare o)
     ∙ ap (λ (b : Bool). is_bounded o || b) (any_bounded-bare outlets)
 
--- what a station notes stays where its outlets are the same but for their tokens and what they have seen
-pub noted-same : (g : Parts) (t : ℕ) (before after : List Outlet) (fixed : Option ℕ) (worked : List Bool) (delays : List ℕ) (bounded : Bool) → map bare_outlet after ≡ map bare_outlet before → IsNoted g t before fixed worked delays bounded → IsNoted g t after fixed worked delays bounded
-noted-same g t before after fixed worked delays bounded same noted = record {
-  fixed_is = noted.fixed_is;
+-- what a station notes stays where beside its inputs and outlets all stands as before, and its outlets are the same but
+-- for their tokens and what they have seen
+pub noted-same : (g : Parts) (t : ℕ) (before after : List NotedInput) (outlets outlets' : List NotedOutlet) (fixed : Bool) (worked : List Bool) (bounded : Bool) → (IsTrue fixed → extras_of after ≡ extras_of before) → delays_of outlets' ≡ delays_of outlets → map bare_outlet (outlets_of outlets') ≡ map bare_outlet (outlets_of outlets) → IsNoted g t before outlets fixed worked bounded → IsNoted g t after outlets' fixed worked bounded
+noted-same g t before after outlets outlets' fixed worked bounded extras delays same noted = record {
+  extras_are = λ is job. extras is ∙ noted.extras_are is job;
   worked_is = noted.worked_is;
-  delays_is = noted.delays_is;
+  delays_are = delays ∙ noted.delays_are;
   bounded_is = noted.bounded_is
-      ∙ sym (any_bounded-bare before)
+      ∙ sym (any_bounded-bare (outlets_of outlets))
       ∙ ap (list_any is_bounded) (sym same)
-      ∙ any_bounded-bare after;
+      ∙ any_bounded-bare (outlets_of outlets');
 }
 
 has_space : (o : Outlet) → (is_bounded o ≡ true → ⊥) → HasSpace o
@@ -157,6 +160,15 @@ pub record LookedUpTo (k : ℕ) (before after : List Outlet) : Type 0 where
   pub done : (j : ℕ) → j < k → HasLooked (outlet_at before j) (outlet_at after j)
   pub rest : (j : ℕ) → k ≤ j → outlet_at after j ≡ outlet_at before j
 
+-- none has looked yet
+pub looked_none : (outlets : List Outlet) → LookedUpTo 0 outlets outlets
+looked_none outlets = record {
+  count = refl;
+  same = refl;
+  done = λ j lt. absurd (omega (arith, lt));
+  rest = λ j le. refl;
+}
+
 pub at-set : (outlets : List Outlet) (k : ℕ) (o : Outlet) → k < length outlets → outlet_at (set outlets k o) k ≡ o
 at-set outlets k o low = get_or-set_same outlets k o no_outlet low
 
@@ -185,6 +197,9 @@ pub record IsFirstFull (k : ℕ) (found : Option ℕ) (outlets : List Outlet) : 
   pub there : IfSome found (λ i. i < k)
   pub full : IfSome found (λ i. HasNoSpace (outlet_at outlets i))
   pub first : IfSome found (λ i. (j : ℕ) → j < i → HasSpace (outlet_at outlets j))
+
+pub first-none : (outlets : List Outlet) → IsFirstFull 0 None outlets
+first-none outlets = record { none = λ j lt. absurd (omega (arith, lt)); there = tt; full = tt; first = tt }
 
 -- where one was found, the outlets behind it say nothing
 found_stays : (k i : ℕ) (outlets : List Outlet) (o : Outlet) → IsFirstFull k (Some i) outlets → IsFirstFull (k + 1) (Some i) (set outlets k o)

@@ -104,8 +104,8 @@ first-none inputs = record { none = λ j lt. absurd (omega (arith, lt)); there =
 before-set : (inputs : List Input) (k j : ℕ) (input : Input) → j < k → input_at (set inputs k input) j ≡ input_at inputs j
 before-set inputs k j input lt = get_or-set_other inputs k j input (record { inlet = Local 0; hand = None }) (λ e. absurd (omega (arith, e)))
 
-at-set : (inputs : List Input) (k : ℕ) (input : Input) → k < length inputs → input_at (set inputs k input) k ≡ input
-at-set inputs k input low = get_or-set_same inputs k input (record { inlet = Local 0; hand = None }) low
+pub input_at-set : (inputs : List Input) (k : ℕ) (input : Input) → k < length inputs → input_at (set inputs k input) k ≡ input
+input_at-set inputs k input low = get_or-set_same inputs k input (record { inlet = Local 0; hand = None }) low
 
 -- where one was found, the inputs behind it say nothing
 found_stays : (k i : ℕ) (inputs : List Input) (input : Input) → IsFirstEmpty k (Some i) inputs → IsFirstEmpty (k + 1) (Some i) (set inputs k input)
@@ -127,7 +127,7 @@ first-empty k (Some i) inputs input low empty is = found_stays k i inputs input 
 first-empty k None inputs input low empty is = record {
   none = tt;
   there = omega arith;
-  empty = ap (λ (l : Input). l.hand) (at-set inputs k input low) ∙ no_token input.hand empty;
+  empty = ap (λ (l : Input). l.hand) (input_at-set inputs k input low) ∙ no_token input.hand empty;
   first = λ j lt. subst (λ (l : Input). IsSome l.hand) (sym (before-set inputs k j input lt)) (is.none j lt);
 }
 
@@ -139,7 +139,7 @@ first-full k None inputs input low full is = record {
       ⊎_elim
       (λ (e : j ≡ k).
       subst (λ (n : ℕ). IsSome (input_at (set inputs k input) n).hand) (sym e)
-      (subst (λ (l : Input). IsSome l.hand) (sym (at-set inputs k input low)) full))
+      (subst (λ (l : Input). IsSome l.hand) (sym (input_at-set inputs k input low)) full))
       (λ (ne : j ≢ k).
       subst (λ (l : Input). IsSome l.hand) (sym (before-set inputs k j input (omega arith))) (is.none j (omega arith)))
       (cases_eq j k);

@@ -1,5 +1,5 @@
 -- What came of a refill of a station's hands: only the station itself reads these words.
-use Rattle.std.specs.Prelude.{ℕ, Bool, false, List, ⊤, if◌then◌else◌, slice_index_or, unwrap_or}
+use Rattle.std.specs.Prelude.{ℕ, List, ⊤, slice_index, unwrap_or}
 use Rattle.station_step.specs.declared.input.Input.{Input}
 use Rattle.station_step.specs.declared.refilled.Refilled.{Refilled}
 use Rattle.station_step.specs.declared.refilled.Refilled.TheVariants.{Full, Empty}
@@ -16,7 +16,6 @@ abbrev pub IfEmpty : Refilled → (ℕ → Type 0) → Type 0
 IfEmpty (Full date) holds = ⊤
 IfEmpty (Empty k) holds = holds k
 
--- what the token in the hand of input k asks of the date of a job that takes so long
-abbrev pub hand_asks : List Bool → ℕ → List Input → ℕ → ℕ
-hand_asks worked takes inputs k =
-    saturating (unwrap_or (input_at inputs k).hand 0) (if slice_index_or worked k false then takes else 0)
+-- what the token in the hand of input k asks of the date of a job that adds this to the token on each input
+abbrev pub hand_asks : List ℕ → List Input → ℕ → ℕ
+hand_asks extras inputs k = saturating (unwrap_or (input_at inputs k).hand 0) (slice_index extras k)

@@ -3,66 +3,71 @@ ghost use Rattle.std.specs.List.{range_with_len};
 ghost use Rattle.event_graph.specs.Network.{jobs, demand};
 ghost use Rattle.event_graph.specs.Firing.{greatest};
 ghost use Rattle.station_step.specs.Shelf.{queue_at, OnlyTakes};
-ghost use Rattle.station_step.specs.Input.{empty_handed, input_at, IsRefilled, TakeWithin, TakeApart, NoneTakes};
+ghost use Rattle.station_step.specs.Input.{input_at, IsRefilled, TakeWithin, TakeApart, NoneTakes};
 ghost use Rattle.station_step.specs.Station.{bare_input};
-ghost use Rattle.station_step.specs.Kept.{saturating};
+ghost use Rattle.station_step.specs.Noted.{inputs_of, extras_of, unnoted};
 ghost use Rattle.station_step.specs.Refilled.{IfFull, IfEmpty, hand_asks};
 
 use crate::ends::Inlet;
 use crate::input::Input;
+use crate::noted::NotedInput;
 use crate::refilled::Refilled;
 use crate::shelf::Shelf;
 use event_graph::Graph;
 use line_base::Date;
 use std::alloc::{AllocError, Global};
 
-/// An input with an empty hand for each inlet.
-pub(crate) fn with_empty_hands(alloc: Global, inlets: Vec<Inlet>) -> Result<Vec<Input>, AllocError>
-    ensures { IfOk result (λ inputs. inputs.items ≡ map empty_handed inlets.items) }
+/// An input with an empty hand for each inlet. No job time is noted yet.
+pub(crate) fn with_empty_hands(
+    alloc: Global,
+    inlets: Vec<Inlet>,
+) -> Result<Vec<NotedInput>, AllocError>
+    ensures { IfOk result (λ inputs. inputs.items ≡ map unnoted inlets.items) }
 {
     inlets
         .into_iter()
-        .map(|inlet| Input { inlet, hand: None })
+        .map(|inlet| NotedInput {
+            input: Input { inlet, hand: None },
+            extra: 0,
+        })
         .collect(alloc)
 }
 
-/// Takes a token into each empty hand whose inlet gives one. The answer is the greatest date that the tokens in the hands
-/// ask for, where all hands are full then; else the first input whose hand stays empty.
-pub(crate) fn refill(
-    inputs: &mut Vec<Input>,
-    worked: &[bool],
-    time: u64,
-    shelf: &mut Shelf,
-) -> Refilled
-    requires noted { length worked.now ≡ length inputs.old.items }
-    requires within { TakeWithin (length shelf.old) inputs.old.items }
-    requires apart { TakeApart inputs.old.items }
-    ensures count { length inputs.new.items ≡ length inputs.old.items }
-    ensures same { map bare_input inputs.new.items ≡ map bare_input inputs.old.items }
-    ensures each { (k : ℕ) → k < length inputs.old.items →
-        IsRefilled shelf.old shelf.new (input_at inputs.old.items k) (input_at inputs.new.items k) }
+/// Takes a token into each empty hand whose inlet gives one. Where all hands are full then, the answer is the greatest
+/// date that their tokens ask for, each with what is noted beside its input; else it is the first input whose hand
+/// stays empty.
+pub(crate) fn refill(inputs: &mut Vec<NotedInput>, shelf: &mut Shelf) -> Refilled
+    requires within { TakeWithin (length shelf.old) (inputs_of inputs.old.items) }
+    requires apart { TakeApart (inputs_of inputs.old.items) }
+    ensures count { length (inputs_of inputs.new.items) ≡ length (inputs_of inputs.old.items) }
+    ensures extras { extras_of inputs.new.items ≡ extras_of inputs.old.items }
+    ensures same { map bare_input (inputs_of inputs.new.items) ≡
+        map bare_input (inputs_of inputs.old.items) }
+    ensures each { (k : ℕ) → k < length (inputs_of inputs.old.items) →
+        IsRefilled shelf.old shelf.new (input_at (inputs_of inputs.old.items) k)
+        (input_at (inputs_of inputs.new.items) k) }
     ensures only_takes { OnlyTakes shelf.old shelf.new }
-    ensures others { (q : ℕ) → NoneTakes q inputs.old.items →
+    ensures others { (q : ℕ) → NoneTakes q (inputs_of inputs.old.items) →
         queue_at shelf.new q ≡ queue_at shelf.old q }
-    ensures full { IfFull result (λ _. (k : ℕ) → k < length inputs.new.items →
-        IsSome (input_at inputs.new.items k).hand) }
+    ensures full { IfFull result (λ _. (k : ℕ) → k < length (inputs_of inputs.new.items) →
+        IsSome (input_at (inputs_of inputs.new.items) k).hand) }
     ensures date { IfFull result (λ date. date ≡
-        greatest (hand_asks worked.now time inputs.new.items)
-        (range_with_len 0 (length inputs.new.items))) }
-    ensures there { IfEmpty result (λ k. k < length inputs.new.items) }
-    ensures empty { IfEmpty result (λ k. (input_at inputs.new.items k).hand ≡ None) }
+        greatest (hand_asks (extras_of inputs.new.items) (inputs_of inputs.new.items))
+        (range_with_len 0 (length (inputs_of inputs.new.items)))) }
+    ensures there { IfEmpty result (λ k. k < length (inputs_of inputs.new.items)) }
+    ensures empty { IfEmpty result (λ k. (input_at (inputs_of inputs.new.items) k).hand ≡ None) }
     ensures first { IfEmpty result (λ k. (j : ℕ) → j < k →
-        IsSome (input_at inputs.new.items j).hand) }
+        IsSome (input_at (inputs_of inputs.new.items) j).hand) }
 {
     let mut first = None;
     let mut latest = 0;
     for k in 0..inputs.len() {
-        let input = &mut inputs[k];
-        input.refill(shelf);
-        if input.hand.is_none() {
+        let noted = &mut inputs[k];
+        noted.input.refill(shelf);
+        if noted.input.hand.is_none() {
             first = first.or(Some(k));
         }
-        latest = latest.max(asked_date(worked[k], time, input.hand.unwrap_or(0)));
+        latest = latest.max(noted.input.hand.unwrap_or(0).saturating_add(noted.extra));
     }
     match first {
         None => Refilled::Full(latest),
@@ -71,16 +76,18 @@ pub(crate) fn refill(
 }
 
 /// Takes the tokens out of all hands.
-pub(crate) fn empty_hands(inputs: &mut Vec<Input>)
-    ensures count { length inputs.new.items ≡ length inputs.old.items }
-    ensures inlets { (k : ℕ) →
-        (input_at inputs.new.items k).inlet ≡ (input_at inputs.old.items k).inlet }
-    ensures same { map bare_input inputs.new.items ≡ map bare_input inputs.old.items }
-    ensures hands { (k : ℕ) → k < length inputs.old.items →
-        (input_at inputs.new.items k).hand ≡ None }
+pub(crate) fn empty_hands(inputs: &mut Vec<NotedInput>)
+    ensures count { length (inputs_of inputs.new.items) ≡ length (inputs_of inputs.old.items) }
+    ensures extras { extras_of inputs.new.items ≡ extras_of inputs.old.items }
+    ensures inlets { (k : ℕ) → (input_at (inputs_of inputs.new.items) k).inlet ≡
+        (input_at (inputs_of inputs.old.items) k).inlet }
+    ensures same { map bare_input (inputs_of inputs.new.items) ≡
+        map bare_input (inputs_of inputs.old.items) }
+    ensures hands { (k : ℕ) → k < length (inputs_of inputs.old.items) →
+        (input_at (inputs_of inputs.new.items) k).hand ≡ None }
 {
-    for input in inputs.iter_mut() {
-        input.hand = None;
+    for noted in inputs.iter_mut() {
+        noted.input.hand = None;
     }
 }
 
@@ -92,12 +99,4 @@ pub(crate) fn next_date(graph: &Graph, t: u32, job: u32, latest: Date) -> Date
     ensures { result ≡ (if t == 0 then demand graph.now job else latest) }
 {
     if t == 0 { graph.demand(job) } else { latest }
-}
-
-/// What a token asks of the date of a job that takes so long: its date, with the time where its arc is worked.
-#[inline]
-fn asked_date(worked: bool, time: u64, token: Date) -> Date
-    ensures { result ≡ saturating token (if worked then time else 0) }
-{
-    token.saturating_add(if worked { time } else { 0 })
 }

@@ -4,33 +4,36 @@ ghost use Rattle.station_step.specs.Shelf.{queue_at, OnlyPuts};
 ghost use Rattle.station_step.specs.Ends.{outlet_added, bare_outlet, HasRingRoom, HasShelfRoom, is_bounded, HasSpace, HasNoSpace, HasLooked};
 ghost use Rattle.station_step.specs.Station.{outlet_at, PutWithin, PutApart, NonePuts};
 ghost use Rattle.station_step.specs.Kept.{saturating};
+ghost use Rattle.station_step.specs.Noted.{outlets_of, delays_of};
 ghost use Rattle.station_step.specs.Step.{Grows};
 
-use crate::ends::Outlet;
+use crate::noted::NotedOutlet;
 use crate::shelf::Shelf;
 use line_base::Date;
 
-/// Looks for space at each output that knows of none. The answer is the first output that has none after that. No output
-/// is asked where none of them can lack space.
-pub(crate) fn look_all(bounded: bool, outlets: &mut Vec<Outlet>) -> Option<usize>
-    requires noted { bounded ≡ list_any is_bounded outlets.old.items }
-    ensures count { length outlets.new.items ≡ length outlets.old.items }
-    ensures same { map bare_outlet outlets.new.items ≡ map bare_outlet outlets.old.items }
-    ensures looked { (k : ℕ) → k < length outlets.old.items →
-        HasLooked (outlet_at outlets.old.items k) (outlet_at outlets.new.items k) }
-    ensures none { IfNone result ((k : ℕ) → k < length outlets.new.items →
-        HasSpace (outlet_at outlets.new.items k)) }
-    ensures there { IfSome result (λ k. k < length outlets.new.items) }
-    ensures full { IfSome result (λ k. HasNoSpace (outlet_at outlets.new.items k)) }
+/// Looks for space at each output that knows of none. The answer is the first output that has none after that. No
+/// output is asked where none of them can lack space.
+pub(crate) fn look_all(bounded: bool, outlets: &mut Vec<NotedOutlet>) -> Option<usize>
+    requires noted { bounded ≡ list_any is_bounded (outlets_of outlets.old.items) }
+    ensures count { length (outlets_of outlets.new.items) ≡
+        length (outlets_of outlets.old.items) }
+    ensures delays { delays_of outlets.new.items ≡ delays_of outlets.old.items }
+    ensures same { map bare_outlet (outlets_of outlets.new.items) ≡ map bare_outlet (outlets_of outlets.old.items) }
+    ensures looked { (k : ℕ) → k < length (outlets_of outlets.old.items) →
+        HasLooked (outlet_at (outlets_of outlets.old.items) k) (outlet_at (outlets_of outlets.new.items) k) }
+    ensures none { IfNone result ((k : ℕ) → k < length (outlets_of outlets.new.items) →
+        HasSpace (outlet_at (outlets_of outlets.new.items) k)) }
+    ensures there { IfSome result (λ k. k < length (outlets_of outlets.new.items)) }
+    ensures full { IfSome result (λ k. HasNoSpace (outlet_at (outlets_of outlets.new.items) k)) }
     ensures first { IfSome result (λ k. (j : ℕ) → j < k →
-        HasSpace (outlet_at outlets.new.items j)) }
+        HasSpace (outlet_at (outlets_of outlets.new.items) j)) }
 {
     if !bounded {
         return None;
     }
     let mut first = None;
     for k in 0..outlets.len() {
-        if !outlets[k].look() {
+        if !outlets[k].outlet.look() {
             first = first.or(Some(k));
         }
     }
@@ -38,29 +41,31 @@ pub(crate) fn look_all(bounded: bool, outlets: &mut Vec<Outlet>) -> Option<usize
 }
 
 /// Puts a token on every output, later by its delay.
-pub(crate) fn put_all(delays: &[u64], outlets: &mut Vec<Outlet>, shelf: &mut Shelf, date: Date)
-    requires a_delay_each { length delays.now ≡ length outlets.old.items }
-    requires within { PutWithin (length shelf.old) outlets.old.items }
-    requires apart { PutApart outlets.old.items }
-    requires ring_room { (k : ℕ) → k < length outlets.old.items →
-        HasRingRoom 1 (outlet_at outlets.old.items k) }
-    requires shelf_room { (k : ℕ) → k < length outlets.old.items →
-        HasShelfRoom shelf.old (outlet_at outlets.old.items k) }
-    requires space { (k : ℕ) → k < length outlets.old.items →
-        HasSpace (outlet_at outlets.old.items k) }
-    ensures count { length outlets.new.items ≡ length outlets.old.items }
-    ensures same { map bare_outlet outlets.new.items ≡ map bare_outlet outlets.old.items }
-    ensures each { (k : ℕ) → k < length outlets.old.items →
-        outlet_added shelf.new (outlet_at outlets.new.items k) ≡
-        outlet_added shelf.old (outlet_at outlets.old.items k) ++
-        saturating date (slice_index delays.now k) ∷ [] }
+pub(crate) fn put_all(outlets: &mut Vec<NotedOutlet>, shelf: &mut Shelf, date: Date)
+    requires within { PutWithin (length shelf.old) (outlets_of outlets.old.items) }
+    requires apart { PutApart (outlets_of outlets.old.items) }
+    requires ring_room { (k : ℕ) → k < length (outlets_of outlets.old.items) →
+        HasRingRoom 1 (outlet_at (outlets_of outlets.old.items) k) }
+    requires shelf_room { (k : ℕ) → k < length (outlets_of outlets.old.items) →
+        HasShelfRoom shelf.old (outlet_at (outlets_of outlets.old.items) k) }
+    requires space { (k : ℕ) → k < length (outlets_of outlets.old.items) →
+        HasSpace (outlet_at (outlets_of outlets.old.items) k) }
+    ensures count { length (outlets_of outlets.new.items) ≡
+        length (outlets_of outlets.old.items) }
+    ensures delays { delays_of outlets.new.items ≡ delays_of outlets.old.items }
+    ensures same { map bare_outlet (outlets_of outlets.new.items) ≡ map bare_outlet (outlets_of outlets.old.items) }
+    ensures each { (k : ℕ) → k < length (outlets_of outlets.old.items) →
+        outlet_added shelf.new (outlet_at (outlets_of outlets.new.items) k) ≡
+        outlet_added shelf.old (outlet_at (outlets_of outlets.old.items) k) ++
+        saturating date (slice_index (delays_of outlets.old.items) k) ∷ [] }
     ensures only_puts { OnlyPuts shelf.old shelf.new }
     ensures grows { Grows shelf.old shelf.new }
-    ensures others { (q : ℕ) → NonePuts q outlets.old.items →
+    ensures others { (q : ℕ) → NonePuts q (outlets_of outlets.old.items) →
         queue_at shelf.new q ≡ queue_at shelf.old q }
 {
     for k in 0..outlets.len() {
-        let later = date.saturating_add(delays[k]);
-        outlets[k].put(shelf, later);
+        let noted = &mut outlets[k];
+        let later = date.saturating_add(noted.delay);
+        noted.outlet.put(shelf, later);
     }
 }

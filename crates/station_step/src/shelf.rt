@@ -52,8 +52,7 @@ impl Shelf {
                 put_place: column,
                 take_place: column,
                 initial: first.len() as u32,
-                puts: 0,
-                takes: 0,
+                firsts_taken: 0,
             })?;
             tokens.extend_from_slice(first)?;
         }
@@ -71,7 +70,8 @@ impl Shelf {
         ensures { result ≡ length (plain_waiting (queue_at self.now k)) }
     {
         let tally = &self.queues[k as usize];
-        tally.initial + tally.puts - tally.takes
+        let rows = (tally.put_place - tally.take_place) / self.queues.len();
+        tally.initial - tally.firsts_taken + rows as u32
     }
 
     /// Takes the front token of queue `k`, if there is one.
@@ -105,6 +105,5 @@ impl Shelf {
         let tally = &mut self.queues[k as usize];
         self.table[tally.put_place] = date;
         tally.put_place += columns;
-        tally.puts += 1;
     }
 }

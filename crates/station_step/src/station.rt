@@ -8,9 +8,10 @@ ghost use Rattle.station_step.specs.Kept.{IsKept, IsFresh};
 ghost use Rattle.station_step.specs.Step.{IsReady, IsDone, HasFired, IfBlocked, IsBlocked, IfFull, IsFull, Did, MovesItsOwn, Grows};
 
 use crate::ends::{Inlet, Outlet, meet_ends};
-use crate::input::Input;
 use crate::inputs::{empty_hands, next_date, refill, with_empty_hands};
-use crate::noted::{delays_from, fixed_time, has_bounded, job_time, worked_into};
+use crate::noted::{
+    NotedInput, NotedOutlet, has_bounded, note_job, note_time, with_delays, worked_into,
+};
 use crate::outlets::{look_all, put_all};
 use crate::refilled::Refilled;
 use crate::shelf::Shelf;
@@ -30,13 +31,13 @@ use std::snapshot::Snapshot;
 #[derive(Drop)]
 pub struct Station {
     number: u32,
-    inputs: Vec<Input>,
-    outlets: Vec<Outlet>,
-    // What each step asks of the graph: the time of every job, if it is one, whether the arc of each input is worked, and
-    // the delay of each output's arc.
-    fixed: Option<u64>,
+    // Beside each input stands what the time of the job adds to its token, and beside each outlet the delay of its arc.
+    inputs: Vec<NotedInput>,
+    outlets: Vec<NotedOutlet>,
+    // Whether every job takes one time here. Where not, each step notes what its job adds, by whether the arc of each
+    // input is worked.
+    fixed: bool,
     worked: Vec<bool>,
-    delays: Vec<u64>,
     // Whether an output can lack space.
     bounded: bool,
     log: Log,
@@ -48,15 +49,15 @@ pub struct Station {
 
 impl Model for Station {
     ghost use Rattle.station_step.specs.Station.{WorkStation, IsStation};
-    ghost use Rattle.station_step.specs.Noted.{IsNoted};
+    ghost use Rattle.station_step.specs.Noted.{IsNoted, inputs_of, outlets_of};
 
     ghost Value = { WorkStation };
 
     ghost view = { λ s. record {
       graph = s.graph.value;
       number = s.number;
-      inputs = s.inputs.items;
-      outlets = s.outlets.items;
+      inputs = inputs_of s.inputs.items;
+      outlets = outlets_of s.outlets.items;
       log = s.log;
       made = s.made;
       turns = s.turns;
@@ -65,17 +66,17 @@ impl Model for Station {
     ghost invariant = { λ s. IsStation (record {
       graph = s.graph.value;
       number = s.number;
-      inputs = s.inputs.items;
-      outlets = s.outlets.items;
+      inputs = inputs_of s.inputs.items;
+      outlets = outlets_of s.outlets.items;
       log = s.log;
       made = s.made;
       turns = s.turns;
-    }) × IsNoted s.graph.value s.number s.outlets.items s.fixed s.worked.items s.delays.items s.bounded };
+    }) × IsNoted s.graph.value s.number s.inputs.items s.outlets.items s.fixed s.worked.items s.bounded };
 }
 
 impl Station {
-    /// The station `t` with these ends of its queues, in the order of the arcs into it and out of it, and the log that it
-    /// goes on with. Fails only for want of memory.
+    /// The station `t` with these ends of its queues, in the order of the arcs into it and out of it, and the log that
+    /// it goes on with. Fails only for want of memory.
     pub fn new(
         alloc: Global,
         live: &Live,
@@ -102,13 +103,15 @@ impl Station {
         let graph = live.graph();
         let made = log.dates().len() as u32;
         let bounded = has_bounded(outlets.as_slice());
+        let worked = worked_into(alloc, graph, t)?;
+        let mut inputs = with_empty_hands(alloc, inlets)?;
+        note_time(&mut inputs, worked.as_slice(), graph.time(t, 1));
         Ok(Station {
             number: t,
-            inputs: with_empty_hands(alloc, inlets)?,
-            outlets,
-            fixed: fixed_time(graph, t),
-            worked: worked_into(alloc, graph, t)?,
-            delays: delays_from(alloc, graph, t)?,
+            inputs,
+            outlets: with_delays(alloc, graph, t, outlets)?,
+            fixed: !graph.varies(t),
+            worked,
             bounded,
             log,
             made,
@@ -129,6 +132,7 @@ impl Station {
     /// It takes no memory, and goes over its inputs and its outputs at most twice each.
     ///
     /// Source of the rule: Baccelli, Cohen, Olsder and Quadrat, Synchronization and Linearity, on event graphs.
+    #[inline(always)]
     pub fn step(&mut self, live: &Live, shelf: &mut Shelf) -> Stepped
         requires made_for { live.now.graph ≡ self.old.graph }
         requires turns { self.old.turns < 2 ^ 40 }
@@ -158,9 +162,16 @@ impl Station {
             return Stepped::Done;
         }
         let job = done + 1;
-        let time = job_time(self.fixed, graph, self.number, job);
         let worked = self.worked.as_slice();
-        let latest = match refill(&mut self.inputs, worked, time, shelf) {
+        note_job(
+            self.fixed,
+            &mut self.inputs,
+            worked,
+            graph,
+            self.number,
+            job,
+        );
+        let latest = match refill(&mut self.inputs, shelf) {
             Refilled::Full(latest) => latest,
             Refilled::Empty(k) => return Stepped::Blocked(graph.ins(self.number)[k]),
         };
@@ -169,7 +180,7 @@ impl Station {
         }
         empty_hands(&mut self.inputs);
         let date = next_date(graph, self.number, job, latest);
-        put_all(self.delays.as_slice(), &mut self.outlets, shelf, date);
+        put_all(&mut self.outlets, shelf, date);
         self.log.add(date);
         Stepped::Fired
     }
@@ -196,7 +207,7 @@ impl Station {
         ensures hand { result ≡ (input_at self.now.inputs k).hand }
         ensures station { IsStation self.now }
     {
-        self.inputs[k as usize].hand
+        self.inputs[k as usize].input.hand
     }
 
     /// Gives the log up. It takes no memory.
@@ -239,7 +250,7 @@ pub fn meet_at(from: &mut Station, k: u32, to: &mut Station, j: u32)
     ensures to_kept { (shelf : List PlainQueue) → IsKept shelf to.old → IsKept shelf to.new }
 {
     meet_ends(
-        &mut from.outlets[k as usize],
-        &mut to.inputs[j as usize].inlet,
+        &mut from.outlets[k as usize].outlet,
+        &mut to.inputs[j as usize].input.inlet,
     );
 }

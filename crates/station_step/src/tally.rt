@@ -1,6 +1,6 @@
 ghost use Rattle.std.specs.Prelude.{◌≡◌, ◌≢◌, ℕ, ◌+◌, ◌≤◌, ◌<◌, ◌^◌, take, length, option_to_list};
 ghost use Rattle.card_queue.specs.Plain.{plain_waiting};
-ghost use Rattle.station_step.specs.Table.{IsTally, seen_queue, one_taken};
+ghost use Rattle.station_step.specs.Table.{IsTally, seen_queue, puts_of, one_taken};
 
 use line_base::Date;
 
@@ -15,10 +15,8 @@ pub(crate) struct Tally {
     pub(crate) take_place: usize,
     /// How many tokens it began with.
     pub(crate) initial: u32,
-    /// How many were put on it since.
-    pub(crate) puts: u32,
-    /// How many were taken from it.
-    pub(crate) takes: u32,
+    /// How many of those were taken.
+    pub(crate) firsts_taken: u32,
 }
 
 impl Tally {
@@ -29,12 +27,12 @@ impl Tally {
         requires there { self.now.take_place ≢ self.now.put_place →
             self.now.take_place < length table.now }
         ensures { (columns q : ℕ) → q < columns →
-            IsTally (length firsts.now) self.now.puts columns q self.now →
+            IsTally (length firsts.now) (puts_of columns self.now) columns q self.now →
             option_to_list result ≡
             take 1 (plain_waiting (seen_queue firsts.now table.now 0 columns q self.now)) }
     {
-        if self.takes < self.initial {
-            return Some(firsts[self.start + self.takes as usize]);
+        if self.firsts_taken < self.initial {
+            return Some(firsts[self.start + self.firsts_taken as usize]);
         }
         if self.take_place == self.put_place {
             return None;
@@ -45,13 +43,13 @@ impl Tally {
     /// Notes that the front token was taken, with so many columns in the table.
     #[inline]
     pub(crate) fn note_take(&mut self, columns: usize)
-        requires takes { self.old.takes + 1 < 2 ^ 32 }
-        requires place { self.old.take_place + columns < 2 ^ 64 }
+        requires { self.old.take_place + columns < 2 ^ 64 }
         ensures { self.new ≡ one_taken columns self.old }
     {
-        if self.initial <= self.takes {
+        if self.initial <= self.firsts_taken {
             self.take_place += columns;
+        } else {
+            self.firsts_taken += 1;
         }
-        self.takes += 1;
     }
 }

@@ -1,5 +1,10 @@
+use Rattle.std.proofs.Common.{◌≡◌}
+use Rattle.station_step.specs.Noted.{inputs_of, extras_of}
 use Rattle.station_step.proofs.Emptying.{EmptiedUpTo}
 use Rattle.station_step.proofs.inputs.empty_hands.Given as goal
 
-abbrev pub invariant-loop-input : goal.invariant-loop-input
-invariant-loop-input l = EmptiedUpTo l.input-index l.initial.input-items l.input-items
+abbrev pub invariant-loop-noted : goal.invariant-loop-noted
+invariant-loop-noted l = record {
+  extras : extras_of l.noted-items ≡ extras_of l.initial.noted-items;
+  emptied : EmptiedUpTo l.noted-index (inputs_of l.initial.noted-items) (inputs_of l.noted-items);
+}

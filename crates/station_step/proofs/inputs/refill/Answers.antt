@@ -1,49 +1,88 @@
-use Rattle.std.proofs.Common.{◌≡◌, ◌≢◌, ◌<◌, ◌+◌, ℕ, subst, sym, ap, ◌∙◌, arith, length, set, get_or}
-use Rattle.std.specs.Prelude.{Option, Some, false, if◌then◌else◌, unwrap_or}
-use Rattle.std.proofs.lemmas.List.{get_or_default}
+use Rattle.std.proofs.Common.{◌≡◌, ◌≢◌, ◌<◌, ◌+◌, ℕ, subst, sym, ap, ◌∙◌, arith, List, length, set, get_or, refl}
+use Rattle.std.specs.Prelude.{Option, Some, IfSome, unwrap_or, slice_index}
+use Rattle.std.specs.List.{range_with_len}
+use Rattle.event_graph.specs.Firing.{greatest}
 use Rattle.station_step.specs.declared.input.Input.{Input}
+use Rattle.station_step.specs.declared.noted.NotedInput.{NotedInput}
 use Rattle.station_step.specs.Shelf.{queue_at}
 use Rattle.station_step.specs.Ends.{inlet_queue}
 use Rattle.station_step.specs.Input.{input_at, IsRefilled}
 use Rattle.station_step.specs.Kept.{saturating}
+use Rattle.station_step.specs.Noted.{inputs_of, extras_of}
 use Rattle.station_step.specs.Refilled.{hand_asks}
 use Rattle.station_step.proofs.Dates.{latest-none, latest-more}
-use Rattle.station_step.proofs.Refilling.{IsFirstEmpty, refilled_none, refilled_more, first-none, first-empty, first-full}
+use Rattle.station_step.proofs.Noting.{no_input, input-lent, input-at, extra-at, inputs-count, inputs-set, extras-stay}
+use Rattle.station_step.proofs.Refilling.{RefilledUpTo, IsFirstEmpty, refilled_none, refilled_more, first-none, first-empty, first-full}
 use Rattle.station_step.proofs.inputs.refill.Goals.{then-is_none, else-is_none}
 use Rattle.station_step.proofs.inputs.refill.Goals as goal
 
 pub loop-k-init : goal.loop-k-init
-loop-k-init c = record {
-  refilled = refilled_none c.args.shelf.now c.args.inputs.now.items;
-  found = first-none c.args.inputs.now.items;
-  date = latest-none (hand_asks c.args.worked.now c.args.time c.args.inputs.now.items);
-}
+loop-k-init c =
+    let inputs = inputs_of c.args.inputs.now.items in record {
+      extras = refl;
+      refilled = refilled_none c.args.shelf.now inputs;
+      found = first-none inputs;
+      date = latest-none (hand_asks (extras_of c.args.inputs.now.items) inputs);
+    }
+
+pub refill-requires : goal.refill-requires
+refill-requires c =
+    let items = c.loop-k.inputs.items in
+    let before = inputs_of c.args.inputs.now.items in
+    let k = c.loop-k.k in
+    let was = c.loop-k.invariant in
+    let all = inputs-count items in
+    let low : k < length before = omega (arith, c.len-k-end.ensures, c.loop-k-test.true, inputs-count c.args.inputs.now.items, c.args.inputs.now.ok.0) in
+    let at : c.index_mut-noted.result.now.input ≡ input_at (inputs_of items) k =
+    ap (λ (n : NotedInput). n.input) (input-lent items k c.index_mut-noted.result.now (omega (arith, low, all, was.refilled.count)) c.index_mut-noted.ensures.value)
+    ∙ sym (input-at items k) in
+    subst (λ (i : Input). IfSome (inlet_queue i.inlet) (λ q. q < length c.loop-k.shelf)) (sym (at ∙ was.refilled.rest k (omega arith)))
+    (subst (λ (n : ℕ). IfSome (inlet_queue (input_at before k).inlet) (λ q. q < n)) (sym was.refilled.only_takes.count) (c.requires.within k low))
 
 pub loop-k-preserved : goal.loop-k-preserved
 loop-k-preserved c =
     let items = c.loop-k.inputs.items in
+    let before = inputs_of c.args.inputs.now.items in
+    let inputs = inputs_of items in
+    let extras = extras_of items in
     let k = c.loop-k.k in
     let was = c.loop-k.invariant in
-    let low : k < length items = omega (arith, c.len-k-end.ensures, c.loop-k-test.true, was.refilled.count, c.args.inputs.now.ok.0) in
-    let at : c.index_mut-input.result.now ≡ input_at items k = c.index_mut-input.ensures.value ∙ get_or_default items k _ _ low in
     let mid = c.loop-k.shelf in
     let new = c.refill.new.shelf in
-    let asks : c.asked_date.result ≡ saturating (unwrap_or c.refill.new.self.hand 0) (if get_or c.args.worked.now k false then c.args.time else 0) =
-    c.asked_date.ensures ∙ ap (λ n. saturating n (if get_or c.args.worked.now k false then c.args.time else 0)) c.unwrap_or.ensures in
+    let input : Input = c.refill.new.self in
+    let lent_now = c.index_mut-noted.result.now in
+    let noted : NotedInput = record { input = input; extra = lent_now.extra } in
+    let low : k < length inputs = omega (arith, c.len-k-end.ensures, c.loop-k-test.true, was.refilled.count, inputs-count c.args.inputs.now.items, c.args.inputs.now.ok.0) in
+    let is_lent : lent_now ≡ get_or items k no_input = input-lent items k lent_now (omega (arith, low, inputs-count items)) c.index_mut-noted.ensures.value in
+    let at : lent_now.input ≡ input_at inputs k = ap (λ (n : NotedInput). n.input) is_lent ∙ sym (input-at items k) in
+    let extra : lent_now.extra ≡ (get_or items k no_input).extra = ap (λ (n : NotedInput). n.extra) is_lent in
+    let stay : extras_of (set items k noted) ≡ extras = extras-stay items k noted extra in
+    let changed : set inputs k input ≡ inputs_of (set items k noted) = sym (inputs-set items k noted) in
+    let asks : c.saturating_add.result ≡ saturating (unwrap_or input.hand 0) (slice_index extras k) =
+    c.saturating_add.ensures
+    ∙ ap (λ n. saturating n lent_now.extra) c.unwrap_or.ensures
+    ∙ ap (saturating (unwrap_or input.hand 0)) (extra ∙ sym (extra-at items k)) in
     record {
+      extras = stay ∙ was.extras;
       refilled =
-          refilled_more k c.args.shelf.now mid new c.args.inputs.now.items items c.refill.new.self c.requires.apart low was.refilled
-          (subst (λ (i : Input). IsRefilled mid new i c.refill.new.self) at c.refill.ensures.refilled)
+          subst (RefilledUpTo (k + 1) c.args.shelf.now new before) changed
+          (refilled_more k c.args.shelf.now mid new before inputs input c.requires.apart low was.refilled
+          (subst (λ (i : Input). IsRefilled mid new i input) at c.refill.ensures.refilled)
           c.refill.ensures.only_takes
-          (subst (λ (i : Input). (q : ℕ) → inlet_queue i.inlet ≢ Some q → queue_at new q ≡ queue_at mid q) at c.refill.ensures.others);
-      found = elim c.if-is_none.branch [
-        | then-is_none w ↦
-            subst (λ (found : Option ℕ). IsFirstEmpty (k + 1) found (set items k c.refill.new.self)) (sym (w.first-is ∙ w.or-first.ensures))
-            (first-empty k c.loop-k.first items c.refill.new.self low w.if-is_none.ensures was.found)
-        | else-is_none w ↦
-            subst (λ (found : Option ℕ). IsFirstEmpty (k + 1) found (set items k c.refill.new.self)) (sym w.first-is)
-            (first-full k c.loop-k.first items c.refill.new.self low w.if-is_none.ensures was.found)
-      ];
-      date = c.max-latest.ensures
-          ∙ latest-more c.args.worked.now c.args.time k items c.refill.new.self c.loop-k.latest c.asked_date.result low was.date asks;
+          (subst (λ (i : Input). (q : ℕ) → inlet_queue i.inlet ≢ Some q → queue_at new q ≡ queue_at mid q) at c.refill.ensures.others));
+      found =
+          subst (IsFirstEmpty (k + 1) c.if-is_none.first) changed
+          (elim c.if-is_none.branch [
+            | then-is_none w ↦
+                subst (λ (found : Option ℕ). IsFirstEmpty (k + 1) found (set inputs k input)) (sym (w.first-is ∙ w.or-first.ensures))
+                (first-empty k c.loop-k.first inputs input low w.if-is_none.ensures was.found)
+            | else-is_none w ↦
+                subst (λ (found : Option ℕ). IsFirstEmpty (k + 1) found (set inputs k input)) (sym w.first-is)
+                (first-full k c.loop-k.first inputs input low w.if-is_none.ensures was.found)
+          ]);
+      date =
+          c.max-latest.ensures
+          ∙ latest-more extras k inputs input c.loop-k.latest c.saturating_add.result low was.date asks
+          ∙ ap (λ (l : List ℕ). greatest (hand_asks l (set inputs k input)) (range_with_len 0 (k + 1))) (sym stay)
+          ∙ ap (λ (l : List Input). greatest (hand_asks (extras_of (set items k noted)) l) (range_with_len 0 (k + 1))) changed;
     }

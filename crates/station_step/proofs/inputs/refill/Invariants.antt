@@ -1,13 +1,15 @@
 use Rattle.std.proofs.Common.{◌≡◌}
 use Rattle.std.specs.List.{range_with_len}
 use Rattle.event_graph.specs.Firing.{greatest}
+use Rattle.station_step.specs.Noted.{inputs_of, extras_of}
 use Rattle.station_step.specs.Refilled.{hand_asks}
 use Rattle.station_step.proofs.Refilling.{RefilledUpTo, IsFirstEmpty}
 use Rattle.station_step.proofs.inputs.refill.Given as goal
 
 abbrev pub invariant-loop-k : goal.invariant-loop-k
 invariant-loop-k l = record {
-  refilled : RefilledUpTo l.k l.initial.shelf l.shelf l.initial.inputs.items l.inputs.items;
-  found : IsFirstEmpty l.k l.first l.inputs.items;
-  date : l.latest ≡ greatest (hand_asks l.worked l.time l.inputs.items) (range_with_len 0 l.k);
+  extras : extras_of l.inputs.items ≡ extras_of l.initial.inputs.items;
+  refilled : RefilledUpTo l.k l.initial.shelf l.shelf (inputs_of l.initial.inputs.items) (inputs_of l.inputs.items);
+  found : IsFirstEmpty l.k l.first (inputs_of l.inputs.items);
+  date : l.latest ≡ greatest (hand_asks (extras_of l.inputs.items) (inputs_of l.inputs.items)) (range_with_len 0 l.k);
 }

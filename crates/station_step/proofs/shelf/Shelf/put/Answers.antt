@@ -1,8 +1,8 @@
-use Rattle.std.proofs.Common.{◌≡◌, ◌<◌, ℕ, List, length, set, sym, ap, ◌∙◌, arith, subst}
+use Rattle.std.proofs.Common.{◌≡◌, ◌<◌, ℕ, List, length, set, sym, ◌∙◌, arith, subst}
 use Rattle.std.proofs.lemmas.List.{get_or_default}
 use Rattle.card_queue.specs.Plain.{PlainQueue}
 use Rattle.station_step.specs.declared.tally.Tally.{Tally}
-use Rattle.station_step.specs.Table.{tally_at, seen_shelf, IsTable, one_put}
+use Rattle.station_step.specs.Table.{tally_at, seen_shelf, IsTable, puts_of, one_put}
 use Rattle.station_step.proofs.Tables.{PutOn, tally_there, row_there, place_there, put-seen, put-sound}
 use Rattle.station_step.proofs.shelf.Shelf.put.Goals as goal
 use Rattle.station_step.proofs.shelf.Shelf.put.Goals.{After-index_mut-tally, After-index_mut}
@@ -23,7 +23,7 @@ place c =
     sym (c.index_mut-tally.ensures.value ∙ get_or_default s.queues.items k _ _ low) in
     subst (λ (t : Tally). t.put_place < length s.table.items) at
     (subst (λ (n : ℕ). n < length s.table.items) (sym (c.self.invariant.each k low).next_put)
-    (place_there s.firsts.items s.table.items s.room s.queues.items k (tally_at s.queues.items k).puts c.self.invariant low more))
+    (place_there s.firsts.items s.table.items s.room s.queues.items k (puts_of (length s.queues.items) (tally_at s.queues.items k)) c.self.invariant low more))
 
 pub index_mut-requires : goal.index_mut-requires
 index_mut-requires c = omega (arith, place (goal.at.index_mut-requires c).After-index_mut-tally, c.self.inside.table.ok.0)
@@ -39,7 +39,7 @@ there c =
     let s = c.self.inside in
     tally_there s.firsts.items s.table.items s.room s.queues.items c.args.self.now c.args.k c.self.view_is c.requires.there
 
-more : (c : After-index_mut) → (tally_at c.self.inside.queues.items c.args.k).puts < c.self.inside.room
+more : (c : After-index_mut) → puts_of (length c.self.inside.queues.items) (tally_at c.self.inside.queues.items c.args.k) < c.self.inside.room
 more c =
     let s = c.self.inside in
     row_there s.firsts.items s.table.items s.room s.queues.items c.args.self.now c.args.k c.self.view_is (there c) c.requires.room
@@ -49,12 +49,6 @@ at c = sym (c.index_mut-tally.ensures.value ∙ get_or_default c.self.inside.que
 
 columns : (c : After-index_mut) → length c.self.inside.queues.items ≡ c.len-columns.result
 columns c = omega (arith, c.len-columns.ensures, c.self.inside.queues.ok.0)
-
-pub overflow_add-tally-2 : goal.overflow_add-tally-2
-overflow_add-tally-2 c =
-    let from = (goal.at.overflow_add-tally-2 c).After-index_mut in
-    let is = c.self.invariant.each c.args.k (there from) in
-    omega (arith, more from, is.counted, ap (λ (t : Tally). t.puts) (at from))
 
 -- the table and the tallies after the put, with this tally and so many columns
 abbrev written : After-index_mut → Tally → List ℕ

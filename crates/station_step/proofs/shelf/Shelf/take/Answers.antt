@@ -4,8 +4,8 @@ use Rattle.std.proofs.lemmas.List.{get_or_default}
 use Rattle.card_queue.specs.Plain.{PlainQueue, plain_waiting}
 use Rattle.station_step.specs.declared.tally.Tally.{Tally}
 use Rattle.station_step.specs.Shelf.{queue_at}
-use Rattle.station_step.specs.Table.{tally_at, seen_shelf, seen_queue, IsTable, IsTally, one_taken}
-use Rattle.station_step.proofs.Tables.{TakenFrom, tally_there, queue-seen, take_there, place_fits, take-none, take-some, take-sound, takes_fit}
+use Rattle.station_step.specs.Table.{tally_at, seen_shelf, seen_queue, IsTable, IsTally, puts_of, one_taken}
+use Rattle.station_step.proofs.Tables.{TakenFrom, tally_there, queue-seen, take_there, place_fits, take-none, take-some, take-sound}
 use Rattle.station_step.proofs.shelf.Shelf.take.Goals as goal
 use Rattle.station_step.proofs.shelf.Shelf.take.Goals.{After-index_mut-tally}
 
@@ -51,15 +51,17 @@ front-requires-clause-there c other =
     omega (arith, place, ap length c.as_slice-2.ensures.value)
 
 -- the tally as `front` has it, over this list of first tokens
-tally_is : (c : After-index_mut-tally) (firsts : List ℕ) → firsts ≡ c.self.inside.firsts.items → IsTally (length firsts) c.index_mut-tally.result.now.puts (length c.self.inside.queues.items) c.args.k c.index_mut-tally.result.now
+tally_is : (c : After-index_mut-tally) (firsts : List ℕ) → firsts ≡ c.self.inside.firsts.items → IsTally (length firsts) (puts_of (length c.self.inside.queues.items) c.index_mut-tally.result.now) (length c.self.inside.queues.items) c.args.k c.index_mut-tally.result.now
 tally_is c firsts firsts_are =
     let is = sound c in
     let tally = c.index_mut-tally.result.now in
-    subst (λ (l : List ℕ). IsTally (length l) tally.puts (length c.self.inside.queues.items) c.args.k tally) (sym firsts_are)
+    subst (λ (l : List ℕ). IsTally (length l) (puts_of (length c.self.inside.queues.items) tally) (length c.self.inside.queues.items) c.args.k tally) (sym firsts_are)
     (record {
       began = is.began;
       within = omega arith;
+      few_firsts = is.few_firsts;
       taken = is.taken;
+      firsts_first = is.firsts_first;
       counted = omega (arith, is.counted, is.within);
       next_put = is.next_put;
       next_take = is.next_take;
@@ -81,7 +83,7 @@ shown c firsts table firsts_are table_is =
 -- what `front` tells of its answer
 abbrev IsFront : (c : After-index_mut-tally) → List ℕ → List ℕ → List ℕ → Type 0
 IsFront c firsts table answer =
-    (columns q : ℕ) → q < columns → IsTally (length firsts) c.index_mut-tally.result.now.puts columns q c.index_mut-tally.result.now → answer ≡ take 1 (plain_waiting (seen_queue firsts table 0 columns q c.index_mut-tally.result.now))
+    (columns q : ℕ) → q < columns → IsTally (length firsts) (puts_of columns c.index_mut-tally.result.now) columns q c.index_mut-tally.result.now → answer ≡ take 1 (plain_waiting (seen_queue firsts table 0 columns q c.index_mut-tally.result.now))
 
 told : (c : After-index_mut-tally) (firsts table answer : List ℕ) → firsts ≡ c.self.inside.firsts.items → table ≡ c.self.inside.table.items → IsFront c firsts table answer → answer ≡ take 1 (plain_waiting (queue_at c.args.self.now c.args.k))
 told c firsts table answer firsts_are table_is is =
@@ -106,7 +108,7 @@ took c token tally noted front =
     (subst (λ (n : ℕ). TakenFrom c.args.self.now (new (taken_tallies c n c.index_mut-tally.result.now)) k (Some token)) (columns c)
     (subst (λ (old : List PlainQueue). TakenFrom old (new (taken_tallies c (length s.queues.items) c.index_mut-tally.result.now)) k (Some token)) c.self.view_is
     (subst (λ (t : Tally). TakenFrom (old_shelf c) (new (taken_tallies c (length s.queues.items) t)) k (Some token)) (at c)
-    (take-some s.firsts.items s.table.items s.room s.queues.items k token (there c) front))))
+    (take-some s.firsts.items s.table.items s.room s.queues.items k token c.self.invariant (there c) front))))
 
 pub returns-in_err-token-clause-none : goal.returns-in_err-token-clause-none
 returns-in_err-token-clause-none c =
@@ -118,26 +120,12 @@ returns-in_err-token-clause-none c =
     subst (λ (answer : Option ℕ). IsNone answer ↔ (plain_waiting (queue_at shelf k) ≡ [])) (sym c.from_residual.ensures)
     (take-none shelf k c.requires empty).none
 
-pub note_take-requires-clause-takes : goal.note_take-requires-clause-takes
-note_take-requires-clause-takes c =
+pub note_take-requires : goal.note_take-requires
+note_take-requires c =
     let s = c.self.inside in
     let k = c.args.k in
-    let from = (goal.at.note_take-requires-clause-takes c).After-index_mut-tally in
-    let token = c.in_ok-token.token in
-    let first = front from c.as_slice.result.now c.as_slice-2.result.now token c.as_slice.ensures.value c.as_slice-2.ensures.value c.in_ok-token.ensures in
-    let less = takes_fit s.firsts.items s.table.items s.room s.queues.items k token c.self.invariant (there from) first in
-    let is = c.self.invariant.each k (there from) in
-    omega (arith, less, is.counted, ap (λ (t : Tally). t.takes) (at from))
-
-pub note_take-requires-clause-place : goal.note_take-requires-clause-place
-note_take-requires-clause-place c =
-    let s = c.self.inside in
-    let k = c.args.k in
-    let from = (goal.at.note_take-requires-clause-place c).After-index_mut-tally in
-    let token = c.in_ok-token.token in
-    let first = front from c.as_slice.result.now c.as_slice-2.result.now token c.as_slice.ensures.value c.as_slice-2.ensures.value c.in_ok-token.ensures in
-    let less = takes_fit s.firsts.items s.table.items s.room s.queues.items k token c.self.invariant (there from) first in
-    let place = place_fits s.firsts.items s.table.items s.room s.queues.items k c.self.invariant (there from) less in
+    let from = (goal.at.note_take-requires c).After-index_mut-tally in
+    let place = place_fits s.firsts.items s.table.items s.room s.queues.items k c.self.invariant (there from) in
     omega (arith, place, ap (λ (t : Tally). t.take_place) (at from), columns from, s.table.ok.0, s.table.ok.1, s.table.small, s.queues.ok.0, s.queues.ok.1, s.queues.small)
 
 pub invariant_of-self-2 : goal.invariant_of-self-2

@@ -1,29 +1,81 @@
-use Rattle.std.proofs.Common.{◌≡◌, subst, sym, ap, ◌∙◌, arith, length, List, map, ℕ}
+use Rattle.std.proofs.Common.{◌≡◌, subst, sym, ap, ◌∙◌, length, List, map, ℕ}
+use Rattle.std.specs.Prelude.{Bool, true, false, IsTrue, not}
+use Rattle.std.specs.List.{list_any}
 use Rattle.line_base.specs.declared.event.Parts.{Parts}
 use Rattle.card_queue.specs.Plain.{PlainQueue}
+use Rattle.event_graph.proofs.ArcNumbers.{All-ins}
+use Rattle.station_step.specs.declared.ends.Outlet.{Outlet}
 use Rattle.station_step.specs.declared.input.Input.{Input}
+use Rattle.station_step.specs.Ends.{is_bounded}
 use Rattle.station_step.specs.Input.{empty_handed}
-use Rattle.station_step.specs.Station.{WorkStation}
+use Rattle.station_step.specs.Station.{WorkStation, IsStation, new_station}
 use Rattle.station_step.specs.Kept.{IsKept, IsFresh}
-use Rattle.station_step.proofs.Keeping.{kept-fresh}
+use Rattle.station_step.specs.Noted.{IsNoted, inputs_of, outlets_of}
+use Rattle.station_step.proofs.Dates.{time-fixed}
+use Rattle.station_step.proofs.Keeping.{kept-fresh, station-new}
+use Rattle.station_step.proofs.Noting.{inputs-unnoted, extras-into}
 use Rattle.station_step.proofs.station.Station.new.Goals as goal
 
-pub overflow_cast-made : goal.overflow_cast-made
-overflow_cast-made c =
-    omega (arith, ap length c.dates.ensures, c.requires.few_dates, c.graph-graph.ensures.ranked.limits.few_jobs)
+-- the station that is made, as contracts see it
+abbrev made : goal.After-of → WorkStation
+made c = record {
+  graph = c.of.result.value;
+  number = c.args.t;
+  inputs = inputs_of c.note_time.new.inputs.items;
+  outlets = outlets_of c.in_ok-with_delays.field-0.items;
+  log = c.args.log;
+  made = length c.dates.result.now;
+  turns = 0;
+}
+
+abbrev wanted : goal.After-of → WorkStation
+wanted c = new_station c.args.live.now.graph c.args.t c.args.inlets.items c.args.outlets.items c.args.log
+
+made_is : (c : goal.After-of) → made c ≡ wanted c
+made_is c =
+    let station : Parts → List Input → List Outlet → ℕ → WorkStation =
+    λ g inputs outlets n. record { graph = g; number = c.args.t; inputs = inputs; outlets = outlets; log = c.args.log; made = n; turns = 0 } in
+    let g = c.args.live.now.graph in
+    let inputs = inputs_of c.note_time.new.inputs.items in
+    let outlets = outlets_of c.in_ok-with_delays.field-0.items in
+    let n = length c.dates.result.now in
+    ap (λ (h : Parts). station h inputs outlets n) (c.of.ensures ∙ c.graph-graph.ensures.graph)
+    ∙ ap (λ (l : List Input). station g l outlets n) (c.note_time.ensures.inputs ∙ ap inputs_of c.in_ok-inputs.ensures ∙ inputs-unnoted c.args.inlets.items)
+    ∙ ap (λ (l : List Outlet). station g (map empty_handed c.args.inlets.items) l n) c.in_ok-with_delays.ensures.outlets
+    ∙ ap (station g (map empty_handed c.args.inlets.items) c.args.outlets.items) (ap length c.dates.ensures)
+
+not_both : (b : Bool) → IsTrue b → IsTrue (not b) → ⊥
+not_both true is is_not = absurd (cc)
+not_both false is is_not = absurd (cc)
+
+pub invariant_of-result : goal.invariant_of-result
+invariant_of-result c =
+    let g = c.graph-graph.result.now in
+    let t = c.args.t in
+    let inputs = c.note_time.new.inputs.items in
+    let outlets = c.in_ok-with_delays.field-0.items in
+    let noted : IsNoted g t inputs outlets (not c.varies.result) c.in_ok-worked.worked.items c.has_bounded-bounded.result =
+    record {
+      extras_are = λ is job.
+          c.note_time.ensures.extras
+          ∙ extras-into g t job c.time.result c.as_slice-2.result.now
+          (c.as_slice-2.ensures.value ∙ c.in_ok-worked.ensures)
+          (c.time.ensures.time ∙ time-fixed g t 1 job (λ varies. not_both c.varies.result (c.varies.ensures.varies.1 varies) is))
+          (All-ins g t);
+      worked_is = c.in_ok-worked.ensures;
+      delays_are = c.in_ok-with_delays.ensures.delays;
+      bounded_is = c.has_bounded-bounded.ensures
+          ∙ ap (list_any is_bounded) (c.as_slice.ensures.value ∙ sym c.in_ok-with_delays.ensures.outlets);
+    } in (
+      subst IsStation (sym (made_is c))
+          (station-new c.args.live.now.graph t c.args.inlets.items c.args.outlets.items c.args.log c.requires.exists c.requires.an_inlet_each c.requires.an_outlet_each c.requires.few_dates c.requires.log_room c.requires.ring_room),
+      subst (λ (h : Parts). IsNoted h t inputs outlets (not c.varies.result) c.in_ok-worked.worked.items c.has_bounded-bounded.result) (sym c.of.ensures) noted,
+    )
+
+pub returns-clause-made : goal.returns-clause-made
+returns-clause-made c = made_is c
 
 pub returns-clause-kept : goal.returns-clause-kept
 returns-clause-kept c =
-    let g = c.args.live.now.graph in
-    let inputs = c.in_ok-with_empty_hands.field-0.items in
-    let Keeps : Parts → List Input → ℕ → Type 0 =
-    λ h l n.
-    let s : WorkStation = record { graph = h; number = c.args.t; inputs = l; outlets = c.args.outlets.items; log = c.args.log; made = n; turns = 0 } in
-    (shelf : List PlainQueue) → IsFresh shelf s → IsKept shelf s in
-    let kept = kept-fresh g c.args.t c.args.inlets.items c.args.outlets.items c.args.log c.requires.untaken c.requires.unfilled c.requires.ring_room in
-    let graph : g ≡ c.of.result.value = sym (c.of.ensures ∙ c.graph-graph.ensures.graph) in
-    let hands : map empty_handed c.args.inlets.items ≡ inputs = sym c.in_ok-with_empty_hands.ensures in
-    let made : length c.args.log.dates ≡ length c.dates.result.now = ap length (sym c.dates.ensures) in
-    subst (λ (n : ℕ). Keeps c.of.result.value inputs n) made
-    (subst (λ (l : List Input). Keeps c.of.result.value l (length c.args.log.dates)) hands
-    (subst (λ (h : Parts). Keeps h (map empty_handed c.args.inlets.items) (length c.args.log.dates)) graph kept))
+    subst (λ (s : WorkStation). (shelf : List PlainQueue) → IsFresh shelf s → IsKept shelf s) (sym (made_is c))
+    (kept-fresh c.args.live.now.graph c.args.t c.args.inlets.items c.args.outlets.items c.args.log c.requires.untaken c.requires.unfilled c.requires.ring_room)

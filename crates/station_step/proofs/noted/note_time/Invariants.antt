@@ -1,0 +1,5 @@
+use Rattle.station_step.proofs.Noting.{NotedUpTo}
+use Rattle.station_step.proofs.noted.note_time.Given as goal
+
+abbrev pub invariant-loop-k : goal.invariant-loop-k
+invariant-loop-k l = NotedUpTo l.k l.worked l.time l.initial.inputs.items l.inputs.items
