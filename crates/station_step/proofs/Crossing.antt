@@ -11,13 +11,39 @@ use Rattle.station_step.specs.contracts.shelf.Shelf as Shelf
 use Rattle.station_step.specs.contracts.shelf.Shelf.TheInside as ShelfInside
 use Rattle.station_step.specs.contracts.station.Station as Station
 use Rattle.station_step.specs.contracts.station.Station.TheInside as StationInside
+use Rattle.station_step.specs.contracts.history.History as History
 use Rattle.station_step.specs.contracts.tally.Tally as Tally
 use Rattle.station_step.proofs.noted.NotedInput.TheSendSync as InputSent
 use Rattle.station_step.proofs.noted.NotedOutlet.TheSendSync as OutletSent
-use Rattle.station_step.proofs.tally.Tally.TheSendSync as TallySent
 
 log_send : IsSend Log.the_row
 log_send = view_send LogInside.the_row _ _ _ _ (declared_send LogInside.the_type (search crosses, tt))
+
+-- it owns nothing
+history_send : IsSend History.the_row
+history_send = record { owned = λ d vs. ((λ vss. (tt, ((λ uss. (tt, tt)), tt))), tt); leaving = λ k f vs. tt }
+
+tally_send : IsSend Tally.the_row
+tally_send =
+    declared_send Tally.the_type (
+      search sendable,
+      (
+        search sendable,
+        (
+          search sendable,
+          (
+            search sendable,
+            (
+              search sendable,
+              (
+                history_send,
+                tt,
+              ),
+            ),
+          ),
+        ),
+      ),
+    )
 
 pub shelf_send : IsSend Shelf.the_row
 shelf_send =
@@ -27,7 +53,7 @@ shelf_send =
       (
         search crosses,
         (
-          Vec-send Tally.the_row (as_row_send Tally.the_field TallySent.the_field_send),
+          Vec-send Tally.the_row tally_send,
           (
             search sendable,
             tt,

@@ -1,14 +1,14 @@
 -- The tallies of a new shelf, while the first tokens of its queues are laid one after the other.
-use Rattle.std.proofs.Common.{◌≡◌, ℕ, ◌+◌, ◌-◌, ◌*◌, ◌/◌, ◌^◌, ◌<◌, ◌≤◌, List, [], ◌∷◌, ◌++◌, length, map, take, drop, refl, sym, ap, ◌∙◌, subst, arith, ⊎_elim, length-append, length-drop}
+use Rattle.std.proofs.Common.{◌≡◌, ℕ, ◌+◌, ◌-◌, ◌*◌, ◌^◌, ◌<◌, ◌≤◌, List, [], ◌∷◌, ◌++◌, length, map, take, drop, refl, sym, ap, ◌∙◌, subst, arith, ⊎_elim, length-append, length-drop, ◌⊎◌, ◌%◌}
 use Rattle.std.specs.Prelude.{Vec, slice_index_or}
 use Rattle.std.specs.declared.alloc.Global.{Global}
 use Rattle.std.proofs.lemmas.List.{get_or_append_left, get_or_push, get_or-map, ext_get_or, drop_at, take_all, length-map, drop-append-le, take-append-le}
-use Rattle.std.proofs.lemmas.Nat.{div-mul-add}
 use Rattle.std.proofs.lemmas.Bool.{cases_lt}
 use Rattle.card_queue.specs.Plain.{PlainQueue}
 use Rattle.station_step.specs.declared.tally.Tally.{Tally}
 use Rattle.station_step.specs.Shelf.{new_queue}
-use Rattle.station_step.specs.Table.{no_tally, tally_at, column, seen_shelf, IsTable, puts_of, rows_taken, takes_of}
+use Rattle.station_step.specs.Table.{no_history, no_tally, tally_at, puts, rows_taken, seen_shelf, place_of, IsTable}
+use Rattle.std.proofs.Math.Nat.{zero-mod}
 use Rattle.station_step.proofs.Tables.{length-seen, queue-seen}
 
 -- a new queue in column q, whose first tokens stand among these
@@ -17,6 +17,8 @@ pub record IsLaid (q : ℕ) (first tokens : List ℕ) (tally : Tally) : Type 0 w
   pub initial : tally.initial ≡ length first
   pub stand : take tally.initial (drop tally.start tokens) ≡ first
   pub firsts_taken : tally.firsts_taken ≡ 0
+  pub none_put : tally.past.put ≡ []
+  pub none_taken : tally.past.taken ≡ []
   pub next_put : tally.put_place ≡ q
   pub next_take : tally.take_place ≡ q
 
@@ -36,6 +38,8 @@ laid-longer q first tokens more tally is =
           ∙ take-append-le tally.initial (drop tally.start tokens) more (omega (arith, is.began, before))
           ∙ is.stand;
       firsts_taken = is.firsts_taken;
+      none_put = is.none_put;
+      none_taken = is.none_taken;
       next_put = is.next_put;
       next_take = is.next_take;
     }
@@ -43,7 +47,7 @@ laid-longer q first tokens more tally is =
 -- its tally
 abbrev pub new_tally : ℕ → ℕ → ℕ → Tally
 new_tally q start initial =
-    record { start = start; put_place = q; take_place = q; initial = initial; firsts_taken = 0 }
+    record { start = start; put_place = q; take_place = q; initial = initial; firsts_taken = 0; past = no_history }
 
 -- the next queue is laid
 pub laid_more : (n : ℕ) (firsts : List (List ℕ)) (tokens first : List ℕ) (tallies : List Tally) → first ≡ slice_index_or firsts n [] → LaidUpTo n firsts tokens tallies → LaidUpTo (n + 1) firsts (tokens ++ first) (tallies ++ new_tally n (length tokens) (length first) ∷ [])
@@ -58,6 +62,8 @@ laid_more n firsts tokens first tallies first_is laid =
           ∙ take_all (length first) first (omega arith)
           ∙ first_is;
       firsts_taken = refl;
+      none_put = refl;
+      none_taken = refl;
       next_put = refl;
       next_take = refl;
     } in
@@ -75,64 +81,65 @@ laid_more n firsts tokens first tallies first_is laid =
           (cases_lt q n);
     }
 
--- its places are in row 0
-first_row : (w q place : ℕ) → q < w → place ≡ q → place / w ≡ 0
-first_row w q place low is =
-    let first : place ≡ 0 * w + q = omega (arith, is) in
-    ap (λ n. n / w) first ∙ div-mul-add 0 w q low
-
 -- the shelf of all of them
-pub seen-laid : (firsts : List (List ℕ)) (tokens table : List ℕ) (room : ℕ) (tallies : List Tally) → LaidUpTo (length firsts) firsts tokens tallies → seen_shelf tokens table room tallies ≡ map (new_queue room) firsts
-seen-laid firsts tokens table room tallies laid =
-    let seen = seen_shelf tokens table room tallies in
+pub seen-laid : (firsts : List (List ℕ)) (tokens : List ℕ) (room : ℕ) (tallies : List Tally) → LaidUpTo (length firsts) firsts tokens tallies → seen_shelf tokens room tallies ≡ map (new_queue room) firsts
+seen-laid firsts tokens room tallies laid =
+    let seen = seen_shelf tokens room tallies in
     let wanted = map (new_queue room) firsts in
     let none : PlainQueue = record { initial = []; added = []; room = 0; takes = 0 } in
-    let count : length seen ≡ length firsts = length-seen tokens table room tallies ∙ laid.count in
+    let count : length seen ≡ length firsts = length-seen tokens room tallies ∙ laid.count in
     ext_get_or none seen wanted (count ∙ sym (length-map firsts (new_queue room)))
     (λ q there.
     let low : q < length firsts = omega (arith, there, count) in
     let tally = tally_at tallies q in
     let is = laid.each q low in
-    let w = length tallies in
-    let below : q < w = omega (arith, low, laid.count) in
     let first = slice_index_or firsts q [] in
-    let takes : takes_of w tally ≡ 0 = omega (arith, is.firsts_taken, first_row w q tally.take_place below is.next_take) in
-    let queue : ℕ → ℕ → List ℕ → PlainQueue =
-    λ puts takes initial. record {
-      initial = initial;
-      added = column table w q puts;
-      room = room;
-      takes = takes;
-    } in
-    queue-seen tokens table room tallies q below
-    ∙ ap (queue (puts_of w tally) (takes_of w tally)) is.stand
-    ∙ ap (λ n. queue (puts_of w tally) n first) takes
-    ∙ ap (λ n. queue n 0 first) (first_row w q tally.put_place below is.next_put)
+    let takes : tally.firsts_taken + rows_taken tally ≡ 0 = omega (arith, is.firsts_taken, ap length is.none_taken) in
+    let queue : ℕ → List ℕ → List ℕ → PlainQueue =
+    λ takes added initial. record { initial = initial; added = added; room = room; takes = takes } in
+    queue-seen tokens room tallies q (omega (arith, low, laid.count))
+    ∙ ap (queue (tally.firsts_taken + rows_taken tally) tally.past.put) is.stand
+    ∙ ap (λ (added : List ℕ). queue (tally.firsts_taken + rows_taken tally) added first) is.none_put
+    ∙ ap (λ n. queue n [] first) takes
     ∙ sym (get_or-map (new_queue room) firsts q [] none low))
 
--- its table is sound
-pub table-laid : (firsts : List (List ℕ)) (tokens table : List ℕ) (room : ℕ) (tallies : List Tally) → ((q : ℕ) → q < length firsts → length (slice_index_or firsts q []) + room < 2 ^ 32) → length table ≡ length firsts * room → LaidUpTo (length firsts) firsts tokens tallies → IsTable tokens table room tallies
-table-laid firsts tokens table room tallies small full laid = record {
-  full = full ∙ ap (λ n. n * room) (sym laid.count);
-  each = λ q low.
-      let there : q < length firsts = omega (arith, low, laid.count) in
-      let is = laid.each q there in
-      let fits = small q there in
-      let tally = tally_at tallies q in
-      let w = length tallies in
-      let puts : puts_of w tally ≡ 0 = first_row w q tally.put_place low is.next_put in
-      let rows : rows_taken w tally ≡ 0 = first_row w q tally.take_place low is.next_take in
-      let place : q ≡ 0 * w + q = omega arith in
-      record {
-        began = is.began;
-        within = omega (arith, puts);
-        few_firsts = omega (arith, is.firsts_taken);
-        taken = omega (arith, rows);
-        firsts_first = λ _. rows;
-        counted = omega (arith, is.initial, fits);
-        next_put = is.next_put ∙ place ∙ ap (λ n. n * w + q) (sym puts);
-        next_take = is.next_take ∙ place ∙ ap (λ n. n * w + q) (sym rows);
-      };
+-- its table is sound, with so many rows
+pub table-laid : (firsts : List (List ℕ)) (tokens table : List ℕ) (capacity room rows : ℕ) (tallies : List Tally) → ((q : ℕ) → q < length firsts → length (slice_index_or firsts q []) + room < 2 ^ 32) → 0 < rows → (rows ≡ room + 1) ⊎ (rows + rows ≤ room + 1) → length table ≡ length firsts * rows → capacity ≡ length firsts * (room + 1) → LaidUpTo (length firsts) firsts tokens tallies → IsTable tokens table capacity room tallies
+table-laid firsts tokens table capacity room rows tallies small some growable full has_room laid = record {
+  began = λ q low. (laid.each q (omega (arith, low, laid.count))).began;
+  ring = record {
+    rows = rows;
+    some = some;
+    full = full ∙ ap (λ n. n * rows) (sym laid.count);
+    growable = growable;
+    has_room = has_room ∙ ap (λ n. n * (room + 1)) (sym laid.count);
+    each = λ q low.
+        let there : q < length firsts = omega (arith, low, laid.count) in
+        let is = laid.each q there in
+        let fits = small q there in
+        let tally = tally_at tallies q in
+        let w = length tallies in
+        let no_puts = ap length is.none_put in
+        let no_takes = ap length is.none_taken in
+        let first : (n : ℕ) → n ≡ 0 → q ≡ place_of rows w q n =
+        λ n none.
+        let row : n % rows ≡ 0 = ap (λ i. i % rows) none ∙ zero-mod rows in
+        let place : q ≡ 0 * w + q = omega arith in
+        place ∙ ap (λ i. i * w + q) (sym row) in
+        record {
+          few_firsts = omega (arith, is.firsts_taken);
+          firsts_first = λ _. no_takes;
+          counted = omega (arith, is.initial, fits);
+          base = 0;
+          based = omega arith;
+          taken_put = omega (arith, no_takes);
+          fits = omega (arith, no_puts);
+          few_wait = omega (arith, no_puts, some);
+          next_put = is.next_put ∙ first (puts tally - 0) (omega (arith, no_puts));
+          next_take = is.next_take ∙ first (rows_taken tally - 0) (omega (arith, no_takes));
+          stand = λ n taken less. absurd (omega (arith, less, no_puts));
+        };
+  };
 }
 
 -- ---- the lists as the caller has them

@@ -1,4 +1,6 @@
+pub mod Rings
 pub mod Tables
+pub mod Growing
 pub mod Laying
 pub mod OwnQueues
 pub mod Refilling

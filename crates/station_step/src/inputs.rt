@@ -36,6 +36,7 @@ pub(crate) fn with_empty_hands(
 /// Takes a token into each empty hand whose inlet gives one. Where all hands are full then, the answer is the greatest
 /// date that their tokens ask for, each with what is noted beside its input; else it is the first input whose hand
 /// stays empty.
+#[inline(always)]
 pub(crate) fn refill(inputs: &mut Vec<NotedInput>, shelf: &mut Shelf) -> Refilled
     requires within { TakeWithin (length shelf.old) (inputs_of inputs.old.items) }
     requires apart { TakeApart (inputs_of inputs.old.items) }
@@ -76,6 +77,7 @@ pub(crate) fn refill(inputs: &mut Vec<NotedInput>, shelf: &mut Shelf) -> Refille
 }
 
 /// Takes the tokens out of all hands.
+#[inline(always)]
 pub(crate) fn empty_hands(inputs: &mut Vec<NotedInput>)
     ensures count { length (inputs_of inputs.new.items) ≡ length (inputs_of inputs.old.items) }
     ensures extras { extras_of inputs.new.items ≡ extras_of inputs.old.items }

@@ -3,6 +3,7 @@
 #![tactic(auto)]
 
 mod ends;
+mod history;
 mod input;
 mod inputs;
 mod noted;

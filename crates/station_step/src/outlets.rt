@@ -13,6 +13,7 @@ use line_base::Date;
 
 /// Looks for space at each output that knows of none. The answer is the first output that has none after that. No
 /// output is asked where none of them can lack space.
+#[inline]
 pub(crate) fn look_all(bounded: bool, outlets: &mut Vec<NotedOutlet>) -> Option<usize>
     requires noted { bounded ≡ list_any is_bounded (outlets_of outlets.old.items) }
     ensures count { length (outlets_of outlets.new.items) ≡
@@ -41,6 +42,7 @@ pub(crate) fn look_all(bounded: bool, outlets: &mut Vec<NotedOutlet>) -> Option<
 }
 
 /// Puts a token on every output, later by its delay.
+#[inline(always)]
 pub(crate) fn put_all(outlets: &mut Vec<NotedOutlet>, shelf: &mut Shelf, date: Date)
     requires within { PutWithin (length shelf.old) (outlets_of outlets.old.items) }
     requires apart { PutApart (outlets_of outlets.old.items) }

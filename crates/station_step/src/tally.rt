@@ -1,7 +1,8 @@
-ghost use Rattle.std.specs.Prelude.{◌≡◌, ◌≢◌, ℕ, ◌+◌, ◌≤◌, ◌<◌, ◌^◌, take, length, option_to_list};
+ghost use Rattle.std.specs.Prelude.{◌≡◌, ◌≢◌, ℕ, ◌+◌, ◌-◌, ◌*◌, ◌<◌, ◌≤◌, ◌^◌, ◌↔◌, IsTrue, List, take, length, option_to_list};
 ghost use Rattle.card_queue.specs.Plain.{plain_waiting};
-ghost use Rattle.station_step.specs.Table.{IsTally, seen_queue, puts_of, one_taken};
+ghost use Rattle.station_step.specs.Table.{IsTally, HasSpace, seen_queue, next_place, one_put, one_taken, unwrapped, puts, rows_taken};
 
+use crate::history::History;
 use line_base::Date;
 
 /// What a shelf notes of one of its queues.
@@ -17,19 +18,30 @@ pub(crate) struct Tally {
     pub(crate) initial: u32,
     /// How many of those were taken.
     pub(crate) firsts_taken: u32,
+    // The tokens that were put and taken. Contracts alone read them.
+    pub(crate) past: History,
+}
+
+/// The place of the same column in the next row of a table of so many columns and places. Behind the last row comes the
+/// first.
+#[inline]
+fn next_place(columns: usize, places: usize, place: usize) -> usize
+    requires { place + columns < 2 ^ 64 }
+    ensures { result ≡ next_place columns places place }
+{
+    let next = place + columns;
+    if next < places { next } else { next - places }
 }
 
 impl Tally {
-    /// The front token of the queue, if there is one, whatever its column of a table of so many columns.
+    /// The front token of the queue, if there is one, whatever its column of the table.
     #[inline]
     pub(crate) fn front(&self, firsts: &[Date], table: &[Date]) -> Option<Date>
         requires began { self.now.start + self.now.initial ≤ length firsts.now }
-        requires there { self.now.take_place ≢ self.now.put_place →
-            self.now.take_place < length table.now }
-        ensures { (columns q : ℕ) → q < columns →
-            IsTally (length firsts.now) (puts_of columns self.now) columns q self.now →
-            option_to_list result ≡
-            take 1 (plain_waiting (seen_queue firsts.now table.now 0 columns q self.now)) }
+        requires there { self.now.take_place < length table.now }
+        ensures { (rows room columns q : ℕ) → q < columns →
+            IsTally rows room columns q table.now self.now → option_to_list result ≡
+            take 1 (plain_waiting (seen_queue firsts.now room self.now)) }
     {
         if self.firsts_taken < self.initial {
             return Some(firsts[self.start + self.firsts_taken as usize]);
@@ -40,16 +52,63 @@ impl Tally {
         Some(table[self.take_place])
     }
 
-    /// Notes that the front token was taken, with so many columns in the table.
+    /// How many of the tokens that were put wait, in a table of so many columns and places.
+    pub(crate) fn rows_waiting(&self, columns: usize, places: usize) -> usize
+        requires some { 0 < columns }
+        requires put { self.now.put_place + places < 2 ^ 64 }
+        requires take { self.now.take_place < places }
+        ensures { (rows room q : ℕ) (table : List ℕ) → q < columns → places ≡ columns * rows →
+            IsTally rows room columns q table self.now →
+            result ≡ puts self.now - rows_taken self.now }
+    {
+        let apart = if self.take_place <= self.put_place {
+            self.put_place - self.take_place
+        } else {
+            self.put_place + places - self.take_place
+        };
+        apart / columns
+    }
+
+    /// Whether a token more can be put, with so many columns and places in the table.
     #[inline]
-    pub(crate) fn note_take(&mut self, columns: usize)
+    pub(crate) fn has_space(&self, columns: usize, places: usize) -> bool
+        requires { self.now.put_place + columns < 2 ^ 64 }
+        ensures { IsTrue result ↔ HasSpace columns places self.now }
+    {
+        next_place(columns, places, self.put_place) != self.take_place
+    }
+
+    /// Notes that the front token was taken, with so many columns and places in the table.
+    #[inline]
+    pub(crate) fn note_take(&mut self, columns: usize, places: usize, token: Date)
         requires { self.old.take_place + columns < 2 ^ 64 }
-        ensures { self.new ≡ one_taken columns self.old }
+        ensures { self.new ≡ one_taken columns places token self.old }
     {
         if self.initial <= self.firsts_taken {
-            self.take_place += columns;
+            self.take_place = next_place(columns, places, self.take_place);
+            self.past = self.past.take(&[token]);
         } else {
             self.firsts_taken += 1;
+        }
+    }
+
+    /// Notes that a token was put, with so many columns and places in the table.
+    #[inline]
+    pub(crate) fn note_put(&mut self, columns: usize, places: usize, token: Date)
+        requires { self.old.put_place + columns < 2 ^ 64 }
+        ensures { self.new ≡ one_put columns places token self.old }
+    {
+        self.put_place = next_place(columns, places, self.put_place);
+        self.past = self.past.put(&[token]);
+    }
+
+    /// Notes that the table got as many places more, in which its rows stand once more.
+    pub(crate) fn unwrap_from(&mut self, places: usize)
+        requires { self.old.put_place + places < 2 ^ 64 }
+        ensures { self.new ≡ unwrapped places self.old }
+    {
+        if self.put_place < self.take_place {
+            self.put_place += places;
         }
     }
 }

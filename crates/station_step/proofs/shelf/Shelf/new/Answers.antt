@@ -2,6 +2,7 @@ use Rattle.std.proofs.Common.{◌≡◌, ◌<◌, ℕ, ◌+◌, ◌*◌, ◌^◌
 use Rattle.std.specs.Prelude.{Vec, slice_index_or}
 use Rattle.std.specs.declared.alloc.Global.{Global}
 use Rattle.std.proofs.lemmas.List.{get_or-map, length-map}
+use Rattle.station_step.specs.declared.tally.Tally.{Tally}
 use Rattle.station_step.proofs.Laying.{LaidUpTo, new_tally, items_of, laid_none, laid_more, seen-laid, table-laid, new-queues}
 use Rattle.station_step.proofs.shelf.Shelf.new.Goals as goal
 
@@ -28,10 +29,20 @@ loop-first-preserved c =
     omega (arith, c.len-in-loop-first.ensures, c.loop-first.tokens.ok.0) in
     let initial : length first ≡ c.len-in-loop-first-2.result =
     omega (arith, c.len-in-loop-first-2.ensures, ap length c.deref.ensures.value, v.ok.0) in
+    let unused : List ℕ → List ℕ → Tally = λ put taken. record {
+      start = c.len-in-loop-first.result;
+      put_place = c.len-column.result;
+      take_place = c.len-column.result;
+      initial = c.len-in-loop-first-2.result;
+      firsts_taken = 0;
+      past = record { marker = record {}; put = put; taken = taken };
+    } in
     let pushed : tallies ++ new_tally n (length tokens) (length first) ∷ [] ≡ c.push.new.self.items =
     ap (λ (q : ℕ). tallies ++ new_tally q (length tokens) (length first) ∷ []) column
     ∙ ap (λ (m : ℕ). tallies ++ new_tally c.len-column.result m (length first) ∷ []) start
     ∙ ap (λ (m : ℕ). tallies ++ new_tally c.len-column.result c.len-in-loop-first.result m ∷ []) initial
+    ∙ ap (λ (put : List ℕ). tallies ++ unused put [] ∷ []) (sym c.new.ensures.0)
+    ∙ ap (λ (taken : List ℕ). tallies ++ unused c.new.result.put taken ∷ []) (sym c.new.ensures.1)
     ∙ sym c.in_ok-push.ensures.items in
     subst (LaidUpTo (n + 1) (items_of firsts) c.extend_from_slice.new.self.items) pushed
     (subst (λ (l : List ℕ). LaidUpTo (n + 1) (items_of firsts) l (tallies ++ new_tally n (length tokens) (length first) ∷ [])) (sym c.in_ok-extend_from_slice.ensures.items)
@@ -49,8 +60,12 @@ invariant_of-result c =
     λ q less.
     let low : q < length firsts = omega (arith, less, count) in
     omega (arith, c.requires.small q c.loop-first.tokens low, ap length (get_or-map (λ (w : Vec ℕ Global). w.items) firsts q c.loop-first.tokens [] low)) in
-    table-laid (items_of firsts) tokens c.in_ok-table.table.items c.args.room tallies small
-    (sym c.in_ok-table.table.ok.0 ∙ c.in_ok-table.ensures.len ∙ ap (λ (m : ℕ). m * c.args.room) (c.len.ensures ∙ c.args.firsts.ok.0 ∙ sym count))
+    let few : length (items_of firsts) ≡ c.len.result = sym (c.len.ensures ∙ c.args.firsts.ok.0 ∙ sym count) in
+    let few-2 : length (items_of firsts) ≡ c.len-2.result = sym (c.len-2.ensures ∙ c.args.firsts.ok.0 ∙ sym count) in
+    table-laid (items_of firsts) tokens c.lengthen.new.table.items c.lengthen.new.table.cap c.args.room c.first_rows.result tallies small
+    c.first_rows.ensures.some c.first_rows.ensures.growable
+    (c.lengthen.ensures.longer.count ∙ ap (λ (m : ℕ). m * c.first_rows.result) (sym few-2))
+    (c.lengthen.ensures.capacity ∙ c.in_ok-table.ensures.exact ∙ ap (λ (m : ℕ). m * (c.args.room + 1)) (sym few))
     (subst (λ (m : ℕ). LaidUpTo m (items_of firsts) tokens tallies) all c.loop-first.invariant)
 
 pub returns : goal.returns
@@ -60,5 +75,5 @@ returns c =
     let tallies = c.loop-first.queues.items in
     let all : c.loop-first.first-index ≡ length (items_of firsts) =
     omega (arith, c.loop-first-test.false, c.loop-first.auto.first-index-end, ap length c.deref-first-items.ensures.value, length-map firsts (λ (w : Vec ℕ Global). w.items)) in
-    seen-laid (items_of firsts) tokens c.in_ok-table.table.items c.args.room tallies (subst (λ (m : ℕ). LaidUpTo m (items_of firsts) tokens tallies) all c.loop-first.invariant)
+    seen-laid (items_of firsts) tokens c.args.room tallies (subst (λ (m : ℕ). LaidUpTo m (items_of firsts) tokens tallies) all c.loop-first.invariant)
     ∙ new-queues c.args.room firsts
