@@ -1,7 +1,7 @@
 ghost use Rattle.std.specs.Prelude.{◌≡◌, ◌≢◌, ℕ, ◌<◌, ◌≤◌, ◌+◌, ◌*◌, ◌^◌, ◌⊎◌, ◌++◌, ◌∷◌, [], ◌↔◌, All, map, length, slice_set, vec_capacity, IfOk, IsNone, option_to_list};
 ghost use Rattle.card_queue.specs.Plain.{plain_taken, plain_waiting};
 ghost use Rattle.station_step.specs.Shelf.{queue_at, new_queue, untaken};
-ghost use Rattle.station_step.specs.Table.{tally_at, puts, bare_tally, HasSpace, IsRing, IsRepeated, IsLengthened, AreUnwrapped};
+ghost use Rattle.station_step.specs.Table.{tally_at, puts, bare_tally, next_place, HasSpace, IsRing, IsRepeated, IsLengthened, AreUnwrapped};
 
 use crate::history::History;
 use crate::tally::Tally;
@@ -90,9 +90,10 @@ fn grow(table: &mut Vec<Date>, queues: &mut Vec<Tally>, room: u32)
     unwrap_all(queues, places);
 }
 
-/// Sees to it that a token more can be put on queue `k`. Each queue is as it was.
+/// Sees to it that a token more can be put on queue `k`, and answers where the token after it is put. Each queue is as
+/// it was.
 #[inline(always)]
-fn make_space(table: &mut Vec<Date>, queues: &mut Vec<Tally>, k: u32, room: u32)
+fn make_space(table: &mut Vec<Date>, queues: &mut Vec<Tally>, k: u32, room: u32) -> usize
     requires ring { IsRing table.old.items (vec_capacity table.old) room queues.old.items }
     requires there { k < length queues.old.items }
     requires more { puts (tally_at queues.old.items k) < room }
@@ -100,10 +101,16 @@ fn make_space(table: &mut Vec<Date>, queues: &mut Vec<Tally>, k: u32, room: u32)
     ensures same { map bare_tally queues.new.items ≡ map bare_tally queues.old.items }
     ensures space { HasSpace (length queues.new.items) (length table.new.items)
         (tally_at queues.new.items k) }
+    ensures next { result ≡ next_place (length queues.new.items) (length table.new.items)
+        (tally_at queues.new.items k).put_place }
 {
-    if !queues[k as usize].has_space(queues.len(), table.len()) {
-        grow(table, queues, room);
+    let tally = &queues[k as usize];
+    let next = tally.place_after_put(queues.len(), table.len());
+    if next != tally.take_place {
+        return next;
     }
+    grow(table, queues, room);
+    queues[k as usize].place_after_put(queues.len(), table.len())
 }
 
 impl Model for Shelf {
@@ -189,11 +196,9 @@ impl Shelf {
             record (queue_at self.old k) { added = (queue_at self.old k).added ++ date ∷ [] } }
         ensures taken { plain_taken (queue_at self.new k) ≡ plain_taken (queue_at self.old k) }
     {
-        make_space(&mut self.table, &mut self.queues, k, self.room);
-        let columns = self.queues.len();
-        let places = self.table.len();
+        let next = make_space(&mut self.table, &mut self.queues, k, self.room);
         let tally = &mut self.queues[k as usize];
         self.table[tally.put_place] = date;
-        tally.note_put(columns, places, date);
+        tally.note_put(next, date);
     }
 }

@@ -1,6 +1,6 @@
-ghost use Rattle.std.specs.Prelude.{◌≡◌, ◌≢◌, ℕ, ◌+◌, ◌-◌, ◌*◌, ◌<◌, ◌≤◌, ◌^◌, ◌↔◌, IsTrue, List, take, length, option_to_list};
+ghost use Rattle.std.specs.Prelude.{◌≡◌, ◌≢◌, ℕ, ◌+◌, ◌-◌, ◌*◌, ◌<◌, ◌≤◌, ◌^◌, List, take, length, option_to_list};
 ghost use Rattle.card_queue.specs.Plain.{plain_waiting};
-ghost use Rattle.station_step.specs.Table.{IsTally, HasSpace, seen_queue, next_place, one_put, one_taken, unwrapped, puts, rows_taken};
+ghost use Rattle.station_step.specs.Table.{IsTally, seen_queue, next_place, one_put, one_taken, unwrapped, puts, rows_taken};
 
 use crate::history::History;
 use line_base::Date;
@@ -69,13 +69,14 @@ impl Tally {
         apart / columns
     }
 
-    /// Whether a token more can be put, with so many columns and places in the table.
+    /// Where the token after the next is put, with so many columns and places in the table. A token more can be put
+    /// where none waits there.
     #[inline]
-    pub(crate) fn has_space(&self, columns: usize, places: usize) -> bool
+    pub(crate) fn place_after_put(&self, columns: usize, places: usize) -> usize
         requires { self.now.put_place + columns < 2 ^ 64 }
-        ensures { IsTrue result ↔ HasSpace columns places self.now }
+        ensures { result ≡ next_place columns places self.now.put_place }
     {
-        next_place(columns, places, self.put_place) != self.take_place
+        next_place(columns, places, self.put_place)
     }
 
     /// Notes that the front token was taken, with so many columns and places in the table.
@@ -92,13 +93,13 @@ impl Tally {
         }
     }
 
-    /// Notes that a token was put, with so many columns and places in the table.
+    /// Notes that a token was put, and where in the table the next one is.
     #[inline]
-    pub(crate) fn note_put(&mut self, columns: usize, places: usize, token: Date)
-        requires { self.old.put_place + columns < 2 ^ 64 }
-        ensures { self.new ≡ one_put columns places token self.old }
+    pub(crate) fn note_put(&mut self, next: usize, token: Date)
+        ensures { (columns places : ℕ) → next ≡ next_place columns places self.old.put_place →
+            self.new ≡ one_put columns places token self.old }
     {
-        self.put_place = next_place(columns, places, self.put_place);
+        self.put_place = next;
         self.past = self.past.put(&[token]);
     }
 
