@@ -1,11 +1,13 @@
 -- Sweep after sweep of a burst.
-use Rattle.std.proofs.Common.{◌≡◌, ℕ, ◌+◌, ◌<◌, ◌≤◌, min, length, add-zero, refl, ap, ◌∙◌, sym, subst, arith, ⊎_elim, inl, inr}
+use Rattle.std.proofs.Common.{◌≡◌, ℕ, ◌+◌, ◌<◌, ◌≤◌, ◌^◌, min, length, add-zero, refl, ap, ◌∙◌, sym, subst, arith, ⊎_elim, inl, inr}
 use Rattle.std.proofs.lemmas.Bool.{cases_eq}
 use Rattle.event_graph.specs.Network.{jobs}
+use Rattle.live_check.specs.Order.{LiveGraph}
 use Rattle.station_step.specs.Step.{IsReady}
 use Rattle.line_workers.specs.Team.{member}
 use Rattle.line_workers.specs.Crew.{WorkCrew, IsCrew, with_team}
-use Rattle.line_workers.specs.Work.{dates_of, HasSwept, AllDone, IsAlone, HasBurst, HasBurstAlone, IsBursting}
+use Rattle.line_workers.specs.Work.{dates_of, HasSwept, AllDone, TurnsBelow, IsAlone, HasBurst, HasBurstAlone, IsBursting}
+use Rattle.line_workers.specs.Crews.{CrewWorked, IsReadyFor, MayGoOn, IsAtWork}
 use Rattle.line_workers.proofs.Alone.{all-stations}
 use Rattle.line_workers.proofs.Working.{idle_team, then_team, dates-le}
 
@@ -134,3 +136,72 @@ burst_when_done old now sweeps inv is few done =
           (cases_eq sweeps 0);
       idle = λ was i low. omega (arith, inv.turned i low, none was);
     }
+
+-- ---- a crew at work, which makes a sweep in each round, or is done
+
+pub at_work_begins : (c : WorkCrew) → IsAtWork c c 0
+at_work_begins c = inl (bursting_begins c)
+
+module _ (old now : WorkCrew) (sweeps : ℕ) (work : IsAtWork old now sweeps) where
+  -- it is the same crew of the same line
+  at-work-frame : now ≡ with_team old now.team
+  at-work-frame = ⊎_elim (λ inv. inv.frame) (λ ended. ended.worked.same.frame) work
+
+  -- and has made few turns more
+  at-work-turns : sweeps ≤ 16 → TurnsBelow (2 ^ 38) old.team → TurnsBelow (2 ^ 39) now.team
+  at-work-turns few below i low =
+      ⊎_elim
+      (λ inv.
+      let low' : i < length old.team.stations = omega (arith, low, inv.worked.count) in
+      omega (arith, inv.turned i low', below i low', few))
+      (λ ended.
+      let low' : i < length old.team.stations = omega (arith, low, ended.worked.burst.worked.count) in
+      omega (arith, ended.worked.burst.few i low', below i low'))
+      work
+
+  -- so it may make one more sweep
+  at_work-may : (live : LiveGraph) → sweeps ≤ 16 → IsReadyFor live old → MayGoOn live now
+  at_work-may live few ready = record {
+    made_for = ready.made_for ∙ sym (ap (λ (c : WorkCrew). c.live) at-work-frame);
+    turns = at-work-turns few ready.turns;
+  }
+
+  -- where all of its stations are done, the round leaves it as it is
+  pub at_work_done : sweeps ≤ 16 → IsCrew now → AllDone now.target now.team → IsAtWork old now (sweeps + 1)
+  at_work_done few is done =
+      ⊎_elim
+      (λ inv.
+      inr (record {
+        worked = record {
+          same = record { crew = is; frame = inv.frame };
+          burst = burst_when_done old now sweeps inv is few done;
+          alone = alone_at_end old now sweeps inv is few done;
+        };
+        done = done;
+      }))
+      inr
+      work
+
+  -- and else it makes a sweep
+  pub at_work_sweeps : IsCrew now → (next : WorkCrew) → (AllDone now.target now.team → ⊥) → IsCrew next → next ≡ with_team now next.team → HasSwept now.team next.team → ((times : ℕ) → IsAlone now times → times < jobs now.live.graph → IsAlone next (times + 1)) → IsAtWork old next (sweeps + 1)
+  at_work_sweeps is next undone is_next frame swept rounds =
+      ⊎_elim
+      (λ inv. inl (bursting_goes_on old now sweeps inv is next undone is_next frame swept rounds))
+      (λ ended. absurd (undone ended.done))
+      work
+
+pub may_go_on : (live : LiveGraph) (old now : WorkCrew) (sweeps : ℕ) → sweeps ≤ 16 → IsReadyFor live old → IsAtWork old now sweeps → MayGoOn live now
+may_go_on live old now sweeps few ready work = at_work-may old now sweeps work live few ready
+
+-- after sixteen rounds it has worked for the burst
+pub at_work_in_full : (old now : WorkCrew) → IsAtWork old now 16 → CrewWorked old now
+at_work_in_full old now work =
+    ⊎_elim
+    (λ inv.
+    record {
+      same = record { crew = inv.crew (omega arith); frame = inv.frame };
+      burst = burst_in_full old now 16 inv refl;
+      alone = alone_in_full old now 16 inv refl;
+    })
+    (λ ended. ended.worked)
+    work

@@ -1,5 +1,5 @@
 -- The crews of one line.
-use Rattle.std.specs.Prelude.{◌≡◌, ℕ, ◌^◌, ◌<◌, ◌≤◌, List, [], Option, None, IfSome, drop, length, slice_index_or}
+use Rattle.std.specs.Prelude.{◌≡◌, ℕ, ◌+◌, ◌^◌, ◌<◌, ◌≤◌, ◌⊎◌, List, [], Option, None, IfSome, drop, length, slice_index_or}
 use Rattle.line_base.specs.declared.event.Parts.{Parts}
 use Rattle.event_graph.specs.Network.{arc_count}
 use Rattle.event_graph.specs.State.{State}
@@ -7,7 +7,7 @@ use Rattle.live_check.specs.Order.{LiveGraph}
 use Rattle.line_workers.specs.Team.{WorkTeam, no_station}
 use Rattle.line_workers.specs.Teams.{team_at, IsJoined, AreOfRoom, IsMetOn, AreAllMet, HaveBegun}
 use Rattle.line_workers.specs.Crew.{WorkCrew, IsCrew, with_team, teams_of}
-use Rattle.line_workers.specs.Work.{HasBurst, HasBurstAlone, IsAlone, TurnsBelow, TeamsWorked}
+use Rattle.line_workers.specs.Work.{HasBurst, HasBurstAlone, IsAlone, AllDone, TurnsBelow, TeamsWorked, IsBursting}
 use Rattle.line_workers.specs.Meeting.{AreStill}
 
 -- stands for a crew past the end of a list
@@ -76,6 +76,25 @@ pub record CrewWorked (old new : WorkCrew) : Type 0 where
 pub record IsReadyFor (live : LiveGraph) (c : WorkCrew) : Type 0 where
   pub made_for : live ≡ c.live
   pub turns : TurnsBelow (2 ^ 38) c.team
+
+-- the crew has made all sweeps of a burst that it makes, since its stations are done
+pub record HasEnded (old now : WorkCrew) : Type 0 where
+  pub worked : CrewWorked old now
+  pub done : AllDone now.target now.team
+
+-- the crew as it was when a burst began, and as it is after so many rounds: it made a sweep in each, or is done
+abbrev pub IsAtWork : WorkCrew → WorkCrew → ℕ → Type 0
+IsAtWork old now sweeps = IsBursting old now sweeps ⊎ HasEnded old now
+
+-- the crew is of the line that was made for this, and may make a sweep
+pub record MayGoOn (live : LiveGraph) (c : WorkCrew) : Type 0 where
+  pub made_for : live ≡ c.live
+  pub turns : TurnsBelow (2 ^ 39) c.team
+
+-- the crew went on with the burst in which it was, by one round
+abbrev pub HasGoneOn : WorkCrew → WorkCrew → Type 0
+HasGoneOn before after =
+    (old : WorkCrew) (sweeps : ℕ) → sweeps < 16 → IsAtWork old before sweeps → IsAtWork old after (sweeps + 1)
 
 -- the queues of the first so many arcs were met
 pub record IsMeeting (live : LiveGraph) (old now : List WorkCrew) (arcs : ℕ) : Type 0 where

@@ -7,12 +7,12 @@ ghost use Rattle.station_step.specs.Ends.{AreEnds, AreMet};
 ghost use Rattle.station_step.specs.Input.{input_at};
 ghost use Rattle.station_step.specs.Station.{outlet_at};
 ghost use Rattle.line_workers.specs.Team.{member, IsTeam};
-ghost use Rattle.line_workers.specs.Crews.{IsSameCrew};
+ghost use Rattle.line_workers.specs.Crews.{IsSameCrew, CrewWorked, IsReadyFor, MayGoOn, HasGoneOn};
 ghost use Rattle.line_workers.specs.Meeting.{OutletMet, InletMet};
 ghost use Rattle.line_workers.specs.Crew.{IsCrew, with_team};
 ghost use Rattle.line_workers.specs.Close.{log_of, copy_of};
 ghost use Rattle.line_workers.specs.Gather.{cleared_crew};
-ghost use Rattle.line_workers.specs.Work.{dates_of, turns_of, dates_made, turns_made, SteppedAt, HasSwept, HasBurst, HasBurstAlone, AllDone, TurnsBelow, IsAlone};
+ghost use Rattle.line_workers.specs.Work.{dates_of, turns_of, dates_made, turns_made, SteppedAt, HasSwept, AllDone, TurnsBelow, IsAlone};
 
 use crate::closing::{copy_logs, give_logs};
 use crate::counts::{all_done, dates_made, most_turns, turns_made};
@@ -188,21 +188,23 @@ impl Crew {
         fired
     }
 
+    /// Goes on with a burst: one more sweep, or none where all stations of the crew are done.
+    pub(crate) fn go_on<G: Gate>(&mut self, live: &Live, gate: &G)
+        requires ready { MayGoOn live.now self.old }
+        ensures { HasGoneOn self.old self.new }
+    {
+        if !self.done() {
+            self.sweep(live, gate);
+        }
+    }
+
     /// Lets the crew work for a burst: 16 sweeps, or fewer where all of its stations are done before.
     pub(crate) fn work<G: Gate>(&mut self, live: &Live, gate: &G)
-        requires made_for { live.now ≡ self.old.live }
-        requires turns { TurnsBelow (2 ^ 38) self.old.team }
-        ensures crew { IsCrew self.new }
-        ensures frame { self.new ≡ with_team self.old self.new.team }
-        ensures burst { HasBurst self.old.target self.old.team self.new.team }
-        ensures alone { (times : ℕ) → IsAlone self.old times → times ≤ self.old.target →
-            HasBurstAlone times self.old self.new }
+        requires ready { IsReadyFor live.now self.old }
+        ensures { CrewWorked self.old self.new }
     {
         for _sweep in 0..SWEEPS {
-            if self.done() {
-                return;
-            }
-            self.sweep(live, gate);
+            self.go_on(live, gate);
         }
     }
 

@@ -17,7 +17,7 @@ ghost use Rattle.line_workers.specs.Making.{MayHold};
 ghost use Rattle.line_workers.specs.Meeting.{AreStill, MeetsOn};
 ghost use Rattle.line_workers.specs.Gather.{Gathers};
 ghost use Rattle.line_workers.specs.Link.{IsRing, HaveMet};
-ghost use Rattle.line_workers.specs.Crews.{crew_at, live_of, graph_of, AreCrews, AreSameCrews, IsSameCrew, CrewWorked, IsReadyFor, AreNewCrews};
+ghost use Rattle.line_workers.specs.Crews.{crew_at, live_of, graph_of, AreCrews, AreSameCrews, AreNewCrews};
 
 use crate::clearing::clear_crews;
 use crate::crew::Crew;
@@ -25,48 +25,12 @@ use crate::gate::Gate;
 use crate::line::Burst;
 use crate::link::{Link, is_inside, link_of};
 use crate::making::teams_of;
-use crate::pace::{Pace, PacedGate};
+use crate::threading::Threading;
+use crate::work::work_all;
 use line_core::State;
 use live_check::Live;
 use std::alloc::{AllocError, Global};
-use std::sync::atomic::AtomicU64;
-use std::thread;
 use std::thread::Threads;
-
-/// Lets each crew work for a burst, one crew a thread. One crew works on the thread of the caller.
-pub(crate) fn work_all<R: Threads + Sync, G: Gate>(
-    rt: &R,
-    crews: &mut [Crew],
-    live: &Live,
-    gate: &G,
-)
-    requires some { 1 ≤ length crews.old }
-    requires ready { All (IsReadyFor live.now) crews.old }
-    ensures { (w : ℕ) → w < length crews.old →
-        CrewWorked (crew_at crews.old w) (crew_at crews.new w) }
-{
-    let threads = crews.len();
-    if threads == 1 {
-        crews[0].work(live, gate);
-        return;
-    }
-    // A crew that sweeps before the crews up the line have put their tokens, or those down the line
-    // their cards, spends its sweeps blocked. So the crews keep pace.
-    let begun = AtomicU64::new(0);
-    thread::for_each_mut(
-        rt,
-        crews,
-        threads,
-        &|_, crew: &mut Crew|
-            requires { IsReadyFor live.now crew.now }
-            ensures { CrewWorked crew.entry.now crew.exit.now }
-        {
-            let pace = Pace::new(threads as u64, &begun);
-            crew.work(live, &PacedGate { pace: &pace, gate });
-            pace.leave();
-        },
-    );
-}
 
 /// The two ends of a ring meet, where the crew that puts comes before the one that takes.
 fn meet_up(crews: &mut [Crew], link: &Link)
@@ -150,21 +114,24 @@ pub(crate) fn meet_all(crews: &mut [Crew], live: &Live)
     }
 }
 
-/// Lets each crew work for a burst, and then the ends of every queue meet.
+/// Lets each crew work for a burst, at once or in turn, and then the ends of every queue meet. Answers how often the crew
+/// that waited most looked for the others, where they worked at once.
 pub(crate) fn work_and_meet<R: Threads + Sync, G: Gate>(
     rt: &R,
     crews: &mut [Crew],
     live: &Live,
     gate: &G,
-)
+    at_once: bool,
+) -> Option<u64>
     requires crews { AreCrews crews.old }
     requires few { length crews.old ≤ 16 }
     requires made_for { live.now ≡ live_of crews.old }
     requires turns { All (λ crew. TurnsBelow (2 ^ 38) crew.team) crews.old }
     ensures { CrewsBurst crews.old crews.new }
 {
-    work_all(rt, crews, live, gate);
+    let looks = work_all(rt, crews, live, gate, at_once);
     meet_all(crews, live);
+    looks
 }
 
 /// How many dates the stations of all crews have made together.
@@ -194,12 +161,13 @@ pub(crate) fn turns_of(crews: &[Crew]) -> u64
     turns
 }
 
-/// A burst of all crews, and its counts.
+/// A burst of all crews, and its counts. It goes by threads where that has paid.
 pub(crate) fn burst_of<R: Threads + Sync, G: Gate>(
     rt: &R,
     crews: &mut [Crew],
     live: &Live,
     gate: &G,
+    threading: &mut Threading,
 ) -> Burst
     requires crews { AreCrews crews.old }
     requires few { length crews.old ≤ 16 }
@@ -214,9 +182,11 @@ pub(crate) fn burst_of<R: Threads + Sync, G: Gate>(
 {
     let fired = dates_of(crews);
     let steps = turns_of(crews);
-    work_and_meet(rt, crews, live, gate);
+    let at_once = threading.begins_threads(crews.len());
+    let looks = work_and_meet(rt, crews, live, gate, at_once);
     let fired_since = dates_of(crews) - fired;
     let steps_since = turns_of(crews) - steps;
+    threading.note(looks, fired_since);
     Burst {
         fired: fired_since,
         steps: steps_since,

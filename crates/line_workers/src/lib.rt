@@ -16,6 +16,8 @@ mod order;
 mod owner;
 mod pace;
 mod team;
+mod threading;
+mod work;
 
 pub use crew::Crew;
 pub use gate::{FreeGate, Gate};

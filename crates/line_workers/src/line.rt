@@ -17,6 +17,7 @@ use crate::closing::{copies_of, logs_of};
 use crate::crew::Crew;
 use crate::crews::{all_done, burst_of, crews_of, dates_of, gather_crews};
 use crate::gate::Gate;
+use crate::threading::Threading;
 use line_core::State;
 use live_check::Live;
 use std::alloc::{AllocError, Global};
@@ -33,6 +34,8 @@ pub struct Line {
     crews: Vec<Crew>,
     // How many firings had been made when the turns of the stations began to count. Contracts alone read it.
     made: u64,
+    // Whether the next burst goes by threads.
+    threading: Threading,
 }
 
 impl Model for Line {
@@ -72,7 +75,11 @@ impl Line {
     {
         let made = state.fired();
         let crews = crews_of(alloc, live, state, workers, room)?;
-        Ok(Line { crews, made })
+        Ok(Line {
+            crews,
+            made,
+            threading: Threading::new(),
+        })
     }
 
     /// The line at the start: no station has fired. Station `t` belongs to worker `t * workers / stations`, rounded
@@ -140,9 +147,10 @@ impl Line {
         all_done(&self.crews)
     }
 
-    /// Lets each worker go over its stations 16 times, or fewer where all of them are done before, each worker on a
-    /// thread of its own, and then lets the ends of every queue meet on this thread. One worker works on this thread.
-    /// It takes no memory and waits for no lock.
+    /// Lets each worker go over its stations 16 times, or fewer where all of them are done before, and then lets the
+    /// ends of every queue meet on this thread. Each worker works on a thread of its own, as in the first burst of a
+    /// line, or all of them in turn on this thread, where threads did not pay in the bursts before. One worker works on
+    /// this thread. It takes no memory and waits for no lock.
     ///
     /// Whatever the threads do meanwhile, the line stands for a state that firings reach. `fired` and `steps` are 0
     /// exactly where every station had fired once for each job. Where the room of rings is bounded, no more tokens
@@ -173,7 +181,7 @@ impl Line {
         ensures alone_steps { (times : ℕ) → self.old.workers ≡ 1 →
             HasFired (run_in self.old) times → result.steps ≡ result.fired }
     {
-        burst_of(rt, &mut self.crews, live, gate)
+        burst_of(rt, &mut self.crews, live, gate, &mut self.threading)
     }
 
     /// A copy of the state that the line stands for. It can go on firing by itself: it takes the room of all later
@@ -222,6 +230,10 @@ impl Line {
     {
         let mut crews = crews;
         let made = gather_crews(&mut crews, live);
-        Line { crews, made }
+        Line {
+            crews,
+            made,
+            threading: Threading::new(),
+        }
     }
 }

@@ -7,34 +7,60 @@ use std::{hint, thread};
 const LOOKS: u32 = 100;
 
 /// How often a crew lets another thread run in a burst, at most. After that it waits for nobody.
-const ROUNDS: u64 = 200;
+const ROUNDS: u64 = 50;
 
 /// Stands for no station.
 const NO_STATION: u64 = u64::MAX;
 
+/// What the crews of a burst that keep pace tell each other.
+#[derive(Drop)]
+pub(crate) struct Waits {
+    crews: u64,
+    // How many sweeps all crews together have begun.
+    begun: AtomicU64,
+    // How often the crew that waited most looked for the others.
+    most_looks: AtomicU64,
+}
+
+impl Waits {
+    /// Of so many crews, none of which has begun a sweep.
+    pub(crate) fn new(crews: u64) -> Waits {
+        Waits {
+            crews,
+            begun: AtomicU64::new(0),
+            most_looks: AtomicU64::new(0),
+        }
+    }
+
+    /// How often the crew that waited most looked for the others, of those that have left.
+    pub(crate) fn most_looks(&self) -> u64 {
+        self.most_looks.load(Ordering::SeqCst)
+    }
+}
+
 /// How far a crew has come in a burst, where it keeps pace with the others.
 #[derive(Drop)]
 pub(crate) struct Pace<'a> {
-    crews: u64,
-    // How many sweeps all crews together have begun.
-    begun: &'a AtomicU64,
+    waits: &'a Waits,
     // How many sweeps the crew has begun.
     sweeps: AtomicU64,
     // The station at which its sweeps begin, once it has made a step.
     first: AtomicU64,
     // How often it has let another thread run.
     rounds: AtomicU64,
+    // How often it has looked for the others.
+    looks: AtomicU64,
 }
 
 impl<'a> Pace<'a> {
-    /// The pace of a crew that has begun no sweep, one of so many that count theirs together.
-    pub(crate) fn new(crews: u64, begun: &'a AtomicU64) -> Pace<'a> {
+    /// The pace of a crew that has begun no sweep, one of those that tell each other by this.
+    pub(crate) fn new(waits: &'a Waits) -> Pace<'a> {
         Pace {
-            crews,
-            begun,
+            waits,
             sweeps: AtomicU64::new(0),
             first: AtomicU64::new(NO_STATION),
             rounds: AtomicU64::new(0),
+            looks: AtomicU64::new(0),
         }
     }
 
@@ -51,12 +77,14 @@ impl<'a> Pace<'a> {
 
     /// Looks for a moment whether so many sweeps have begun.
     fn have_begun(&self, sweeps: u64) -> bool {
-        for _look in 0..LOOKS {
-            if self.begun.load(Ordering::SeqCst) >= sweeps {
+        for look in 0..LOOKS {
+            if self.waits.begun.load(Ordering::SeqCst) >= sweeps {
+                self.looks.fetch_add(u64::from(look), Ordering::SeqCst);
                 return true;
             }
             hint::spin_loop();
         }
+        self.looks.fetch_add(u64::from(LOOKS), Ordering::SeqCst);
         false
     }
 
@@ -78,14 +106,17 @@ impl<'a> Pace<'a> {
             return;
         }
         let before = self.sweeps.fetch_add(1, Ordering::SeqCst);
-        self.look_for(before.saturating_mul(self.crews));
-        self.begun.fetch_add(1, Ordering::SeqCst);
+        self.look_for(before.saturating_mul(self.waits.crews));
+        self.waits.begun.fetch_add(1, Ordering::SeqCst);
     }
 
-    /// Counts the sweeps that the crew leaves out, since its stations are done. The others then look for it no more.
+    /// Counts the sweeps that the crew leaves out, since its stations are done. The others then look for it no more. Tells
+    /// how often it has looked for them.
     pub(crate) fn leave(&self) {
         let left = u64::from(SWEEPS).saturating_sub(self.sweeps.load(Ordering::SeqCst));
-        self.begun.fetch_add(left, Ordering::SeqCst);
+        self.waits.begun.fetch_add(left, Ordering::SeqCst);
+        let looks = self.looks.load(Ordering::SeqCst);
+        self.waits.most_looks.fetch_max(looks, Ordering::SeqCst);
     }
 }
 

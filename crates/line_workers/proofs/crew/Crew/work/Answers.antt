@@ -1,31 +1,21 @@
-use Rattle.std.proofs.Common.{◌∙◌, true≢false, sym, arith}
-use Rattle.line_workers.proofs.Bursting.{bursting_begins, bursting_goes_on, burst_in_full, alone_in_full, burst_when_done, alone_at_end}
+use Rattle.std.proofs.Common.{◌≡◌, subst, arith}
+use Rattle.line_workers.specs.Crews.{IsAtWork}
+use Rattle.line_workers.proofs.Bursting.{at_work_begins, may_go_on, at_work_in_full}
 use Rattle.line_workers.proofs.crew.Crew.work.Goals as goal
 
 pub loop-sweep-init : goal.loop-sweep-init
-loop-sweep-init g c = bursting_begins c.args.self.now
+loop-sweep-init g c = at_work_begins c.args.self.now
+
+pub go_on-requires-clause-ready : goal.go_on-requires-clause-ready
+go_on-requires-clause-ready g c κs h =
+    let now = c.loop-sweep.self in
+    may_go_on c.args.live.now c.args.self.now now c.loop-sweep._sweep (omega (arith, c.loop-sweep-test.true)) c.requires.ready c.loop-sweep.invariant
 
 pub loop-sweep-preserved : goal.loop-sweep-preserved
 loop-sweep-preserved g c =
-    let e = c.sweep.ensures in
-    bursting_goes_on c.args.self.now c.loop-sweep.self c.loop-sweep._sweep c.loop-sweep.invariant c.done.ensures.crew c.sweep.new.self
-    (λ all. true≢false (sym (c.done.ensures.done.1 all) ∙ c.if-done.false))
-    e.crew e.frame e.swept e.alone
+    c.go_on.ensures c.args.self.now c.loop-sweep._sweep (omega (arith, c.loop-sweep-test.true)) c.loop-sweep.invariant
 
-pub returns-then-done-clause-burst : goal.returns-then-done-clause-burst
-returns-then-done-clause-burst g c =
-    let done = c.done.ensures.done.0 c.if-done.true in
-    burst_when_done c.args.self.now c.loop-sweep.self c.loop-sweep._sweep c.loop-sweep.invariant c.done.ensures.crew c.loop-sweep.auto._sweep-end done
-
-pub returns-then-done-clause-alone : goal.returns-then-done-clause-alone
-returns-then-done-clause-alone g c =
-    let done = c.done.ensures.done.0 c.if-done.true in
-    alone_at_end c.args.self.now c.loop-sweep.self c.loop-sweep._sweep c.loop-sweep.invariant c.done.ensures.crew c.loop-sweep.auto._sweep-end done
-
-pub returns-clause-burst : goal.returns-clause-burst
-returns-clause-burst g c =
-    burst_in_full c.args.self.now c.loop-sweep.self c.loop-sweep._sweep c.loop-sweep.invariant (omega (arith, c.loop-sweep-test.false, c.loop-sweep.auto._sweep-end))
-
-pub returns-clause-alone : goal.returns-clause-alone
-returns-clause-alone g c =
-    alone_in_full c.args.self.now c.loop-sweep.self c.loop-sweep._sweep c.loop-sweep.invariant (omega (arith, c.loop-sweep-test.false, c.loop-sweep.auto._sweep-end))
+pub returns : goal.returns
+returns g c =
+    let full : c.loop-sweep._sweep ≡ 16 = omega (arith, c.loop-sweep-test.false, c.loop-sweep.auto._sweep-end) in
+    at_work_in_full c.args.self.now c.loop-sweep.self (subst (IsAtWork c.args.self.now c.loop-sweep.self) full c.loop-sweep.invariant)

@@ -1,0 +1,57 @@
+/// How many bursts go in turn after the first burst by threads that did not pay. After each further one they are twice as
+/// many.
+const FIRST_PAUSE: u32 = 64;
+
+/// How many they are at most.
+const LONGEST_PAUSE: u32 = 1024;
+
+/// How many firings a burst by threads makes at the least for each look of the crew that waited most, where it pays.
+///
+/// One look takes about half as long as one firing. So the crew then waits for a thirtieth of the time at the most in which
+/// one thread would make the firings. To fetch what another processor has written takes time too, which nothing counts.
+const FIRINGS_FOR_A_LOOK: u64 = 16;
+
+/// Whether the next burst of a line goes by threads.
+///
+/// To begin a thread takes as long as a thousand firings, and one that begins late lets the others wait. So a line goes by
+/// threads as long as that pays; where it did not, some bursts go in turn on one thread before it tries again. What a
+/// burst comes to is the same.
+#[derive(Drop)]
+pub(crate) struct Threading {
+    // How many bursts are to go in turn before the next by threads.
+    in_turn: u32,
+    // How many are to go in turn after the next burst by threads, if that does not pay.
+    pause: u32,
+}
+
+impl Threading {
+    /// Of a line that has made no burst: the first goes by threads.
+    pub(crate) fn new() -> Threading {
+        Threading {
+            in_turn: 0,
+            pause: FIRST_PAUSE,
+        }
+    }
+
+    /// Whether the next burst, of so many crews, goes by threads. It is taken to be made then.
+    pub(crate) fn begins_threads(&mut self, crews: usize) -> bool {
+        if self.in_turn == 0 {
+            return crews > 1;
+        }
+        self.in_turn -= 1;
+        false
+    }
+
+    /// Notes what came of a burst: how often the crew that waited most looked for the others, where it went by threads, and
+    /// how many firings were made.
+    pub(crate) fn note(&mut self, looks: Option<u64>, fired: u64) {
+        match looks {
+            None => {}
+            Some(looks) if looks < fired / FIRINGS_FOR_A_LOOK => self.pause = FIRST_PAUSE,
+            Some(_) => {
+                self.in_turn = self.pause;
+                self.pause = self.pause.saturating_mul(2).min(LONGEST_PAUSE);
+            }
+        }
+    }
+}
