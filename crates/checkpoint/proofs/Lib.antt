@@ -9,3 +9,5 @@ pub mod Noted
 pub mod ReadTokens
 pub mod ReadParts
 pub mod OneState
+pub mod WordLengths
+pub mod Lengths

@@ -3,4 +3,5 @@ pub mod FirstBadLine
 pub mod Reading
 pub mod Answers
 pub mod Refusals
+pub mod Length
 pub mod Laws

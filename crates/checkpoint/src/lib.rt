@@ -13,6 +13,6 @@ mod words;
 mod writer;
 
 pub use error::CheckpointError;
-pub use laws::texts_of_different_states_differ;
+pub use laws::{texts_of_different_states_differ, texts_of_few_arcs_fit};
 pub use read::read_state;
 pub use writer::write_state;
