@@ -17,7 +17,6 @@ use Rattle.plant_model.specs.Graph.{Row, worked, plain, onward, machine_rows, st
 use Rattle.plant_model.specs.Sound.{IsSound}
 use Rattle.event_graph.specs.Network.{arc_count, arc, IsGraph}
 use Rattle.plant_model.proofs.SoundPlants.{IsSoundStage-sound}
-use Rattle.plant_model.proofs.LayoutStations.{release-next, release-all}
 use Rattle.line_base.proofs.RangeLists.{Contains-map-range, Contains-map-filter, Contains-flat_map-range, Contains-head, Contains-tail}
 use Rattle.line_graph.proofs.PolicyRows.{policy_rows-kanban, policy_rows-base_stock, policy_rows-extended, policy_rows-conwip}
 use Rattle.line_graph.proofs.Sizes.{stations-graph, arc_count-graph}

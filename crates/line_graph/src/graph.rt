@@ -2,6 +2,7 @@ ghost use Rattle.std.specs.Prelude.{◌≡◌, ◌+◌, ◌*◌, ◌≤◌, IfOk
 ghost use Rattle.plant_model.specs.Graph.{graph};
 ghost use Rattle.plant_model.specs.Sound.{IsSound};
 ghost use Rattle.event_graph.specs.Network.{stations, arc_count};
+ghost use Rattle.line_graph.specs.Labels.{HasLabels};
 
 use crate::arcs::line_arcs;
 use crate::delays::line_delays;
@@ -19,6 +20,7 @@ pub fn graph_of(alloc: Global, plant: &Plant) -> Result<Graph, AllocError>
     requires { IsSound plant.now }
     ensures graph { IfOk result (λ g. g ≡ graph plant.now) }
     ensures few_arcs { IfOk result (λ g. arc_count g ≤ 3 * stations g + 59) }
+    ensures labels { IfOk result HasLabels }
 {
     let parts = parts_of(alloc, plant)?;
     match Graph::build(alloc, parts) {
@@ -33,7 +35,8 @@ pub fn graph_of(alloc: Global, plant: &Plant) -> Result<Graph, AllocError>
 /// The parts of a plant's graph.
 fn parts_of(alloc: Global, plant: &Plant) -> Result<Parts, AllocError>
     requires { IsSound plant.now }
-    ensures { IfOk result (λ parts. parts ≡ graph plant.now) }
+    ensures graph { IfOk result (λ parts. parts ≡ graph plant.now) }
+    ensures labels { IfOk result HasLabels }
 {
     Ok(Parts {
         labels: Items::from_vec(station_labels(alloc, plant)?),

@@ -1,5 +1,7 @@
 ghost use Rattle.std.specs.Prelude.{◌≡◌, ◌∷◌, [], ◌++◌, IfOk, OnOk, IsTrue, map, codes};
+ghost use Rattle.line_base.specs.Text.{is_label};
 ghost use Rattle.plant_model.specs.Graph.{labels, stage_labels};
+ghost use Rattle.line_graph.specs.Labels.{AreLabels};
 
 use line_base::{Label, Name};
 use plant_model::{Plant, Stage};
@@ -8,7 +10,8 @@ use std::alloc::{AllocError, Global};
 /// The labels of the stations: `feed`, then each stage's, then `deliver`.
 #[tactic(auto, unfolding(plant_model::specs::Graph::labels))]
 pub fn station_labels(alloc: Global, plant: &Plant) -> Result<Vec<Label>, AllocError>
-    ensures { IfOk result (λ all. all.items ≡ labels plant.now) }
+    ensures all { IfOk result (λ all. all.items ≡ labels plant.now) }
+    ensures rule { IfOk result (λ all. AreLabels all.items) }
 {
     let mut all = Vec::new(alloc);
     all.push(Label::of(alloc, b"feed")?)?;
@@ -21,7 +24,8 @@ pub fn station_labels(alloc: Global, plant: &Plant) -> Result<Vec<Label>, AllocE
 
 /// Adds the labels of a stage: its own for the release, then one a machine.
 fn add_stage_labels(alloc: Global, stage: &Stage, all: &mut Vec<Label>) -> Result<(), AllocError>
-    ensures { OnOk result (all.new.items ≡ all.old.items ++ stage_labels stage.now) }
+    ensures added { OnOk result (all.new.items ≡ all.old.items ++ stage_labels stage.now) }
+    ensures rule { OnOk result (AreLabels all.old.items → AreLabels all.new.items) }
 {
     all.push(Label::of(alloc, stage.name.text())?)?;
     for machine in stage.machines.as_slice() {
@@ -32,7 +36,8 @@ fn add_stage_labels(alloc: Global, stage: &Stage, all: &mut Vec<Label>) -> Resul
 
 /// The label of a machine: its stage's name, a dot, its own name.
 fn machine_label(alloc: Global, stage: &Name, machine: &Name) -> Result<Label, AllocError>
-    ensures { IfOk result (λ label. label ≡ stage.now ++ codes "." ++ machine.now) }
+    ensures label { IfOk result (λ label. label ≡ stage.now ++ codes "." ++ machine.now) }
+    ensures rule { IfOk result (λ label. IsTrue (is_label label)) }
 {
     let mut text = Vec::from_slice(alloc, stage.text())?;
     text.push(b'.')?;

@@ -2,10 +2,10 @@ use Rattle.std.proofs.Common.{◌∙◌}
 use Rattle.line_graph.proofs.Built.{graph-parts}
 use Rattle.line_graph.proofs.graph.parts_of.Goals as goal
 
-pub returns : goal.returns
-returns c =
+pub returns-clause-graph : goal.returns-clause-graph
+returns-clause-graph c =
     graph-parts c.args.plant.now _
-    (c.from_vec.ensures ∙ c.in_ok-station_labels.ensures)
+    (c.from_vec.ensures ∙ c.in_ok-station_labels.ensures.all)
     (c.from_vec-2.ensures ∙ c.in_ok-station_times.ensures)
     c.in_ok-copy.ensures
     (c.from_vec-3.ensures ∙ c.in_ok-line_arcs.ensures)
