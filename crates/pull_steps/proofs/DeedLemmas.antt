@@ -1,18 +1,18 @@
 -- Steps, and then a deed.
 use Rattle.std.proofs.Common.{◌≡◌, ◌⊎◌, ℕ, ◌≤◌, Bool, List, [], ◌∷◌, ◌++◌, refl, ap, sym, ◌∙◌, subst, append_assoc, append-nil, inl, inr, ⊎_elim, arith}
-use Rattle.std.specs.Prelude.{Result, Ok, Err, IfErr, IsErrAnd, All, IsTrue}
+use Rattle.std.specs.Prelude.{Result, Ok, Err, IfErr, IsErrAnd}
 use Rattle.std.proofs.lemmas.Result.{err_from_is_err_and}
-use Rattle.std.proofs.lemmas.List.Elements.{All-nil, All-append, All-weaker}
+use Rattle.std.proofs.lemmas.List.Elements.{All-append, All-weaker}
 use Rattle.line_disk.specs.DiskView.{DiskView}
-use Rattle.line_io.specs.Calls.{Read, Write, Asked, none_asked}
+use Rattle.line_io.specs.Calls.{Read, Write, Asked}
 use Rattle.line_io.specs.Contents.{Contents, SameFiles, IsTorn}
-use Rattle.line_io.specs.Faults.{Rose, NeverFall}
+use Rattle.line_io.specs.Faults.{NeverFall}
 use Rattle.line_io.specs.StoreView.{StoreView}
 use Rattle.line_io.specs.declared.store.StoreError.{StoreError}
 use Rattle.line_io.specs.declared.store.StoreError.TheVariants as store_error
 use Rattle.pull_words.specs.declared.reply.Reply.{Reply}
 use Rattle.pull_words.specs.declared.reply.Reply.TheVariants.{NoMemory, StoreFault, TooLong, Disk}
-use Rattle.pull_steps.specs.Deeds.{DiskOver, Deed, Plainly, ThenDoes, with_asked, LeavesFile, RaisesCount, WritesOne, Changes, HasCause, Does, DoesOnStore, DoesOnDisk}
+use Rattle.pull_steps.specs.Deeds.{DiskOver, Deed, Plainly, ThenDoes, with_asked, LeavesFile, RaisesCount, Changes, HasCause, Does, DoesOnStore, DoesOnDisk}
 use Rattle.pull_steps.specs.Outside.{StoreOver, store_over, with_reads, IsOfFile, IsCaused}
 use Rattle.pull_steps.specs.Steps.{Step, Settles, Then, Makes}
 use Rattle.pull_steps.proofs.StepLemmas.{fits_along, NeedsNoCause, settled_is_caused, settles, then_makes, then_settles, then_stops}

@@ -10,7 +10,6 @@ use Rattle.line_io.specs.declared.store.StoreError.TheVariants as store_error
 use Rattle.pull_words.specs.declared.reply.Reply.{Reply}
 use Rattle.pull_words.specs.declared.reply.Reply.TheVariants.{Disk, StoreFault, TooLong}
 use Rattle.pull_steps.specs.Outside.{StoreOver, store_over, limit_of, IsOfFile}
-use Rattle.pull_steps.specs.Steps.{Step}
 
 -- a disk over a call: whether it tells what it holds, and what it shows before the call and after it
 pub record DiskOver : Type 0 where

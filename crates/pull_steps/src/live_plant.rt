@@ -2,6 +2,7 @@ ghost use Rattle.std.specs.Prelude.{◌≡◌, ◌⊎◌, IfOk, IfErr, OnOk};
 ghost use Rattle.plant_model.specs.Graph.{graph};
 ghost use Rattle.plant_model.specs.Sound.{IsSound};
 ghost use Rattle.event_graph.specs.Live.{IsLive};
+ghost use Rattle.line_graph.specs.Labels.{HasLabels};
 ghost use Rattle.live_check.specs.DeadCircuit.{IsDeadCircuit};
 ghost use Rattle.pull_steps.specs.LivePlant.{plant_in, IsLivePlant};
 ghost use Rattle.pull_steps.specs.Outside.{store_over};
@@ -45,6 +46,7 @@ pub fn read_live_plant<S: Store>(
 fn live_graph(alloc: Global, plant: &Plant) -> Result<Live, Reply>
     requires { IsSound plant.now }
     ensures graph { IfOk result (λ live. live.graph ≡ graph plant.now) }
+    ensures labels { OnOk result (HasLabels (graph plant.now)) }
     ensures live { OnOk result (IsLive (graph plant.now)) }
     ensures dead { IfErr result (λ reply. IsDeadReply (graph plant.now) reply ⊎ (reply ≡ Reply.NoMemory)) }
 {
