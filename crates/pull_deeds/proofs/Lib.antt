@@ -1,4 +1,5 @@
 pub mod Asking
+pub mod Checkpoints
 pub mod Deeds
 pub mod Resumings
 pub mod SlotRuns

@@ -1,5 +1,5 @@
 -- A run of a plant with the slots of a disk.
-use Rattle.std.proofs.Common.{◌≡◌, ◌⊎◌, ℕ, ◌+◌, ◌*◌, ◌≤◌, Bool, [], IsTrue, refl, sym, subst, inl, inr, arith}
+use Rattle.std.proofs.Common.{◌≡◌, ◌⊎◌, ℕ, ◌+◌, ◌*◌, ◌≤◌, Bool, [], IsTrue, refl, ap, sym, subst, inl, inr, arith}
 use Rattle.std.specs.Prelude.{Result, Err, IfErr}
 use Rattle.event_graph.specs.Network.{stations}
 use Rattle.event_graph.specs.State.{State, start}
@@ -20,7 +20,7 @@ use Rattle.pull_steps.specs.Outside.{StoreOver}
 use Rattle.pull_deeds.proofs.Deeds.{no_memory_caused, uses_disk}
 use Rattle.pull_deeds.proofs.Stops.{fired_at_start, reported_caused}
 use Rattle.pull_deeds.specs.Answers.{IsReport}
-use Rattle.pull_deeds.specs.Saving.{Saves, RunsWithSlots, slot_reply}
+use Rattle.pull_deeds.specs.Saving.{Saves, RunsWithSlots, ComesOfSave}
 use Rattle.pull_deeds.specs.declared.output.Output.{Output}
 use Rattle.slot_store.specs.declared.error.SlotError.{SlotError}
 use Rattle.slot_store.specs.declared.error.SlotError.TheVariants as slot_error
@@ -51,11 +51,13 @@ module _ (tells : Bool) (old new : DiskView) (p : Plant) (n : ℕ) (kept : Kept 
   run_no_memory answer none = run_does answer (λ store. no_memory_caused store (disk_over tells old new) [] answer none) (inr (inr none))
 
   -- a save failed
-  pub run_fails : (e : SlotError) → (e ≡ slot_error.DiskFault → Rose old.faults new.faults) → DoesOnDisk (disk_over tells old new) (RunsWithSlots p n) (Err (slot_reply e))
-  run_fails slot_error.DiskFault rose = run_does (Err Disk) (λ store. rose refl) (inr (inl refl))
-  run_fails slot_error.NoMemory rose = run_no_memory (Err NoMemory) refl
-  run_fails slot_error.NoneSaved rose = run_no_memory (Err NoMemory) refl
-  run_fails (slot_error.TooLong have) rose = run_no_memory (Err NoMemory) refl
+  pub run_fails : (e : SlotError) (reply : Reply) → (e ≡ slot_error.DiskFault → Rose old.faults new.faults) → ComesOfSave e reply → DoesOnDisk (disk_over tells old new) (RunsWithSlots p n) (Err reply)
+  run_fails slot_error.DiskFault reply rose comes =
+      subst (λ (r : Reply). DoesOnDisk (disk_over tells old new) (RunsWithSlots p n) (Err r)) (sym comes)
+      (run_does (Err Disk) (λ store. rose refl) (inr (inl refl)))
+  run_fails slot_error.NoMemory reply rose comes = run_no_memory (Err reply) (ap (λ (r : Reply). Err r) comes)
+  run_fails slot_error.NoneSaved reply rose comes = absurd comes
+  run_fails (slot_error.TooLong have) reply rose comes = absurd comes
 
   run_comes : (answer : Result Output Reply) → (IsTrue tells → n + 16 * stations (graph p) ≤ all_firings (graph p) → IsLateState (graph p) n most_checkpoint_bytes (held_now new)) → IsReport p answer ⊎ (answer ≡ Err NoMemory) → Saves p n (disk_over tells old new) answer ⊎ ((answer ≡ Err Disk) ⊎ (answer ≡ Err NoMemory))
   run_comes answer late (inl report) = inl (record { report = report; late = late })

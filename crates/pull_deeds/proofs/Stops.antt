@@ -3,6 +3,7 @@ use Rattle.std.proofs.Common.{◌≡◌, ◌⊎◌, ℕ, ◌<◌, Bool, List, []
 use Rattle.std.specs.Prelude.{Result, Ok, Err, IfErr}
 use Rattle.std.proofs.lemmas.List.Folds.{sum_by-replicate}
 use Rattle.checkpoint.specs.declared.format.Format.TheVariants.{Differences}
+use Rattle.checkpoint.specs.Length.{FitsLimit}
 use Rattle.checkpoint.specs.Text.{text}
 use Rattle.event_graph.specs.Network.{stations, jobs}
 use Rattle.event_graph.specs.State.{State, start}
@@ -93,19 +94,19 @@ runs_not tells view p n file answer none =
     (λ disk. no_memory_caused (store_over tells view view) disk [] answer none)
     (λ disk same. record { untouched = same; comes = inr (inr (refl, none)) })
 
-stop_comes : (p : Plant) (n : ℕ) (file : List ℕ) (state : State) (asked : Asked) (disk : DiskOver) (answer : Result Output Reply) → MayBeResumed (graph p) state → IsStopAt (graph p) n 0 (fired state) → disk.new ≡ disk.old → WritesText file (text Differences (graph p) state) (fired state) asked answer ⊎ AsksNothing asked answer → RunsUntil p n file asked disk answer
-stop_comes p n file state asked disk answer resumed stop same (inl writes) = record {
+stop_comes : (p : Plant) (n : ℕ) (file : List ℕ) (state : State) (asked : Asked) (disk : DiskOver) (answer : Result Output Reply) → FitsLimit (graph p) → MayBeResumed (graph p) state → IsStopAt (graph p) n 0 (fired state) → disk.new ≡ disk.old → WritesText file (text Differences (graph p) state) (fired state) asked answer ⊎ AsksNothing asked answer → RunsUntil p n file asked disk answer
+stop_comes p n file state asked disk answer fits resumed stop same (inl writes) = record {
   untouched = same;
-  comes = inl (record { state = state; resumed = resumed; stop = stop; saved = writes });
+  comes = inl (record { state = state; resumed = resumed; stop = stop; fits = fits Differences state resumed.reached; saved = writes });
 }
-stop_comes p n file state asked disk answer resumed stop same (inr none) = record { untouched = same; comes = inr (inr none) }
+stop_comes p n file state asked disk answer fits resumed stop same (inr none) = record { untouched = same; comes = inr (inr none) }
 
 -- the run was stopped, and its state saved
-pub stops_run : (store : StoreOver) (p : Plant) (n : ℕ) (file : List ℕ) (r : Run) (answer : Result Output Reply) → r.graph ≡ graph p → MayBeResumed (graph p) r.state → IsStopAt (graph p) n 0 (fired r.state) → DoesOnStore store (SavesText file (text_of r) (fired r.state)) answer → DoesOnStore store (RunsUntil p n file) answer
-stops_run store p n file r answer same resumed stop saved =
+pub stops_run : (store : StoreOver) (p : Plant) (n : ℕ) (file : List ℕ) (r : Run) (answer : Result Output Reply) → FitsLimit (graph p) → r.graph ≡ graph p → MayBeResumed (graph p) r.state → IsStopAt (graph p) n 0 (fired r.state) → DoesOnStore store (SavesText file (text_of r) (fired r.state)) answer → DoesOnStore store (RunsUntil p n file) answer
+stops_run store p n file r answer fits same resumed stop saved =
     let of_plant : DoesOnStore store (SavesText file (text Differences (graph p) r.state) (fired r.state)) answer =
     subst (λ (g : Parts). DoesOnStore store (SavesText file (text Differences g r.state) (fired r.state)) answer) same saved in
     λ disk still.
     does_also store disk (SavesText file (text Differences (graph p) r.state) (fired r.state)) (RunsUntil p n file) answer
-    (λ asked comes. stop_comes p n file r.state asked disk answer resumed stop comes.0 comes.1)
+    (λ asked comes. stop_comes p n file r.state asked disk answer fits resumed stop comes.0 comes.1)
     (of_plant disk still)

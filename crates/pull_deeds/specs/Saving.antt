@@ -1,6 +1,6 @@
 -- What a command comes to that saves states: into a file where it stops, or into the slots of a disk on the way; and what
 -- goes on from slots.
-use Rattle.std.specs.Prelude.{◌≡◌, ◌⊎◌, ℕ, ◌+◌, ◌*◌, ◌≤◌, List, [], ◌∷◌, IsTrue, Option, Some, None, Result, Ok, Err, ⊤}
+use Rattle.std.specs.Prelude.{◌≡◌, ◌⊎◌, ℕ, ◌+◌, ◌*◌, ◌≤◌, List, [], ◌∷◌, length, IsTrue, Option, Some, None, Result, Ok, Err, ⊤}
 use Rattle.checkpoint.specs.declared.format.Format.TheVariants.{Differences}
 use Rattle.checkpoint.specs.Text.{text}
 use Rattle.event_graph.specs.Network.{stations}
@@ -52,11 +52,13 @@ abbrev pub SavesText : List ℕ → List ℕ → ℕ → Deed Output
 SavesText file bytes count asked disk answer =
     (disk.new ≡ disk.old) × (WritesText file bytes count asked answer ⊎ AsksNothing asked answer)
 
--- the run stopped in a state from which it may be resumed, at n firings or soon after, and its text was written to the file
+-- the run stopped in a state from which it may be resumed, at n firings or soon after, and its text, which is no longer than a
+-- checkpoint may be, was written to the file
 pub record Stops (p : Plant) (n : ℕ) (file : List ℕ) (asked : Asked) (answer : Result Output Reply) : Type 0 where
   pub state : State
   pub resumed : MayBeResumed (graph p) state
   pub stop : IsStopAt (graph p) n 0 (fired state)
+  pub fits : length (text Differences (graph p) state) ≤ most_checkpoint_bytes
   pub saved : WritesText file (text Differences (graph p) state) (fired state) asked answer
 
 -- the run came to its end before it was stopped, and nothing was written to the store
@@ -103,12 +105,12 @@ pub record ResumesSlots (p : Plant) (asked : Asked) (disk : DiskOver) (answer : 
   pub stays : IsTrue disk.tells → Stays disk.old disk.new
   pub comes : ResumesSaved p disk answer ⊎ ((answer ≡ Err Disk) ⊎ (answer ≡ Err NoMemory))
 
--- what a save comes to that didn't go well; every checkpoint fits the room of a slot
-abbrev pub slot_reply : SlotError → Reply
-slot_reply slot_error.DiskFault = Disk
-slot_reply slot_error.NoMemory = NoMemory
-slot_reply slot_error.NoneSaved = NoMemory
-slot_reply (slot_error.TooLong have) = NoMemory
+-- what a save comes to that didn't go well; every checkpoint of a plant fits the room of a slot
+abbrev pub ComesOfSave : SlotError → Reply → Type 0
+ComesOfSave slot_error.DiskFault reply = reply ≡ Disk
+ComesOfSave slot_error.NoMemory reply = reply ≡ NoMemory
+ComesOfSave slot_error.NoneSaved reply = ⊥
+ComesOfSave (slot_error.TooLong have) reply = ⊥
 
 -- the station that a checkpoint's refusal names is one of the graph
 abbrev pub NamesStationOf : Parts → ResumeError → Type 0

@@ -191,7 +191,8 @@ fn save_reply(saved: Result<(), StoreError>, fired: u64, file: FileName) -> Repl
     match saved {
         Ok(()) => Reply::Stopped { fired },
         Err(StoreError::Failed) => Reply::StoreFault { file },
-        Err(StoreError::TooLong | StoreError::NoMemory) => Reply::NoMemory,
+        Err(StoreError::NoMemory) => Reply::NoMemory,
+        Err(StoreError::TooLong) => unreachable!(),
     }
 }
 

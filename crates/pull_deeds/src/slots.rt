@@ -1,10 +1,11 @@
 //! Runs of a live plant with the two slots of a disk.
-ghost use Rattle.std.specs.Prelude.{◌≡◌, ◌≤◌};
+ghost use Rattle.std.specs.Prelude.{◌≡◌, ℕ, ◌≤◌};
 ghost use Rattle.line_base.specs.Limits.{most_workers};
 ghost use Rattle.pull_steps.specs.Deeds.{disk_over, DoesOnDisk};
 ghost use Rattle.pull_steps.specs.LivePlant.{IsLivePlant};
-ghost use Rattle.pull_deeds.specs.Saving.{RunsWithSlots, ResumesSlots, slot_reply};
+ghost use Rattle.pull_deeds.specs.Saving.{RunsWithSlots, ResumesSlots, ComesOfSave};
 ghost use Rattle.pull_deeds.specs.Saving.{NamesStationOf, IsResumeReply};
+ghost use Rattle.slot_store.specs.declared.error.SlotError.TheVariants.{TooLong};
 
 use crate::output::Output;
 use crate::runs::report_of;
@@ -43,13 +44,16 @@ pub fn run_with_slots<R: Threads + Sync, G: Gate, D: Disk>(
     }
 }
 
-/// What a save comes to that didn't go well. Every checkpoint fits the room of a slot.
+/// What a save comes to that didn't go well. Every checkpoint of a plant fits the room of a slot.
 fn slot_reply(error: SlotError) -> Reply
-    ensures { result ≡ slot_reply error }
+    requires fits { (have : ℕ) → ¬ (error ≡ TooLong have) }
+    requires saves { ¬ (error ≡ SlotError.NoneSaved) }
+    ensures { ComesOfSave error result }
 {
     match error {
         SlotError::DiskFault => Reply::Disk,
-        SlotError::NoMemory | SlotError::NoneSaved | SlotError::TooLong { .. } => Reply::NoMemory,
+        SlotError::NoMemory => Reply::NoMemory,
+        SlotError::NoneSaved | SlotError::TooLong { .. } => unreachable!(),
     }
 }
 

@@ -3,6 +3,7 @@ use Rattle.std.specs.Prelude.{Err}
 use Rattle.line_base.specs.declared.event.Parts.{Parts}
 use Rattle.line_runs.specs.Headline.{MayBeResumed}
 use Rattle.pull_steps.specs.Outside.{store_over}
+use Rattle.pull_deeds.proofs.Checkpoints.{fits_limit}
 use Rattle.pull_deeds.proofs.Deeds.{is_no_memory}
 use Rattle.pull_deeds.proofs.Stops.{runs_not, ends_run, stops_run, short_of, stop_of}
 use Rattle.pull_deeds.proofs.runs.run_until.Goals as goal
@@ -24,6 +25,7 @@ returns-in-Stopped g c =
     let state = c.in-Stopped.state in
     let well = c.in-Stopped.ensures.headline in
     stops_run (store_over g.S.Store.tells (g.S.Store.shown c.args.store.now) (g.S.Store.shown c.save.new.store)) line.plant c.args.stop.after c.args.stop.save state (Err c.save.result)
+    (fits_limit line c.requires.plant)
     (well.0 ∙ c.requires.plant.graph)
     (subst (λ (h : Parts). MayBeResumed h state.state) c.requires.plant.graph well.1)
     (stop_of line.plant line.live.graph c.args.stop.after c.in_ok-work.work.state state.state c.requires.plant.graph c.in_ok-work.ensures.stands.state_is c.in-Stopped.ensures.count)

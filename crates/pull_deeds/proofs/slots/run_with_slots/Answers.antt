@@ -1,9 +1,10 @@
-use Rattle.std.proofs.Common.{sym, ap, subst}
+use Rattle.std.proofs.Common.{ap, subst}
 use Rattle.std.specs.Prelude.{Err}
+use Rattle.line_base.specs.declared.event.Parts.{Parts}
+use Rattle.line_base.specs.Limits.{most_checkpoint_bytes}
+use Rattle.line_runs.specs.Saves.{HasTooLongState}
 use Rattle.plant_model.specs.Graph.{graph}
-use Rattle.pull_words.specs.declared.reply.Reply.{Reply}
-use Rattle.pull_steps.specs.Deeds.{disk_over, DoesOnDisk}
-use Rattle.pull_deeds.specs.Saving.{RunsWithSlots}
+use Rattle.pull_deeds.proofs.Checkpoints.{never_too_long}
 use Rattle.pull_deeds.proofs.Deeds.{is_no_memory}
 use Rattle.pull_deeds.proofs.SlotRuns.{Kept, kept_at_first, kept_of, run_no_memory, run_fails, run_saves, late_of}
 use Rattle.slot_store.specs.declared.error.SlotError.{SlotError}
@@ -27,6 +28,14 @@ returns-in-Ok g c =
     (late_of tells new p of c.args.every c.in_ok-work.work.state same c.in_ok-work.ensures.stands.state_is c.in-Ok.ensures.late)
     c.report_of.ensures
 
+pub slot_reply-requires-clause-fits : goal.slot_reply-requires-clause-fits
+slot_reply-requires-clause-fits g c =
+    let line = c.args.line in
+    λ have is.
+    never_too_long line c.requires.plant have
+    (subst (λ (h : Parts). HasTooLongState h most_checkpoint_bytes have) c.requires.plant.graph
+    (c.in-Err.ensures.too_long have (ap (λ (error : SlotError). Err error) is)))
+
 pub returns-in-Err : goal.returns-in-Err
 returns-in-Err g c =
     let tells = g.D.Disk.tells in
@@ -35,5 +44,4 @@ returns-in-Err g c =
     let p = c.args.line.plant in
     let of = c.args.line.live.graph in
     let kept : Kept tells old new of = record { any_moment = c.run_with_slots.ensures.any_moment; faults = c.run_with_slots.ensures.faults_stay_or_rise } in
-    subst (λ (reply : Reply). DoesOnDisk (disk_over tells old new) (RunsWithSlots p c.args.every) (Err reply)) (sym c.slot_reply.ensures) (
-    run_fails tells old new p c.args.every (kept_of tells old new p of c.requires.plant.graph kept) c.in-Err.error (λ is. c.in-Err.ensures.disk_fault (ap (λ (error : SlotError). Err error) is)))
+    run_fails tells old new p c.args.every (kept_of tells old new p of c.requires.plant.graph kept) c.in-Err.error c.slot_reply.result (λ is. c.in-Err.ensures.disk_fault (ap (λ (error : SlotError). Err error) is)) c.slot_reply.ensures
