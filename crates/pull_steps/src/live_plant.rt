@@ -43,7 +43,7 @@ pub fn read_live_plant<S: Store>(
 }
 
 /// The live graph of a plant, or the circuit without a token that its graph has.
-fn live_graph(alloc: Global, plant: &Plant) -> Result<Live, Reply>
+pub fn live_graph(alloc: Global, plant: &Plant) -> Result<Live, Reply>
     requires { IsSound plant.now }
     ensures graph { IfOk result (λ live. live.graph ≡ graph plant.now) }
     ensures labels { OnOk result (HasLabels (graph plant.now)) }
