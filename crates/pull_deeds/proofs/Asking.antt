@@ -1,6 +1,7 @@
 -- What is asked of a live plant, from what the calls below answer.
 use Rattle.std.proofs.Common.{◌≡◌, ◌⊎◌, ℕ, Bool, true, false, List, refl, ap, sym, subst, ◌∙◌, ⊎_elim, inl, inr}
-use Rattle.std.specs.Prelude.{Result, Ok, Err}
+use Rattle.std.specs.Prelude.{Result, Ok, Err, IfOk}
+use Rattle.std.specs.declared.alloc.AllocError.{AllocError}
 use Rattle.card_sizing.specs.Sizing.{NoneServesBelow, IsBelow, IsSizingRefusal}
 use Rattle.card_sizing.specs.Sized.{has_single_count}
 use Rattle.card_sizing.specs.Serving.{Serves}
@@ -35,7 +36,7 @@ use Rattle.what_if.specs.Page.{Page}
 use Rattle.what_if.specs.Settled.{IsSolved, KeepsDates, KeepsInputs}
 use Rattle.what_if.specs.Sheet.{IsBegun}
 use Rattle.what_if.specs.declared.edits.RefusedLine.{RefusedLine}
-use Rattle.pull_deeds.specs.Answers.{IsReport, IsEnd, IsCycled, IsCards, IsPageOf, IsWhatIf}
+use Rattle.pull_deeds.specs.Answers.{IsReport, IsEnd, IsCycled, IsCards, IsPageOf, IsRefusedLine, IsWhatIf}
 use Rattle.pull_deeds.specs.declared.output.Output.{Output}
 use Rattle.pull_deeds.specs.declared.output.Output.TheVariants.{Changed}
 
@@ -119,29 +120,48 @@ cards_found p wait sizing text single serves least below is = inl (inl (record {
 pub cards_refused : (p : Plant) (wait : ℕ) (error : SizingError) (reply : Reply) → IsSizingRefusal p wait error → reply ≡ sizing_reply error → OrNoMemory (IsCards p wait) (said reply)
 cards_refused p wait error reply why is = inl (inr (record { error = error; why = why; says = ap said is }))
 
--- edits, from a sheet as it was made, over the least solution of the plant's graph
-module _ (p : Plant) (edits : List ℕ) (live : LiveGraph) (rows : List (List ℕ)) (begun : Page) (of_plant : live.graph ≡ graph p) (begins : IsBegun live rows begun) where
-  -- what the lines come to, they come to from the graph of the plant
-  comes_of_plant : (end : Result Inputs ℕ) → ComesTo live.graph (lines_of edits) 1 begun.inputs end → ComesTo (graph p) (lines_of edits) 1 (inputs_of (graph p)) end
-  comes_of_plant end comes =
-      subst (λ (g : Parts). ComesTo g (lines_of edits) 1 (inputs_of g) end) of_plant
-      (subst (λ (inputs : Inputs). ComesTo live.graph (lines_of edits) 1 inputs end) begins.inputs_are comes)
+-- the sheet as it begins, of the table of a finished state
+pub first_begun : (live : LiveGraph) (rows : List (List ℕ)) (sheet : Result Page AllocError) → IfOk sheet (IsBegun live rows) → IfOk sheet (λ page. IsBegun live page.first page)
+first_begun live rows (Ok page) begins = record {
+  live_is = begins.live_is;
+  inputs_are = begins.inputs_are;
+  first_are = refl;
+  dates_are = begins.dates_are ∙ sym begins.first_are;
+  no_mark = begins.no_mark;
+  none_evaluated = begins.none_evaluated;
+}
+first_begun live rows (Err none) begins = tt
 
-  -- the page of the sheet that was settled after them
-  page_of : (edited settled : Page) → IsLeast live.graph (date_in rows) → KeepsDates begun edited → ComesTo live.graph (lines_of edits) 1 begun.inputs (Ok edited.inputs) → IsSolved settled → KeepsInputs edited settled → IsPageOf p edits settled
-  page_of edited settled least dates comes solved inputs = record {
-    graph_is = ap (λ (l : LiveGraph). l.graph) (inputs.live ∙ dates.live ∙ begins.live_is) ∙ of_plant;
-    first = subst (λ (g : Parts). IsLeast g (date_in settled.first)) of_plant
-        (subst (λ (first : List (List ℕ)). IsLeast live.graph (date_in first)) (sym (inputs.first ∙ dates.first ∙ begins.first_are)) least);
-    edited = subst (λ (now : Inputs). ComesTo (graph p) (lines_of edits) 1 (inputs_of (graph p)) (Ok now)) (sym inputs.inputs)
-        (comes_of_plant (Ok edited.inputs) comes);
+pub first_least : (live : LiveGraph) (rows : List (List ℕ)) (sheet : Result Page AllocError) → IfOk sheet (IsBegun live rows) → IsLeast live.graph (date_in rows) → IfOk sheet (λ page. IsLeast live.graph (date_in page.first))
+first_least live rows (Ok page) begins least = subst (λ (first : List (List ℕ)). IsLeast live.graph (date_in first)) (sym begins.first_are) least
+first_least live rows (Err none) begins least = tt
+
+-- edits, from the sheet as it begins
+module _ (live : LiveGraph) (edits : List ℕ) (begun : Page) (begins : IsBegun live begun.first begun) where
+  -- what the lines come to, they come to from the graph
+  comes_of_graph : (end : Result Inputs ℕ) → ComesTo live.graph (lines_of edits) 1 begun.inputs end → ComesTo live.graph (lines_of edits) 1 (inputs_of live.graph) end
+  comes_of_graph end comes = subst (λ (inputs : Inputs). ComesTo live.graph (lines_of edits) 1 inputs end) begins.inputs_are comes
+
+  -- the sheet that was settled after them
+  pub page_settled : (edited settled : Page) → IsLeast live.graph (date_in begun.first) → KeepsDates begun edited → ComesTo live.graph (lines_of edits) 1 begun.inputs (Ok edited.inputs) → IsSolved settled → KeepsInputs edited settled → IsPageOf live.graph edits settled
+  page_settled edited settled least dates comes solved inputs = record {
+    graph_is = ap (λ (l : LiveGraph). l.graph) (inputs.live ∙ dates.live ∙ begins.live_is);
+    first = subst (λ (first : List (List ℕ)). IsLeast live.graph (date_in first)) (sym (inputs.first ∙ dates.first)) least;
+    edited = subst (λ (now : Inputs). ComesTo live.graph (lines_of edits) 1 (inputs_of live.graph) (Ok now)) (sym inputs.inputs)
+        (comes_of_graph (Ok edited.inputs) comes);
     solved = solved;
   }
 
-  pub edits_followed : (edited settled page : Page) → IsLeast live.graph (date_in rows) → KeepsDates begun edited → ComesTo live.graph (lines_of edits) 1 begun.inputs (Ok edited.inputs) → IsSolved settled → KeepsInputs edited settled → page ≡ settled → OrNoMemory (IsWhatIf p edits) (shown page)
-  edits_followed edited settled page least dates comes solved inputs is =
-      inl (inl (subst (IsPageOf p edits) (sym is) (page_of edited settled least dates comes solved inputs)))
+  pub line_refused : (refused : RefusedLine) (reply : Reply) → ComesTo live.graph (lines_of edits) 1 begun.inputs (Err refused.line) → reply ≡ edits_reply refused → IsRefusedLine live.graph edits (said reply)
+  line_refused refused reply comes is =
+      record { line = refused.line; refused = comes_of_graph (Err refused.line) comes; says = ap said is }
 
-  pub edits_refused : (refused : RefusedLine) (reply : Reply) → ComesTo live.graph (lines_of edits) 1 begun.inputs (Err refused.line) → reply ≡ edits_reply refused → OrNoMemory (IsWhatIf p edits) (said reply)
-  edits_refused refused reply comes is =
-      inl (inr (record { line = refused.line; refused = comes_of_plant (Err refused.line) comes; says = ap said is }))
+-- edits of the graph of a plant
+module _ (p : Plant) (g : Parts) (edits : List ℕ) (same : g ≡ graph p) where
+  pub edits_followed : (settled page : Page) → IsPageOf g edits settled → page ≡ settled → OrNoMemory (IsWhatIf p edits) (shown page)
+  edits_followed settled page of is =
+      inl (inl (subst (λ (h : Parts). IsPageOf h edits page) same (subst (IsPageOf g edits) (sym is) of)))
+
+  pub edits_refused : (reply : Reply) → IsRefusedLine g edits (said reply) ⊎ (reply ≡ NoMemory) → OrNoMemory (IsWhatIf p edits) (said reply)
+  edits_refused reply (inl refused) = inl (inr (subst (λ (h : Parts). IsRefusedLine h edits (said reply)) same refused))
+  edits_refused reply (inr none) = inr (ap said none)

@@ -100,26 +100,26 @@ pub record IsUnsized (p : Plant) (wait : ℕ) (answer : Result Output Reply) : T
 abbrev pub IsCards : Plant → ℕ → Result Output Reply → Type 0
 IsCards p wait answer = IsSized p wait answer ⊎ IsUnsized p wait answer
 
--- the dates that differ between the least solution of the plant's graph and that of the edited one
-pub record IsPageOf (p : Plant) (edits : List ℕ) (page : Page) : Type 0 where
-  pub graph_is : page.live.graph ≡ graph p
-  pub first : IsLeast (graph p) (date_in page.first)
-  pub edited : ComesTo (graph p) (lines_of edits) 1 (inputs_of (graph p)) (Ok page.inputs)
+-- the dates that differ between the least solution of a graph and that of the edited one
+pub record IsPageOf (g : Parts) (edits : List ℕ) (page : Page) : Type 0 where
+  pub graph_is : page.live.graph ≡ g
+  pub first : IsLeast g (date_in page.first)
+  pub edited : ComesTo g (lines_of edits) 1 (inputs_of g) (Ok page.inputs)
   pub solved : IsSolved page
 
 abbrev pub IsChange : Plant → List ℕ → Result Output Reply → Type 0
-IsChange p edits (Ok (Changed page)) = IsPageOf p edits page
+IsChange p edits (Ok (Changed page)) = IsPageOf (graph p) edits page
 IsChange p edits other = ⊥
 
 -- the first line that can't be followed
-pub record IsRefusedLine (p : Plant) (edits : List ℕ) (answer : Result Output Reply) : Type 0 where
+pub record IsRefusedLine (g : Parts) (edits : List ℕ) (answer : Result Output Reply) : Type 0 where
   pub line : ℕ
-  pub refused : ComesTo (graph p) (lines_of edits) 1 (inputs_of (graph p)) (Err line)
+  pub refused : ComesTo g (lines_of edits) 1 (inputs_of g) (Err line)
   pub says : answer ≡ Err (NotEdited line)
 
 -- `whatif`
 abbrev pub IsWhatIf : Plant → List ℕ → Result Output Reply → Type 0
-IsWhatIf p edits answer = IsChange p edits answer ⊎ IsRefusedLine p edits answer
+IsWhatIf p edits answer = IsChange p edits answer ⊎ IsRefusedLine (graph p) edits answer
 
 -- `big`: the summary of the plant of the seed, over the least solution of its graph
 abbrev pub IsSummary : ℕ → Result Output Reply → Type 0

@@ -1,9 +1,12 @@
 //! What is asked of a live plant without a line of workers.
-ghost use Rattle.std.specs.Prelude.{◌≡◌, ◌⊎◌, Err};
+ghost use Rattle.std.specs.Prelude.{◌≡◌, ◌⊎◌, Err, IfOk, IfErr};
+ghost use Rattle.event_graph.specs.Least.{IsLeast};
+ghost use Rattle.event_graph.specs.Table.{date_in};
 ghost use Rattle.line_core.specs.Schedule.{follow};
 ghost use Rattle.plant_model.specs.Graph.{graph};
 ghost use Rattle.pull_steps.specs.LivePlant.{IsLivePlant};
-ghost use Rattle.pull_deeds.specs.Answers.{IsEnd, IsCheck, IsCycled, IsCards, IsWhatIf};
+ghost use Rattle.pull_deeds.specs.Answers.{IsEnd, IsCheck, IsCycled, IsCards, IsPageOf, IsRefusedLine, IsWhatIf};
+ghost use Rattle.what_if.specs.Sheet.{IsBegun};
 
 use crate::output::Output;
 use crate::runs::report_of;
@@ -11,9 +14,10 @@ use card_sizing::least_cards;
 use command_outputs::{Changes, cards_text, cycle_text};
 use cycle_time::cycle;
 use line_core::{replay, run};
+use live_check::Live;
 use pull_steps::LivePlant;
 use pull_words::{Reply, check_text, cycle_reply, schedule_reply};
-use std::alloc::Global;
+use std::alloc::{AllocError, Global};
 use what_if::{Sheet, follow_edits};
 
 /// The report of a live plant whose stations fire by a schedule, or why it can't be followed.
@@ -26,7 +30,11 @@ pub fn replay_schedule(alloc: Global, line: LivePlant, schedule: &[u8]) -> Resul
             let table = end.into_table(&line.live);
             report_of(alloc, line, table)
         }
-        Err(error) => Err(schedule_reply(alloc, line.live.graph(), error)),
+        Err(error) => {
+            let reply = schedule_reply(alloc, line.live.graph(), error);
+            drop(line);
+            Err(reply)
+        }
     }
 }
 
@@ -69,11 +77,31 @@ pub fn what_if(alloc: Global, line: LivePlant, edits: &[u8]) -> Result<Output, R
     requires { IsLivePlant line }
     ensures { IsWhatIf line.plant edits.now result ⊎ (result ≡ Err Reply.NoMemory) }
 {
-    let live = line.live;
-    let table = run(alloc, &live)?.into_table(&live);
-    let mut sheet = Sheet::new(alloc, &live, &table)?;
-    follow_edits(&mut sheet, &live, edits)?;
-    sheet.settle(&live);
+    let LivePlant { plant, live } = line;
+    drop(plant);
+    let sheet = settled_sheet(alloc, &live, edits)?;
     let changes = Changes::new(alloc, live, sheet)?;
     Ok(Output::Changed { changes })
+}
+
+/// The dates of a live graph that edits change, settled.
+fn settled_sheet(alloc: Global, live: &Live, edits: &[u8]) -> Result<Sheet, Reply>
+    ensures made_for { IfOk result (λ sheet. live.now ≡ sheet.live) }
+    ensures settled { IfOk result (IsPageOf live.now.graph edits.now) }
+    ensures refused { IfErr result
+        (λ reply. IsRefusedLine live.now.graph edits.now (Err reply) ⊎ (reply ≡ Reply.NoMemory)) }
+{
+    let mut sheet = first_sheet(alloc, live)?;
+    follow_edits(&mut sheet, live, edits)?;
+    sheet.settle(live);
+    Ok(sheet)
+}
+
+/// The dates of a live graph, of which no edit changes one.
+fn first_sheet(alloc: Global, live: &Live) -> Result<Sheet, AllocError>
+    ensures begun { IfOk result (λ sheet. IsBegun live.now sheet.first sheet) }
+    ensures least { IfOk result (λ sheet. IsLeast live.now.graph (date_in sheet.first)) }
+{
+    let table = run(alloc, live)?.into_table(live);
+    Sheet::new(alloc, live, &table)
 }

@@ -53,7 +53,9 @@ fn write_report<K: Sink>(mut report: Report, sink: &mut K) -> Result<(), Failed>
     ensures cause { OnErr result (Rose (K.shown sink.old).faults (K.shown sink.new).faults) }
     ensures faults_stay_or_rise { (K.shown sink.old).faults ≤ (K.shown sink.new).faults }
 {
-    match report.write(sink) {
+    let written = report.write(sink);
+    drop(report);
+    match written {
         Ok(()) => Ok(()),
         Err(SinkFault) => Err(Failed),
     }
@@ -68,7 +70,9 @@ fn write_summary<K: Sink>(mut report: Report, sink: &mut K) -> Result<(), Failed
     ensures cause { OnErr result (Rose (K.shown sink.old).faults (K.shown sink.new).faults) }
     ensures faults_stay_or_rise { (K.shown sink.old).faults ≤ (K.shown sink.new).faults }
 {
-    match report.write_summary(sink) {
+    let written = report.write_summary(sink);
+    drop(report);
+    match written {
         Ok(()) => Ok(()),
         Err(SinkFault) => Err(Failed),
     }
@@ -83,5 +87,7 @@ fn write_changes<K: Sink>(mut changes: Changes, sink: &mut K) -> Result<(), Fail
     ensures cause { OnErr result (Rose (K.shown sink.old).faults (K.shown sink.new).faults) }
     ensures faults_stay_or_rise { (K.shown sink.old).faults ≤ (K.shown sink.new).faults }
 {
-    changes.write(sink)
+    let written = changes.write(sink);
+    drop(changes);
+    written
 }

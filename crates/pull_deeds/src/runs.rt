@@ -1,11 +1,12 @@
 //! Runs of a live plant by a line of workers.
-ghost use Rattle.std.specs.Prelude.{◌≡◌, ◌⊎◌, ◌≤◌, length, Err, IfOk, IsErrOf};
+ghost use Rattle.std.specs.Prelude.{◌≡◌, ◌⊎◌, ◌≤◌, length, Err, IfErr, IfOk, IsErrOf};
+ghost use Rattle.big_plant.specs.Big.{big_plant};
 ghost use Rattle.command_words.specs.Numbers.{most_ring_room};
-ghost use Rattle.event_graph.specs.Live.{IsLive};
+ghost use Rattle.event_graph.specs.Least.{IsLeast};
+ghost use Rattle.event_graph.specs.Table.{date_in};
 ghost use Rattle.line_base.specs.Limits.{most_checkpoint_bytes, most_workers};
 ghost use Rattle.line_runs.specs.Table.{ComesToLeast};
 ghost use Rattle.plant_model.specs.Graph.{graph};
-ghost use Rattle.plant_model.specs.Sound.{IsSound};
 ghost use Rattle.pull_steps.specs.Deeds.{DoesOnStore};
 ghost use Rattle.pull_steps.specs.LivePlant.{IsLivePlant};
 ghost use Rattle.pull_steps.specs.Outside.{store_over};
@@ -18,14 +19,12 @@ use crate::output::Output;
 use big_plant::big_plant;
 use command_words::Stop;
 use line_core::{State, Table};
-use line_graph::graph_of;
 use line_io::{Store, StoreError};
 use line_report::Report;
 use line_runs::{Outcome, run_to_end, save_state};
 use line_workers::{Gate, Line};
-use live_check::{Live, NotLive, rank};
-use plant_model::Plant;
-use pull_steps::LivePlant;
+use live_check::Live;
+use pull_steps::{LivePlant, live_graph};
 use pull_words::{FileName, Reply, checkpoint_reply};
 use std::alloc::{AllocError, Global};
 use std::sync::Wait;
@@ -37,8 +36,36 @@ pub(crate) fn report_of(alloc: Global, line: LivePlant, table: Table) -> Result<
     requires table { ComesToLeast line.live.graph table }
     ensures { IsReport line.plant result ⊎ (result ≡ Err Reply.NoMemory) }
 {
-    let report = Report::new(alloc, line.plant, line.live, table)?;
+    report_or_none(alloc, line, Ok(table))
+}
+
+/// The report of a live plant, over the table that a run of it came to, where there was memory for the run.
+fn report_or_none(
+    alloc: Global,
+    line: LivePlant,
+    table: Result<Table, AllocError>,
+) -> Result<Output, Reply>
+    requires plant { IsLivePlant line }
+    requires table { IfOk table (ComesToLeast line.live.graph) }
+    ensures { IsReport line.plant result ⊎ (result ≡ Err Reply.NoMemory) }
+{
+    let report = report_over(alloc, line, table)?;
     Ok(Output::Reported { report })
+}
+
+/// What is written of a live plant, over the table that a run of it came to, where there was memory for the run.
+fn report_over(
+    alloc: Global,
+    line: LivePlant,
+    table: Result<Table, AllocError>,
+) -> Result<Report, AllocError>
+    requires plant { IsLivePlant line }
+    requires table { IfOk table (ComesToLeast line.live.graph) }
+    ensures plant { IfOk result (λ report. report.plant ≡ line.plant) }
+    ensures least { IfOk result (λ report. IsLeast (graph line.plant) (date_in report.rows)) }
+{
+    let table = table?;
+    Report::new(alloc, line.plant, line.live, table)
 }
 
 /// Runs a live plant to its end, by so many workers.
@@ -54,8 +81,8 @@ pub fn run<R: Threads + Sync, G: Gate>(
     requires few { workers ≤ most_workers }
     ensures { IsReport line.plant result ⊎ (result ≡ Err Reply.NoMemory) }
 {
-    let table = table_of(rt, alloc, &line.live, workers, gate)?;
-    report_of(alloc, line, table)
+    let table = table_of(rt, alloc, &line.live, workers, gate);
+    report_or_none(alloc, line, table)
 }
 
 /// The dates of a live graph, by so many workers.
@@ -91,8 +118,8 @@ pub fn run_with_room<R: Threads + Sync, G: Gate>(
     requires little_room { room ≤ most_ring_room }
     ensures { IsReport line.plant result ⊎ (result ≡ Err Reply.NoMemory) }
 {
-    let table = table_with_room(rt, alloc, &line.live, workers, room, gate)?;
-    report_of(alloc, line, table)
+    let table = table_with_room(rt, alloc, &line.live, workers, room, gate);
+    report_or_none(alloc, line, table)
 }
 
 /// The dates of a live graph, by so many workers with so much room in the rings between them.
@@ -128,8 +155,8 @@ pub fn run_standing<R: Threads + Wait + Sync, G: Gate>(
     requires few { workers ≤ most_workers }
     ensures { IsReport line.plant result ⊎ (result ≡ Err Reply.NoMemory) }
 {
-    let table = standing_table_of(rt, alloc, &line.live, workers, gate)?;
-    report_of(alloc, line, table)
+    let table = standing_table_of(rt, alloc, &line.live, workers, gate);
+    report_or_none(alloc, line, table)
 }
 
 /// The dates of a live graph, by so many workers that stand until all firings are made.
@@ -213,7 +240,11 @@ pub fn resume<R: Threads + Sync, G: Gate>(
 {
     match line_runs::resume(rt, alloc, &line.live, bytes, workers, gate) {
         Ok(table) => report_of(alloc, line, table),
-        Err(error) => Err(checkpoint_reply(alloc, line.live.graph(), error)),
+        Err(error) => {
+            let reply = checkpoint_reply(alloc, line.live.graph(), error);
+            drop(line);
+            Err(reply)
+        }
     }
 }
 
@@ -229,22 +260,19 @@ pub fn big<R: Threads + Sync, G: Gate>(
     requires few { workers ≤ most_workers }
     ensures { IsSummary seed result ⊎ (result ≡ Err Reply.NoMemory) }
 {
-    let plant = big_plant(alloc, seed)?;
-    let live = live_graph(alloc, &plant)?;
-    let table = table_of(rt, alloc, &live, workers, gate)?;
-    let report = Report::new(alloc, plant, live, table)?;
+    let line = big_line(alloc, seed)?;
+    let table = table_of(rt, alloc, &line.live, workers, gate);
+    let report = report_over(alloc, line, table)?;
     Ok(Output::Summarized { report })
 }
 
-/// The live graph of a plant that has one. The only error is want of memory.
-fn live_graph(alloc: Global, plant: &Plant) -> Result<Live, AllocError>
-    requires sound { IsSound plant.now }
-    requires live { IsLive (graph plant.now) }
-    ensures { IfOk result (λ live. live.graph ≡ graph plant.now) }
+/// The live plant of a seed. The only error is want of memory.
+fn big_line(alloc: Global, seed: u64) -> Result<LivePlant, Reply>
+    ensures plant { IfOk result (λ line. line.plant ≡ big_plant seed) }
+    ensures line { IfOk result IsLivePlant }
+    ensures none { IfErr result (λ reply. reply ≡ Reply.NoMemory) }
 {
-    match rank(alloc, graph_of(alloc, plant)?) {
-        Ok(live) => Ok(live),
-        Err(NotLive::NoMemory { .. }) => Err(AllocError),
-        Err(NotLive::Dead { .. }) => unreachable!(),
-    }
+    let plant = big_plant(alloc, seed)?;
+    let live = live_graph(alloc, &plant)?;
+    Ok(LivePlant { plant, live })
 }

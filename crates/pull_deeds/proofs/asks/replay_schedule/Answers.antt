@@ -9,8 +9,8 @@ report_of-requires-clause-table c =
     let same = ap (λ (d : Dates). d.graph) c.into_table-table.ensures.dates ∙ c.in-Ok.ensures.made_for in
     comes_to_least c.args.line.live.graph c.into_table-table.result same c.into_table-table.ensures.least
 
-pub schedule_reply-requires : goal.schedule_reply-requires
-schedule_reply-requires c = rw c.graph.ensures.graph (names_existing c.args.line.live.graph c.args.schedule.now c.in-Err.error c.in-Err.ensures.refused)
+pub schedule_reply-reply-requires : goal.schedule_reply-reply-requires
+schedule_reply-reply-requires c = rw c.graph.ensures.graph (names_existing c.args.line.live.graph c.args.schedule.now c.in-Err.error c.in-Err.ensures.refused)
 
 pub returns-in-Ok : goal.returns-in-Ok
 returns-in-Ok c =
@@ -18,5 +18,5 @@ returns-in-Ok c =
 
 pub returns-in-Err : goal.returns-in-Err
 returns-in-Err c =
-    end_refused c.args.line.plant c.args.schedule.now c.in-Err.error c.schedule_reply.result
-    (rw c.requires.graph at c.in-Err.ensures.refused) (rw (c.graph.ensures.graph, c.requires.graph) at c.schedule_reply.ensures)
+    end_refused c.args.line.plant c.args.schedule.now c.in-Err.error c.schedule_reply-reply.result
+    (rw c.requires.graph at c.in-Err.ensures.refused) (rw (c.graph.ensures.graph, c.requires.graph) at c.schedule_reply-reply.ensures)
