@@ -19,7 +19,7 @@ use Rattle.event_graph.specs.Least.{IsLeast}
 use Rattle.event_graph.specs.State.{State}
 use Rattle.event_graph.specs.Table.{date_in}
 use Rattle.line_base.specs.declared.event.Parts.{Parts}
-use Rattle.line_core.specs.Schedule.{follow, lines_of}
+use Rattle.line_core.specs.Schedule.{lines_of}
 use Rattle.line_core.specs.declared.error.ReplayError.{ReplayError}
 use Rattle.line_runs.specs.Resume.{IsCheckpoint}
 use Rattle.plant_model.specs.declared.plant.Plant.{Plant}
@@ -29,7 +29,7 @@ use Rattle.pull_words.specs.CheckText.{check_text}
 use Rattle.pull_words.specs.Refusals.{cycle_reply, sizing_reply}
 use Rattle.pull_words.specs.ScheduleRefusals.{reply_of}
 use Rattle.pull_words.specs.declared.reply.Reply.{Reply}
-use Rattle.pull_words.specs.declared.reply.Reply.TheVariants.{CardsFound, Checked, CycleFound, NoMemory, NotEdited}
+use Rattle.pull_words.specs.declared.reply.Reply.TheVariants.{CardsFound, Checked, CycleFound, NotEdited}
 use Rattle.what_if.specs.Edited.{inputs_of}
 use Rattle.what_if.specs.Edits.{ComesTo}
 use Rattle.what_if.specs.Page.{Page}
