@@ -186,7 +186,9 @@ pub fn check_plant<S: Store>(alloc: Global, store: &mut S, plant: &str) -> Resul
         (command.Check plant.now) result }
 {
     let line = read_live_plant(alloc, store, plant)?;
-    check(alloc, &line)
+    let answer = check(alloc, &line);
+    drop(line);
+    answer
 }
 
 /// What `cycle PLANT` comes to.
@@ -195,7 +197,9 @@ pub fn cycle_plant<S: Store>(alloc: Global, store: &mut S, plant: &str) -> Resul
         (command.Cycle plant.now) result }
 {
     let line = read_live_plant(alloc, store, plant)?;
-    cycle_of(alloc, &line)
+    let answer = cycle_of(alloc, &line);
+    drop(line);
+    answer
 }
 
 /// What `cards PLANT WAIT` comes to.
@@ -209,7 +213,9 @@ pub fn size_plant<S: Store>(
         (command.Cards plant.now wait) result }
 {
     let line = read_live_plant(alloc, store, plant)?;
-    cards(alloc, &line, wait)
+    let answer = cards(alloc, &line, wait);
+    drop(line);
+    answer
 }
 
 /// What `replay PLANT SCHEDULE` comes to.

@@ -15,6 +15,6 @@ pub returns : goal.returns
 returns g c = λ disk same.
     let old = g.S.Store.shown c.args.store.now in
     let p = c.in_ok-line.line.plant in
-    let answer = c.cycle_of.result in
+    let answer = c.cycle_of-answer.result in
     then_settles_plainly g.S.Store.tells old (g.S.Store.shown c.read_live_plant.new.store) disk (OfPlantNamed g.S.Store.tells old.files c.args.plant.now) (λ (p : Plant). IsCycled p) p answer same c.in_ok-line.ensures.makes
-    (of_cycled p answer) c.cycle_of.ensures
+    (of_cycled p answer) c.cycle_of-answer.ensures

@@ -15,6 +15,6 @@ pub returns : goal.returns
 returns g c = λ disk same.
     let old = g.S.Store.shown c.args.store.now in
     let p = c.in_ok-line.line.plant in
-    let answer = c.cards.result in
+    let answer = c.cards-answer.result in
     then_settles_plainly g.S.Store.tells old (g.S.Store.shown c.read_live_plant.new.store) disk (OfPlantNamed g.S.Store.tells old.files c.args.plant.now) (λ (p : Plant). IsCards p c.args.wait) p answer same c.in_ok-line.ensures.makes
-    (of_cards p c.args.wait answer) c.cards.ensures
+    (of_cards p c.args.wait answer) c.cards-answer.ensures
