@@ -195,18 +195,21 @@ pub fn run_until<R: Threads + Sync, G: Gate, S: Store>(
     let work = Line::prepare(alloc, &line.live, workers)?;
     match line_runs::run_until(rt, &line.live, work, stop.after, gate) {
         Outcome::Finished(table) => report_of(alloc, line, table),
-        Outcome::Stopped(state) => Err(save(alloc, &line.live, &state, stop, store)),
+        Outcome::Stopped(state) => Err(save(alloc, line, state, stop, store)),
     }
 }
 
 /// What a run comes to that stopped in this state: the state is saved in the file of the stop.
-fn save<S: Store>(alloc: Global, live: &Live, state: &State, stop: Stop, store: &mut S) -> Reply
-    requires { live.now.graph ≡ state.now.graph }
+fn save<S: Store>(alloc: Global, line: LivePlant, state: State, stop: Stop, store: &mut S) -> Reply
+    requires { line.live.graph ≡ state.graph }
     ensures { DoesOnStore (store_over S.tells (S.shown store.old) (S.shown store.new))
-        (SavesText stop.save (text_of state.now) (fired state.now.state)) (Err result) }
+        (SavesText stop.save (text_of state) (fired state.state)) (Err result) }
 {
-    let saved = save_state(alloc, live, state, store, stop.save.as_str());
-    save_reply(saved, state.fired(), stop.save)
+    let saved = save_state(alloc, &line.live, &state, store, stop.save.as_str());
+    let fired = state.fired();
+    drop(state);
+    drop(line);
+    save_reply(saved, fired, stop.save)
 }
 
 /// What a run comes to that stopped after so many firings, by what the save of its state in this

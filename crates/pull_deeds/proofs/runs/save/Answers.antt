@@ -11,11 +11,11 @@ returns g c =
     let old = g.S.Store.shown c.args.store.now in
     let new = g.S.Store.shown c.save_state-saved.new.store in
     let e = c.save_state-saved.ensures in
-    let state = c.args.state.now in
+    let state = c.args.state in
     let file = c.args.stop.save in
     let given = c.save_state-saved.result in
     let name = c.as_str.result.now in
     let saved = state_saved g.S.Store.tells old new name (text_of state) given e.told e.written e.others_stay e.torn e.no_memory e.never_too_long e.cause e.read_faults_stay_or_rise e.write_faults_stay_or_rise in
     saves_text g.S.Store.tells old new file (text_of state) (fired state.state) given (Err c.save_reply.result)
     (subst (λ (name : List ℕ). Saved g.S.Store.tells old new name (text_of state) given) c.as_str.ensures saved)
-    (subst (λ (n : ℕ). ComesOfWrite file n given (Err c.save_reply.result)) c.fired.ensures.fired c.save_reply.ensures)
+    (subst (λ (n : ℕ). ComesOfWrite file n given (Err c.save_reply.result)) c.fired-fired.ensures.fired c.save_reply.ensures)
