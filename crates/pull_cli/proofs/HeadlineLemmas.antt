@@ -189,6 +189,7 @@ module _ (store : StoreOver) (sink : SinkOver) (disk : DiskOver) (came : Result 
       record {
         state = stops.state;
         stopped = stops.resumed;
+        fits = stops.fits;
         asked = ap (λ (a : Asked). a.writes) asked ∙ ap (λ (writes : List Write). store.old.asked.writes ++ writes) one;
         saved = (subst (Changes store) one changes).leaves;
         written = (zero_replies sink (Stopped (fired stops.state)) (subst (λ (r : Result Output Reply). Finishes sink r 0) done.1 ended)).1;

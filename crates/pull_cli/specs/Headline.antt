@@ -2,7 +2,7 @@
 -- has written exactly the report of the least solution of the policy's equations, or, if it was told to stop before all
 -- firings were made, has saved a state that firings reach, in which every circuit holds its initial number of tokens,
 -- and resuming it writes that same report.
-use Rattle.std.specs.Prelude.{◌≡◌, ◌⊎◌, ℕ, List, [], ◌∷◌, ◌++◌, IsTrue, Option, Some, None, Result, Ok}
+use Rattle.std.specs.Prelude.{◌≡◌, ◌⊎◌, ℕ, ◌≤◌, List, [], ◌∷◌, ◌++◌, length, IsTrue, Option, Some, None, Result, Ok}
 use Rattle.checkpoint.specs.Text.{text}
 use Rattle.checkpoint.specs.declared.format.Format.TheVariants.{Differences}
 use Rattle.command_words.specs.Words.{command_of}
@@ -12,6 +12,7 @@ use Rattle.command_words.specs.declared.command.Stop.{Stop}
 use Rattle.event_graph.specs.Least.{IsLeast}
 use Rattle.event_graph.specs.State.{State}
 use Rattle.event_graph.specs.Table.{date_in}
+use Rattle.line_base.specs.Limits.{most_checkpoint_bytes}
 use Rattle.line_core.specs.Consistent.{fired}
 use Rattle.line_io.specs.Calls.{Read, write_of}
 use Rattle.line_io.specs.SinkView.{PutsAll}
@@ -62,10 +63,12 @@ pub record HasReported (p : Plant) (sink : SinkOver) : Type 0 where
 abbrev pub ResumesToReport : Plant → List ℕ → Type 0
 ResumesToReport p bytes = (answer : Result Output Reply) → IsResumed p bytes answer → IsReport p answer
 
--- "has saved a state that firings reach, in which every circuit holds its initial number of tokens"
+-- "has saved a state that firings reach, in which every circuit holds its initial number of tokens"; its text is no longer than a
+-- checkpoint may be
 pub record HasSaved (p : Plant) (stop : Stop) (store : StoreOver) (sink : SinkOver) : Type 0 where
   pub state : State
   pub stopped : MayBeResumed (graph p) state
+  pub fits : length (text Differences (graph p) state) ≤ most_checkpoint_bytes
   pub asked : store.new.asked.writes
       ≡ store.old.asked.writes ++ write_of stop.save (text Differences (graph p) state) (Ok tt) ∷ []
   pub saved : IsTrue store.tells → store.new.files stop.save ≡ Some (text Differences (graph p) state)
