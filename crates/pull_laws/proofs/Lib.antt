@@ -3,4 +3,5 @@ pub mod ResumeEnds
 pub mod ResumeStops
 pub mod ResumeWords
 pub mod Resuming
+pub mod ShortFiles
 pub mod SoundFiles

@@ -1,6 +1,11 @@
 -- How a call ends that resumes what a run has saved.
-use Rattle.std.proofs.Common.{◌≡◌, ◌⊎◌, ℕ, List, [], ap, sym, ◌∙◌, subst, inl, inr, arith}
+use Rattle.std.proofs.Common.{◌≡◌, ◌⊎◌, ℕ, ◌≤◌, Bool, true, if◌then◌else◌, List, [], ◌++◌, length, ap, sym, ◌∙◌, subst, inl, inr, arith}
 use Rattle.std.specs.Prelude.{Option, Some, Result, Ok, Err, IfErr, All, Any, ⊤}
+use Rattle.std.proofs.Math.Seq.{take-append_seam}
+use Rattle.std.proofs.lemmas.List.{append_cancel_left}
+use Rattle.std.proofs.lemmas.List.Elements.{All-take}
+use Rattle.line_base.specs.Limits.{most_file_bytes, most_checkpoint_bytes}
+use Rattle.line_base.specs.Text.{is_checkpoint_name}
 use Rattle.checkpoint.specs.Text.{text}
 use Rattle.checkpoint.specs.declared.format.Format.TheVariants.{Differences}
 use Rattle.command_words.specs.declared.command.Command.{Command}
@@ -9,14 +14,13 @@ use Rattle.command_words.specs.declared.command.Stop.{Stop}
 use Rattle.event_graph.specs.Live.{IsLive}
 use Rattle.line_graph.specs.DeadLabels.{AreDead}
 use Rattle.line_io.specs.Calls.{Read, Write, Asked}
-use Rattle.line_io.specs.Contents.{Contents, IsLongerThan}
 use Rattle.plant_file.specs.PlantOfFiles.{plant_of}
 use Rattle.plant_model.specs.declared.error.PlantError.{PlantError}
 use Rattle.plant_model.specs.declared.plant.Plant.{Plant}
 use Rattle.plant_model.specs.Graph.{graph}
 use Rattle.pull_words.specs.Reply.{status_of, text_of}
 use Rattle.pull_words.specs.declared.reply.Reply.{Reply}
-use Rattle.pull_words.specs.declared.reply.Reply.TheVariants.{Dead, NoMemory, Refused, StoreFault, TooLong}
+use Rattle.pull_words.specs.declared.reply.Reply.TheVariants.{Dead, NoMemory, Refused, StoreFault}
 use Rattle.pull_steps.specs.Deeds.{HasCause, IsFailedWrite}
 use Rattle.pull_steps.specs.Outside.{limit_of, IsOfFile}
 use Rattle.pull_steps.specs.PlantSteps.{OfLivePlant, OfPlantNamed, IsLiveOrDead, IsOfPlant}
@@ -27,18 +31,19 @@ use Rattle.pull_deeds.specs.Output.{output_bytes}
 use Rattle.pull_deeds.specs.declared.output.Output.{Output}
 use Rattle.pull_cli.specs.Ends.{Finishes, Writes, WritesReply}
 use Rattle.pull_cli.specs.Headline.{ResumesToReport}
-use Rattle.pull_laws.specs.Resuming.{Call, files_before, HasFailedRead, HasStopped, IsResumedBy, EndsResumed, reported, unread, unwritten, no_memory, too_long}
+use Rattle.pull_laws.specs.Resuming.{Call, files_before, HasFailedRead, HasStopped, IsResumedBy, EndsResumed, reported, unread, unwritten, no_memory}
 use Rattle.pull_cli.specs.Verdict.{OfWords}
 use Rattle.pull_laws.proofs.ResumeStops.{look_stops, plant_stops}
-use Rattle.pull_laws.proofs.Resuming.{one_plant, second_plant, second_reports}
+use Rattle.pull_laws.proofs.ResumeWords.{names_files}
+use Rattle.pull_laws.proofs.Resuming.{one_plant, same_files, plant_plain, second_plant, second_reports}
+use Rattle.pull_laws.proofs.ShortFiles.{IsShort, IsShortPlant, short_bytes, plant_short, same_short}
 
--- the report, or a reply to a file that couldn't be read or is too long, or to want of memory
-abbrev pub ComesTo : Plant → Contents → Result Output Reply → Type 0
-ComesTo p files (Ok output) = IsReport p (Ok output)
-ComesTo p files (Err (StoreFault file)) = ⊤
-ComesTo p files (Err (TooLong file)) = IsLongerThan (limit_of file) (files file)
-ComesTo p files (Err NoMemory) = ⊤
-ComesTo p files (Err other) = ⊥
+-- the report, or a reply to a file that couldn't be read, or to want of memory
+abbrev pub ComesTo : Plant → Result Output Reply → Type 0
+ComesTo p (Ok output) = IsReport p (Ok output)
+ComesTo p (Err (StoreFault file)) = ⊤
+ComesTo p (Err NoMemory) = ⊤
+ComesTo p (Err other) = ⊥
 
 -- a plant that was read is live
 live_settled : (q p : Plant) → IsLiveOrDead q (Ok p) ⊎ (◌≡◌ {A = Result Plant Reply} (Ok p) (Err NoMemory)) → IsLive (graph p)
@@ -62,25 +67,30 @@ not_dead p labels live dead = let some = live dead.arcs dead.dead.circuit in ome
 no_error : (W : Result Plant PlantError) (p : Plant) (error : PlantError) → W ≡ Ok p → W ≡ Err error → ⊥
 no_error W p error is also = cc
 
-module _ (p : Plant) (live : IsLive (graph p)) (W : Result Plant PlantError) (is : W ≡ Ok p) (files : Contents) where
+module _ (p : Plant) (live : IsLive (graph p)) (W : Result Plant PlantError) (is : W ≡ Ok p) where
   same_as : (q : Plant) → W ≡ Ok q → q ≡ p
   same_as q also = one_plant W q p also is
 
-  not_refused : (error : PlantError) → IsOfPlant W (Err (Refused error)) → ComesTo p files (Err (Refused error))
+  not_refused : (error : PlantError) → IsOfPlant W (Err (Refused error)) → ComesTo p (Err (Refused error))
   not_refused error said = absurd (no_error W p error is said)
 
-  not_dead_plant : (labels : List (List ℕ)) → IsOfPlant W (Err (Dead labels)) → ComesTo p files (Err (Dead labels))
+  not_dead_plant : (labels : List (List ℕ)) → IsOfPlant W (Err (Dead labels)) → ComesTo p (Err (Dead labels))
   not_dead_plant labels said =
       absurd (not_dead p labels live (subst (λ (q : Plant). AreDead (graph q) labels) (same_as said.0 said.1) said.2))
 
 -- a report that comes, or want of memory
-report_comes : (p : Plant) (files : Contents) (came : Result Output Reply) → IsReport p came → ComesTo p files came
-report_comes p files (Ok output) is = is
-report_comes p files (Err reply) is = absurd is
+report_comes : (p : Plant) (came : Result Output Reply) → IsReport p came → ComesTo p came
+report_comes p (Ok output) is = is
+report_comes p (Err reply) is = absurd is
 
-settled_comes : (p : Plant) (files : Contents) (bytes : List ℕ) (came : Result Output Reply) → ResumesToReport p bytes → IsResumed p bytes came ⊎ (came ≡ Err NoMemory) → ComesTo p files came
-settled_comes p files bytes came resumes (inl is) = report_comes p files came (resumes came is)
-settled_comes p files bytes came resumes (inr none) = subst (ComesTo p files) (sym none) tt
+settled_comes : (p : Plant) (bytes : List ℕ) (came : Result Output Reply) → ResumesToReport p bytes → IsResumed p bytes came ⊎ (came ≡ Err NoMemory) → ComesTo p came
+settled_comes p bytes came resumes (inl is) = report_comes p came (resumes came is)
+settled_comes p bytes came resumes (inr none) = subst (ComesTo p) (sym none) tt
+
+-- what a checkpoint may have is the limit of its file
+few_bytes : (name bytes : List ℕ) → is_checkpoint_name name ≡ true → length bytes ≤ most_checkpoint_bytes → length bytes ≤ limit_of name
+few_bytes name bytes checkpoint few =
+    subst (λ (b : Bool). length bytes ≤ (if b then most_checkpoint_bytes else most_file_bytes)) (sym checkpoint) few
 
 -- one content of a file
 one_content : (o : Option (List ℕ)) (xs ys : List ℕ) → o ≡ Some xs → o ≡ Some ys → ys ≡ xs
@@ -104,11 +114,9 @@ fault_of : (call : Call) (file : List ℕ) → HasCause call.store call.disk [] 
 fault_of call file (inl read) = read
 fault_of call file (inr written) = absurd (no_failed_write file written.0)
 
-by_reply : (p : Plant) (call : Call) (reply : Reply) → HasCause call.store call.disk [] reply → ComesTo p (files_before call) (Err reply) → WritesReply call.sink reply call.status → EndsResumed p call
+by_reply : (p : Plant) (call : Call) (reply : Reply) → HasCause call.store call.disk [] reply → ComesTo p (Err reply) → WritesReply call.sink reply call.status → EndsResumed p call
 by_reply p call (StoreFault file) cause comes wrote_it =
     wrote_reply p call (StoreFault file) (λ five. unread file five (fault_of call file cause)) wrote_it
-by_reply p call (TooLong file) cause comes wrote_it =
-    wrote_reply p call (TooLong file) (λ ten. too_long file ten comes) wrote_it
 by_reply p call NoMemory cause comes wrote_it = wrote_reply p call NoMemory (λ nine. no_memory nine) wrote_it
 by_reply p call other cause comes wrote_it = absurd comes
 
@@ -117,7 +125,7 @@ module _ (p : Plant) (name : List ℕ) (stop : Stop) (first second : Call) (stop
   Held = IsOfFile second.store
 
   abbrev Comes : Result Output Reply → Type 0
-  Comes = ComesTo p (files_before second)
+  Comes = ComesTo p
 
   abbrev bytes : List ℕ
   bytes = text Differences (graph p) stopped.saved.state
@@ -125,14 +133,36 @@ module _ (p : Plant) (name : List ℕ) (stop : Stop) (first second : Call) (stop
   saved_there : files_before second stop.save ≡ Some bytes
   saved_there = resumed.over stop.save ∙ stopped.saved.saved stopped.calls.told
 
+  -- it is no longer than a checkpoint may be
+  saved_short : IsShort (files_before second) stop.save
+  saved_short =
+      let names = names_files second.words name stop.save resumed.workers resumed.calls.asked in
+      short_bytes (files_before second) stop.save bytes saved_there (few_bytes stop.save bytes names.1 stopped.saved.fits)
+
+  -- and the files of the plant, which the first call has read, are no longer than they may be
+  first_short : IsShortPlant (files_before first) name
+  first_short =
+      let does = stopped.calls.ends.does in
+      let reads = stopped.read.reads in
+      let whole : does.asks.reads ≡ reads ++ stopped.read.more =
+      append_cancel_left first.store.old.asked.reads does.asks.reads (reads ++ stopped.read.more) (sym (ap (λ (a : Asked). a.reads) does.asked) ∙ stopped.read.asked)
+      in
+      let held = subst (All (IsOfFile first.store)) whole does.of_files in
+      plant_short first.store stopped.calls.told name reads p stopped.read.comes
+      (subst (All (IsOfFile first.store)) (take-append_seam reads stopped.read.more) (All-take (IsOfFile first.store) (length reads) (reads ++ stopped.read.more) held))
+
+  second_short : IsShortPlant (files_before second) name
+  second_short =
+      same_short (files_before second) (files_before first) (same_files p name stop first stopped second resumed) name (plant_plain p name stop first stopped second resumed) first_short
+
   -- the file is read
   of_file : (reads : List Read) (came : Result Output Reply) → Then (LooksAt stop.save) (λ found. Settles (IsResumed p found)) reads came → All Held reads → Comes came
   of_file reads came steps all =
       then_leads (LooksAt stop.save) (λ found. Settles (IsResumed p found)) Held Comes reads came steps all
       (λ reply before fits stops.
-      look_stops second.store resumed.calls.told (λ (r : Reply). Comes (Err r)) (λ file. tt) (λ file longer. longer) tt stop.save before reply stops fits)
+      look_stops second.store resumed.calls.told (λ (r : Reply). Comes (Err r)) (λ file. tt) tt stop.save saved_short before reply stops fits)
       (λ found before after fits rest looks on.
-      settled_comes p (files_before second) found came
+      settled_comes p found came
       (subst (ResumesToReport p) (one_content (files_before second stop.save) found bytes (looked second.store resumed.calls.told stop.save before found looks fits) saved_there) stopped.saved.resumes)
       on.1)
 
@@ -144,12 +174,12 @@ module _ (p : Plant) (name : List ℕ) (stop : Stop) (first second : Call) (stop
       let live = live_of name stopped.read.reads p stopped.read.comes in
       then_leads (OfPlantNamed second.store.tells (files_before second) name) (λ q. Then (LooksAt stop.save) (λ found. Settles (IsResumed q found))) Held Comes reads came steps all
       (λ reply before fits stops.
-      plant_stops second.store resumed.calls.told (λ (r : Reply). IsOfPlant W (Err r) → Comes (Err r)) (λ file said. tt) (λ file longer said. longer) (λ said. tt)
-      (not_refused p live W is (files_before second)) (not_dead_plant p live W is (files_before second))
-      name before reply stops.comes fits (stops.of_files resumed.calls.told))
+      plant_stops second.store resumed.calls.told (λ (r : Reply). IsOfPlant W (Err r) → Comes (Err r)) (λ file said. tt) (λ said. tt)
+      (not_refused p live W is) (not_dead_plant p live W is)
+      name second_short before reply stops.comes fits (stops.of_files resumed.calls.told))
       (λ q before after fits rest first_steps next.
       of_file after came
-      (subst (λ (v : Plant). Then (LooksAt stop.save) (λ found. Settles (IsResumed v found)) after came) (same_as p live W is (files_before second) q (first_steps.of_files resumed.calls.told)) next)
+      (subst (λ (v : Plant). Then (LooksAt stop.save) (λ found. Settles (IsResumed v found)) after came) (same_as p live W is q (first_steps.of_files resumed.calls.told)) next)
       rest)
 
   -- how the call ends

@@ -5,12 +5,12 @@ use Rattle.command_words.specs.Words.{command_of}
 use Rattle.command_words.specs.declared.command.Command.{Command}
 use Rattle.command_words.specs.declared.command.Command.TheVariants.{Resume, Run}
 use Rattle.command_words.specs.declared.command.Stop.{Stop}
-use Rattle.line_io.specs.Contents.{Contents, IsLongerThan}
+use Rattle.line_io.specs.Contents.{Contents}
 use Rattle.line_io.specs.Faults.{Rose}
 use Rattle.line_io.specs.SinkView.{PutsAll}
 use Rattle.plant_model.specs.declared.plant.Plant.{Plant}
 use Rattle.pull_steps.specs.Deeds.{DiskOver}
-use Rattle.pull_steps.specs.Outside.{StoreOver, SinkOver, limit_of}
+use Rattle.pull_steps.specs.Outside.{StoreOver, SinkOver}
 use Rattle.pull_cli.specs.Ends.{Ends}
 use Rattle.pull_cli.specs.Headline.{IsPlantRead, HasReported, HasSaved}
 
@@ -60,18 +60,13 @@ pub record IsWholeRun (name : List ℕ) (first whole : Call) : Type 0 where
 abbrev pub HasFailedRead : Call → List ℕ → Type 0
 HasFailedRead call file = Rose (call.store.old.read_faults file) (call.store.new.read_faults file)
 
--- the file is longer than a file of its name may be
-abbrev pub IsTooLong : Call → List ℕ → Type 0
-IsTooLong call file = IsLongerThan (limit_of file) (files_before call file)
-
--- How a call ends that resumes what was saved: with the report, or because a file couldn't be read, the sink failed,
--- memory ran out, or a file is longer than it may be.
+-- How a call ends that resumes what was saved: with the report, or because a file couldn't be read, the sink failed, or memory
+-- ran out.
 pub data EndsResumed (p : Plant) (call : Call) : Type 0 where
   reported : call.status ≡ 0 → HasReported p call.sink → EndsResumed p call
   unread : (file : List ℕ) → call.status ≡ 5 → HasFailedRead call file → EndsResumed p call
   unwritten : call.status ≡ 6 → Rose call.sink.old.faults call.sink.new.faults → EndsResumed p call
   no_memory : call.status ≡ 9 → EndsResumed p call
-  too_long : (file : List ℕ) → call.status ≡ 10 → IsTooLong call file → EndsResumed p call
 
 -- the two calls wrote the same bytes
 abbrev pub WroteTheSame : Call → Call → Type 0
