@@ -126,11 +126,7 @@ impl Run {
         Run {
             commands: Vec::new(alloc),
             faults: Faults::none(),
-            want: Want {
-                status: None,
-                output: Output::Whole(Vec::new(alloc)),
-                after: Vec::new(alloc),
-            },
+            want: Want::nothing(alloc),
             each_fault: None,
             each_disk_fault: None,
             crash: None,
@@ -218,20 +214,26 @@ pub fn cases_of(alloc: Global, text: &str) -> Result<Vec<Case>, BadLine> {
         cases: Vec::new(alloc),
         open: Open::Nothing,
     };
-    let mut line = 0u64;
-    for text in text.lines() {
-        line = line.saturating_add(1);
-        if let Err(reason) = builder.follow(line, text) {
-            return Err(BadLine { line, reason });
-        }
-    }
-    match builder.close() {
-        Ok(()) => Ok(builder.cases),
-        Err(reason) => Err(BadLine { line, reason }),
-    }
+    builder.follow_all(text)?;
+    Ok(builder.cases)
 }
 
 impl Builder {
+    /// Follows the lines of a file.
+    fn follow_all(&mut self, text: &str) -> Result<(), BadLine> {
+        let mut line = 0u64;
+        for text in text.lines() {
+            line = line.saturating_add(1);
+            if let Err(reason) = self.follow(line, text) {
+                return Err(BadLine { line, reason });
+            }
+        }
+        match self.close() {
+            Ok(()) => Ok(()),
+            Err(reason) => Err(BadLine { line, reason }),
+        }
+    }
+
     /// Follows a line.
     fn follow(&mut self, line: u64, text: &str) -> Result<(), Reason> {
         match directive_of(self.alloc, text)? {
@@ -346,10 +348,7 @@ impl Builder {
         match &mut self.open {
             Open::Run(_, run) => run.add_text(lines),
             Open::Change(_, change) => match &mut change.edit {
-                Edit::Hold(text) => {
-                    text.extend_from_slice(lines)?;
-                    Ok(())
-                }
+                Some(Edit::Hold(text)) => Ok(text.extend_from_slice(lines)?),
                 _ => Err(Reason::NoText),
             },
             Open::Nothing => Err(Reason::NoText),
@@ -360,14 +359,21 @@ impl Builder {
 /// The changes of files before the first command of a case.
 fn first_changes(alloc: Global, case: &Case) -> Result<Vec<Step>, Reason> {
     let mut steps = Vec::new(alloc);
-    for step in case.steps.iter() {
-        match &step.act {
-            Act::Change(change) => steps.push(Step {
-                line: step.line,
-                act: Act::Change(change.clone()?),
-            })?,
-            Act::Run(_) => break,
-        }
-    }
+    add_first_changes(&mut steps, &case.steps)?;
     Ok(steps)
+}
+
+/// Adds the changes of files before the first command of some steps.
+fn add_first_changes(changes: &mut Vec<Step>, steps: &[Step]) -> Result<(), Reason> {
+    for step in steps {
+        let Act::Change(change) = &step.act else {
+            return Ok(());
+        };
+        let act = Act::Change(change.clone()?);
+        changes.push(Step {
+            line: step.line,
+            act,
+        })?;
+    }
+    Ok(())
 }

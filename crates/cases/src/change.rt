@@ -12,11 +12,11 @@ use std::alloc::Global;
 pub struct Change {
     /// The name of the file.
     pub name: String,
-    /// What becomes of it.
-    pub edit: Edit,
+    /// What becomes of it; none where it goes away.
+    pub edit: Option<Edit>,
 }
 
-/// What becomes of a file.
+/// What becomes of a file that stays.
 #[derive(Clone, Drop)]
 pub enum Edit {
     /// It holds these bytes.
@@ -35,16 +35,14 @@ pub enum Edit {
     },
     /// It ends behind the first of these texts.
     CutAfter(Vec<u8>),
-    /// It goes away.
-    Remove,
 }
 
 /// The change that the next words are: the name of a file and what becomes of it.
 pub fn change_of(alloc: Global, words: &mut Words) -> Result<Change, Reason> {
     let name = words.name()?;
     let edit = match words.next() {
-        None => Edit::Hold(Vec::new(alloc)),
-        Some(Token::Text(text)) => edit_of_text(text, words)?,
+        None => Some(Edit::Hold(Vec::new(alloc))),
+        Some(Token::Text(text)) => Some(edit_of_text(text, words)?),
         Some(Token::Word(word)) => edit_of_word(word.as_str(), words)?,
     };
     Ok(Change { name, edit })
@@ -68,19 +66,22 @@ fn edit_of_text(text: Vec<u8>, words: &mut Words) -> Result<Edit, Reason> {
     })
 }
 
-/// The edit that begins with a word.
-fn edit_of_word(word: &str, words: &mut Words) -> Result<Edit, Reason> {
-    match word {
-        "gone" => Ok(Edit::Remove),
-        "from" => Ok(Edit::Copy(words.name()?)),
-        "spaces" => Ok(Edit::Spaces(words.number()?)),
-        "drawn" => Ok(Edit::Draw(recipe_of(words)?)),
-        "cut" => {
-            words.expect_word("after")?;
-            Ok(Edit::CutAfter(words.text()?))
-        }
-        _ => Err(Reason::NoDirective),
-    }
+/// The edit that begins with a word; none where the file goes away.
+fn edit_of_word(word: &str, words: &mut Words) -> Result<Option<Edit>, Reason> {
+    Ok(Some(match word {
+        "gone" => return Ok(None),
+        "from" => Edit::Copy(words.name()?),
+        "spaces" => Edit::Spaces(words.number()?),
+        "drawn" => Edit::Draw(recipe_of(words)?),
+        "cut" => Edit::CutAfter(end_of(words)?),
+        _ => return Err(Reason::NoDirective),
+    }))
+}
+
+/// The text that stands behind `cut`.
+fn end_of(words: &mut Words) -> Result<Vec<u8>, Reason> {
+    words.expect_word("after")?;
+    words.text()
 }
 
 /// The recipe that the next words are.
@@ -102,36 +103,40 @@ pub fn apply<S: Store>(
     files: &mut Files,
     folder: &mut S,
 ) -> Result<(), Reason> {
-    match bytes_of(alloc, change, files, folder)? {
-        Some(bytes) => {
-            let _ = files.insert(change.name.clone()?, bytes)?;
+    match &change.edit {
+        Some(edit) => {
+            let bytes = edited(alloc, change.name.as_str(), edit, files, folder)?;
+            put(files, &change.name, bytes)
         }
         None => {
             let _ = files.remove(change.name.as_str());
+            Ok(())
         }
     }
+}
+
+/// Puts a file among others, in the place of one of its name.
+pub fn put(files: &mut Files, name: &String, bytes: Vec<u8>) -> Result<(), Reason> {
+    let _ = files.insert(name.clone()?, bytes)?;
     Ok(())
 }
 
-/// What the file holds after a change; none where it goes away.
-fn bytes_of<S: Store>(
+/// What the file of this name holds after an edit.
+fn edited<S: Store>(
     alloc: Global,
-    change: &Change,
+    name: &str,
+    edit: &Edit,
     files: &Files,
     folder: &mut S,
-) -> Result<Option<Vec<u8>>, Reason> {
-    let name = change.name.as_str();
-    Ok(Some(match &change.edit {
-        Edit::Hold(bytes) => bytes.clone()?,
-        Edit::Copy(file) => read_file(alloc, folder, file.as_str())?,
-        Edit::Spaces(count) => vec![in alloc; b' '; *count as usize]?,
-        Edit::Draw(recipe) => plant_of(alloc, *recipe)?.into_bytes(),
-        Edit::Replace { old, new, times } => {
-            replaced(alloc, held(files, name)?, old, new, *times)?
-        }
-        Edit::CutAfter(text) => cut_after(alloc, held(files, name)?, text)?,
-        Edit::Remove => return Ok(None),
-    }))
+) -> Result<Vec<u8>, Reason> {
+    match edit {
+        Edit::Hold(bytes) => Ok(bytes.clone()?),
+        Edit::Copy(file) => read_file(alloc, folder, file.as_str()),
+        Edit::Spaces(count) => Ok(vec![in alloc; b' '; *count as usize]?),
+        Edit::Draw(recipe) => Ok(plant_of(alloc, *recipe)?.into_bytes()),
+        Edit::Replace { old, new, times } => replaced(alloc, held(files, name)?, old, new, *times),
+        Edit::CutAfter(text) => cut_after(alloc, held(files, name)?, text),
+    }
 }
 
 /// What a file of the folder of the case files holds.
@@ -153,8 +158,8 @@ pub fn held<'a>(files: &'a Files, name: &str) -> Result<&'a [u8], Reason> {
 /// What stands before and behind the first of these texts.
 pub fn split_around<'a>(bytes: &'a [u8], text: &[u8]) -> Option<(&'a [u8], &'a [u8])> {
     let at = memmem::find(bytes, text)?;
-    let end = at.checked_add(text.len())?;
-    Some((bytes.get(..at)?, bytes.get(end..)?))
+    let (front, rest) = bytes.split_at_checked(at)?;
+    Some((front, rest.strip_prefix(text)?))
 }
 
 /// The bytes with a text so many times over in the place of another.
@@ -167,11 +172,17 @@ fn replaced(
 ) -> Result<Vec<u8>, Reason> {
     let (front, back) = split_around(bytes, old).ok_or(Reason::NoSuchText)?;
     let mut edited = front.to_vec(alloc)?;
-    for number in 1..=times {
-        add_numbered(alloc, &mut edited, new, number)?;
-    }
+    add_times(alloc, &mut edited, new, times)?;
     edited.extend_from_slice(back)?;
     Ok(edited)
+}
+
+/// Adds a text so many times over, in which the number from 1 stands in the place of `{}`.
+fn add_times(alloc: Global, bytes: &mut Vec<u8>, text: &[u8], times: u32) -> Result<(), Reason> {
+    for number in 1..=times {
+        add_numbered(alloc, bytes, text, number)?;
+    }
+    Ok(())
 }
 
 /// Adds a text, in which the number stands in the place of `{}`.
@@ -181,22 +192,24 @@ fn add_numbered(
     text: &[u8],
     number: u32,
 ) -> Result<(), Reason> {
-    match split_around(text, b"{}") {
-        Some((front, back)) => {
-            bytes.extend_from_slice(front)?;
-            let digits = format!(in alloc; "{number}")?;
-            bytes.extend_from_slice(digits.as_bytes())?;
-            bytes.extend_from_slice(back)?;
-        }
-        None => bytes.extend_from_slice(text)?,
-    }
+    let Some((front, back)) = split_around(text, b"{}") else {
+        return Ok(bytes.extend_from_slice(text)?);
+    };
+    bytes.extend_from_slice(front)?;
+    add_digits(alloc, bytes, number)?;
+    bytes.extend_from_slice(back)?;
     Ok(())
+}
+
+/// Adds the digits of a number.
+fn add_digits(alloc: Global, bytes: &mut Vec<u8>, number: u32) -> Result<(), Reason> {
+    let digits = format!(in alloc; "{number}")?;
+    Ok(bytes.extend_from_slice(digits.as_bytes())?)
 }
 
 /// The bytes up to the end of the first of these texts.
 fn cut_after(alloc: Global, bytes: &[u8], text: &[u8]) -> Result<Vec<u8>, Reason> {
-    let (front, _) = split_around(bytes, text).ok_or(Reason::NoSuchText)?;
-    let mut cut = front.to_vec(alloc)?;
-    cut.extend_from_slice(text)?;
-    Ok(cut)
+    let (_, back) = split_around(bytes, text).ok_or(Reason::NoSuchText)?;
+    let cut = bytes.strip_suffix(back).unwrap_or(bytes);
+    Ok(cut.to_vec(alloc)?)
 }

@@ -1,5 +1,6 @@
 //! Whether what came of a command is what is wanted.
 use crate::change::{read_file, split_around};
+use crate::dates::Row;
 use crate::reason::Reason;
 use crate::want::{After, Output};
 use line_io::{Files, Store};
@@ -14,25 +15,65 @@ pub fn has_output<S: Store>(
 ) -> Result<bool, Reason> {
     match output {
         Output::Whole(text) => Ok(written == text.as_slice()),
-        Output::Copy(file) => Ok(written == read_file(alloc, folder, file.as_str())?.as_slice()),
+        Output::Copy(file) => is_file(alloc, written, file.as_str(), folder),
         Output::Begin(text) => Ok(written.starts_with(text)),
         Output::End(text) => Ok(written.ends_with(text)),
         Output::Front(count, text) => {
             let front = text.get(..*count as usize).unwrap_or(text);
             Ok(written == front)
         }
-        Output::Rows(rows) => {
-            for row in rows.iter() {
-                if lines_of(alloc, written, row.label.as_str())?.as_bytes()
-                    != row.lines.as_slice()
-                {
-                    return Ok(false);
-                }
-            }
-            Ok(true)
-        }
+        Output::Rows(rows) => Ok(has_rows(written, rows)),
         Output::Numbered { text, least, most } => Ok(is_numbered(written, text, *least, *most)),
     }
+}
+
+/// Whether this is what a file of the folder of the case files holds.
+fn is_file<S: Store>(
+    alloc: Global,
+    written: &[u8],
+    file: &str,
+    folder: &mut S,
+) -> Result<bool, Reason> {
+    let bytes = read_file(alloc, folder, file)?;
+    Ok(written == bytes.as_slice())
+}
+
+/// Whether the lines of the label of each row are its lines; there are none where the bytes are no text.
+fn has_rows(written: &[u8], rows: &[Row]) -> bool {
+    let text = str::from_utf8(written).unwrap_or("");
+    for row in rows {
+        if !has_row(text, row) {
+            return false;
+        }
+    }
+    true
+}
+
+/// Whether the lines that begin with the label of a row and a space are its lines.
+fn has_row(text: &str, row: &Row) -> bool {
+    let mut left = row.lines.as_slice();
+    for line in text.lines() {
+        if has_label(line, row.label.as_str()) {
+            match without_line(left, line) {
+                Some(rest) => left = rest,
+                None => return false,
+            }
+        }
+    }
+    left.is_empty()
+}
+
+/// Whether a line begins with a label and a space.
+fn has_label(line: &str, label: &str) -> bool {
+    match line.strip_prefix(label) {
+        Some(rest) => rest.starts_with(" "),
+        None => false,
+    }
+}
+
+/// What stands behind a line with which these lines begin.
+fn without_line<'a>(lines: &'a [u8], line: &str) -> Option<&'a [u8]> {
+    lines.strip_prefix(line.as_bytes())?.strip_prefix(b"\n")
 }
 
 /// Whether this is the text, with a number of this range in the place of `{}`.
@@ -52,34 +93,25 @@ fn number_between(written: &[u8], front: &[u8], back: &[u8]) -> Option<u32> {
     str::from_utf8(digits).ok()?.parse::<u32>().ok()
 }
 
-/// The lines that begin with a label and a space; none where the bytes are no text.
-fn lines_of(alloc: Global, written: &[u8], label: &str) -> Result<String, Reason> {
-    let mut lines = String::new(alloc);
-    for line in str::from_utf8(written).unwrap_or("").lines() {
-        if let Some(rest) = line.strip_prefix(label) {
-            if rest.starts_with(" ") {
-                lines.push_str(line)?;
-                lines.push_str("\n")?;
-            }
-        }
-    }
-    Ok(lines)
-}
-
 /// Whether the files are those from before, but for these.
 pub fn has_files(files: &Files, before: &Files, after: &[After]) -> bool {
-    for (name, bytes) in before.iter() {
+    has_others(files, before, after) && has_others(before, files, after) && has_after(files, after)
+}
+
+/// Whether these files have those others, but for the ones of which something is wanted.
+fn has_others(files: &Files, others: &Files, after: &[After]) -> bool {
+    for (name, bytes) in others.iter() {
         if !is_after(name, after) && files.get(name.as_str()) != Some(bytes) {
             return false;
         }
     }
+    true
+}
+
+/// Whether each file holds what is wanted of it.
+fn has_after(files: &Files, after: &[After]) -> bool {
     for file in after {
         if !has_file(files, file) {
-            return false;
-        }
-    }
-    for (name, _) in files.iter() {
-        if !is_after(name, after) && !before.contains_key(name.as_str()) {
             return false;
         }
     }

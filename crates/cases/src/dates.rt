@@ -1,6 +1,7 @@
 //! Rows of dates: `cut 0 5 10` stands for the lines `cut 1 0`, `cut 2 5` and `cut 3 10` of a report.
 use crate::reason::Reason;
-use std::alloc::Global;
+use std::alloc::{AllocError, Global};
+use std::str::SplitWhitespace;
 
 /// The label of a row, and its lines.
 #[derive(Drop)]
@@ -12,21 +13,33 @@ pub struct Row {
 /// The row that a text is: a label and dates. Between two dates `..` stands for all those that follow by the same step.
 pub fn row_of(alloc: Global, text: &str) -> Result<Row, Reason> {
     let mut words = text.split_whitespace();
-    let label = String::from_str(alloc, words.next().ok_or(Reason::NoDirective)?)?;
+    let label = words.next().ok_or(Reason::NoDirective)?;
     let mut dates = Vec::new(alloc);
+    read_dates(&mut dates, words)?;
+    row_with(alloc, label, &dates)
+}
+
+/// The row of a label and its dates.
+fn row_with(alloc: Global, label: &str, dates: &[u64]) -> Result<Row, Reason> {
+    let lines = lines_of(alloc, label, dates)?;
+    let label = String::from_str(alloc, label)?;
+    Ok(Row { label, lines })
+}
+
+/// Adds the dates that the words are.
+fn read_dates(dates: &mut Vec<u64>, words: SplitWhitespace) -> Result<(), Reason> {
     let mut goes_on = false;
     for word in words {
         if word == ".." {
             goes_on = true;
         } else if goes_on {
-            go_on(&mut dates, number_of(word)?)?;
+            go_on(dates, number_of(word)?)?;
             goes_on = false;
         } else {
             dates.push(number_of(word)?)?;
         }
     }
-    let lines = lines_of(alloc, label.as_str(), &dates)?;
-    Ok(Row { label, lines })
+    Ok(())
 }
 
 /// Adds the dates up to `last`, each later than the one before as the last two are.
@@ -47,13 +60,12 @@ fn go_on(dates: &mut Vec<u64>, last: u64) -> Result<(), Reason> {
 }
 
 /// The lines of a label's dates.
-fn lines_of(alloc: Global, label: &str, dates: &[u64]) -> Result<Vec<u8>, Reason> {
-    let mut lines = Vec::new(alloc);
+fn lines_of(alloc: Global, label: &str, dates: &[u64]) -> Result<Vec<u8>, AllocError> {
+    let mut lines = String::new(alloc);
     for (index, date) in dates.iter().enumerate() {
-        let line = format!(in alloc; "{label} {} {date}\n", index + 1)?;
-        lines.extend_from_slice(line.as_bytes())?;
+        write!(lines, "{label} {} {date}\n", index + 1)?;
     }
-    Ok(lines)
+    Ok(lines.into_bytes())
 }
 
 /// The number that a word is.

@@ -92,6 +92,17 @@ enum Plain {
 }
 
 impl Plain {
+    /// The line that begins with this word.
+    fn of(word: &str) -> Option<Self> {
+        match word {
+            "|" => Some(Plain::Text),
+            ":" => Some(Plain::Dates),
+            "case" => Some(Plain::Case),
+            "like" => Some(Plain::Like),
+            _ => None,
+        }
+    }
+
     /// What the line says.
     fn directive(self, rest: String) -> Directive {
         match self {
@@ -108,19 +119,8 @@ fn as_it_stands(line: &str) -> Option<(Plain, &str)> {
     if line == "|" {
         return Some((Plain::Text, ""));
     }
-    if let Some(rest) = line.strip_prefix("| ") {
-        return Some((Plain::Text, rest));
-    }
-    if let Some(rest) = line.strip_prefix(": ") {
-        return Some((Plain::Dates, rest));
-    }
-    if let Some(rest) = line.strip_prefix("case ") {
-        return Some((Plain::Case, rest));
-    }
-    if let Some(rest) = line.strip_prefix("like ") {
-        return Some((Plain::Like, rest));
-    }
-    None
+    let (word, rest) = line.split_once(" ")?;
+    Some((Plain::of(word)?, rest))
 }
 
 /// What the words of a line say.
@@ -158,16 +158,31 @@ fn of_run(alloc: Global, word: &str, words: &mut Words) -> Result<OfRun, Reason>
 
 /// The row that stands behind `with`.
 fn row_of(alloc: Global, words: &mut Words) -> Result<Row, Reason> {
-    let mut changes = Vec::new(alloc);
+    let mut row = Row {
+        changes: Vec::new(alloc),
+        want: Want::nothing(alloc),
+    };
+    read_row(alloc, &mut row, words)?;
+    Ok(row)
+}
+
+/// Reads the changes of a row, and what it gives.
+fn read_row(alloc: Global, row: &mut Row, words: &mut Words) -> Result<(), Reason> {
+    add_changes(alloc, &mut row.changes, words)?;
+    words.expect_word("gives")?;
+    row.want = want_of(alloc, words)?;
+    Ok(())
+}
+
+/// Adds the changes of a row, with `and` between two of them.
+fn add_changes(alloc: Global, changes: &mut Vec<Change>, words: &mut Words) -> Result<(), Reason> {
     changes.push(change_of(alloc, words)?)?;
     for _ in 0..words.len() {
         if words.passes("and") {
             changes.push(change_of(alloc, words)?)?;
         }
     }
-    words.expect_word("gives")?;
-    let want = want_of(alloc, words)?;
-    Ok(Row { changes, want })
+    Ok(())
 }
 
 /// The output that stands behind `output`.
@@ -175,13 +190,18 @@ fn output_of(alloc: Global, words: &mut Words) -> Result<Output, Reason> {
     match words.next() {
         None => Ok(Output::Whole(Vec::new(alloc))),
         Some(Token::Text(text)) => output_of_text(text, words),
-        Some(Token::Word(word)) => match word.as_str() {
-            "ends" => Ok(Output::End(Vec::new(alloc))),
-            "from" => Ok(Output::Copy(words.name()?)),
-            "begins" => Ok(Output::Begin(words.text()?)),
-            "first" => Ok(Output::Front(words.number()?, Vec::new(alloc))),
-            _ => Err(Reason::NoDirective),
-        },
+        Some(Token::Word(word)) => output_of_word(alloc, word.as_str(), words),
+    }
+}
+
+/// The output that begins with a word.
+fn output_of_word(alloc: Global, word: &str, words: &mut Words) -> Result<Output, Reason> {
+    match word {
+        "ends" => Ok(Output::End(Vec::new(alloc))),
+        "from" => Ok(Output::Copy(words.name()?)),
+        "begins" => Ok(Output::Begin(words.text()?)),
+        "first" => Ok(Output::Front(words.number()?, Vec::new(alloc))),
+        _ => Err(Reason::NoDirective),
     }
 }
 
@@ -212,19 +232,23 @@ fn after_of(alloc: Global, words: &mut Words) -> Result<After, Reason> {
 /// The faults or the variants that stand behind `each`.
 fn each_of(words: &mut Words) -> Result<OfRun, Reason> {
     if words.passes("prefix") {
-        return Ok(OfRun::Variants(variants_of(Kind::Prefix, words)?));
+        Ok(OfRun::Variants(variants_of(Kind::Prefix, words)?))
+    } else if words.passes("byte") {
+        Ok(OfRun::Variants(variants_of(Kind::Byte, words)?))
+    } else if words.passes("disk") {
+        expect_fault_in_turn(words)?;
+        Ok(OfRun::EachDiskFault(words.number()?))
+    } else {
+        expect_fault_in_turn(words)?;
+        Ok(OfRun::EachFault(words.names()?))
     }
-    if words.passes("byte") {
-        return Ok(OfRun::Variants(variants_of(Kind::Byte, words)?));
-    }
-    let of_disk = words.passes("disk");
+}
+
+/// Passes over the words `fault in turn`.
+fn expect_fault_in_turn(words: &mut Words) -> Result<(), Reason> {
     words.expect_word("fault")?;
     words.expect_word("in")?;
-    words.expect_word("turn")?;
-    if of_disk {
-        return Ok(OfRun::EachDiskFault(words.number()?));
-    }
-    Ok(OfRun::EachFault(words.names()?))
+    words.expect_word("turn")
 }
 
 /// The crash that stands behind `crash`.

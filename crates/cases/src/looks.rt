@@ -9,30 +9,33 @@ use event_graph::{Arc, Graph};
 use line_base::Items;
 use line_graph::graph_of;
 use plant_file::{complete_draft, read_plant};
-use plant_model::Plant;
+use plant_model::{Plant, PlantError};
 use std::alloc::{AllocError, Global};
+
+impl From<PlantError> for Reason {
+    fn from(_: PlantError) -> Self {
+        Reason::NoPlant
+    }
+}
 
 /// The plant of a plant file that names no other files.
 fn plant_of(alloc: Global, bytes: &[u8]) -> Result<Plant, Reason>
     ensures { IfOk result IsSound }
 {
-    let Ok(draft) = read_plant(alloc, bytes) else {
-        return Err(Reason::NoPlant);
-    };
+    let draft = read_plant(alloc, bytes)?;
     if draft.demands_file().is_some() || draft.times_file().is_some() {
         return Err(Reason::NoPlant);
     }
-    match complete_draft(alloc, draft, None, None) {
-        Ok(plant) => Ok(plant),
-        Err(_) => Err(Reason::NoPlant),
-    }
+    Ok(complete_draft(alloc, draft, None, None)?)
 }
 
 /// The arcs of a plant's graph in order, a line each: its number, the stations at its start and its end, its tokens, whether
 /// it is worked, and its delay.
 pub fn arcs_of(alloc: Global, bytes: &[u8]) -> Result<Vec<u8>, Reason> {
-    let graph = graph_for(alloc, bytes)?;
-    Ok(arc_lines(alloc, &graph)?)
+    match graph_for(alloc, bytes) {
+        Ok(graph) => arc_lines(alloc, &graph),
+        Err(reason) => Err(reason),
+    }
 }
 
 /// The graph of the plant of a plant file. What its contract says is let go here.
@@ -42,34 +45,22 @@ fn graph_for(alloc: Global, bytes: &[u8]) -> Result<Graph, Reason> {
 }
 
 /// The lines of the arcs of a graph.
-fn arc_lines(alloc: Global, graph: &Graph) -> Result<Vec<u8>, AllocError> {
-    let mut text = Vec::new(alloc);
+fn arc_lines(alloc: Global, graph: &Graph) -> Result<Vec<u8>, Reason> {
+    let mut text = String::new(alloc);
     let arcs = graph.arcs().len() as u32;
     for a in 0..arcs {
-        let line = arc_line(alloc, graph, a)?;
-        text.extend_from_slice(line.as_bytes())?;
+        write_arc(&mut text, graph, a)?;
     }
-    Ok(text)
+    Ok(text.into_bytes())
 }
 
-/// The line of an arc.
-fn arc_line(alloc: Global, graph: &Graph, a: u32) -> Result<String, AllocError>
+/// Writes the line of an arc.
+fn write_arc(text: &mut String, graph: &Graph, a: u32) -> Result<(), AllocError>
     requires { a < arc_count graph.now }
 {
     let arc = graph.arcs()[a as usize];
-    let mut line = ends_of(alloc, a, arc)?;
-    let delay = graph.delay(a);
-    let rest = format!(in alloc; " {} {delay}\n", kind_of(arc))?;
-    line.push_str(rest.as_str())?;
-    Ok(line)
-}
-
-/// The number of an arc, the stations at its start and its end, and its tokens.
-fn ends_of(alloc: Global, a: u32, arc: Arc) -> Result<String, AllocError> {
-    let mut line = format!(in alloc; "{a} {}", arc.from)?;
-    let rest = format!(in alloc; " {} {}", arc.to, arc.tokens)?;
-    line.push_str(rest.as_str())?;
-    Ok(line)
+    write!(text, "{a} {} {} {}", arc.from, arc.to, arc.tokens)?;
+    write!(text, " {} {}\n", kind_of(arc), graph.delay(a))
 }
 
 /// The word for whether an arc is worked.
@@ -79,35 +70,50 @@ fn kind_of(arc: Arc) -> &'static str {
 
 /// The card circuits of a plant in order, a line each: whose cards they are, their number, and the arcs.
 pub fn circuits_of(alloc: Global, bytes: &[u8]) -> Result<Vec<u8>, Reason> {
-    let circuits = circuits_for(alloc, bytes)?;
-    let mut text = Vec::new(alloc);
-    for circuit in circuits.as_slice() {
-        add_circuit(alloc, &mut text, circuit)?;
+    match plant_of(alloc, bytes) {
+        Ok(plant) => circuit_lines(alloc, &plant),
+        Err(reason) => Err(reason),
     }
-    Ok(text)
 }
 
-/// The card circuits of the plant of a plant file. What their contract says is let go here.
-fn circuits_for(alloc: Global, bytes: &[u8]) -> Result<Items<CardCircuit>, Reason> {
-    let plant = plant_of(alloc, bytes)?;
-    let graph = graph_of(alloc, &plant)?;
-    Ok(card_circuits(alloc, &plant, &graph)?)
+/// The lines of the card circuits of a plant.
+fn circuit_lines(alloc: Global, plant: &Plant) -> Result<Vec<u8>, Reason>
+    requires { IsSound plant.now }
+{
+    let circuits = circuits_in(alloc, plant)?;
+    let mut text = String::new(alloc);
+    write_circuits(&mut text, circuits.as_slice())?;
+    Ok(text.into_bytes())
 }
 
-/// Adds the line of a card circuit.
-fn add_circuit(alloc: Global, text: &mut Vec<u8>, circuit: &CardCircuit) -> Result<(), AllocError> {
+/// The card circuits of a plant. What their contract says is let go here.
+fn circuits_in(alloc: Global, plant: &Plant) -> Result<Items<CardCircuit>, AllocError>
+    requires { IsSound plant.now }
+{
+    match graph_of(alloc, plant) {
+        Ok(graph) => card_circuits(alloc, plant, &graph),
+        Err(error) => Err(error),
+    }
+}
+
+/// Writes the lines of card circuits.
+fn write_circuits(text: &mut String, circuits: &[CardCircuit]) -> Result<(), AllocError> {
+    for circuit in circuits {
+        write_circuit(text, circuit)?;
+    }
+    Ok(())
+}
+
+/// Writes the line of a card circuit.
+fn write_circuit(text: &mut String, circuit: &CardCircuit) -> Result<(), AllocError> {
     let (kind, number) = match circuit.kind {
         CircuitKind::Stage(stage) => ("stage", stage),
         CircuitKind::Conwip(stage) => ("conwip", stage),
         CircuitKind::CardLoop(number) => ("loop", number),
     };
-    text.extend_from_slice(kind.as_bytes())?;
-    let head = format!(in alloc; " {number} cards {} arcs", circuit.number)?;
-    text.extend_from_slice(head.as_bytes())?;
+    write!(text, "{kind} {number} cards {} arcs", circuit.number)?;
     for arc in circuit.arcs.as_slice() {
-        let number = format!(in alloc; " {arc}")?;
-        text.extend_from_slice(number.as_bytes())?;
+        write!(text, " {arc}")?;
     }
-    text.push(b'\n')?;
-    Ok(())
+    text.push_str("\n")
 }

@@ -19,12 +19,13 @@ mod words;
 use case::{Case, cases_of};
 use change::read_file;
 use line_io::{FileStore, Sink, StdSink, Store, put_all};
-use reason::Reason;
+use reason::{BadLine, Reason};
 use runner::run_case;
-use std::alloc::Global;
+use std::alloc::{AllocError, Global};
 use std::process::ExitCode;
 use std::sync::Wait;
 use std::thread::Threads;
+use told::Told;
 
 /// The file that names the case files in order, one a line.
 const LIST: &str = "CASES.txt";
@@ -77,17 +78,45 @@ fn run_file<R: Threads + Wait + Sync, S: Store, K: Sink>(
     folder: &mut S,
     sink: &mut K,
 ) -> Result<bool, Reason> {
+    match file_cases(alloc, name, folder)? {
+        Ok(cases) => run_cases(rt, alloc, name, &cases, folder, sink),
+        Err(bad) => report_bad_line(alloc, name, bad, sink),
+    }
+}
+
+/// The cases of a file.
+fn file_cases<S: Store>(
+    alloc: Global,
+    name: &str,
+    folder: &mut S,
+) -> Result<Result<Vec<Case>, BadLine>, Reason> {
     let text = text_of(alloc, folder, name)?;
-    let cases = match cases_of(alloc, text.as_str()) {
-        Ok(cases) => cases,
-        Err(bad) => {
-            let told = format!(in alloc; "{name}, line {}: {}\n", bad.line, bad.reason)?;
-            print(sink, told.as_bytes())?;
-            return Ok(false);
-        }
-    };
+    Ok(cases_of(alloc, text.as_str()))
+}
+
+/// Prints which line of a file can't be followed, and why.
+fn report_bad_line<K: Sink>(
+    alloc: Global,
+    name: &str,
+    bad: BadLine,
+    sink: &mut K,
+) -> Result<bool, Reason> {
+    let line = format!(in alloc; "{name}, line {}: {}\n", bad.line, bad.reason)?;
+    print(sink, line.as_bytes())?;
+    Ok(false)
+}
+
+/// Runs cases in order.
+fn run_cases<R: Threads + Wait + Sync, S: Store, K: Sink>(
+    rt: &R,
+    alloc: Global,
+    name: &str,
+    cases: &[Case],
+    folder: &mut S,
+    sink: &mut K,
+) -> Result<bool, Reason> {
     let mut all_well = true;
-    for case in cases.iter() {
+    for case in cases {
         all_well &= report(rt, alloc, name, case, folder, sink)?;
     }
     Ok(all_well)
@@ -104,34 +133,50 @@ fn report<R: Threads + Wait + Sync, S: Store, K: Sink>(
 ) -> Result<bool, Reason> {
     let title = case.title.as_str();
     match run_case(rt, alloc, case, folder) {
-        Ok(told) if told.text.is_empty() => {
-            let line = format!(in alloc; "{name}: {title} ok{}\n", runs_of(alloc, told.runs)?)?;
-            print(sink, line.as_bytes())?;
-            Ok(true)
-        }
-        Ok(told) => {
-            let line = format!(in alloc; "{name}: {title} FAILED\n")?;
-            print(sink, line.as_bytes())?;
-            print(sink, &told.text)?;
-            Ok(false)
-        }
-        Err(broken) => {
-            let line = format!(in alloc;
-                "{name}: {title}, line {}: {}\n",
-                broken.line, broken.reason
-            )?;
-            print(sink, line.as_bytes())?;
-            Ok(false)
-        }
+        Ok(told) => report_told(alloc, name, title, &told, sink),
+        Err(broken) => report_broken(alloc, name, title, broken, sink),
     }
 }
 
-/// How many runs over variants there were, where there were any.
-fn runs_of(alloc: Global, runs: u64) -> Result<String, Reason> {
-    if runs == 0 {
-        return Ok(String::new(alloc));
+/// Prints the line of a case that was run, and what is told of it.
+fn report_told<K: Sink>(
+    alloc: Global,
+    name: &str,
+    title: &str,
+    told: &Told,
+    sink: &mut K,
+) -> Result<bool, Reason> {
+    let well = told.text.is_empty();
+    let mut line = format!(in alloc; "{name}: {title}")?;
+    write_outcome(&mut line, well, told.runs)?;
+    print(sink, line.as_bytes())?;
+    print(sink, &told.text)?;
+    Ok(well)
+}
+
+/// Writes whether a case came to what is wanted, and how many runs over variants there were, where there were any.
+fn write_outcome(line: &mut String, well: bool, runs: u64) -> Result<(), AllocError> {
+    if !well {
+        line.push_str(" FAILED\n")
+    } else if runs == 0 {
+        line.push_str(" ok\n")
+    } else {
+        write!(line, " ok, {runs} runs\n")
     }
-    Ok(format!(in alloc; ", {runs} runs")?)
+}
+
+/// Prints which line of a case can't be followed, and why.
+fn report_broken<K: Sink>(
+    alloc: Global,
+    name: &str,
+    title: &str,
+    broken: BadLine,
+    sink: &mut K,
+) -> Result<bool, Reason> {
+    let mut line = format!(in alloc; "{name}: {title}")?;
+    write!(line, ", line {}: {}\n", broken.line, broken.reason)?;
+    print(sink, line.as_bytes())?;
+    Ok(false)
 }
 
 /// Prints some bytes.

@@ -1,48 +1,62 @@
 use std::alloc::{AllocError, AllocFailed};
-use thiserror::Error;
+use std::fmt;
 
 /// Why a line of a case file can't be followed.
-#[derive(Clone, Copy, Debug, Error)]
+#[derive(Clone, Copy)]
 pub enum Reason {
     /// Its words say nothing that a case file says.
-    #[error("the words say nothing")]
     NoDirective,
     /// A quoted text has no end, a word has a quote in it, or an escape is none.
-    #[error("the quoted text is broken")]
     BadText,
     /// A number is wanted.
-    #[error("a number is wanted")]
     BadNumber,
     /// It stands before the first case.
-    #[error("no case has begun")]
     NoCase,
     /// No earlier case of the file has the title.
-    #[error("no earlier case has this title")]
     NoSuchCase,
     /// It stands before the first command of its case.
-    #[error("no command stands before it")]
     NoCommand,
     /// It adds to a text, and none stands before it.
-    #[error("no text stands before it")]
     NoText,
     /// The store, or the folder of the case files, has no such file.
-    #[error("there is no such file")]
     NoSuchFile,
     /// The file doesn't have the text that is to be found in it.
-    #[error("the file has no such text")]
     NoSuchText,
     /// The plant isn't sound, or names other files, where its graph is to be shown.
-    #[error("the plant is refused, or names other files")]
     NoPlant,
     /// The disk got no such call, or what its slots hold is too long.
-    #[error("the disk got no such call")]
     NoSuchCall,
     /// What is to be printed can't be.
-    #[error("the output can't be written")]
     NoSink,
     /// There was no memory for it.
-    #[error("out of memory")]
     NoMemory,
+}
+
+impl Reason {
+    /// The words that tell it.
+    fn words(self) -> &'static str {
+        match self {
+            Reason::NoDirective => "the words say nothing",
+            Reason::BadText => "the quoted text is broken",
+            Reason::BadNumber => "a number is wanted",
+            Reason::NoCase => "no case has begun",
+            Reason::NoSuchCase => "no earlier case has this title",
+            Reason::NoCommand => "no command stands before it",
+            Reason::NoText => "no text stands before it",
+            Reason::NoSuchFile => "there is no such file",
+            Reason::NoSuchText => "the file has no such text",
+            Reason::NoPlant => "the plant is refused, or names other files",
+            Reason::NoSuchCall => "the disk got no such call",
+            Reason::NoSink => "the output can't be written",
+            Reason::NoMemory => "out of memory",
+        }
+    }
+}
+
+impl fmt::Display for Reason {
+    fn fmt<W: fmt::Write>(&self, f: &mut fmt::Formatter<W>) -> fmt::Result {
+        f.write_str(self.words())
+    }
 }
 
 /// A line of a case file that can't be followed.

@@ -1,6 +1,6 @@
 //! Runs a case, and tells what came that isn't wanted.
-use crate::case::{Act, Case, Faults, NumberedRow, Run};
-use crate::change::{Change, apply, held};
+use crate::case::{Act, Case, Faults, NumberedRow, Run, Step};
+use crate::change::{Change, apply, held, put};
 use crate::compare::{has_files, has_output};
 use crate::looks::{arcs_of, circuits_of};
 use crate::reason::{BadLine, Reason};
@@ -73,21 +73,43 @@ pub fn run_case<R: Threads + Wait + Sync, S: Store>(
         text: Vec::new(alloc),
         runs: 0,
     };
-    for step in case.steps.iter() {
-        let done = match &step.act {
-            Act::Change(change) => apply(alloc, change, &mut found.files, folder),
-            Act::Run(run) => {
-                run_commands(rt, alloc, run, step.line, &mut found, folder, &mut told)
-            }
-        };
-        if let Err(reason) = done {
+    run_steps(rt, alloc, &case.steps, &mut found, folder, &mut told)?;
+    Ok(told)
+}
+
+/// Runs the steps of a case in order.
+fn run_steps<R: Threads + Wait + Sync, S: Store>(
+    rt: &R,
+    alloc: Global,
+    steps: &[Step],
+    found: &mut Found,
+    folder: &mut S,
+    told: &mut Told,
+) -> Result<(), BadLine> {
+    for step in steps {
+        if let Err(reason) = run_step(rt, alloc, step, found, folder, told) {
             return Err(BadLine {
                 line: step.line,
                 reason,
             });
         }
     }
-    Ok(told)
+    Ok(())
+}
+
+/// Runs a step.
+fn run_step<R: Threads + Wait + Sync, S: Store>(
+    rt: &R,
+    alloc: Global,
+    step: &Step,
+    found: &mut Found,
+    folder: &mut S,
+    told: &mut Told,
+) -> Result<(), Reason> {
+    match &step.act {
+        Act::Change(change) => apply(alloc, change, &mut found.files, folder),
+        Act::Run(run) => run_commands(rt, alloc, run, step.line, found, folder, told),
+    }
 }
 
 /// Runs commands one after the other over what each finds.
@@ -101,14 +123,14 @@ fn run_commands<R: Threads + Wait + Sync, S: Store>(
     told: &mut Told,
 ) -> Result<(), Reason> {
     for words in run.commands.iter() {
+        let attempt = attempt_of(run, line, words, found);
         for row in run.rows.iter() {
-            run_row(rt, alloc, run.faults, row, words, found, folder, told)?;
+            run_row(rt, alloc, &attempt, row, folder, told)?;
         }
         for variants in run.variants.iter() {
-            run_variants(rt, alloc, run, line, words, found, variants, told)?;
+            run_variants(rt, alloc, &attempt, variants, told)?;
         }
-        if let Some(status) = run.want.status {
-            let attempt = attempt_of(run, line, words, found, status);
+        if run.want.status.is_some() {
             let left = run_command(rt, alloc, run, &attempt, folder, told)?;
             leave(found, left)?;
         }
@@ -120,54 +142,73 @@ fn run_commands<R: Threads + Wait + Sync, S: Store>(
 fn run_variants<R: Threads + Wait + Sync>(
     rt: &R,
     alloc: Global,
-    run: &Run,
-    line: u64,
-    words: &[String],
-    found: &Found,
+    attempt: &Attempt,
     variants: &Variants,
     told: &mut Told,
 ) -> Result<(), Reason> {
-    let name = variants.file.as_str();
-    let whole = held(&found.files, name)?;
+    let whole = held(attempt.files, variants.file.as_str())?;
     for number in 0..variants.kind.count(whole.len()) {
-        let mut files = found.files.clone()?;
-        let variant = variants.kind.variant(alloc, whole, number)?;
-        let _ = files.insert(variants.file.clone()?, variant)?;
-        let attempt = Attempt {
-            files: &files,
-            ..attempt_of(run, line, words, found, 0)
-        };
-        if !run_variant(rt, alloc, &attempt, told)? {
-            add_variant(alloc, told, name, number)?;
+        if !run_variant(rt, alloc, attempt, variants, whole, number, told)? {
+            add_variant(alloc, told, variants.file.as_str(), number)?;
         }
     }
     Ok(())
 }
 
-/// Runs a command over a variant of a file, and tells what came where it is no answer. Answers whether it is one.
+/// Runs a command over the variant of this number of a file that holds these bytes, and tells what came where it is no
+/// answer. Answers whether it is one.
 fn run_variant<R: Threads + Wait + Sync>(
     rt: &R,
     alloc: Global,
     attempt: &Attempt,
+    variants: &Variants,
+    whole: &[u8],
+    number: usize,
     told: &mut Told,
 ) -> Result<bool, Reason> {
-    let came = call(rt, alloc, attempt)?;
+    let variant = variants.kind.variant(alloc, whole, number)?;
+    let files = files_with(attempt.files, &variants.file, variant)?;
+    answers(rt, alloc, attempt, &files, told)
+}
+
+/// The files, where the one of this name holds these bytes.
+fn files_with(files: &Files, name: &String, bytes: Vec<u8>) -> Result<Files, Reason> {
+    let mut changed = files.clone()?;
+    put(&mut changed, name, bytes)?;
+    Ok(changed)
+}
+
+/// Runs a command over these files, and tells what came where it is no answer. Answers whether it is one.
+fn answers<R: Threads + Wait + Sync>(
+    rt: &R,
+    alloc: Global,
+    attempt: &Attempt,
+    files: &Files,
+    told: &mut Told,
+) -> Result<bool, Reason> {
+    let attempt = Attempt { files, ..*attempt };
+    let came = call(rt, alloc, &attempt)?;
     told.runs = told.runs.saturating_add(1);
     let fits = is_answer(came.status, &came.written) && came.changed.is_empty();
+    judged(alloc, &attempt, &came, fits, told)
+}
+
+/// Tells what came of an attempt where it doesn't fit. Answers whether it fits.
+fn judged(
+    alloc: Global,
+    attempt: &Attempt,
+    came: &Came,
+    fits: bool,
+    told: &mut Told,
+) -> Result<bool, Reason> {
     if !fits {
-        add_came(alloc, told, attempt.line, attempt.words, &came)?;
+        add_came(alloc, told, attempt.line, attempt.words, came)?;
     }
     Ok(fits)
 }
 
 /// The attempt at a command of a run.
-fn attempt_of<'a>(
-    run: &'a Run,
-    line: u64,
-    words: &'a [String],
-    found: &'a Found,
-    status: u8,
-) -> Attempt<'a> {
+fn attempt_of<'a>(run: &'a Run, line: u64, words: &'a [String], found: &'a Found) -> Attempt<'a> {
     Attempt {
         line,
         words,
@@ -175,7 +216,7 @@ fn attempt_of<'a>(
         slots: &found.slots,
         faults: run.faults,
         crash: run.crash,
-        status,
+        status: run.want.status.unwrap_or(0),
         output: &run.want.output,
         after: &run.want.after,
     }
@@ -197,11 +238,19 @@ fn run_command<R: Threads + Wait + Sync, S: Store>(
 
 /// Goes on with what a command leaves.
 fn leave(found: &mut Found, left: Option<Left>) -> Result<(), Reason> {
-    if let Some(left) = left {
-        for (name, bytes) in left.files.iter() {
-            let _ = found.files.insert(name.clone()?, bytes.clone()?)?;
+    match left {
+        Some(Left { files, slots }) => {
+            found.slots = slots;
+            put_all(&mut found.files, &files)
         }
-        found.slots = left.slots;
+        None => Ok(()),
+    }
+}
+
+/// Puts files among others, in the place of those of the same names.
+fn put_all(files: &mut Files, others: &Files) -> Result<(), Reason> {
+    for (name, bytes) in others.iter() {
+        put(files, name, bytes.clone()?)?;
     }
     Ok(())
 }
@@ -210,27 +259,36 @@ fn leave(found: &mut Found, left: Option<Left>) -> Result<(), Reason> {
 fn run_row<R: Threads + Wait + Sync, S: Store>(
     rt: &R,
     alloc: Global,
-    faults: Faults,
+    attempt: &Attempt,
     numbered: &NumberedRow,
-    words: &[String],
-    found: &Found,
     folder: &mut S,
     told: &mut Told,
 ) -> Result<(), Reason> {
-    let files = changed_files(alloc, &found.files, &numbered.row.changes, folder)?;
-    let attempt = Attempt {
+    let files = changed_files(alloc, attempt.files, &numbered.row.changes, folder)?;
+    check_row(rt, alloc, attempt, numbered, &files, folder, told)
+}
+
+/// Runs a command over these files, which are those of a row of a table.
+fn check_row<R: Threads + Wait + Sync, S: Store>(
+    rt: &R,
+    alloc: Global,
+    attempt: &Attempt,
+    numbered: &NumberedRow,
+    files: &Files,
+    folder: &mut S,
+    told: &mut Told,
+) -> Result<(), Reason> {
+    let want = &numbered.row.want;
+    let of_row = Attempt {
         line: numbered.line,
-        words,
-        files: &files,
-        slots: &found.slots,
-        faults,
+        files,
         crash: None,
-        status: numbered.row.want.status.unwrap_or(0),
-        output: &numbered.row.want.output,
-        after: &[],
+        status: want.status.unwrap_or(0),
+        output: &want.output,
+        after: &want.after,
+        ..*attempt
     };
-    tried(rt, alloc, &attempt, folder, told)?;
-    Ok(())
+    check_attempt(rt, alloc, &of_row, folder, told)
 }
 
 /// The files with these changes.
@@ -282,22 +340,7 @@ fn fail_store<R: Threads + Wait + Sync, S: Store>(
 ) -> Result<(), Reason> {
     let mut store = 1u32;
     for name in names {
-        let text = format!(in alloc;
-            "store: {}
-",
-            name.as_str()
-        )?;
-        let failed = Attempt {
-            status: 5,
-            output: &Output::Whole(text.into_bytes()),
-            after: &[],
-            ..*attempt
-        };
-        let faults = Faults {
-            store,
-            ..attempt.faults
-        };
-        try_failing(rt, alloc, &failed, faults, folder, told)?;
+        fail_call(rt, alloc, attempt, name.as_str(), store, folder, told)?;
         store = store.saturating_add(1);
     }
     let faults = Faults {
@@ -305,6 +348,25 @@ fn fail_store<R: Threads + Wait + Sync, S: Store>(
         ..attempt.faults
     };
     try_failing(rt, alloc, attempt, faults, folder, told)
+}
+
+/// Makes this call of the store fail, which is of this file.
+fn fail_call<R: Threads + Wait + Sync, S: Store>(
+    rt: &R,
+    alloc: Global,
+    attempt: &Attempt,
+    file: &str,
+    store: u32,
+    folder: &mut S,
+    told: &mut Told,
+) -> Result<(), Reason> {
+    let faults = Faults {
+        store,
+        ..attempt.faults
+    };
+    let line = format!(in alloc; "store: {file}\n")?;
+    let output = Output::Whole(line.into_bytes());
+    try_stopping(rt, alloc, attempt, faults, 5, &output, folder, told)
 }
 
 /// Makes each call of the disk fail in turn, then one more.
@@ -316,25 +378,39 @@ fn fail_disk<R: Threads + Wait + Sync, S: Store>(
     folder: &mut S,
     told: &mut Told,
 ) -> Result<(), Reason> {
-    let line = Output::Whole(b"disk\n".to_vec(alloc)?);
-    let failed = Attempt {
-        status: 12,
-        output: &line,
-        after: &[],
-        ..*attempt
-    };
+    let output = Output::Whole(b"disk\n".to_vec(alloc)?);
     for disk in 1..=calls {
         let faults = Faults {
             disk,
             ..attempt.faults
         };
-        try_failing(rt, alloc, &failed, faults, folder, told)?;
+        try_stopping(rt, alloc, attempt, faults, 12, &output, folder, told)?;
     }
     let faults = Faults {
         disk: calls.saturating_add(1),
         ..attempt.faults
     };
     try_failing(rt, alloc, attempt, faults, folder, told)
+}
+
+/// Tries a command with these faults, where it is to stop with this status and this output, and to change no file.
+fn try_stopping<R: Threads + Wait + Sync, S: Store>(
+    rt: &R,
+    alloc: Global,
+    attempt: &Attempt,
+    faults: Faults,
+    status: u8,
+    output: &Output,
+    folder: &mut S,
+    told: &mut Told,
+) -> Result<(), Reason> {
+    let stopped = Attempt {
+        status,
+        output,
+        after: &attempt.after[..0],
+        ..*attempt
+    };
+    try_failing(rt, alloc, &stopped, faults, folder, told)
 }
 
 /// Tries a command with these faults. No command below finds what it leaves.
@@ -351,8 +427,7 @@ fn try_failing<R: Threads + Wait + Sync, S: Store>(
         crash: None,
         ..*attempt
     };
-    tried(rt, alloc, &failing, folder, told)?;
-    Ok(())
+    check_attempt(rt, alloc, &failing, folder, told)
 }
 
 /// Makes the first put fail, after which this was written.
@@ -378,6 +453,18 @@ fn fail_put<R: Threads + Wait + Sync, S: Store>(
     try_failing(rt, alloc, &failed, faults, folder, told)
 }
 
+/// Tries a command, and lets go what comes of it; it is told where it isn't wanted.
+fn check_attempt<R: Threads + Wait + Sync, S: Store>(
+    rt: &R,
+    alloc: Global,
+    attempt: &Attempt,
+    folder: &mut S,
+    told: &mut Told,
+) -> Result<(), Reason> {
+    let _ = tried(rt, alloc, attempt, folder, told)?;
+    Ok(())
+}
+
 /// What comes of an attempt; it is told where it isn't wanted.
 fn tried<R: Threads + Wait + Sync, S: Store>(
     rt: &R,
@@ -387,35 +474,56 @@ fn tried<R: Threads + Wait + Sync, S: Store>(
     told: &mut Told,
 ) -> Result<Came, Reason> {
     let came = call(rt, alloc, attempt)?;
-    let fits = attempt.status == came.status
-        && has_output(alloc, &came.written, attempt.output, folder)?
-        && came.changed.is_empty();
-    if !fits {
-        add_came(alloc, told, attempt.line, attempt.words, &came)?;
-    }
+    let _ = is_wanted(alloc, attempt, &came, folder, told)?;
     Ok(came)
 }
 
-/// Runs a command: the top call, or a look at a plant or at the slots.
+/// Whether what came of an attempt is what is wanted; it is told where it isn't.
+fn is_wanted<S: Store>(
+    alloc: Global,
+    attempt: &Attempt,
+    came: &Came,
+    folder: &mut S,
+    told: &mut Told,
+) -> Result<bool, Reason> {
+    let fits = attempt.status == came.status
+        && has_output(alloc, &came.written, attempt.output, folder)?
+        && came.changed.is_empty();
+    judged(alloc, attempt, came, fits, told)
+}
+
+/// Runs a command: a look, or the top call.
 fn call<R: Threads + Wait + Sync>(
     rt: &R,
     alloc: Global,
     attempt: &Attempt,
 ) -> Result<Came, Reason> {
+    match look_of(alloc, attempt)? {
+        Some(text) => Ok(looked(alloc, text)),
+        None => pulled(rt, alloc, attempt),
+    }
+}
+
+/// What a look at the slots or at a plant shows; none where the words are no look.
+fn look_of(alloc: Global, attempt: &Attempt) -> Result<Option<Vec<u8>>, Reason> {
     match attempt.words {
-        [program, name] if program.as_str() == "arcs" => {
-            let text = arcs_of(alloc, held(attempt.files, name.as_str())?)?;
-            Ok(looked(alloc, text))
-        }
-        [program, name] if program.as_str() == "circuits" => {
-            let text = circuits_of(alloc, held(attempt.files, name.as_str())?)?;
-            Ok(looked(alloc, text))
-        }
-        [program] if program.as_str() == "slots" => {
-            Ok(looked(alloc, attempt.slots.text(alloc)?))
-        }
-        [_, words @ ..] => pulled(rt, alloc, words, attempt),
-        [] => Err(Reason::NoDirective),
+        [program] if program.as_str() == "slots" => Ok(Some(attempt.slots.text(alloc)?)),
+        [program, name] => plant_look(alloc, program.as_str(), attempt.files, name.as_str()),
+        _ => Ok(None),
+    }
+}
+
+/// What a look of this name at the plant of a file shows; none where there is no such look.
+fn plant_look(
+    alloc: Global,
+    look: &str,
+    files: &Files,
+    name: &str,
+) -> Result<Option<Vec<u8>>, Reason> {
+    match look {
+        "arcs" => Ok(Some(arcs_of(alloc, held(files, name)?)?)),
+        "circuits" => Ok(Some(circuits_of(alloc, held(files, name)?)?)),
+        _ => Ok(None),
     }
 }
 
@@ -445,39 +553,68 @@ fn status_of<R: Threads + Wait + Sync>(
 fn pulled<R: Threads + Wait + Sync>(
     rt: &R,
     alloc: Global,
-    words: &[String],
     attempt: &Attempt,
 ) -> Result<Came, Reason> {
-    let mut store = store_of(alloc, attempt.files, attempt.faults)?;
-    let mut sink = sink_of(alloc, attempt.faults)?;
-    let mut disk = attempt.slots.disk(alloc, attempt.faults.disk)?;
-    let status = status_of(rt, alloc, words, &mut store, &mut sink, &mut disk);
-    let left = Left {
-        files: wanted_files(alloc, store.files(), attempt.after)?,
-        slots: Slots::left_on(alloc, &disk, attempt.crash)?,
+    let Some((_, words)) = attempt.words.split_first() else {
+        return Err(Reason::NoDirective);
     };
-    came_of(alloc, attempt, status, sink.written(), store.files(), left)
+    let mut memory = Memory::of(alloc, attempt)?;
+    let status = status_of(
+        rt,
+        alloc,
+        words,
+        &mut memory.store,
+        &mut memory.sink,
+        &mut memory.disk,
+    );
+    memory.came(alloc, attempt, status)
 }
 
-/// What came of a command that ended with this status, wrote this, and left these files.
-fn came_of(
-    alloc: Global,
-    attempt: &Attempt,
-    status: u8,
-    written: &[u8],
-    files: &Files,
-    left: Left,
-) -> Result<Came, Reason> {
+/// The files, the sink and the disk of a command.
+#[derive(Drop)]
+struct Memory {
+    store: MemStore,
+    sink: MemSink,
+    disk: MemDisk,
+}
+
+impl Memory {
+    /// What a command finds.
+    fn of(alloc: Global, attempt: &Attempt) -> Result<Self, Reason> {
+        let sink = sink_of(alloc, attempt.faults)?;
+        let store = store_of(alloc, attempt.files, attempt.faults)?;
+        let disk = attempt.slots.disk(alloc, attempt.faults.disk)?;
+        Ok(Memory { store, sink, disk })
+    }
+
+    /// What came of a command that ended with this status.
+    fn came(&self, alloc: Global, attempt: &Attempt, status: u8) -> Result<Came, Reason> {
+        let written = self.sink.written().to_vec(alloc)?;
+        let changed = changed_text(alloc, attempt, self.store.files())?;
+        let left = self.left(alloc, attempt)?;
+        Ok(Came {
+            status,
+            written,
+            changed,
+            left: Some(left),
+        })
+    }
+
+    /// What a command leaves to those below.
+    fn left(&self, alloc: Global, attempt: &Attempt) -> Result<Left, Reason> {
+        let slots = Slots::left_on(alloc, &self.disk, attempt.crash)?;
+        let files = wanted_files(alloc, self.store.files(), attempt.after)?;
+        Ok(Left { files, slots })
+    }
+}
+
+/// What is told of the files that a command leaves; nothing where they are those that are wanted.
+fn changed_text(alloc: Global, attempt: &Attempt, files: &Files) -> Result<Vec<u8>, Reason> {
     let mut changed = Vec::new(alloc);
     if !has_files(files, attempt.files, attempt.after) {
-        add_changed(alloc, &mut changed, attempt.files, files)?;
+        add_changed(&mut changed, attempt.files, files)?;
     }
-    Ok(Came {
-        status,
-        written: written.to_vec(alloc)?,
-        changed,
-        left: Some(left),
-    })
+    Ok(changed)
 }
 
 /// A sink with these faults.
@@ -488,8 +625,8 @@ fn sink_of(alloc: Global, faults: Faults) -> Result<MemSink, Reason> {
 
 /// A store of these files, with these faults.
 fn store_of(alloc: Global, files: &Files, faults: Faults) -> Result<MemStore, Reason> {
-    let files = files.clone()?;
     let failing = vec![in alloc; faults.store]?;
+    let files = files.clone()?;
     Ok(match faults.tear {
         None => MemStore::new(alloc, files, failing),
         Some(keep) => MemStore::torn(alloc, files, failing, keep),
@@ -499,10 +636,16 @@ fn store_of(alloc: Global, files: &Files, faults: Faults) -> Result<MemStore, Re
 /// The files of which something is wanted, as they are.
 fn wanted_files(alloc: Global, files: &Files, after: &[After]) -> Result<Files, Reason> {
     let mut wanted = Files::new(alloc);
+    put_wanted(&mut wanted, files, after)?;
+    Ok(wanted)
+}
+
+/// Puts the files of which something is wanted among others.
+fn put_wanted(wanted: &mut Files, files: &Files, after: &[After]) -> Result<(), Reason> {
     for file in after {
         if let Some(bytes) = files.get(file.name.as_str()) {
-            let _ = wanted.insert(file.name.clone()?, bytes.clone()?)?;
+            put(wanted, &file.name, bytes.clone()?)?;
         }
     }
-    Ok(wanted)
+    Ok(())
 }

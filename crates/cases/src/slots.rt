@@ -125,17 +125,26 @@ fn kept_length(head: &[u8]) -> u32 {
 
 /// Adds what a slot holds.
 fn add_slot(alloc: Global, text: &mut Vec<u8>, slot: u32, bytes: &[u8]) -> Result<(), AllocError> {
+    let mut head = String::new(alloc);
+    write_head(&mut head, slot, bytes)?;
+    text.extend_from_slice(head.as_bytes())?;
+    text.extend_from_slice(shown(bytes))
+}
+
+/// Writes the gate, the number and the length that the head of a slot tells.
+fn write_head(text: &mut String, slot: u32, bytes: &[u8]) -> Result<(), AllocError> {
     let (gate, number) = match bytes {
         &[gate, number, ..] => (gate, number),
         _ => (0, 0),
     };
-    let length = kept_length(bytes);
-    let head = format!(in alloc; "slot {slot} gate {gate}")?;
-    text.extend_from_slice(head.as_bytes())?;
-    let rest = format!(in alloc; " number {number} length {length}\n")?;
-    text.extend_from_slice(rest.as_bytes())?;
-    if gate == 1 {
-        text.extend_from_slice(bytes.get(HEADER as usize..).unwrap_or(&[]))?;
+    write!(text, "slot {slot} gate {gate}")?;
+    write!(text, " number {number} length {}\n", kept_length(bytes))
+}
+
+/// The content of a slot whose gate is open; nothing of any other.
+fn shown(bytes: &[u8]) -> &[u8] {
+    match bytes {
+        [1, _, ..] => bytes.get(HEADER as usize..).unwrap_or(&[]),
+        _ => &[],
     }
-    Ok(())
 }

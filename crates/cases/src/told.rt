@@ -21,18 +21,25 @@ pub fn add_came(
     words: &[String],
     came: &Came,
 ) -> Result<(), AllocError> {
-    let told = &mut told.text;
-    let head = format!(in alloc; "line {line}: $")?;
-    told.extend_from_slice(head.as_bytes())?;
+    let mut head = String::new(alloc);
+    write_head(&mut head, line, words, came.status)?;
+    told.text.extend_from_slice(head.as_bytes())?;
+    told.text.extend_from_slice(&came.written)?;
+    told.text.extend_from_slice(&came.changed)
+}
+
+/// Writes the command in a line of a case, and the status that it ended with.
+fn write_head(
+    text: &mut String,
+    line: u64,
+    words: &[String],
+    status: u8,
+) -> Result<(), AllocError> {
+    write!(text, "line {line}: $")?;
     for word in words {
-        told.push(b' ')?;
-        told.extend_from_slice(word.as_bytes())?;
+        write!(text, " {word}")?;
     }
-    let status = format!(in alloc; "\nstatus {}\n", came.status)?;
-    told.extend_from_slice(status.as_bytes())?;
-    told.extend_from_slice(&came.written)?;
-    told.extend_from_slice(&came.changed)?;
-    Ok(())
+    write!(text, "\nstatus {status}\n")
 }
 
 /// Adds which variant of a file it was, counted from 0.
@@ -43,24 +50,24 @@ pub fn add_variant(
     number: usize,
 ) -> Result<(), AllocError> {
     let text = format!(in alloc; "variant {number} of {file}\n")?;
-    told.text.extend_from_slice(text.as_bytes())?;
-    Ok(())
+    told.text.extend_from_slice(text.as_bytes())
 }
 
 /// Adds that the files are not those that are wanted, and those that changed.
-pub fn add_changed(
-    alloc: Global,
-    told: &mut Vec<u8>,
-    before: &Files,
-    files: &Files,
-) -> Result<(), AllocError> {
+pub fn add_changed(told: &mut Vec<u8>, before: &Files, files: &Files) -> Result<(), AllocError> {
     told.extend_from_slice(b"the files are not those that are wanted\n")?;
     for (name, bytes) in files.iter() {
         if before.get(name.as_str()) != Some(bytes) {
-            let file = format!(in alloc; "after {}\n", name.as_str())?;
-            told.extend_from_slice(file.as_bytes())?;
-            told.extend_from_slice(bytes)?;
+            add_file(told, name.as_str(), bytes)?;
         }
     }
     Ok(())
+}
+
+/// Adds the name of a file and what it holds.
+fn add_file(told: &mut Vec<u8>, name: &str, bytes: &[u8]) -> Result<(), AllocError> {
+    told.extend_from_slice(b"after ")?;
+    told.extend_from_slice(name.as_bytes())?;
+    told.push(b'\n')?;
+    told.extend_from_slice(bytes)
 }

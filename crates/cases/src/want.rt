@@ -15,6 +15,17 @@ pub struct Want {
     pub after: Vec<After>,
 }
 
+impl Want {
+    /// Nothing is wanted.
+    pub fn nothing(alloc: Global) -> Self {
+        Want {
+            status: None,
+            output: Output::Whole(Vec::new(alloc)),
+            after: Vec::new(alloc),
+        }
+    }
+}
+
 /// What is wanted of what a run writes.
 #[derive(Drop)]
 pub enum Output {
@@ -50,19 +61,29 @@ pub struct After {
 /// What is wanted by the words that are left: a status, and the one line that is written, or rows of dates, each behind a
 /// colon.
 pub fn want_of(alloc: Global, words: &mut Words) -> Result<Want, Reason> {
-    let status = Some(words.status()?);
-    let output = if words.passes(":") {
-        Output::Rows(rows_of(alloc, words)?)
-    } else {
-        let mut line = joined(alloc, words)?;
-        line.push_str("\n")?;
-        Output::Whole(line.into_bytes())
-    };
+    let status = words.status()?;
+    let output = output_of(alloc, words)?;
     Ok(Want {
-        status,
+        status: Some(status),
         output,
         after: Vec::new(alloc),
     })
+}
+
+/// What is to be written by the words that are left.
+fn output_of(alloc: Global, words: &mut Words) -> Result<Output, Reason> {
+    if words.passes(":") {
+        Ok(Output::Rows(rows_of(alloc, words)?))
+    } else {
+        Ok(Output::Whole(line_of(alloc, words)?))
+    }
+}
+
+/// The line of the words up to the next colon.
+fn line_of(alloc: Global, words: &mut Words) -> Result<Vec<u8>, Reason> {
+    let mut line = joined(alloc, words)?;
+    line.push_str("\n")?;
+    Ok(line.into_bytes())
 }
 
 /// The rows of the words that are left, with a colon between two of them.
@@ -72,23 +93,33 @@ fn rows_of(alloc: Global, words: &mut Words) -> Result<Vec<Row>, Reason> {
         if words.len() == 0 {
             break;
         }
-        let row = joined(alloc, words)?;
-        rows.push(row_of(alloc, row.as_str())?)?;
+        rows.push(next_row(alloc, words)?)?;
     }
     Ok(rows)
+}
+
+/// The row of the words up to the next colon.
+fn next_row(alloc: Global, words: &mut Words) -> Result<Row, Reason> {
+    let row = joined(alloc, words)?;
+    row_of(alloc, row.as_str())
 }
 
 /// The words up to the next colon, which is passed over, with a space behind each but the last.
 fn joined(alloc: Global, words: &mut Words) -> Result<String, Reason> {
     let mut text = String::new(alloc);
+    join(&mut text, words)?;
+    Ok(text)
+}
+
+/// Adds the words up to the next colon, which is passed over, with a space between two of them.
+fn join(text: &mut String, words: &mut Words) -> Result<(), Reason> {
     for index in 0..words.len() {
         if words.passes(":") {
             break;
         }
-        if index > 0 {
-            text.push_str(" ")?;
-        }
-        text.push_str(words.name()?.as_str())?;
+        let separator = if index == 0 { "" } else { " " };
+        let word = words.name()?;
+        write!(text, "{separator}{word}")?;
     }
-    Ok(text)
+    Ok(())
 }

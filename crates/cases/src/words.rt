@@ -53,20 +53,24 @@ fn tokens_of(alloc: Global, line: &str) -> Result<Vec<Token>, Reason> {
         bytes: Vec::new(alloc),
         mode: Mode::Between,
     };
-    for byte in line.bytes() {
-        reading.read(byte)?;
-    }
-    reading.read(b' ')?;
-    match reading.mode {
-        Mode::Between => {
-            reading.tokens.reverse();
-            Ok(reading.tokens)
-        }
-        _ => Err(Reason::BadText),
-    }
+    reading.read_line(line)?;
+    reading.tokens.reverse();
+    Ok(reading.tokens)
 }
 
 impl Reading {
+    /// Reads a line to its end.
+    fn read_line(&mut self, line: &str) -> Result<(), Reason> {
+        for byte in line.bytes() {
+            self.read(byte)?;
+        }
+        self.read(b' ')?;
+        match self.mode {
+            Mode::Between => Ok(()),
+            _ => Err(Reason::BadText),
+        }
+    }
+
     /// Reads one more byte of the line.
     fn read(&mut self, byte: u8) -> Result<(), Reason> {
         match self.mode {
