@@ -7,7 +7,7 @@ use std::{hint, thread};
 const LOOKS: u32 = 100;
 
 /// How often a crew lets another thread run in a burst, at most. After that it waits for nobody.
-const ROUNDS: u64 = 50;
+const ROUNDS: u64 = 200;
 
 /// Stands for no station.
 const NO_STATION: u64 = u64::MAX;

@@ -1,6 +1,6 @@
 /// How many bursts go in turn after the first burst by threads that did not pay. After each further one they are twice as
 /// many.
-const FIRST_PAUSE: u32 = 64;
+const FIRST_PAUSE: u32 = 256;
 
 /// How many they are at most.
 const LONGEST_PAUSE: u32 = 1024;
