@@ -12,7 +12,10 @@ use std::test::Fail;
 fn circuits(rt: &impl Abort, alloc: Global) -> Result<Items<CardCircuit>, Fail> {
     let plant = two_stages(alloc)?;
     let live = live_of(alloc, &plant)?;
-    Ok(got(rt, card_circuits(alloc, &plant, live.graph())))
+    let circuits = got(rt, card_circuits(alloc, &plant, live.graph()));
+    drop(live);
+    drop(plant);
+    Ok(circuits)
 }
 
 /// Asserts that a circuit is of a stage with one card, and goes by these arcs.

@@ -44,6 +44,7 @@ fn a_graph_tells_its_parts(rt: HostRuntime) -> Result<(), Fail> {
     let graph = two_stations(rt.alloc(), &arcs, &[4, 2])??;
     tells_its_arcs(&rt, &graph, &arcs);
     tells_its_stations(&rt, &graph);
+    drop(graph);
     Ok(())
 }
 

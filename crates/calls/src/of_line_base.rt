@@ -99,12 +99,13 @@ fn a_label_keeps_its_text(rt: HostRuntime) -> Result<(), Fail> {
 #[test]
 fn logs_keep_their_dates(rt: HostRuntime) -> Result<(), Fail> {
     let mut logs = Logs::new(rt.alloc(), 2)?;
-    logs.add(Log::new(rt.alloc(), 1)?);
-    logs.add(Log::new(rt.alloc(), 2)?);
+    logs.add(Log::new(rt.alloc(), 1).expect(&rt, "memory"));
+    logs.add(Log::new(rt.alloc(), 2).expect(&rt, "memory"));
     logs.add_to(1, 4);
     logs.add_to(1, 9);
     same(&rt, logs.get(0).dates(), [].as_slice());
     same(&rt, logs.get(1).dates(), [4, 9].as_slice());
+    drop(logs);
     Ok(())
 }
 

@@ -1,5 +1,6 @@
 ghost use Rattle.std.specs.Prelude.{◌≡◌};
 
+use crate::got::got;
 use crate::same::same;
 use line_base::Date;
 use line_core::{FireError, State, replay, run};
@@ -78,7 +79,8 @@ fn delays_keep_tokens_back(rt: HostRuntime) -> Result<(), Fail> {
 fn starts_with(rt: &impl Abort, alloc: Global, live: &Live, tokens: &[u32]) -> Result<(), Fail> {
     let state = State::start(alloc, live)?;
     same(rt, state.fired(), 0);
-    same(rt, state.marking(live)?.lengths(), tokens);
+    same(rt, got(rt, state.marking(live)).lengths(), tokens);
+    drop(state);
     Ok(())
 }
 
@@ -122,4 +124,5 @@ fn has_the_dates(rt: &impl Abort, live: &Live, state: State)
     assert!(rt; table.stations() == 6 && live.graph().jobs() == 3);
     same(rt, table.dates(4), [5, 10, 15].as_slice());
     same(rt, [table.date(2, 1), table.date(2, 3)], [3, 13]);
+    drop(table);
 }

@@ -20,5 +20,6 @@ fn a_draft_tells_its_files_and_columns(rt: HostRuntime) -> Result<(), Fail> {
     same(&rt, draft.demands_file(), Some("d.csv"));
     same(&rt, draft.times_file(), Some("t.csv"));
     same(&rt, draft.columns(), [2, 7].as_slice());
+    drop(draft);
     Ok(())
 }

@@ -133,7 +133,10 @@ fn line_of(alloc: Global, error: &PlantError) -> Result<String, AllocError> {
 
 /// The line of the refusal of these parts, or `sound`.
 fn said_of(rt: &impl Abort, alloc: Global, parts: &Parts) -> String {
-    match plant_of(rt, alloc, parts).check(alloc) {
+    let plant = plant_of(rt, alloc, parts);
+    let checked = plant.check(alloc);
+    drop(plant);
+    match checked {
         Ok(()) => got(rt, String::from_str(alloc, "sound")),
         Err(error) => got(rt, line_of(alloc, &error)),
     }
@@ -234,5 +237,6 @@ fn a_sound_plant_tells_its_line(rt: HostRuntime) -> Result<(), Fail> {
     assert!(rt; plant.stages.len() == 2);
     same(&rt, [plant.next(0), plant.next(1)], [Some(1), None]);
     same(&rt, [plant.starting(0), plant.starting(1)], [1, 1]);
+    drop(plant);
     Ok(())
 }
