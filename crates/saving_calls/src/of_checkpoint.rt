@@ -64,7 +64,10 @@ fn answer(
     text: &[u8],
 ) -> Result<u64, CheckpointError> {
     assert!(rt; text.len() < 1_000_000);
-    Ok(read_state(alloc, live, text)?.fired())
+    let state = read_state(alloc, live, text)?;
+    let fired = state.fired();
+    drop(state);
+    Ok(fired)
 }
 
 /// The refusal of a line.
@@ -162,19 +165,25 @@ fn finished_text(
     fire(rt, live, &mut state, 4);
     fire_round(rt, live, &mut state);
     fire_round(rt, live, &mut state);
-    Ok(write_state(alloc, live, &state)?)
+    let text = write_state(alloc, live, &state);
+    drop(state);
+    Ok(text?)
 }
 
 /// The text of a start.
 fn text_of_start(alloc: Global, live: &Live) -> Result<Vec<u8>, Fail> {
     let start = State::start(alloc, live)?;
-    Ok(write_state(alloc, live, &start)?)
+    let text = write_state(alloc, live, &start);
+    drop(start);
+    Ok(text?)
 }
 
 /// The text of a finished run.
 fn text_of_run(alloc: Global, live: &Live) -> Result<Vec<u8>, Fail> {
     let finished = run(alloc, live)?;
-    Ok(write_state(alloc, live, &finished)?)
+    let text = write_state(alloc, live, &finished);
+    drop(finished);
+    Ok(text?)
 }
 
 /// The start of the two stages, in format 2.

@@ -25,7 +25,10 @@ fn left(alloc: Global, disk: &MemDisk, call: u32, pick: u8) -> Result<Vec<u8>, F
     if call > disk.calls() || pick > 2 {
         return Ok(Vec::new(alloc));
     }
-    Ok(disk.crash(call, pick)?.read(alloc, 1, 5)?)
+    let mut crashed = disk.crash(call, pick)?;
+    let bytes = crashed.read(alloc, 1, 5);
+    drop(crashed);
+    Ok(bytes?)
 }
 
 #[test]

@@ -50,7 +50,9 @@ fn place_after(alloc: Global, disk: &MemDisk, call: u32, pick: u8) -> Result<usi
         return Ok(9);
     }
     let mut left = disk.crash(call, pick)?;
-    Ok(place_of(alloc, &mut left)?)
+    let place = place_of(alloc, &mut left);
+    drop(left);
+    Ok(place?)
 }
 
 /// How many of the crashes during these calls, by each pick, leave each of the three texts, and how many leave nothing.
