@@ -71,5 +71,7 @@ fn the_graph_has_fifty_stations(rt: HostRuntime) -> Result<(), Fail> {
     let live = live_of(rt.alloc(), &plant)?;
     same(&rt, live.graph().stations(), 50);
     same(&rt, live.graph().jobs(), 2_000);
+    drop(live);
+    drop(plant);
     Ok(())
 }

@@ -53,7 +53,10 @@ fn least(alloc: Global, text: &str, wait: u64) -> Result<Result<Sizing, SizingEr
     let plant = plant_of(alloc, text)?;
     let live = live_of(alloc, &plant)?;
     let _live = live.graph();
-    Ok(least_cards(alloc, &plant, wait))
+    let sizing = least_cards(alloc, &plant, wait);
+    drop(live);
+    drop(plant);
+    Ok(sizing)
 }
 
 /// The job that waits longer with one card less, and its wait.

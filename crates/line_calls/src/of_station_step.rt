@@ -11,7 +11,7 @@ fn a_step_fires_or_names_the_first_arc_without_a_token(rt: HostRuntime) -> Resul
     let live = live_stages(rt.alloc())?;
     assert!(rt; live.graph().stations() == 6);
     let mut shelf = fresh_shelf(rt.alloc(), live.graph())?;
-    let mut line = fresh_line(rt.alloc(), live, &shelf)?;
+    let mut line = fresh_line(rt.alloc(), live, &shelf).expect(&rt, "memory");
     let cut = step_at(live, &mut shelf, &mut line, 1);
     let first = step_at(live, &mut shelf, &mut line, 0);
     let second = step_at(live, &mut shelf, &mut line, 0);
@@ -20,6 +20,8 @@ fn a_step_fires_or_names_the_first_arc_without_a_token(rt: HostRuntime) -> Resul
     same(&rt, cut, Stepped::Blocked(9));
     same(&rt, [first, second, third], [Stepped::Fired; 3]);
     same(&rt, fourth, Stepped::Done);
+    drop(line);
+    drop(shelf);
     Ok(())
 }
 
@@ -45,13 +47,16 @@ fn a_blocked_station_keeps_the_tokens_that_it_took(rt: HostRuntime) -> Result<()
     let graph = two_stations(rt.alloc(), &[plain(0, 1, 0), plain(1, 1, 1)], &[4, 2])??;
     let live = rank(rt.alloc(), graph).ok().ok_or("the graph isn't live")?;
     assert!(rt; live.graph().stations() == 2);
-    let mut shelf = fresh_shelf(rt.alloc(), live.graph())?;
-    let mut line = fresh_line(rt.alloc(), &live, &shelf)?;
+    let mut shelf = fresh_shelf(rt.alloc(), live.graph()).expect(&rt, "memory");
+    let mut line = fresh_line(rt.alloc(), &live, &shelf).expect(&rt, "memory");
     let before = hand_at(&live, &shelf, &line, 1, 1);
     let a = step_at(&live, &mut shelf, &mut line, 1);
     same(&rt, before, None);
     same(&rt, a, Stepped::Blocked(0));
     same(&rt, hand_at(&live, &shelf, &line, 1, 0), None);
     same(&rt, hand_at(&live, &shelf, &line, 1, 1), Some(0));
+    drop(line);
+    drop(shelf);
+    drop(live);
     Ok(())
 }

@@ -27,7 +27,9 @@ fn sheet_of(alloc: Global, live: &Live) -> Result<Sheet, AllocError>
     ensures evaluations { IfOk result (λ sheet. sheet.evaluations ≡ 0) }
 {
     let table = run(alloc, live)?.into_table(live);
-    Sheet::new(alloc, live, &table)
+    let sheet = Sheet::new(alloc, live, &table);
+    drop(table);
+    sheet
 }
 
 /// The sheet of the two stages, settled after these edits.
@@ -38,6 +40,7 @@ fn settled(rt: &impl Abort, alloc: Global, edits: &[u8]) -> Result<Sheet, Fail>
     let live = two_stage_live(rt, alloc)?;
     let mut sheet = sheet_of(alloc, live)?;
     if follow_edits(&mut sheet, live, edits).is_err() {
+        drop(sheet);
         return Err("a line is refused".into());
     }
     sheet.settle(live);
@@ -48,7 +51,9 @@ fn settled(rt: &impl Abort, alloc: Global, edits: &[u8]) -> Result<Sheet, Fail>
 fn refused_at(rt: &impl Abort, alloc: Global, edits: &[u8]) -> Result<u64, Fail> {
     let live = two_stage_live(rt, alloc)?;
     let mut sheet = sheet_of(alloc, live)?;
-    Ok(follow_edits(&mut sheet, live, edits).map_or_else(|refused| refused.line, |()| 0))
+    let line = follow_edits(&mut sheet, live, edits).map_or_else(|refused| refused.line, |()| 0);
+    drop(sheet);
+    Ok(line)
 }
 
 /// The dates of a station for the three jobs.
