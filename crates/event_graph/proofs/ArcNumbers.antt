@@ -1,5 +1,5 @@
 -- Lemmas on the lists of arcs into and out of a station.
-use Rattle.std.proofs.Common.{◌≡◌, ◌≢◌, ℕ, ◌+◌, ◌<◌, ◌≤◌, false, cond, eqb, List, [], ◌∷◌, ◌++◌, map, length, get_or, set, replicate, refl, sym, ap, zero-add, ◌∙◌, arith, ⊎_elim, inl, inr}
+use Rattle.std.proofs.Common.{◌≡◌, ◌≢◌, ℕ, ◌+◌, ◌<◌, ◌≤◌, false, cond, eqb, List, [], ◌∷◌, ◌++◌, map, length, get_or, set, replicate, refl, sym, ap, zero-add, ◌∙◌, arith, ⊎_elim, inl, inr, subst}
 use Rattle.std.specs.List.{filter, range_with_len, All, Contains}
 use Rattle.std.proofs.lemmas.Bool.{eqb-true, eq-eqb, ne_eqb, cases_eq, cases_lt}
 use Rattle.std.proofs.lemmas.List.{append-nil, get_or-set_same, get_or-set_other, length-set, get_or-replicate, length-replicate}
@@ -11,7 +11,7 @@ use Rattle.event_graph.specs.declared.lists.End.{End}
 use Rattle.event_graph.specs.declared.lists.End.TheVariants.{Start, Finish}
 use Rattle.event_graph.specs.Network.{stations, arc_count, arc, ins, outs, EndsAt, StartsAt, IsGraph}
 use Rattle.event_graph.specs.Faults.{HasNone, NamesNoStation, EntersFeed, LacksInput}
-use Rattle.event_graph.specs.Lists.{station_at, lists_at}
+use Rattle.event_graph.specs.Lists.{station_at, arcs_at, lists_at}
 use Rattle.line_base.proofs.RangeLists.{filter-range_more}
 use Rattle.event_graph.proofs.Ranges.{Contains-filter-range, All-range}
 
@@ -117,14 +117,10 @@ first_lists-all Start g = refl
 first_lists-all Finish g = refl
 
 pub length-lists_at : (end : End) (g : Parts) → length (lists_at end g) ≡ stations g
-length-lists_at Start g = length-map-range_with_len (outs g) 0 (stations g)
-length-lists_at Finish g = length-map-range_with_len (ins g) 0 (stations g)
+length-lists_at end g = length-map-range_with_len (arcs_at end g) 0 (stations g)
 
-pub get_or-ins : (g : Parts) (t : ℕ) → t < stations g → get_or (lists_at Finish g) t [] ≡ ins g t
-get_or-ins g t h = get_or-map-range_with_len (ins g) 0 (stations g) t t [] h (zero-add t)
-
-pub get_or-outs : (g : Parts) (t : ℕ) → t < stations g → get_or (lists_at Start g) t [] ≡ outs g t
-get_or-outs g t h = get_or-map-range_with_len (outs g) 0 (stations g) t t [] h (zero-add t)
+pub get_or-lists_at : (end : End) (g : Parts) (t : ℕ) → t < stations g → get_or (lists_at end g) t [] ≡ arcs_at end g t
+get_or-lists_at end g t h = get_or-map-range_with_len (arcs_at end g) 0 (stations g) t t [] h (zero-add t)
 
 -- a station whose list of inputs is empty lacks an input, and one whose list isn't has one
 pub lacks_input : (g : Parts) (t : ℕ) (listed : List ℕ) → listed ≡ ins g t → 1 ≤ t → length listed ≡ 0 → LacksInput g t
@@ -161,11 +157,12 @@ pub station_at-read : (end : End) (g : Parts) (arcs : List Arc) (a s : ℕ) → 
 station_at-read end g arcs a s same read =
     read ∙ ap (λ l. station_at end (get_or l a (record { from = 0; to = 0; tokens = 0; worked = false }))) same
 
--- the list of a station as it is read from the lists of all stations, of a graph that is seen as g
-pub lists_at-ins : (g seen : Parts) (lists : List (List ℕ)) (t : ℕ) → lists ≡ lists_at Finish seen → seen ≡ g → t < stations g → (t < length lists) × (get_or lists t [] ≡ ins g t)
-lists_at-ins g seen lists t are is there =
-    let of_g = are ∙ ap (lists_at Finish) is in (omega (arith, ap length of_g, length-lists_at Finish g), ap (λ l. get_or l t []) of_g ∙ get_or-ins g t there)
+-- a list of numbers that is the station's
+pub All-listed_ins : (g : Parts) (t : ℕ) (arcs : List ℕ) → arcs ≡ ins g t → All (EndsAt g t) arcs
+All-listed_ins g t arcs are = subst (All (EndsAt g t)) (sym are) (All-ins g t)
 
-pub lists_at-outs : (g seen : Parts) (lists : List (List ℕ)) (t : ℕ) → lists ≡ lists_at Start seen → seen ≡ g → t < stations g → (t < length lists) × (get_or lists t [] ≡ outs g t)
-lists_at-outs g seen lists t are is there =
-    let of_g = are ∙ ap (lists_at Start) is in (omega (arith, ap length of_g, length-lists_at Start g), ap (λ l. get_or l t []) of_g ∙ get_or-outs g t there)
+pub All-listed_outs : (g : Parts) (t : ℕ) (arcs : List ℕ) → arcs ≡ outs g t → All (StartsAt g t) arcs
+All-listed_outs g t arcs are = subst (All (StartsAt g t)) (sym are) (All-outs g t)
+
+-- for the functions that read the list of a station
+pub ruleset listed = (length-lists_at, get_or-lists_at)

@@ -18,10 +18,14 @@ abbrev pub with_arc : List (List ℕ) → ℕ → ℕ → List (List ℕ)
 with_arc lists station arc =
     slice_set lists station (slice_index_or lists station [] ++ arc ∷ [])
 
+-- the arcs that have this end at station t
+abbrev pub arcs_at : End → Parts → ℕ → List ℕ
+arcs_at Start g t = outs g t
+arcs_at Finish g t = ins g t
+
 -- for each station the arcs that have this end there
 abbrev pub lists_at : End → Parts → List (List ℕ)
-lists_at Start g = map (outs g) (range_with_len 0 (stations g))
-lists_at Finish g = map (ins g) (range_with_len 0 (stations g))
+lists_at end g = map (arcs_at end g) (range_with_len 0 (stations g))
 
 -- a graph within the limits, with the arcs into and out of each station
 pub record IsListed (g : Parts) (into out_of : List (List ℕ)) : Type 0 where

@@ -82,6 +82,7 @@ impl Graph {
     }
 
     /// The numbers of the arcs into station `t`, ascending.
+    #[tactic(auto, using(crate::proofs::ArcNumbers::listed))]
     pub fn ins(&self, t: u32) -> &[u32]
         requires { t < stations self.now }
         ensures arcs { result.now ≡ ins self.now t }
@@ -93,6 +94,7 @@ impl Graph {
     }
 
     /// The numbers of the arcs out of station `t`, ascending.
+    #[tactic(auto, using(crate::proofs::ArcNumbers::listed))]
     pub fn outs(&self, t: u32) -> &[u32]
         requires { t < stations self.now }
         ensures arcs { result.now ≡ outs self.now t }
