@@ -164,16 +164,3 @@ tells_refusal g bytes (Core.Marking arc have need) refused = refused
 tells_refusal g bytes (Core.Date station job have need) refused = refused
 tells_refusal g bytes (Core.PlaceDate arc token have need) refused = refused
 tells_refusal g bytes Core.NoMemory refused = tt
-
--- ---- the exits of the reader
-
-module _ (g h : Parts) (bytes text : List ℕ) (same_graph : h ≡ g) (same_text : text ≡ bytes) (limits : IsWithinLimits g) (short : length bytes < 2 ^ 32) (s : State) (reached : Reached g s) (text_s : IsTextOf g s bytes) where
-  pub found_bad : (r : Result Run CheckpointError) (given error : CheckpointError) → r ≡ Err given → given ≡ error → Tells h text error → IsStateOrNoMemory r s
-  found_bad r given error is same tells =
-      let told : Tells g bytes error = subst (λ p. Tells p bytes error) same_graph (subst (λ t. Tells h t error) same_text tells) in
-      rw (is, same) (finds g bytes limits short s reached text_s (Err error) tt tt tt told)
-
-  pub found_state : (run : Run) (u : State) → run.graph ≡ g → run.state ≡ u → IsReached run → IsTextOf h u text → run.state ≡ s
-  found_state run u graph state run_reached text_u =
-      let is = subst (λ p. IsTextOf p u bytes) same_graph (subst (λ t. IsTextOf h u t) same_text text_u) in
-      finds g bytes limits short s reached text_s (Ok run) graph (subst (λ v. IsTextOf g v bytes) (sym state) is) run_reached tt

@@ -1,5 +1,5 @@
 -- Dates that are read one after the other: what is read so far, and what of any reading is left.
-use Rattle.std.proofs.Common.{◌≡◌, ℕ, ◌+◌, ◌*◌, ◌^◌, ◌<◌, ◌≤◌, cond, ltb, List, [], ◌∷◌, ◌++◌, length, take, drop, Option, Some, None, inl, inr, sym, ap, ◌∙◌, refl, subst, arith, append_assoc, append-nil}
+use Rattle.std.proofs.Common.{◌≡◌, ℕ, ◌+◌, ◌*◌, ◌^◌, ◌<◌, ◌≤◌, cond, ltb, Bool, true, false, List, [], ◌∷◌, ◌++◌, length, take, drop, Option, Some, None, inl, inr, sym, ap, ◌∙◌, refl, subst, arith, append_assoc, append-nil}
 use Rattle.std.proofs.lemmas.Bool.{cases_lt, cond-true, cond-false, lt-ltb, le-ltb}
 use Rattle.std.specs.Prelude.{All, codes, decimal}
 use Rattle.std.proofs.lemmas.List.{length_push, length-append, take_all, take-append-le, take-append-drop}
@@ -8,7 +8,7 @@ use Rattle.line_base.specs.Roomy.{RoomyLog, with_date}
 use Rattle.line_core.specs.Parts.{LATEST_GIVEN}
 use Rattle.checkpoint.specs.declared.format.Format.{Format}
 use Rattle.checkpoint.specs.Text.{date_word, date_words, dates_text}
-use Rattle.checkpoint.specs.Reading.{EndsWord, TellsCount, TellsDate}
+use Rattle.checkpoint.specs.Reading.{EndsWord, KeepsDates, KeepsLine, TellsCount, TellsDate, TellsDates, TellsPassing}
 use Rattle.checkpoint.proofs.WordBytes.{date_word-some}
 
 abbrev pub IsGiven : ℕ → Type 0
@@ -140,6 +140,39 @@ count_told format text left dates after read tells given is =
     let words = date_words format 0 dates in
     let long = length-date_words format 0 dates (omega arith) given in
     tells (length dates) (words ++ (codes "\n" ++ after)) (omega (arith, long, length-append words (codes "\n" ++ after))) (ends-date_words format 0 dates (codes "\n" ++ after) refl) (is ∙ dates_parts format dates after)
+
+pub line_kept : (format : Format) (text counted dated ended kept : List ℕ) (count room : ℕ) → text ≡ decimal count ++ counted → KeepsDates format count room counted kept dated → dated ≡ codes "\n" ++ ended → KeepsLine format [] count room text kept ended
+line_kept format text counted dated ended kept count room is k end = record {
+  dates = k.dates;
+  given = k.given;
+  counted = k.counted;
+  is = dates_read format text counted dated ended k.dates count is k.is k.counted end;
+  kept_is = k.kept_is;
+}
+
+-- where the dates of a line stand next, their number, they, and the end of the line are read
+module _ (format : Format) (text counted dates after : List ℕ) (given : All IsGiven dates) (is : text ≡ dates_text format dates ++ after) where
+  pub count_missing : TellsCount text None counted → ⊥
+  count_missing tells =
+      let told = count_told format text counted dates after None tells given is in
+      cc told.0
+
+  module _ (count : ℕ) (tells : TellsCount text (Some count) counted) where
+    dates_left : (read : Bool) (dated : List ℕ) → TellsDates format count counted read dated → (read ≡ true) × (dated ≡ codes "\n" ++ after)
+    dates_left read dated tells_dates =
+        let told = count_told format text counted dates after (Some count) tells given is in
+        let same : length dates ≡ count = cc told.0 in
+        tells_dates dates (codes "\n" ++ after) given same refl told.1
+
+    pub dates_missing : (dated : List ℕ) → TellsDates format count counted false dated → ⊥
+    dates_missing dated tells_dates =
+        let read = dates_left false dated tells_dates in
+        cc read.0
+
+    pub end_missing : (read : Bool) (dated left : List ℕ) → TellsDates format count counted read dated → TellsPassing (codes "\n") dated false left → ⊥
+    end_missing read dated left tells_dates tells_end =
+        let passed = tells_end after (dates_left read dated tells_dates).1 in
+        cc passed.0
 
 -- ---- dates of which the first are kept
 

@@ -113,6 +113,28 @@ fn none_noted(noted: Option<StateError>) -> Result<(), StateError>
     }
 }
 
+/// The state that these bytes say, or the first thing that is wrong with them.
+fn read_said(
+    alloc: Global,
+    live: &Live,
+    graph: &Graph,
+    bytes: &[u8],
+) -> Result<State, CheckpointError>
+    requires short { length bytes.now < 2 ^ 32 }
+    requires same { graph.now ≡ live.now.graph }
+    ensures made_for { IfOk result (λ state. state.graph ≡ live.now.graph) }
+    ensures text { IfOk result (λ state. IsTextOf live.now.graph state.state bytes.now) }
+    ensures reached { IfOk result IsReached }
+    ensures refused { IfErr result (Tells live.now.graph bytes.now) }
+{
+    let mut reader = Reader::new(bytes);
+    let (stations, places) = read_parts(&mut reader, alloc, graph)?;
+    none_noted(stations.long)?;
+    let state = State::of_logs(alloc, live, stations.logs, &places.marking)?;
+    none_noted(places.wrong)?;
+    Ok(state)
+}
+
 /// The state whose text these bytes are: fewer than 2^32 bytes, in format 2, or in format 1 where no arc of the graph has
 /// a delay. The state can go on firing: it takes the room of all later firings.
 ///
@@ -127,10 +149,5 @@ pub fn read_state(alloc: Global, live: &Live, bytes: &[u8]) -> Result<State, Che
     ensures found { FindsStates live.now.graph bytes.now result }
     ensures refused { IfErr result (Tells live.now.graph bytes.now) }
 {
-    let mut reader = Reader::new(bytes);
-    let (stations, places) = read_parts(&mut reader, alloc, live.graph())?;
-    none_noted(stations.long)?;
-    let state = State::of_logs(alloc, live, stations.logs, &places.marking)?;
-    none_noted(places.wrong)?;
-    Ok(state)
+    read_said(alloc, live, live.graph(), bytes)
 }

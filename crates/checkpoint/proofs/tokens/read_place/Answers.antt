@@ -1,8 +1,7 @@
-use Rattle.std.proofs.Common.{◌≡◌, ◌++◌, List, ℕ, length, ap, ◌∙◌, refl}
-use Rattle.std.specs.Prelude.{codes}
+use Rattle.std.proofs.Common.{◌++◌, List, ℕ, ap, ◌∙◌, refl}
 use Rattle.checkpoint.specs.Text.{place_words, dates_text}
 use Rattle.checkpoint.specs.Reading.{or_first, unlike_tokens}
-use Rattle.checkpoint.proofs.ReadDates.{count_told, dates_read}
+use Rattle.checkpoint.proofs.ReadDates.{count_missing, dates_missing, end_missing, dates_read}
 use Rattle.checkpoint.proofs.tokens.read_place.Goals as goal
 
 pub returns-then-not-pass_place-clause-told : goal.returns-then-not-pass_place-clause-told
@@ -14,28 +13,17 @@ returns-then-not-pass_place-clause-told c dates after given is =
 pub returns-in_default-clause-told : goal.returns-in_default-clause-told
 returns-in_default-clause-told c dates after given is =
     let passed = c.if-not-pass_place.ensures.told (dates_text c.args.format dates ++ after) is in
-    let told = count_told c.args.format c.pass_place.new.reader.rest c.read_count.new.reader.rest dates after _ c.in_default.ensures.told given passed.1 in
-    let none : ⊥ = cc told.0 in
-    absurd none
+    absurd (count_missing c.args.format c.pass_place.new.reader.rest c.read_count.new.reader.rest dates after given passed.1 c.in_default.ensures.told)
 
 pub returns-then-not-compare_dates-clause-told : goal.returns-then-not-compare_dates-clause-told
 returns-then-not-compare_dates-clause-told c dates after given is =
     let passed = c.if-not-pass_place.ensures.told (dates_text c.args.format dates ++ after) is in
-    let told = count_told c.args.format c.pass_place.new.reader.rest c.read_count.new.reader.rest dates after _ c.in-Some.ensures.told given passed.1 in
-    let same : length dates ≡ c.in-Some.count = cc told.0 in
-    let read = c.if-not-compare_dates.ensures.told dates (codes "\n" ++ after) given same refl told.1 in
-    let none : ⊥ = cc read.0 in
-    absurd none
+    absurd (dates_missing c.args.format c.pass_place.new.reader.rest c.read_count.new.reader.rest dates after given passed.1 c.in-Some.count c.in-Some.ensures.told c.compare_dates.new.reader.rest c.if-not-compare_dates.ensures.told)
 
 pub returns-then-not-pass-clause-told : goal.returns-then-not-pass-clause-told
 returns-then-not-pass-clause-told c dates after given is =
     let passed = c.if-not-pass_place.ensures.told (dates_text c.args.format dates ++ after) is in
-    let told = count_told c.args.format c.pass_place.new.reader.rest c.read_count.new.reader.rest dates after _ c.in-Some.ensures.told given passed.1 in
-    let same : length dates ≡ c.in-Some.count = cc told.0 in
-    let read = c.compare_dates.ensures.told dates (codes "\n" ++ after) given same refl told.1 in
-    let ended = c.if-not-pass.ensures.told after read.1 in
-    let none : ⊥ = cc ended.0 in
-    absurd none
+    absurd (end_missing c.args.format c.pass_place.new.reader.rest c.read_count.new.reader.rest dates after given passed.1 c.in-Some.count c.in-Some.ensures.told c.compare_dates.result c.compare_dates.new.reader.rest c.pass.new.self.rest c.compare_dates.ensures.told c.if-not-pass.ensures.told)
 
 pub returns-clause-read : goal.returns-clause-read
 returns-clause-read c =
