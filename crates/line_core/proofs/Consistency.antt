@@ -8,9 +8,9 @@ use Rattle.line_base.specs.declared.event.Arc.{Arc}
 use Rattle.line_base.specs.declared.event.Parts.{Parts}
 use Rattle.event_graph.specs.Network.{stations, jobs, arc, arc_count, demand, delay, ins}
 use Rattle.event_graph.specs.Table.{date_in}
-use Rattle.event_graph.specs.Term.{work, term}
+use Rattle.event_graph.specs.Term.{work, token_date}
 use Rattle.event_graph.specs.State.{State, log, place, start}
-use Rattle.event_graph.specs.Firing.{greatest, CanFire, asked_date, new_date, after, place_after}
+use Rattle.event_graph.specs.Firing.{greatest, CanFire, new_date, after, place_after}
 use Rattle.event_graph.specs.Reached.{Reached, begins, fires}
 use Rattle.event_graph.proofs.ArcNumbers.{All-ins}
 use Rattle.event_graph.proofs.Places.{place-start, place-after}
@@ -73,31 +73,28 @@ by_tokens-le g s t k most feed others =
     (λ yes. feed (eqb-true t 0 yes))
     (λ no. greatest-le (asked g s k) (ins g t) most (others (eqb-false t 0 no)))
 
+-- the greatest of what arcs ask of a station is the same where they ask the same
+greatest-asked : (g : Parts) (t n : ℕ) (f h : ℕ → ℕ) → ((a : ℕ) → a < arc_count g → (arc g a).to ≡ t → f a ≡ h a) → greatest (λ a. work g a n + f a) (ins g t) ≡ greatest (λ a. work g a n + h a) (ins g t)
+greatest-asked g t n f h same =
+    greatest-same (λ a. work g a n + f a) (λ a. work g a n + h a) (ins g t)
+    (λ i d low. let at = All-ins g t i d low in ap (λ m. work g (get_or (ins g t) i d) n + m) (same _ at.0 at.1))
+
 pub due_date-by_tokens : (g : Parts) (s : State) (t k : ℕ) → HasHeld g s t k → due_date g s.logs t (k + 1) ≡ date_by_tokens g s t k
 unfolding due_date date_by_tokens
 due_date-by_tokens g s t k held =
     ap (λ n. cond (eqb t 0) (demand g (k + 1)) n) (
-    greatest-same
-    (λ a. term g (date_in s.logs) a (k + 1))
-    (asked g s k)
-    (ins g t)
-    (λ i d low. let at = All-ins g t i d low in ap (λ n. work g (get_or (ins g t) i d) (k + 1) + n) (token_date-next g s _ k (held _ at.0 at.1))))
+    greatest-asked g t (k + 1) (λ a. token_date g (date_in s.logs) a (k + 1)) (λ a. get_or (all_tokens g s.logs a) k 0)
+    (λ a there ends. token_date-next g s a k (held a there ends)))
 
 -- a date that a log gains changes no date that the earlier tokens give
 pub by_tokens-gain : (g : Parts) (old new : State) (t date u k : ℕ) → LogGains old new t date → HasHeld g old u k → date_by_tokens g new u k ≡ date_by_tokens g old u k
 unfolding date_by_tokens
 by_tokens-gain g old new t date u k gain held =
     ap (λ n. cond (eqb u 0) (demand g (k + 1)) n) (
-    greatest-same
-    (asked g new k)
-    (asked g old k)
-    (ins g u)
-    (λ i d low.
-    let a = get_or (ins g u) i d in
-    let at = All-ins g u i d low in
-    ap (λ n. work g a (k + 1) + n) (
+    greatest-asked g u (k + 1) (λ a. get_or (all_tokens g new.logs a) k 0) (λ a. get_or (all_tokens g old.logs a) k 0)
+    (λ a there ends.
     ap (λ l. get_or l k 0) (all_tokens-gain g old new t date a gain)
-    ∙ get_or-with_new (eqb (arc g a).from t) (all_tokens g old.logs a) (date + delay g a) k (held a at.0 at.1))))
+    ∙ get_or-with_new (eqb (arc g a).from t) (all_tokens g old.logs a) (date + delay g a) k (held a there ends)))
 
 pub HasHeld-gain : (g : Parts) (old new : State) (t date u k : ℕ) → LogGains old new t date → HasHeld g old u k → HasHeld g new u k
 HasHeld-gain g old new t date u k gain held a listed ends =
@@ -130,17 +127,11 @@ module _ (g : Parts) (s : State) (t : ℕ) (c : IsConsistent g s) (can : CanFire
   new_date-by_tokens =
       let n = length (log s t) in
       ap (λ date. cond (eqb t 0) (demand g (n + 1)) date) (
-      greatest-same
-      (asked_date g s (n + 1))
-      (asked g s n)
-      (ins g t)
-      (λ i d low.
-      let a = get_or (ins g t) i d in
-      let at = All-ins g t i d low in
-      ap (λ date. work g a (n + 1) + date) (
-      ap (λ l. get_or l 0 0) (c.places_are_left a at.0)
+      greatest-asked g t (n + 1) (λ a. get_or (place s a) 0 0) (λ a. get_or (all_tokens g s.logs a) n 0)
+      (λ a there ends.
+      ap (λ l. get_or l 0 0) (c.places_are_left a there)
       ∙ get_or-drop (length (log s (arc g a).to)) (all_tokens g s.logs a) 0 0
-      ∙ ap (λ k. get_or (all_tokens g s.logs a) k 0) (add-zero _ ∙ ap (λ u. length (log s u)) at.1))))
+      ∙ ap (λ k. get_or (all_tokens g s.logs a) k 0) (add-zero _ ∙ ap (λ u. length (log s u)) ends)))
 
   pub length-log-after : (u : ℕ) → length (log (after g s t) u) ≡ length (log s u) + cond (eqb u t) 1 0
   length-log-after u = ap length (log-after g s t exists u) ∙ length-with_new (eqb u t) (log s u) (new_date g s t)

@@ -41,9 +41,15 @@ pub handed_on : {refusal : StateError} (r : Result ⊤ StateError) (refusals : L
 handed_on r refusals was found =
     let p = err_from_is_err_and r was in rw (p.1, p.2) found
 
+pub handed_on_front : {refusal : StateError} (r : Result ⊤ StateError) (xs ys : List StateError) → IsErrAnd r (λ e. e ≡ refusal) → first xs ≡ Some refusal → AnswersFirst r (xs ++ ys)
+handed_on_front r xs ys was found = handed_on r (xs ++ ys) was (first-front xs ys _ found)
+
 -- the answer of the second of two tests, where the first refuses nothing
 pub answers-later : (r : Result ⊤ StateError) (xs ys : List StateError) → xs ≡ [] → AnswersFirst r ys → AnswersFirst r (xs ++ ys)
 answers-later r xs ys none answers = subst (AnswersFirst r) (ap (λ l. l ++ ys) (sym none)) answers
+
+-- for tests of which each comes where those before it refuse nothing
+pub ruleset one_after_other = (handed_on_front, answers-later)
 
 -- ---- one test
 

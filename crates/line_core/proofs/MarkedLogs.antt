@@ -15,7 +15,7 @@ use Rattle.live_check.specs.Order.{LiveGraph, IsRanked}
 use Rattle.line_core.specs.declared.error.StateError.{StateError}
 use Rattle.line_core.specs.Consistent.{all_tokens, tokens_left, state_of}
 use Rattle.line_core.specs.Parts.{LATEST_GIVEN, AreParts, list_at, each_below, long_logs, wrong_count, wrong_marking, wrong_markings, wrong_dates, wrong_token, wrong_tokens_on, wrong_tokens, state_refusals, first}
-use Rattle.line_core.specs.Marked.{wrong_counts, marked_refusals, HaveCounts, RefusesMarked, RefusesTokensAlone}
+use Rattle.line_core.specs.Marked.{wrong_marked, wrong_counts, marked_refusals, HaveCounts, RefusesMarked, RefusesTokensAlone}
 use Rattle.line_core.proofs.ArcTokens.{length-all_tokens}
 use Rattle.line_core.proofs.Runs.{log_of, dates-log_of}
 use Rattle.line_core.proofs.FirstRefusals.{first-front, none-append, append-none_left, append-none_right, each_none, none_each}
@@ -40,9 +40,9 @@ module _ (g : Parts) (logs places : List (List ℕ)) (marking : List ℕ) (count
   count_is a = sym (get_or-map (λ (tokens : List ℕ). length tokens) places a []) ∙ ap (λ l. get_or l a 0) counts
 
   markings-counts : wrong_markings g logs places ≡ wrong_counts g logs marking
-  unfolding wrong_marking
+  unfolding wrong_marking wrong_marked
   markings-counts =
-      each_below-same (arc_count g) (wrong_marking g logs places) (λ a. wrong_count g logs a (slice_index marking a)) (λ a there. ap (wrong_count g logs a) (count_is a))
+      each_below-same (arc_count g) (wrong_marking g logs places) (wrong_marked g logs marking) (λ a there. ap (wrong_count g logs a) (count_is a))
 
   pub refusals-marked : state_refusals g logs places ≡ marked_refusals g logs marking ++ wrong_tokens g logs places
   unfolding state_refusals marked_refusals
@@ -80,9 +80,10 @@ module _ (g : Parts) (logs : List (List ℕ)) (marking : List ℕ) (none : marke
   left_at a there = get_or-map-range_with_len (tokens_left g logs) 0 (arc_count g) a a [] there (zero-add a)
 
   marking_right : (a : ℕ) → a < arc_count g → wrong_marking g logs left a ≡ []
+  unfolding wrong_marked
   marking_right a there =
       let s : State = record { logs = logs; places = left } in
-      let right = counted g logs a (slice_index marking a) (none_each (arc_count g) (λ b. wrong_count g logs b (slice_index marking b)) (append-none_left (wrong_counts g logs marking) _ rest_none) a there) in
+      let right = counted g logs a (slice_index marking a) (none_each (arc_count g) (wrong_marked g logs marking) (append-none_left (wrong_counts g logs marking) _ rest_none) a there) in
       let taken = length (list_at logs (arc g a).to) in
       wrong_marking-none g logs left a (
       omega (arith, ap length (left_at a there), right, length-drop taken (all_tokens g logs a), length-all_tokens g s a))

@@ -5,9 +5,13 @@ use Rattle.event_graph.specs.Network.{arc_count}
 use Rattle.line_core.specs.declared.error.StateError.{StateError}
 use Rattle.line_core.specs.Parts.{each_below, long_logs, wrong_count, wrong_dates, wrong_tokens, state_refusals, state_refusal}
 
+-- 2, of arc a: with the number of tokens that it has by the marking
+unfoldable pub wrong_marked : Parts → List (List ℕ) → List ℕ → ℕ → List StateError
+wrong_marked g logs marking a = wrong_count g logs a (slice_index marking a)
+
 -- 2: the places that have another number of tokens than they need
 abbrev pub wrong_counts : Parts → List (List ℕ) → List ℕ → List StateError
-wrong_counts g logs marking = each_below (arc_count g) (λ a. wrong_count g logs a (slice_index marking a))
+wrong_counts g logs marking = each_below (arc_count g) (wrong_marked g logs marking)
 
 -- all that is wrong before the dates of tokens are seen
 unfoldable pub marked_refusals : Parts → List (List ℕ) → List ℕ → List StateError

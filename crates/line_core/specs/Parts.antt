@@ -15,6 +15,11 @@ use Rattle.line_core.specs.Run.{Run}
 abbrev pub LATEST_GIVEN : ℕ
 LATEST_GIVEN = 1_000_000_000_000_000_000
 
+-- there is a log for each station, and no date is too late to be added to
+pub record AreLogs (g : Parts) (logs : RoomyLogs) : Type 0 where
+  pub a_log_each : length logs.logs ≡ stations g
+  pub early : All (All (λ date. date ≤ LATEST_GIVEN)) (dates_of logs)
+
 -- there is a log for each station and a place for each arc, and no date of a log is too late to be added to
 pub record AreParts (g : Parts) (logs places : RoomyLogs) : Type 0 where
   pub a_log_each : length logs.logs ≡ stations g

@@ -5,8 +5,8 @@ ghost use Rattle.event_graph.specs.Table.{date_in};
 ghost use Rattle.event_graph.specs.Term.{term, token_date};
 ghost use Rattle.line_base.specs.Roomy.{dates_of};
 ghost use Rattle.line_core.specs.Consistent.{due_date};
-ghost use Rattle.line_core.specs.Marked.{wrong_counts, marked_refusals};
-ghost use Rattle.line_core.specs.Parts.{LATEST_GIVEN, AreParts, list_at, long_log, long_logs, wrong_count, wrong_marking, wrong_markings, wrong_date, wrong_dates_at, wrong_dates, wrong_token, wrong_tokens_on, wrong_tokens, state_refusals, AnswersFirst};
+ghost use Rattle.line_core.specs.Marked.{wrong_marked, wrong_counts, marked_refusals};
+ghost use Rattle.line_core.specs.Parts.{LATEST_GIVEN, AreLogs, AreParts, list_at, long_log, long_logs, wrong_count, wrong_marking, wrong_markings, wrong_date, wrong_dates_at, wrong_dates, wrong_token, wrong_tokens_on, wrong_tokens, state_refusals, AnswersFirst};
 
 use crate::error::StateError;
 use event_graph::{Graph, Marking};
@@ -107,16 +107,33 @@ fn check_markings(graph: &Graph, logs: &Logs, places: &Places) -> Result<(), Sta
     Ok(())
 }
 
+/// Refuses a place that has another number of tokens by a marking than the logs leave there.
+fn check_marked_at(
+    graph: &Graph,
+    logs: &Logs,
+    marking: &Marking,
+    arc: u32,
+) -> Result<(), StateError>
+    requires a_log_each { length logs.now.logs ≡ stations graph.now }
+    requires few { long_logs graph.now (dates_of logs.now) ≡ [] }
+    requires a_count_each { length marking.now ≡ arc_count graph.now }
+    requires arc { arc < arc_count graph.now }
+    ensures { AnswersFirst result (wrong_marked graph.now (dates_of logs.now) marking.now arc) }
+{
+    let counts = marking.lengths();
+    check_count(graph, logs, arc, counts[arc as usize] as usize)
+}
+
 /// Refuses the first place that has another number of tokens by a marking than the logs leave there.
+#[tactic(auto, using(crate::proofs::FirstRefusals::first_refusals))]
 fn check_counts(graph: &Graph, logs: &Logs, marking: &Marking) -> Result<(), StateError>
     requires a_log_each { length logs.now.logs ≡ stations graph.now }
     requires few { long_logs graph.now (dates_of logs.now) ≡ [] }
     requires a_count_each { length marking.now ≡ arc_count graph.now }
     ensures { AnswersFirst result (wrong_counts graph.now (dates_of logs.now) marking.now) }
 {
-    let counts = marking.lengths();
     for arc in 0..graph.arcs().len() as u32 {
-        check_count(graph, logs, arc, counts[arc as usize] as usize)?;
+        check_marked_at(graph, logs, marking, arc)?;
     }
     Ok(())
 }
@@ -134,8 +151,7 @@ fn date_or_none(logs: &Logs, t: u32, n: u32) -> Date
 
 /// The date from which the token that job `n` takes from arc `a` can be taken: 0 for a token of the start.
 fn token_date(graph: &Graph, logs: &Logs, a: u32, n: u32) -> Date
-    requires early { All (All (λ date. date ≤ LATEST_GIVEN)) (dates_of logs.now) }
-    requires a_log_each { length logs.now.logs ≡ stations graph.now }
+    requires logs { AreLogs graph.now logs.now }
     requires arc { a < arc_count graph.now }
     ensures date { result ≡ token_date graph.now (date_in (dates_of logs.now)) a n }
     ensures early { result ≤ LATEST_GIVEN + 1_000_000_000 }
@@ -149,8 +165,7 @@ fn token_date(graph: &Graph, logs: &Logs, a: u32, n: u32) -> Date
 
 /// What arc `a` asks of the date of job `n` at the station that it enters.
 fn term_of(graph: &Graph, logs: &Logs, a: u32, n: u32) -> Date
-    requires early { All (All (λ date. date ≤ LATEST_GIVEN)) (dates_of logs.now) }
-    requires a_log_each { length logs.now.logs ≡ stations graph.now }
+    requires logs { AreLogs graph.now logs.now }
     requires arc { a < arc_count graph.now }
     requires from_one { 1 ≤ n }
     requires job { n ≤ jobs graph.now }
@@ -167,8 +182,7 @@ fn term_of(graph: &Graph, logs: &Logs, a: u32, n: u32) -> Date
 
 /// The date that the equations of the graph give to job `n` at station `t` over the logs.
 fn due_date(graph: &Graph, logs: &Logs, t: u32, n: u32) -> Date
-    requires early { All (All (λ date. date ≤ LATEST_GIVEN)) (dates_of logs.now) }
-    requires a_log_each { length logs.now.logs ≡ stations graph.now }
+    requires logs { AreLogs graph.now logs.now }
     requires station { t < stations graph.now }
     requires from_one { 1 ≤ n }
     requires job { n ≤ jobs graph.now }
@@ -193,8 +207,7 @@ fn check_date(
     job: u32,
     have: Date,
 ) -> Result<(), StateError>
-    requires early { All (All (λ date. date ≤ LATEST_GIVEN)) (dates_of logs.now) }
-    requires a_log_each { length logs.now.logs ≡ stations graph.now }
+    requires logs { AreLogs graph.now logs.now }
     requires station { station < stations graph.now }
     requires job { job < jobs graph.now }
     requires limits { IsWithinLimits graph.now }
@@ -216,8 +229,7 @@ fn check_date(
 /// Refuses the first date of a station that isn't the one of its equation over the logs.
 #[tactic(auto, using(crate::proofs::FirstRefusals::first_refusals), unfolding(crate::specs::Parts::wrong_dates_at))]
 fn check_dates_at(graph: &Graph, logs: &Logs, station: u32) -> Result<(), StateError>
-    requires early { All (All (λ date. date ≤ LATEST_GIVEN)) (dates_of logs.now) }
-    requires a_log_each { length logs.now.logs ≡ stations graph.now }
+    requires logs { AreLogs graph.now logs.now }
     requires few { length (list_at (dates_of logs.now) station) ≤ jobs graph.now }
     requires limits { IsWithinLimits graph.now }
     requires station { station < stations graph.now }
@@ -233,8 +245,7 @@ fn check_dates_at(graph: &Graph, logs: &Logs, station: u32) -> Result<(), StateE
 /// Refuses the first date that isn't the one of its equation over the logs.
 #[tactic(auto, using(crate::proofs::FirstRefusals::first_refusals))]
 fn check_dates(graph: &Graph, logs: &Logs) -> Result<(), StateError>
-    requires early { All (All (λ date. date ≤ LATEST_GIVEN)) (dates_of logs.now) }
-    requires a_log_each { length logs.now.logs ≡ stations graph.now }
+    requires logs { AreLogs graph.now logs.now }
     requires few { long_logs graph.now (dates_of logs.now) ≡ [] }
     ensures { AnswersFirst result (wrong_dates graph.now (dates_of logs.now)) }
 {
@@ -287,6 +298,7 @@ fn check_tokens(graph: &Graph, logs: &Logs, places: &Places) -> Result<(), State
 }
 
 /// Refuses logs and places by the first thing that is wrong with them.
+#[tactic(auto, using(crate::proofs::FirstRefusals::one_after_other), unfolding(crate::specs::Parts::state_refusals))]
 pub fn check_parts(graph: &Graph, logs: &Logs, places: &Places) -> Result<(), StateError>
     requires { AreParts graph.now logs.now places.now }
     ensures { AnswersFirst result
@@ -299,9 +311,9 @@ pub fn check_parts(graph: &Graph, logs: &Logs, places: &Places) -> Result<(), St
 }
 
 /// Refuses logs, and the numbers of tokens of places, by the first thing that is wrong with them.
+#[tactic(auto, using(crate::proofs::FirstRefusals::one_after_other), unfolding(crate::specs::Marked::marked_refusals))]
 pub fn check_marked(graph: &Graph, logs: &Logs, marking: &Marking) -> Result<(), StateError>
-    requires early { All (All (λ date. date ≤ LATEST_GIVEN)) (dates_of logs.now) }
-    requires a_log_each { length logs.now.logs ≡ stations graph.now }
+    requires logs { AreLogs graph.now logs.now }
     requires a_count_each { length marking.now ≡ arc_count graph.now }
     ensures { AnswersFirst result (marked_refusals graph.now (dates_of logs.now) marking.now) }
 {

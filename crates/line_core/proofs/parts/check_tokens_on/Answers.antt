@@ -43,6 +43,9 @@ pub overflow_add-taken-in-loop-token : goal.overflow_add-taken-in-loop-token
 overflow_add-taken-in-loop-token c =
     omega (arith, few (goal.at.overflow_add-taken-in-loop-token c).After-dates_at-dates, few_taken (goal.at.overflow_add-taken-in-loop-token c).After-dates_at-dates, c.loop-token-test.true)
 
+pub token_date-need-requires-clause-logs : goal.token_date-need-requires-clause-logs
+token_date-need-requires-clause-logs c = record { a_log_each = c.requires.parts.a_log_each; early = c.requires.parts.early }
+
 -- what a token needs is the date that the logs leave there
 need_is : (c : After-token_date-need) → length c.dates_at-dates.result.now + length c.dates_at.result.now ≡ (arc c.args.graph.now c.args.arc).tokens + length (list_at (dates_of c.args.logs.now) (arc c.args.graph.now c.args.arc).from) → c.token_date-need.result ≡ get_or (tokens_left c.args.graph.now (dates_of c.args.logs.now) c.args.arc) c.loop-token.token 0
 need_is c held_here =

@@ -2,10 +2,14 @@ use Rattle.std.proofs.Common.{ap, ◌∙◌, sym}
 use Rattle.std.proofs.lemmas.Result.{err_from_is_err_and}
 use Rattle.line_base.specs.declared.event.Parts.{Parts}
 use Rattle.line_base.specs.Roomy.{dates_of}
+use Rattle.event_graph.specs.Network.{stations}
 use Rattle.line_core.specs.Parts.{first}
 use Rattle.line_core.specs.Marked.{marked_refusals}
 use Rattle.line_core.proofs.MarkedLogs.{refuses_marked, tokens_alone, reached_marked}
 use Rattle.line_core.proofs.state.State.of_logs.Goals as goal
+
+pub check_marked-requires-clause-logs : goal.check_marked-requires-clause-logs
+check_marked-requires-clause-logs c = record { a_log_each = c.requires.a_log_each ∙ ap stations (sym c.graph.ensures.graph); early = c.requires.early }
 
 pub returns-in_err-check_marked-clause-refused : goal.returns-in_err-check_marked-clause-refused
 returns-in_err-check_marked-clause-refused c =
