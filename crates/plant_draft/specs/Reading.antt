@@ -100,16 +100,18 @@ draft_of top =
       loops = map (loop_of (stage_names top)) (tables_at (codes "loop") top);
     }
 
+-- what is wrong with a tree where its keys and names are right: the classes 7 to 9
+abbrev pub last_refusals : Data → List PlantError
+last_refusals top =
+    walk OutOfRanges top ++ (feeds_not_later_in (draft_of top).stages ++ second_finals_in (draft_of top).stages)
+
 -- what is wrong with a tree as a plant file: the classes 2 to 9, each over the whole tree before the next
 unfoldable pub tree_refusals : Data → List PlantError
 tree_refusals top =
     walk UnknownKeys top
     ++ (walk MissingKeys top
     ++ (walk WrongTypes top
-    ++ (walk BadNames top
-    ++ (names_twice top
-    ++ (walk OutOfRanges top
-    ++ (feeds_not_later_in (draft_of top).stages ++ second_finals_in (draft_of top).stages))))))
+    ++ (walk BadNames top ++ (names_twice top ++ last_refusals top))))
 
 -- the draft where nothing is refused, and else the first refusal
 abbrev pub draft_or_first : List PlantError → DraftPlant → Result DraftPlant PlantError

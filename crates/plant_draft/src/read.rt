@@ -1,15 +1,18 @@
-ghost use Rattle.std.specs.Prelude.{◌≡◌, ◌≢◌, Some, None, MatchResult};
+ghost use Rattle.std.specs.Prelude.{◌≡◌, ◌≢◌, [], Some, None, MatchResult};
 ghost use Rattle.plant_model.specs.declared.error.PlantError.TheVariants.{NoMemory, NotToml};
 ghost use Rattle.toml.specs.View.{view};
+ghost use Rattle.plant_tree.specs.declared.keys.Class.TheVariants.{MissingKeys, BadNames};
+ghost use Rattle.plant_tree.specs.Readers.{stage_names};
+ghost use Rattle.plant_tree.specs.Walk.{names_twice, walk};
 ghost use Rattle.plant_draft.specs.Draft.{IsSoundDraft};
 ghost use Rattle.plant_draft.specs.Code.{Builds};
-ghost use Rattle.plant_draft.specs.Reading.{AnswersReading, tree_of, tree_reading, reading};
+ghost use Rattle.plant_draft.specs.Reading.{AnswersReading, draft_of, draft_or_first, last_refusals, tree_of, tree_reading, reading};
 
 use crate::build::draft_of;
 use crate::columns::columns_of;
 use crate::draft::{Draft, DraftPlant};
 use plant_model::{PlantError, check_flow};
-use plant_tree::{Class, check_tree, names_of_stages};
+use plant_tree::{Class, Names, check_tree, names_of_stages};
 use std::alloc::Global;
 use toml::Value;
 
@@ -45,8 +48,19 @@ fn read_tree(alloc: Global, top: &Value) -> Result<Draft, PlantError>
     check_tree(alloc, Class::WrongTypes, top)?;
     check_tree(alloc, Class::BadNames, top)?;
     let names = names_of_stages(alloc, top)?;
+    read_named(alloc, &names, top)
+}
+
+/// Reads a tree as a plant file whose stages have these names, and in which no key is missing and no name is refused.
+fn read_named(alloc: Global, names: &Names<'_>, top: &Value) -> Result<Draft, PlantError>
+    requires names { names.now ≡ stage_names (view top.now) }
+    requires keys { walk MissingKeys (view top.now) ≡ [] }
+    requires rules { walk BadNames (view top.now) ≡ [] }
+    requires once { names_twice (view top.now) ≡ [] }
+    ensures { AnswersReading result (draft_or_first (last_refusals (view top.now)) (draft_of (view top.now))) }
+{
     check_tree(alloc, Class::OutOfRanges, top)?;
-    let plant = draft_of(alloc, &names, top)?;
+    let plant = draft_of(alloc, names, top)?;
     check_flow(alloc, plant.stages.as_slice())?;
     sealed(alloc, plant)
 }
