@@ -1,11 +1,12 @@
 //! A draft becomes a plant, once the files that it names have been read.
-ghost use Rattle.std.specs.Prelude.{◌≡◌, ◌≢◌, ◌≤◌, ◌<◌, [], ◌∷◌, ℕ, List, Option, All, Ok, IfErr, IfOk, IfSome, map, is_some, option_map, option_copied, length, vec_len};
+ghost use Rattle.std.specs.Prelude.{◌≡◌, ◌≢◌, ◌≤◌, ◌<◌, [], ◌∷◌, ℕ, List, Option, All, Ok, Some, IfErr, IfOk, IfSome, map, is_some, option_map, option_copied, length, vec_len};
 ghost use Rattle.line_base.specs.declared.limits.TheConstants.{MAX_CHECKPOINT_BYTES, MAX_DEMAND_DATE};
 ghost use Rattle.demand_feed.specs.Dates.{dates_of};
 ghost use Rattle.demand_feed.specs.Times.{times_of};
+ghost use Rattle.plant_model.specs.Refusals.{first};
 ghost use Rattle.plant_model.specs.Sound.{IsSound};
 ghost use Rattle.plant_draft.specs.Draft.{demands_file, columns_of};
-ghost use Rattle.plant_file.specs.Finish.{AnswersPlant, HasColumn, HasColumns, IsWithinLimit, bad_record_in, completed, dates_with, finished, loop_with, machine_with, plant_with, stage_with, times_with};
+ghost use Rattle.plant_file.specs.Finish.{AnswersPlant, HasColumn, HasColumns, IsWithinLimit, bad_record_in, bad_records, completed, dates_with, finished, loop_with, machine_with, plant_with, stage_with, times_with};
 ghost use Rattle.plant_file.specs.Complete.{HoldsDates, HoldsTimes, refusal_of};
 ghost use Rattle.plant_file.specs.PlantOfFiles.{Contents, IsReadFrom, plant_of};
 
@@ -65,9 +66,44 @@ pub fn complete_draft(
         → IsReadFrom name files draft (option_copied demands.entry) (option_copied times.entry)
         → AnswersPlant result (plant_of name files) }
 {
-    let dates = dates_in(alloc, &draft, demands)?;
-    let table = times_in(alloc, &draft, times)?;
-    finish_draft(alloc, draft, dates, table)
+    completed(alloc, draft, demands, times)
+}
+
+/// The plant of a draft and of the bytes of its files, or the first of the refusals 10 to 15.
+fn completed(
+    alloc: Global,
+    draft: Draft,
+    demands: Option<&[u8]>,
+    times: Option<&[u8]>,
+) -> Result<Plant, PlantError>
+    requires demands_where_used { is_some demands ≡ is_some (demands_file draft) }
+    requires times_where_used { is_some times ≡ is_some draft.times_file }
+    requires times_size { IfSome times (λ bytes. length bytes.now ≤ MAX_CHECKPOINT_BYTES) }
+    ensures plant { AnswersPlant result (completed draft (option_copied demands.entry) (option_copied times.entry)) }
+    ensures sound { IfOk result IsSound }
+{
+    let tables = tables_in(alloc, &draft, demands, times)?;
+    finish_draft(alloc, draft, tables.0, tables.1)
+}
+
+/// The dates and the table of the bytes of a draft's files, each where there is one; the demand file is tried first.
+fn tables_in(
+    alloc: Global,
+    draft: &Draft,
+    demands: Option<&[u8]>,
+    times: Option<&[u8]>,
+) -> Result<(Option<Vec<Date>>, Option<Columns>), PlantError>
+    requires demands_where_used { is_some demands ≡ is_some (demands_file draft.now) }
+    requires times_where_used { is_some times ≡ is_some draft.now.times_file }
+    requires times_size { IfSome times (λ bytes. length bytes.now ≤ MAX_CHECKPOINT_BYTES) }
+    ensures dates { IfOk result (λ tables. HoldsDates draft.now (option_copied demands.entry) tables.0) }
+    ensures times { IfOk result (λ tables. HoldsTimes draft.now (option_copied times.entry) tables.1) }
+    ensures refused { IfErr result (λ e. e ≢ PlantError.NoMemory
+        → first (bad_records draft.now (option_copied demands.entry) (option_copied times.entry)) ≡ Some e) }
+{
+    let dates = dates_in(alloc, draft, demands)?;
+    let table = times_in(alloc, draft, times)?;
+    Ok((dates, table))
 }
 
 /// The dates of the bytes of the demand file, if there is one.
