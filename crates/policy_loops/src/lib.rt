@@ -1,10 +1,9 @@
 //! Segment loops: the cards of each loop go back round the stages of a part of a path.
 #![tactic(auto)]
 
-ghost use Rattle.std.specs.Prelude.{◌≡◌, ◌<◌, ◌≤◌, length, IfOk, IsTrue};
-ghost use Rattle.plant_model.specs.Line.{is_downstream, stock_between};
+ghost use Rattle.std.specs.Prelude.{◌≡◌, ◌<◌, length, IfOk};
 ghost use Rattle.plant_model.specs.Graph.{arcs_of, loop_row, loop_rows};
-ghost use Rattle.plant_model.specs.Sound.{IsSound};
+ghost use Rattle.plant_model.specs.Sound.{IsSound, IsSoundLoop};
 
 use line_base::Arc;
 use plant_model::{CardLoop, Layout, Plant};
@@ -26,10 +25,8 @@ pub fn arcs(alloc: Global, plant: &Plant) -> Result<Vec<Arc>, AllocError>
 
 /// The arc of a loop's cards.
 fn loop_arc(layout: &Layout, card_loop: &CardLoop) -> Arc
-    requires first { card_loop.now.first < length layout.now.stages }
+    requires sound { IsSoundLoop layout.now card_loop.now }
     requires last { card_loop.now.last < length layout.now.stages }
-    requires downstream { IsTrue (is_downstream layout.now card_loop.now.first card_loop.now.last) }
-    requires enough { stock_between layout.now card_loop.now.first card_loop.now.last ≤ card_loop.now.cards }
     ensures { result ≡ (loop_row layout.now card_loop.now).arc }
 {
     Arc {
