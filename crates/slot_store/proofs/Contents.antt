@@ -11,7 +11,8 @@ use Rattle.slot_store.specs.declared.header.Slot.{Slot}
 use Rattle.slot_store.specs.declared.header.Slot.TheVariants.{Zero, One}
 use Rattle.slot_store.specs.declared.target.Target.{Target}
 use Rattle.slot_store.proofs.Bytes.{bytes_at-same}
-use Rattle.slot_store.proofs.Near.{IsSameBut, out_before, out_behind}
+use Rattle.slot_store.specs.Within.{IsSameBut}
+use Rattle.slot_store.proofs.Near.{out_before, out_behind}
 
 -- two images agree on a slot
 abbrev pub AgreeOn : ℕ → Slot → Image → Image → Type 0

@@ -4,6 +4,7 @@ use Rattle.std.proofs.lemmas.Bool.Decides.{nat_tests}
 use Rattle.line_disk.specs.DiskView.{Image, Held, MayLeave, is_within, patched, awaiting, written, synced, Torn}
 use Rattle.line_disk.proofs.Replay.{patched-out}
 use Rattle.slot_store.specs.Crash.{IsSettled}
+use Rattle.slot_store.specs.Within.{IsNear, IsSameBut}
 
 -- an address outside of a range lies before it or behind it
 pub out_before : (at n i : ℕ) → i < at → is_within at n i ≡ false
@@ -23,15 +24,6 @@ pub patched-in : (image : Image) (at : ℕ) (bytes : List ℕ) (k : ℕ) → k <
 patched-in image at bytes k less =
     ap (λ b. cond b (get_or bytes (at + k - at) 0) (image (at + k))) (in_range at (length bytes) (at + k) (omega arith) (omega arith))
     ∙ ap (λ j. get_or bytes j 0) (let e : at + k - at ≡ k = omega arith in e)
-
--- outside of n addresses the disk holds these bytes, and nothing is pending
-pub record IsNear (at n : ℕ) (base : Image) (held : Held) : Type 0 where
-  pub bytes : (i : ℕ) → is_within at n i ≡ false → held.bytes i ≡ base i
-  pub settled : (i : ℕ) → is_within at n i ≡ false → held.pending i ≡ false
-
--- outside of n addresses an image has these bytes
-pub record IsSameBut (at n : ℕ) (base image : Image) : Type 0 where
-  pub bytes : (i : ℕ) → is_within at n i ≡ false → image i ≡ base i
 
 pub near_left : (at n : ℕ) (base : Image) (held : Held) (image : Image) → IsNear at n base held → MayLeave held image → IsSameBut at n base image
 near_left at n base held image near left = record {

@@ -1,3 +1,4 @@
 pub mod Crash
 pub mod Errors
 pub mod Layout
+pub mod Within

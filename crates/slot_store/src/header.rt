@@ -2,7 +2,9 @@
 ghost use Rattle.std.specs.Prelude.{◌≡◌, ◌+◌, ◌≤◌, ◌^◌, length, IsTrue, IfOk, IfSome, IsErrOf};
 ghost use Rattle.line_disk.specs.DiskView.{Stays, held_now};
 ghost use Rattle.line_io.specs.Faults.{Rose};
+ghost use Rattle.slot_store.specs.Crash.{bytes_now};
 ghost use Rattle.slot_store.specs.Layout.{start_of, header_of_bytes, header_at, is_open, next, newer_header};
+ghost use Rattle.slot_store.specs.declared.header.Slot.TheVariants.{Zero, One};
 
 use line_disk::{Disk, DiskError};
 use std::alloc::Global;
@@ -75,7 +77,7 @@ fn header_of(bytes: &[u8]) -> Header
 }
 
 /// Reads the head of the slot that begins there.
-pub fn read_header<D: Disk>(disk: &mut D, alloc: Global, start: u64) -> Result<Header, DiskError>
+fn read_header<D: Disk>(disk: &mut D, alloc: Global, start: u64) -> Result<Header, DiskError>
     requires { start ≤ 2 ^ 33 }
     ensures header { IfOk result (λ header. IsTrue D.tells
         → header ≡ header_at (held_now (D.shown disk.old)).bytes start) }
@@ -86,6 +88,27 @@ pub fn read_header<D: Disk>(disk: &mut D, alloc: Global, start: u64) -> Result<H
 {
     let bytes = disk.read(alloc, start, USED)?;
     Ok(header_of(&bytes))
+}
+
+/// Reads the heads of both slots, where each has that much room for its content.
+pub fn read_headers<D: Disk>(
+    disk: &mut D,
+    alloc: Global,
+    room: u64,
+) -> Result<(Header, Header), DiskError>
+    requires { room ≤ MAX_ROOM }
+    ensures zero { IfOk result (λ heads. IsTrue D.tells
+        → heads.0 ≡ header_at (bytes_now (D.shown disk.old)) (start_of room Zero)) }
+    ensures one { IfOk result (λ heads. IsTrue D.tells
+        → heads.1 ≡ header_at (bytes_now (D.shown disk.old)) (start_of room One)) }
+    ensures stays { IsTrue D.tells → Stays (D.shown disk.old) (D.shown disk.new) }
+    ensures cause { IsErrOf result DiskError.Failed
+        → Rose (D.shown disk.old).faults (D.shown disk.new).faults }
+    ensures faults_stay_or_rise { (D.shown disk.old).faults ≤ (D.shown disk.new).faults }
+{
+    let zero = read_header(disk, alloc, Slot::Zero.start(room))?;
+    let one = read_header(disk, alloc, Slot::One.start(room))?;
+    Ok((zero, one))
 }
 
 /// The newer one of the slots that are open, with its head.

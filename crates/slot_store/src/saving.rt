@@ -3,15 +3,33 @@ ghost use Rattle.std.specs.Prelude.{◌≡◌, ◌⊎◌, ◌∷◌, ◌+◌, �
 ghost use Rattle.std.specs.Int.{w64, to_be_bytes};
 ghost use Rattle.line_disk.specs.DiskView.{MayLeave, LeavesOnly, held_now};
 ghost use Rattle.line_io.specs.Faults.{Rose};
-ghost use Rattle.slot_store.specs.Crash.{SameContent, TellsGate, IsClosed, IsStaged, IsReady, IsSaved, IsKeptOrNew, bytes_now, staged_in};
+ghost use Rattle.slot_store.specs.Crash.{SameContent, TellsGate, IsSettled, IsClosed, IsStaged, IsReady, IsSaved, IsKeptOrNew, bytes_now, staged_in};
 ghost use Rattle.slot_store.specs.Layout.{header_at, newer_header, start_of, content, target_by};
+ghost use Rattle.slot_store.specs.Within.{WritesWithin};
 
-use crate::header::{HEADER, MAX_ROOM, OPEN};
+use crate::header::{HEADER, MAX_ROOM, OPEN, Slot};
 use crate::target::Target;
 use line_disk::{Disk, DiskError};
 
 /// The gate of a slot that is not open.
 const CLOSED: u8 = 0;
+
+/// Writes the gate of a slot, and makes it stand. Nothing else is written.
+fn write_gate<D: Disk>(disk: &mut D, room: u64, slot: Slot, gate: u8) -> Result<(), DiskError>
+    requires room { room ≤ MAX_ROOM }
+    requires settled { IsTrue D.tells → IsSettled (held_now (D.shown disk.old)) }
+    ensures within { IsTrue D.tells
+        → WritesWithin (start_of room slot) 1 (D.shown disk.old) (D.shown disk.new) }
+    ensures stands { OnOk result (IsTrue D.tells → IsSettled (held_now (D.shown disk.new))) }
+    ensures gate { OnOk result
+        (IsTrue D.tells → bytes_now (D.shown disk.new) (start_of room slot) ≡ gate) }
+    ensures cause { IsErrOf result DiskError.Failed
+        → Rose (D.shown disk.old).faults (D.shown disk.new).faults }
+    ensures faults_stay_or_rise { (D.shown disk.old).faults ≤ (D.shown disk.new).faults }
+{
+    disk.write_at(slot.start(room), &[gate])?;
+    disk.sync()
+}
 
 /// Closes the gate of the target where it is open. A crash leaves the content as it is.
 pub fn close_gate<D: Disk>(disk: &mut D, room: u64, target: Target) -> Result<(), DiskError>
@@ -30,8 +48,7 @@ pub fn close_gate<D: Disk>(disk: &mut D, room: u64, target: Target) -> Result<()
     if !target.gate_is_open {
         return Ok(());
     }
-    disk.write_at(target.slot.start(room), &[CLOSED])?;
-    disk.sync()
+    write_gate(disk, room, target.slot, CLOSED)
 }
 
 /// The number and the length of a content, as they stand behind the gate.
@@ -89,6 +106,5 @@ pub fn open_gate<D: Disk>(disk: &mut D, room: u64, target: Target) -> Result<(),
         → Rose (D.shown disk.old).faults (D.shown disk.new).faults }
     ensures faults_stay_or_rise { (D.shown disk.old).faults ≤ (D.shown disk.new).faults }
 {
-    disk.write_at(target.slot.start(room), &[OPEN])?;
-    disk.sync()
+    write_gate(disk, room, target.slot, OPEN)
 }

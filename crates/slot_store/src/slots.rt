@@ -2,7 +2,7 @@ ghost use Rattle.std.specs.Prelude.{◌≡◌, ◌≤◌};
 ghost use Rattle.slot_store.specs.declared.header.TheConstants.{MAX_ROOM};
 
 use crate::error::SlotError;
-use crate::header::{HEADER, MAX_ROOM, Slot, newer, read_header};
+use crate::header::{HEADER, MAX_ROOM, newer, read_headers};
 use crate::saving::{close_gate, open_gate, write_content};
 use crate::target::find_target;
 use line_disk::Disk;
@@ -87,8 +87,7 @@ impl<'a, D: Disk> Slots<'a, D> {
         ensures faults_stay_or_rise { (D.shown self.old.disk.now).faults
             ≤ (D.shown self.new.disk.now).faults }
     {
-        let zero = read_header(self.disk, alloc, Slot::Zero.start(self.room))?;
-        let one = read_header(self.disk, alloc, Slot::One.start(self.room))?;
+        let (zero, one) = read_headers(self.disk, alloc, self.room)?;
         let Some((slot, header)) = newer(zero, one, self.room) else {
             return Err(SlotError::NoneSaved);
         };

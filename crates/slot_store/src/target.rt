@@ -5,7 +5,7 @@ ghost use Rattle.line_io.specs.Faults.{Rose};
 ghost use Rattle.slot_store.specs.Crash.{IsSettled, TellsGate, IsReady, bytes_now};
 ghost use Rattle.slot_store.specs.Layout.{newer_header, target_by};
 
-use crate::header::{Header, MAX_ROOM, OPEN, Slot, newer, next, read_header};
+use crate::header::{Header, MAX_ROOM, OPEN, Slot, newer, next, read_headers};
 use line_disk::{Disk, DiskError};
 use std::alloc::Global;
 
@@ -67,7 +67,6 @@ pub fn find_target<D: Disk>(disk: &mut D, alloc: Global, room: u64) -> Result<Ta
     ensures faults_stay_or_rise { (D.shown disk.old).faults ≤ (D.shown disk.new).faults }
 {
     settle(disk)?;
-    let zero = read_header(disk, alloc, Slot::Zero.start(room))?;
-    let one = read_header(disk, alloc, Slot::One.start(room))?;
+    let (zero, one) = read_headers(disk, alloc, room)?;
     Ok(target_of(zero, one, room))
 }

@@ -4,7 +4,8 @@ use Rattle.line_disk.specs.DiskView.{held_now}
 use Rattle.slot_store.specs.Layout.{start_of}
 use Rattle.slot_store.specs.Crash.{IsStaged, bytes_now}
 use Rattle.line_disk.proofs.Push.{on_ok}
-use Rattle.slot_store.proofs.Calls.{Went, went_nowhere, went_write, went_sync}
+use Rattle.slot_store.specs.Within.{WritesWithin}
+use Rattle.slot_store.proofs.Calls.{went_nowhere, went_write, went_sync, settled_by}
 use Rattle.slot_store.proofs.Phases.{staging, staged_ready}
 use Rattle.slot_store.proofs.Staged.{staged, staged_after, is_staged}
 use Rattle.slot_store.proofs.saving.write_content.Given.{Over}
@@ -12,7 +13,7 @@ use Rattle.slot_store.proofs.saving.write_content.Goals as goal
 use Rattle.slot_store.proofs.saving.write_content.Goals.{After-write_at, After-write_at-2, After-sync}
 
 -- each call writes behind the gate alone
-named : (g : Over) (c : After-write_at g) → IsTrue g.D.Disk.tells → Went (start_of c.args.room c.args.target.slot + 1) (15 + c.args.room) (g.D.Disk.shown c.args.disk.now) (g.D.Disk.shown c.write_at.new.self)
+named : (g : Over) (c : After-write_at g) → IsTrue g.D.Disk.tells → WritesWithin (start_of c.args.room c.args.target.slot + 1) (15 + c.args.room) (g.D.Disk.shown c.args.disk.now) (g.D.Disk.shown c.write_at.new.self)
 named g c told =
     let start = g.D.Disk.shown c.args.disk.now in
     let at = start_of c.args.room c.args.target.slot in
@@ -20,14 +21,14 @@ named g c told =
     let nine : length c.number_and_length.result ≡ 9 = ap length c.number_and_length.ensures in
     went_write (at + 1) (15 + c.args.room) start start (g.D.Disk.shown c.write_at.new.self) (c.start-start.result + 1) c.number_and_length.result c.write_at.result c.write_at.ensures.written c.write_at.ensures.torn c.write_at.ensures.no_memory c.write_at.ensures.time told (omega arith) (omega arith) (went_nowhere (at + 1) (15 + c.args.room) start (c.requires.ready told).settled)
 
-put : (g : Over) (c : After-write_at-2 g) → IsTrue g.D.Disk.tells → Went (start_of c.args.room c.args.target.slot + 1) (15 + c.args.room) (g.D.Disk.shown c.args.disk.now) (g.D.Disk.shown c.write_at.new.self) → Went (start_of c.args.room c.args.target.slot + 1) (15 + c.args.room) (g.D.Disk.shown c.args.disk.now) (g.D.Disk.shown c.write_at-2.new.self)
+put : (g : Over) (c : After-write_at-2 g) → IsTrue g.D.Disk.tells → WritesWithin (start_of c.args.room c.args.target.slot + 1) (15 + c.args.room) (g.D.Disk.shown c.args.disk.now) (g.D.Disk.shown c.write_at.new.self) → WritesWithin (start_of c.args.room c.args.target.slot + 1) (15 + c.args.room) (g.D.Disk.shown c.args.disk.now) (g.D.Disk.shown c.write_at-2.new.self)
 put g c told before =
     let at = start_of c.args.room c.args.target.slot in
     let begins : c.start-start.result ≡ at = c.start-start.ensures in
     let fits = c.requires.fits in
     went_write (at + 1) (15 + c.args.room) (g.D.Disk.shown c.args.disk.now) (g.D.Disk.shown c.write_at.new.self) (g.D.Disk.shown c.write_at-2.new.self) (c.start-start.result + 16) c.args.bytes.now c.write_at-2.result c.write_at-2.ensures.written c.write_at-2.ensures.torn c.write_at-2.ensures.no_memory c.write_at-2.ensures.time told (omega arith) (omega arith) before
 
-settled : (g : Over) (c : After-sync g) → IsTrue g.D.Disk.tells → Went (start_of c.args.room c.args.target.slot + 1) (15 + c.args.room) (g.D.Disk.shown c.args.disk.now) (g.D.Disk.shown c.write_at-2.new.self) → Went (start_of c.args.room c.args.target.slot + 1) (15 + c.args.room) (g.D.Disk.shown c.args.disk.now) (g.D.Disk.shown c.sync.new.self)
+settled : (g : Over) (c : After-sync g) → IsTrue g.D.Disk.tells → WritesWithin (start_of c.args.room c.args.target.slot + 1) (15 + c.args.room) (g.D.Disk.shown c.args.disk.now) (g.D.Disk.shown c.write_at-2.new.self) → WritesWithin (start_of c.args.room c.args.target.slot + 1) (15 + c.args.room) (g.D.Disk.shown c.args.disk.now) (g.D.Disk.shown c.sync.new.self)
 settled g c told before =
     went_sync (start_of c.args.room c.args.target.slot + 1) (15 + c.args.room) (g.D.Disk.shown c.args.disk.now) (g.D.Disk.shown c.write_at-2.new.self) (g.D.Disk.shown c.sync.new.self) c.sync.result c.sync.ensures.synced c.sync.ensures.stays c.sync.ensures.time told before
 
@@ -52,7 +53,8 @@ pub returns-clause-ready : goal.returns-clause-ready
 returns-clause-ready g c = on_ok c.sync.result c.sync.ensures.synced (λ synced told.
     let here = goal.at.returns-clause-ready g c in
     let third = settled g here.After-sync told (put g here.After-write_at-2 told (named g here.After-write_at told)) in
-    staged_ready (g.D.Disk.shown c.args.disk.now) (g.D.Disk.shown c.write_at-2.new.self) (g.D.Disk.shown c.sync.new.self) c.args.room c.args.target (c.requires.ready told) (c.requires.closed told) third (synced told))
+    staged_ready (g.D.Disk.shown c.args.disk.now) (g.D.Disk.shown c.sync.new.self) c.args.room c.args.target (c.requires.ready told) (c.requires.closed told) third
+    (settled_by (held_now (g.D.Disk.shown c.write_at-2.new.self)) (held_now (g.D.Disk.shown c.sync.new.self)) (synced told)))
 
 pub returns-clause-staged : goal.returns-clause-staged
 returns-clause-staged g c = on_ok c.sync.result c.sync.ensures.synced (λ synced told.
