@@ -1,6 +1,7 @@
 -- What is asked of a live plant, from what the calls below answer.
-use Rattle.std.proofs.Common.{◌≡◌, ◌⊎◌, ℕ, Bool, true, false, List, refl, ap, sym, subst, ◌∙◌, ⊎_elim, inl, inr}
+use Rattle.std.proofs.Common.{◌≡◌, ◌⊎◌, ℕ, false, List, refl, ap, sym, subst, ◌∙◌, ⊎_elim, inl, inr}
 use Rattle.std.specs.Prelude.{Result, Ok, Err, IfOk}
+use Rattle.std.proofs.lemmas.Bool.{true_from_ne_false}
 use Rattle.std.specs.declared.alloc.AllocError.{AllocError}
 use Rattle.card_sizing.specs.Sizing.{NoneServesBelow, IsBelow, IsSizingRefusal}
 use Rattle.card_sizing.specs.Sized.{has_single_count}
@@ -97,10 +98,6 @@ cycle_refused p error reply why says =
     ⊎_elim (λ none. inr (ap said none)) (λ same. inl (inr (record { error = error; why = why; says = ap said same }))) says
 
 -- a count of cards, and none
-not_false : (b : Bool) → (b ≡ false → ⊥) → b ≡ true
-not_false true isnt = refl
-not_false false isnt = absurd (isnt refl)
-
 abbrev sizes : Sizing → Result Sizing SizingError
 sizes sizing = Ok sizing
 
@@ -110,7 +107,7 @@ no_refusal sizing is = cc
 pub cards_found : (p : Plant) (wait : ℕ) (sizing : Sizing) (text : List ℕ) → (has_single_count p ≡ false → ⊥) → Serves p wait sizing.cards → NoneServesBelow p wait sizing.cards → IsBelow p wait sizing.cards sizing.below → text ≡ cards_text sizing → OrNoMemory (IsCards p wait) (said (CardsFound text))
 cards_found p wait sizing text single serves least below is = inl (inl (record {
   sizing = sizing;
-  single = not_false (has_single_count p) single;
+  single = true_from_ne_false (has_single_count p) single;
   serves = serves;
   least = least;
   below = below;

@@ -38,8 +38,9 @@ kept_at_first tells view g = record {
 }
 
 -- of the plant's graph
-pub kept_of : (tells : Bool) (old new : DiskView) (p : Plant) (g : Parts) → g ≡ graph p → Kept tells old new g → Kept tells old new (graph p)
-kept_of tells old new p g same kept = subst (Kept tells old new) same kept
+pub kept_of : {tells : Bool} {old new : DiskView} (p : Plant) (g : Parts) → g ≡ graph p → (IsTrue tells → LeavesOnly old new (IsOldOrState (held_now old) most_checkpoint_bytes g)) → old.faults ≤ new.faults → Kept tells old new (graph p)
+kept_of {tells} {old} {new} p g same any_moment faults =
+    subst (Kept tells old new) same (record { any_moment = any_moment; faults = faults })
 
 module _ (tells : Bool) (old new : DiskView) (p : Plant) (n : ℕ) (kept : Kept tells old new (graph p)) where
   run_does : (answer : Result Output Reply) → ((store : StoreOver) → IfErr answer (HasCause store (disk_over tells old new) [])) → Saves p n (disk_over tells old new) answer ⊎ ((answer ≡ Err Disk) ⊎ (answer ≡ Err NoMemory)) → DoesOnDisk (disk_over tells old new) (RunsWithSlots p n) answer

@@ -1,5 +1,5 @@
 -- A run of a plant that is told to stop.
-use Rattle.std.proofs.Common.{◌≡◌, ◌⊎◌, ℕ, ◌<◌, Bool, List, [], length, refl, ap, sym, ◌∙◌, subst, subst₂, inl, inr, arith, mul-pos, mul-zero}
+use Rattle.std.proofs.Common.{◌≡◌, ◌⊎◌, ℕ, ◌<◌, Bool, List, [], length, refl, ap, sym, ◌∙◌, subst, inl, inr, arith, mul-pos, mul-zero}
 use Rattle.std.specs.Prelude.{Result, Ok, Err, IfErr}
 use Rattle.std.proofs.lemmas.List.Folds.{sum_by-replicate}
 use Rattle.checkpoint.specs.declared.format.Format.TheVariants.{Differences}
@@ -51,16 +51,9 @@ pub fired_at_start : (g : Parts) (begun : State) → begun ≡ start g → fired
 fired_at_start g begun is = ap fired is ∙ none_fired g
 
 -- a run from the start that wasn't stopped
-pub short_of : (p : Plant) (g : Parts) (n : ℕ) (begun : State) → IsSound p → g ≡ graph p → begun ≡ start g → (fired begun < all_firings g → IsShort g n (fired begun)) → IsShort (graph p) n 0
-short_of p g n begun sound same is counts =
-    let none = fired_at_start g begun is in
-    subst₂ (λ (h : Parts) (made : ℕ). IsShort h n made) same none (
-    counts (subst₂ (λ (h : Parts) (made : ℕ). made < all_firings h) (sym same) (sym none) (some_firings p sound)))
-
--- and one that was stopped
-pub stop_of : (p : Plant) (g : Parts) (n : ℕ) (begun state : State) → g ≡ graph p → begun ≡ start g → IsStopAt g n (fired begun) (fired state) → IsStopAt (graph p) n 0 (fired state)
-stop_of p g n begun state same is stop =
-    subst₂ (λ (h : Parts) (made : ℕ). IsStopAt h n made (fired state)) same (fired_at_start g begun is) stop
+pub short_of : (p : Plant) (g : Parts) (n : ℕ) → IsSound p → g ≡ graph p → (0 < all_firings g → IsShort g n 0) → IsShort (graph p) n 0
+short_of p g n sound same counts =
+    subst (λ (h : Parts). (0 < all_firings h → IsShort h n 0) → IsShort (graph p) n 0) (sym same) (λ of. of (some_firings p sound)) counts
 
 -- ---- what comes of it
 

@@ -92,9 +92,16 @@ fn settled_sheet(alloc: Global, live: &Live, edits: &[u8]) -> Result<Sheet, Repl
         (λ reply. IsRefusedLine live.now.graph edits.now (Err reply) ⊎ (reply ≡ Reply.NoMemory)) }
 {
     let mut sheet = first_sheet(alloc, live)?;
-    follow_edits(&mut sheet, live, edits)?;
-    sheet.settle(live);
-    Ok(sheet)
+    match follow_edits(&mut sheet, live, edits) {
+        Ok(()) => {
+            sheet.settle(live);
+            Ok(sheet)
+        }
+        Err(refused) => {
+            drop(sheet);
+            Err(Reply::from(refused))
+        }
+    }
 }
 
 /// The dates of a live graph, of which no edit changes one.
@@ -103,5 +110,7 @@ fn first_sheet(alloc: Global, live: &Live) -> Result<Sheet, AllocError>
     ensures least { IfOk result (λ sheet. IsLeast live.now.graph (date_in sheet.first)) }
 {
     let table = run(alloc, live)?.into_table(live);
-    Sheet::new(alloc, live, &table)
+    let sheet = Sheet::new(alloc, live, &table);
+    drop(table);
+    sheet
 }

@@ -5,6 +5,8 @@ ghost use Rattle.command_words.specs.Numbers.{most_ring_room};
 ghost use Rattle.event_graph.specs.Least.{IsLeast};
 ghost use Rattle.event_graph.specs.Table.{date_in};
 ghost use Rattle.line_base.specs.Limits.{most_checkpoint_bytes, most_workers};
+ghost use Rattle.line_runs.specs.Headline.{EndsWell};
+ghost use Rattle.line_runs.specs.Stop.{CountsWell};
 ghost use Rattle.line_runs.specs.Table.{ComesToLeast};
 ghost use Rattle.plant_model.specs.Graph.{graph};
 ghost use Rattle.pull_steps.specs.Deeds.{DoesOnStore};
@@ -64,8 +66,13 @@ fn report_over(
     ensures plant { IfOk result (λ report. report.plant ≡ line.plant) }
     ensures least { IfOk result (λ report. IsLeast (graph line.plant) (date_in report.rows)) }
 {
-    let table = table?;
-    Report::new(alloc, line.plant, line.live, table)
+    match table {
+        Ok(table) => Report::new(alloc, line.plant, line.live, table),
+        Err(error) => {
+            drop(line);
+            Err(error)
+        }
+    }
 }
 
 /// Runs a live plant to its end, by so many workers.
@@ -192,8 +199,48 @@ pub fn run_until<R: Threads + Sync, G: Gate, S: Store>(
     ensures { DoesOnStore (store_over S.tells (S.shown store.old) (S.shown store.new))
         (RunsUntil line.plant stop.after stop.save) result }
 {
-    let work = Line::prepare(alloc, &line.live, workers)?;
-    match line_runs::run_until(rt, &line.live, work, stop.after, gate) {
+    match outcome_of(rt, alloc, &line.live, workers, stop.after, gate) {
+        Ok(outcome) => end_run(alloc, line, outcome, stop, store),
+        Err(_) => {
+            drop(line);
+            Err(Reply::NoMemory)
+        }
+    }
+}
+
+/// How a run of a live graph ends that is told to stop after so many firings, by so many workers.
+fn outcome_of<R: Threads + Sync, G: Gate>(
+    rt: &R,
+    alloc: Global,
+    live: &Live,
+    workers: u32,
+    firings: u64,
+    gate: &G,
+) -> Result<Outcome, AllocError>
+    requires some { 1 ≤ workers }
+    requires few { workers ≤ most_workers }
+    ensures well { IfOk result (EndsWell live.now.graph) }
+    ensures count { IfOk result (CountsWell live.now.graph firings 0) }
+{
+    let work = Line::prepare(alloc, live, workers)?;
+    Ok(line_runs::run_until(rt, live, work, firings, gate))
+}
+
+/// What a run comes to that ended so: the report of its dates, or the save of its state.
+fn end_run<S: Store>(
+    alloc: Global,
+    line: LivePlant,
+    outcome: Outcome,
+    stop: Stop,
+    store: &mut S,
+) -> Result<Output, Reply>
+    requires plant { IsLivePlant line }
+    requires well { EndsWell line.live.graph outcome }
+    requires count { CountsWell line.live.graph stop.after 0 outcome }
+    ensures { DoesOnStore (store_over S.tells (S.shown store.old) (S.shown store.new))
+        (RunsUntil line.plant stop.after stop.save) result }
+{
+    match outcome {
         Outcome::Finished(table) => report_of(alloc, line, table),
         Outcome::Stopped(state) => Err(save(alloc, line, state, stop, store)),
     }
@@ -276,6 +323,11 @@ fn big_line(alloc: Global, seed: u64) -> Result<LivePlant, Reply>
     ensures none { IfErr result (λ reply. reply ≡ Reply.NoMemory) }
 {
     let plant = big_plant(alloc, seed)?;
-    let live = live_graph(alloc, &plant)?;
-    Ok(LivePlant { plant, live })
+    match live_graph(alloc, &plant) {
+        Ok(live) => Ok(LivePlant { plant, live }),
+        Err(reply) => {
+            drop(plant);
+            Err(reply)
+        }
+    }
 }

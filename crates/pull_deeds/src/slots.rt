@@ -1,5 +1,6 @@
 //! Runs of a live plant with the two slots of a disk.
 ghost use Rattle.std.specs.Prelude.{◌≡◌, ℕ, ◌≤◌};
+ghost use Rattle.event_graph.specs.State.{start};
 ghost use Rattle.line_base.specs.Limits.{most_workers};
 ghost use Rattle.pull_steps.specs.Deeds.{disk_over, DoesOnDisk};
 ghost use Rattle.pull_steps.specs.LivePlant.{IsLivePlant};
@@ -37,10 +38,38 @@ pub fn run_with_slots<R: Threads + Sync, G: Gate, D: Disk>(
     ensures { DoesOnDisk (disk_over D.tells (D.shown disk.old) (D.shown disk.new))
         (RunsWithSlots line.plant every) result }
 {
-    let work = Line::prepare(alloc, &line.live, workers)?;
+    match Line::prepare(alloc, &line.live, workers) {
+        Ok(work) => run_saving(rt, alloc, line, work, every, gate, disk),
+        Err(_) => {
+            drop(line);
+            Err(Reply::NoMemory)
+        }
+    }
+}
+
+/// Runs a live plant to its end by a line of workers that stands at the start.
+fn run_saving<R: Threads + Sync, G: Gate, D: Disk>(
+    rt: &R,
+    alloc: Global,
+    line: LivePlant,
+    work: Line,
+    every: u64,
+    gate: &G,
+    disk: &mut D,
+) -> Result<Output, Reply>
+    requires plant { IsLivePlant line }
+    requires made_for { line.live ≡ work.live }
+    requires begun { work.state ≡ start line.live.graph }
+    requires every { 1 ≤ every }
+    ensures { DoesOnDisk (disk_over D.tells (D.shown disk.old) (D.shown disk.new))
+        (RunsWithSlots line.plant every) result }
+{
     match line_runs::run_with_slots(rt, alloc, &line.live, work, every, gate, disk) {
         Ok(table) => report_of(alloc, line, table),
-        Err(error) => Err(slot_reply(error)),
+        Err(error) => {
+            drop(line);
+            Err(slot_reply(error))
+        }
     }
 }
 
@@ -74,7 +103,11 @@ pub fn resume_slots<R: Threads + Sync, G: Gate, D: Disk>(
 {
     match line_runs::resume_slots(rt, alloc, &line.live, disk, workers, gate) {
         Ok(table) => report_of(alloc, line, table),
-        Err(error) => Err(resume_reply(alloc, line.live.graph(), error)),
+        Err(error) => {
+            let reply = resume_reply(alloc, line.live.graph(), error);
+            drop(line);
+            Err(reply)
+        }
     }
 }
 

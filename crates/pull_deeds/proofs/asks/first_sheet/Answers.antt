@@ -4,10 +4,10 @@ use Rattle.pull_deeds.proofs.Asking.{comes_to_least, first_begun, first_least}
 use Rattle.pull_deeds.proofs.asks.first_sheet.Goals as goal
 
 pub returns-clause-begun : goal.returns-clause-begun
-returns-clause-begun c = first_begun c.args.live.now c.into_table-table.result.rows c.new.result c.new.ensures.begun
+returns-clause-begun c = first_begun c.args.live.now c.into_table-table.result.rows c.new-sheet.result c.new-sheet.ensures.begun
 
 pub returns-clause-least : goal.returns-clause-least
 returns-clause-least c =
     let same = ap (λ (d : Dates). d.graph) c.into_table-table.ensures.dates ∙ c.in_ok-run.ensures.made_for in
     let table = comes_to_least c.args.live.now.graph c.into_table-table.result same c.into_table-table.ensures.least in
-    first_least c.args.live.now c.into_table-table.result.rows c.new.result c.new.ensures.begun table.least
+    first_least c.args.live.now c.into_table-table.result.rows c.new-sheet.result c.new-sheet.ensures.begun table.least

@@ -11,8 +11,8 @@ report_of-requires-clause-table g c =
     let of = c.in-Ok.ensures.resumes in
     slots_least c.args.line.live.graph of.saved c.in-Ok.table of.answers
 
-pub resume_reply-requires : goal.resume_reply-requires
-resume_reply-requires g c =
+pub resume_reply-reply-requires : goal.resume_reply-reply-requires
+resume_reply-reply-requires g c =
     let of = c.in-Err.ensures.resumes in
     subst (λ (h : Parts). NamesStationOf h c.in-Err.error) (sym c.graph.ensures.graph) (slots_name c.args.line.live.graph of.saved c.in-Err.error of.answers)
 
@@ -28,7 +28,7 @@ returns-in-Err g c =
     let old = g.D.Disk.shown c.args.disk.now in
     let new = g.D.Disk.shown c.resume_slots.new.disk in
     let loaded : Loaded g.D.Disk.tells old new = record { stays = c.resume_slots.ensures.stays; faults = c.resume_slots.ensures.faults_stay_or_rise } in
-    let reply = c.resume_reply.result in
+    let reply = c.resume_reply-reply.result in
     slots_reply g.D.Disk.tells old new c.args.line.plant loaded c.args.line.live.graph c.requires.plant.graph c.in-Err.error reply c.in-Err.ensures.resumes
     (λ is. c.in-Err.ensures.disk_fault (ap (λ (error : ResumeError). Err error) is))
-    (subst (λ (h : Parts). IsResumeReply h c.in-Err.error reply) c.graph.ensures.graph c.resume_reply.ensures)
+    (subst (λ (h : Parts). IsResumeReply h c.in-Err.error reply) c.graph.ensures.graph c.resume_reply-reply.ensures)

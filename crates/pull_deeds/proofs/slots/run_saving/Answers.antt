@@ -1,0 +1,34 @@
+use Rattle.std.proofs.Common.{ap, subst}
+use Rattle.std.specs.Prelude.{Err}
+use Rattle.line_base.specs.declared.event.Parts.{Parts}
+use Rattle.line_base.specs.Limits.{most_checkpoint_bytes}
+use Rattle.line_runs.specs.Saves.{HasTooLongState}
+use Rattle.pull_deeds.proofs.Checkpoints.{never_too_long}
+use Rattle.pull_deeds.proofs.SlotRuns.{kept_of, run_fails, run_saves, late_of}
+use Rattle.slot_store.specs.declared.error.SlotError.{SlotError}
+use Rattle.pull_deeds.proofs.slots.run_saving.Goals as goal
+
+pub slot_reply-requires-clause-fits : goal.slot_reply-requires-clause-fits
+slot_reply-requires-clause-fits g c =
+    let line = c.args.line in
+    λ have is.
+    never_too_long line c.requires.plant have
+    (subst (λ (h : Parts). HasTooLongState h most_checkpoint_bytes have) c.requires.plant.graph
+    (c.in-Err.ensures.too_long have (ap (λ (error : SlotError). Err error) is)))
+
+pub returns-in-Ok : goal.returns-in-Ok
+returns-in-Ok g c =
+    let line = c.args.line in
+    let same = c.requires.plant.graph in
+    let new = g.D.Disk.shown c.run_with_slots.new.disk in
+    let kept = kept_of line.plant line.live.graph same c.run_with_slots.ensures.any_moment c.run_with_slots.ensures.faults_stay_or_rise in
+    run_saves g.D.Disk.tells (g.D.Disk.shown c.args.disk.now) new line.plant c.args.every kept c.report_of.result
+    (late_of g.D.Disk.tells new line.plant line.live.graph c.args.every c.args.work.state same c.requires.begun c.in-Ok.ensures.late)
+    c.report_of.ensures
+
+pub returns-in-Err : goal.returns-in-Err
+returns-in-Err g c =
+    let line = c.args.line in
+    let kept = kept_of line.plant line.live.graph c.requires.plant.graph c.run_with_slots.ensures.any_moment c.run_with_slots.ensures.faults_stay_or_rise in
+    run_fails g.D.Disk.tells (g.D.Disk.shown c.args.disk.now) (g.D.Disk.shown c.run_with_slots.new.disk) line.plant c.args.every kept c.in-Err.error c.slot_reply.result
+    (λ is. c.in-Err.ensures.disk_fault (ap (λ (error : SlotError). Err error) is)) c.slot_reply.ensures
