@@ -31,7 +31,10 @@ pub fn line_of_text(
     let state = read_state(alloc, live, bytes)?;
     match Line::from_state(alloc, live, state, workers) {
         Ok(line) => Ok(line),
-        Err(_) => Err(CheckpointError::NoMemory),
+        Err(state) => {
+            drop(state);
+            Err(CheckpointError::NoMemory)
+        }
     }
 }
 

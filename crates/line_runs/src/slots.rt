@@ -28,7 +28,9 @@ fn text_of(alloc: Global, live: &Live, line: &Line) -> Result<Vec<u8>, AllocErro
     ensures { IfOk result (λ text. text.items ≡ text_of (run_in line.now)) }
 {
     let state = line.state(alloc, live)?;
-    write_state(alloc, live, &state)
+    let text = write_state(alloc, live, &state);
+    drop(state);
+    text
 }
 
 /// Saves a text as the content of a disk's two slots.
@@ -153,7 +155,13 @@ pub fn run_with_slots<R: Threads + Sync, G: Gate, D: Disk>(
     let mut saved = line.fired();
     while !line.finished() {
         burst_on(rt, live, &mut line, gate);
-        saved = save_if_due(alloc, live, &line, every, saved, disk)?;
+        match save_if_due(alloc, live, &line, every, saved, disk) {
+            Ok(last) => saved = last,
+            Err(error) => {
+                drop(line);
+                return Err(error);
+            }
+        }
     }
     Ok(table_of(live, line))
 }

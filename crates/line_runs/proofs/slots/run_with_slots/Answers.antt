@@ -20,8 +20,8 @@ save_if_due-requires-clause-before g c =
     let on = c.loop-alloc.invariant.on in
     omega (arith, on.counted, counted_before c.args.every c.args.line on.saved c.loop-alloc.line on.before, c.burst_on.ensures.some)
 
-pub returns-in_err-saved-clause-any_moment : goal.returns-in_err-saved-clause-any_moment
-returns-in_err-saved-clause-any_moment g c = λ told.
+pub returns-in-Err-clause-any_moment : goal.returns-in-Err-clause-any_moment
+returns-in-Err-clause-any_moment g c = λ told.
     let old = g.D.Disk.shown c.args.disk.now in
     let now = g.D.Disk.shown c.loop-alloc.disk in
     let new = g.D.Disk.shown c.save_if_due.new.disk in
@@ -40,7 +40,7 @@ loop-alloc-preserved g c =
     let new = g.D.Disk.shown c.save_if_due.new.disk in
     record {
       made_for = c.loop-alloc.invariant.made_for ∙ sym (burst_live c.loop-alloc.line c.burst_on.new.line c.burst_on.ensures);
-      on = saves_go_on g.D.Disk.tells MAX_ROOM c.args.every c.args.line c.loop-alloc.line c.burst_on.new.line c.loop-alloc.saved c.in_ok-saved.saved old now new c.loop-alloc.invariant.on c.burst_on.ensures c.in_ok-saved.ensures.saved c.save_if_due.ensures.any_moment c.save_if_due.ensures.faults_stay_or_rise;
+      on = saves_go_on g.D.Disk.tells MAX_ROOM c.args.every c.args.line c.loop-alloc.line c.burst_on.new.line c.loop-alloc.saved c.in-Ok.last old now new c.loop-alloc.invariant.on c.burst_on.ensures c.in-Ok.ensures.saved c.save_if_due.ensures.any_moment c.save_if_due.ensures.faults_stay_or_rise;
     }
 
 pub returns-clause-late : goal.returns-clause-late
