@@ -31,10 +31,7 @@ pub fn line_of_text(
     let state = read_state(alloc, live, bytes)?;
     match Line::from_state(alloc, live, state, workers) {
         Ok(line) => Ok(line),
-        Err(state) => {
-            drop(state);
-            Err(CheckpointError::NoMemory)
-        }
+        Err(_) => Err(CheckpointError::NoMemory),
     }
 }
 

@@ -43,6 +43,16 @@ loop-alloc-preserved g c =
       on = saves_go_on g.D.Disk.tells MAX_ROOM c.args.every c.args.line c.loop-alloc.line c.burst_on.new.line c.loop-alloc.saved c.in-Ok.last old now new c.loop-alloc.invariant.on c.burst_on.ensures c.in-Ok.ensures.saved c.save_if_due.ensures.any_moment c.save_if_due.ensures.faults_stay_or_rise;
     }
 
+pub returns-clause-saves : goal.returns-clause-saves
+returns-clause-saves g c =
+    let on = c.loop-alloc.invariant.on in
+    let done : IsDone c.loop-alloc.line = search rules in
+    record {
+      saved = on.saved;
+      finishes = record { last = c.loop-alloc.line; saves = on.before; done = done; dates = c.table_of.ensures.dates };
+      holds = on.holds;
+    }
+
 pub returns-clause-late : goal.returns-clause-late
 returns-clause-late g c = λ told many.
     let on = c.loop-alloc.invariant.on in
