@@ -35,6 +35,17 @@ returns-then-fired-firings-clause-headline g c =
     subst (λ (r : Run). fired r.state < all_firings r.graph) (sym c.close.ensures.state) (undone_is_below line c.finished.ensures.line undone) in
     (graph_is, subst (λ (g : Parts). MayBeResumed g c.close.result.state) graph_is (may_be_resumed c.close.result c.close.ensures.reached left))
 
+pub returns-then-fired-firings-clause-stop : goal.returns-then-fired-firings-clause-stop
+returns-then-fired-firings-clause-stop g c =
+    let undone : ¬ IsDone c.loop-line.line = search rules in
+    record {
+      last = c.loop-line.line;
+      bursts = c.loop-line.invariant.bursts;
+      enough = omega (arith, c.fired.ensures.fired, c.if-fired-firings.true);
+      undone = undone;
+      state = c.close.ensures.state;
+    }
+
 pub returns-then-fired-firings-clause-count : goal.returns-then-fired-firings-clause-count
 returns-then-fired-firings-clause-count g c =
     let line = c.loop-line.line in
@@ -42,6 +53,11 @@ returns-then-fired-firings-clause-count g c =
     let counts = stop_counts c.args.firings c.args.line line c.loop-line.invariant.bursts c.finished.ensures.line (omega (arith, c.fired.ensures.fired, c.if-fired-firings.true)) undone in
     subst (λ (r : Run). IsStopAt c.args.live.now.graph c.args.firings (fired c.args.line.state) (fired r.state)) (sym c.close.ensures.state) (
     subst (λ (v : LiveGraph). IsStopAt v.graph c.args.firings (fired c.args.line.state) (fired line.state)) (sym c.requires) counts)
+
+pub returns-clause-stop : goal.returns-clause-stop
+returns-clause-stop g c =
+    let done : IsDone c.loop-line.line = search rules in
+    record { last = c.loop-line.line; bursts = c.loop-line.invariant.bursts; done = done; dates = c.table_of.ensures.dates }
 
 pub returns-clause-count : goal.returns-clause-count
 returns-clause-count g c = λ left.
