@@ -1,7 +1,9 @@
 -- Where files are told, the live plant of the steps is that of the files.
-use Rattle.std.proofs.Common.{◌≡◌, ◌⊎◌, ℕ, Bool, List, [], ◌∷◌, ◌++◌, refl, ap, sym, ◌∙◌, subst, ⊎_elim}
-use Rattle.std.specs.Prelude.{Option, Some, None, Result, Ok, Err, IsTrue, All, unwrap_or, ⊤}
+use Rattle.std.proofs.Common.{◌≡◌, ◌⊎◌, ℕ, Bool, List, [], ◌∷◌, ◌++◌, refl, ap, sym, ◌∙◌, subst, ⊎_elim, inl}
+use Rattle.std.specs.Prelude.{Option, Some, None, Result, Ok, Err, IfOk, IfErr, OnOk, IsTrue, All, unwrap_or, ⊤}
 use Rattle.std.proofs.lemmas.List.Elements.{All-nil, All-cons, All-head, All-tail}
+use Rattle.event_graph.specs.Live.{IsLive}
+use Rattle.line_base.specs.declared.event.Parts.{Parts}
 use Rattle.line_io.specs.Calls.{Read}
 use Rattle.line_io.specs.Contents.{Contents}
 use Rattle.line_io.specs.StoreView.{StoreView}
@@ -9,6 +11,7 @@ use Rattle.line_io.specs.declared.store.StoreError.{StoreError}
 use Rattle.line_io.specs.declared.store.StoreError.TheVariants as store_error
 use Rattle.plant_model.specs.declared.error.PlantError.{PlantError}
 use Rattle.plant_model.specs.declared.plant.Plant.{Plant}
+use Rattle.plant_model.specs.Graph.{graph}
 use Rattle.plant_draft.specs.declared.draft.DraftPlant.{DraftPlant}
 use Rattle.plant_draft.specs.Draft.{demands_file}
 use Rattle.plant_file.specs.Finish.{completed}
@@ -16,10 +19,13 @@ use Rattle.plant_file.specs.PlantOfFiles.{bytes_of, plant_of_reading, plant_of}
 use Rattle.plant_draft.specs.Reading.{reading}
 use Rattle.pull_words.specs.declared.reply.Reply.{Reply}
 use Rattle.pull_words.specs.declared.reply.Reply.TheVariants.{Refused, Dead, StoreFault, NoMemory, TooLong}
-use Rattle.pull_steps.specs.Outside.{StoreOver, store_over, Fits, IsOfFile}
+use Rattle.pull_steps.specs.LivePlant.{plant_in}
+use Rattle.pull_steps.specs.Outside.{StoreOver, store_over, Fits, IsOfFile, IsCaused}
 use Rattle.pull_steps.specs.Steps.{Step, Settles, Gives, ComesOfRead, LooksAt, LooksAtNamed, GoesOn, Then, Makes}
-use Rattle.pull_steps.proofs.FileReads.{stopped}
-use Rattle.pull_steps.specs.PlantSteps.{or_refused, OfDraft, OfBytes, OfPlantFile, OfLivePlant, OfPlantNamed, IsLiveOrDead, IsOfPlant}
+use Rattle.pull_steps.proofs.FileReads.{stopped, dead_caused, dead_answer}
+use Rattle.pull_steps.proofs.StepLemmas.{then_settles}
+use Rattle.pull_steps.specs.PlantSteps.{or_refused, OfDraft, OfBytes, OfPlantFile, OfLivePlant, OfPlantNamed, IsDeadReply, IsLiveOrDead, IsOfPlant}
+use Rattle.pull_steps.specs.declared.live_plant.LivePlant.{LivePlant}
 
 -- each of a list, and so each of its two parts
 all_front : {X : Type 0} (P : X → Type 0) (xs ys : List X) → All P (xs ++ ys) → All P xs
@@ -209,3 +215,17 @@ makes_named tells old new name answer m = record {
   read_faults_stay_or_rise = m.read_faults_stay_or_rise;
   write_faults_stay_or_rise = m.write_faults_stay_or_rise;
 }
+
+-- a plant that was read, which is live or has a circuit without a token
+live_comes : (p : Plant) (r : Result LivePlant Reply) → IfOk r (λ line. line.plant ≡ p) → OnOk r (IsLive (graph p)) → IfErr r (λ reply. IsDeadReply (graph p) reply ⊎ (reply ≡ NoMemory)) → IsLiveOrDead p (plant_in r) ⊎ (plant_in r ≡ Err NoMemory)
+live_comes p (Ok line) same live dead = inl (same, live)
+live_comes p (Err reply) same live dead = dead_answer p reply dead
+
+live_caused : (store : StoreOver) (g : Parts) (r : Result LivePlant Reply) → IfErr r (λ reply. IsDeadReply g reply ⊎ (reply ≡ NoMemory)) → IfErr (plant_in r) (IsCaused store)
+live_caused store g (Ok line) dead = tt
+live_caused store g (Err reply) dead = dead_caused store g reply dead
+
+pub makes_live : (tells : Bool) (old new : StoreView) (name : List ℕ) (p : Plant) (r : Result LivePlant Reply) → Makes (store_over tells old new) (OfPlantFile name) (Ok p) → IfOk r (λ line. line.plant ≡ p) → OnOk r (IsLive (graph p)) → IfErr r (λ reply. IsDeadReply (graph p) reply ⊎ (reply ≡ NoMemory)) → Makes (store_over tells old new) (OfPlantNamed tells old.files name) (plant_in r)
+makes_live tells old new name p r reads same live dead =
+    makes_named tells old new name (plant_in r)
+    (then_settles tells old new (OfPlantFile name) IsLiveOrDead p (plant_in r) reads (live_comes p r same live dead) (live_caused (store_over tells new new) (graph p) r dead))

@@ -7,4 +7,4 @@ mod files;
 mod live_plant;
 
 pub use files::{read_file, read_plant_files};
-pub use live_plant::{LivePlant, live_graph, read_live_plant};
+pub use live_plant::{LivePlant, live_graph, live_plant_of, read_live_plant};

@@ -38,8 +38,24 @@ pub fn read_live_plant<S: Store>(
     ensures line { IfOk result IsLivePlant }
 {
     let plant = read_plant_files(alloc, store, name)?;
-    let live = live_graph(alloc, &plant)?;
-    Ok(LivePlant { plant, live })
+    live_plant_of(alloc, plant)
+}
+
+/// The live plant of a plant, or the circuit without a token that its graph has.
+pub fn live_plant_of(alloc: Global, plant: Plant) -> Result<LivePlant, Reply>
+    requires { IsSound plant }
+    ensures plant { IfOk result (λ line. line.plant ≡ plant) }
+    ensures line { IfOk result IsLivePlant }
+    ensures live { OnOk result (IsLive (graph plant)) }
+    ensures dead { IfErr result (λ reply. IsDeadReply (graph plant) reply ⊎ (reply ≡ Reply.NoMemory)) }
+{
+    match live_graph(alloc, &plant) {
+        Ok(live) => Ok(LivePlant { plant, live }),
+        Err(reply) => {
+            drop(plant);
+            Err(reply)
+        }
+    }
 }
 
 /// The live graph of a plant, or the circuit without a token that its graph has.
