@@ -79,9 +79,16 @@ pub fn what_if(alloc: Global, line: LivePlant, edits: &[u8]) -> Result<Output, R
 {
     let LivePlant { plant, live } = line;
     drop(plant);
-    let sheet = settled_sheet(alloc, &live, edits)?;
-    let changes = Changes::new(alloc, live, sheet)?;
-    Ok(Output::Changed { changes })
+    match settled_sheet(alloc, &live, edits) {
+        Ok(sheet) => {
+            let changes = Changes::new(alloc, live, sheet)?;
+            Ok(Output::Changed { changes })
+        }
+        Err(reply) => {
+            drop(live);
+            Err(reply)
+        }
+    }
 }
 
 /// The dates of a live graph that edits change, settled.

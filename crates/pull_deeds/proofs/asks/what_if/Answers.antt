@@ -1,12 +1,10 @@
-use Rattle.std.proofs.lemmas.Result.{err_from_is_err_and}
 use Rattle.pull_deeds.proofs.Asking.{edits_followed, edits_refused}
 use Rattle.pull_deeds.proofs.asks.what_if.Goals as goal
 
-pub returns-in_err-sheet : goal.returns-in_err-sheet
-returns-in_err-sheet c =
-    let p = err_from_is_err_and c.from_residual.result c.from_residual.ensures.1 in
-    rw (p.1, p.2) (edits_refused c.args.line.plant c.args.line.live.graph c.args.edits.now c.requires.graph c.in_err-sheet.field-0.0 c.in_err-sheet.ensures.refused)
+pub returns-in-Err : goal.returns-in-Err
+returns-in-Err c =
+    edits_refused c.args.line.plant c.args.line.live.graph c.args.edits.now c.requires.graph c.in-Err.reply c.in-Err.ensures.refused
 
-pub returns : goal.returns
-returns c =
-    edits_followed c.args.line.plant c.args.line.live.graph c.args.edits.now c.requires.graph c.in_ok-sheet.sheet c.in_ok-changes.changes c.in_ok-sheet.ensures.settled c.in_ok-changes.ensures
+pub returns-in_ok-changes-in-Ok : goal.returns-in_ok-changes-in-Ok
+returns-in_ok-changes-in-Ok c =
+    edits_followed c.args.line.plant c.args.line.live.graph c.args.edits.now c.requires.graph c.in-Ok.sheet c.in_ok-changes-in-Ok.changes c.in-Ok.ensures.settled c.in_ok-changes-in-Ok.ensures
