@@ -65,10 +65,11 @@ waiting_line g x = line (codes "waiting" ∷ decimal (waiting g x) ∷ [])
 unfoldable pub last_line : Parts → Table → List ℕ
 last_line g x = line (codes "last" ∷ decimal (last_date g x) ∷ [])
 
+-- how a report and a summary end: the peaks of all stages, and two totals
+abbrev pub end_lines : Plant → Table → List ℕ
+end_lines p x =
+    flat_map (peak_line p x) (stage_numbers p) ++ (waiting_line (graph p) x ++ last_line (graph p) x)
+
 -- the report: all dates, what is observed at each date that is looked at, the peaks of all stages, and two totals
 unfoldable pub report : Plant → Table → List ℕ
-report p x =
-    date_lines (graph p) x
-    ++ (flat_map (observed_lines p x) p.observe
-    ++ (flat_map (peak_line p x) (stage_numbers p)
-    ++ (waiting_line (graph p) x ++ last_line (graph p) x)))
+report p x = date_lines (graph p) x ++ (flat_map (observed_lines p x) p.observe ++ end_lines p x)

@@ -1,14 +1,12 @@
 -- The text of a summary of a plant's run: its sizes and the sum of its dates in place of the dates, and then as a report ends.
 use Rattle.std.specs.Prelude.{ℕ, ◌*◌, List, [], ◌∷◌, ◌++◌, codes, decimal}
-use Rattle.std.specs.List.{flat_map}
 use Rattle.line_base.specs.declared.event.Parts.{Parts}
 use Rattle.plant_model.specs.declared.plant.Plant.{Plant}
-use Rattle.plant_model.specs.Line.{stage_numbers}
 use Rattle.plant_model.specs.Graph.{graph}
 use Rattle.event_graph.specs.Network.{stations, jobs}
 use Rattle.event_graph.specs.Table.{Table}
 use Rattle.line_stats.specs.DateSums.{date_total}
-use Rattle.line_report.specs.ReportText.{line, peak_line, waiting_line, last_line}
+use Rattle.line_report.specs.ReportText.{line, end_lines}
 
 -- a word, and the number that it tells
 abbrev pub number_line : List ℕ → ℕ → List ℕ
@@ -26,8 +24,4 @@ sum_line g x = number_line (codes "sum") (date_total g x)
 
 -- the summary: the sizes, the sum of all dates, the peaks of all stages, and two totals
 unfoldable pub summary : Plant → Table → List ℕ
-summary p x =
-    size_lines (graph p)
-    ++ (sum_line (graph p) x
-    ++ (flat_map (peak_line p x) (stage_numbers p)
-    ++ (waiting_line (graph p) x ++ last_line (graph p) x)))
+summary p x = size_lines (graph p) ++ (sum_line (graph p) x ++ end_lines p x)

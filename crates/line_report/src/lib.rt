@@ -5,6 +5,7 @@ mod dates;
 mod laws;
 mod observed;
 mod report;
+mod run;
 mod summary;
 mod totals;
 

@@ -9,8 +9,9 @@ ghost use Rattle.line_report.specs.Reported.{IsReported, AreOfPlant, report_of, 
 
 use crate::dates::write_dates;
 use crate::observed::write_observed;
+use crate::run::FinishedRun;
 use crate::summary::{write_sizes, write_sum};
-use crate::totals::{write_peaks, write_totals};
+use crate::totals::write_end;
 use line_core::Table;
 use line_io::{Failed, Outgoing, Sink};
 use live_check::Live;
@@ -28,15 +29,6 @@ impl From<Failed> for SinkFault {
     fn from(_: Failed) -> Self {
         SinkFault
     }
-}
-
-/// A finished run of a plant: what writing its report looks at.
-#[derive(Drop)]
-struct FinishedRun {
-    plant: Plant,
-    numbers: LineNumbers,
-    live: Live,
-    table: Table,
 }
 
 /// The report of a finished run of a plant, and the memory for writing it. Contracts see the plant and the dates.
@@ -68,9 +60,8 @@ fn write_text<K: Sink>(out: &mut Outgoing, sink: &mut K, run: &FinishedRun)
         (stream (K.shown sink.new) out.new) (report run.now.plant (date_in run.now.table.rows)) }
 {
     write_dates(out, sink, run.live.graph(), &run.table);
-    write_observed(out, sink, &run.plant, &run.numbers, &run.table);
-    write_peaks(out, sink, &run.plant, &run.numbers, &run.table);
-    write_totals(out, sink, &run.table);
+    write_observed(out, sink, run);
+    write_end(out, sink, run);
 }
 
 /// Writes the whole text of a summary.
@@ -82,8 +73,7 @@ fn write_short_text<K: Sink>(out: &mut Outgoing, sink: &mut K, run: &FinishedRun
 {
     write_sizes(out, sink, run.live.graph());
     write_sum(out, sink, &run.table);
-    write_peaks(out, sink, &run.plant, &run.numbers, &run.table);
-    write_totals(out, sink, &run.table);
+    write_end(out, sink, run);
 }
 
 /// Sends what is left of a text, and says whether all of it went out.

@@ -4,14 +4,15 @@ ghost use Rattle.std.specs.List.{flat_map};
 ghost use Rattle.line_io.specs.Outgoing.{Pushed, stream};
 ghost use Rattle.plant_model.specs.Line.{stage_numbers};
 ghost use Rattle.plant_model.specs.Graph.{graph};
-ghost use Rattle.plant_model.specs.Sound.{IsSound};
 ghost use Rattle.event_graph.specs.Table.{date_in};
-ghost use Rattle.line_report.specs.ReportText.{bound_word, peak_line, waiting_line, last_line};
+ghost use Rattle.line_report.specs.ReportText.{bound_word, peak_line, waiting_line, last_line, end_lines};
+ghost use Rattle.line_report.specs.Reported.{AreOfPlant};
 
+use crate::run::FinishedRun;
 use line_core::Table;
 use line_io::{Outgoing, Sink};
 use line_stats::{last, peak, waiting_total};
-use plant_model::{LineNumbers, Plant, bound_of};
+use plant_model::bound_of;
 
 /// Writes the bound of a stage, or that it has none.
 fn write_bound<K: Sink>(out: &mut Outgoing, sink: &mut K, bound: Option<u32>)
@@ -25,53 +26,41 @@ fn write_bound<K: Sink>(out: &mut Outgoing, sink: &mut K, bound: Option<u32>)
 }
 
 /// Writes the most parts that are ever in a stage, and its bound.
-fn write_peak<K: Sink>(
-    out: &mut Outgoing,
-    sink: &mut K,
-    plant: &Plant,
-    numbers: &LineNumbers,
-    table: &Table,
-    stage: u32,
-)
-    requires sound { IsSound plant.now }
-    requires numbers { numbers.now ≡ plant.now }
-    requires of_plant { table.now.graph ≡ graph plant.now }
-    requires exists { stage < length plant.now.stages }
+fn write_peak<K: Sink>(out: &mut Outgoing, sink: &mut K, run: &FinishedRun, stage: u32)
+    requires numbers { run.now.numbers ≡ run.now.plant }
+    requires of_plant { AreOfPlant run.now.plant run.now.live run.now.table }
+    requires exists { stage < length run.now.plant.stages }
     ensures { Pushed (stream (K.shown sink.old) out.old)
-        (stream (K.shown sink.new) out.new) (peak_line plant.now (date_in table.now.rows) stage) }
+        (stream (K.shown sink.new) out.new) (peak_line run.now.plant (date_in run.now.table.rows) stage) }
 {
-    let part = &plant.stages.as_slice()[stage as usize];
+    let part = &run.plant.stages.as_slice()[stage as usize];
     out.push(sink, b"peak ");
     out.push(sink, part.name.text());
     out.push(sink, b" ");
-    out.push_number(sink, peak(plant, numbers, table, stage) as u64);
+    out.push_number(
+        sink,
+        peak(&run.plant, &run.numbers, &run.table, stage) as u64,
+    );
     out.push(sink, b" of ");
-    write_bound(out, sink, bound_of(plant, stage));
+    write_bound(out, sink, bound_of(&run.plant, stage));
     out.push(sink, b"\n");
 }
 
 /// Writes the peaks of all stages, in order.
-pub fn write_peaks<K: Sink>(
-    out: &mut Outgoing,
-    sink: &mut K,
-    plant: &Plant,
-    numbers: &LineNumbers,
-    table: &Table,
-)
-    requires sound { IsSound plant.now }
-    requires numbers { numbers.now ≡ plant.now }
-    requires of_plant { table.now.graph ≡ graph plant.now }
+fn write_peaks<K: Sink>(out: &mut Outgoing, sink: &mut K, run: &FinishedRun)
+    requires numbers { run.now.numbers ≡ run.now.plant }
+    requires of_plant { AreOfPlant run.now.plant run.now.live run.now.table }
     ensures { Pushed (stream (K.shown sink.old) out.old)
         (stream (K.shown sink.new) out.new)
-        (flat_map (peak_line plant.now (date_in table.now.rows)) (stage_numbers plant.now)) }
+        (flat_map (peak_line run.now.plant (date_in run.now.table.rows)) (stage_numbers run.now.plant)) }
 {
-    for stage in 0..plant.stages.len() as u32 {
-        write_peak(out, sink, plant, numbers, table, stage);
+    for stage in 0..run.plant.stages.len() as u32 {
+        write_peak(out, sink, run, stage);
     }
 }
 
 /// Writes how long all jobs together wait, and the last date.
-pub fn write_totals<K: Sink>(out: &mut Outgoing, sink: &mut K, table: &Table)
+fn write_totals<K: Sink>(out: &mut Outgoing, sink: &mut K, table: &Table)
     ensures { Pushed (stream (K.shown sink.old) out.old)
         (stream (K.shown sink.new) out.new)
         (waiting_line table.now.graph (date_in table.now.rows) ++ last_line table.now.graph (date_in table.now.rows)) }
@@ -82,4 +71,15 @@ pub fn write_totals<K: Sink>(out: &mut Outgoing, sink: &mut K, table: &Table)
     out.push(sink, b"last ");
     out.push_number(sink, last(table));
     out.push(sink, b"\n");
+}
+
+/// Writes how both texts end: the peaks of all stages, how long all jobs together wait, and the last date.
+pub fn write_end<K: Sink>(out: &mut Outgoing, sink: &mut K, run: &FinishedRun)
+    requires numbers { run.now.numbers ≡ run.now.plant }
+    requires of_plant { AreOfPlant run.now.plant run.now.live run.now.table }
+    ensures { Pushed (stream (K.shown sink.old) out.old)
+        (stream (K.shown sink.new) out.new) (end_lines run.now.plant (date_in run.now.table.rows)) }
+{
+    write_peaks(out, sink, run);
+    write_totals(out, sink, &run.table);
 }

@@ -1,3 +1,6 @@
+use Rattle.std.proofs.Common.{sym, ap, ◌∙◌, subst}
+use Rattle.plant_model.specs.Graph.{graph}
+use Rattle.plant_model.specs.Sound.{IsSound}
 use Rattle.line_io.proofs.OutgoingLemmas.{pushed_after}
 use Rattle.line_report.specs.ReportText.{backlog_line}
 use Rattle.line_report.proofs.observed.write_backlog.Goals as goal
@@ -8,4 +11,10 @@ returns g c =
     pushed_after c.push.ensures
     (pushed_after c.push_number.ensures
     (pushed_after c.push-2.ensures
-    (pushed_after (rw c.backlog.ensures.count at c.push_number-2.ensures) c.push-3.ensures)))
+    (pushed_after (rw (c.backlog.ensures.count, c.requires.numbers) at c.push_number-2.ensures) c.push-3.ensures)))
+
+pub backlog-requires-clause-sound : goal.backlog-requires-clause-sound
+backlog-requires-clause-sound g c = subst IsSound (sym c.requires.numbers) c.requires.of_plant.sound
+
+pub backlog-requires-clause-of_plant : goal.backlog-requires-clause-of_plant
+backlog-requires-clause-of_plant g c = c.requires.of_plant.table_graph ∙ ap graph (sym c.requires.numbers)

@@ -1,5 +1,4 @@
-use Rattle.std.proofs.Common.{◌≡◌, length, sym, subst, arith}
-use Rattle.plant_model.specs.Sound.{IsSound}
+use Rattle.std.proofs.Common.{◌≡◌, length, arith}
 use Rattle.event_graph.specs.Table.{date_in}
 use Rattle.line_io.proofs.OutgoingLemmas.{pushed_none, pushed_after}
 use Rattle.plant_model.proofs.LayoutFacts.{few_stages}
@@ -8,20 +7,17 @@ use Rattle.line_report.proofs.Lines.{pushed_line}
 use Rattle.line_report.proofs.observed.write_date_observed.Goals as goal
 
 pub overflow_cast-stage-end : goal.overflow_cast-stage-end
-overflow_cast-stage-end g c = omega (arith, few_stages _ c.requires.sound)
+overflow_cast-stage-end g c = omega (arith, few_stages _ c.requires.of_plant.sound)
 
 pub loop-stage-init : goal.loop-stage-init
 loop-stage-init g c = pushed_none _
 
 pub loop-stage-preserved : goal.loop-stage-preserved
 loop-stage-preserved g c =
-    pushed_line (stage_line c.args.plant.now (date_in c.args.table.now.rows) c.args.at) 0 c.loop-stage.stage c.loop-stage.stage (omega arith) c.loop-stage.invariant c.write_stage.ensures
+    pushed_line (stage_line c.args.run.now.plant (date_in c.args.run.now.table.rows) c.args.at) 0 c.loop-stage.stage c.loop-stage.stage (omega arith) c.loop-stage.invariant c.write_stage.ensures
 
 pub returns : goal.returns
 unfolding observed_lines
 returns g c =
-    let all : c.loop-stage.stage ≡ length c.args.plant.now.stages = omega arith in
-    pushed_after (rw all at c.loop-stage.invariant) (rw c.requires.numbers at c.write_backlog.ensures)
-
-pub write_backlog-requires-clause-sound : goal.write_backlog-requires-clause-sound
-write_backlog-requires-clause-sound g c = subst IsSound (sym c.requires.numbers) c.requires.sound
+    let all : c.loop-stage.stage ≡ length c.args.run.now.plant.stages = omega arith in
+    pushed_after (rw all at c.loop-stage.invariant) c.write_backlog.ensures

@@ -9,4 +9,4 @@ abbrev pub invariant-loop-stage : goal.invariant-loop-stage
 invariant-loop-stage g l =
     Pushed (stream (g.K.Sink.shown l.initial.sink) l.initial.out)
     (stream (g.K.Sink.shown l.sink) l.out)
-    (flat_map (stage_line l.plant (date_in l.table.rows) l.at) (range_with_len 0 l.stage))
+    (flat_map (stage_line l.run.plant (date_in l.run.table.rows) l.at) (range_with_len 0 l.stage))

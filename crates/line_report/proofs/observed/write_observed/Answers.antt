@@ -11,4 +11,4 @@ pub loop-at-preserved : goal.loop-at-preserved
 loop-at-preserved g c =
     let below = rw c.as_slice-at-items.ensures at c.loop-at-test.true in
     let lines = rw c.as_slice-at-items.ensures at c.write_date_observed.ensures in
-    pushed_element (observed_lines c.args.plant.now (date_in c.args.table.now.rows)) c.args.plant.now.observe c.loop-at.at-index below c.loop-at.invariant lines
+    pushed_element (observed_lines c.args.run.now.plant (date_in c.args.run.now.table.rows)) c.args.run.now.plant.observe c.loop-at.at-index below c.loop-at.invariant lines

@@ -10,4 +10,4 @@ abbrev pub invariant-loop-at : goal.invariant-loop-at
 invariant-loop-at g l =
     Pushed (stream (g.K.Sink.shown l.initial.sink) l.initial.out)
     (stream (g.K.Sink.shown l.sink) l.out)
-    (flat_map (observed_lines l.plant (date_in l.table.rows)) (take l.at-index l.plant.observe))
+    (flat_map (observed_lines l.run.plant (date_in l.run.table.rows)) (take l.at-index l.run.plant.observe))

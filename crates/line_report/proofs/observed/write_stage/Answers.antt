@@ -1,4 +1,5 @@
-use Rattle.std.proofs.Common.{◌≡◌, sym, subst}
+use Rattle.std.proofs.Common.{◌≡◌, sym, ap, ◌∙◌, subst}
+use Rattle.plant_model.specs.Graph.{graph}
 use Rattle.plant_model.specs.Line.{stage_at}
 use Rattle.plant_model.specs.Sound.{IsSound}
 use Rattle.event_graph.specs.Table.{date_in}
@@ -11,8 +12,8 @@ use Rattle.line_report.proofs.observed.write_stage.Goals.{then-part-gt0, else-pa
 
 pub returns : goal.returns
 returns g c =
-    let plant = c.args.plant.now in
-    let x = date_in c.args.table.now.rows in
+    let plant = c.args.run.now.plant in
+    let x = date_in c.args.run.now.table.rows in
     let stage = c.index-as_slice-stage.result in
     let read : stage ≡ stage_at plant c.args.stage =
     stage_read plant c.args.stage c.as_slice.result.now stage c.as_slice.ensures c.requires.exists c.index-as_slice-stage.is
@@ -43,4 +44,7 @@ returns g c =
     (pushed_after stock c.push-6.ensures)))))))))
 
 pub in_process-requires-clause-sound : goal.in_process-requires-clause-sound
-in_process-requires-clause-sound g c = subst IsSound (sym c.requires.numbers) c.requires.sound
+in_process-requires-clause-sound g c = subst IsSound (sym c.requires.numbers) c.requires.of_plant.sound
+
+pub in_process-requires-clause-of_plant : goal.in_process-requires-clause-of_plant
+in_process-requires-clause-of_plant g c = c.requires.of_plant.table_graph ∙ ap graph (sym c.requires.numbers)

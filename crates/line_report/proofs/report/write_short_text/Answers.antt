@@ -8,5 +8,4 @@ unfolding summary
 returns g c =
     let sizes = rw (c.graph.ensures.graph ∙ c.requires.of_plant.live_graph) at c.write_sizes.ensures in
     let sum = rw c.requires.of_plant.table_graph at c.write_sum.ensures in
-    let totals = rw c.requires.of_plant.table_graph at c.write_totals.ensures in
-    pushed_after sizes (pushed_after sum (pushed_after c.write_peaks.ensures totals))
+    pushed_after sizes (pushed_after sum c.write_end.ensures)

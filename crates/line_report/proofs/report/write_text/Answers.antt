@@ -7,5 +7,4 @@ pub returns : goal.returns
 unfolding report
 returns g c =
     let dates = rw (c.graph.ensures.graph ∙ c.requires.of_plant.live_graph) at c.write_dates.ensures in
-    let totals = rw c.requires.of_plant.table_graph at c.write_totals.ensures in
-    pushed_after dates (pushed_after c.write_observed.ensures (pushed_after c.write_peaks.ensures totals))
+    pushed_after dates (pushed_after c.write_observed.ensures c.write_end.ensures)

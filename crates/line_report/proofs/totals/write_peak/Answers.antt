@@ -8,7 +8,7 @@ use Rattle.line_report.proofs.totals.write_peak.Goals as goal
 pub returns : goal.returns
 unfolding peak_line
 returns g c =
-    let plant = c.args.plant.now in
+    let plant = c.args.run.now.plant in
     let read : c.index-as_slice-stage.result ≡ stage_at plant c.args.stage =
     stage_read plant c.args.stage c.as_slice.result.now c.index-as_slice-stage.result c.as_slice.ensures c.requires.exists c.index-as_slice-stage.is
     in

@@ -7,11 +7,11 @@ use Rattle.line_report.proofs.Lines.{pushed_line}
 use Rattle.line_report.proofs.totals.write_peaks.Goals as goal
 
 pub overflow_cast-stage-end : goal.overflow_cast-stage-end
-overflow_cast-stage-end g c = omega (arith, few_stages _ c.requires.sound)
+overflow_cast-stage-end g c = omega (arith, few_stages _ c.requires.of_plant.sound)
 
 pub loop-stage-init : goal.loop-stage-init
 loop-stage-init g c = pushed_none _
 
 pub loop-stage-preserved : goal.loop-stage-preserved
 loop-stage-preserved g c =
-    pushed_line (peak_line c.args.plant.now (date_in c.args.table.now.rows)) 0 c.loop-stage.stage c.loop-stage.stage (omega arith) c.loop-stage.invariant c.write_peak.ensures
+    pushed_line (peak_line c.args.run.now.plant (date_in c.args.run.now.table.rows)) 0 c.loop-stage.stage c.loop-stage.stage (omega arith) c.loop-stage.invariant c.write_peak.ensures
