@@ -1,5 +1,5 @@
 -- A card circuit goes through each stage that has a bound, so no more parts stand in the stage.
-use Rattle.std.proofs.Common.{◌≡◌, ℕ, zero, suc, ◌+◌, ◌<◌, ◌≤◌, ◌==◌, inl, inr, Bool, true, false, not, List, [], ◌∷◌, ◌++◌, length, get_or, Option, None, Some, refl, sym, ap, ◌∙◌, subst, add-one, append_assoc, arith}
+use Rattle.std.proofs.Common.{◌≡◌, ℕ, zero, suc, ◌+◌, ◌<◌, ◌≤◌, ◌==◌, inl, inr, Bool, true, false, not, List, [], ◌∷◌, ◌++◌, length, get_or, map, Option, None, Some, refl, sym, ap, ◌∙◌, subst, add-one, append_assoc, arith}
 use Rattle.std.specs.Prelude.{sum_by}
 use Rattle.std.specs.Option.{option_map_or}
 use Rattle.std.specs.List.{list_any, Contains}
@@ -12,7 +12,7 @@ use Rattle.plant_model.specs.declared.plant.Policy.{Policy}
 use Rattle.plant_model.specs.declared.plant.Policy.TheVariants.{Kanban, Conwip, BaseStock, Extended}
 use Rattle.plant_model.specs.Stages.{Stage}
 use Rattle.plant_model.specs.declared.plant.Plant.{Plant}
-use Rattle.plant_model.specs.Line.{no_stage, stage_at, release, receiver, next, feeds, is_first, path}
+use Rattle.plant_model.specs.Line.{no_stage, stage_at, stage_numbers, release, receiver, next, feeds, is_first, path}
 use Rattle.plant_model.specs.Graph.{graph}
 use Rattle.plant_model.specs.Sound.{IsSound}
 use Rattle.plant_model.proofs.Soundness.{FeedsLater, IsSound-FeedsLater}
@@ -149,28 +149,29 @@ bounded-conwip p cards i sound below is =
     bounded p i cards c (onward_arcs_of p from.before) (onward_arcs_of p rest ++ conwip_arc p a ∷ []) sound below
     (of_policy p c (rw (policy_circuits-conwip p cards is) listed)) refl through
 
+-- a circuit of a stage's own cards, under a policy that has one for each stage
+bounded-stage : (p : Plant) (i number : ℕ) (card_arc : ℕ → ℕ) → IsSound p → i < length p.stages → policy_circuits p ≡ map (stage_circuit p card_arc) (stage_numbers p) → bound p i ≡ Some (stage_at p i).cards → bound p i ≡ Some number → IsBounded p i number
+bounded-stage p i number card_arc sound below each own bounded_by =
+    let f = stage_circuit p card_arc in
+    let same : Some (stage_at p i).cards ≡ Some number = sym own ∙ bounded_by in
+    let cards_are : (stage_at p i).cards ≡ number = cc in
+    let listed = of_policy p (f i) (rw each (Contains-map-range f (length p.stages) i below)) in
+    bounded p i number (f i) [] (card_arc i ∷ []) sound below listed cards_are refl
+
 -- where a stage's bound is a number, a card circuit of that number goes through the stage
 pub bounds-have-circuits : (p : Plant) → IsSound p → (i number : ℕ) → i < length p.stages → bound p i ≡ Some number → IsBounded p i number
 bounds-have-circuits p sound i number below bounded_by = by_policy p.policy refl
   where
     by_policy : (policy : Policy) → p.policy ≡ policy → IsBounded p i number
     by_policy Kanban is =
-        let f = stage_circuit p (kanban_arc p) in
-        let same : Some (stage_at p i).cards ≡ Some number = sym (bound-kanban p i is) ∙ bounded_by in
-        let cards_are : (stage_at p i).cards ≡ number = cc in
-        let listed = of_policy p (f i) (rw (policy_circuits-kanban p is) (Contains-map-range f (length p.stages) i below)) in
-        bounded p i number (f i) [] (kanban_arc p i ∷ []) sound below listed cards_are refl
+        bounded-stage p i number (kanban_arc p) sound below (policy_circuits-kanban p is) (bound-kanban p i is) bounded_by
     by_policy (Conwip cards) is =
         let same : Some cards ≡ Some number = sym (bound-conwip p cards i is) ∙ bounded_by in
         let cards_are : cards ≡ number = cc in
         subst (IsBounded p i) cards_are (bounded-conwip p cards i sound below is)
     by_policy BaseStock is = let none : None ≡ Some number = sym (bound-base_stock p i is) ∙ bounded_by in cc
     by_policy Extended is =
-        let f = stage_circuit p (extended_arc p) in
-        let same : Some (stage_at p i).cards ≡ Some number = sym (bound-extended p i is) ∙ bounded_by in
-        let cards_are : (stage_at p i).cards ≡ number = cc in
-        let listed = of_policy p (f i) (rw (policy_circuits-extended p is) (Contains-map-range f (length p.stages) i below)) in
-        bounded p i number (f i) [] (extended_arc p i ∷ []) sound below listed cards_are refl
+        bounded-stage p i number (extended_arc p) sound below (policy_circuits-extended p is) (bound-extended p i is) bounded_by
 
 -- in every state that firings reach a circuit has its tokens
 circuit-keeps : (g : Parts) (s : State) → Reached g s → (arcs : List ℕ) → IsCircuit g arcs → tokens_in s arcs ≡ tokens_on g arcs
