@@ -62,7 +62,7 @@ fn write_date_observed<K: Sink>(out: &mut Outgoing, sink: &mut K, run: &Finished
     ensures { Pushed (stream (K.shown sink.old) out.old)
         (stream (K.shown sink.new) out.new) (observed_lines run.now.plant (date_in run.now.table.rows) at) }
 {
-    for stage in 0..run.plant.stages.len() as u32 {
+    for stage in 0..run.stages() {
         write_stage(out, sink, run, at, stage);
     }
     write_backlog(out, sink, run, at);

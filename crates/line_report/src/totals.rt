@@ -54,7 +54,7 @@ fn write_peaks<K: Sink>(out: &mut Outgoing, sink: &mut K, run: &FinishedRun)
         (stream (K.shown sink.new) out.new)
         (flat_map (peak_line run.now.plant (date_in run.now.table.rows)) (stage_numbers run.now.plant)) }
 {
-    for stage in 0..run.plant.stages.len() as u32 {
+    for stage in 0..run.stages() {
         write_peak(out, sink, run, stage);
     }
 }

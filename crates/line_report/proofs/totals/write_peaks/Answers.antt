@@ -1,13 +1,9 @@
 use Rattle.std.proofs.Common.{arith}
 use Rattle.event_graph.specs.Table.{date_in}
 use Rattle.line_io.proofs.OutgoingLemmas.{pushed_none}
-use Rattle.plant_model.proofs.LayoutFacts.{few_stages}
 use Rattle.line_report.specs.ReportText.{peak_line}
 use Rattle.line_report.proofs.Lines.{pushed_line}
 use Rattle.line_report.proofs.totals.write_peaks.Goals as goal
-
-pub overflow_cast-stage-end : goal.overflow_cast-stage-end
-overflow_cast-stage-end g c = omega (arith, few_stages _ c.requires.of_plant.sound)
 
 pub loop-stage-init : goal.loop-stage-init
 loop-stage-init g c = pushed_none _
