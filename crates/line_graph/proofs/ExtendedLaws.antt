@@ -19,7 +19,7 @@ use Rattle.plant_model.proofs.LayoutStations.{at_receiver}
 use Rattle.line_graph.specs.Laws.{under, HaveSameLeast, CardsEqualStock, CardsCoverJobs}
 use Rattle.line_graph.proofs.Inputs.{in_feed}
 use Rattle.line_graph.proofs.SolvesRows.{asked, Meets, Meets-solves, Solves-meets}
-use Rattle.line_graph.proofs.SharedRows.{StartAlike, HoldAlike-sound, shared, in_kanban, in_base_stock, extended_card_row, in_extended_demand, in_extended_card}
+use Rattle.line_graph.proofs.SharedRows.{StartAlike, HoldAlike-sound, shared, shared_back, in_kanban, in_base_stock, extended_card_row, in_extended_demand, in_extended_card}
 
 -- the policy touches neither stations nor jobs, times and demands
 times-under : (policy : Policy) (p : Plant) → times (under policy p) ≡ times p
@@ -145,11 +145,9 @@ module _ (p : Plant) (sound : IsSound p) (is : p.policy ≡ Extended) (equal : C
   from_kanban x all =
       let P = Meets (times p) (jobs (graph p)) x in
       let q = under Kanban p in
-      let back = λ (i : ℕ). λ (below : i < length p.stages). sym (kanban_alike i below) in
-      let hold = HoldAlike-sound p Kanban sound kanban_alike in
       let card = λ (i : ℕ). λ (below : i < length p.stages). All-contains P (rows q) (card_row p 0 i) all (in_kanban q i refl below) in
       let feed = All-contains P (rows q) (feed_row p) all (in_feed q) in
-      shared q p.policy P back (λ k d below. sym (hold k d below)) all (record {
+      shared_back p Kanban P sound kanban_alike all (record {
         kanban = λ other i below. cc;
         base_stock = λ other i below. cc;
         extended_demand = λ same i below. demand_row-met p x sound card feed i below;
@@ -191,9 +189,7 @@ module _ (p : Plant) (sound : IsSound p) (is : p.policy ≡ Extended) (cover : C
   from_base_stock x all =
       let P = Meets (times p) (jobs (graph p)) x in
       let q = under BaseStock p in
-      let back = λ (i : ℕ). λ (below : i < length p.stages). sym (base_alike i below) in
-      let hold = HoldAlike-sound p BaseStock sound base_alike in
-      shared q p.policy P back (λ k d below. sym (hold k d below)) all (record {
+      shared_back p BaseStock P sound base_alike all (record {
         kanban = λ other i below. cc;
         base_stock = λ other i below. cc;
         extended_demand = λ same i below. All-contains P (rows q) (demand_row p i) all (in_base_stock q i refl below);

@@ -19,7 +19,7 @@ use Rattle.live_check.proofs.NeverLater.{never_later}
 use Rattle.line_graph.specs.MoreCards.{policy_without_cards, DifferInCards, HasMoreOnEachArc, HasMoreCards, loop_at}
 use Rattle.line_graph.proofs.RowPairs.{rows-pairs, AllZip-from_get_or, AllZip-mapped, map-pairs}
 use Rattle.line_graph.proofs.CardlessPlants.{labels-same, times-same, demands-same, card_time-same, release-same, deliver-same, receiver-same, stages-same, stage-same, loop-same, machines-same, path-same, one_shape}
-use Rattle.line_graph.proofs.Sizes.{arc_count-graph}
+use Rattle.line_graph.proofs.Sizes.{sum_by-same, arc_count-graph}
 use Rattle.line_graph.proofs.Inputs.{arc-graph, IsGraph-graph}
 use Rattle.line_graph.proofs.OwnTokens.{graph_keeps_order}
 use Rattle.line_graph.proofs.WithinLimits.{IsWithinLimits-graph}
@@ -139,10 +139,6 @@ module _ (few many : Plant) (differ : DifferInCards few many) where
 abbrev HasMoreTokensThan : Row → Row → Type 0
 HasMoreTokensThan r s = r.arc.tokens ≤ s.arc.tokens
 
--- a sum of terms that are the same
-sum_by-term : (f h : ℕ → ℕ) (is : List ℕ) → ((i : ℕ) → f i ≡ h i) → sum_by f is ≡ sum_by h is
-sum_by-term f h is same = λ j. sum_by (λ (i : ℕ). same i j) is
-
 -- the starting stock of a stage, where its cards and its stock are compared
 starting-more : (policy other : Policy) (s t : Stage) → policy_without_cards policy ≡ policy_without_cards other → s.cards ≤ t.cards → s.stock ≡ t.stock → stock_under policy s ≤ stock_under other t
 starting-more Kanban Kanban s t same cards stock = cards
@@ -198,7 +194,7 @@ module _ (few many : Plant) (more : HasMoreCards few many) where
   line-more : (c d : ℕ) → few.policy ≡ Conwip c → many.policy ≡ Conwip d → (i : ℕ) → line_cards few.policy - path_stock few i ≤ line_cards many.policy - path_stock many i
   line-more c d is other i =
       let same = start-same (λ kanban. absurd cc) in
-      let stock : path_stock few i ≡ path_stock many i = ap (sum_by (starting few)) (path-same few many more.differ i) ∙ sum_by-term (starting few) (starting many) (path many i) same in
+      let stock : path_stock few i ≡ path_stock many i = ap (sum_by (starting few)) (path-same few many more.differ i) ∙ sum_by-same (starting few) (starting many) (path many i) same in
       omega (arith, stock, more.line)
 
   loop-more : (k : ℕ) → k < length few.loops → (loop_row few (loop_at few k)).arc.tokens ≤ (loop_row many (loop_at many k)).arc.tokens
@@ -209,7 +205,7 @@ module _ (few many : Plant) (more : HasMoreCards few many) where
       let loop = loop-same few many more.differ k in
       let first : l.first ≡ m.first = ap (λ (x : CardLoop). x.first) loop in
       let last : l.last ≡ m.last = ap (λ (x : CardLoop). x.last) loop in
-      let stock : stock_between few l.first l.last ≡ stock_between many l.first l.last = ap (λ (is : List ℕ). sum_by (starting few) (up_to l.last is)) (path-same few many more.differ l.first) ∙ sum_by-term (starting few) (starting many) (up_to l.last (path many l.first)) same in
+      let stock : stock_between few l.first l.last ≡ stock_between many l.first l.last = ap (λ (is : List ℕ). sum_by (starting few) (up_to l.last is)) (path-same few many more.differ l.first) ∙ sum_by-same (starting few) (starting many) (up_to l.last (path many l.first)) same in
       let moved = ap (λ (a : ℕ). stock_between many a l.last) first ∙ ap (λ (b : ℕ). stock_between many m.first b) last in
       omega (arith, stock, moved, more.loops k low)
 

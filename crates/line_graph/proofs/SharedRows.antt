@@ -109,3 +109,8 @@ shared p policy P alike hold all each =
           let same = ap (λ (s : ℕ). plain (receiver p l.last) (release p l.first) (l.cards - s) l.card_time) (hold k d below) in
           subst P same (have (loop_row p l) (in_loops p k d below));
     })
+
+-- and the other way: what holds of each row of the plant under the other policy holds of each row of the plant
+pub shared_back : (p : Plant) (policy : Policy) (P : Row → Type 0) → IsSound p → StartAlike p (under policy p) → All P (rows (under policy p)) → EachPolicyRow P p → All P (rows p)
+shared_back p policy P sound alike all each =
+    shared (under policy p) p.policy P (λ i below. sym (alike i below)) (λ k d below. sym (HoldAlike-sound p policy sound alike k d below)) all each

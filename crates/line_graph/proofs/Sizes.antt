@@ -1,10 +1,11 @@
 -- How many stations and arcs a plant's graph has, and that its lists are of one length.
-use Rattle.std.proofs.Common.{codes, ◌≡◌, ℕ, zero, suc, ◌+◌, ◌-◌, ◌*◌, ◌≤◌, List, [], ◌∷◌, ◌++◌, length, take, refl, ap, ◌∙◌, subst, arith}
-use Rattle.std.specs.List.{flat_map, range_with_len, filter, sum_by}
-use Rattle.std.proofs.lemmas.List.{length-append, length-map, take_all}
-use Rattle.std.proofs.lemmas.List.FromFn.{length-map-range_with_len, length-range_with_len}
+use Rattle.std.proofs.Common.{codes, ◌≡◌, ℕ, ◌+◌, ◌-◌, ◌*◌, ◌≤◌, List, [], ◌∷◌, ◌++◌, length, map, sum, refl, sym, ap, ◌∙◌, arith}
+use Rattle.std.specs.List.{flat_map, filter, sum_by}
+use Rattle.std.proofs.lemmas.List.{length-append, length-map}
+use Rattle.std.proofs.lemmas.List.FromFn.{length-map-range_with_len, length-range_with_len, fill_by_all}
 use Rattle.std.proofs.lemmas.List.Concat.{length-flat_map}
-use Rattle.std.proofs.lemmas.List.Sums.{sum_by_more, sum_by-le-sum_by, length-filter, count_by-le-length}
+use Rattle.std.proofs.lemmas.List.Sums.{sum_by-cons, sum-map, length-filter, count_by-le-length}
+use Rattle.std.proofs.lemmas.Simd.{map-map}
 use Rattle.line_base.specs.declared.times.Times.TheVariants.{Fixed}
 use Rattle.plant_model.specs.declared.plant.Policy.{Policy}
 use Rattle.plant_model.specs.declared.plant.Policy.TheVariants.{Kanban, Conwip, BaseStock, Extended}
@@ -15,15 +16,12 @@ use Rattle.plant_model.specs.Graph.{machine_rows, stage_rows, feed_row, card_row
 use Rattle.plant_model.specs.Sound.{IsSound}
 use Rattle.event_graph.specs.Network.{stations, arc_count}
 use Rattle.plant_model.proofs.SoundPlants.{HasSoundSizes-sound}
-use Rattle.line_base.proofs.RangeLists.{flat_map-range_more, length-flat_map-range}
+use Rattle.line_base.proofs.RangeLists.{length-flat_map-range}
 use Rattle.line_graph.proofs.PolicyRows.{policy_rows-kanban, policy_rows-base_stock, policy_rows-extended, policy_rows-conwip}
 
 -- two sums of the same terms are the same
 pub sum_by-same : {X : Type 0} (f g : X → ℕ) (xs : List X) → ((x : X) → f x ≡ g x) → sum_by f xs ≡ sum_by g xs
-sum_by-same f g xs h =
-    let up = sum_by-le-sum_by f g xs (λ x. let e = h x in omega arith) in
-    let down = sum_by-le-sum_by g f xs (λ x. let e = h x in omega arith) in
-    omega arith
+sum_by-same f g xs h = λ j. sum_by (λ x. h x j) xs
 
 -- a list of the stations of all stages, with one before and one after
 length-around : {X : Type 0} (first last : X) (f : Stage → List X) (stages : List Stage) → ((s : Stage) → length (f s) ≡ 1 + length s.machines) → length (first ∷ (flat_map f stages ++ last ∷ [])) ≡ 2 + stations_of stages
@@ -62,17 +60,24 @@ length-stage_rows : (p : Plant) (i : ℕ) → length (stage_rows p i) ≡ 1 + 3 
 length-stage_rows p i =
     omega (arith, length-flat_map-range (machine_rows p i) 3 (length (stage_at p i).machines) (λ j. refl))
 
--- the rows of the first n stages, and two more a stage, are three a station of these
-length-stages : (p : Plant) (n : ℕ) → n ≤ length p.stages → length (flat_map (stage_rows p) (range_with_len 0 n)) + 2 * n ≡ 3 * stations_of (take n p.stages)
-length-stages p zero below = refl
-length-stages p (suc n) below =
-    let before = length-stages p n (omega arith) in
-    let e : n + 1 ≡ suc n = omega arith in
-    let joined = ap length (flat_map-range_more (stage_rows p) n) ∙ length-append (flat_map (stage_rows p) (range_with_len 0 n)) (stage_rows p n) in
-    let here = length-stage_rows p n in
-    let more = sum_by_more (λ s. 1 + length s.machines) p.stages n no_stage below in
-    let all : length (flat_map (stage_rows p) (range_with_len 0 (n + 1))) + 2 * (n + 1) ≡ 3 * stations_of (take (n + 1) p.stages) = omega arith in
-    subst (λ m. length (flat_map (stage_rows p) (range_with_len 0 m)) + 2 * m ≡ 3 * stations_of (take m p.stages)) e all
+-- the stages are those with their numbers
+pub stages-numbered : (p : Plant) → p.stages ≡ map (stage_at p) (stage_numbers p)
+stages-numbered p = fill_by_all (stage_at p) p.stages (length p.stages) no_stage refl (λ k below. refl)
+
+-- one and three a machine, and two more a stage, are three a station
+three_each : (stages : List Stage) → sum_by (λ s. 1 + 3 * length s.machines) stages + 2 * length stages ≡ 3 * stations_of stages
+three_each [] = refl
+three_each (s ∷ stages) =
+    omega (arith, three_each stages, sum_by-cons (λ (t : Stage). 1 + 3 * length t.machines) s stages, sum_by-cons (λ (t : Stage). 1 + length t.machines) s stages)
+
+-- the rows of the stages, and two more a stage, are three a station
+length-stages : (p : Plant) → length (flat_map (stage_rows p) (stage_numbers p)) + 2 * length p.stages ≡ 3 * stations_of p.stages
+length-stages p =
+    let is = stage_numbers p in
+    let count = λ (s : Stage). 1 + 3 * length s.machines in
+    let rows = length-flat_map (stage_rows p) is ∙ sum_by-same (λ i. length (stage_rows p i)) (λ i. count (stage_at p i)) is (length-stage_rows p) in
+    let numbered = ap (sum_by count) (stages-numbered p) ∙ sym (sum-map count (map (stage_at p) is)) ∙ ap sum (map-map count (stage_at p) is) ∙ sum-map (λ i. count (stage_at p i)) is in
+    omega (arith, rows, numbered, three_each p.stages)
 
 -- the policy has two rows a stage at most
 length-policy_rows : (p : Plant) → length (policy_rows p) ≤ 2 * length p.stages
@@ -98,7 +103,6 @@ few_arcs p sound =
     let both = length-append (policy_rows p) (loop_rows p) in
     let loops = length-map p.loops (loop_row p) in
     let policy = length-policy_rows p in
-    let all = length-stages p (length p.stages) (omega arith) in
-    let taken = ap stations_of (take_all (length p.stages) p.stages (omega arith)) in
+    let all = length-stages p in
     let few = (HasSoundSizes-sound p sound).few_loops in
     omega arith

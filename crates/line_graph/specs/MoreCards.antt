@@ -1,13 +1,14 @@
 -- Plants that differ in cards and stock alone, for the law *More tokens, never later* on plants.
 -- Source: Baccelli, Cohen, Olsder, Quadrat, Synchronization and Linearity: dates do not get later with more tokens; Dallery and
 -- Liberopoulos 2000 for the cards.
-use Rattle.std.specs.Prelude.{◌≡◌, ℕ, ◌<◌, ◌≤◌, map, length, slice_index_or}
+use Rattle.std.specs.Prelude.{◌≡◌, ℕ, ◌<◌, ◌≤◌, map, length}
 use Rattle.plant_model.specs.declared.plant.Policy.{Policy}
 use Rattle.plant_model.specs.declared.plant.Policy.TheVariants.{Kanban, Conwip, BaseStock, Extended}
 use Rattle.plant_model.specs.Stages.{Stage}
 use Rattle.plant_model.specs.declared.plant.CardLoop.{CardLoop}
 use Rattle.plant_model.specs.declared.plant.Plant.{Plant}
 use Rattle.plant_model.specs.Line.{stage_at, line_cards}
+pub use Rattle.plant_model.specs.Line.{no_loop, loop_at}
 use Rattle.plant_model.specs.Graph.{graph}
 use Rattle.event_graph.specs.Network.{arc, arc_count}
 use Rattle.event_graph.specs.Live.{IsLive}
@@ -44,14 +45,6 @@ pub record DifferInCards (few many : Plant) : Type 0 where
 -- each arc of the second plant's graph has at least as many tokens at the start
 pub record HasMoreOnEachArc (few many : Plant) : Type 0 where
   pub each : (a : ℕ) → a < arc_count (graph few) → (arc (graph few) a).tokens ≤ (arc (graph many) a).tokens
-
--- what stands where a number names no loop
-abbrev pub no_loop : CardLoop
-no_loop = record { first = 0; last = 0; cards = 0; card_time = 0 }
-
--- the loop with this number
-abbrev pub loop_at : Plant → ℕ → CardLoop
-loop_at p k = slice_index_or p.loops k no_loop
 
 -- the second plant has at least as many cards at each stage, on the line and on each loop, and the same stock; under kanban, where
 -- a stage's cards are its stock, a plant with a loop has the same cards at each stage

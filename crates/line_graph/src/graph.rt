@@ -4,9 +4,8 @@ ghost use Rattle.plant_model.specs.Sound.{IsSound};
 ghost use Rattle.event_graph.specs.Network.{stations, arc_count};
 ghost use Rattle.line_graph.specs.Labels.{HasLabels};
 
-use crate::arcs::line_arcs;
-use crate::delays::line_delays;
 use crate::labels::station_labels;
+use crate::rows::{Rows, line_rows};
 use crate::times::station_times;
 use event_graph::{Graph, GraphError};
 use line_base::{Items, Parts};
@@ -38,11 +37,12 @@ fn parts_of(alloc: Global, plant: &Plant) -> Result<Parts, AllocError>
     ensures graph { IfOk result (λ parts. parts ≡ graph plant.now) }
     ensures labels { IfOk result HasLabels }
 {
+    let Rows { arcs, delays } = line_rows(alloc, plant)?;
     Ok(Parts {
-        labels: Items::from_vec(station_labels(alloc, plant)?),
-        times: Items::from_vec(station_times(alloc, plant)?),
+        arcs: Items::from_vec(arcs),
+        delays: Items::from_vec(delays),
         dates: plant.demands.copy(alloc)?,
-        arcs: Items::from_vec(line_arcs(alloc, plant)?),
-        delays: Items::from_vec(line_delays(alloc, plant)?),
+        times: Items::from_vec(station_times(alloc, plant)?),
+        labels: Items::from_vec(station_labels(alloc, plant)?),
     })
 }

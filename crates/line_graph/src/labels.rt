@@ -8,18 +8,33 @@ use plant_model::{Plant, Stage};
 use std::alloc::{AllocError, Global};
 
 /// The labels of the stations: `feed`, then each stage's, then `deliver`.
-#[tactic(auto, unfolding(plant_model::specs::Graph::labels))]
 pub fn station_labels(alloc: Global, plant: &Plant) -> Result<Vec<Label>, AllocError>
     ensures all { IfOk result (λ all. all.items ≡ labels plant.now) }
     ensures rule { IfOk result (λ all. AreLabels all.items) }
 {
     let mut all = Vec::new(alloc);
+    match fill_labels(alloc, plant, &mut all) {
+        Ok(()) => Ok(all),
+        Err(error) => {
+            drop(all);
+            Err(error)
+        }
+    }
+}
+
+/// Puts the labels of the stations into an empty list.
+#[tactic(auto, unfolding(plant_model::specs::Graph::labels))]
+fn fill_labels(alloc: Global, plant: &Plant, all: &mut Vec<Label>) -> Result<(), AllocError>
+    requires { all.old.items ≡ [] }
+    ensures all { OnOk result (all.new.items ≡ labels plant.now) }
+    ensures rule { OnOk result (AreLabels all.new.items) }
+{
     all.push(Label::of(alloc, b"feed")?)?;
     for stage in plant.stages.as_slice() {
-        add_stage_labels(alloc, stage, &mut all)?;
+        add_stage_labels(alloc, stage, all)?;
     }
     all.push(Label::of(alloc, b"deliver")?)?;
-    Ok(all)
+    Ok(())
 }
 
 /// Adds the labels of a stage: its own for the release, then one a machine.

@@ -1,13 +1,13 @@
 //! The event graph of a plant, and the laws of its policies.
 #![tactic(auto)]
 
-mod arcs;
 mod circuit;
 mod dead;
 mod delays;
 mod graph;
 mod labels;
 mod laws;
+mod rows;
 mod times;
 
 pub use circuit::circuit_stations;

@@ -5,8 +5,8 @@ use Rattle.line_graph.proofs.graph.parts_of.Goals as goal
 pub returns-clause-graph : goal.returns-clause-graph
 returns-clause-graph c =
     graph-parts c.args.plant.now _
-    (c.from_vec.ensures ∙ c.in_ok-station_labels.ensures.all)
-    (c.from_vec-2.ensures ∙ c.in_ok-station_times.ensures)
+    (c.from_vec-4.ensures ∙ c.in_ok-station_labels.ensures.all)
+    (c.from_vec-3.ensures ∙ c.in_ok-station_times.ensures)
     c.in_ok-copy.ensures
-    (c.from_vec-3.ensures ∙ c.in_ok-line_arcs.ensures)
-    (c.from_vec-4.ensures ∙ c.in_ok-line_delays.ensures)
+    (c.from_vec.ensures ∙ c.in_ok-arcs.ensures.arcs)
+    (c.from_vec-2.ensures ∙ c.in_ok-arcs.ensures.delays)

@@ -2,7 +2,7 @@ use Rattle.std.proofs.Common.{◌≡◌, ◌∷◌, take, codes}
 use Rattle.std.specs.List.{flat_map}
 use Rattle.plant_model.specs.Graph.{stage_labels}
 use Rattle.line_graph.specs.Labels.{AreLabels}
-use Rattle.line_graph.proofs.labels.station_labels.Given as goal
+use Rattle.line_graph.proofs.labels.fill_labels.Given as goal
 
 abbrev pub invariant-loop-stage : goal.invariant-loop-stage
 invariant-loop-stage l =

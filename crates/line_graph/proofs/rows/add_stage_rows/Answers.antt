@@ -1,11 +1,9 @@
 use Rattle.std.proofs.Common.{length, refl, ap, ◌∙◌, arith}
 use Rattle.plant_model.specs.Stages.{Stage}
-use Rattle.plant_model.specs.Line.{release, machine_station}
-use Rattle.plant_model.specs.Graph.{worked}
 use Rattle.plant_model.proofs.SoundPlants.{IsSoundStage-sound}
 use Rattle.plant_model.proofs.LayoutFacts.{small_last_machine}
 use Rattle.line_graph.proofs.Joined.{machine_more}
-use Rattle.line_graph.proofs.arcs.add_stage_arcs.Goals as goal
+use Rattle.line_graph.proofs.rows.add_stage_rows.Goals as goal
 
 pub machine-requires-clause-machine : goal.machine-requires-clause-machine
 machine-requires-clause-machine c =
@@ -20,6 +18,9 @@ overflow_cast-place c =
 pub loop-place-preserved : goal.loop-place-preserved
 loop-place-preserved c =
     let p = c.args.layout.now in
-    let i = c.args.number in
-    let before = (worked (release p i) (machine_station p i 0) 0).arc in
-    c.in_ok-add_machine_arcs.ensures ∙ machine_more (λ r. r.arc) p i c.loop-place.place c.args.arcs.now.items c.loop-place.arcs.items before _ c.loop-place.invariant refl
+    let more = c.in_ok-add_machine_rows.ensures in
+    let so_far = c.loop-place.invariant in
+    record {
+      arcs = more.arcs ∙ machine_more (λ r. r.arc) p c.args.number c.loop-place.place c.args.all.now.arcs.items _ _ _ so_far.arcs refl;
+      delays = more.delays ∙ machine_more (λ r. r.delay) p c.args.number c.loop-place.place c.args.all.now.delays.items _ _ _ so_far.delays refl;
+    }

@@ -1,9 +1,0 @@
-use Rattle.std.proofs.Common.{◌≡◌, map}
-use Rattle.std.specs.List.{filter, range_with_len}
-use Rattle.plant_model.specs.Line.{is_first}
-use Rattle.plant_model.specs.Graph.{delays_of, line_card_row}
-use Rattle.line_graph.proofs.delays.line_card_times.Given as goal
-
-abbrev pub invariant-loop-stage : goal.invariant-loop-stage
-invariant-loop-stage l =
-    l.times.items ≡ delays_of (map (line_card_row l.plant) (filter (is_first l.plant) (range_with_len 0 l.stage)))

@@ -1,0 +1,31 @@
+use Rattle.std.proofs.Common.{◌∷◌, [], ◌++◌, length, map, refl, ap, ◌∙◌, arith}
+use Rattle.std.specs.List.{flat_map}
+use Rattle.std.proofs.lemmas.List.{length-map}
+use Rattle.plant_model.specs.declared.plant.CardLoop.{CardLoop}
+use Rattle.plant_model.specs.declared.plant.Plant.{Plant}
+use Rattle.plant_model.specs.Line.{stage_numbers}
+use Rattle.plant_model.specs.Graph.{arcs_of, delays_of, stage_rows, feed_row, policy_rows}
+use Rattle.line_graph.proofs.Joined.{rows-joined}
+use Rattle.line_graph.proofs.PolicyDelays.{delays-loops}
+use Rattle.line_graph.proofs.rows.line_rows.Goals as goal
+
+pub policy_delays-requires : goal.policy_delays-requires
+policy_delays-requires c =
+    omega (arith, c.in_ok-arcs.arcs.ok.0, ap (λ arcs. length arcs) c.in_ok-arcs.ensures, length-map (policy_rows c.args.plant.now) (λ r. r.arc))
+
+pub returns-clause-arcs : goal.returns-clause-arcs
+returns-clause-arcs c =
+    let p = c.args.plant.now in
+    let stages = c.in_ok-all.ensures.arcs ∙ ap (λ (q : Plant). arcs_of (flat_map (stage_rows q) (stage_numbers q)) ++ (feed_row q).arc ∷ []) c.in_ok-layout.ensures in
+    let policy = c.as_slice.ensures.value ∙ c.in_ok-arcs.ensures in
+    let loops = c.as_slice-4.ensures.value ∙ c.in_ok-loop_arcs.ensures in
+    c.in_ok-append-2.ensures.arcs ∙ ap (λ arcs. arcs ++ c.as_slice-4.result.now) c.in_ok-append.ensures.arcs ∙ rows-joined (λ r. r.arc) p _ _ _ _ stages refl policy loops
+
+pub returns-clause-delays : goal.returns-clause-delays
+returns-clause-delays c =
+    let p = c.args.plant.now in
+    let stages = c.in_ok-all.ensures.delays ∙ ap (λ (q : Plant). delays_of (flat_map (stage_rows q) (stage_numbers q)) ++ 0 ∷ []) c.in_ok-layout.ensures in
+    let policy = c.as_slice-2.ensures.value ∙ c.in_ok-delays.ensures in
+    let times = c.in_ok-loop_times.ensures ∙ ap (map (λ (l : CardLoop). l.card_time)) c.as_slice-3.ensures in
+    let loops = delays-loops p c.as_slice-5.result.now (c.as_slice-5.ensures.value ∙ times) in
+    c.in_ok-append-2.ensures.delays ∙ ap (λ delays. delays ++ c.as_slice-5.result.now) c.in_ok-append.ensures.delays ∙ rows-joined (λ r. r.delay) p _ _ _ _ stages refl policy loops
