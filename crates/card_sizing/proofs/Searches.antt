@@ -1,5 +1,5 @@
 -- The steps of the search for the least count, and its ends.
-use Rattle.std.proofs.Common.{◌≡◌, ℕ, ◌+◌, ◌<◌, ◌≤◌, true, List, length, refl, subst, arith}
+use Rattle.std.proofs.Common.{◌≡◌, ℕ, ◌+◌, ◌-◌, ◌<◌, ◌≤◌, true, List, length, refl, subst, arith}
 use Rattle.std.proofs.lemmas.List.Elements.{All-filter, filter_passes}
 use Rattle.line_base.specs.declared.limits.TheConstants.{MAX_CARDS}
 use Rattle.plant_model.specs.declared.plant.Policy.{Policy}
@@ -10,15 +10,17 @@ use Rattle.plant_model.specs.Graph.{graph}
 use Rattle.plant_model.specs.Sound.{IsSound}
 use Rattle.plant_model.proofs.SoundPlants.{IsSoundStage-sound, HasSoundSizes-sound, path_stock-has_cards}
 use Rattle.event_graph.proofs.Greatest.{greatest-le}
+use Rattle.event_graph.specs.Live.{IsLive}
 use Rattle.line_core.proofs.Existence.{has_least}
 use Rattle.line_base.proofs.RangeLists.{All-range}
 use Rattle.line_graph.proofs.Inputs.{IsGraph-graph}
 use Rattle.card_sizing.specs.declared.sizing.Below.{Below}
-use Rattle.card_sizing.specs.declared.sizing.Below.TheVariants.{Job, Dead}
+use Rattle.card_sizing.specs.declared.sizing.Below.TheVariants.{Lowest, Job, Dead}
 use Rattle.card_sizing.specs.Sized.{has_single_count, sized, lowest_under, lowest}
 use Rattle.card_sizing.specs.Serving.{Serves, IsLateWith}
 use Rattle.line_graph.specs.DeadLabels.{AreDead}
-use Rattle.card_sizing.specs.Sizing.{NoneServesBelow, IsSearch}
+use Rattle.card_sizing.specs.Sizing.{NoneServesBelow, IsBelow, IsSearch}
+use Rattle.card_sizing.specs.Trying.{FailsBy}
 use Rattle.card_sizing.proofs.SizedSound.{sound_sized}
 use Rattle.card_sizing.proofs.Serving.{serves_more, dead_not_live}
 
@@ -54,21 +56,34 @@ module _ (p : Plant) (sound : IsSound p) (single : has_single_count p ≡ true) 
   none_below : (c : ℕ) → c ≤ MAX_CARDS → (Serves p may c → ⊥) → NoneServesBelow p may (c + 1)
   none_below c few not d below serves = not (serves_more p sound single may d c serves (omega arith) few)
 
+  -- a count that fails doesn't serve
+  fails_not_serves : (c : ℕ) (why : Below) → FailsBy p may c why → Serves p may c → ⊥
+  fails_not_serves c Lowest fails serves = fails
+  fails_not_serves c (Job job wait) fails serves = late_not_serves c job wait fails serves
+  fails_not_serves c (Dead labels) fails serves = dead_not_live (graph (sized p c)) labels fails serves.live
+
+  -- and tells why one more can't be one less
+  is_below : (c : ℕ) (why : Below) → lowest p ≤ c → FailsBy p may c why → IsBelow p may (c + 1) why
+  is_below c Lowest enough fails = absurd fails
+  is_below c (Job job wait) enough late =
+      let same : c ≡ c + 1 - 1 = omega arith in
+      (omega arith, subst (λ (d : ℕ). IsLateWith p may d job wait) same late)
+  is_below c (Dead labels) enough dead =
+      let same : c ≡ c + 1 - 1 = omega arith in
+      (omega arith, subst (λ (d : ℕ). AreDead (graph (sized p d)) labels) same dead)
+
   -- one step further, where `middle` doesn't serve
-  pub search_late : (low high middle job wait : ℕ) (below : Below) → IsSearch p may low high below → low ≤ middle → middle < high → IsLateWith p may middle job wait → IsSearch p may (middle + 1) high (Job job wait)
-  search_late low high middle job wait below search after before late = record {
+  pub search_past : (low high middle : ℕ) (below why : Below) → IsSearch p may low high below → low ≤ middle → middle < high → FailsBy p may middle why → IsSearch p may (middle + 1) high why
+  search_past low high middle below why search after before fails = record {
     ordered = omega arith;
     enough = omega (arith, search.enough);
-    none = none_below middle (omega (arith, search.serves.within)) (late_not_serves middle job wait late);
-    why = (omega (arith, search.enough), subst (λ (c : ℕ). IsLateWith p may c job wait) (omega arith) late);
+    none = none_below middle (omega (arith, search.serves.within)) (fails_not_serves middle why fails);
+    why = is_below middle why (omega (arith, search.enough)) fails;
     serves = search.serves;
   }
 
-  pub search_dead : (low high middle : ℕ) (labels : List (List ℕ)) (below : Below) → IsSearch p may low high below → low ≤ middle → middle < high → AreDead (graph (sized p middle)) labels → IsSearch p may (middle + 1) high (Dead labels)
-  search_dead low high middle labels below search after before dead = record {
-    ordered = omega arith;
-    enough = omega (arith, search.enough);
-    none = none_below middle (omega (arith, search.serves.within)) (λ serves. dead_not_live (graph (sized p middle)) labels dead serves.live);
-    why = (omega (arith, search.enough), subst (λ (c : ℕ). AreDead (graph (sized p c)) labels) (omega arith) dead);
-    serves = search.serves;
-  }
+-- where the line is live, a count fails by a job alone
+pub fails_by_job : (p : Plant) (may c : ℕ) (why : Below) → FailsBy p may c why → IsLive (graph (sized p c)) → (job : ℕ) × (wait : ℕ) × (why ≡ Job job wait)
+fails_by_job p may c Lowest fails live = absurd fails
+fails_by_job p may c (Job job wait) fails live = (job, wait, refl)
+fails_by_job p may c (Dead labels) fails live = absurd (dead_not_live (graph (sized p c)) labels fails live)

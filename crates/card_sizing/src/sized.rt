@@ -15,11 +15,11 @@ pub fn sized_plant(alloc: Global, plant: &Plant, count: u32) -> Result<Plant, Al
 {
     Ok(Plant {
         policy: policy_with(plant.policy, count),
-        stages: copy_of_stages(alloc, plant.policy, plant.stages.as_slice(), count)?,
         loops: copy_of_loops(alloc, plant.loops.as_slice())?,
         card_time: plant.card_time,
         demands: plant.demands.copy(alloc)?,
         observe: plant.observe.copy(alloc)?,
+        stages: copy_of_stages(alloc, plant.policy, plant.stages.as_slice(), count)?,
     })
 }
 
@@ -54,7 +54,7 @@ fn copy_of_stages(
 {
     let mut copy = Vec::with_capacity(alloc, stages.len())?;
     for stage in stages {
-        copy.push(copy_of_stage(alloc, policy, stage, count)?)?;
+        copy.push_reserved(copy_of_stage(alloc, policy, stage, count)?);
     }
     Ok(Items::from_vec(copy))
 }
@@ -85,7 +85,7 @@ fn copy_of_machines(alloc: Global, machines: &[Machine]) -> Result<Items<Machine
 {
     let mut copy = Vec::with_capacity(alloc, machines.len())?;
     for machine in machines {
-        copy.push(machine.copy(alloc)?)?;
+        copy.push_reserved(machine.copy(alloc)?);
     }
     Ok(Items::from_vec(copy))
 }
@@ -96,12 +96,12 @@ fn copy_of_loops(alloc: Global, loops: &[CardLoop]) -> Result<Items<CardLoop>, A
 {
     let mut copy = Vec::with_capacity(alloc, loops.len())?;
     for card_loop in loops {
-        copy.push(CardLoop {
+        copy.push_reserved(CardLoop {
             first: card_loop.first,
             last: card_loop.last,
             cards: card_loop.cards,
             card_time: card_loop.card_time,
-        })?;
+        });
     }
     Ok(Items::from_vec(copy))
 }

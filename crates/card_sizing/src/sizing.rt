@@ -9,7 +9,7 @@ ghost use Rattle.card_sizing.specs.Serving.{Serves};
 ghost use Rattle.card_sizing.specs.Sizing.{NoneServesBelow, IsBelow, IsSizingRefusal};
 
 use crate::lowest::{has_single_count, lowest_count};
-use crate::trying::{Tried, try_count};
+use crate::trying::try_count;
 use line_base::{Items, Label, MAX_CARDS};
 use plant_model::Plant;
 use std::alloc::{AllocError, Global};
@@ -95,9 +95,11 @@ pub fn least_cards(alloc: Global, plant: &Plant, wait: u64) -> Result<Sizing, Si
     }
     let lowest = lowest_count(alloc, plant)?;
     match try_count(alloc, plant, wait, MAX_CARDS)? {
-        Tried::Enough => Ok(halve(alloc, plant, wait, lowest)?),
-        Tried::Late { job, wait } => Err(SizingError::NoCount { job, wait }),
-        Tried::NotLive { .. } => unreachable!(),
+        None => Ok(halve(alloc, plant, wait, lowest)?),
+        Some(below) => match below {
+            Below::Job { job, wait } => Err(SizingError::NoCount { job, wait }),
+            _ => unreachable!(),
+        },
     }
 }
 
@@ -117,14 +119,10 @@ fn halve(alloc: Global, plant: &Plant, may: u64, start: u32) -> Result<Sizing, A
     while low < high {
         let middle = low + (high - low) / 2;
         match try_count(alloc, plant, may, middle)? {
-            Tried::Enough => high = middle,
-            Tried::Late { job, wait } => {
+            None => high = middle,
+            Some(why) => {
                 low = middle + 1;
-                below = Below::Job { job, wait };
-            }
-            Tried::NotLive { labels } => {
-                low = middle + 1;
-                below = Below::Dead { labels };
+                below = why;
             }
         }
     }
