@@ -3,6 +3,7 @@ pub mod DateLists
 pub mod Rising
 pub mod Flows
 pub mod PlantTables
+pub mod StationRows
 pub mod DateWalks
 pub mod Greatest
 pub mod CardFlows

@@ -1,13 +1,12 @@
-use Rattle.std.proofs.Common.{◌≡◌, ℕ, ◌<◌, ◌≤◌, length, sym, ap, ◌∙◌, subst, arith}
-use Rattle.std.specs.List.Sorted.{IsNonDecreasing}
+use Rattle.std.proofs.Common.{◌≡◌, ℕ, ◌<◌, ◌≤◌, arith}
 use Rattle.plant_model.specs.Line.{release, receiver, station_count}
 use Rattle.plant_model.specs.Graph.{graph}
 use Rattle.event_graph.specs.Table.{date_in}
 use Rattle.event_graph.specs.Solves.{Solves}
 use Rattle.line_stats.specs.Counts.{standing}
-use Rattle.line_stats.specs.Between.{dates_until, between}
-use Rattle.line_stats.proofs.Rising.{lists_keep_order, row-rises, count-row}
-use Rattle.line_stats.proofs.PlantTables.{exists_in, numbered_in, done_in, solves_in, starting-small}
+use Rattle.line_stats.specs.Between.{between}
+use Rattle.line_stats.proofs.PlantTables.{exists_in, numbered_in, solves_in, starting-small}
+use Rattle.line_stats.proofs.StationRows.{row-in_order, row-short, row-done}
 use Rattle.line_stats.proofs.StandingParts.{standing-is, peak-is, most-bounded}
 use Rattle.line_stats.proofs.peaks.peak.Goals.{After-release, After-receiver, After-most_between}
 use Rattle.line_stats.proofs.peaks.peak.Goals as goal
@@ -29,27 +28,20 @@ pub dates-taken-requires : goal.dates-taken-requires
 dates-taken-requires c =
     exists_in c.args.plant.now c.args.table.now.graph c.receiver.result c.requires.of_plant (takes (goal.at.dates-taken-requires c).After-receiver).1
 
--- the dates of the two stations rise
 pub most_between-requires-clause-entered_in_order : goal.most_between-requires-clause-entered_in_order
 most_between-requires-clause-entered_in_order c =
-    let p = c.args.plant.now in
-    let d = c.args.table.now in
-    let exists = exists_in p d.graph c.release.result c.requires.of_plant (released (goal.at.most_between-requires-clause-entered_in_order c).After-release).1 in
-    subst IsNonDecreasing (sym c.dates-released.ensures.dates) (row-rises d c.release.result c.dates-released.ensures.least (lists_keep_order p d.graph c.requires.of_plant) exists)
+    let from = released (goal.at.most_between-requires-clause-entered_in_order c).After-release in
+    row-in_order c.args.plant.now c.args.table.now c.release.result _ c.requires.of_plant c.dates-released.ensures.least from.1 c.dates-released.ensures.dates
 
 pub most_between-requires-clause-left_in_order : goal.most_between-requires-clause-left_in_order
 most_between-requires-clause-left_in_order c =
-    let p = c.args.plant.now in
-    let d = c.args.table.now in
-    let exists = exists_in p d.graph c.receiver.result c.requires.of_plant (takes (goal.at.most_between-requires-clause-left_in_order c).After-receiver).1 in
-    subst IsNonDecreasing (sym c.dates-taken.ensures.dates) (row-rises d c.receiver.result c.dates-taken.ensures.least (lists_keep_order p d.graph c.requires.of_plant) exists)
+    let to = takes (goal.at.most_between-requires-clause-left_in_order c).After-receiver in
+    row-in_order c.args.plant.now c.args.table.now c.receiver.result _ c.requires.of_plant c.dates-taken.ensures.least to.1 c.dates-taken.ensures.dates
 
 pub most_between-requires-clause-few : goal.most_between-requires-clause-few
 most_between-requires-clause-few c =
-    let d = c.args.table.now in
-    let exists = exists_in c.args.plant.now d.graph c.release.result c.requires.of_plant (released (goal.at.most_between-requires-clause-few c).After-release).1 in
-    let table = c.dates-released.ensures.least in
-    omega (arith, ap length c.dates-released.ensures.dates, table.a_date_each c.release.result exists, table.limits.few_jobs)
+    let from = released (goal.at.most_between-requires-clause-few c).After-release in
+    row-short c.args.plant.now c.args.table.now c.release.result _ c.requires.of_plant c.dates-released.ensures.least from.1 c.dates-released.ensures.dates
 
 pub most_between-requires-clause-small : goal.most_between-requires-clause-small
 most_between-requires-clause-small c =
@@ -63,18 +55,13 @@ level : (c : After-most_between) (v : ℕ) → between c.dates-released.result.n
 level c v =
     let p = c.args.plant.now in
     let d = c.args.table.now in
-    let x = date_in d.rows in
     let i = c.args.stage in
     let table = c.dates-released.ensures.least in
     let from = numbered_in p _ c.release.result (λ q. release q i) c.requires.numbers c.release.ensures.station c.release.ensures.exists in
     let to = numbered_in p _ c.receiver.result (λ q. receiver q i) c.requires.numbers c.receiver.ensures.station c.receiver.ensures.exists in
-    let released_exists = exists_in p d.graph c.release.result c.requires.of_plant from.1 in
-    let taken_exists = exists_in p d.graph c.receiver.result c.requires.of_plant to.1 in
-    let released_row = ap (λ row. dates_until row v) c.dates-released.ensures.dates ∙ count-row d c.release.result v table released_exists in
-    let taken_row = ap (λ row. dates_until row v) c.dates-taken.ensures.dates ∙ count-row d c.receiver.result v table taken_exists in
-    let released = done_in p d.graph x c.release.result (release p i) v (dates_until c.dates-released.result.now v) c.requires.of_plant from.0 released_row in
-    let taken = done_in p d.graph x c.receiver.result (receiver p i) v (dates_until c.dates-taken.result.now v) c.requires.of_plant to.0 taken_row in
-    omega (arith, standing-is p x i v c.requires.sound (solves c) c.requires.exists, c.starting.ensures)
+    let released = row-done p d c.release.result c.dates-released.result.now c.requires.of_plant table from.1 c.dates-released.ensures.dates (release p i) v from.0 in
+    let taken = row-done p d c.receiver.result c.dates-taken.result.now c.requires.of_plant table to.1 c.dates-taken.ensures.dates (receiver p i) v to.0 in
+    omega (arith, standing-is p (date_in d.rows) i v c.requires.sound (solves c) c.requires.exists, c.starting.ensures)
 
 covers : (c : After-most_between) (v : ℕ) → standing c.args.plant.now (date_in c.args.table.now.rows) c.args.stage v ≤ c.most_between.result
 covers c v = omega (arith, level c v, c.most_between.ensures.covers v)
