@@ -1,8 +1,9 @@
 -- A name is a label, and so are two names with a dot between them.
-use Rattle.std.proofs.Common.{◌≡◌, ℕ, ◌≤◌, true, leb, List, ◌++◌, length, codes, refl, ◌∙◌, arith, length-append}
+use Rattle.std.proofs.Common.{◌≡◌, ℕ, ◌+◌, ◌<◌, ◌≤◌, true, leb, List, [], ◌∷◌, ◌++◌, length, get_or, take, map, codes, refl, sym, ap, ◌∙◌, arith, length-append}
 use Rattle.std.specs.List.{list_all}
 use Rattle.std.proofs.lemmas.Bool.{and_parts, and_from, leb-true, le-leb}
 use Rattle.std.proofs.lemmas.Bool.Decides.{nat_tests}
+use Rattle.std.proofs.lemmas.List.{append_assoc, map_more}
 use Rattle.std.proofs.lemmas.List.Elements.{All-weaker}
 use Rattle.std.proofs.lemmas.List.Sums.{AllPass-from_list_all, list_all-from_AllPass}
 use Rattle.std.proofs.lemmas.List.Folds.{list_all-append}
@@ -47,3 +48,9 @@ is_label-machine stage machine h k =
     let dotted = list_all-append (is_between 33 126) stage (codes ".") ∙ and_from _ true first.prints refl in
     let prints = list_all-append (is_between 33 126) front machine ∙ and_from _ _ dotted second.prints in
     label_from (front ++ machine) (omega (arith, first.some)) (omega (arith, first.short, second.short)) prints
+
+-- one label more behind others, of the next element of a list
+pub labels_more : {M : Type 0} (front : List (List ℕ)) (first : List ℕ) (label : M → List ℕ) (ms : List M) (m : M) (i : ℕ) (all new : List (List ℕ)) → all ≡ front ++ (first ∷ map label (take i ms)) → i < length ms → m ≡ get_or ms i m → new ≡ all ++ label m ∷ [] → new ≡ front ++ (first ∷ map label (take (i + 1) ms))
+labels_more front first label ms m i all new is below read at =
+    let more = map_more label ms i m below ∙ ap (λ n. map label (take i ms) ++ label n ∷ []) (sym read) in
+    at ∙ ap (λ xs. xs ++ label m ∷ []) is ∙ append_assoc front (first ∷ map label (take i ms)) (label m ∷ []) ∙ ap (λ xs. front ++ (first ∷ xs)) (sym more)

@@ -29,11 +29,11 @@ fn fill_labels(alloc: Global, plant: &Plant, all: &mut Vec<Label>) -> Result<(),
     ensures all { OnOk result (all.new.items ≡ labels plant.now) }
     ensures rule { OnOk result (AreLabels all.new.items) }
 {
-    all.push(Label::of(alloc, b"feed")?)?;
+    add_label(alloc, b"feed", all)?;
     for stage in plant.stages.as_slice() {
         add_stage_labels(alloc, stage, all)?;
     }
-    all.push(Label::of(alloc, b"deliver")?)?;
+    add_label(alloc, b"deliver", all)?;
     Ok(())
 }
 
@@ -42,20 +42,37 @@ fn add_stage_labels(alloc: Global, stage: &Stage, all: &mut Vec<Label>) -> Resul
     ensures added { OnOk result (all.new.items ≡ all.old.items ++ stage_labels stage.now) }
     ensures rule { OnOk result (AreLabels all.old.items → AreLabels all.new.items) }
 {
-    all.push(Label::of(alloc, stage.name.text())?)?;
+    add_label(alloc, stage.name.text(), all)?;
     for machine in stage.machines.as_slice() {
-        all.push(machine_label(alloc, &stage.name, &machine.name)?)?;
+        add_machine_label(alloc, &stage.name, &machine.name, all)?;
     }
     Ok(())
 }
 
-/// The label of a machine: its stage's name, a dot, its own name.
-fn machine_label(alloc: Global, stage: &Name, machine: &Name) -> Result<Label, AllocError>
-    ensures label { IfOk result (λ label. label ≡ stage.now ++ codes "." ++ machine.now) }
-    ensures rule { IfOk result (λ label. IsTrue (is_label label)) }
+/// Adds the label of a machine: its stage's name, a dot, its own name.
+fn add_machine_label(
+    alloc: Global,
+    stage: &Name,
+    machine: &Name,
+    all: &mut Vec<Label>,
+) -> Result<(), AllocError>
+    ensures added { OnOk result (all.new.items ≡
+        all.old.items ++ (stage.now ++ codes "." ++ machine.now) ∷ []) }
+    ensures rule { OnOk result (AreLabels all.old.items → AreLabels all.new.items) }
 {
     let mut text = Vec::from_slice(alloc, stage.text())?;
     text.push(b'.')?;
     text.extend_from_slice(machine.text())?;
-    Label::of(alloc, text.as_slice())
+    add_label(alloc, text.as_slice(), all)?;
+    Ok(())
+}
+
+/// Adds a label of this text.
+fn add_label(alloc: Global, text: &[u8], all: &mut Vec<Label>) -> Result<(), AllocError>
+    requires { IsTrue (is_label text.now) }
+    ensures added { OnOk result (all.new.items ≡ all.old.items ++ text.now ∷ []) }
+    ensures rule { OnOk result (AreLabels all.old.items → AreLabels all.new.items) }
+{
+    all.push(Label::of(alloc, text)?)?;
+    Ok(())
 }
