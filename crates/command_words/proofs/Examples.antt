@@ -21,26 +21,26 @@ decimal-digits : (ds : List ℕ) → list_all is_ascii_digit ds ≡ true → sta
     → digits_value 10 ds < 2 ^ 64 → decimal (digits_value 10 ds) ≡ ds
 decimal-digits ds digits plain some small = sym (decimal-read ds plain (some, own.to ds digits) small)
 
-decimal-0 : decimal 0 ≡ codes "0"
-decimal-0 = decimal-digits (codes "0") refl refl (lit< tt) (lit< tt)
+-- what is written of the numbers in the words below
+record Numerals : Type 0 where
+  pub none : decimal 0 ≡ codes "0"
+  pub two : decimal 2 ≡ codes "2"
+  pub sixteen : decimal 16 ≡ codes "16"
+  pub seventeen : decimal 17 ≡ codes "17"
+  pub most_room : decimal 10_000 ≡ codes "10000"
+  pub more_room : decimal 10_001 ≡ codes "10001"
+  pub greatest : decimal 18_446_744_073_709_551_615 ≡ codes "18446744073709551615"
 
-decimal-2 : decimal 2 ≡ codes "2"
-decimal-2 = decimal-digits (codes "2") refl refl (lit< tt) (lit< tt)
-
-decimal-10000 : decimal 10_000 ≡ codes "10000"
-decimal-10000 = decimal-digits (codes "10000") refl refl (lit< tt) (lit< tt)
-
-decimal-10001 : decimal 10_001 ≡ codes "10001"
-decimal-10001 = decimal-digits (codes "10001") refl refl (lit< tt) (lit< tt)
-
-decimal-16 : decimal 16 ≡ codes "16"
-decimal-16 = decimal-digits (codes "16") refl refl (lit< tt) (lit< tt)
-
-decimal-17 : decimal 17 ≡ codes "17"
-decimal-17 = decimal-digits (codes "17") refl refl (lit< tt) (lit< tt)
-
-greatest : decimal 18_446_744_073_709_551_615 ≡ codes "18446744073709551615"
-greatest = decimal-digits (codes "18446744073709551615") refl refl (lit< tt) (lit< tt)
+numerals : Numerals
+numerals = record {
+  none = decimal-digits (codes "0") refl refl (lit< tt) (lit< tt);
+  two = decimal-digits (codes "2") refl refl (lit< tt) (lit< tt);
+  sixteen = decimal-digits (codes "16") refl refl (lit< tt) (lit< tt);
+  seventeen = decimal-digits (codes "17") refl refl (lit< tt) (lit< tt);
+  most_room = decimal-digits (codes "10000") refl refl (lit< tt) (lit< tt);
+  more_room = decimal-digits (codes "10001") refl refl (lit< tt) (lit< tt);
+  greatest = decimal-digits (codes "18446744073709551615") refl refl (lit< tt) (lit< tt);
+}
 
 -- words that are a command
 commands : (command_of (codes "run" ∷ codes "a.toml" ∷ []) ≡ Some (Run (codes "a.toml") 1 None))
@@ -68,17 +68,17 @@ commands : (command_of (codes "run" ∷ codes "a.toml" ∷ []) ≡ Some (Run (co
 unfolding number_in with_flag with_value options_after asked after_big after_resume after_replay after_whatif after_cards plant_command after_plant_word
 commands = (
   refl,
-  rw decimal-0 refl,
-  rw (decimal-16, decimal-2) refl,
-  rw decimal-2 refl,
-  rw decimal-10000 refl,
-  rw (decimal-2, decimal-16) refl,
+  rw numerals.none refl,
+  rw (numerals.sixteen, numerals.two) refl,
+  rw numerals.two refl,
+  rw numerals.most_room refl,
+  rw (numerals.two, numerals.sixteen) refl,
   refl,
-  rw decimal-2 refl,
-  rw decimal-2 refl,
+  rw numerals.two refl,
+  rw numerals.two refl,
   refl,
-  rw greatest refl,
-  rw decimal-0 refl,
+  rw numerals.greatest refl,
+  rw numerals.none refl,
   refl,
   refl,
   refl,
@@ -117,24 +117,24 @@ unfolding number_in with_flag with_value options_after asked after_big after_res
 others = (
   refl,
   refl,
-  rw decimal-17 refl,
-  rw decimal-2 refl,
-  rw decimal-0 refl,
-  rw decimal-2 refl,
+  rw numerals.seventeen refl,
+  rw numerals.two refl,
+  rw numerals.none refl,
+  rw numerals.two refl,
   refl,
   refl,
   refl,
-  rw decimal-2 refl,
-  rw decimal-2 refl,
+  rw numerals.two refl,
+  rw numerals.two refl,
   refl,
-  rw decimal-0 refl,
-  rw decimal-10001 refl,
+  rw numerals.none refl,
+  rw numerals.more_room refl,
   refl,
-  rw decimal-2 refl,
-  rw decimal-2 refl,
-  rw decimal-2 refl,
-  rw decimal-2 refl,
-  rw decimal-2 refl,
+  rw numerals.two refl,
+  rw numerals.two refl,
+  rw numerals.two refl,
+  rw numerals.two refl,
+  rw numerals.two refl,
   refl,
   refl,
   refl,

@@ -8,7 +8,7 @@ use Rattle.line_base.specs.Text.{is_file_name, is_checkpoint_name}
 use Rattle.command_words.specs.Numbers.{number_in, most_firings, most_ring_room, longest_wait}
 use Rattle.command_words.specs.Options.{Given, none_given, once, checkpoint_in, takes_no_value, with_flag, with_value, options_after, value_after, has_stand}
 use Rattle.command_words.specs.Settings.{Way, Asked, whole, stopped, saving, from_slots, bounded, standing, way_by, way_of, asked_by, asked}
-use Rattle.command_words.specs.Words.{IsStill, alone, run_command, resume_command, resume_slots_command, big_command, with_options, after_big, after_resume, after_replay, after_whatif, after_cards, plant_command, after_plant_word, command_of}
+use Rattle.command_words.specs.Words.{IsStill, alone, run_command, resume_command, resume_slots_command, big_command, with_options, with_file, after_big, after_resume, after_replay, after_whatif, after_cards, plant_command, after_plant_word, command_of}
 use Rattle.command_words.specs.declared.command.Command.{Command}
 use Rattle.command_words.specs.declared.command.Command.TheVariants.{Check, Replay, Cycle, Cards, WhatIf, Help, Version}
 
@@ -156,19 +156,11 @@ after_resume_still plant (word ∷ words) none =
     (λ is. options_fine (resume_command plant word) words (rest_still word words none) (λ workers way still. resume_still plant word workers way))
     (λ isnt. options_fine (resume_slots_command plant) (word ∷ words) none (λ workers way still. slots_still plant workers way))
 
-after_replay_still : (plant : List ℕ) (words : List (List ℕ)) → Still (after_replay plant words)
-unfolding after_replay
-after_replay_still plant [] = tt
-after_replay_still plant (schedule ∷ []) =
-    if_gives IsStill (is_file_name schedule) (Some (Replay plant schedule)) None (λ is. tt) (λ isnt. tt)
-after_replay_still plant (schedule ∷ (word ∷ words)) = tt
-
-after_whatif_still : (plant : List ℕ) (words : List (List ℕ)) → Still (after_whatif plant words)
-unfolding after_whatif
-after_whatif_still plant [] = tt
-after_whatif_still plant (edits ∷ []) =
-    if_gives IsStill (is_file_name edits) (Some (WhatIf plant edits)) None (λ is. tt) (λ isnt. tt)
-after_whatif_still plant (edits ∷ (word ∷ words)) = tt
+file_still : (command : List ℕ → Command) → ((file : List ℕ) → IsStill (command file)) → (words : List (List ℕ)) → Still (with_file command words)
+file_still command still [] = tt
+file_still command still (file ∷ []) =
+    if_gives IsStill (is_file_name file) (Some (command file)) None (λ is. still file) (λ isnt. tt)
+file_still command still (file ∷ (word ∷ words)) = tt
 
 after_cards_still : (plant : List ℕ) (words : List (List ℕ)) → Still (after_cards plant words)
 unfolding after_cards
@@ -177,15 +169,15 @@ after_cards_still plant (wait ∷ []) = map_gives IsStill (λ n. Cards plant n) 
 after_cards_still plant (wait ∷ (word ∷ words)) = tt
 
 plant_still : (word plant : List ℕ) (words : List (List ℕ)) → has_stand words ≡ false → Still (plant_command word plant words)
-unfolding plant_command
+unfolding plant_command after_replay after_whatif
 plant_still word plant words none =
     if_gives IsStill (bytes_eq word (codes "run")) _ _ (λ is. options_fine (run_command plant) words none (run_still plant))
     (λ no. if_gives IsStill (bytes_eq word (codes "check")) _ _ (λ is. alone_still (Check plant) words tt)
-    (λ no. if_gives IsStill (bytes_eq word (codes "replay")) _ _ (λ is. after_replay_still plant words)
+    (λ no. if_gives IsStill (bytes_eq word (codes "replay")) _ _ (λ is. file_still (λ schedule. Replay plant schedule) (λ schedule. tt) words)
     (λ no. if_gives IsStill (bytes_eq word (codes "resume")) _ _ (λ is. after_resume_still plant words none)
     (λ no. if_gives IsStill (bytes_eq word (codes "cycle")) _ _ (λ is. alone_still (Cycle plant) words tt)
     (λ no. if_gives IsStill (bytes_eq word (codes "cards")) _ _ (λ is. after_cards_still plant words)
-    (λ no. if_gives IsStill (bytes_eq word (codes "whatif")) _ None (λ is. after_whatif_still plant words) (λ no. tt)))))))
+    (λ no. if_gives IsStill (bytes_eq word (codes "whatif")) _ None (λ is. file_still (λ edits. WhatIf plant edits) (λ edits. tt) words) (λ no. tt)))))))
 
 plant_word_still : (word : List ℕ) (words : List (List ℕ)) → has_stand words ≡ false → Still (after_plant_word word words)
 unfolding after_plant_word

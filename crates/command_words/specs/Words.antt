@@ -58,14 +58,17 @@ after_resume plant (word ∷ words) =
     then with_options (resume_command plant word) words
     else with_options (resume_slots_command plant) (word ∷ words)
 
+-- one word, which names a file, as the command that it makes
+abbrev pub with_file : (List ℕ → Command) → List (List ℕ) → Option Command
+with_file command (file ∷ []) = if is_file_name file then Some (command file) else None
+with_file command words = None
+
 -- the words behind `replay PLANT`, `whatif PLANT` and `cards PLANT`
 unfoldable pub after_replay : List ℕ → List (List ℕ) → Option Command
-after_replay plant (schedule ∷ []) = if is_file_name schedule then Some (Replay plant schedule) else None
-after_replay plant words = None
+after_replay plant words = with_file (λ schedule. Replay plant schedule) words
 
 unfoldable pub after_whatif : List ℕ → List (List ℕ) → Option Command
-after_whatif plant (edits ∷ []) = if is_file_name edits then Some (WhatIf plant edits) else None
-after_whatif plant words = None
+after_whatif plant words = with_file (λ edits. WhatIf plant edits) words
 
 unfoldable pub after_cards : List ℕ → List (List ℕ) → Option Command
 after_cards plant (wait ∷ []) = option_map (λ n. Cards plant n) (number_in 0 longest_wait wait)

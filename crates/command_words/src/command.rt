@@ -15,7 +15,7 @@ pub struct Stop {
 }
 
 /// What the words after the program's name ask for.
-#[derive(Debug, Drop)]
+#[derive(Drop)]
 pub enum Command {
     /// `run PLANT [--workers W] [--stop-after N --save FILE]`: the report of the plant, or a checkpoint of its run.
     Run {

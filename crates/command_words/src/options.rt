@@ -1,7 +1,7 @@
-ghost use Rattle.std.specs.Prelude.{◌≡◌, codes, option_map, IfSome};
+ghost use Rattle.std.specs.Prelude.{◌≡◌, codes, option_map, IfSome, Some};
 ghost use Rattle.std.specs.Str.{bytes_eq};
 ghost use Rattle.command_words.specs.Ranges.{AreInRange};
-ghost use Rattle.command_words.specs.Options.{seen, none_given, with_flag, with_value, options_after, takes_no_value, has_stand, texts};
+ghost use Rattle.command_words.specs.Options.{seen, none_given, once, with_flag, with_value, options_after, takes_no_value, has_stand, texts};
 
 use crate::first::first_word;
 use crate::limits::MAX_FIRINGS;
@@ -97,27 +97,38 @@ fn with_value<'a>(given: Options<'a>, name: &str, word: &'a str) -> Option<Optio
     ensures range { IfSome result AreInRange }
 {
     match name {
-        "--workers" if given.workers.is_none() => Some(Options {
-            workers: Some(workers_in(word)?),
+        "--workers" => Some(Options {
+            workers: Some(once(given.workers, workers_in(word))?),
             ..given
         }),
-        "--stop-after" if given.stop_after.is_none() => Some(Options {
-            stop_after: Some(number_in(word, 0, MAX_FIRINGS)?),
+        "--stop-after" => Some(Options {
+            stop_after: Some(once(given.stop_after, number_in(word, 0, MAX_FIRINGS))?),
+            ..given
+        }),
+        "--every" => Some(Options {
+            every: Some(once(given.every, number_in(word, 1, MAX_FIRINGS))?),
+            ..given
+        }),
+        "--room" => Some(Options {
+            room: Some(once(given.room, room_in(word))?),
             ..given
         }),
         "--save" if given.save.is_none() && is_checkpoint_name(word.as_bytes()) => Some(Options {
             save: Some(word),
             ..given
         }),
-        "--every" if given.every.is_none() => Some(Options {
-            every: Some(number_in(word, 1, MAX_FIRINGS)?),
-            ..given
-        }),
-        "--room" if given.room.is_none() => Some(Options {
-            room: Some(room_in(word)?),
-            ..given
-        }),
         _ => None,
+    }
+}
+
+/// The value of an option that wasn't given before.
+fn once<T: Copy>(before: Option<T>, value: Option<T>) -> Option<T>
+    ensures once { result ≡ once before value }
+    ensures same { IfSome result (λ given. value ≡ Some given) }
+{
+    match before {
+        None => value,
+        Some(_) => None,
     }
 }
 

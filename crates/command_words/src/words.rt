@@ -38,10 +38,10 @@ fn alone(command: Command, words: &[String]) -> Result<Command, WordsError>
     ensures { IsReadAs result (alone command (texts words.now)) }
 {
     if words.is_empty() {
-        Ok(command)
-    } else {
-        Err(WordsError::Usage)
+        return Ok(command);
     }
+    drop(command);
+    Err(WordsError::Usage)
 }
 
 /// The command of the words behind `big`.
