@@ -47,27 +47,15 @@ run_fine plant workers standing = tt
 
 resume_fine : (plant saved : List ℕ) → is_file_name plant ≡ true → is_checkpoint_name saved ≡ true → (workers : ℕ) (way : Way) → Fine (resume_command plant saved workers way)
 resume_fine plant saved file checkpoint workers whole = (file, checkpoint)
-resume_fine plant saved file checkpoint workers (stopped after save) = tt
-resume_fine plant saved file checkpoint workers (saving every) = tt
-resume_fine plant saved file checkpoint workers from_slots = tt
-resume_fine plant saved file checkpoint workers (bounded room) = tt
-resume_fine plant saved file checkpoint workers standing = tt
+resume_fine plant saved file checkpoint workers other = tt
 
 slots_fine : (plant : List ℕ) (workers : ℕ) (way : Way) → Fine (resume_slots_command plant workers way)
-slots_fine plant workers whole = tt
-slots_fine plant workers (stopped after save) = tt
-slots_fine plant workers (saving every) = tt
 slots_fine plant workers from_slots = tt
-slots_fine plant workers (bounded room) = tt
-slots_fine plant workers standing = tt
+slots_fine plant workers other = tt
 
 big_fine : (seed workers : ℕ) (way : Way) → Fine (big_command seed workers way)
 big_fine seed workers whole = tt
-big_fine seed workers (stopped after save) = tt
-big_fine seed workers (saving every) = tt
-big_fine seed workers from_slots = tt
-big_fine seed workers (bounded room) = tt
-big_fine seed workers standing = tt
+big_fine seed workers other = tt
 
 after_big_fine : (words : List (List ℕ)) → Fine (after_big words)
 unfolding after_big
