@@ -1,14 +1,17 @@
 -- What a command comes to over its live plant needs no cause outside: it names no file that failed, and no disk.
 use Rattle.std.proofs.Common.{◌≡◌, ℕ, List, sym, subst, inl, inr}
-use Rattle.std.specs.Prelude.{Result, Ok, Err, IfErr}
+use Rattle.std.specs.Prelude.{Some, None, Result, Ok, Err, IfErr}
 use Rattle.card_sizing.specs.declared.sizing.SizingError.{SizingError}
 use Rattle.card_sizing.specs.declared.sizing.SizingError.TheVariants as sizing
 use Rattle.checkpoint.specs.declared.error.CheckpointError.{CheckpointError}
 use Rattle.checkpoint.specs.declared.error.CheckpointError.TheVariants as checkpoint
+use Rattle.command_words.specs.declared.command.Command.{Command}
+use Rattle.command_words.specs.declared.command.Command.TheVariants as command
 use Rattle.cycle_time.specs.declared.certificate.CycleError.{CycleError}
 use Rattle.cycle_time.specs.declared.certificate.CycleError.TheVariants as cycle
 use Rattle.event_graph.specs.State.{State}
 use Rattle.line_base.specs.declared.event.Parts.{Parts}
+use Rattle.line_core.specs.Schedule.{follow}
 use Rattle.line_core.specs.declared.error.ReplayError.{ReplayError}
 use Rattle.line_core.specs.declared.error.ReplayError.TheVariants as replay
 use Rattle.plant_model.specs.declared.plant.Plant.{Plant}
@@ -18,11 +21,13 @@ use Rattle.pull_words.specs.CheckpointRefusals.{checkpoint_reply}
 use Rattle.pull_words.specs.Refusals.{cycle_reply, sizing_reply}
 use Rattle.pull_words.specs.ScheduleRefusals.{reply_of}
 use Rattle.pull_words.specs.declared.reply.Reply.{Reply}
-use Rattle.pull_words.specs.declared.reply.Reply.TheVariants.{CardsFound, Checked, CycleFound, NotEdited}
+use Rattle.pull_words.specs.declared.reply.Reply.TheVariants.{CardsFound, Checked, CycleFound, Help, NotEdited, Version}
 use Rattle.command_outputs.specs.CardsText.{cards_text}
 use Rattle.pull_deeds.specs.Answers.{IsReport, IsEnd, IsResumed, IsCheck, IsCycled, IsCards, IsChange, IsWhatIf, IsSummary}
 use Rattle.pull_deeds.specs.declared.output.Output.{Output}
 use Rattle.pull_steps.proofs.StepLemmas.{NeedsNoCause}
+use Rattle.pull_cli.specs.Tasks.{SaysAlone, SaysOfPlant, SaysOfFile}
+use Rattle.pull_cli.specs.Verdict.{task_of}
 
 -- what holds of an answer that need not have a cause
 abbrev pub NeedsNone : Result Output Reply → Type 0
@@ -92,3 +97,30 @@ change_needs_none p edits (Err reply) is = absurd is
 pub of_what_if : (p : Plant) (edits : List ℕ) (answer : Result Output Reply) → IsWhatIf p edits answer → NeedsNone answer
 of_what_if p edits answer (inl change) = change_needs_none p edits answer change
 of_what_if p edits answer (inr refused) = says (NotEdited refused.line) tt answer refused.says
+
+-- so does what each command answers
+pub alone_caused : (c : Command) (answer : Result Output Reply) → SaysAlone (task_of c) answer → NeedsNone answer
+alone_caused command.Help answer is = says Help tt answer is
+alone_caused command.Version answer is = says Version tt answer is
+alone_caused (command.Big seed workers) answer is = of_summary seed answer is
+alone_caused (command.Run plant workers None) answer is = absurd is
+alone_caused (command.Run plant workers (Some stop)) answer is = absurd is
+alone_caused other answer is = absurd is
+
+pub plant_caused : (c : Command) (p : Plant) (answer : Result Output Reply) → SaysOfPlant (task_of c) p answer → NeedsNone answer
+plant_caused (command.Run plant workers None) p answer is = of_report p answer is
+plant_caused (command.Run plant workers (Some stop)) p answer is = absurd is
+plant_caused (command.RunRoom plant room workers) p answer is = of_report p answer is
+plant_caused (command.RunStand plant workers) p answer is = of_report p answer is
+plant_caused (command.Check plant) p answer is = of_check p answer is
+plant_caused (command.Cycle plant) p answer is = of_cycled p answer is
+plant_caused (command.Cards plant wait) p answer is = of_cards p wait answer is
+plant_caused other p answer is = absurd is
+
+pub file_caused : (c : Command) (p : Plant) (bytes : List ℕ) (answer : Result Output Reply) → SaysOfFile (task_of c) p bytes answer → NeedsNone answer
+file_caused (command.Resume plant saved workers) p bytes answer is = of_resumed p bytes answer is
+file_caused (command.Replay plant schedule) p bytes answer is = of_end p (follow (graph p) bytes) answer is
+file_caused (command.WhatIf plant edits) p bytes answer is = of_what_if p bytes answer is
+file_caused (command.Run plant workers None) p bytes answer is = absurd is
+file_caused (command.Run plant workers (Some stop)) p bytes answer is = absurd is
+file_caused other p bytes answer is = absurd is

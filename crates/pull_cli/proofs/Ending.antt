@@ -9,12 +9,12 @@ use Rattle.command_words.specs.declared.command.WordsError.TheVariants as words_
 use Rattle.line_io.specs.Calls.{Read, Write, Asked, none_asked}
 use Rattle.line_io.specs.StoreView.{StoreView}
 use Rattle.pull_words.specs.declared.reply.Reply.{Reply}
-use Rattle.pull_words.specs.declared.reply.Reply.TheVariants.{NoMemory, Usage}
+use Rattle.pull_words.specs.declared.reply.Reply.TheVariants.{NoMemory}
 use Rattle.pull_steps.specs.Deeds.{DiskOver, with_asked, HasCause, Does}
 use Rattle.pull_steps.specs.Outside.{StoreOver, SinkOver, store_over, IsOfFile}
 use Rattle.pull_deeds.specs.declared.output.Output.{Output}
 use Rattle.pull_cli.specs.Ends.{Ends, Finishes}
-use Rattle.pull_cli.specs.Verdict.{OfWords, CommandDoes}
+use Rattle.pull_cli.specs.Verdict.{OfWords, CommandDoes, IsWordsReply}
 
 -- a store that was asked nothing
 asked_nothing : (asked : Asked) → asked ≡ with_asked asked none_asked
@@ -52,18 +52,18 @@ asks_nothing tells view disk words reply same is caused = record {
   disk_faults_stay_or_rise = subst (λ v. disk.old.faults ≤ v.faults) (sym same) (omega arith);
 }
 
-pub usage_does : (tells : Bool) (view : StoreView) (disk : DiskOver) (words : Option Command) → disk.new ≡ disk.old → words ≡ None → Does {A = Output} (store_over tells view view) disk (OfWords tells view.files words) (Err Usage)
-usage_does tells view disk words same none =
-    asks_nothing tells view disk words Usage same
-    (subst (λ (w : Option Command). OfWords tells view.files w none_asked disk (Err Usage)) (sym none) (refl, same, refl)) tt
+pub no_command_does : (tells : Bool) (view : StoreView) (disk : DiskOver) (words : Option Command) (reply : Reply) → disk.new ≡ disk.old → IsWordsReply words reply → Does {A = Output} (store_over tells view view) disk (OfWords tells view.files words) (Err reply)
+no_command_does tells view disk None reply same is =
+    asks_nothing tells view disk None reply same (refl, same, ap (λ (r : Reply). Err r) is)
+    (subst (HasCause (store_over tells view view) disk []) (sym is) tt)
+no_command_does tells view disk (Some command) reply same is =
+    asks_nothing tells view disk (Some command) reply same (inr (refl, same, ap (λ (r : Reply). Err r) is))
+    (subst (HasCause (store_over tells view view) disk []) (sym is) tt)
 
-some_memory : (tells : Bool) (view : StoreView) (disk : DiskOver) (words : Option Command) → disk.new ≡ disk.old → (words ≡ None → ⊥) → OfWords tells view.files words none_asked disk (Err NoMemory)
-some_memory tells view disk None same some = absurd (some refl)
-some_memory tells view disk (Some command) same some = inr (refl, same, refl)
-
-pub memory_does : (tells : Bool) (view : StoreView) (disk : DiskOver) (words : Option Command) → disk.new ≡ disk.old → (words ≡ None → ⊥) → Does {A = Output} (store_over tells view view) disk (OfWords tells view.files words) (Err NoMemory)
-memory_does tells view disk words same some =
-    asks_nothing tells view disk words NoMemory same (some_memory tells view disk words same some) tt
+-- which of the two it is
+pub memory_comes : (words : Option Command) → (words ≡ None → ⊥) → IsWordsReply words NoMemory
+memory_comes None some = absurd (some refl)
+memory_comes (Some command) some = refl
 
 pub memory_is_no_usage : (e : WordsError) (r : Result Command WordsError) → e ≡ words_error.NoMemory → r ≡ Err e → r ≡ Err words_error.Usage → ⊥
 memory_is_no_usage e r memory is usage = cc

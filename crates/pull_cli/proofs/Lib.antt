@@ -3,3 +3,4 @@ pub mod Ending
 pub mod FileLemmas
 pub mod HeadlineLemmas
 pub mod Refusals
+pub mod Tasks

@@ -1,4 +1,5 @@
 pub mod Ends
 pub mod Files
 pub mod Headline
+pub mod Tasks
 pub mod Verdict

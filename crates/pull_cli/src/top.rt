@@ -1,8 +1,8 @@
-ghost use Rattle.std.specs.Prelude.{◌≡◌, ◌++◌, false, Err, OnOk, OnErr};
+ghost use Rattle.std.specs.Prelude.{◌≡◌, ◌++◌, false, Some, IfOk, IfErr, OnOk, OnErr};
 ghost use Rattle.command_words.specs.Options.{has_stand, texts};
 ghost use Rattle.command_words.specs.Ranges.{IsInRange};
 ghost use Rattle.command_words.specs.Usage.{as_line};
-ghost use Rattle.command_words.specs.Words.{command_of, IsStill};
+ghost use Rattle.command_words.specs.Words.{command_of};
 ghost use Rattle.line_io.specs.Faults.{Rose};
 ghost use Rattle.line_io.specs.SinkView.{PutsAll, PutsFront};
 ghost use Rattle.pull_steps.specs.Deeds.{disk_over, Does};
@@ -10,18 +10,15 @@ ghost use Rattle.pull_steps.specs.Outside.{store_over, sink_over};
 ghost use Rattle.pull_cli.specs.Ends.{Ends, Finishes, IsWrittenInParts, Writes, WritesReply};
 ghost use Rattle.pull_cli.specs.Files.{FilesStay};
 ghost use Rattle.pull_cli.specs.Headline.{Headline};
-ghost use Rattle.pull_cli.specs.Verdict.{CommandDoes, OfWords};
+ghost use Rattle.pull_cli.specs.Verdict.{CommandDoes, IsWordsReply, OfWords};
 
-use crate::commands::{
-    check_plant, cycle_plant, edit_plant, replay_plant, resume_plant, resume_plant_from_slots,
-    run_or_stop_plant, run_plant_with_room, run_plant_with_slots, size_plant, stand_plant,
-};
+use crate::commands::{do_command, stand_plant};
 use command_words::{Command, WordsError, has_stand, read_words};
 use itoa::Buffer;
 use line_disk::Disk;
 use line_io::{Failed, Sink, Store, put_all};
 use line_workers::Gate;
-use pull_deeds::{Output, big};
+use pull_deeds::Output;
 use pull_words::{OUT_OF_MEMORY, Reply};
 use std::alloc::Global;
 use std::sync::Wait;
@@ -187,10 +184,9 @@ fn outcome_of<R: Threads + Wait + Sync, S: Store, G: Gate, D: Disk>(
         (disk_over D.tells (D.shown disk.old) (D.shown disk.new))
         (OfWords S.tells (S.shown store.old).files (command_of (texts words.now))) result }
 {
-    match read_words(alloc, words) {
+    match command_in(alloc, words) {
         Ok(command) => do_or_stand(rt, alloc, command, store, gate, disk),
-        Err(WordsError::Usage) => Err(Reply::Usage),
-        Err(WordsError::NoMemory) => Err(Reply::NoMemory),
+        Err(reply) => Err(reply),
     }
 }
 
@@ -208,8 +204,20 @@ fn still_outcome_of<R: Threads + Sync, S: Store, G: Gate, D: Disk>(
         (disk_over D.tells (D.shown disk.old) (D.shown disk.new))
         (OfWords S.tells (S.shown store.old).files (command_of (texts words.now))) result }
 {
-    match read_words(alloc, words) {
+    match command_in(alloc, words) {
         Ok(command) => do_command(rt, alloc, command, store, gate, disk),
+        Err(reply) => Err(reply),
+    }
+}
+
+/// The command that the words are, or what they come to where there is none, or no memory for it.
+fn command_in(alloc: Global, words: &[String]) -> Result<Command, Reply>
+    ensures command { IfOk result (λ command. command_of (texts words.now) ≡ Some command) }
+    ensures range { IfOk result IsInRange }
+    ensures none { IfErr result (IsWordsReply (command_of (texts words.now))) }
+{
+    match read_words(alloc, words) {
+        Ok(command) => Ok(command),
         Err(WordsError::Usage) => Err(Reply::Usage),
         Err(WordsError::NoMemory) => Err(Reply::NoMemory),
     }
@@ -233,69 +241,5 @@ fn do_or_stand<R: Threads + Wait + Sync, S: Store, G: Gate, D: Disk>(
             stand_plant(rt, alloc, store, plant.as_str(), workers, gate)
         }
         command => do_command(rt, alloc, command, store, gate, disk),
-    }
-}
-
-/// What a command comes to that isn't done by standing workers.
-fn do_command<R: Threads + Sync, S: Store, G: Gate, D: Disk>(
-    rt: &R,
-    alloc: Global,
-    command: Command,
-    store: &mut S,
-    gate: &G,
-    disk: &mut D,
-) -> Result<Output, Reply>
-    requires range { IsInRange command }
-    requires still { IsStill command }
-    ensures { CommandDoes (store_over S.tells (S.shown store.old) (S.shown store.new))
-        (disk_over D.tells (D.shown disk.old) (D.shown disk.new)) command result }
-{
-    match command {
-        Command::Help => Err(Reply::Help),
-        Command::Version => Err(Reply::Version),
-        Command::Run {
-            plant,
-            workers,
-            stop,
-        } => { run_or_stop_plant(rt, alloc, store, plant.as_str(), workers, stop, gate) }
-        Command::RunSlots {
-            plant,
-            every,
-            workers,
-        } => { run_plant_with_slots(rt, alloc, store, plant.as_str(), every, workers, gate, disk) }
-        Command::RunRoom {
-            plant,
-            room,
-            workers,
-        } => { run_plant_with_room(rt, alloc, store, plant.as_str(), room, workers, gate) }
-        Command::RunStand { .. } => unreachable!(),
-        Command::Resume {
-            plant,
-            saved,
-            workers,
-        } => {
-            resume_plant(
-                rt,
-                alloc,
-                store,
-                plant.as_str(),
-                saved.as_str(),
-                workers,
-                gate,
-            )
-        }
-        Command::ResumeSlots { plant, workers } => {
-            resume_plant_from_slots(rt, alloc, store, plant.as_str(), workers, gate, disk)
-        }
-        Command::Check { plant } => check_plant(alloc, store, plant.as_str()),
-        Command::Replay { plant, schedule } => {
-            replay_plant(alloc, store, plant.as_str(), schedule.as_str())
-        }
-        Command::Cycle { plant } => cycle_plant(alloc, store, plant.as_str()),
-        Command::Cards { plant, wait } => size_plant(alloc, store, plant.as_str(), wait),
-        Command::WhatIf { plant, edits } => {
-            edit_plant(alloc, store, plant.as_str(), edits.as_str())
-        }
-        Command::Big { seed, workers } => big(rt, alloc, seed, workers, gate),
     }
 }

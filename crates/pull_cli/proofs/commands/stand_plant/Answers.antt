@@ -1,20 +1,18 @@
+use Rattle.std.proofs.Common.{refl}
+use Rattle.command_words.specs.declared.command.Command.TheVariants.{RunStand}
 use Rattle.pull_deeds.specs.Answers.{IsReport}
-use Rattle.pull_steps.specs.PlantSteps.{OfPlantNamed}
-use Rattle.pull_steps.specs.Steps.{Settles}
-use Rattle.pull_steps.proofs.DeedLemmas.{then_settles_plainly, hands_on_plainly}
-use Rattle.plant_model.specs.declared.plant.Plant.{Plant}
 use Rattle.pull_cli.proofs.Causes.{of_report}
+use Rattle.pull_cli.proofs.Tasks.{settled, goes_on, no_plant}
 use Rattle.pull_cli.proofs.commands.stand_plant.Goals as goal
 
-pub returns-in_err-line : goal.returns-in_err-line
-returns-in_err-line g c = λ disk same.
-    let old = g.S.Store.shown c.args.store.now in
-    hands_on_plainly g.S.Store.tells old (g.S.Store.shown c.read_live_plant.new.store) disk (OfPlantNamed g.S.Store.tells old.files c.args.plant.now) (λ (p : Plant). Settles (IsReport p)) c.in_err-line.field-0.0 c.from_residual.result same c.from_residual.ensures.1 c.in_err-line.ensures.makes
-
-pub returns : goal.returns
-returns g c = λ disk same.
-    let old = g.S.Store.shown c.args.store.now in
-    let p = c.in_ok-line.line.plant in
+pub returns-in-Ok : goal.returns-in-Ok
+returns-in-Ok g c = λ disk same.
+    let view = g.S.Store.shown c.read_live_plant.new.store in
+    let p = c.in-Ok.line.plant in
     let answer = c.run_standing.result in
-    then_settles_plainly g.S.Store.tells old (g.S.Store.shown c.read_live_plant.new.store) disk (OfPlantNamed g.S.Store.tells old.files c.args.plant.now) (λ (p : Plant). IsReport p) p answer same c.in_ok-line.ensures.makes
-    (of_report p answer) c.run_standing.ensures
+    goes_on g.S.Store.tells (g.S.Store.shown c.args.store.now) view view disk (RunStand c.args.plant.now c.args.workers) c.args.plant.now c.args.plant.now p answer refl refl c.in-Ok.ensures.makes
+    (same, settled g.S.Store.tells view (IsReport p) answer (of_report p answer) c.run_standing.ensures)
+
+pub returns-in-Err : goal.returns-in-Err
+returns-in-Err g c = λ disk same.
+    no_plant g.S.Store.tells (g.S.Store.shown c.args.store.now) (g.S.Store.shown c.read_live_plant.new.store) disk (RunStand c.args.plant.now c.args.workers) c.args.plant.now c.args.plant.now c.in-Err.reply same refl refl c.in-Err.ensures.makes

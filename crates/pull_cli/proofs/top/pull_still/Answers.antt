@@ -6,25 +6,15 @@ use Rattle.pull_cli.proofs.FileLemmas.{files_of}
 use Rattle.pull_cli.proofs.HeadlineLemmas.{headline_of}
 use Rattle.pull_cli.proofs.top.pull_still.Goals as goal
 
-pub returns-clause-ends : goal.returns-clause-ends
-returns-clause-ends g c =
+pub returns : goal.returns
+returns g c =
+    let words = texts c.args.words.now in
     let store : StoreOver = store_over g.S.Store.tells (g.S.Store.shown c.args.store.now) (g.S.Store.shown c.still_outcome_of-outcome.new.store) in
     let sink : SinkOver = sink_over (g.K.Sink.shown c.args.sink.now) (g.K.Sink.shown c.write_outcome.new.sink) in
     let disk : DiskOver = disk_over g.D.Disk.tells (g.D.Disk.shown c.args.disk.now) (g.D.Disk.shown c.still_outcome_of-outcome.new.disk) in
-    ends_so (texts c.args.words.now) store sink disk c.still_outcome_of-outcome.result c.write_outcome.result c.still_outcome_of-outcome.ensures c.write_outcome.ensures
-
-pub returns-clause-headline : goal.returns-clause-headline
-returns-clause-headline g c =
-    let store : StoreOver = store_over g.S.Store.tells (g.S.Store.shown c.args.store.now) (g.S.Store.shown c.still_outcome_of-outcome.new.store) in
-    let sink : SinkOver = sink_over (g.K.Sink.shown c.args.sink.now) (g.K.Sink.shown c.write_outcome.new.sink) in
-    let disk : DiskOver = disk_over g.D.Disk.tells (g.D.Disk.shown c.args.disk.now) (g.D.Disk.shown c.still_outcome_of-outcome.new.disk) in
-    headline_of (texts c.args.words.now) store sink disk c.write_outcome.result
-    (ends_so (texts c.args.words.now) store sink disk c.still_outcome_of-outcome.result c.write_outcome.result c.still_outcome_of-outcome.ensures c.write_outcome.ensures)
-
-pub returns-clause-files : goal.returns-clause-files
-returns-clause-files g c =
-    let store : StoreOver = store_over g.S.Store.tells (g.S.Store.shown c.args.store.now) (g.S.Store.shown c.still_outcome_of-outcome.new.store) in
-    let sink : SinkOver = sink_over (g.K.Sink.shown c.args.sink.now) (g.K.Sink.shown c.write_outcome.new.sink) in
-    let disk : DiskOver = disk_over g.D.Disk.tells (g.D.Disk.shown c.args.disk.now) (g.D.Disk.shown c.still_outcome_of-outcome.new.disk) in
-    files_of (texts c.args.words.now) store sink disk c.write_outcome.result
-    (ends_so (texts c.args.words.now) store sink disk c.still_outcome_of-outcome.result c.write_outcome.result c.still_outcome_of-outcome.ensures c.write_outcome.ensures)
+    let ends = ends_so words store sink disk c.still_outcome_of-outcome.result c.write_outcome.result c.still_outcome_of-outcome.ensures c.write_outcome.ensures in
+    record {
+      ends = ends;
+      headline = headline_of words store sink disk c.write_outcome.result ends;
+      files = files_of words store sink disk c.write_outcome.result ends;
+    }

@@ -1,10 +1,9 @@
-use Rattle.std.proofs.Common.{refl, ap}
-use Rattle.std.specs.Prelude.{Err}
+use Rattle.std.proofs.Common.{refl}
 use Rattle.command_words.specs.Options.{texts}
 use Rattle.command_words.specs.Words.{command_of}
 use Rattle.command_words.proofs.Standing.{read_still}
 use Rattle.pull_steps.specs.Deeds.{disk_over}
-use Rattle.pull_cli.proofs.Ending.{command_does, usage_does, memory_does, memory_is_no_usage}
+use Rattle.pull_cli.proofs.Ending.{command_does, no_command_does}
 use Rattle.pull_cli.proofs.top.still_outcome_of.Goals as goal
 
 pub returns-in-Ok : goal.returns-in-Ok
@@ -13,17 +12,10 @@ returns-in-Ok g c =
     (disk_over g.D.Disk.tells (g.D.Disk.shown c.args.disk.now) (g.D.Disk.shown c.do_command.new.disk))
     (command_of (texts c.args.words.now)) c.in-Ok.command c.do_command.result c.in-Ok.ensures.command c.do_command.ensures
 
-pub returns-in-Err-Usage : goal.returns-in-Err-Usage
-returns-in-Err-Usage g c =
+pub returns-in-Err : goal.returns-in-Err
+returns-in-Err g c =
     let disk = g.D.Disk.shown c.args.disk.now in
-    usage_does g.S.Store.tells (g.S.Store.shown c.args.store.now) (disk_over g.D.Disk.tells disk disk) (command_of (texts c.args.words.now)) refl
-    (c.in-Err-Usage.ensures.usage.0 (ap Err c.in-Err-Usage.field-0-is))
-
-pub returns-in-Err-NoMemory : goal.returns-in-Err-NoMemory
-returns-in-Err-NoMemory g c =
-    let disk = g.D.Disk.shown c.args.disk.now in
-    memory_does g.S.Store.tells (g.S.Store.shown c.args.store.now) (disk_over g.D.Disk.tells disk disk) (command_of (texts c.args.words.now)) refl
-    (λ none. memory_is_no_usage c.in-Err-NoMemory.field-0 (Err c.in-Err-NoMemory.field-0) c.in-Err-NoMemory.field-0-is refl (c.in-Err-NoMemory.ensures.usage.1 none))
+    no_command_does g.S.Store.tells (g.S.Store.shown c.args.store.now) (disk_over g.D.Disk.tells disk disk) (command_of (texts c.args.words.now)) c.in-Err.reply refl c.in-Err.ensures.none
 
 pub do_command-requires-clause-still : goal.do_command-requires-clause-still
 do_command-requires-clause-still g c κs within =
