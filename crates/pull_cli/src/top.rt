@@ -92,7 +92,11 @@ fn write_outcome<K: Sink>(alloc: Global, outcome: Result<Output, Reply>, sink: &
 {
     match outcome {
         Ok(output) => write_output(output, sink),
-        Err(reply) => write_reply(alloc, &reply, sink),
+        Err(reply) => {
+            let status = write_reply(alloc, &reply, sink);
+            drop(reply);
+            status
+        }
     }
 }
 

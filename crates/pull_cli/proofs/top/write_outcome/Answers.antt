@@ -4,4 +4,4 @@ pub returns-in-Ok : goal.returns-in-Ok
 returns-in-Ok g c = rw c.in-Ok.is c.write_output.ensures
 
 pub returns-in-Err : goal.returns-in-Err
-returns-in-Err g c = rw c.in-Err.is c.write_reply.ensures
+returns-in-Err g c = rw c.in-Err.is c.write_reply-status.ensures
