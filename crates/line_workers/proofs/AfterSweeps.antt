@@ -6,15 +6,16 @@ use Rattle.std.proofs.lemmas.List.FromFn.{get_or-map-range_with_len}
 use Rattle.line_base.specs.declared.event.Parts.{Parts}
 use Rattle.event_graph.specs.Network.{stations}
 use Rattle.event_graph.specs.State.{log}
-use Rattle.line_workers.specs.Team.{WorkTeam}
-use Rattle.line_workers.specs.Teams.{team_at, station_of, state_among}
-use Rattle.line_workers.specs.Crew.{WorkCrew, with_team, teams_of}
-use Rattle.line_workers.specs.Work.{TeamWorked, TeamsWorked}
-use Rattle.line_workers.specs.Crews.{crew_at, no_crew, graph_of, begun_of, AreCrews, AreSameCrews}
+use Rattle.worker_crew.specs.Team.{WorkTeam}
+use Rattle.worker_crew.specs.Teams.{team_at, station_of, state_among}
+use Rattle.worker_crew.specs.Crew.{WorkCrew, with_team, teams_of}
+use Rattle.worker_crew.specs.Work.{TeamWorked, TeamsWorked}
+use Rattle.worker_crew.specs.Crews.{crew_at, no_crew, graph_of, begun_of, AreCrews, AreSameCrews}
 use Rattle.line_workers.specs.Line.{LogsGrow}
 use Rattle.line_workers.specs.Gather.{IsCrewAfter, AreCrewsAfter}
-use Rattle.line_workers.proofs.Working.{idle_team, then_team, station-worked}
-use Rattle.line_workers.proofs.AllCrews.{ranked, count-teams, team_at-crews, crews_are_teams, crews-same}
+use Rattle.worker_crew.proofs.Working.{idle_team, then_team, station-worked}
+use Rattle.line_workers.proofs.AllCrews.{ranked, crews_are_teams, crews-same}
+use Rattle.worker_crew.proofs.CrewTeams.{count-teams, team_at-crews}
 
 log-among : (g : Parts) (teams : List WorkTeam) (t : ℕ) → t < stations g → log (state_among g teams) t ≡ (station_of g teams t).log.dates
 unfolding state_among

@@ -6,15 +6,16 @@ use Rattle.event_graph.specs.Network.{stations, jobs, arc_count}
 use Rattle.card_queue.specs.Plain.{PlainQueue}
 use Rattle.station_step.specs.Station.{WorkStation}
 use Rattle.station_step.specs.Step.{IsReady}
-use Rattle.line_workers.specs.Share.{worker_of, first_of}
-use Rattle.line_workers.specs.Team.{WorkTeam, member}
-use Rattle.line_workers.specs.Teams.{team_at, station_of, shelf_of, IsJoined, AreAllMet}
-use Rattle.line_workers.specs.Crew.{WorkCrew, teams_of}
-use Rattle.line_workers.specs.Work.{dates_of, turns_of, HasWorked, HasBurst, HasBurstAlone, IsAlone, AllDone, TeamWorked, TeamsWorked}
+use Rattle.worker_crew.specs.Share.{worker_of, first_of}
+use Rattle.worker_crew.specs.Team.{WorkTeam, member}
+use Rattle.worker_crew.specs.Teams.{team_at, station_of, shelf_of, IsJoined, AreAllMet}
+use Rattle.worker_crew.specs.Crew.{WorkCrew, teams_of}
+use Rattle.worker_crew.specs.Work.{dates_of, turns_of, HasWorked, HasBurst, HasBurstAlone, IsAlone, AllDone, TeamWorked, TeamsWorked}
 use Rattle.line_workers.specs.Meeting.{AreStill}
-use Rattle.line_workers.specs.Crews.{crew_at, graph_of, begun_of, AreCrews, AreSameCrews, CrewWorked}
+use Rattle.worker_crew.specs.Crews.{crew_at, graph_of, begun_of, AreCrews, AreSameCrews, CrewWorked}
 use Rattle.line_workers.specs.Burst.{AllMade, EachMade, CrewsBurst}
-use Rattle.line_workers.proofs.AllCrews.{count-teams, team_at-crews, graph-same, worker_there, seat_there, seated, of_seat, crews-same, then_same}
+use Rattle.worker_crew.proofs.CrewTeams.{count-teams, team_at-crews}
+use Rattle.line_workers.proofs.AllCrews.{graph-same, worker_there, seat_there, seated, of_seat, crews-same, then_same}
 
 -- the team of the only crew
 single : (crews : List WorkCrew) → length crews ≡ 1 → teams_of crews ≡ (crew_at crews 0).team ∷ []

@@ -1,38 +1,34 @@
 -- The crews of a line as teams, and a meeting among them.
-use Rattle.std.proofs.Common.{◌≡◌, ℕ, ◌+◌, ◌-◌, ◌<◌, ◌≤◌, List, [], Option, length, set, refl, ap, ◌∙◌, sym, subst, arith, ⊎_elim}
+use Rattle.std.proofs.Common.{◌≡◌, ℕ, ◌+◌, ◌-◌, ◌<◌, ◌≤◌, List, Option, length, set, refl, ap, ◌∙◌, sym, subst, arith, ⊎_elim}
 use Rattle.std.proofs.lemmas.Bool.{cases_eq}
-use Rattle.std.proofs.lemmas.List.{length-map, length-set, get_or-map, get_or-set_other, map-set}
+use Rattle.std.proofs.lemmas.List.{length-set, get_or-set_other, map-set}
 use Rattle.line_base.specs.declared.event.Parts.{Parts}
 use Rattle.event_graph.specs.Network.{stations, arc, arc_count, ins, outs}
 use Rattle.live_check.specs.Order.{LiveGraph, IsRanked}
 use Rattle.station_step.specs.Ends.{AreEnds, AreMet}
 use Rattle.station_step.specs.Input.{input_at}
 use Rattle.station_step.specs.Station.{WorkStation, outlet_at}
-use Rattle.line_workers.specs.Share.{worker_of, first_of}
-use Rattle.line_workers.specs.Team.{WorkTeam, IsTeam, member}
-use Rattle.line_workers.specs.Teams.{team_at, worker_at, station_of, place_in, outlet_on, IsJoined, AreOfRoom, AreTeams, IsMetOn, state_among}
-use Rattle.line_workers.specs.Crew.{WorkCrew, with_team, teams_of}
-use Rattle.line_workers.specs.Work.{dates_of, turns_of, dates_made, turns_made, TeamsWorked}
-use Rattle.line_workers.specs.Meeting.{OutletMet, InletMet, MeetsOn}
+use Rattle.worker_crew.specs.Share.{worker_of, first_of}
+use Rattle.worker_crew.specs.Team.{WorkTeam, IsTeam, member}
+use Rattle.worker_crew.specs.Teams.{team_at, worker_at, station_of, place_in, outlet_on, IsJoined, AreOfRoom, AreTeams, IsMetOn, state_among}
+use Rattle.worker_crew.specs.Crew.{WorkCrew, with_team, teams_of}
+use Rattle.worker_crew.specs.Work.{dates_of, turns_of, dates_made, turns_made, TeamsWorked}
+use Rattle.worker_crew.specs.Meeting.{OutletMet, InletMet}
+use Rattle.line_workers.specs.Meeting.{MeetsOn, IsMeeting}
 use Rattle.line_workers.specs.declared.link.Link.{Link}
 use Rattle.line_workers.specs.Link.{seat_of, link_of, seated_at, IsInside, IsSeat, IsRing, HaveMet}
-use Rattle.line_workers.specs.Crews.{crew_at, no_crew, live_of, graph_of, begun_of, room_of, AreCrews, IsSameCrew, AreSameCrews, IsMeeting}
-use Rattle.line_workers.proofs.Share.{first-le, next-above, first-rises, first-all, worker-below}
-use Rattle.line_workers.proofs.Places.{in-stands, out-stands}
-use Rattle.line_workers.proofs.Standing.{inputs-many, outlets-many}
-use Rattle.line_workers.proofs.Working.{idle_team, then_team, teams-worked, rooms-worked, local_is_met}
+use Rattle.worker_crew.specs.Crews.{crew_at, no_crew, live_of, graph_of, begun_of, room_of, AreCrews, IsSameCrew, AreSameCrews}
+use Rattle.worker_crew.proofs.Share.{first-le, next-above, first-rises, first-all, worker-below}
+use Rattle.worker_crew.proofs.Places.{in-stands, out-stands}
+use Rattle.worker_crew.proofs.Standing.{inputs-many, outlets-many}
+use Rattle.worker_crew.proofs.Working.{idle_team, then_team, teams-worked, rooms-worked, local_is_met}
+use Rattle.worker_crew.proofs.CrewTeams.{count-teams, team_at-crews}
 use Rattle.line_workers.proofs.Meeting.{meets_on}
 use Rattle.line_workers.proofs.Totals.{sum_by-map, of_worker, sum-among}
 use Rattle.line_core.specs.Consistent.{fired}
 use Rattle.line_workers.specs.Line.{turns_among}
 use Rattle.std.specs.List.{sum_by, sum, range_with_len}
 use Rattle.std.specs.Prelude.{IfSome}
-
-pub count-teams : (crews : List WorkCrew) → length (teams_of crews) ≡ length crews
-count-teams crews = length-map crews (λ (c : WorkCrew). c.team)
-
-pub team_at-crews : (crews : List WorkCrew) (w : ℕ) → w < length crews → team_at (teams_of crews) w ≡ (crew_at crews w).team
-team_at-crews crews w there = get_or-map (λ (c : WorkCrew). c.team) crews w no_crew (record { stations = []; shelf = [] }) there
 
 -- ---- all crews
 

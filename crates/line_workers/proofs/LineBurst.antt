@@ -17,17 +17,17 @@ use Rattle.line_core.proofs.Consistency.{reached_is_consistent}
 use Rattle.line_core.proofs.Bounds.{fired-le}
 use Rattle.line_core.proofs.Runs.{is_reached}
 use Rattle.station_step.specs.Ends.{HasSpace}
-use Rattle.line_workers.specs.Team.{WorkTeam, member}
-use Rattle.line_workers.specs.Share.{worker_of, first_of}
-use Rattle.line_workers.specs.Teams.{station_of, outlet_on, AreOfRoom, AreTeams, AreAllMet, state_among}
-use Rattle.line_workers.specs.Crew.{WorkCrew, teams_of}
-use Rattle.line_workers.specs.Work.{dates_of, turns_of, TurnsBelow}
-use Rattle.line_workers.specs.Crews.{crew_at, no_crew, live_of, graph_of, begun_of, room_of, AreCrews}
+use Rattle.worker_crew.specs.Team.{WorkTeam, member}
+use Rattle.worker_crew.specs.Share.{worker_of, first_of}
+use Rattle.worker_crew.specs.Teams.{station_of, outlet_on, AreOfRoom, AreTeams, AreAllMet, state_among}
+use Rattle.worker_crew.specs.Crew.{WorkCrew, teams_of}
+use Rattle.worker_crew.specs.Work.{dates_of, turns_of, TurnsBelow}
+use Rattle.worker_crew.specs.Crews.{crew_at, no_crew, live_of, graph_of, begun_of, room_of, AreCrews}
 use Rattle.line_workers.specs.Burst.{AllMade, EachMade, CrewsBurst}
 use Rattle.line_workers.specs.Line.{WorkLine, turns_among, line_of, run_in, KeepsPace, AreAtRest, IsLine, IsWithinRooms, LogsGrow}
 use Rattle.line_workers.proofs.AllCrews.{ranked, crews_are_teams, seat_there, seated, of_seat}
-use Rattle.line_workers.proofs.Standing.{log-among, stands_for_reached, can_fire_is_ready}
-use Rattle.line_workers.proofs.Spacing.{spaces, free-spaces, few-spaces, first_can_fire}
+use Rattle.worker_crew.proofs.Standing.{log-among, stands_for_reached, can_fire_is_ready}
+use Rattle.worker_crew.proofs.Spacing.{spaces, free-spaces, few-spaces, first_can_fire}
 use Rattle.line_workers.proofs.Lines.{within_rooms}
 
 -- ---- totals over the numbers below n

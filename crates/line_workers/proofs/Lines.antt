@@ -11,14 +11,15 @@ use Rattle.line_core.specs.Consistent.{state_of, IsConsistent, IsFinished, fired
 use Rattle.line_core.proofs.Consistency.{reached_is_consistent}
 use Rattle.line_core.proofs.Runs.{is_reached}
 use Rattle.line_core.proofs.Unwinding.{state_of-logs}
-use Rattle.line_workers.specs.Share.{worker_of, first_of}
-use Rattle.line_workers.specs.Teams.{station_of, state_among, AreOfRoom, AreAllMet}
-use Rattle.line_workers.specs.Crew.{WorkCrew, teams_of}
-use Rattle.line_workers.specs.Work.{dates_of, turns_of, AllDone}
-use Rattle.line_workers.specs.Crews.{crew_at, live_of, graph_of, begun_of, AreCrews, AreNewCrews}
+use Rattle.worker_crew.specs.Share.{worker_of, first_of}
+use Rattle.worker_crew.specs.Teams.{station_of, state_among, AreOfRoom, AreAllMet}
+use Rattle.worker_crew.specs.Crew.{WorkCrew, teams_of}
+use Rattle.worker_crew.specs.Work.{dates_of, turns_of, AllDone}
+use Rattle.worker_crew.specs.Crews.{crew_at, live_of, graph_of, begun_of, AreCrews}
+use Rattle.crew_laying.specs.NewCrews.{AreNewCrews}
 use Rattle.line_workers.specs.Line.{line_of, turns_among, AreAtRest, IsWithinRooms, IsLine, StandsIn}
-use Rattle.line_workers.proofs.Standing.{stands_for_reached, state_among-is, log-among}
-use Rattle.line_workers.proofs.Spacing.{place-within}
+use Rattle.worker_crew.proofs.Standing.{stands_for_reached, state_among-is, log-among}
+use Rattle.worker_crew.proofs.Spacing.{place-within}
 use Rattle.line_workers.proofs.AllCrews.{ranked, crews_are_teams, graph-same, worker_there, worker-is, seat_there, seated, of_seat}
 
 -- ---- at rest

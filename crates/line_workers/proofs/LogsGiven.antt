@@ -17,15 +17,16 @@ use Rattle.line_core.specs.ArcTokens.{HasRoom}
 use Rattle.line_core.specs.Run.{Run, run_of}
 use Rattle.line_core.proofs.Solution.{finished_is_least}
 use Rattle.station_step.specs.Station.{WorkStation}
-use Rattle.line_workers.specs.Share.{first_of}
-use Rattle.line_workers.specs.Team.{member}
-use Rattle.line_workers.specs.Teams.{station_of, state_among, AreAllMet}
-use Rattle.line_workers.specs.Crew.{WorkCrew, teams_of}
-use Rattle.line_workers.specs.Crews.{crew_at, live_of, graph_of, begun_of, AreCrews}
+use Rattle.worker_crew.specs.Share.{first_of}
+use Rattle.worker_crew.specs.Team.{member}
+use Rattle.worker_crew.specs.Teams.{station_of, state_among, AreAllMet}
+use Rattle.worker_crew.specs.Crew.{WorkCrew, teams_of}
+use Rattle.worker_crew.specs.Crews.{crew_at, live_of, graph_of, begun_of, AreCrews}
 use Rattle.line_workers.specs.Line.{WorkLine, line_of, run_in, AreAtRest, IsLine}
-use Rattle.line_workers.specs.Close.{log_of, copy_of, first_logs, AreGiven}
-use Rattle.line_workers.proofs.Share.{first-zero, first-all, first-rises}
-use Rattle.line_workers.proofs.Standing.{member_is}
+use Rattle.worker_crew.specs.Logs.{log_of, copy_of}
+use Rattle.line_workers.specs.Close.{first_logs, AreGiven}
+use Rattle.worker_crew.proofs.Share.{first-zero, first-all, first-rises}
+use Rattle.worker_crew.proofs.Standing.{member_is}
 use Rattle.line_workers.proofs.AllCrews.{ranked, crews_are_teams, size-is, of_seat}
 use Rattle.line_workers.proofs.Totals.{by_number}
 use Rattle.line_workers.proofs.Lines.{rest_is_reached, rest_is_of_logs}

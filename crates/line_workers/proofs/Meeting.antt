@@ -15,14 +15,15 @@ use Rattle.station_step.specs.declared.input.Input.{Input}
 use Rattle.station_step.specs.Ends.{AreMet}
 use Rattle.station_step.specs.Input.{input_at}
 use Rattle.station_step.specs.Station.{WorkStation, bare_station, outlet_at}
-use Rattle.line_workers.specs.Share.{worker_of, first_of}
-use Rattle.line_workers.specs.Team.{WorkTeam, member, no_station}
-use Rattle.line_workers.specs.Teams.{team_at, worker_at, station_of, shelf_of, place_in, input_on, outlet_on, AreTeams, IsQueueMet}
-use Rattle.line_workers.specs.Work.{dates_of, turns_of, HasWorked, IsSameShelf, TeamWorked, TeamsWorked}
-use Rattle.line_workers.specs.Meeting.{OutletMet, InletMet, AreStill, MeetsOn}
-use Rattle.line_workers.proofs.Share.{first-le, next-above, worker-below}
-use Rattle.line_workers.proofs.Places.{in-stands, out-stands}
-use Rattle.line_workers.proofs.Working.{idle, idle_shelf, idle_team, then_team}
+use Rattle.worker_crew.specs.Share.{worker_of, first_of}
+use Rattle.worker_crew.specs.Team.{WorkTeam, member, no_station}
+use Rattle.worker_crew.specs.Teams.{team_at, worker_at, station_of, shelf_of, place_in, input_on, outlet_on, AreTeams, IsQueueMet}
+use Rattle.worker_crew.specs.Work.{dates_of, turns_of, HasWorked, IsSameShelf, TeamWorked, TeamsWorked}
+use Rattle.worker_crew.specs.Meeting.{OutletMet, InletMet}
+use Rattle.line_workers.specs.Meeting.{AreStill, MeetsOn}
+use Rattle.worker_crew.proofs.Share.{first-le, next-above, worker-below}
+use Rattle.worker_crew.proofs.Places.{in-stands, out-stands}
+use Rattle.worker_crew.proofs.Working.{idle, idle_shelf, idle_team, then_team}
 
 abbrev no_team : WorkTeam
 no_team = record { stations = []; shelf = [] }

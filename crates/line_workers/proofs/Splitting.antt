@@ -5,10 +5,10 @@ use Rattle.station_step.specs.Ends.{AreMet}
 use Rattle.station_step.specs.Input.{input_at}
 use Rattle.station_step.specs.Station.{outlet_at}
 use Rattle.line_workers.specs.declared.link.Link.{Link}
-use Rattle.line_workers.specs.Team.{member}
-use Rattle.line_workers.specs.Crew.{WorkCrew}
-use Rattle.line_workers.specs.Crews.{crew_at, no_crew, IsSameCrew}
-use Rattle.line_workers.specs.Meeting.{OutletMet, InletMet}
+use Rattle.worker_crew.specs.Team.{member}
+use Rattle.worker_crew.specs.Crew.{WorkCrew}
+use Rattle.worker_crew.specs.Crews.{crew_at, no_crew, IsSameCrew}
+use Rattle.worker_crew.specs.Meeting.{OutletMet, InletMet}
 use Rattle.line_workers.specs.Link.{HaveMet}
 
 -- one change at the front of the second part, after one in the first

@@ -8,10 +8,10 @@ use Rattle.line_base.specs.declared.event.Parts.{Parts}
 use Rattle.event_graph.specs.Network.{stations}
 use Rattle.event_graph.specs.State.{State}
 use Rattle.station_step.specs.Station.{WorkStation}
-use Rattle.line_workers.specs.Share.{first_of}
-use Rattle.line_workers.specs.Team.{WorkTeam, member, no_station}
-use Rattle.line_workers.specs.Teams.{team_at, worker_at, station_of, AreTeams}
-use Rattle.line_workers.proofs.Share.{worker_is, first-zero, first-all}
+use Rattle.worker_crew.specs.Share.{first_of}
+use Rattle.worker_crew.specs.Team.{WorkTeam, member, no_station}
+use Rattle.worker_crew.specs.Teams.{team_at, worker_at, station_of, AreTeams}
+use Rattle.worker_crew.proofs.Share.{worker_is, first-zero, first-all}
 
 -- ---- sums
 

@@ -1,5 +1,5 @@
 -- Crews whose stations count their turns from 0 again: nothing else is changed.
-use Rattle.std.proofs.Common.{◌≡◌, ℕ, zero, suc, ◌+◌, ◌-◌, ◌<◌, ◌≤◌, List, [], ◌∷◌, Option, map, length, refl, ap, ◌∙◌, sym, subst, arith, zero-add}
+use Rattle.std.proofs.Common.{◌≡◌, ℕ, zero, suc, ◌-◌, ◌<◌, ◌≤◌, List, [], ◌∷◌, Option, map, length, refl, ap, ◌∙◌, sym, subst, arith, zero-add}
 use Rattle.std.specs.Prelude.{IfSome}
 use Rattle.std.specs.List.{range_with_len, All}
 use Rattle.std.proofs.lemmas.List.{length-map, get_or-map}
@@ -7,7 +7,6 @@ use Rattle.std.proofs.lemmas.List.FromFn.{fill_by_all, length-map-range_with_len
 use Rattle.std.proofs.lemmas.Simd.{map-map}
 use Rattle.line_base.specs.declared.event.Parts.{Parts}
 use Rattle.line_base.specs.Roomy.{RoomyLog}
-use Rattle.card_queue.specs.Plain.{PlainQueue}
 use Rattle.event_graph.specs.Network.{stations, arc, arc_count, ins, outs}
 use Rattle.event_graph.specs.State.{State}
 use Rattle.live_check.specs.Order.{LiveGraph}
@@ -16,71 +15,20 @@ use Rattle.station_step.specs.declared.ends.Outlet.{Outlet}
 use Rattle.station_step.specs.declared.input.Input.{Input}
 use Rattle.station_step.specs.Ends.{AreEnds}
 use Rattle.station_step.specs.Input.{input_at}
-use Rattle.station_step.specs.Station.{WorkStation, IsStation, AreApart, outlet_at}
-use Rattle.line_workers.specs.Share.{worker_of, first_of}
-use Rattle.line_workers.specs.Team.{WorkTeam, IsMember, IsTeam, member}
-use Rattle.line_workers.specs.Teams.{team_at, worker_at, station_of, shelf_of, place_in, input_on, outlet_on, outlet_initial, ShareQueue, IsJoined, IsOfRoom, AreOfRoom, AreAllMet, state_among}
-use Rattle.line_workers.specs.Crew.{WorkCrew, IsCrew, teams_of}
-use Rattle.line_workers.specs.Work.{turns_of, TeamsWorked}
+use Rattle.station_step.specs.Station.{WorkStation, outlet_at}
+use Rattle.worker_crew.specs.Share.{worker_of, first_of}
+use Rattle.worker_crew.specs.Team.{WorkTeam, member}
+use Rattle.worker_crew.specs.Teams.{team_at, worker_at, station_of, shelf_of, place_in, input_on, outlet_on, outlet_initial, ShareQueue, IsJoined, IsOfRoom, AreOfRoom, AreAllMet, state_among}
+use Rattle.worker_crew.specs.Crew.{WorkCrew, IsCrew, teams_of}
+use Rattle.worker_crew.specs.Work.{turns_of, TeamsWorked}
 use Rattle.line_workers.specs.Meeting.{AreStill}
-use Rattle.line_workers.specs.Crews.{crew_at, no_crew, live_of, graph_of, begun_of, room_of, AreCrews, AreSameCrews}
+use Rattle.worker_crew.specs.Crews.{crew_at, no_crew, live_of, graph_of, begun_of, room_of, AreCrews, AreSameCrews}
 use Rattle.line_workers.specs.Line.{line_of, turns_among, AreAtRest, StandsIn}
-use Rattle.line_workers.specs.Gather.{cleared, cleared_team, cleared_crew, logs_in, Gathers}
+use Rattle.worker_crew.specs.Cleared.{cleared, cleared_team, cleared_crew}
+use Rattle.line_workers.specs.Gather.{logs_in, Gathers}
 use Rattle.line_core.specs.Consistent.{fired}
-use Rattle.line_workers.proofs.Stepping.{crew-with_team}
+use Rattle.worker_crew.proofs.Cleared.{member-cleared, crew_cleared}
 use Rattle.line_workers.proofs.AllCrews.{crews-same}
-
--- ---- one station
-
-station_cleared : (s : WorkStation) → IsStation s → IsStation (cleared s)
-station_cleared s is = record {
-  exists = is.exists;
-  an_input_each = is.an_input_each;
-  an_outlet_each = is.an_outlet_each;
-  made = is.made;
-  few_dates = is.few_dates;
-  log_room = is.log_room;
-  ring_room = is.ring_room;
-}
-
-member_cleared : (g : Parts) (begun : State) (t : ℕ) (shelf : List PlainQueue) (s : WorkStation) → IsMember g begun t shelf s → IsMember g begun t shelf (cleared s)
-member_cleared g begun t shelf s is = record {
-  graph = is.graph;
-  number = is.number;
-  station = station_cleared s is.station;
-  seated = record {
-    takes_within = is.seated.takes_within;
-    takes_apart = is.seated.takes_apart;
-    puts_within = is.seated.puts_within;
-    puts_apart = is.seated.puts_apart;
-  };
-  kept = record { held = is.kept.held; dates = is.kept.dates; added = is.kept.added; room = is.kept.room };
-  made = is.made;
-  begins = is.begins;
-}
-
--- ---- a team
-
-member-cleared : (xs : List WorkStation) (i : ℕ) → member (map cleared xs) i ≡ cleared (member xs i)
-member-cleared [] i = refl
-member-cleared (s ∷ xs) zero = refl
-member-cleared (s ∷ xs) (suc i) = member-cleared xs i
-
-team_cleared : (g : Parts) (begun : State) (first : ℕ) (team : WorkTeam) → IsTeam g begun first team → IsTeam g begun first (cleared_team team)
-team_cleared g begun first team is =
-    let many = length-map team.stations cleared in
-    let Apart : WorkStation → WorkStation → Type 0 = AreApart in
-    record {
-      members = λ i low.
-          let s = member team.stations i in
-          subst (IsMember g begun (first + i) team.shelf) (sym (member-cleared team.stations i)) (
-          member_cleared g begun (first + i) team.shelf s (is.members i (omega (arith, low, many))));
-      apart = λ i j low_i low_j differ.
-          let was = is.apart i j (omega (arith, low_i, many)) (omega (arith, low_j, many)) differ in
-          let here : AreApart (cleared (member team.stations i)) (cleared (member team.stations j)) = record { takes = was.takes; puts = was.puts } in
-          subst (λ (s : WorkStation). AreApart s (member (map cleared team.stations) j)) (sym (member-cleared team.stations i)) (
-          subst (λ (s : WorkStation). AreApart (cleared (member team.stations i)) s) (sym (member-cleared team.stations j)) here);
-    }
 
 -- ---- all teams
 
@@ -137,10 +85,6 @@ module _ (g : Parts) (teams : List WorkTeam) where
       are a listed (λ same. apart (worker-cleared (arc g a).from ∙ same ∙ sym (worker-cleared (arc g a).to))))
 
 -- ---- all crews
-
-pub crew_cleared : (c : WorkCrew) → IsCrew c → IsCrew (cleared_crew c)
-crew_cleared c is =
-    crew-with_team c (cleared_team c.team) is (team_cleared c.live.graph c.begun c.first c.team is.members) (length-map c.team.stations cleared)
 
 -- the crews of a line are at most 16
 pub crews-few : (crews : List WorkCrew) → AreCrews crews → length crews ≤ 16

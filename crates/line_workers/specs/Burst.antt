@@ -3,11 +3,11 @@ use Rattle.std.specs.Prelude.{◌≡◌, ℕ, ◌+◌, ◌<◌, ◌≤◌, List,
 use Rattle.line_base.specs.declared.event.Parts.{Parts}
 use Rattle.event_graph.specs.Network.{stations, jobs}
 use Rattle.station_step.specs.Step.{IsReady}
-use Rattle.line_workers.specs.Team.{WorkTeam}
-use Rattle.line_workers.specs.Teams.{station_of, shelf_of, AreAllMet}
-use Rattle.line_workers.specs.Crew.{WorkCrew, teams_of}
-use Rattle.line_workers.specs.Work.{dates_of, turns_of}
-use Rattle.line_workers.specs.Crews.{graph_of, AreCrews, AreSameCrews}
+use Rattle.worker_crew.specs.Team.{WorkTeam}
+use Rattle.worker_crew.specs.Teams.{station_of, shelf_of, AreAllMet}
+use Rattle.worker_crew.specs.Crew.{WorkCrew, teams_of}
+use Rattle.worker_crew.specs.Work.{dates_of, turns_of}
+use Rattle.worker_crew.specs.Crews.{graph_of, AreCrews, AreSameCrews}
 
 -- what became of station t of the teams
 pub record StationBurst (g : Parts) (old new : List WorkTeam) (t : ℕ) : Type 0 where

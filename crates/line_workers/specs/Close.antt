@@ -6,19 +6,12 @@ use Rattle.line_base.specs.declared.event.Parts.{Parts}
 use Rattle.line_base.specs.Roomy.{RoomyLog, RoomyLogs}
 use Rattle.event_graph.specs.Network.{stations, jobs}
 use Rattle.station_step.specs.Station.{WorkStation}
-use Rattle.line_workers.specs.Share.{first_of}
-use Rattle.line_workers.specs.Team.{WorkTeam}
-use Rattle.line_workers.specs.Teams.{station_of}
-use Rattle.line_workers.specs.Crew.{WorkCrew, teams_of}
-use Rattle.line_workers.specs.Crews.{graph_of}
-
--- the log of a station
-abbrev pub log_of : WorkStation → RoomyLog
-log_of s = s.log
-
--- a copy of the log of a station, with room for so many dates
-abbrev pub copy_of : ℕ → WorkStation → RoomyLog
-copy_of room s = record { dates = s.log.dates; room = room }
+use Rattle.worker_crew.specs.Share.{first_of}
+use Rattle.worker_crew.specs.Team.{WorkTeam}
+use Rattle.worker_crew.specs.Teams.{station_of}
+use Rattle.worker_crew.specs.Crew.{WorkCrew, teams_of}
+use Rattle.worker_crew.specs.Crews.{graph_of}
+use Rattle.worker_crew.specs.Logs.{log_of, copy_of}
 
 -- what this gives of each of the first so many stations
 abbrev pub first_logs : (WorkStation → RoomyLog) → Parts → List WorkTeam → ℕ → List RoomyLog

@@ -1,28 +1,15 @@
 -- Gathering the crews of a line after their sweeps.
-use Rattle.std.specs.Prelude.{◌≡◌, ℕ, ◌<◌, List, map, length}
+use Rattle.std.specs.Prelude.{◌≡◌, ℕ, ◌<◌, List, length}
 use Rattle.live_check.specs.Order.{LiveGraph}
-use Rattle.station_step.specs.Station.{WorkStation}
-use Rattle.line_workers.specs.Team.{WorkTeam}
-use Rattle.line_workers.specs.Teams.{state_among}
-use Rattle.line_workers.specs.Crew.{WorkCrew, with_team, teams_of}
-use Rattle.line_workers.specs.Work.{TeamWorked}
-use Rattle.line_workers.specs.Crews.{crew_at, graph_of, room_of, IsSameCrew}
+use Rattle.worker_crew.specs.Teams.{state_among}
+use Rattle.worker_crew.specs.Crew.{WorkCrew, teams_of}
+use Rattle.worker_crew.specs.Work.{TeamWorked}
+use Rattle.worker_crew.specs.Crews.{crew_at, graph_of, room_of, IsSameCrew}
 use Rattle.line_workers.specs.Line.{line_of, AreAtRest, StandsIn}
 
 -- the logs of the stations of all crews, in the order of their numbers
 abbrev pub logs_in : List WorkCrew → List (List ℕ)
 logs_in crews = (state_among (graph_of crews) (teams_of crews)).logs
-
--- the station, its turns counted from 0 again
-abbrev pub cleared : WorkStation → WorkStation
-cleared s = record s { turns = 0 }
-
--- the team and the crew whose stations' turns are counted from 0 again
-abbrev pub cleared_team : WorkTeam → WorkTeam
-cleared_team team = record { stations = map cleared team.stations; shelf = team.shelf }
-
-abbrev pub cleared_crew : WorkCrew → WorkCrew
-cleared_crew c = with_team c (cleared_team c.team)
 
 -- what a crew is after some sweeps
 pub record IsCrewAfter (old new : WorkCrew) : Type 0 where

@@ -4,10 +4,10 @@ use Rattle.event_graph.specs.State.{State}
 use Rattle.event_graph.specs.Reached.{Reached}
 use Rattle.live_check.specs.Order.{IsRanked, LiveGraph}
 use Rattle.line_core.specs.Consistent.{state_of}
-use Rattle.line_workers.specs.Grown.{HasGrown}
-use Rattle.line_workers.specs.Teams.{state_among}
-use Rattle.line_workers.specs.Crew.{WorkCrew, teams_of}
-use Rattle.line_workers.specs.Crews.{graph_of, AreCrews}
+use Rattle.worker_crew.specs.Grown.{HasGrown}
+use Rattle.worker_crew.specs.Teams.{state_among}
+use Rattle.worker_crew.specs.Crew.{WorkCrew, teams_of}
+use Rattle.worker_crew.specs.Crews.{graph_of, AreCrews}
 use Rattle.line_workers.specs.Line.{LogsGrow}
 use Rattle.line_workers.specs.Gather.{IsCrewAfter, AreCrewsAfter}
 

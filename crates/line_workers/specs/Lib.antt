@@ -1,16 +1,7 @@
-pub mod Grown
-pub mod Share
-pub mod Team
-pub mod Teams
-pub mod Crew
-pub mod Order
-pub mod Work
 pub mod Meeting
-pub mod Crews
 pub mod Link
 pub mod Burst
 pub mod Line
 pub mod Close
 pub mod Gather
-pub mod Making
 pub mod Laws

@@ -7,12 +7,12 @@ use Rattle.event_graph.specs.State.{State, log, place}
 use Rattle.live_check.specs.Order.{LiveGraph, IsRanked}
 use Rattle.line_core.specs.Consistent.{fired}
 use Rattle.line_core.specs.Run.{Run, IsReached}
-use Rattle.line_workers.specs.Share.{worker_of}
-use Rattle.line_workers.specs.Team.{WorkTeam}
-use Rattle.line_workers.specs.Teams.{station_of, state_among, AreAllMet}
-use Rattle.line_workers.specs.Crew.{WorkCrew, teams_of}
-use Rattle.line_workers.specs.Work.{turns_of}
-use Rattle.line_workers.specs.Crews.{live_of, graph_of, room_of, AreCrews}
+use Rattle.worker_crew.specs.Share.{worker_of}
+use Rattle.worker_crew.specs.Team.{WorkTeam}
+use Rattle.worker_crew.specs.Teams.{station_of, state_among, AreAllMet}
+use Rattle.worker_crew.specs.Crew.{WorkCrew, teams_of}
+use Rattle.worker_crew.specs.Work.{turns_of}
+use Rattle.worker_crew.specs.Crews.{live_of, graph_of, room_of, AreCrews}
 
 -- what contracts see of a `Line`
 pub record WorkLine : Type 0 where

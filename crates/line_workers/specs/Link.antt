@@ -7,12 +7,12 @@ use Rattle.station_step.specs.Input.{input_at}
 use Rattle.station_step.specs.Station.{WorkStation, outlet_at}
 use Rattle.line_workers.specs.declared.link.Seat.{Seat}
 use Rattle.line_workers.specs.declared.link.Link.{Link}
-use Rattle.line_workers.specs.Share.{worker_of, first_of}
-use Rattle.line_workers.specs.Team.{member}
-use Rattle.line_workers.specs.Teams.{place_in}
-use Rattle.line_workers.specs.Crew.{WorkCrew}
-use Rattle.line_workers.specs.Meeting.{OutletMet, InletMet}
-use Rattle.line_workers.specs.Crews.{crew_at, IsSameCrew}
+use Rattle.worker_crew.specs.Share.{worker_of, first_of}
+use Rattle.worker_crew.specs.Team.{member}
+use Rattle.worker_crew.specs.Teams.{place_in}
+use Rattle.worker_crew.specs.Crew.{WorkCrew}
+use Rattle.worker_crew.specs.Meeting.{OutletMet, InletMet}
+use Rattle.worker_crew.specs.Crews.{crew_at, IsSameCrew}
 
 -- the worker of station t, and the station's number in the team
 abbrev pub seat_of : Parts → ℕ → ℕ → Seat

@@ -1,31 +1,13 @@
--- What a meeting on one thread does: it makes known what was put, and changes nothing else.
-use Rattle.std.specs.Prelude.{◌≡◌, ◌≢◌, ℕ, ◌<◌, List, slice_set}
+-- What the meeting of all crews on one thread does: every queue is met, and nothing else changes.
+use Rattle.std.specs.Prelude.{◌≡◌, ◌≢◌, ℕ, ◌<◌, List}
 use Rattle.line_base.specs.declared.event.Parts.{Parts}
 use Rattle.event_graph.specs.Network.{stations, arc_count}
-use Rattle.station_step.specs.Ends.{unseen_inlet, unseen_outlet}
-use Rattle.station_step.specs.Input.{input_at}
-use Rattle.station_step.specs.Station.{bare_station, outlet_at, with_inlet, with_outlet}
-use Rattle.line_workers.specs.Team.{WorkTeam, member}
-use Rattle.line_workers.specs.Teams.{station_of, IsMetOn}
-use Rattle.line_workers.specs.Work.{TeamsWorked, turns_of}
-
--- output k of station i met an input: nothing has changed but what that output has seen
-pub record OutletMet (i k : ℕ) (old new : WorkTeam) : Type 0 where
-  pub only : new ≡ record { stations = slice_set old.stations i (member new.stations i); shelf = old.shelf }
-  pub outlet : member new.stations i ≡
-      with_outlet (member old.stations i) k (outlet_at (member new.stations i).outlets k)
-  pub unseen : unseen_outlet (outlet_at (member new.stations i).outlets k) ≡
-      unseen_outlet (outlet_at (member old.stations i).outlets k)
-  pub bare : bare_station (member new.stations i) ≡ bare_station (member old.stations i)
-
--- input l of station j met an output: nothing has changed but what that input has seen
-pub record InletMet (j l : ℕ) (old new : WorkTeam) : Type 0 where
-  pub only : new ≡ record { stations = slice_set old.stations j (member new.stations j); shelf = old.shelf }
-  pub inlet : member new.stations j ≡
-      with_inlet (member old.stations j) l (input_at (member new.stations j).inputs l).inlet
-  pub unseen : unseen_inlet (input_at (member new.stations j).inputs l).inlet ≡
-      unseen_inlet (input_at (member old.stations j).inputs l).inlet
-  pub bare : bare_station (member new.stations j) ≡ bare_station (member old.stations j)
+use Rattle.live_check.specs.Order.{LiveGraph}
+use Rattle.worker_crew.specs.Team.{WorkTeam}
+use Rattle.worker_crew.specs.Teams.{station_of, IsMetOn}
+use Rattle.worker_crew.specs.Crew.{WorkCrew, teams_of}
+use Rattle.worker_crew.specs.Work.{TeamsWorked, turns_of}
+use Rattle.worker_crew.specs.Crews.{live_of, AreCrews, AreSameCrews}
 
 -- no station made a date or a turn
 pub record AreStill (g : Parts) (old new : List WorkTeam) : Type 0 where
@@ -38,3 +20,12 @@ pub record MeetsOn (g : Parts) (old new : List WorkTeam) (a : ℕ) : Type 0 wher
   pub still : AreStill g old new
   pub met : IsMetOn g new a
   pub others : (b : ℕ) → b < arc_count g → b ≢ a → IsMetOn g old b → IsMetOn g new b
+
+-- the queues of the first so many arcs were met
+pub record IsMeeting (live : LiveGraph) (old now : List WorkCrew) (arcs : ℕ) : Type 0 where
+  pub whole : AreCrews now
+  pub live_is : live ≡ live_of now
+  pub same : AreSameCrews old now
+  pub worked : TeamsWorked (teams_of old) (teams_of now)
+  pub still : AreStill live.graph (teams_of old) (teams_of now)
+  pub met : (b : ℕ) → b < arcs → IsMetOn live.graph (teams_of now) b

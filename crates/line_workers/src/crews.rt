@@ -1,36 +1,30 @@
-ghost use Rattle.std.specs.Prelude.{◌≡◌, ◌≢◌, ℕ, ◌+◌, ◌-◌, ◌<◌, ◌≤◌, ◌^◌, length, slice_set, sum, All, IfOk, IsTrue, ◌↔◌};
+ghost use Rattle.std.specs.Prelude.{◌≡◌, ◌≢◌, ℕ, ◌+◌, ◌-◌, ◌<◌, ◌≤◌, ◌^◌, length, slice_set, sum, All, IsTrue, ◌↔◌};
 ghost use Rattle.station_step.specs.Ends.{AreEnds};
 ghost use Rattle.station_step.specs.Input.{input_at};
 ghost use Rattle.station_step.specs.Station.{outlet_at};
-ghost use Rattle.line_workers.specs.Team.{member};
+ghost use Rattle.worker_crew.specs.Team.{member};
 ghost use Rattle.event_graph.specs.Network.{stations, arc_count, arc, ins, outs};
-ghost use Rattle.event_graph.specs.Reached.{Reached};
 ghost use Rattle.live_check.specs.Order.{LiveGraph};
 ghost use Rattle.line_core.specs.Consistent.{fired, IsFinished};
 ghost use Rattle.line_workers.specs.Burst.{CrewsBurst};
 ghost use Rattle.line_workers.specs.Line.{turns_among};
-ghost use Rattle.line_workers.specs.Share.{worker_of, first_of};
-ghost use Rattle.line_workers.specs.Teams.{place_in, state_among, AreAllMet};
-ghost use Rattle.line_workers.specs.Crew.{WorkCrew, teams_of};
-ghost use Rattle.line_workers.specs.Work.{TurnsBelow, TeamsWorked};
-ghost use Rattle.line_workers.specs.Making.{MayHold};
+ghost use Rattle.worker_crew.specs.Share.{worker_of, first_of};
+ghost use Rattle.worker_crew.specs.Teams.{place_in, state_among, AreAllMet};
+ghost use Rattle.worker_crew.specs.Crew.{WorkCrew, teams_of};
+ghost use Rattle.worker_crew.specs.Work.{TurnsBelow, TeamsWorked};
 ghost use Rattle.line_workers.specs.Meeting.{AreStill, MeetsOn};
 ghost use Rattle.line_workers.specs.Gather.{Gathers};
 ghost use Rattle.line_workers.specs.Link.{IsRing, HaveMet};
-ghost use Rattle.line_workers.specs.Crews.{crew_at, live_of, graph_of, AreCrews, AreSameCrews, AreNewCrews};
+ghost use Rattle.worker_crew.specs.Crews.{crew_at, live_of, graph_of, AreCrews, AreSameCrews};
 
 use crate::clearing::clear_crews;
-use crate::crew::Crew;
-use crate::gate::Gate;
 use crate::line::Burst;
 use crate::link::{Link, is_inside, link_of};
-use crate::making::teams_of;
 use crate::threading::Threading;
 use crate::work::work_all;
-use line_core::State;
 use live_check::Live;
-use std::alloc::{AllocError, Global};
 use std::thread::Threads;
+use worker_crew::{Crew, Gate};
 
 /// The two ends of a ring meet, where the crew that puts comes before the one that takes.
 fn meet_up(crews: &mut [Crew], link: &Link)
@@ -191,31 +185,6 @@ pub(crate) fn burst_of<R: Threads + Sync, G: Gate>(
         fired: fired_since,
         steps: steps_since,
     }
-}
-
-/// The crews of all workers, whose stations go on from a state, with all memory of the run.
-pub(crate) fn crews_of(
-    alloc: Global,
-    live: &Live,
-    state: &State,
-    workers: u32,
-    room: Option<u32>,
-) -> Result<Vec<Crew>, AllocError>
-    requires made_for { live.now.graph ≡ state.now.graph }
-    requires some { 1 ≤ workers }
-    requires few { workers ≤ 16 }
-    requires reached { Reached live.now.graph state.now.state }
-    requires fits { MayHold room live.now.graph state.now.state }
-    ensures { IfOk result
-        (λ crews. AreNewCrews live.now state.now.state workers room crews.items) }
-{
-    let mut teams = teams_of(alloc, live, state, workers, room)?;
-    let mut crews = Vec::with_capacity(alloc, workers as usize)?;
-    for worker in 0..workers {
-        let crew = Crew::of(alloc, live, state, workers, room, worker, teams.remove(0))?;
-        crews.push(crew)?;
-    }
-    Ok(crews)
 }
 
 /// Whether each station of all crews has fired once for each job.

@@ -7,22 +7,22 @@ ghost use Rattle.event_graph.specs.Least.{IsLeast};
 ghost use Rattle.line_core.specs.Consistent.{IsFinished, fired};
 ghost use Rattle.line_core.specs.Round.{HasFired};
 ghost use Rattle.line_core.specs.Run.{IsReached};
-ghost use Rattle.line_workers.specs.Making.{MayHold};
-ghost use Rattle.line_workers.specs.Crews.{live_of, room_of, AreCrews};
-ghost use Rattle.line_workers.specs.Work.{TurnsBelow};
+ghost use Rattle.crew_laying.specs.Making.{MayHold};
+ghost use Rattle.worker_crew.specs.Crews.{live_of, room_of, AreCrews};
+ghost use Rattle.worker_crew.specs.Work.{TurnsBelow};
 ghost use Rattle.line_workers.specs.Gather.{logs_in};
 ghost use Rattle.line_workers.specs.Line.{IsLine, Stands, StandsIn, LogsGrow, run_in, line_of};
 
 use crate::closing::{copies_of, logs_of};
-use crate::crew::Crew;
-use crate::crews::{all_done, burst_of, crews_of, dates_of, gather_crews};
-use crate::gate::Gate;
+use crate::crews::{all_done, burst_of, dates_of, gather_crews};
 use crate::threading::Threading;
+use crew_laying::crews_of;
 use line_core::State;
 use live_check::Live;
 use std::alloc::{AllocError, Global};
 use std::marker::Model;
 use std::thread::Threads;
+use worker_crew::{Crew, Gate};
 
 /// An event graph that several workers run at once, burst by burst. Between two bursts it stands for a state of the
 /// graph that firings reach: the log of each station, and on each arc the token in the hand that the arc fills, then

@@ -1,11 +1,10 @@
 ghost use Rattle.std.specs.Prelude.{◌≡◌, ◌<◌, ◌≤◌, ◌^◌, ◌↔◌, IsTrue, length};
 ghost use Rattle.event_graph.specs.Network.{stations, arc_count, arc, ins, outs};
-ghost use Rattle.line_workers.specs.Teams.{place_in};
+ghost use Rattle.worker_crew.specs.Teams.{place_in};
 ghost use Rattle.line_workers.specs.Link.{seat_of, link_of, IsInside};
 
-use crate::owner::{first_of, worker_of};
-use event_graph::Arc;
 use live_check::Live;
+use worker_crew::{arc_at, first_of, worker_of};
 
 /// Where a station stands: its worker, and its number in the worker's team.
 #[derive(Clone, Copy)]
@@ -52,16 +51,6 @@ fn seat_of(workers: u32, live: &Live, t: u32) -> Seat
         worker: worker as usize,
         number: t - first_of(workers, stations, worker),
     }
-}
-
-/// Arc number `a`, whose stations exist.
-fn arc_at(live: &Live, a: u32) -> Arc
-    requires { a < arc_count live.now.graph }
-    ensures arc { result ≡ arc live.now.graph a }
-    ensures starts { result.from < stations live.now.graph }
-    ensures ends { result.to < stations live.now.graph }
-{
-    live.graph().arcs()[a as usize]
 }
 
 /// Where arc `a` stands among those out of its station.

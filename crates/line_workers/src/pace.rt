@@ -1,7 +1,6 @@
-use crate::crew::SWEEPS;
-use crate::gate::Gate;
 use std::sync::atomic::{AtomicU64, Ordering};
 use std::{hint, thread};
+use worker_crew::{Gate, SWEEPS};
 
 /// How often a crew looks for the others before it lets another thread run.
 const LOOKS: u32 = 100;

@@ -1,12 +1,11 @@
 ghost use Rattle.std.specs.Prelude.{◌≡◌, ℕ, ◌<◌, ◌≤◌, length, All};
-ghost use Rattle.line_workers.specs.Crews.{crew_at, CrewWorked, IsReadyFor, MayGoOn, HasGoneOn};
+ghost use Rattle.worker_crew.specs.Crews.{crew_at, CrewWorked, IsReadyFor, MayGoOn, HasGoneOn};
 
-use crate::crew::{Crew, SWEEPS};
-use crate::gate::Gate;
 use crate::pace::{Pace, PacedGate, Waits};
 use live_check::Live;
 use std::thread;
 use std::thread::Threads;
+use worker_crew::{Crew, Gate, SWEEPS};
 
 /// Lets each crew go on with a burst, one after the other.
 fn go_on_all<G: Gate>(crews: &mut [Crew], live: &Live, gate: &G)

@@ -1,6 +1,6 @@
 use Rattle.std.proofs.Common.{set, sym, ap, ◌∙◌}
 use Rattle.std.proofs.lemmas.List.Edits.{map_over_more}
-use Rattle.line_workers.specs.Gather.{cleared_crew}
+use Rattle.worker_crew.specs.Cleared.{cleared_crew}
 use Rattle.line_workers.proofs.clearing.clear_crews.Goals as goal
 
 pub loop-k-preserved : goal.loop-k-preserved

@@ -1,5 +1,5 @@
 use Rattle.std.proofs.Common.{◌≡◌, ◌++◌, map, take, drop}
-use Rattle.line_workers.specs.Gather.{cleared_crew}
+use Rattle.worker_crew.specs.Cleared.{cleared_crew}
 use Rattle.line_workers.proofs.clearing.clear_crews.Given as goal
 
 abbrev pub invariant-loop-k : goal.invariant-loop-k

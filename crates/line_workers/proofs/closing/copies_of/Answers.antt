@@ -3,9 +3,10 @@ use Rattle.std.proofs.lemmas.List.{get_or_read}
 use Rattle.line_base.specs.Roomy.{RoomyLogs}
 use Rattle.event_graph.specs.Network.{stations, jobs}
 use Rattle.live_check.specs.Order.{LiveGraph}
-use Rattle.line_workers.specs.Crew.{WorkCrew}
-use Rattle.line_workers.specs.Crews.{crew_at, no_crew, graph_of}
-use Rattle.line_workers.specs.Close.{copy_of, AreGiven}
+use Rattle.worker_crew.specs.Crew.{WorkCrew}
+use Rattle.worker_crew.specs.Crews.{crew_at, no_crew, graph_of}
+use Rattle.worker_crew.specs.Logs.{copy_of}
+use Rattle.line_workers.specs.Close.{AreGiven}
 use Rattle.line_workers.proofs.LogsGiven.{given_none, given_more, given_fits, given_all}
 use Rattle.line_workers.proofs.Lines.{target-of}
 use Rattle.line_workers.proofs.closing.copies_of.Goals as goal

@@ -1,6 +1,7 @@
 use Rattle.event_graph.specs.Network.{jobs}
-use Rattle.line_workers.specs.Crews.{graph_of}
-use Rattle.line_workers.specs.Close.{copy_of, AreGiven}
+use Rattle.worker_crew.specs.Crews.{graph_of}
+use Rattle.worker_crew.specs.Logs.{copy_of}
+use Rattle.line_workers.specs.Close.{AreGiven}
 use Rattle.line_workers.proofs.closing.copies_of.Given as goal
 
 abbrev pub invariant-loop-crew : goal.invariant-loop-crew

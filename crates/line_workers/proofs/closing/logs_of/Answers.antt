@@ -1,9 +1,10 @@
 use Rattle.std.proofs.Common.{◌≡◌, ℕ, ◌+◌, ◌≤◌, ◌<◌, ◌++◌, List, length, get_or, map, drop, ap, ◌∙◌, sym, subst, arith, add-zero}
 use Rattle.std.proofs.lemmas.List.{get_or_default, get_or-drop, drop-drop}
 use Rattle.line_base.specs.Roomy.{RoomyLogs}
-use Rattle.line_workers.specs.Crew.{WorkCrew}
-use Rattle.line_workers.specs.Crews.{crew_at, no_crew}
-use Rattle.line_workers.specs.Close.{log_of, AreGiven}
+use Rattle.worker_crew.specs.Crew.{WorkCrew}
+use Rattle.worker_crew.specs.Crews.{crew_at, no_crew}
+use Rattle.worker_crew.specs.Logs.{log_of}
+use Rattle.line_workers.specs.Close.{AreGiven}
 use Rattle.line_workers.proofs.LogsGiven.{given_more, given_fits, given_all, given_first}
 use Rattle.line_workers.proofs.closing.logs_of.Goals as goal
 

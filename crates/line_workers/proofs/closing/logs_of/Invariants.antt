@@ -1,5 +1,6 @@
 use Rattle.std.proofs.Common.{◌≡◌, drop}
-use Rattle.line_workers.specs.Close.{log_of, AreGiven}
+use Rattle.worker_crew.specs.Logs.{log_of}
+use Rattle.line_workers.specs.Close.{AreGiven}
 use Rattle.line_workers.proofs.closing.logs_of.Given as goal
 
 abbrev pub invariant-loop-worker : goal.invariant-loop-worker

@@ -1,8 +1,8 @@
 use Rattle.std.proofs.Common.{refl, true≢false, sym, subst, arith}
 use Rattle.std.proofs.lemmas.List.{get_or_read}
-use Rattle.line_workers.specs.Crew.{WorkCrew}
-use Rattle.line_workers.specs.Work.{AllDone}
-use Rattle.line_workers.specs.Crews.{no_crew}
+use Rattle.worker_crew.specs.Crew.{WorkCrew}
+use Rattle.worker_crew.specs.Work.{AllDone}
+use Rattle.worker_crew.specs.Crews.{no_crew}
 use Rattle.line_workers.proofs.Lines.{done_is_finished, finished_is_done}
 use Rattle.line_workers.proofs.crews.all_done.Goals as goal
 

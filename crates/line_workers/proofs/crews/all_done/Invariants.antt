@@ -1,6 +1,6 @@
 use Rattle.std.proofs.Common.{ℕ, ◌<◌}
-use Rattle.line_workers.specs.Work.{AllDone}
-use Rattle.line_workers.specs.Crews.{crew_at}
+use Rattle.worker_crew.specs.Work.{AllDone}
+use Rattle.worker_crew.specs.Crews.{crew_at}
 use Rattle.line_workers.proofs.crews.all_done.Given as goal
 
 abbrev pub invariant-loop-crew : goal.invariant-loop-crew

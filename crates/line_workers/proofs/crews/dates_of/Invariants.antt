@@ -1,6 +1,6 @@
 use Rattle.std.proofs.Common.{◌≡◌, ◌*◌, ◌≤◌, take, sum_by}
-use Rattle.line_workers.specs.Crew.{WorkCrew}
-use Rattle.line_workers.specs.Work.{dates_made}
+use Rattle.worker_crew.specs.Crew.{WorkCrew}
+use Rattle.worker_crew.specs.Work.{dates_made}
 use Rattle.line_workers.proofs.crews.dates_of.Given as goal
 
 abbrev pub invariant-loop-crew : goal.invariant-loop-crew

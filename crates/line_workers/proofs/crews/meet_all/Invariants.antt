@@ -1,4 +1,4 @@
-use Rattle.line_workers.specs.Crews.{IsMeeting}
+use Rattle.line_workers.specs.Meeting.{IsMeeting}
 use Rattle.line_workers.proofs.crews.meet_all.Given as goal
 
 abbrev pub invariant-loop-a : goal.invariant-loop-a

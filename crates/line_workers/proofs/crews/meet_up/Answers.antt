@@ -1,6 +1,6 @@
 use Rattle.std.proofs.Common.{◌<◌, length, get_or, ◌∙◌, arith}
 use Rattle.std.proofs.lemmas.List.{get_or_default}
-use Rattle.line_workers.specs.Crews.{no_crew}
+use Rattle.worker_crew.specs.Crews.{no_crew}
 use Rattle.line_workers.proofs.Splitting.{changed_behind, front_of_second, of_first, have_met}
 use Rattle.line_workers.proofs.crews.meet_up.Goals as goal
 

@@ -1,8 +1,8 @@
 use Rattle.std.proofs.Common.{List, ap, ◌∙◌}
 use Rattle.std.specs.List.{sum_by}
 use Rattle.std.proofs.lemmas.List.{take_all}
-use Rattle.line_workers.specs.Crew.{WorkCrew}
-use Rattle.line_workers.specs.Work.{turns_made}
+use Rattle.worker_crew.specs.Crew.{WorkCrew}
+use Rattle.worker_crew.specs.Work.{turns_made}
 use Rattle.line_workers.proofs.AllCrews.{turns-total}
 use Rattle.line_workers.proofs.crews.turns_of.Goals as goal
 

@@ -2,10 +2,10 @@ use Rattle.std.proofs.Common.{◌<◌, length, ap, ◌∙◌, sym, subst, arith}
 use Rattle.std.proofs.lemmas.List.{get_or_default}
 use Rattle.line_base.specs.declared.event.Parts.{Parts}
 use Rattle.live_check.specs.Order.{LiveGraph}
-use Rattle.line_workers.specs.Crew.{WorkCrew, teams_of}
-use Rattle.line_workers.specs.Crews.{no_crew}
+use Rattle.worker_crew.specs.Crew.{WorkCrew, teams_of}
+use Rattle.worker_crew.specs.Crews.{no_crew}
 use Rattle.line_workers.specs.Meeting.{AreStill}
-use Rattle.line_workers.specs.Teams.{AreAllMet}
+use Rattle.worker_crew.specs.Teams.{AreAllMet}
 use Rattle.line_workers.proofs.AllBurst.{are-mid, same-mid, crews_burst}
 use Rattle.line_workers.proofs.crews.work_and_meet.Goals as goal
 

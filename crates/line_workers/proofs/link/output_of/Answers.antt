@@ -2,8 +2,8 @@ use Rattle.std.proofs.Common.{ℕ, List, ◌≡◌, ◌<◌, length, ap, ◌∙�
 use Rattle.line_base.specs.declared.event.Arc.{Arc}
 use Rattle.line_base.specs.declared.event.Parts.{Parts}
 use Rattle.event_graph.specs.Network.{arc, outs}
-use Rattle.line_workers.specs.Teams.{place_in}
-use Rattle.line_workers.proofs.Places.{out-stands, outs-few}
+use Rattle.worker_crew.specs.Teams.{place_in}
+use Rattle.worker_crew.proofs.Places.{out-stands, outs-few}
 use Rattle.line_workers.proofs.link.output_of.Goals.{After-outs}
 use Rattle.line_workers.proofs.link.output_of.Goals as goal
 

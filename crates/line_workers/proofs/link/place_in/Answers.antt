@@ -1,7 +1,7 @@
 use Rattle.std.proofs.Common.{eqb, get_or, ◌∙◌, sym, arith}
 use Rattle.std.proofs.lemmas.Bool.{eq-eqb, ne_eqb, eqb-true}
 use Rattle.std.proofs.lemmas.List.Sums.{position_or_len_is, passes_at_first}
-use Rattle.line_workers.specs.Teams.{place_in}
+use Rattle.worker_crew.specs.Teams.{place_in}
 use Rattle.line_workers.proofs.link.place_in.Goals as goal
 
 pub returns-after-loop-x : goal.returns-after-loop-x

@@ -1,7 +1,7 @@
 use Rattle.std.proofs.Common.{◌≤◌, ap, ◌∙◌, arith}
 use Rattle.event_graph.specs.Network.{stations}
-use Rattle.line_workers.specs.Share.{first_of}
-use Rattle.line_workers.proofs.Share.{first-le}
+use Rattle.worker_crew.specs.Share.{first_of}
+use Rattle.worker_crew.proofs.Share.{first-le}
 use Rattle.line_workers.proofs.link.seat_of.Goals as goal
 
 pub overflow_sub-result : goal.overflow_sub-result

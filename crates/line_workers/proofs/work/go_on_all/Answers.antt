@@ -1,8 +1,8 @@
 use Rattle.std.proofs.Common.{◌<◌, length, set, sym, ◌∙◌, subst, arith, ⊎_elim}
 use Rattle.std.proofs.lemmas.Bool.{cases_eq}
 use Rattle.std.proofs.lemmas.List.{get_or_default, get_or-set_same, get_or-set_other}
-use Rattle.line_workers.specs.Crew.{WorkCrew}
-use Rattle.line_workers.specs.Crews.{no_crew, crew_at, HasGoneOn}
+use Rattle.worker_crew.specs.Crew.{WorkCrew}
+use Rattle.worker_crew.specs.Crews.{no_crew, crew_at, HasGoneOn}
 use Rattle.line_workers.proofs.work.go_on_all.Goals as goal
 
 pub loop-w-preserved : goal.loop-w-preserved

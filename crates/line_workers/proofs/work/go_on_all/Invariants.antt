@@ -1,5 +1,5 @@
 use Rattle.std.proofs.Common.{◌≡◌, ℕ, ◌<◌, ◌≤◌}
-use Rattle.line_workers.specs.Crews.{crew_at, HasGoneOn}
+use Rattle.worker_crew.specs.Crews.{crew_at, HasGoneOn}
 use Rattle.line_workers.proofs.work.go_on_all.Given as goal
 
 abbrev pub invariant-loop-w : goal.invariant-loop-w

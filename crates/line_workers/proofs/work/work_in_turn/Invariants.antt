@@ -1,5 +1,5 @@
 use Rattle.std.proofs.Common.{ℕ, ◌<◌, length}
-use Rattle.line_workers.specs.Crews.{crew_at, IsAtWork}
+use Rattle.worker_crew.specs.Crews.{crew_at, IsAtWork}
 use Rattle.line_workers.proofs.work.work_in_turn.Given as goal
 
 abbrev pub invariant-loop-sweep : goal.invariant-loop-sweep

@@ -1,10 +1,10 @@
 use Rattle.std.proofs.Common.{◌^◌, List, ap, ◌∙◌, sym, subst, arith}
 use Rattle.std.specs.List.{All}
 use Rattle.std.proofs.lemmas.List.{with_items_is}
-use Rattle.line_workers.specs.Teams.{AreAllMet}
-use Rattle.line_workers.specs.Crew.{WorkCrew, teams_of}
-use Rattle.line_workers.specs.Work.{TurnsBelow}
-use Rattle.line_workers.specs.Crews.{live_of, graph_of}
+use Rattle.worker_crew.specs.Teams.{AreAllMet}
+use Rattle.worker_crew.specs.Crew.{WorkCrew, teams_of}
+use Rattle.worker_crew.specs.Work.{TurnsBelow}
+use Rattle.worker_crew.specs.Crews.{live_of, graph_of}
 use Rattle.line_workers.specs.Line.{WorkLine}
 use Rattle.line_workers.proofs.LineBurst.{turns-low, line_after}
 use Rattle.line_workers.proofs.line.Line.burst.Goals as goal

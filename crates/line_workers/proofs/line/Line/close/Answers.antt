@@ -3,7 +3,7 @@ use Rattle.event_graph.specs.Table.{date_in}
 use Rattle.event_graph.specs.Least.{IsLeast}
 use Rattle.line_core.specs.Run.{Run}
 use Rattle.line_workers.specs.Line.{IsLine}
-use Rattle.line_workers.specs.Close.{log_of}
+use Rattle.worker_crew.specs.Logs.{log_of}
 use Rattle.line_workers.proofs.Lines.{at_rest_is_line}
 use Rattle.line_workers.proofs.LogsGiven.{closes, logs_keep, line_is_least}
 use Rattle.line_workers.proofs.line.Line.close.Goals as goal

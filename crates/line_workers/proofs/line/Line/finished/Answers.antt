@@ -1,9 +1,9 @@
 use Rattle.std.proofs.Common.{List, IsTrue, ◌↔◌, subst}
 use Rattle.line_core.specs.Consistent.{IsFinished}
 use Rattle.line_workers.specs.Line.{WorkLine, IsLine}
-use Rattle.line_workers.specs.Crew.{WorkCrew, teams_of}
-use Rattle.line_workers.specs.Crews.{graph_of}
-use Rattle.line_workers.specs.Teams.{state_among}
+use Rattle.worker_crew.specs.Crew.{WorkCrew, teams_of}
+use Rattle.worker_crew.specs.Crews.{graph_of}
+use Rattle.worker_crew.specs.Teams.{state_among}
 use Rattle.line_workers.proofs.Lines.{at_rest_is_line}
 use Rattle.line_workers.proofs.line.Line.finished.Goals as goal
 

@@ -1,7 +1,7 @@
 use Rattle.std.proofs.Common.{List, sym, subst, arith}
 use Rattle.std.specs.Vec.{with_items}
 use Rattle.std.proofs.lemmas.List.{with_items_is}
-use Rattle.line_workers.specs.Crew.{WorkCrew}
+use Rattle.worker_crew.specs.Crew.{WorkCrew}
 use Rattle.line_workers.specs.Line.{AreAtRest}
 use Rattle.line_workers.proofs.Lines.{at_rest_is_line}
 use Rattle.line_workers.proofs.line.Line.gather.Goals as goal

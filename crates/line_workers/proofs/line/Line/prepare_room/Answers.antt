@@ -1,4 +1,4 @@
-use Rattle.line_workers.proofs.StateRoom.{start_fits}
+use Rattle.crew_laying.proofs.StateRoom.{start_fits}
 use Rattle.line_workers.proofs.line.Line.prepare_room.Goals as goal
 
 pub of-requires-clause-fits : goal.of-requires-clause-fits

@@ -1,9 +1,10 @@
 use Rattle.std.proofs.Common.{List, ap, ◌∙◌, subst}
 use Rattle.event_graph.specs.Network.{jobs}
-use Rattle.line_workers.specs.Crew.{WorkCrew, teams_of}
-use Rattle.line_workers.specs.Crews.{graph_of}
+use Rattle.worker_crew.specs.Crew.{WorkCrew, teams_of}
+use Rattle.worker_crew.specs.Crews.{graph_of}
 use Rattle.line_workers.specs.Line.{IsLine}
-use Rattle.line_workers.specs.Close.{copy_of, copies_among}
+use Rattle.worker_crew.specs.Logs.{copy_of}
+use Rattle.line_workers.specs.Close.{copies_among}
 use Rattle.line_workers.proofs.Lines.{at_rest_is_line}
 use Rattle.line_workers.proofs.LogsGiven.{Closes, closes, copies_keep}
 use Rattle.line_workers.proofs.line.Line.state.Goals as goal

@@ -1,0 +1,311 @@
+-- The ends of one more arc are laid down: those of the arcs before it stay where they are, and no queue is used twice.
+use Rattle.std.proofs.Common.{◌≡◌, ◌≢◌, ℕ, ◌+◌, ◌^◌, ◌<◌, ◌≤◌, List, [], ◌∷◌, ◌++◌, Option, Some, Result, Ok, Err, OnOk, length, get_or, replicate, refl, sym, ap, ◌∙◌, subst, arith, ⊎_elim}
+use Rattle.line_base.specs.declared.event.Arc.{Arc}
+use Rattle.std.proofs.lemmas.Bool.{cases_eq, cases_lt}
+use Rattle.std.proofs.lemmas.List.{length-set, length-replicate, get_or-replicate, get_or_past}
+use Rattle.line_base.specs.declared.event.Parts.{Parts}
+use Rattle.event_graph.specs.Network.{stations, jobs, arc_count, arc, IsGraph}
+use Rattle.event_graph.specs.State.{State, place}
+use Rattle.station_step.specs.declared.ends.Inlet.{Inlet}
+use Rattle.station_step.specs.declared.ends.Outlet.{Outlet}
+use Rattle.station_step.specs.declared.ends.Inlet.TheVariants as inlet
+use Rattle.station_step.specs.declared.ends.Outlet.TheVariants as outlet
+use Rattle.station_step.specs.Ends.{outlet_queue}
+use Rattle.crew_laying.specs.Making.{AreNewEnds, HasRing, HasPlain, QueueEnds, outlets_at, inlets_at, firsts_at, first_tokens, with_one, with_ends, first_ins, first_outs, outlet_of, inlet_of, putter, taker, HasEnds, AreLaid}
+use Rattle.crew_laying.proofs.ArcOrder.{length-first_ins-here, length-first_ins-other, length-first_outs-here, length-first_outs-other, first_ins-below, first_outs-below, first_ins-none, first_outs-none}
+use Rattle.crew_laying.proofs.EndKinds.{of_ring, of_plain, of_ends}
+use Rattle.crew_laying.proofs.LaidLists.{get_or-with_one, last-with_one, length-with_one-here, length-with_one-other, length-with_one-le}
+
+-- ---- the kinds of ends
+
+-- an outlet on a ring has no queue of the shelf
+pub ring-no_queue : (g : Parts) (begun : State) (a q : ℕ) (o : Outlet) (i : Inlet) → AreNewEnds g begun a o i → outlet_queue o ≡ Some q → ⊥
+ring-no_queue g begun a q = of_ring g begun a (λ o i. outlet_queue o ≡ Some q → ⊥) (λ put take has same. cc) (λ put take has same. cc)
+
+-- the first tokens of a shelf on which every queue of another stands at its place
+pub record Extends (firsts longer : List (List ℕ)) : Type 0 where
+  pub there : (q : ℕ) → q < length firsts → q < length longer
+  pub queues : (q : ℕ) → q < length firsts → first_tokens longer q ≡ first_tokens firsts q
+
+plain-extends : (g : Parts) (begun : State) (a : ℕ) (firsts longer : List (List ℕ)) (o : Outlet) (i : Inlet) → Extends firsts longer → HasPlain begun firsts a o i → HasPlain begun longer a o i
+plain-extends g begun a firsts longer o i more =
+    of_plain g begun a (λ o i. HasPlain begun longer a o i) firsts
+    (λ q r has. record { same = has.same; there = more.there q has.there; tokens = more.queues q has.there ∙ has.tokens })
+    o
+    i
+
+-- ---- one side of the arcs: for each station a list of ends, one for each of the first arcs that have it on this side
+
+module _ {X : Type 0} (T n : ℕ) (side : ℕ → ℕ) (firsts : ℕ → ℕ → List ℕ) (lists : List (List X)) (end d : X) (there : side n < length lists) (low_n : side n < T) (counts : (t : ℕ) → t < T → length (get_or lists t []) ≡ length (firsts n t)) where
+  -- with that of arc n the ends of the arcs before stay where they are
+  side-before : (a : ℕ) → side a < T → length (firsts a (side a)) < length (firsts n (side a)) → get_or (get_or (with_one lists (side n) end) (side a) []) (length (firsts a (side a))) d ≡ get_or (get_or lists (side a) []) (length (firsts a (side a))) d
+  side-before a low_a below =
+      get_or-with_one lists (side n) end (side a) (length (firsts a (side a))) d there (omega (arith, below, counts (side a) low_a))
+
+  -- and its own comes behind those of its station
+  side-last : get_or (get_or (with_one lists (side n) end) (side n) []) (length (firsts n (side n))) d ≡ end
+  side-last = last-with_one lists (side n) end (length (firsts n (side n))) d there (counts (side n) low_n)
+
+  side-more : length (firsts (n + 1) (side n)) ≡ length (firsts n (side n)) + 1 → ((t : ℕ) → t ≢ side n → length (firsts (n + 1) t) ≡ length (firsts n t)) → (t : ℕ) → t < T → length (get_or (with_one lists (side n) end) t []) ≡ length (firsts (n + 1) t)
+  side-more here other t low_t =
+      ⊎_elim
+      (λ same.
+      ap (λ u. length (get_or (with_one lists (side n) end) u [])) same
+      ∙ (let at : length (get_or (with_one lists (side n) end) (side n) []) ≡ length (firsts (n + 1) (side n)) =
+      omega (arith, length-with_one-here lists (side n) end there, here, counts (side n) low_n) in
+      at)
+      ∙ ap (λ u. length (firsts (n + 1) u)) (sym same))
+      (λ apart. omega (arith, length-with_one-other lists (side n) end t apart, other t apart, counts t low_t))
+      (cases_eq t (side n))
+
+-- ---- one arc more
+
+-- an outlet that has a queue of the shelf has one that is there
+pub queue-within : (g : Parts) (begun : State) (workers : ℕ) (ends : QueueEnds) (a q : ℕ) → HasEnds g begun workers ends a → outlet_queue (outlet_of g ends a) ≡ Some q → q < length (firsts_at ends (putter g workers a))
+queue-within g begun workers ends a q has =
+    of_ends g begun a (λ o i. outlet_queue o ≡ Some q → q < length (firsts_at ends (putter g workers a))) workers ends has
+    (λ put take new same. absurd (let no : ⊥ = cc in no))
+    (λ put take new same. absurd (let no : ⊥ = cc in no))
+    (λ one p r new same. let at : p ≡ q = cc in omega (arith, new.there))
+
+module _ (g : Parts) (begun : State) (workers : ℕ) (ends : QueueEnds) (n : ℕ) (graph : IsGraph g) (listed : n < arc_count g) (laid : AreLaid g begun workers ends n) (shelves : List (List (List ℕ))) (out : Outlet) (into : Inlet) where
+  abbrev from : ℕ
+  from = (arc g n).from
+
+  abbrev to : ℕ
+  to = (arc g n).to
+
+  abbrev more : QueueEnds
+  more = with_ends (record ends { shelves = shelves }) from to out into
+
+  start-exists : from < stations g
+  start-exists = graph.starts_exist n listed
+
+  end-exists : to < stations g
+  end-exists = graph.ends_exist n listed
+
+  from-there : from < length ends.outlets
+  from-there = omega (arith, start-exists, laid.outlet_lists)
+
+  to-there : to < length ends.inlets
+  to-there = omega (arith, end-exists, laid.inlet_lists)
+
+  outlet_of-before : (a : ℕ) → a < n → outlet_of g more a ≡ outlet_of g ends a
+  outlet_of-before a low =
+      side-before (stations g) n (λ b. (arc g b).from) (first_outs g) ends.outlets out (outlet.Local 0) from-there start-exists laid.outlets a (graph.starts_exist a (omega arith)) (first_outs-below g a n low)
+
+  inlet_of-before : (a : ℕ) → a < n → inlet_of g more a ≡ inlet_of g ends a
+  inlet_of-before a low =
+      side-before (stations g) n (λ b. (arc g b).to) (first_ins g) ends.inlets into (inlet.Local 0) to-there end-exists laid.inlets a (graph.ends_exist a (omega arith)) (first_ins-below g a n low)
+
+  outlet_of-last : outlet_of g more n ≡ out
+  outlet_of-last =
+      side-last (stations g) n (λ b. (arc g b).from) (first_outs g) ends.outlets out (outlet.Local 0) from-there start-exists laid.outlets
+
+  inlet_of-last : inlet_of g more n ≡ into
+  inlet_of-last =
+      side-last (stations g) n (λ b. (arc g b).to) (first_ins g) ends.inlets into (inlet.Local 0) to-there end-exists laid.inlets
+
+  outlets-more : (t : ℕ) → t < stations g → length (outlets_at more t) ≡ length (first_outs g (n + 1) t)
+  outlets-more =
+      side-more (stations g) n (λ b. (arc g b).from) (first_outs g) ends.outlets out (outlet.Local 0) from-there start-exists laid.outlets (length-first_outs-here g n) (length-first_outs-other g n)
+
+  inlets-more : (t : ℕ) → t < stations g → length (inlets_at more t) ≡ length (first_ins g (n + 1) t)
+  inlets-more =
+      side-more (stations g) n (λ b. (arc g b).to) (first_ins g) ends.inlets into (inlet.Local 0) to-there end-exists laid.inlets (length-first_ins-here g n) (length-first_ins-other g n)
+
+  module _ (count : length shelves ≡ workers) (few : (w : ℕ) → length (get_or shelves w []) ≤ n + 1) (small : (w q : ℕ) → q < length (get_or shelves w []) → length (first_tokens (get_or shelves w []) q) + jobs g < 2 ^ 32) (extends : (w : ℕ) → Extends (firsts_at ends w) (get_or shelves w [])) (ring : putter g workers n ≢ taker g workers n → HasRing ends.room g begun n out into) (plain : putter g workers n ≡ taker g workers n → HasPlain begun (get_or shelves (putter g workers n) []) n out into) (fresh : (a q : ℕ) → a < n → putter g workers a ≡ putter g workers n → outlet_queue (outlet_of g ends a) ≡ Some q → outlet_queue out ≢ Some q) where
+    -- an arc whose ends are these
+    has-ends : (a : ℕ) (o : Outlet) (i : Inlet) → outlet_of g more a ≡ o → inlet_of g more a ≡ i → (putter g workers a ≢ taker g workers a → HasRing ends.room g begun a o i) → (putter g workers a ≡ taker g workers a → HasPlain begun (get_or shelves (putter g workers a) []) a o i) → HasEnds g begun workers more a
+    has-ends a o i out_is in_is on_ring on_shelf = record {
+      ring = λ two.
+          subst (λ (p : Outlet). HasRing ends.room g begun a p (inlet_of g more a)) (sym out_is) (
+          subst (λ (k : Inlet). HasRing ends.room g begun a o k) (sym in_is) (on_ring two));
+      shelf = λ one.
+          let longer = get_or shelves (putter g workers a) [] in
+          subst (λ (p : Outlet). HasPlain begun longer a p (inlet_of g more a)) (sym out_is) (
+          subst (λ (k : Inlet). HasPlain begun longer a o k) (sym in_is) (on_shelf one));
+    }
+
+    before : (a : ℕ) → a < n → HasEnds g begun workers more a
+    before a low =
+        let has = laid.each a low in
+        let w = putter g workers a in
+        has-ends a (outlet_of g ends a) (inlet_of g ends a) (outlet_of-before a low) (inlet_of-before a low) has.ring (λ one.
+        plain-extends g begun a (firsts_at ends w) (get_or shelves w []) (outlet_of g ends a) (inlet_of g ends a) (extends w) (has.shelf one))
+
+    last : HasEnds g begun workers more n
+    last = has-ends n out into outlet_of-last inlet_of-last ring plain
+
+    apart-more : (a b q : ℕ) → a < n + 1 → b < n + 1 → putter g workers a ≡ putter g workers b → outlet_queue (outlet_of g more a) ≡ Some q → outlet_queue (outlet_of g more b) ≡ Some q → a ≡ b
+    apart-more a b q a_low b_low one at_a at_b =
+        ⊎_elim
+        (λ a_last.
+        ⊎_elim
+        (λ b_last. omega arith)
+        (λ b_other.
+        let b_before : b < n = omega arith in
+        let at_out : outlet_queue out ≡ Some q = ap outlet_queue (sym outlet_of-last) ∙ ap (λ k. outlet_queue (outlet_of g more k)) (sym a_last) ∙ at_a in
+        absurd (fresh b q b_before (sym one ∙ ap (putter g workers) a_last) (ap outlet_queue (sym (outlet_of-before b b_before)) ∙ at_b) at_out))
+        (cases_eq b n))
+        (λ a_other.
+        let a_before : a < n = omega arith in
+        let a_had : outlet_queue (outlet_of g ends a) ≡ Some q = ap outlet_queue (sym (outlet_of-before a a_before)) ∙ at_a in
+        ⊎_elim
+        (λ b_last.
+        let at_out : outlet_queue out ≡ Some q = ap outlet_queue (sym outlet_of-last) ∙ ap (λ k. outlet_queue (outlet_of g more k)) (sym b_last) ∙ at_b in
+        absurd (fresh a q a_before (one ∙ ap (putter g workers) b_last) a_had at_out))
+        (λ b_other.
+        let b_before : b < n = omega arith in
+        laid.apart a b q a_before b_before one a_had (ap outlet_queue (sym (outlet_of-before b b_before)) ∙ at_b))
+        (cases_eq b n))
+        (cases_eq a n)
+
+    pub laid_more : AreLaid g begun workers more (n + 1)
+    laid_more = record {
+      outlet_lists = length-set ends.outlets from (outlets_at ends from ++ out ∷ []) ∙ laid.outlet_lists;
+      inlet_lists = length-set ends.inlets to (inlets_at ends to ++ into ∷ []) ∙ laid.inlet_lists;
+      shelves = count;
+      outlets = outlets-more;
+      inlets = inlets-more;
+      queues = few;
+      small = small;
+      each = λ a low.
+          ⊎_elim
+          (λ same. subst (λ (k : ℕ). HasEnds g begun workers more k) (sym same) last)
+          (λ other. before a (omega arith))
+          (cases_eq a n);
+      apart = apart-more;
+    }
+
+-- ---- the two kinds of arcs, and none
+
+pub laid_ring : (g : Parts) (begun : State) (workers : ℕ) (ends : QueueEnds) (n : ℕ) (out : Outlet) (into : Inlet) → IsGraph g → n < arc_count g → AreLaid g begun workers ends n → putter g workers n ≢ taker g workers n → HasRing ends.room g begun n out into → AreLaid g begun workers (with_ends ends (arc g n).from (arc g n).to out into) (n + 1)
+laid_ring g begun workers ends n out into graph listed laid two has =
+    laid_more
+    g
+    begun
+    workers
+    ends
+    n
+    graph
+    listed
+    laid
+    ends.shelves
+    out
+    into
+    laid.shelves
+    (λ w. omega (arith, laid.queues w))
+    laid.small
+    (λ w. record { there = λ q low. low; queues = λ q low. refl })
+    (λ _. has)
+    (λ one. absurd (two one))
+    (λ a q low one had at_out. ring-no_queue g begun n q out into has.ends at_out)
+
+pub laid_plain : (g : Parts) (begun : State) (workers : ℕ) (ends : QueueEnds) (n w number : ℕ) (tokens : List ℕ) → IsGraph g → n < arc_count g → AreLaid g begun workers ends n → w < workers → putter g workers n ≡ w → taker g workers n ≡ w → tokens ≡ place begun n → length tokens + jobs g < 2 ^ 32 → number ≡ length (firsts_at ends w) → AreLaid g begun workers (with_ends (record ends { shelves = with_one ends.shelves w tokens }) (arc g n).from (arc g n).to (outlet.Local number) (inlet.Local number)) (n + 1)
+laid_plain g begun workers ends n w number tokens graph listed laid w_there puts takes are short numbered =
+    let there : w < length ends.shelves = omega (arith, laid.shelves) in
+    let shelves = with_one ends.shelves w tokens in
+    let has : HasPlain begun (get_or shelves w []) n (outlet.Local number) (inlet.Local number) =
+    record {
+      same = refl;
+      there = omega (arith, length-with_one-here ends.shelves w tokens there);
+      tokens = last-with_one ends.shelves w tokens number [] there (sym numbered) ∙ are;
+    } in
+    laid_more
+    g
+    begun
+    workers
+    ends
+    n
+    graph
+    listed
+    laid
+    shelves
+    (outlet.Local number)
+    (inlet.Local number)
+    (length-set ends.shelves w (firsts_at ends w ++ tokens ∷ []) ∙ laid.shelves)
+    (λ v.
+    ⊎_elim
+    (λ same. omega (arith, ap (λ u. length (get_or shelves u [])) same, length-with_one-here ends.shelves w tokens there, laid.queues w))
+    (λ other. omega (arith, length-with_one-other ends.shelves w tokens v other, laid.queues v))
+    (cases_eq v w))
+    (λ v q low.
+    ⊎_elim
+    (λ early.
+    omega (arith, laid.small v q early, ap length (get_or-with_one ends.shelves w tokens v q [] there early)))
+    (λ late.
+    ⊎_elim
+    (λ same.
+    let last : length (firsts_at ends w) ≡ q =
+    omega (arith, ap (λ u. length (get_or shelves u [])) same, ap (λ u. length (firsts_at ends u)) same, length-with_one-here ends.shelves w tokens there) in
+    omega (arith, short, ap (λ u. length (first_tokens (get_or shelves u []) q)) same, ap length (last-with_one ends.shelves w tokens q [] there last)))
+    (λ other. absurd (omega (arith, length-with_one-other ends.shelves w tokens v other)))
+    (cases_eq v w))
+    (cases_lt q (length (firsts_at ends v))))
+    (λ v.
+    record {
+      there = λ q low. omega (arith, length-with_one-le ends.shelves w tokens v there);
+      queues = λ q low. get_or-with_one ends.shelves w tokens v q [] there low;
+    })
+    (λ two. absurd (two (puts ∙ sym takes)))
+    (λ _. subst (λ (v : ℕ). HasPlain begun (get_or shelves v []) n (outlet.Local number) (inlet.Local number)) (sym puts) has)
+    (λ a q low one had at_out.
+    let within = queue-within g begun workers ends a q (laid.each a low) had in
+    let at : number ≡ q = cc in
+    omega (arith, within, ap (λ v. length (firsts_at ends v)) (one ∙ puts)))
+
+module _ (g : Parts) (begun : State) (workers : ℕ) (ends : QueueEnds) (shelves : ends.shelves ≡ replicate workers []) where
+  none-shelved : (w : ℕ) → length (firsts_at ends w) ≤ 0
+  none-shelved w =
+      ⊎_elim
+      (λ there. omega (arith, ap (λ l. length (get_or l w [])) shelves, ap length (get_or-replicate {A = List (List ℕ)} workers w [] [] there)))
+      (λ past. omega (arith, ap length (get_or_past ends.shelves w [] (omega (arith, ap length shelves, length-replicate {A = List (List ℕ)} workers [])))))
+      (cases_lt w workers)
+
+  pub laid_none : ends.outlets ≡ replicate (stations g) [] → ends.inlets ≡ replicate (stations g) [] → AreLaid g begun workers ends 0
+  laid_none outs ins = record {
+    outlet_lists = ap length outs ∙ length-replicate (stations g) [];
+    inlet_lists = ap length ins ∙ length-replicate (stations g) [];
+    shelves = ap length shelves ∙ length-replicate workers [];
+    outlets = λ t there.
+        ap (λ l. length (get_or l t [])) outs
+        ∙ ap length (get_or-replicate (stations g) t [] [] there)
+        ∙ sym (first_outs-none g t);
+    inlets = λ t there.
+        ap (λ l. length (get_or l t [])) ins
+        ∙ ap length (get_or-replicate (stations g) t [] [] there)
+        ∙ sym (first_ins-none g t);
+    queues = none-shelved;
+    small = λ w q low. absurd (omega (arith, low, none-shelved w));
+    each = λ a low. absurd (omega arith);
+    apart = λ a b q low. absurd (omega arith);
+  }
+
+-- equal parts make equal ends
+pub ends-same : (o o' : List (List Outlet)) (i i' : List (List Inlet)) (s s' : List (List (List ℕ))) (r r' : Option ℕ) → o ≡ o' → i ≡ i' → s ≡ s' → r ≡ r' → (let left : QueueEnds = record { outlets = o; inlets = i; shelves = s; room = r } in let right : QueueEnds = record { outlets = o'; inlets = i'; shelves = s'; room = r' } in left ≡ right)
+ends-same o o' i i' s s' r r' outs ins shelves room = cc
+
+-- ---- as the code has it
+
+-- what an Ok has is changed into what it gives
+pub on_ok : {T E : Type 0} (r : Result T E) (P Q : Type 0) → (P → Q) → OnOk r P → OnOk r Q
+on_ok (Ok x) P Q gives has = gives has
+on_ok (Err e) P Q gives has = tt
+
+pub laid_ring_read : (g : Parts) (begun : State) (workers : ℕ) (ends new : QueueEnds) (n : ℕ) (read : Arc) (out : Outlet) (into : Inlet) → IsGraph g → n < arc_count g → read ≡ arc g n → AreLaid g begun workers ends n → putter g workers n ≢ taker g workers n → HasRing ends.room g begun n out into → new ≡ with_ends ends read.from read.to out into → AreLaid g begun workers new (n + 1)
+laid_ring_read g begun workers ends new n read out into graph listed same laid two has new_is =
+    subst (λ (e : QueueEnds). AreLaid g begun workers e (n + 1)) (sym (new_is ∙ ap (λ (r : Arc). with_ends ends r.from r.to out into) same)) (
+    laid_ring g begun workers ends n out into graph listed laid two has)
+
+pub laid_plain_read : (g : Parts) (begun : State) (workers : ℕ) (ends between new : QueueEnds) (n w number : ℕ) (read : Arc) (tokens : List ℕ) → IsGraph g → n < arc_count g → read ≡ arc g n → AreLaid g begun workers ends n → w < workers → putter g workers n ≡ w → taker g workers n ≡ w → tokens ≡ place begun n → length (place begun n) + jobs g < 2 ^ 32 → number ≡ length (firsts_at ends w) → between ≡ record ends { shelves = with_one ends.shelves w tokens } → new ≡ with_ends between read.from read.to (outlet.Local number) (inlet.Local number) → AreLaid g begun workers new (n + 1)
+laid_plain_read g begun workers ends between new n w number read tokens graph listed same laid there puts takes are few numbered between_is new_is =
+    let short : length tokens + jobs g < 2 ^ 32 = omega (arith, few, ap length are) in
+    let out : Outlet = outlet.Local number in
+    let into : Inlet = inlet.Local number in
+    subst (λ (e : QueueEnds). AreLaid g begun workers e (n + 1)) (
+    sym (
+    new_is
+    ∙ ap (λ (r : Arc). with_ends between r.from r.to out into) same
+    ∙ ap (λ (e : QueueEnds). with_ends e (arc g n).from (arc g n).to out into) between_is)) (
+    laid_plain g begun workers ends n w number tokens graph listed laid there puts takes are short numbered)

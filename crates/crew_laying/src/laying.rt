@@ -1,0 +1,313 @@
+ghost use Rattle.std.specs.Prelude.{◌≡◌, ◌≢◌, ◌+◌, ◌<◌, ◌≤◌, ◌^◌, [], None, Some, map, length, replicate, IfOk, OnOk, slice_set};
+ghost use Rattle.event_graph.specs.Network.{stations, jobs, arc, arc_count, IsGraph};
+ghost use Rattle.event_graph.specs.State.{place};
+ghost use Rattle.crew_laying.specs.Making.{room_on, FitsRoom, MayHold, HasRing, QueueEnds, outlets_at, inlets_at, firsts_at, with_one, with_ends, without, putter, taker, AreLaid};
+
+use card_queue::queue;
+use line_base::Date;
+use line_core::State;
+use live_check::Live;
+use room_ring::room_ring;
+use station_step::{Inlet, Outlet};
+use std::alloc::{AllocError, Global};
+use std::marker::Model;
+use std::mem;
+use worker_crew::{arc_at, worker_of};
+
+/// The ends of the queues of the arcs: for each station its outlets and its inlets, in the order of the arcs, and for
+/// each worker the tokens with which the queues of its shelf begin; and how much room a ring has beyond the tokens with
+/// which its arc starts, if it has a bound.
+#[derive(Drop)]
+pub(crate) struct Ends {
+    outlets: Vec<Vec<Outlet>>,
+    inlets: Vec<Vec<Inlet>>,
+    shelves: Vec<Vec<Vec<Date>>>,
+    room: Option<u32>,
+}
+
+impl Model for Ends {
+    ghost use Rattle.std.specs.Prelude.{map};
+    ghost use Rattle.crew_laying.specs.Making.{QueueEnds};
+
+    ghost Value = { QueueEnds };
+
+    ghost view = { λ e. record {
+      outlets = map (λ l. l.items) e.outlets.items;
+      inlets = map (λ l. l.items) e.inlets.items;
+      shelves = map (λ l. map (λ tokens. tokens.items) l.items) e.shelves.items;
+      room = e.room;
+    } };
+}
+
+/// The tokens on arc `a`, from the front to the back.
+fn tokens_on(alloc: Global, live: &Live, state: &State, a: u32) -> Result<Vec<Date>, AllocError>
+    requires made_for { live.now.graph ≡ state.now.graph }
+    requires arc { a < arc_count live.now.graph }
+    ensures tokens { IfOk result (λ tokens. tokens.items ≡ place state.now.state a) }
+    ensures few { length (place state.now.state a) + jobs live.now.graph < 2 ^ 32 }
+{
+    state.place(live, a).collect(alloc)
+}
+
+/// How many tokens may be put on the ring of arc `a`.
+fn room_on(live: &Live, state: &State, a: u32) -> u32
+    requires made_for { live.now.graph ≡ state.now.graph }
+    requires arc { a < arc_count live.now.graph }
+    ensures { result ≡ room_on live.now.graph state.now.state a }
+{
+    live.graph().jobs() - state.log(arc_at(live, a).from).len() as u32
+}
+
+/// How many tokens arc `a` starts with.
+fn tokens_at_start(live: &Live, a: u32) -> u32
+    requires { a < arc_count live.now.graph }
+    ensures tokens { result ≡ (arc live.now.graph a).tokens }
+    ensures few { result ≤ 10_000 }
+{
+    live.graph().tokens(a)
+}
+
+/// A ring for arc `a` whose room is bounded: that of the tokens with which the arc starts, and so much more.
+fn bounded_ring(
+    alloc: Global,
+    live: &Live,
+    state: &State,
+    a: u32,
+    room: u32,
+) -> Result<(Outlet, Inlet), AllocError>
+    requires made_for { live.now.graph ≡ state.now.graph }
+    requires arc { a < arc_count live.now.graph }
+    requires fits { FitsRoom room live.now.graph state.now.state }
+    ensures { IfOk result
+        (λ ends. HasRing (Some room) live.now.graph state.now.state a ends.0 ends.1) }
+{
+    let tokens = tokens_on(alloc, live, state, a)?;
+    let (put, take) = room_ring(alloc, &tokens, tokens_at_start(live, a) + room)?;
+    Ok((Outlet::Room(put), Inlet::Room(take)))
+}
+
+/// A ring for arc `a` whose room has no bound.
+fn unbounded_ring(
+    alloc: Global,
+    live: &Live,
+    state: &State,
+    a: u32,
+) -> Result<(Outlet, Inlet), AllocError>
+    requires made_for { live.now.graph ≡ state.now.graph }
+    requires arc { a < arc_count live.now.graph }
+    ensures { IfOk result (λ ends. HasRing None live.now.graph state.now.state a ends.0 ends.1) }
+{
+    let tokens = tokens_on(alloc, live, state, a)?;
+    let (put, take) = queue(alloc, &tokens, room_on(live, state, a))?;
+    Ok((Outlet::Ring(put), Inlet::Ring(take)))
+}
+
+/// A ring for arc `a`, of this kind.
+fn new_ring(
+    alloc: Global,
+    live: &Live,
+    state: &State,
+    a: u32,
+    room: Option<u32>,
+) -> Result<(Outlet, Inlet), AllocError>
+    requires made_for { live.now.graph ≡ state.now.graph }
+    requires arc { a < arc_count live.now.graph }
+    requires fits { MayHold room live.now.graph state.now.state }
+    ensures { IfOk result (λ ends. HasRing room live.now.graph state.now.state a ends.0 ends.1) }
+{
+    match room {
+        Some(room) => bounded_ring(alloc, live, state, a, room),
+        None => unbounded_ring(alloc, live, state, a),
+    }
+}
+
+/// So many empty lists.
+fn empty_lists<T: Drop>(alloc: Global, count: u32) -> Result<Vec<Vec<T>>, AllocError>
+    ensures { IfOk result (λ lists. map (λ l. l.items) lists.items ≡ replicate count []) }
+{
+    let mut lists = Vec::with_capacity(alloc, count as usize)?;
+    for _ in 0..count {
+        lists.push(Vec::new(alloc))?;
+    }
+    Ok(lists)
+}
+
+impl Ends {
+    /// No ends yet.
+    fn none(
+        alloc: Global,
+        stations: u32,
+        workers: u32,
+        room: Option<u32>,
+    ) -> Result<Ends, AllocError>
+        ensures outlets { IfOk result (λ ends. ends.outlets ≡ replicate stations []) }
+        ensures inlets { IfOk result (λ ends. ends.inlets ≡ replicate stations []) }
+        ensures shelves { IfOk result (λ ends. ends.shelves ≡ replicate workers []) }
+        ensures room { IfOk result (λ ends. ends.room ≡ room) }
+    {
+        Ok(Ends {
+            outlets: empty_lists(alloc, stations)?,
+            inlets: empty_lists(alloc, stations)?,
+            shelves: empty_lists(alloc, workers)?,
+            room,
+        })
+    }
+
+    /// Lays down the ends of an arc between two stations.
+    fn lay(&mut self, from: u32, to: u32, outlet: Outlet, inlet: Inlet) -> Result<(), AllocError>
+        requires from { from < length self.old.outlets }
+        requires to { to < length self.old.inlets }
+        ensures { OnOk result (self.new ≡ with_ends self.old from to outlet inlet) }
+    {
+        self.outlets[from as usize].push(outlet)?;
+        self.inlets[to as usize].push(inlet)?;
+        Ok(())
+    }
+
+    /// Lays a queue that begins with these tokens on a worker's shelf, and tells its number there.
+    fn shelve(&mut self, worker: u32, tokens: Vec<Date>) -> Result<u32, AllocError>
+        requires worker { worker < length self.old.shelves }
+        requires few { length (firsts_at self.old worker) < 2 ^ 32 }
+        ensures number { IfOk result (λ q. q ≡ length (firsts_at self.old worker)) }
+        ensures shelved { OnOk result (self.new ≡
+            record self.old { shelves = with_one self.old.shelves worker tokens.items }) }
+    {
+        let number = self.shelves[worker as usize].len() as u32;
+        self.shelves[worker as usize].push(tokens)?;
+        Ok(number)
+    }
+
+    /// Makes the queue of arc `a`, both of whose stations this worker has.
+    fn join_within(
+        &mut self,
+        alloc: Global,
+        live: &Live,
+        state: &State,
+        workers: u32,
+        a: u32,
+        worker: u32,
+    ) -> Result<(), AllocError>
+        requires made_for { live.now.graph ≡ state.now.graph }
+        requires arc { a < arc_count live.now.graph }
+        requires worker { worker < workers }
+        requires puts { putter live.now.graph workers a ≡ worker }
+        requires takes { taker live.now.graph workers a ≡ worker }
+        requires laid { AreLaid live.now.graph state.now.state workers self.old a }
+        ensures laid { OnOk result
+            (AreLaid live.now.graph state.now.state workers self.new (a + 1)) }
+        ensures room { OnOk result (self.new.room ≡ self.old.room) }
+    {
+        let arc = arc_at(live, a);
+        let number = self.shelve(worker, tokens_on(alloc, live, state, a)?)?;
+        self.lay(
+            arc.from,
+            arc.to,
+            Outlet::Local(number),
+            Inlet::Local(number),
+        )
+    }
+
+    /// Makes the ring of arc `a`, whose stations two workers have.
+    fn join_between(
+        &mut self,
+        alloc: Global,
+        live: &Live,
+        state: &State,
+        workers: u32,
+        a: u32,
+    ) -> Result<(), AllocError>
+        requires made_for { live.now.graph ≡ state.now.graph }
+        requires arc { a < arc_count live.now.graph }
+        requires two { putter live.now.graph workers a ≢ taker live.now.graph workers a }
+        requires fits { MayHold self.old.room live.now.graph state.now.state }
+        requires laid { AreLaid live.now.graph state.now.state workers self.old a }
+        ensures laid { OnOk result
+            (AreLaid live.now.graph state.now.state workers self.new (a + 1)) }
+        ensures room { OnOk result (self.new.room ≡ self.old.room) }
+    {
+        let arc = arc_at(live, a);
+        let (outlet, inlet) = new_ring(alloc, live, state, a, self.room)?;
+        self.lay(arc.from, arc.to, outlet, inlet)
+    }
+
+    /// Makes the queue of arc `a`, the next one.
+    fn join(
+        &mut self,
+        alloc: Global,
+        live: &Live,
+        state: &State,
+        workers: u32,
+        a: u32,
+    ) -> Result<(), AllocError>
+        requires made_for { live.now.graph ≡ state.now.graph }
+        requires some { 1 ≤ workers }
+        requires workers { workers ≤ 16 }
+        requires arc { a < arc_count live.now.graph }
+        requires fits { MayHold self.old.room live.now.graph state.now.state }
+        requires laid { AreLaid live.now.graph state.now.state workers self.old a }
+        ensures laid { OnOk result
+            (AreLaid live.now.graph state.now.state workers self.new (a + 1)) }
+        ensures room { OnOk result (self.new.room ≡ self.old.room) }
+    {
+        let stations = live.graph().stations();
+        let arc = arc_at(live, a);
+        let putter = worker_of(workers, stations, arc.from);
+        let taker = worker_of(workers, stations, arc.to);
+        if putter == taker {
+            self.join_within(alloc, live, state, workers, a, putter)
+        } else {
+            self.join_between(alloc, live, state, workers, a)
+        }
+    }
+
+    /// The ends of the queues of all arcs.
+    pub(crate) fn of(
+        alloc: Global,
+        live: &Live,
+        state: &State,
+        workers: u32,
+        room: Option<u32>,
+    ) -> Result<Ends, AllocError>
+        requires made_for { live.now.graph ≡ state.now.graph }
+        requires some { 1 ≤ workers }
+        requires workers { workers ≤ 16 }
+        requires fits { MayHold room live.now.graph state.now.state }
+        ensures laid { IfOk result
+            (λ ends. AreLaid live.now.graph state.now.state workers ends
+            (arc_count live.now.graph)) }
+        ensures room { IfOk result (λ ends. ends.room ≡ room) }
+        ensures sound { OnOk result (IsGraph live.now.graph) }
+        ensures some_station { OnOk result (1 ≤ stations live.now.graph) }
+        ensures few_arcs { OnOk result (arc_count live.now.graph < 2 ^ 32) }
+    {
+        let graph = live.graph();
+        let mut ends = Ends::none(alloc, graph.stations(), workers, room)?;
+        for a in 0..graph.arcs().len() as u32 {
+            ends.join(alloc, live, state, workers, a)?;
+        }
+        Ok(ends)
+    }
+
+    /// Takes the ends of station `t`. It takes no memory.
+    pub(crate) fn take_station(&mut self, alloc: Global, t: u32) -> (Vec<Outlet>, Vec<Inlet>)
+        requires outlets { t < length self.old.outlets }
+        requires inlets { t < length self.old.inlets }
+        ensures outlets { result.0.items ≡ outlets_at self.old t }
+        ensures inlets { result.1.items ≡ inlets_at self.old t }
+        ensures rest { self.new ≡ without self.old t }
+    {
+        let outlets = mem::replace(&mut self.outlets[t as usize], Vec::new(alloc));
+        let inlets = mem::replace(&mut self.inlets[t as usize], Vec::new(alloc));
+        (outlets, inlets)
+    }
+
+    /// Takes the tokens with which the queues of a worker's shelf begin. It takes no memory.
+    pub(crate) fn take_shelf(&mut self, alloc: Global, worker: u32) -> Vec<Vec<Date>>
+        requires { worker < length self.old.shelves }
+        ensures tokens { map (λ tokens. tokens.items) result.items ≡ firsts_at self.old worker }
+        ensures rest { self.new ≡
+            record self.old { shelves = slice_set self.old.shelves worker [] } }
+    {
+        mem::replace(&mut self.shelves[worker as usize], Vec::new(alloc))
+    }
+}

@@ -1,5 +1,0 @@
-use Rattle.line_workers.specs.Crews.{AreMakingCrews}
-use Rattle.line_workers.proofs.crews.crews_of.Given as goal
-
-abbrev pub invariant-loop-worker : goal.invariant-loop-worker
-invariant-loop-worker l = AreMakingCrews l.live l.state.state l.workers l.room l.initial.teams.items l.teams.items l.crews.items l.worker

@@ -1,5 +1,0 @@
-use Rattle.line_workers.proofs.LaidLists.{no-tokens}
-use Rattle.line_workers.proofs.laying.Ends.none.Goals as goal
-
-pub returns-clause-shelves : goal.returns-clause-shelves
-returns-clause-shelves c = no-tokens c.in_ok-empty_lists-3.field-0.items c.args.workers c.in_ok-empty_lists-3.ensures

@@ -1,0 +1,11 @@
+pub mod Grown
+pub mod Share
+pub mod Team
+pub mod Teams
+pub mod Crew
+pub mod Order
+pub mod Work
+pub mod Meeting
+pub mod Crews
+pub mod Logs
+pub mod Cleared

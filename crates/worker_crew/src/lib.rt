@@ -1,0 +1,19 @@
+//! One worker of a line: its stations, and its sweeps over them.
+#![tactic(auto)]
+
+mod arcs;
+mod clearing;
+mod counts;
+mod crew;
+mod gate;
+mod logs;
+mod order;
+mod owner;
+mod team;
+
+pub use arcs::arc_at;
+pub use crew::{Crew, SWEEPS};
+pub use gate::{FreeGate, Gate};
+pub use logs::log_with;
+pub use owner::{first_of, worker_of};
+pub use team::Team;

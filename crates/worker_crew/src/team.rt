@@ -1,0 +1,70 @@
+ghost use Rattle.std.specs.Prelude.{◌≡◌, ℕ, ◌<◌, length};
+ghost use Rattle.line_base.specs.declared.event.Parts.{Parts};
+ghost use Rattle.event_graph.specs.State.{State};
+ghost use Rattle.station_step.specs.Ends.{AreEnds, AreMet};
+ghost use Rattle.station_step.specs.Input.{input_at};
+ghost use Rattle.station_step.specs.Station.{outlet_at};
+ghost use Rattle.worker_crew.specs.Team.{member, IsTeam};
+ghost use Rattle.worker_crew.specs.Meeting.{OutletMet, InletMet};
+ghost use Rattle.worker_crew.specs.Cleared.{cleared_team};
+
+use crate::clearing::clear_stations;
+use station_step::{Shelf, Station, meet_at};
+use std::marker::Model;
+
+/// The stations of one worker, and the shelf with the queues between them.
+#[derive(Drop)]
+pub struct Team {
+    pub(crate) stations: Vec<Station>,
+    pub(crate) shelf: Shelf,
+}
+
+impl Model for Team {
+    ghost use Rattle.worker_crew.specs.Team.{WorkTeam};
+
+    ghost Value = { WorkTeam };
+
+    ghost view = { λ t. record { stations = t.stations.items; shelf = t.shelf } };
+}
+
+impl Team {
+    /// A team of these stations, with the shelf between them.
+    pub fn new(stations: Vec<Station>, shelf: Shelf) -> Team
+        ensures { result ≡ record { stations = stations.items; shelf = shelf } }
+    {
+        Team { stations, shelf }
+    }
+}
+
+/// Brings the two ends of a ring together: output `k` of station `i` of a team, and input `l` of station `j` of
+/// another. All that was put and not taken is then known there, and what was taken to the outlet.
+pub(crate) fn meet_teams(from: &mut Team, i: u32, k: u32, to: &mut Team, j: u32, l: u32)
+    requires from { i < length from.old.stations }
+    requires output { k < length (member from.old.stations i).outlets }
+    requires to { j < length to.old.stations }
+    requires input { l < length (member to.old.stations j).inputs }
+    requires ends { AreEnds (outlet_at (member from.old.stations i).outlets k)
+        (input_at (member to.old.stations j).inputs l).inlet }
+    ensures from { OutletMet i k from.old from.new }
+    ensures to { InletMet j l to.old to.new }
+    ensures met { AreMet (outlet_at (member from.new.stations i).outlets k)
+        (input_at (member to.new.stations j).inputs l).inlet }
+    ensures from_team { (g : Parts) (begun : State) (first : ℕ) → IsTeam g begun first from.old →
+        IsTeam g begun first from.new }
+    ensures to_team { (g : Parts) (begun : State) (first : ℕ) → IsTeam g begun first to.old →
+        IsTeam g begun first to.new }
+{
+    meet_at(
+        &mut from.stations[i as usize],
+        k,
+        &mut to.stations[j as usize],
+        l,
+    );
+}
+
+/// Counts the turns of a team's stations from 0 again. Nothing else changes.
+pub(crate) fn clear_team(team: &mut Team)
+    ensures { team.new ≡ cleared_team team.old }
+{
+    clear_stations(&mut team.stations);
+}
