@@ -1,6 +1,6 @@
 ghost use Rattle.std.specs.Prelude.{◌≡◌, ◌≤◌, ◌^◌, All, IfOk};
-ghost use Rattle.line_workers.specs.Work.{TurnsBelow};
-ghost use Rattle.line_workers.specs.Crews.{live_of, AreCrews};
+ghost use Rattle.worker_crew.specs.Work.{TurnsBelow};
+ghost use Rattle.worker_crew.specs.Crews.{live_of, AreCrews};
 
 use crate::got::got;
 use crate::same::same;

@@ -11,8 +11,8 @@ use denote.Param.Send.{IsSend, IsSync, AllSend, sendable, shr_send, struct_send,
 use Rattle.std.proofs.Crossing.{crosses}
 use Rattle.std.specs.contracts.sync.atomic.AtomicBool as AtomicBool
 use Rattle.live_check.specs.contracts.live.Live as Live
-use Rattle.line_workers.specs.contracts.crew.Crew as Crew
-use Rattle.line_workers.proofs.Crossing.{crew_send}
+use Rattle.worker_crew.specs.contracts.crew.Crew as Crew
+use Rattle.worker_crew.proofs.Crossing.{crew_send}
 
 live_sync : IsSync Live.the_row
 live_sync = search (sendable, crosses) depth 40

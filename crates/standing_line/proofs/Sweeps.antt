@@ -6,13 +6,13 @@ use Rattle.std.proofs.lemmas.List.{get_or_append_left, get_or_push, length_push}
 use Rattle.std.proofs.lemmas.List.Elements.{All-from_get_or}
 use Rattle.event_graph.specs.State.{log}
 use Rattle.live_check.specs.Order.{LiveGraph}
-use Rattle.line_workers.specs.Teams.{state_among}
-use Rattle.line_workers.specs.Crew.{WorkCrew, IsCrew, with_team, teams_of}
-use Rattle.line_workers.specs.Work.{HasSwept}
-use Rattle.line_workers.specs.Crews.{crew_at, no_crew, live_of, graph_of, room_of, AreCrews}
+use Rattle.worker_crew.specs.Teams.{state_among}
+use Rattle.worker_crew.specs.Crew.{WorkCrew, IsCrew, with_team, teams_of}
+use Rattle.worker_crew.specs.Work.{HasSwept}
+use Rattle.worker_crew.specs.Crews.{crew_at, no_crew, live_of, graph_of, room_of, AreCrews}
 use Rattle.line_workers.specs.Gather.{logs_in, IsCrewAfter, AreCrewsAfter}
 use Rattle.line_workers.specs.Line.{WorkLine, line_of, IsLine, LogsGrow, StandsIn}
-use Rattle.line_workers.proofs.Working.{idle_team}
+use Rattle.worker_crew.proofs.Working.{idle_team}
 use Rattle.line_workers.proofs.AfterSweeps.{after_more, logs_grow}
 use Rattle.standing_line.specs.Standing.{GoesOn}
 use Rattle.standing_line.specs.Sweeping.{IsCrewFor}

@@ -1,8 +1,8 @@
 -- When a crew may sweep in a thread of its own.
 use Rattle.std.specs.Prelude.{◌≡◌, ◌^◌}
 use Rattle.live_check.specs.Order.{LiveGraph}
-use Rattle.line_workers.specs.Crew.{WorkCrew, IsCrew}
-use Rattle.line_workers.specs.Work.{AllDone, TurnsBelow}
+use Rattle.worker_crew.specs.Crew.{WorkCrew, IsCrew}
+use Rattle.worker_crew.specs.Work.{AllDone, TurnsBelow}
 
 -- the crew is of a line that was made for this
 pub record IsCrewFor (live : LiveGraph) (c : WorkCrew) : Type 0 where

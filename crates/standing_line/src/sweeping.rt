@@ -1,5 +1,5 @@
 ghost use Rattle.std.specs.Prelude.{◌≡◌, ◌↔◌, IsTrue};
-ghost use Rattle.line_workers.specs.Crew.{IsCrew};
+ghost use Rattle.worker_crew.specs.Crew.{IsCrew};
 ghost use Rattle.line_workers.specs.Gather.{IsCrewAfter};
 ghost use Rattle.standing_line.specs.Sweeping.{IsCrewFor, MaySweep};
 

@@ -1,7 +1,7 @@
 use Rattle.std.proofs.Common.{◌≡◌, ◌<◌, length, set, ◌∙◌, subst, arith}
 use Rattle.std.proofs.lemmas.List.{get_or_default}
-use Rattle.line_workers.specs.Crew.{WorkCrew}
-use Rattle.line_workers.specs.Crews.{crew_at}
+use Rattle.worker_crew.specs.Crew.{WorkCrew}
+use Rattle.worker_crew.specs.Crews.{crew_at}
 use Rattle.line_workers.specs.Gather.{IsCrewAfter}
 use Rattle.line_workers.proofs.AfterSweeps.{crews_after, one_after}
 use Rattle.run_calls.proofs.of_line_workers.sweep_first.Goals as goal

@@ -2,9 +2,9 @@ use Rattle.std.proofs.Common.{rules, List, [], ◌∷◌, ◌++◌, sym, subst}
 use denote.Param.{param}
 use denote.Exit.{yes}
 use denote.Param.Send.{sendable, param_send, arg_send}
-use Rattle.line_workers.specs.Crew.{WorkCrew}
+use Rattle.worker_crew.specs.Crew.{WorkCrew}
 use Rattle.line_workers.specs.Gather.{IsCrewAfter, AreCrewsAfter}
-use Rattle.line_workers.proofs.Crossing.{crew_send}
+use Rattle.worker_crew.proofs.Crossing.{crew_send}
 use Rattle.standing_line.specs.Sweeping.{IsCrewFor}
 use Rattle.standing_line.proofs.Crossing.{sweeps_send}
 use Rattle.standing_line.proofs.Sweeps.{as_they_are, last_is_for, rest_are_for, one_more}

@@ -1,6 +1,6 @@
 use Rattle.std.proofs.Common.{◌-◌, ◌^◌}
-use Rattle.line_workers.specs.Team.{member}
-use Rattle.line_workers.specs.Work.{turns_of}
+use Rattle.worker_crew.specs.Team.{member}
+use Rattle.worker_crew.specs.Work.{turns_of}
 use Rattle.line_workers.specs.Gather.{IsCrewAfter}
 use Rattle.standing_line.proofs.sweeping.sweep_on.Given as goal
 
