@@ -16,37 +16,51 @@ use plant_model::Plant;
 use std::alloc::{AllocError, Global};
 use std::test::Fail;
 
-/// Two stages under kanban, with a card each and three demands.
-const TWO_STAGES: &str = "\
-policy = \"kanban\"
-demands = [0, 2, 4]
-stage = [
-  { name = \"cut\", feeds = \"weld\", cards = 1, machine = [{ name = \"saw\", time = 3 }] },
-  { name = \"weld\", cards = 1, machine = [{ name = \"torch\", time = 5 }] },
-]
-";
+/// The line of the policy kanban.
+pub const KANBAN: &str = "policy = \"kanban\"";
 
-/// The same two stages with forty demands.
-const FORTY_JOBS: &str = "\
-policy = \"kanban\"
-demands = [
+/// The line of the policy base stock.
+pub const BASE_STOCK: &str = "policy = \"base-stock\"";
+
+/// The dates of three demands.
+pub const THREE_DEMANDS: &str = "0, 2, 4";
+
+/// The dates of forty demands.
+pub const FORTY_DEMANDS: &str = "\
   0, 2, 4, 6, 8, 10, 12, 14, 16, 18, 20, 22, 24, 26, 28, 30, 32, 34, 36, 38,
-  40, 42, 44, 46, 48, 50, 52, 54, 56, 58, 60, 62, 64, 66, 68, 70, 72, 74, 76, 78,
-]
-stage = [
-  { name = \"cut\", feeds = \"weld\", cards = 1, machine = [{ name = \"saw\", time = 3 }] },
-  { name = \"weld\", cards = 1, machine = [{ name = \"torch\", time = 5 }] },
-]
-";
+  40, 42, 44, 46, 48, 50, 52, 54, 56, 58, 60, 62, 64, 66, 68, 70, 72, 74, 76, 78";
 
-/// The two stages with a way between them, and a way back for a card.
-const TWO_STAGES_APART: &str = "\
-policy = \"kanban\"
-demands = [0, 2, 4]
-stage = [
-  { name = \"cut\", feeds = \"weld\", cards = 1, travel = 4, card_time = 1, machine = [{ name = \"saw\", time = 3 }] },
-  { name = \"weld\", cards = 1, machine = [{ name = \"torch\", time = 5 }] },
-]
+/// What is said of a stage with one card.
+pub const ONE_CARD: &str = "cards = 1";
+
+/// What is said of a stage with one part in stock.
+pub const ONE_PART: &str = "stock = 1";
+
+/// What is said of a stage with one card and a way to the next stage, and a way back for the card.
+const ONE_CARD_APART: &str = "cards = 1\ntravel = 4\ncard_time = 1";
+
+/// The start of the two stages with three demands, as it is saved, in format 2.
+pub const START: &str = "\
+pull-checkpoint 2
+delays 0
+station feed 0
+station cut 0
+station cut.saw 0
+station weld 0
+station weld.torch 0
+station deliver 0
+place 0 0
+place 1 1 0
+place 2 1 0
+place 3 1 0
+place 4 0
+place 5 1 0
+place 6 1 0
+place 7 1 0
+place 8 0
+place 9 0
+place 10 0
+end
 ";
 
 /// The checkpoint of the two stages after the firings feed, deliver, weld, cut, cut.saw, in format 1.
@@ -83,18 +97,32 @@ pub fn plant_of(alloc: Global, file: &str) -> Result<Plant, Fail>
     Ok(complete_draft(alloc, draft, None, None)?)
 }
 
-/// The plant of two stages: `cut` with the machine `saw`, and `weld` with the machine `torch`.
+/// The file of a plant of two stages, `cut` with the machine `saw`, and `weld` with the machine `torch`, by the lines of its
+/// policy, the dates of its demands, and what else is said of each stage.
+pub fn stages_file(
+    alloc: Global,
+    policy: &str,
+    demands: &str,
+    cut: &str,
+    weld: &str,
+) -> Result<String, AllocError> {
+    let saw = "[[stage.machine]]\nname = \"saw\"\ntime = 3\n";
+    let torch = "[[stage.machine]]\nname = \"torch\"\ntime = 5\n";
+    let mut file = format!(in alloc; "{policy}\ndemands = [{demands}]\n")?;
+    write!(
+        file,
+        "[[stage]]\nname = \"cut\"\nfeeds = \"weld\"\n{cut}\n{saw}"
+    )?;
+    write!(file, "[[stage]]\nname = \"weld\"\n{weld}\n{torch}")?;
+    Ok(file)
+}
+
+/// The plant of the two stages under kanban, with a card each and three demands.
 pub fn two_stages(alloc: Global) -> Result<Plant, Fail>
     ensures { IfOk result IsSound }
 {
-    plant_of(alloc, TWO_STAGES)
-}
-
-/// The plant of two stages with forty demands.
-pub fn forty_jobs(alloc: Global) -> Result<Plant, Fail>
-    ensures { IfOk result IsSound }
-{
-    plant_of(alloc, FORTY_JOBS)
+    let file = stages_file(alloc, KANBAN, THREE_DEMANDS, ONE_CARD, ONE_CARD)?;
+    plant_of(alloc, file.as_str())
 }
 
 /// The live graph of a plant.
@@ -117,22 +145,31 @@ fn leaked(alloc: Global, live: Live) -> Result<&'static Live, AllocError> {
 /// The live graph of the plant of a plant file.
 pub fn live_of_file(alloc: Global, file: &str) -> Result<&'static Live, Fail> {
     let plant = plant_of(alloc, file)?;
-    Ok(leaked(alloc, live_of(alloc, &plant)?)?)
+    let live = live_of(alloc, &plant);
+    drop(plant);
+    Ok(leaked(alloc, live?)?)
+}
+
+/// The live graph of the two stages under kanban with these demands, where the second has a card and this is said of the
+/// first.
+fn live_of_stages(alloc: Global, demands: &str, cut: &str) -> Result<&'static Live, Fail> {
+    let file = stages_file(alloc, KANBAN, demands, cut, ONE_CARD)?;
+    live_of_file(alloc, file.as_str())
 }
 
 /// The live graph of the two stages.
 pub fn live_stages(alloc: Global) -> Result<&'static Live, Fail> {
-    live_of_file(alloc, TWO_STAGES)
+    live_of_stages(alloc, THREE_DEMANDS, ONE_CARD)
 }
 
 /// The live graph of the two stages with forty demands.
 pub fn live_forty_jobs(alloc: Global) -> Result<&'static Live, Fail> {
-    live_of_file(alloc, FORTY_JOBS)
+    live_of_stages(alloc, FORTY_DEMANDS, ONE_CARD)
 }
 
 /// The live graph of the two stages with ways between them.
 pub fn live_stages_apart(alloc: Global) -> Result<&'static Live, Fail> {
-    live_of_file(alloc, TWO_STAGES_APART)
+    live_of_stages(alloc, THREE_DEMANDS, ONE_CARD_APART)
 }
 
 /// The live graph of two stations, a feed whose tokens come 4 later, and a station that gives its token back to itself
