@@ -1,4 +1,4 @@
-use crate::same::same;
+use crate::tests::same::same;
 use sample_plants::live_stages;
 use std::test::Fail;
 

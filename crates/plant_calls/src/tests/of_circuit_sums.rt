@@ -1,5 +1,5 @@
-use crate::got::got;
-use crate::same::same;
+use crate::tests::got::got;
+use crate::tests::same::same;
 use circuit_sums::{CardCircuit, CircuitKind, bound_of, card_circuits, sum};
 use event_graph::Marking;
 use line_base::Items;
@@ -11,7 +11,13 @@ use std::test::Fail;
 /// The card circuits of the two stages.
 fn circuits(rt: &impl Abort, alloc: Global) -> Result<Items<CardCircuit>, Fail> {
     let plant = two_stages(alloc)?;
-    let live = live_of(alloc, &plant)?;
+    let live = match live_of(alloc, &plant) {
+        Ok(live) => live,
+        Err(fail) => {
+            drop(plant);
+            return Err(fail);
+        }
+    };
     let circuits = got(rt, card_circuits(alloc, &plant, live.graph()));
     drop(live);
     drop(plant);
@@ -25,14 +31,20 @@ fn is_of_stage(rt: &impl Abort, circuit: &CardCircuit, stage: u32, arcs: &[u32])
     same(rt, circuit.number, 1);
 }
 
+/// Asserts that circuits are of the two stages.
+fn are_of_stages(rt: &impl Abort, circuits: &[CardCircuit]) {
+    let [cut, weld] = circuits else {
+        panic!(rt; "there are two circuits");
+    };
+    is_of_stage(rt, cut, 0, &[0, 3, 9]);
+    is_of_stage(rt, weld, 1, &[4, 7, 10]);
+}
+
 #[test]
 fn circuits_are_of_the_cards(rt: HostRuntime) -> Result<(), Fail> {
     let circuits = circuits(&rt, rt.alloc())?;
-    let [cut, weld] = circuits.as_slice() else {
-        return Err("there are two circuits".into());
-    };
-    is_of_stage(&rt, cut, 0, &[0, 3, 9]);
-    is_of_stage(&rt, weld, 1, &[4, 7, 10]);
+    are_of_stages(&rt, circuits.as_slice());
+    drop(circuits);
     Ok(())
 }
 
@@ -42,6 +54,7 @@ fn bounds_are_of_the_cards(rt: HostRuntime) -> Result<(), Fail> {
     assert!(rt; plant.stages.len() == 2);
     let bounds = [bound_of(&plant, 0), bound_of(&plant, 1)];
     same(&rt, bounds, [Some(1), Some(1)]);
+    drop(plant);
     Ok(())
 }
 

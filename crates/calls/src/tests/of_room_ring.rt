@@ -1,6 +1,6 @@
 ghost use Rattle.std.specs.Prelude.{◌≡◌, []};
 
-use crate::same::same;
+use crate::tests::same::same;
 use room_ring::{Full, RoomPut, RoomTake, meet, room_ring};
 use std::test::Fail;
 use std::thread;
@@ -18,6 +18,8 @@ fn a_full_ring_refuses_until_a_token_is_taken(rt: HostRuntime) -> Result<(), Fai
     }
     same(&rt, put.space(), 0);
     same(&rt, put.look(), 2);
+    drop(put);
+    drop(take);
     Ok(())
 }
 
@@ -33,6 +35,8 @@ fn a_token_taken_is_room_for_another_after_a_meeting(rt: HostRuntime) -> Result<
     for date in [Some(4), Some(9), None] {
         same(&rt, take.take(), date);
     }
+    drop(put);
+    drop(take);
     Ok(())
 }
 
@@ -45,6 +49,8 @@ fn a_meeting_tells_both_ends(rt: HostRuntime) -> Result<(), Fail> {
     meet(&mut put, &mut take);
     same(&rt, take.known(), 2);
     same(&rt, put.space(), 1);
+    drop(put);
+    drop(take);
     Ok(())
 }
 

@@ -1,4 +1,4 @@
-use crate::same::same;
+use crate::tests::same::same;
 use line_base::{
     Items, Label, Log, Logs, Name, NameError, Times, digits, is_checkpoint_name, is_file_name,
     number_of,

@@ -1,6 +1,6 @@
 //! The refusals of a plant as a value, one a class, each of a plant that only just isn't sound.
-use crate::got::got;
-use crate::same::same;
+use crate::tests::got::got;
+use crate::tests::same::same;
 use line_base::{Date, Items, Name, Times};
 use plant_model::{CardLoop, Machine, Plant, PlantError, Policy, Stage};
 use sample_plants::two_stages;

@@ -1,5 +1,5 @@
-use crate::got::got;
-use crate::same::same;
+use crate::tests::got::got;
+use crate::tests::same::same;
 use line_core::run;
 use line_io::MemSink;
 use line_report::Report;
@@ -34,7 +34,9 @@ fn written(
     let failing = got(rt, vec![in alloc; failing]);
     let mut sink = got(rt, MemSink::new(alloc, 1_000, failing, keep));
     let whole = goes_out(report, &mut sink);
-    (whole, got(rt, sink.written().to_vec(alloc)))
+    let written = got(rt, sink.written().to_vec(alloc));
+    drop(sink);
+    (whole, written)
 }
 
 #[test]
@@ -48,6 +50,7 @@ fn a_report_begins_anew(rt: HostRuntime) -> Result<(), Fail> {
     same(&rt, (whole, text.len()), (true, 252));
     assert!(rt; text.starts_with(b"feed 1 0\nfeed 2 2\n"));
     assert!(rt; text.ends_with(b"waiting 9\nlast 15\n"));
+    drop(report);
     Ok(())
 }
 
@@ -64,5 +67,7 @@ fn a_summary_tells_the_sizes_and_the_sum_of_the_dates(rt: HostRuntime) -> Result
     assert!(rt; sink.written().starts_with(sizes.as_bytes()));
     assert!(rt; sink.written().ends_with(rest.as_bytes()));
     same(&rt, sink.written().len(), sizes.len() + rest.len());
+    drop(sink);
+    drop(report);
     Ok(())
 }

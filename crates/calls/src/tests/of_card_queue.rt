@@ -1,6 +1,6 @@
 ghost use Rattle.std.specs.Prelude.{◌≡◌, ◌+◌, ◌≤◌, length, IfOk};
 
-use crate::same::same;
+use crate::tests::same::same;
 use card_queue::{Plain, Put, Take, meet, queue};
 use line_base::Date;
 use std::alloc::AllocError;
@@ -19,6 +19,8 @@ fn takes_give_the_tokens_in_order_of_putting(rt: HostRuntime) -> Result<(), Fail
     for date in [Some(0), Some(4), Some(9), None] {
         same(&rt, take.take(), date);
     }
+    drop(put);
+    drop(take);
     Ok(())
 }
 
@@ -27,6 +29,8 @@ fn a_take_looks_past_what_a_meeting_told(rt: HostRuntime) -> Result<(), Fail> {
     let (mut put, mut take) = queue(rt.alloc(), &[], 1)?;
     put.put(7);
     same(&rt, take.take(), Some(7));
+    drop(put);
+    drop(take);
     Ok(())
 }
 
@@ -38,6 +42,7 @@ fn a_plain_queue_gives_its_front_token(rt: HostRuntime) -> Result<(), Fail> {
     same(&rt, plain.take(), None);
     plain.put(7);
     same(&rt, plain.take(), Some(7));
+    drop(plain);
     Ok(())
 }
 
@@ -95,8 +100,12 @@ fn sent<T: Send>(value: T) -> T {
 #[test]
 fn queues_may_move_to_another_thread(rt: HostRuntime) -> Result<(), Fail> {
     let (put, take) = queue(rt.alloc(), &[5], 0)?;
-    let _ = sent(put);
-    same(&rt, sent(take).take(), Some(5));
-    same(&rt, sent(Plain::new(rt.alloc(), &[6], 0)?).take(), Some(6));
+    drop(sent(put));
+    let mut take = sent(take);
+    same(&rt, take.take(), Some(5));
+    drop(take);
+    let mut plain = sent(Plain::new(rt.alloc(), &[6], 0)?);
+    same(&rt, plain.take(), Some(6));
+    drop(plain);
     Ok(())
 }

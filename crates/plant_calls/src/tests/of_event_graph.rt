@@ -1,4 +1,4 @@
-use crate::same::same;
+use crate::tests::same::same;
 use event_graph::{Arc, Graph, GraphError, Marking};
 use sample_plants::{plain, two_stations};
 use std::alloc::Global;

@@ -1,7 +1,7 @@
 ghost use Rattle.std.specs.Prelude.{◌≡◌};
 
-use crate::got::got;
-use crate::same::same;
+use crate::tests::got::got;
+use crate::tests::same::same;
 use line_base::Date;
 use line_core::{FireError, State, replay, run};
 use live_check::Live;
@@ -50,6 +50,7 @@ fn fires_in_turn(rt: &impl Abort, live: &Live, mut state: State, back: Date, dat
     fires(rt, live, &mut state, 0, Err(FireError::Done));
     fires(rt, live, &mut state, 1, Ok(()));
     has_log(rt, live, &state, 1, dates);
+    drop(state);
 }
 
 /// Asserts the dates of two stations, of which the second gives its token back to itself this much

@@ -1,5 +1,5 @@
-use crate::got::got;
-use crate::same::same;
+use crate::tests::got::got;
+use crate::tests::same::same;
 use line_io::{
     Failed, FileStore, Files, MemSink, MemStore, Outgoing, Sink, StdSink, Store, StoreError,
     put_all,
@@ -76,6 +76,7 @@ fn a_store_in_memory_reads_whole_files_up_to_a_limit(rt: HostRuntime) {
             length,
         );
     }
+    drop(store);
 }
 
 #[test]
@@ -89,6 +90,7 @@ fn a_write_gives_a_file_its_bytes(rt: HostRuntime) {
     same(&rt, old.as_slice(), b"old".as_slice());
     let newer = got(&rt, read(alloc, &mut store, "b", 9));
     same(&rt, newer.as_slice(), b"newer".as_slice());
+    drop(store);
 }
 
 /// What a file of a store holds.
@@ -105,6 +107,7 @@ fn is_torn(rt: &impl Abort, alloc: Global, name: &str, keep: u32, bytes: &[u8]) 
     let mut store = torn_store(rt, alloc, keep);
     same(rt, write(&mut store, name, b"newer").is_ok(), false);
     same(rt, held(&store, name), Some(bytes));
+    drop(store);
 }
 
 #[test]
@@ -133,6 +136,7 @@ fn sink_holds(rt: &impl Abort, alloc: Global, room: u32, keep: u32, written: &[u
     put(&mut sink, b"two");
     put(&mut sink, b"six");
     same(rt, sink.written(), written);
+    drop(sink);
 }
 
 #[test]
@@ -171,8 +175,10 @@ fn goes_out(rt: &impl Abort, alloc: Global, length: usize, failing: u32, written
     let bytes = got(rt, vec![in alloc; b'x'; length]);
     let mut sink = sink_of(rt, alloc, 20_000, failing, 0);
     same(rt, put_whole(&mut sink, &bytes), written);
+    drop(sink);
     let mut sink = sink_of(rt, alloc, 20_000, failing, 0);
     same(rt, put_by_parts(rt, alloc, &mut sink, &bytes), written);
+    drop(sink);
 }
 
 #[test]
@@ -200,6 +206,7 @@ fn number_goes_out(rt: &impl Abort, alloc: Global, number: u64, twice: &[u8], be
     push_twice(&mut out, &mut sink, &front, number);
     same(rt, out.finish(&mut sink), Ok(()));
     same(rt, sink.written().get(before..), Some(twice));
+    drop(sink);
 }
 
 /// Asserts that a number goes out twice at the start, at the end and over the end of a piece.

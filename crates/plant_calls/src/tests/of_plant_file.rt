@@ -1,4 +1,4 @@
-use crate::same::same;
+use crate::tests::same::same;
 use plant_file::read_plant;
 use std::test::Fail;
 

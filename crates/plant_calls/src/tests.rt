@@ -1,0 +1,9 @@
+mod got;
+mod of_circuit_sums;
+mod of_event_graph;
+mod of_line_core;
+mod of_line_report;
+mod of_live_check;
+mod of_plant_file;
+mod of_plant_model;
+mod same;
