@@ -1,5 +1,5 @@
-use crate::new_disk::new_disk;
-use crate::same::same;
+use crate::tests::new_disk::new_disk;
+use crate::tests::same::same;
 use line_disk::{Disk, MemDisk};
 use slot_store::{SlotError, Slots};
 use std::alloc::Global;

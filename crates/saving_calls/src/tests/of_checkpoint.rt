@@ -1,36 +1,13 @@
 ghost use Rattle.std.specs.Prelude.{◌≡◌};
 
-use crate::same::same;
+use crate::tests::same::same;
 use checkpoint::{CheckpointError, read_state, write_state};
 use line_core::{State, run};
 use live_check::Live;
-use sample_plants::{FIVE_FIRINGS, live_stages, live_stages_apart};
+use sample_plants::{FIVE_FIRINGS, START, live_stages, live_stages_apart};
 use std::alloc::Global;
 use std::process::Abort;
 use std::test::Fail;
-
-/// The start of the two stages, in format 1.
-const START: &str = "\
-pull-checkpoint 1
-station feed 0
-station cut 0
-station cut.saw 0
-station weld 0
-station weld.torch 0
-station deliver 0
-place 0 0
-place 1 1 0
-place 2 1 0
-place 3 1 0
-place 4 0
-place 5 1 0
-place 6 1 0
-place 7 1 0
-place 8 0
-place 9 0
-place 10 0
-end
-";
 
 /// The two stages when every station has fired once for each job, in format 2.
 const FINISHED: &str = "\
@@ -186,12 +163,12 @@ fn text_of_run(alloc: Global, live: &Live) -> Result<Vec<u8>, Fail> {
     Ok(text?)
 }
 
-/// The start of the two stages, in format 2.
-fn start_in_format_2(alloc: Global) -> Result<String, Fail> {
+/// The start of the two stages, in format 1.
+fn start_in_format_1(alloc: Global) -> Result<String, Fail> {
     let lines = START
-        .strip_prefix("pull-checkpoint 1\n")
+        .strip_prefix("pull-checkpoint 2\ndelays 0\n")
         .ok_or("not a start")?;
-    Ok(format!(in alloc; "pull-checkpoint 2\ndelays 0\n{lines}")?)
+    Ok(format!(in alloc; "pull-checkpoint 1\n{lines}")?)
 }
 
 #[test]
@@ -206,8 +183,7 @@ fn a_finished_state_is_written(rt: HostRuntime) -> Result<(), Fail> {
 fn a_start_is_written(rt: HostRuntime) -> Result<(), Fail> {
     let live = live_stages(rt.alloc())?;
     let text = text_of_start(rt.alloc(), live)?;
-    let wanted = start_in_format_2(rt.alloc())?;
-    same(&rt, text.as_slice(), wanted.as_bytes());
+    same(&rt, text.as_slice(), START.as_bytes());
     Ok(())
 }
 
@@ -232,7 +208,8 @@ fn a_state_that_is_read_goes_on_firing(rt: HostRuntime) -> Result<(), Fail> {
 fn a_state_that_is_read_knows_its_firings(rt: HostRuntime) -> Result<(), Fail> {
     let live = live_stages(rt.alloc())?;
     answers_to(&rt, rt.alloc(), live, FINISHED, Ok(18));
-    answers_to(&rt, rt.alloc(), live, START, Ok(0));
+    let start = start_in_format_1(rt.alloc())?;
+    answers_to(&rt, rt.alloc(), live, start.as_str(), Ok(0));
     Ok(())
 }
 
