@@ -1,8 +1,5 @@
 //! Whether what came of a command is what is wanted.
-use crate::change::{read_file, split_around};
-use crate::dates::Row;
-use crate::reason::Reason;
-use crate::want::{After, Output};
+use case_files::{After, DateRow, Output, Reason, read_file, split_around};
 use line_io::{Files, Store};
 use std::alloc::Global;
 
@@ -39,7 +36,7 @@ fn is_file<S: Store>(
 }
 
 /// Whether the lines of the label of each row are its lines; there are none where the bytes are no text.
-fn has_rows(written: &[u8], rows: &[Row]) -> bool {
+fn has_rows(written: &[u8], rows: &[DateRow]) -> bool {
     let text = str::from_utf8(written).unwrap_or("");
     for row in rows {
         if !has_row(text, row) {
@@ -50,7 +47,7 @@ fn has_rows(written: &[u8], rows: &[Row]) -> bool {
 }
 
 /// Whether the lines that begin with the label of a row and a space are its lines.
-fn has_row(text: &str, row: &Row) -> bool {
+fn has_row(text: &str, row: &DateRow) -> bool {
     let mut left = row.lines.as_slice();
     for line in text.lines() {
         if has_label(line, row.label.as_str()) {

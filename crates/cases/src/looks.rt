@@ -3,37 +3,41 @@ ghost use Rattle.std.specs.Prelude.{◌<◌, IfOk};
 ghost use Rattle.event_graph.specs.Network.{arc_count};
 ghost use Rattle.plant_model.specs.Sound.{IsSound};
 
-use crate::reason::Reason;
+use case_files::Reason;
 use circuit_sums::{CardCircuit, CircuitKind, card_circuits};
 use event_graph::{Arc, Graph};
 use line_base::Items;
 use line_graph::graph_of;
 use plant_file::{complete_draft, read_plant};
-use plant_model::{Plant, PlantError};
+use plant_model::Plant;
 use std::alloc::{AllocError, Global};
-
-impl From<PlantError> for Reason {
-    fn from(_: PlantError) -> Self {
-        Reason::NoPlant
-    }
-}
 
 /// The plant of a plant file that names no other files.
 fn plant_of(alloc: Global, bytes: &[u8]) -> Result<Plant, Reason>
     ensures { IfOk result IsSound }
 {
-    let draft = read_plant(alloc, bytes)?;
+    let Ok(draft) = read_plant(alloc, bytes) else {
+        return Err(Reason::NoPlant);
+    };
     if draft.demands_file().is_some() || draft.times_file().is_some() {
+        drop(draft);
         return Err(Reason::NoPlant);
     }
-    Ok(complete_draft(alloc, draft, None, None)?)
+    match complete_draft(alloc, draft, None, None) {
+        Ok(plant) => Ok(plant),
+        Err(_) => Err(Reason::NoPlant),
+    }
 }
 
 /// The arcs of a plant's graph in order, a line each: its number, the stations at its start and its end, its tokens, whether
 /// it is worked, and its delay.
 pub fn arcs_of(alloc: Global, bytes: &[u8]) -> Result<Vec<u8>, Reason> {
     match graph_for(alloc, bytes) {
-        Ok(graph) => arc_lines(alloc, &graph),
+        Ok(graph) => {
+            let lines = arc_lines(alloc, &graph);
+            drop(graph);
+            lines
+        }
         Err(reason) => Err(reason),
     }
 }
@@ -41,7 +45,9 @@ pub fn arcs_of(alloc: Global, bytes: &[u8]) -> Result<Vec<u8>, Reason> {
 /// The graph of the plant of a plant file. What its contract says is let go here.
 fn graph_for(alloc: Global, bytes: &[u8]) -> Result<Graph, Reason> {
     let plant = plant_of(alloc, bytes)?;
-    Ok(graph_of(alloc, &plant)?)
+    let graph = graph_of(alloc, &plant);
+    drop(plant);
+    Ok(graph?)
 }
 
 /// The lines of the arcs of a graph.
@@ -71,7 +77,11 @@ fn kind_of(arc: Arc) -> &'static str {
 /// The card circuits of a plant in order, a line each: whose cards they are, their number, and the arcs.
 pub fn circuits_of(alloc: Global, bytes: &[u8]) -> Result<Vec<u8>, Reason> {
     match plant_of(alloc, bytes) {
-        Ok(plant) => circuit_lines(alloc, &plant),
+        Ok(plant) => {
+            let lines = circuit_lines(alloc, &plant);
+            drop(plant);
+            lines
+        }
         Err(reason) => Err(reason),
     }
 }
@@ -91,7 +101,11 @@ fn circuits_in(alloc: Global, plant: &Plant) -> Result<Items<CardCircuit>, Alloc
     requires { IsSound plant.now }
 {
     match graph_of(alloc, plant) {
-        Ok(graph) => card_circuits(alloc, plant, &graph),
+        Ok(graph) => {
+            let circuits = card_circuits(alloc, plant, &graph);
+            drop(graph);
+            circuits
+        }
         Err(error) => Err(error),
     }
 }

@@ -1,25 +1,13 @@
 //! Runs the cases of the case files, and prints a line for each.
 #![tactic(auto)]
 
-mod case;
-mod change;
 mod compare;
-mod dates;
-mod directive;
-mod draws;
 mod looks;
-mod reason;
 mod runner;
-mod slots;
 mod told;
-mod variants;
-mod want;
-mod words;
 
-use case::{Case, cases_of};
-use change::read_file;
+use case_files::{BadLine, Case, Reason, cases_of, read_file};
 use line_io::{FileStore, Sink, StdSink, Store, put_all};
-use reason::{BadLine, Reason};
 use runner::run_case;
 use std::alloc::{AllocError, Global};
 use std::process::ExitCode;
@@ -79,7 +67,11 @@ fn run_file<R: Threads + Wait + Sync, S: Store, K: Sink>(
     sink: &mut K,
 ) -> Result<bool, Reason> {
     match file_cases(alloc, name, folder)? {
-        Ok(cases) => run_cases(rt, alloc, name, &cases, folder, sink),
+        Ok(cases) => {
+            let ran = run_cases(rt, alloc, name, &cases, folder, sink);
+            drop(cases);
+            ran
+        }
         Err(bad) => report_bad_line(alloc, name, bad, sink),
     }
 }
@@ -94,14 +86,14 @@ fn file_cases<S: Store>(
     Ok(cases_of(alloc, text.as_str()))
 }
 
-/// Prints which line of a file can't be followed, and why.
+/// Prints which line of a file, or of a case, can't be followed, and why.
 fn report_bad_line<K: Sink>(
     alloc: Global,
-    name: &str,
+    place: &str,
     bad: BadLine,
     sink: &mut K,
 ) -> Result<bool, Reason> {
-    let line = format!(in alloc; "{name}, line {}: {}\n", bad.line, bad.reason)?;
+    let line = format!(in alloc; "{place}, line {}: {}\n", bad.line, bad.reason)?;
     print(sink, line.as_bytes())?;
     Ok(false)
 }
@@ -131,23 +123,16 @@ fn report<R: Threads + Wait + Sync, S: Store, K: Sink>(
     folder: &mut S,
     sink: &mut K,
 ) -> Result<bool, Reason> {
-    let title = case.title.as_str();
+    let place = format!(in alloc; "{name}: {}", case.title)?;
     match run_case(rt, alloc, case, folder) {
-        Ok(told) => report_told(alloc, name, title, &told, sink),
-        Err(broken) => report_broken(alloc, name, title, broken, sink),
+        Ok(told) => report_told(place, &told, sink),
+        Err(broken) => report_bad_line(alloc, place.as_str(), broken, sink),
     }
 }
 
-/// Prints the line of a case that was run, and what is told of it.
-fn report_told<K: Sink>(
-    alloc: Global,
-    name: &str,
-    title: &str,
-    told: &Told,
-    sink: &mut K,
-) -> Result<bool, Reason> {
+/// Prints the line of a case that was run, which begins with its place, and what is told of it.
+fn report_told<K: Sink>(mut line: String, told: &Told, sink: &mut K) -> Result<bool, Reason> {
     let well = told.text.is_empty();
-    let mut line = format!(in alloc; "{name}: {title}")?;
     write_outcome(&mut line, well, told.runs)?;
     print(sink, line.as_bytes())?;
     print(sink, &told.text)?;
@@ -163,20 +148,6 @@ fn write_outcome(line: &mut String, well: bool, runs: u64) -> Result<(), AllocEr
     } else {
         write!(line, " ok, {runs} runs\n")
     }
-}
-
-/// Prints which line of a case can't be followed, and why.
-fn report_broken<K: Sink>(
-    alloc: Global,
-    name: &str,
-    title: &str,
-    broken: BadLine,
-    sink: &mut K,
-) -> Result<bool, Reason> {
-    let mut line = format!(in alloc; "{name}: {title}")?;
-    write!(line, ", line {}: {}\n", broken.line, broken.reason)?;
-    print(sink, line.as_bytes())?;
-    Ok(false)
 }
 
 /// Prints some bytes.

@@ -1,13 +1,11 @@
 //! Runs a case, and tells what came that isn't wanted.
-use crate::case::{Act, Case, Faults, NumberedRow, Run, Step};
-use crate::change::{Change, apply, held, put};
 use crate::compare::{has_files, has_output};
 use crate::looks::{arcs_of, circuits_of};
-use crate::reason::{BadLine, Reason};
-use crate::slots::{Crash, Slots};
 use crate::told::{Told, add_came, add_changed, add_variant};
-use crate::variants::{Variants, is_answer};
-use crate::want::{After, Output};
+use case_files::{
+    Act, After, BadLine, Case, Change, Crash, Faults, NumberedRow, Output, Reason, Run, Slots,
+    Step, Variants, apply, held, is_answer, put, put_copy,
+};
 use line_disk::MemDisk;
 use line_io::{Files, MemSink, MemStore, Store};
 use line_workers::FreeGate;
@@ -73,7 +71,9 @@ pub fn run_case<R: Threads + Wait + Sync, S: Store>(
         text: Vec::new(alloc),
         runs: 0,
     };
-    run_steps(rt, alloc, &case.steps, &mut found, folder, &mut told)?;
+    let ran = run_steps(rt, alloc, &case.steps, &mut found, folder, &mut told);
+    drop(found);
+    ran?;
     Ok(told)
 }
 
@@ -168,14 +168,27 @@ fn run_variant<R: Threads + Wait + Sync>(
 ) -> Result<bool, Reason> {
     let variant = variants.kind.variant(alloc, whole, number)?;
     let files = files_with(attempt.files, &variants.file, variant)?;
-    answers(rt, alloc, attempt, &files, told)
+    let answers = answers(rt, alloc, attempt, &files, told);
+    drop(files);
+    answers
+}
+
+/// A value, where what was done with it ended well; where not, it is let go here.
+fn where_well<T: Drop>(value: T, ended: Result<(), Reason>) -> Result<T, Reason> {
+    match ended {
+        Ok(()) => Ok(value),
+        Err(reason) => {
+            drop(value);
+            Err(reason)
+        }
+    }
 }
 
 /// The files, where the one of this name holds these bytes.
 fn files_with(files: &Files, name: &String, bytes: Vec<u8>) -> Result<Files, Reason> {
     let mut changed = files.clone()?;
-    put(&mut changed, name, bytes)?;
-    Ok(changed)
+    let ended = put(&mut changed, name, bytes);
+    where_well(changed, ended)
 }
 
 /// Runs a command over these files, and tells what came where it is no answer. Answers whether it is one.
@@ -190,7 +203,9 @@ fn answers<R: Threads + Wait + Sync>(
     let came = call(rt, alloc, &attempt)?;
     told.runs = told.runs.saturating_add(1);
     let fits = is_answer(came.status, &came.written) && came.changed.is_empty();
-    judged(alloc, &attempt, &came, fits, told)
+    let judged = judged(alloc, &attempt, &came, fits, told);
+    drop(came);
+    judged
 }
 
 /// Tells what came of an attempt where it doesn't fit. Answers whether it fits.
@@ -232,8 +247,13 @@ fn run_command<R: Threads + Wait + Sync, S: Store>(
     told: &mut Told,
 ) -> Result<Option<Left>, Reason> {
     let came = tried(rt, alloc, attempt, folder, told)?;
-    fail_in_turn(rt, alloc, run, attempt, &came.written, folder, told)?;
-    Ok(came.left)
+    match fail_in_turn(rt, alloc, run, attempt, &came.written, folder, told) {
+        Ok(()) => Ok(came.left),
+        Err(reason) => {
+            drop(came);
+            Err(reason)
+        }
+    }
 }
 
 /// Goes on with what a command leaves.
@@ -250,7 +270,7 @@ fn leave(found: &mut Found, left: Option<Left>) -> Result<(), Reason> {
 /// Puts files among others, in the place of those of the same names.
 fn put_all(files: &mut Files, others: &Files) -> Result<(), Reason> {
     for (name, bytes) in others.iter() {
-        put(files, name, bytes.clone()?)?;
+        put_copy(files, name, bytes)?;
     }
     Ok(())
 }
@@ -265,7 +285,9 @@ fn run_row<R: Threads + Wait + Sync, S: Store>(
     told: &mut Told,
 ) -> Result<(), Reason> {
     let files = changed_files(alloc, attempt.files, &numbered.row.changes, folder)?;
-    check_row(rt, alloc, attempt, numbered, &files, folder, told)
+    let checked = check_row(rt, alloc, attempt, numbered, &files, folder, told);
+    drop(files);
+    checked
 }
 
 /// Runs a command over these files, which are those of a row of a table.
@@ -299,10 +321,21 @@ fn changed_files<S: Store>(
     folder: &mut S,
 ) -> Result<Files, Reason> {
     let mut changed = files.clone()?;
+    let ended = apply_all(alloc, changes, &mut changed, folder);
+    where_well(changed, ended)
+}
+
+/// Makes changes in some files.
+fn apply_all<S: Store>(
+    alloc: Global,
+    changes: &[Change],
+    files: &mut Files,
+    folder: &mut S,
+) -> Result<(), Reason> {
     for change in changes {
-        apply(alloc, change, &mut changed, folder)?;
+        apply(alloc, change, files, folder)?;
     }
-    Ok(changed)
+    Ok(())
 }
 
 /// Makes the calls of the store and of the disk fail in turn, and the first put, where a run is to have it so. Without a
@@ -322,9 +355,9 @@ fn fail_in_turn<R: Threads + Wait + Sync, S: Store>(
     if let Some(names) = &run.each_fault {
         fail_store(rt, alloc, attempt, names, folder, told)?;
         let nothing = Output::Whole(Vec::new(alloc));
-        fail_put(rt, alloc, attempt, 0, &nothing, folder, told)?;
+        fail_put(rt, alloc, attempt, 0, nothing, folder, told)?;
         let front = Output::Front(5, whole.to_vec(alloc)?);
-        fail_put(rt, alloc, attempt, 5, &front, folder, told)?;
+        fail_put(rt, alloc, attempt, 5, front, folder, told)?;
     }
     Ok(())
 }
@@ -366,7 +399,7 @@ fn fail_call<R: Threads + Wait + Sync, S: Store>(
     };
     let line = format!(in alloc; "store: {file}\n")?;
     let output = Output::Whole(line.into_bytes());
-    try_stopping(rt, alloc, attempt, faults, 5, &output, folder, told)
+    try_stopping(rt, alloc, attempt, faults, 5, output, folder, told)
 }
 
 /// Makes each call of the disk fail in turn, then one more.
@@ -378,19 +411,31 @@ fn fail_disk<R: Threads + Wait + Sync, S: Store>(
     folder: &mut S,
     told: &mut Told,
 ) -> Result<(), Reason> {
-    let output = Output::Whole(b"disk\n".to_vec(alloc)?);
     for disk in 1..=calls {
-        let faults = Faults {
-            disk,
-            ..attempt.faults
-        };
-        try_stopping(rt, alloc, attempt, faults, 12, &output, folder, told)?;
+        fail_disk_call(rt, alloc, attempt, disk, folder, told)?;
     }
     let faults = Faults {
         disk: calls.saturating_add(1),
         ..attempt.faults
     };
     try_failing(rt, alloc, attempt, faults, folder, told)
+}
+
+/// Makes this call of the disk fail.
+fn fail_disk_call<R: Threads + Wait + Sync, S: Store>(
+    rt: &R,
+    alloc: Global,
+    attempt: &Attempt,
+    disk: u32,
+    folder: &mut S,
+    told: &mut Told,
+) -> Result<(), Reason> {
+    let faults = Faults {
+        disk,
+        ..attempt.faults
+    };
+    let output = Output::Whole(b"disk\n".to_vec(alloc)?);
+    try_stopping(rt, alloc, attempt, faults, 12, output, folder, told)
 }
 
 /// Tries a command with these faults, where it is to stop with this status and this output, and to change no file.
@@ -400,17 +445,19 @@ fn try_stopping<R: Threads + Wait + Sync, S: Store>(
     attempt: &Attempt,
     faults: Faults,
     status: u8,
-    output: &Output,
+    output: Output,
     folder: &mut S,
     told: &mut Told,
 ) -> Result<(), Reason> {
     let stopped = Attempt {
         status,
-        output,
+        output: &output,
         after: &attempt.after[..0],
         ..*attempt
     };
-    try_failing(rt, alloc, &stopped, faults, folder, told)
+    let tried = try_failing(rt, alloc, &stopped, faults, folder, told);
+    drop(output);
+    tried
 }
 
 /// Tries a command with these faults. No command below finds what it leaves.
@@ -436,7 +483,7 @@ fn fail_put<R: Threads + Wait + Sync, S: Store>(
     alloc: Global,
     attempt: &Attempt,
     keep: u32,
-    output: &Output,
+    output: Output,
     folder: &mut S,
     told: &mut Told,
 ) -> Result<(), Reason> {
@@ -447,10 +494,12 @@ fn fail_put<R: Threads + Wait + Sync, S: Store>(
     };
     let failed = Attempt {
         status: 6,
-        output,
+        output: &output,
         ..*attempt
     };
-    try_failing(rt, alloc, &failed, faults, folder, told)
+    let tried = try_failing(rt, alloc, &failed, faults, folder, told);
+    drop(output);
+    tried
 }
 
 /// Tries a command, and lets go what comes of it; it is told where it isn't wanted.
@@ -461,7 +510,7 @@ fn check_attempt<R: Threads + Wait + Sync, S: Store>(
     folder: &mut S,
     told: &mut Told,
 ) -> Result<(), Reason> {
-    let _ = tried(rt, alloc, attempt, folder, told)?;
+    drop(tried(rt, alloc, attempt, folder, told)?);
     Ok(())
 }
 
@@ -474,8 +523,13 @@ fn tried<R: Threads + Wait + Sync, S: Store>(
     told: &mut Told,
 ) -> Result<Came, Reason> {
     let came = call(rt, alloc, attempt)?;
-    let _ = is_wanted(alloc, attempt, &came, folder, told)?;
-    Ok(came)
+    match is_wanted(alloc, attempt, &came, folder, told) {
+        Ok(_) => Ok(came),
+        Err(reason) => {
+            drop(came);
+            Err(reason)
+        }
+    }
 }
 
 /// Whether what came of an attempt is what is wanted; it is told where it isn't.
@@ -567,7 +621,9 @@ fn pulled<R: Threads + Wait + Sync>(
         &mut memory.sink,
         &mut memory.disk,
     );
-    memory.came(alloc, attempt, status)
+    let came = memory.came(alloc, attempt, status);
+    drop(memory);
+    came
 }
 
 /// The files, the sink and the disk of a command.
@@ -636,15 +692,15 @@ fn store_of(alloc: Global, files: &Files, faults: Faults) -> Result<MemStore, Re
 /// The files of which something is wanted, as they are.
 fn wanted_files(alloc: Global, files: &Files, after: &[After]) -> Result<Files, Reason> {
     let mut wanted = Files::new(alloc);
-    put_wanted(&mut wanted, files, after)?;
-    Ok(wanted)
+    let ended = put_wanted(&mut wanted, files, after);
+    where_well(wanted, ended)
 }
 
 /// Puts the files of which something is wanted among others.
 fn put_wanted(wanted: &mut Files, files: &Files, after: &[After]) -> Result<(), Reason> {
     for file in after {
         if let Some(bytes) = files.get(file.name.as_str()) {
-            put(wanted, &file.name, bytes.clone()?)?;
+            put_copy(wanted, &file.name, bytes)?;
         }
     }
     Ok(())

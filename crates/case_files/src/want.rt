@@ -1,5 +1,5 @@
 //! What is wanted of a run.
-use crate::dates::{Row, row_of};
+use crate::dates::{DateRow, row_of};
 use crate::reason::Reason;
 use crate::words::Words;
 use std::alloc::Global;
@@ -40,13 +40,23 @@ pub enum Output {
     /// It begins with this.
     Begin(Vec<u8>),
     /// Its lines of these labels are these.
-    Rows(Vec<Row>),
+    Rows(Vec<DateRow>),
     /// It is this, with a number of this range in the place of `{}`.
     Numbered {
         text: Vec<u8>,
         least: u32,
         most: u32,
     },
+}
+
+impl Output {
+    /// The text to which lines may be added, if it has one.
+    pub fn text(&mut self) -> Option<&mut Vec<u8>> {
+        match self {
+            Output::Whole(text) | Output::End(text) | Output::Front(_, text) => Some(text),
+            _ => None,
+        }
+    }
 }
 
 /// A file after a run.
@@ -87,7 +97,7 @@ fn line_of(alloc: Global, words: &mut Words) -> Result<Vec<u8>, Reason> {
 }
 
 /// The rows of the words that are left, with a colon between two of them.
-fn rows_of(alloc: Global, words: &mut Words) -> Result<Vec<Row>, Reason> {
+fn rows_of(alloc: Global, words: &mut Words) -> Result<Vec<DateRow>, Reason> {
     let mut rows = Vec::new(alloc);
     for _ in 0..words.len() {
         if words.len() == 0 {
@@ -99,7 +109,7 @@ fn rows_of(alloc: Global, words: &mut Words) -> Result<Vec<Row>, Reason> {
 }
 
 /// The row of the words up to the next colon.
-fn next_row(alloc: Global, words: &mut Words) -> Result<Row, Reason> {
+fn next_row(alloc: Global, words: &mut Words) -> Result<DateRow, Reason> {
     let row = joined(alloc, words)?;
     row_of(alloc, row.as_str())
 }

@@ -5,13 +5,13 @@ use std::str::SplitWhitespace;
 
 /// The label of a row, and its lines.
 #[derive(Drop)]
-pub struct Row {
+pub struct DateRow {
     pub label: String,
     pub lines: Vec<u8>,
 }
 
 /// The row that a text is: a label and dates. Between two dates `..` stands for all those that follow by the same step.
-pub fn row_of(alloc: Global, text: &str) -> Result<Row, Reason> {
+pub fn row_of(alloc: Global, text: &str) -> Result<DateRow, Reason> {
     let mut words = text.split_whitespace();
     let label = words.next().ok_or(Reason::NoDirective)?;
     let mut dates = Vec::new(alloc);
@@ -20,10 +20,10 @@ pub fn row_of(alloc: Global, text: &str) -> Result<Row, Reason> {
 }
 
 /// The row of a label and its dates.
-fn row_with(alloc: Global, label: &str, dates: &[u64]) -> Result<Row, Reason> {
+fn row_with(alloc: Global, label: &str, dates: &[u64]) -> Result<DateRow, Reason> {
     let lines = lines_of(alloc, label, dates)?;
     let label = String::from_str(alloc, label)?;
-    Ok(Row { label, lines })
+    Ok(DateRow { label, lines })
 }
 
 /// Adds the dates that the words are.

@@ -16,6 +16,16 @@ pub struct Change {
     pub edit: Option<Edit>,
 }
 
+impl Change {
+    /// The text to which lines may be added, if it has one.
+    pub fn text(&mut self) -> Option<&mut Vec<u8>> {
+        match &mut self.edit {
+            Some(Edit::Hold(text)) => Some(text),
+            _ => None,
+        }
+    }
+}
+
 /// What becomes of a file that stays.
 #[derive(Clone, Drop)]
 pub enum Edit {
@@ -119,6 +129,11 @@ pub fn apply<S: Store>(
 pub fn put(files: &mut Files, name: &String, bytes: Vec<u8>) -> Result<(), Reason> {
     let _ = files.insert(name.clone()?, bytes)?;
     Ok(())
+}
+
+/// Puts a file that holds the same bytes as another one among others, in the place of one of its name.
+pub fn put_copy(files: &mut Files, name: &String, bytes: &Vec<u8>) -> Result<(), Reason> {
+    put(files, name, bytes.clone()?)
 }
 
 /// What the file of this name holds after an edit.

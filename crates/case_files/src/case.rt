@@ -1,5 +1,5 @@
 //! The cases of a file, as its lines make them.
-use crate::change::{Change, Edit};
+use crate::change::Change;
 use crate::dates::row_of;
 use crate::directive::{Directive, Fault, OfRun, Row, directive_of};
 use crate::reason::{BadLine, Reason};
@@ -33,6 +33,16 @@ pub enum Act {
     Change(Change),
     /// Commands are run.
     Run(Run),
+}
+
+impl Act {
+    /// The text to which lines may be added, if it has one.
+    fn text(&mut self) -> Option<&mut Vec<u8>> {
+        match self {
+            Act::Change(change) => change.text(),
+            Act::Run(run) => run.text(),
+        }
+    }
 }
 
 /// Commands, and what is wanted of each.
@@ -121,10 +131,10 @@ impl Faults {
 }
 
 impl Run {
-    /// A run of no command.
-    fn new(alloc: Global) -> Self {
+    /// A run of these commands.
+    fn new(alloc: Global, commands: Vec<Vec<String>>) -> Self {
         Run {
-            commands: Vec::new(alloc),
+            commands,
             faults: Faults::none(),
             want: Want::nothing(alloc),
             each_fault: None,
@@ -141,30 +151,11 @@ impl Run {
         self.want.status.is_none() && self.rows.is_empty() && self.variants.is_empty()
     }
 
-    /// Adds lines to the text that has begun.
-    fn add_text(&mut self, lines: &[u8]) -> Result<(), Reason> {
+    /// The text that has begun, if one has.
+    fn text(&mut self) -> Option<&mut Vec<u8>> {
         match self.block {
-            Block::Output => match &mut self.want.output {
-                Output::Whole(text) | Output::End(text) | Output::Front(_, text) => {
-                    text.extend_from_slice(lines)?;
-                    Ok(())
-                }
-                Output::Copy(_) | Output::Begin(_) | Output::Rows(_) | Output::Numbered { .. } => {
-                    Err(Reason::NoText)
-                },
-            },
-            Block::After => match self.want.after.last_mut() {
-                Some(
-                    After {
-                        bytes: Some(bytes),
-                        ..
-                    },
-                ) => {
-                    bytes.extend_from_slice(lines)?;
-                    Ok(())
-                }
-                _ => Err(Reason::NoText),
-            },
+            Block::Output => self.want.output.text(),
+            Block::After => self.want.after.last_mut()?.bytes.as_mut(),
         }
     }
 
@@ -191,20 +182,13 @@ impl Run {
     }
 }
 
-/// What the last lines have begun.
-#[derive(Drop)]
-enum Open {
-    Nothing,
-    Change(u64, Change),
-    Run(u64, Run),
-}
-
 /// The cases of a file, as far as its lines have been followed.
 #[derive(Drop)]
 struct Builder {
     alloc: Global,
     cases: Vec<Case>,
-    open: Open,
+    /// The step that the last lines have begun, if they have begun one.
+    open: Option<Step>,
 }
 
 /// The cases of the text of a file.
@@ -212,10 +196,18 @@ pub fn cases_of(alloc: Global, text: &str) -> Result<Vec<Case>, BadLine> {
     let mut builder = Builder {
         alloc,
         cases: Vec::new(alloc),
-        open: Open::Nothing,
+        open: None,
     };
-    builder.follow_all(text)?;
-    Ok(builder.cases)
+    let followed = builder.follow_all(text);
+    let Builder { cases, open, .. } = builder;
+    drop(open);
+    match followed {
+        Ok(()) => Ok(cases),
+        Err(bad) => {
+            drop(cases);
+            Err(bad)
+        }
+    }
 }
 
 impl Builder {
@@ -247,7 +239,7 @@ impl Builder {
         match directive {
             Directive::Case(title) => self.begin_case(title),
             Directive::Like(title) => self.begin_like(title.as_str()),
-            Directive::File(change) => self.begin(Open::Change(line, change)),
+            Directive::File(change) => self.begin(line, Act::Change(change)),
             Directive::Command(words) => self.add_command(line, words),
             Directive::Text(text) => {
                 let mut lines = text.into_bytes();
@@ -265,38 +257,47 @@ impl Builder {
     /// Does what a line says of the run that has begun.
     fn state(&mut self, line: u64, said: OfRun) -> Result<(), Reason> {
         match &mut self.open {
-            Open::Run(_, run) => run.state(line, said),
-            _ => Err(Reason::NoCommand),
+            Some(
+                Step {
+                    act: Act::Run(run),
+                    ..
+                },
+            ) => run.state(line, said),
+            _ => {
+                drop(said);
+                Err(Reason::NoCommand)
+            }
         }
     }
 
     /// Ends what has begun.
     fn close(&mut self) -> Result<(), Reason> {
-        let step = match std::mem::replace(&mut self.open, Open::Nothing) {
-            Open::Nothing => return Ok(()),
-            Open::Change(line, change) => Step {
-                line,
-                act: Act::Change(change),
-            },
-            Open::Run(line, run) => Step {
-                line,
-                act: Act::Run(run),
-            },
-        };
+        match self.open.take() {
+            Some(step) => self.add(step),
+            None => Ok(()),
+        }
+    }
+
+    /// Adds a step to the last case.
+    fn add(&mut self, step: Step) -> Result<(), Reason> {
         match self.cases.last_mut() {
             Some(case) => {
                 case.steps.push(step)?;
                 Ok(())
             }
-            None => Err(Reason::NoCase),
+            None => {
+                drop(step);
+                Err(Reason::NoCase)
+            }
         }
     }
 
-    /// Ends what has begun, and begins this.
-    fn begin(&mut self, open: Open) -> Result<(), Reason> {
-        self.close()?;
-        self.open = open;
-        Ok(())
+    /// Begins this, and ends what had begun.
+    fn begin(&mut self, line: u64, act: Act) -> Result<(), Reason> {
+        match self.open.replace(Step { line, act }) {
+            Some(step) => self.add(step),
+            None => Ok(()),
+        }
     }
 
     /// Begins a case.
@@ -332,26 +333,31 @@ impl Builder {
 
     /// Adds a command to the run of commands that stand one below the other, or begins a run.
     fn add_command(&mut self, line: u64, words: Vec<String>) -> Result<(), Reason> {
-        if let Open::Run(_, run) = &mut self.open {
+        if let Some(
+            Step {
+                act: Act::Run(run),
+                ..
+            },
+        ) = &mut self.open
+        {
             if run.wants_nothing() {
                 run.commands.push(words)?;
                 return Ok(());
             }
         }
-        let mut run = Run::new(self.alloc);
-        run.commands.push(words)?;
-        self.begin(Open::Run(line, run))
+        let mut commands = Vec::new(self.alloc);
+        commands.push(words)?;
+        self.begin(line, Act::Run(Run::new(self.alloc, commands)))
     }
 
     /// Adds lines to the text that has begun.
     fn add_text(&mut self, lines: &[u8]) -> Result<(), Reason> {
-        match &mut self.open {
-            Open::Run(_, run) => run.add_text(lines),
-            Open::Change(_, change) => match &mut change.edit {
-                Some(Edit::Hold(text)) => Ok(text.extend_from_slice(lines)?),
-                _ => Err(Reason::NoText),
-            },
-            Open::Nothing => Err(Reason::NoText),
+        let Some(step) = &mut self.open else {
+            return Err(Reason::NoText);
+        };
+        match step.act.text() {
+            Some(text) => Ok(text.extend_from_slice(lines)?),
+            None => Err(Reason::NoText),
         }
     }
 }

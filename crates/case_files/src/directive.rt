@@ -126,9 +126,17 @@ fn as_it_stands(line: &str) -> Option<(Plain, &str)> {
 /// What the words of a line say.
 fn of_words(alloc: Global, line: &str) -> Result<Directive, Reason> {
     let mut words = Words::of(alloc, line)?;
+    let directive = of_all(alloc, &mut words);
+    drop(words);
+    directive
+}
+
+/// What all these words say.
+fn of_all(alloc: Global, words: &mut Words) -> Result<Directive, Reason> {
     let word = words.word()?;
-    let directive = worded(alloc, word.as_str(), &mut words)?;
+    let directive = worded(alloc, word.as_str(), words)?;
     if words.len() > 0 {
+        drop(directive);
         return Err(Reason::NoDirective);
     }
     Ok(directive)
@@ -176,12 +184,18 @@ fn read_row(alloc: Global, row: &mut Row, words: &mut Words) -> Result<(), Reaso
 
 /// Adds the changes of a row, with `and` between two of them.
 fn add_changes(alloc: Global, changes: &mut Vec<Change>, words: &mut Words) -> Result<(), Reason> {
-    changes.push(change_of(alloc, words)?)?;
+    add_change(alloc, changes, words)?;
     for _ in 0..words.len() {
         if words.passes("and") {
-            changes.push(change_of(alloc, words)?)?;
+            add_change(alloc, changes, words)?;
         }
     }
+    Ok(())
+}
+
+/// Adds the change that the next words are.
+fn add_change(alloc: Global, changes: &mut Vec<Change>, words: &mut Words) -> Result<(), Reason> {
+    changes.push(change_of(alloc, words)?)?;
     Ok(())
 }
 
