@@ -146,21 +146,28 @@ distinct-outs g t = AllPairs-filter (λ (a b : ℕ). a ≢ b) _ (range_with_len 
 within-some : (queue : Option ℕ) (q count : ℕ) → queue ≡ Some q → q < count → IfSome queue (λ r. r < count)
 within-some queue q count is low = subst (λ (o : Option ℕ). IfSome o (λ r. r < count)) (sym is) low
 
+-- the queues of n ends, which are those of some arcs, are within the number of all arcs
+within-arcs : (count n : ℕ) (arcs : List ℕ) (queue : ℕ → Option ℕ) → n ≡ length arcs → ((k : ℕ) → queue k ≡ Some (get_or arcs k 0)) → ((k : ℕ) → k < length arcs → get_or arcs k 0 < count) → (k : ℕ) → k < n → IfSome (queue k) (λ r. r < count)
+within-arcs count n arcs queue many at few k low = within-some (queue k) (get_or arcs k 0) count (at k) (few k (omega (arith, low, many)))
+
+-- and no two of them are the same
+apart-arcs : (n : ℕ) (arcs : List ℕ) (queue : ℕ → Option ℕ) → n ≡ length arcs → ((k : ℕ) → queue k ≡ Some (get_or arcs k 0)) → AllPairs (λ (a b : ℕ). a ≢ b) arcs → (j k : ℕ) → j < k → k < n → (q : ℕ) → queue j ≡ Some q → queue k ≢ Some q
+apart-arcs n arcs queue many at distinct j k less low q here there =
+    distinct j k 0 less (omega (arith, low, many))
+    (Some-injective (sym (at j) ∙ here) ∙ sym (Some-injective (sym (at k) ∙ there)))
+
 pub seated-local : (g : Parts) (shelf : List PlainQueue) (t : ℕ) (s : WorkStation) → length shelf ≡ arc_count g → IsLocal g t s → IsSeated shelf s
-seated-local g shelf t s count is = record {
-  takes_within = λ k low.
-      within-some _ (get_or (ins g t) k 0) (length shelf) (takes-at g t s k is)
-      (omega (arith, count, (All-ins g t k 0 (omega (arith, low, many-inputs g t s is))).0));
-  takes_apart = λ j k less low q here there.
-      distinct-ins g t j k 0 less (omega (arith, low, many-inputs g t s is))
-      (Some-injective (sym (takes-at g t s j is) ∙ here) ∙ sym (Some-injective (sym (takes-at g t s k is) ∙ there)));
-  puts_within = λ k low.
-      within-some _ (get_or (outs g t) k 0) (length shelf) (puts-at g t s k is)
-      (omega (arith, count, (All-outs g t k 0 (omega (arith, low, many-outlets g t s is))).0));
-  puts_apart = λ j k less low q here there.
-      distinct-outs g t j k 0 less (omega (arith, low, many-outlets g t s is))
-      (Some-injective (sym (puts-at g t s j is) ∙ here) ∙ sym (Some-injective (sym (puts-at g t s k is) ∙ there)));
-}
+seated-local g shelf t s count is =
+    let takes : ℕ → Option ℕ = λ k. inlet_queue (input_at s.inputs k).inlet in
+    let puts : ℕ → Option ℕ = λ k. outlet_queue (outlet_at s.outlets k) in
+    record {
+      takes_within =
+          within-arcs (length shelf) (length s.inputs) (ins g t) takes (many-inputs g t s is) (λ k. takes-at g t s k is) (λ k low. omega (arith, count, (All-ins g t k 0 low).0));
+      takes_apart = apart-arcs (length s.inputs) (ins g t) takes (many-inputs g t s is) (λ k. takes-at g t s k is) (distinct-ins g t);
+      puts_within =
+          within-arcs (length shelf) (length s.outlets) (outs g t) puts (many-outlets g t s is) (λ k. puts-at g t s k is) (λ k low. omega (arith, count, (All-outs g t k 0 low).0));
+      puts_apart = apart-arcs (length s.outlets) (outs g t) puts (many-outlets g t s is) (λ k. puts-at g t s k is) (distinct-outs g t);
+    }
 
 -- a station takes from queue q only where arc q ends at it
 none-takes : (g : Parts) (t q : ℕ) (s : WorkStation) → IsLocal g t s → (arc g q).to ≢ t → NoneTakes q s.inputs

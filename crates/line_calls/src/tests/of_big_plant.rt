@@ -1,6 +1,6 @@
 ghost use Rattle.std.specs.Prelude.{◌≤◌};
 
-use crate::same::same;
+use crate::tests::same::same;
 use big_plant::big_plant;
 use plant_model::{Machine, Plant, Stage};
 use sample_plants::live_of;

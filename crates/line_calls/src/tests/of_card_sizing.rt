@@ -1,62 +1,46 @@
-use crate::got::got;
-use crate::same::same;
+use crate::tests::got::got;
+use crate::tests::same::same;
 use card_sizing::{Below, Sizing, SizingError, least_cards};
-use sample_plants::{live_of, plant_of};
+use sample_plants::{
+    BASE_STOCK, KANBAN, ONE_CARD, ONE_PART, THREE_DEMANDS, live_of, plant_of, stages_file,
+};
 use std::alloc::Global;
 use std::process::Abort;
 use std::test::Fail;
 
-/// Two stages under kanban.
-const KANBAN: &str = "\
-policy = \"kanban\"
-demands = [0, 2, 4]
-stage = [
-  { name = \"cut\", feeds = \"weld\", cards = 1, machine = [{ name = \"saw\", time = 3 }] },
-  { name = \"weld\", cards = 1, machine = [{ name = \"torch\", time = 5 }] },
-]
-";
+/// The lines of the policy CONWIP with two cards.
+const CONWIP: &str = "policy = \"conwip\"\ncards = 2";
 
-/// They under CONWIP, with a part in stock after the second stage.
-const CONWIP: &str = "\
-policy = \"conwip\"
-cards = 2
-demands = [0, 2, 4]
-stage = [
-  { name = \"cut\", feeds = \"weld\", machine = [{ name = \"saw\", time = 3 }] },
-  { name = \"weld\", stock = 1, machine = [{ name = \"torch\", time = 5 }] },
-]
-";
+/// The least cards of two stages under this policy with three demands, of which this is said, or why there are none.
+fn least(
+    alloc: Global,
+    policy: &str,
+    cut: &str,
+    weld: &str,
+    wait: u64,
+) -> Result<Result<Sizing, SizingError>, Fail> {
+    let file = stages_file(alloc, policy, THREE_DEMANDS, cut, weld)?;
+    least_of_file(alloc, file.as_str(), wait)
+}
 
-/// They under CONWIP, with no stock.
-const NO_STOCK: &str = "\
-policy = \"conwip\"
-cards = 2
-demands = [0, 2, 4]
-stage = [
-  { name = \"cut\", feeds = \"weld\", machine = [{ name = \"saw\", time = 3 }] },
-  { name = \"weld\", machine = [{ name = \"torch\", time = 5 }] },
-]
-";
-
-/// They by base stock.
-const BASE_STOCK: &str = "\
-policy = \"base-stock\"
-demands = [0, 2, 4]
-stage = [
-  { name = \"cut\", feeds = \"weld\", stock = 1, machine = [{ name = \"saw\", time = 3 }] },
-  { name = \"weld\", stock = 1, machine = [{ name = \"torch\", time = 5 }] },
-]
-";
-
-/// The least cards of the plant of this text, or why there are none.
-fn least(alloc: Global, text: &str, wait: u64) -> Result<Result<Sizing, SizingError>, Fail> {
-    let plant = plant_of(alloc, text)?;
+/// The same of the plant of a file.
+fn least_of_file(
+    alloc: Global,
+    file: &str,
+    wait: u64,
+) -> Result<Result<Sizing, SizingError>, Fail> {
+    let plant = plant_of(alloc, file)?;
     let live = live_of(alloc, &plant)?;
     let _live = live.graph();
     let sizing = least_cards(alloc, &plant, wait);
     drop(live);
     drop(plant);
     Ok(sizing)
+}
+
+/// The least cards of two stages under kanban.
+fn least_of_kanban(alloc: Global, wait: u64) -> Result<Result<Sizing, SizingError>, Fail> {
+    least(alloc, KANBAN, ONE_CARD, ONE_CARD, wait)
 }
 
 /// The job that waits longer with one card less, and its wait.
@@ -79,16 +63,15 @@ fn dead_below(rt: &impl Abort, alloc: Global, sizing: &Sizing) -> Vec<u8> {
     text
 }
 
-/// Asserts the least cards of the plant of this text, and the job that waits longer with one card less.
+/// Asserts the least cards of two stages under kanban, and the job that waits longer with one card less.
 fn has_least(
     rt: &impl Abort,
     alloc: Global,
-    text: &str,
     wait: u64,
     cards: u32,
     below: (u32, u64),
 ) -> Result<(), Fail> {
-    let sizing = got(rt, least(alloc, text, wait)?);
+    let sizing = got(rt, least_of_kanban(alloc, wait)?);
     same(rt, sizing.cards, cards);
     same(rt, job_below(&sizing), Some(below));
     Ok(())
@@ -96,14 +79,14 @@ fn has_least(
 
 #[test]
 fn the_job_that_waits_with_one_card_less_is_named(rt: HostRuntime) -> Result<(), Fail> {
-    has_least(&rt, rt.alloc(), KANBAN, 0, 3, (3, 1))?;
-    has_least(&rt, rt.alloc(), KANBAN, 5, 2, (3, 6))
+    has_least(&rt, rt.alloc(), 0, 3, (3, 1))?;
+    has_least(&rt, rt.alloc(), 5, 2, (3, 6))
 }
 
 // Without a card both stages are dead; which of them is named is free.
 #[test]
 fn the_circuit_that_is_dead_with_one_card_less_is_named(rt: HostRuntime) -> Result<(), Fail> {
-    let sizing = got(&rt, least(rt.alloc(), KANBAN, 6)?);
+    let sizing = got(&rt, least_of_kanban(rt.alloc(), 6)?);
     let dead = dead_below(&rt, rt.alloc(), &sizing);
     let dead = dead.as_slice();
     same(&rt, sizing.cards, 1);
@@ -115,7 +98,7 @@ fn the_circuit_that_is_dead_with_one_card_less_is_named(rt: HostRuntime) -> Resu
 
 #[test]
 fn the_stock_has_a_card_each(rt: HostRuntime) -> Result<(), Fail> {
-    let sizing = got(&rt, least(rt.alloc(), CONWIP, 1000)?);
+    let sizing = got(&rt, least(rt.alloc(), CONWIP, "", ONE_PART, 1000)?);
     same(&rt, sizing.cards, 1);
     assert!(rt; matches!(&sizing.below, Below::Lowest));
     Ok(())
@@ -123,8 +106,8 @@ fn the_stock_has_a_card_each(rt: HostRuntime) -> Result<(), Fail> {
 
 #[test]
 fn no_count_serves_and_no_single_count(rt: HostRuntime) -> Result<(), Fail> {
-    let late = least(rt.alloc(), NO_STOCK, 9)?.err();
-    let none = least(rt.alloc(), BASE_STOCK, 1000)?.err();
+    let late = least(rt.alloc(), CONWIP, "", "", 9)?.err();
+    let none = least(rt.alloc(), BASE_STOCK, ONE_PART, ONE_PART, 1000)?.err();
     same(&rt, late, Some(SizingError::NoCount { job: 2, wait: 11 }));
     same(&rt, none, Some(SizingError::NoSingleCount));
     Ok(())

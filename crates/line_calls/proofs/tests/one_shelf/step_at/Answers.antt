@@ -4,7 +4,7 @@ use Rattle.station_step.specs.Station.{WorkStation}
 use Rattle.station_step.proofs.Keeping.{kept-may_put}
 use Rattle.line_calls.specs.OneShelf.{IsLine, IsMember}
 use Rattle.line_calls.proofs.OneShelf.{seated-local, line-steps}
-use Rattle.line_calls.proofs.one_shelf.step_at.Goals as goal
+use Rattle.line_calls.proofs.tests.one_shelf.step_at.Goals as goal
 
 there : (c : goal.After-step-arg-1) → c.args.t < length c.args.line.now.items
 there c = omega (arith, c.requires.is_line.count, c.requires.exists)

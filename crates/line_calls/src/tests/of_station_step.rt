@@ -1,5 +1,5 @@
-use crate::one_shelf::{fresh_line, fresh_shelf, hand_at, step_at};
-use crate::same::same;
+use crate::tests::one_shelf::{fresh_line, fresh_shelf, hand_at, step_at};
+use crate::tests::same::same;
 use live_check::rank;
 use sample_plants::{live_pair, live_stages, plain, two_stations};
 use station_step::Stepped;
@@ -31,13 +31,15 @@ fn dates_come_out_of_two_stations_with_their_delays(rt: HostRuntime) -> Result<(
     let live = live_pair(rt.alloc(), 2)?;
     assert!(rt; live.graph().stations() == 2);
     let mut shelf = fresh_shelf(rt.alloc(), live.graph())?;
-    let mut line = fresh_line(rt.alloc(), live, &shelf)?;
+    let mut line = fresh_line(rt.alloc(), live, &shelf).expect(&rt, "memory");
     let feed = step_at(live, &mut shelf, &mut line, 0);
     let a = step_at(live, &mut shelf, &mut line, 1);
     let feed_again = step_at(live, &mut shelf, &mut line, 0);
     let a_again = step_at(live, &mut shelf, &mut line, 1);
     same(&rt, [feed, a, feed_again, a_again], [Stepped::Fired; 4]);
     same(&rt, line[1].log(), [4, 9].as_slice());
+    drop(line);
+    drop(shelf);
     Ok(())
 }
 

@@ -1,7 +1,7 @@
 ghost use Rattle.std.specs.Prelude.{◌≡◌, ◌<◌, IfOk};
 ghost use Rattle.event_graph.specs.Network.{stations, jobs};
 
-use crate::same::same;
+use crate::tests::same::same;
 use line_base::Date;
 use line_core::run;
 use live_check::Live;
@@ -93,6 +93,7 @@ fn a_longer_time_moves_the_dates_that_follow(rt: HostRuntime) -> Result<(), Fail
     );
     assert!(rt; sheet.marks() == 0 && sheet.evaluations() <= 14);
     same(&rt, sheet.first(4, 2), 10);
+    drop(sheet);
     Ok(())
 }
 
@@ -113,6 +114,7 @@ fn a_later_demand_moves_the_feed(rt: HostRuntime) -> Result<(), Fail> {
             [0, 5, 10],
         ],
     );
+    drop(sheet);
     Ok(())
 }
 
@@ -132,7 +134,10 @@ fn an_edit_that_says_what_holds_changes_nothing(rt: HostRuntime) -> Result<(), F
         ],
     );
     same(&rt, sheet.evaluations(), 1);
-    same(&rt, settled(&rt, rt.alloc(), b"")?.evaluations(), 0);
+    drop(sheet);
+    let unedited = settled(&rt, rt.alloc(), b"")?;
+    same(&rt, unedited.evaluations(), 0);
+    drop(unedited);
     Ok(())
 }
 
@@ -145,6 +150,7 @@ fn an_evaluation_marks_the_dates_that_read_it(rt: HostRuntime) -> Result<(), Fai
     assert!(rt; sheet.marked(4, 2));
     let changed = sheet.evaluate(live, 4, 2);
     assert!(rt; changed && sheet.marks() == 2 && sheet.evaluations() == 1);
+    drop(sheet);
     Ok(())
 }
 

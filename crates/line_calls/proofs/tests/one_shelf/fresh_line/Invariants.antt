@@ -1,7 +1,7 @@
 use Rattle.std.proofs.Common.{◌≡◌, ◌<◌, ℕ, length, get_or}
 use Rattle.station_step.specs.Station.{WorkStation}
 use Rattle.line_calls.specs.OneShelf.{IsMember}
-use Rattle.line_calls.proofs.one_shelf.fresh_line.Given as goal
+use Rattle.line_calls.proofs.tests.one_shelf.fresh_line.Given as goal
 
 abbrev pub invariant-loop-t : goal.invariant-loop-t
 invariant-loop-t l = record {

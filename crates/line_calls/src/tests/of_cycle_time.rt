@@ -1,8 +1,8 @@
-use crate::got::got;
-use crate::same::same;
+use crate::tests::got::got;
+use crate::tests::same::same;
 use cycle_time::{Certificate, CycleError, accept, cycle};
 use live_check::Live;
-use sample_plants::{live_of_file, live_pair};
+use sample_plants::{live_of_file, live_pair, live_stages_apart};
 use std::alloc::Global;
 use std::process::Abort;
 use std::test::Fail;
@@ -30,16 +30,6 @@ demands = [0, 0, 0]
 stage = [{ name = \"mill\", stock = 0, machine = [{ name = \"m\", servers = 2, times = [10, 1, 1] }] }]
 ";
 
-/// Two stages under kanban, of which the first has a travel and a card time.
-const TRAVEL: &str = "\
-policy = \"kanban\"
-demands = [0, 2, 4]
-stage = [
-  { name = \"cut\", feeds = \"weld\", cards = 1, travel = 4, card_time = 1, machine = [{ name = \"saw\", time = 3 }] },
-  { name = \"weld\", cards = 1, machine = [{ name = \"torch\", time = 5 }] },
-]
-";
-
 /// What `cycle` answers for a graph, with a certificate that is accepted.
 fn answer_for(rt: &impl Abort, alloc: Global, live: &Live) -> Result<Certificate, CycleError> {
     let answer = cycle(alloc, live);
@@ -56,43 +46,38 @@ fn sorted_arcs(rt: &impl Abort, alloc: Global, certificate: &Certificate) -> Vec
     arcs
 }
 
-/// Asserts the cycle time of a plant file as a time and a number of cards, the arcs of its circuit,
-/// and its potentials.
+/// Asserts the cycle time of a graph as a time and a number of cards, the arcs of its circuit, and its potentials.
 fn has_cycle(
     rt: &impl Abort,
     alloc: Global,
-    text: &str,
+    live: &Live,
     cycle_time: (u64, u64),
     arcs: &[u32],
     potentials: &[i128],
-) -> Result<(), Fail> {
-    let live = live_of_file(alloc, text)?;
+) {
     let certificate = got(rt, answer_for(rt, alloc, live));
     let sorted = sorted_arcs(rt, alloc, &certificate);
     same(rt, (certificate.time, certificate.cards), cycle_time);
     same(rt, sorted.as_slice(), arcs);
     same(rt, certificate.potentials.as_slice(), potentials);
-    Ok(())
 }
 
 // The cards go round: cell, cell.a, cell.b and deliver take 7 for 2 cards.
 #[test]
 fn the_cards_of_a_cell_are_its_critical_circuit(rt: HostRuntime) -> Result<(), Fail> {
+    let live = live_of_file(rt.alloc(), TWO_SERVERS)?;
+    let arcs = [0, 3, 6, 8];
     let potentials = [0, 0, 6, 14, 0];
-    has_cycle(
-        &rt,
-        rt.alloc(),
-        TWO_SERVERS,
-        (7, 2),
-        &[0, 3, 6, 8],
-        &potentials,
-    )
+    has_cycle(&rt, rt.alloc(), live, (7, 2), &arcs, &potentials);
+    Ok(())
 }
 
 // With one server the machine cell.b alone takes 4 for each job.
 #[test]
 fn a_slow_machine_is_critical(rt: HostRuntime) -> Result<(), Fail> {
-    has_cycle(&rt, rt.alloc(), ONE_SERVER, (4, 1), &[4], &[0, 0, 3, 7, 0])
+    let live = live_of_file(rt.alloc(), ONE_SERVER)?;
+    has_cycle(&rt, rt.alloc(), live, (4, 1), &[4], &[0, 0, 3, 7, 0]);
+    Ok(())
 }
 
 // The machine mill.m is station 2.
@@ -107,8 +92,10 @@ fn the_first_station_with_a_list_of_times_is_named(rt: HostRuntime) -> Result<()
 // The cards of cut go to cut.saw in 3, to weld in 4 more, and back in 1.
 #[test]
 fn travel_and_card_times_count(rt: HostRuntime) -> Result<(), Fail> {
+    let live = live_stages_apart(rt.alloc())?;
     let potentials = [0, 1, 4, 0, 5, 0];
-    has_cycle(&rt, rt.alloc(), TRAVEL, (8, 1), &[0, 3, 9], &potentials)
+    has_cycle(&rt, rt.alloc(), live, (8, 1), &[0, 3, 9], &potentials);
+    Ok(())
 }
 
 // A station that takes 3 gives its token back to itself 2 later.

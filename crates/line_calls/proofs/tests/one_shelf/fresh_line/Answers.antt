@@ -1,6 +1,6 @@
 use Rattle.std.proofs.Common.{◌∙◌, ap, length, length-append, ◌+◌}
 use Rattle.line_calls.proofs.OneShelf.{members-more}
-use Rattle.line_calls.proofs.one_shelf.fresh_line.Goals as goal
+use Rattle.line_calls.proofs.tests.one_shelf.fresh_line.Goals as goal
 
 pub loop-t-preserved : goal.loop-t-preserved
 loop-t-preserved c = record {

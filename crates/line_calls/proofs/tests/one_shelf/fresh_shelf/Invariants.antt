@@ -1,7 +1,7 @@
 use Rattle.std.proofs.Common.{◌≡◌, ◌+◌, ◌^◌, ◌<◌, length}
 use Rattle.std.specs.Prelude.{All}
 use Rattle.event_graph.specs.Network.{jobs}
-use Rattle.line_calls.proofs.one_shelf.fresh_shelf.Given as goal
+use Rattle.line_calls.proofs.tests.one_shelf.fresh_shelf.Given as goal
 
 abbrev pub invariant-loop-a : goal.invariant-loop-a
 invariant-loop-a l = record {

@@ -11,7 +11,7 @@ use Rattle.station_step.specs.Station.{WorkStation, outlet_at, new_station}
 use Rattle.station_step.specs.Kept.{IsKept, IsFresh}
 use Rattle.line_calls.specs.OneShelf.{IsFreshShelf, IsLocal, local_inlets, local_outlets}
 use Rattle.line_calls.proofs.OneShelf.{untaken-local, unfilled-local, ring_room-local, made-is, made-local, made-fresh}
-use Rattle.line_calls.proofs.one_shelf.fresh_station.Goals as goal
+use Rattle.line_calls.proofs.tests.one_shelf.fresh_station.Goals as goal
 
 pub new-requires-2-clause-untaken : goal.new-requires-2-clause-untaken
 new-requires-2-clause-untaken c =

@@ -2,7 +2,7 @@ use Rattle.std.proofs.Common.{rules, ◌≡◌, length}
 use Rattle.event_graph.specs.Network.{arc_count}
 use Rattle.line_calls.specs.OneShelf.{IsFreshShelf}
 use Rattle.line_calls.proofs.OneShelf.{fresh-of-firsts}
-use Rattle.line_calls.proofs.one_shelf.fresh_shelf.Goals as goal
+use Rattle.line_calls.proofs.tests.one_shelf.fresh_shelf.Goals as goal
 
 pub returns : goal.returns
 returns c =

@@ -1,0 +1,8 @@
+mod got;
+mod of_big_plant;
+mod of_card_sizing;
+mod of_cycle_time;
+mod of_station_step;
+mod of_what_if;
+mod one_shelf;
+mod same;
