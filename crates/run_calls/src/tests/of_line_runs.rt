@@ -1,9 +1,9 @@
 ghost use Rattle.std.specs.Prelude.{◌≡◌, ◌≤◌, IfOk};
 
-use crate::got::got;
-use crate::kept::kept;
-use crate::of_line_workers::{ALL_DATES, new_line};
-use crate::same::same;
+use crate::tests::got::got;
+use crate::tests::kept::kept;
+use crate::tests::of_line_workers::{ALL_DATES, new_line};
+use crate::tests::same::same;
 use checkpoint::{CheckpointError, read_state, write_state};
 use line_base::Date;
 use line_core::{State, Table};
@@ -14,37 +14,13 @@ use line_runs::{
 };
 use line_workers::{FreeGate, Gate};
 use live_check::Live;
-use sample_plants::{FIVE_FIRINGS, live_forty_jobs, live_stages};
+use sample_plants::{FIVE_FIRINGS, START, live_forty_jobs, live_stages};
 use slot_store::{MAX_ROOM, SlotError, Slots};
 use std::alloc::Global;
 use std::process::Abort;
 use std::sync::atomic::{AtomicU64, Ordering};
 use std::test::Fail;
 use std::thread::Threads;
-
-/// The start of the two stages, as it is saved.
-const START: &str = "\
-pull-checkpoint 2
-delays 0
-station feed 0
-station cut 0
-station cut.saw 0
-station weld 0
-station weld.torch 0
-station deliver 0
-place 0 0
-place 1 1 0
-place 2 1 0
-place 3 1 0
-place 4 0
-place 5 1 0
-place 6 1 0
-place 7 1 0
-place 8 0
-place 9 0
-place 10 0
-end
-";
 
 /// A gate that counts the steps of all workers.
 #[derive(Drop)]
@@ -114,6 +90,7 @@ fn saved<R: Abort + Threads + Sync>(
     let state = stopped(rt, alloc, live, workers, firings)?;
     let text = got(rt, write_state(alloc, live, &state));
     let fired = state.fired();
+    drop(state);
     Ok(StoppedRun { fired, text })
 }
 
@@ -142,7 +119,8 @@ fn whole<R: Threads + Sync, G: Gate>(
     Ok(kept(alloc, run_to_end(rt, live, line, gate))?)
 }
 
-/// What resuming a text by so many workers comes to, through a gate. It fails where the text is long.
+/// The table of a run by so many workers that goes on from a text, through a gate, or the refusal of the text. It fails where
+/// the text is long.
 fn resumed<R: Threads + Sync, G: Gate>(
     rt: &R,
     alloc: Global,
@@ -150,24 +128,14 @@ fn resumed<R: Threads + Sync, G: Gate>(
     text: &[u8],
     workers: u32,
     gate: &G,
-) -> Result<Result<Table, CheckpointError>, Fail> {
+) -> Result<Result<&'static Table, CheckpointError>, Fail> {
     if text.len() >= 1 << 31 || workers < 1 || workers > 16 {
         return Err("the text is long, or there is no such number of workers".into());
     }
-    Ok(resume(rt, alloc, live, text, workers, gate))
-}
-
-/// The table of a run by so many workers that goes on from a text, through a gate.
-fn gone_on<R: Threads + Sync, G: Gate>(
-    rt: &R,
-    alloc: Global,
-    live: &Live,
-    text: &[u8],
-    workers: u32,
-    gate: &G,
-) -> Result<&'static Table, Fail> {
-    let table = resumed(rt, alloc, live, text, workers, gate)??;
-    Ok(kept(alloc, table)?)
+    match resume(rt, alloc, live, text, workers, gate) {
+        Ok(table) => Ok(Ok(kept(alloc, table)?)),
+        Err(error) => Ok(Err(error)),
+    }
 }
 
 /// The dates of a station.
@@ -201,6 +169,12 @@ fn has_forty_dates(rt: &impl Abort, table: &Table) {
     same(rt, dates_of(rt, table, 4).last(), Some(&200));
 }
 
+/// Asserts that a run through a gate that counts comes to the dates of forty demands by so many steps.
+fn comes_in_steps(rt: &impl Abort, table: &Table, gate: &CountingGate, steps: u64) {
+    has_forty_dates(rt, table);
+    same(rt, gate.steps(), steps);
+}
+
 /// Asserts that a run of the two stages that goes on from a text comes to all dates.
 fn comes_to_all_dates<R: Abort + Threads + Sync>(
     rt: &R,
@@ -208,7 +182,7 @@ fn comes_to_all_dates<R: Abort + Threads + Sync>(
     live: &Live,
     text: &[u8],
 ) -> Result<(), Fail> {
-    let table = gone_on(rt, alloc, live, text, 2, &FreeGate)?;
+    let table = resumed(rt, alloc, live, text, 2, &FreeGate)??;
     has_all_dates(rt, table);
     Ok(())
 }
@@ -240,7 +214,7 @@ fn two_workers_stop_soon_and_three_go_on(rt: HostRuntime) -> Result<(), Fail> {
     let live = live_forty_jobs(rt.alloc())?;
     let seventh = saved(&rt, rt.alloc(), live, 2, 7)?;
     assert!(rt; 7 <= seventh.fired && seventh.fired < 103);
-    let table = gone_on(&rt, rt.alloc(), live, &seventh.text, 3, &FreeGate)?;
+    let table = resumed(&rt, rt.alloc(), live, &seventh.text, 3, &FreeGate)??;
     has_forty_dates(&rt, table);
     Ok(())
 }
@@ -250,8 +224,7 @@ fn a_whole_run_makes_a_step_for_each_firing(rt: HostRuntime) -> Result<(), Fail>
     let live = live_forty_jobs(rt.alloc())?;
     let gate = CountingGate::new();
     let table = whole(&rt, rt.alloc(), live, &gate)?;
-    has_forty_dates(&rt, table);
-    same(&rt, gate.steps(), 240);
+    comes_in_steps(&rt, table, &gate, 240);
     Ok(())
 }
 
@@ -262,9 +235,8 @@ fn a_run_goes_on_from_where_it_stopped(rt: HostRuntime) -> Result<(), Fail> {
     let first = saved(&rt, rt.alloc(), live, 1, 96)?;
     same(&rt, first.fired, 96);
     let rest = CountingGate::new();
-    let table = gone_on(&rt, rt.alloc(), live, &first.text, 1, &rest)?;
-    has_forty_dates(&rt, table);
-    same(&rt, rest.steps(), 144);
+    let table = resumed(&rt, rt.alloc(), live, &first.text, 1, &rest)??;
+    comes_in_steps(&rt, table, &rest, 144);
     Ok(())
 }
 
@@ -286,22 +258,21 @@ fn save_start<R: Threads + Sync>(
     name: &str,
 ) -> Result<Result<(), StoreError>, Fail> {
     let state = stopped(rt, alloc, live, 1, 0)?;
-    Ok(save_state(alloc, live, &state, store, name))
+    let saved = save_state(alloc, live, &state, store, name);
+    drop(state);
+    Ok(saved)
 }
 
 #[test]
 fn a_state_is_saved_in_a_file_or_the_store_failed(rt: HostRuntime) -> Result<(), Fail> {
     let alloc = rt.alloc();
     let live = live_stages(alloc)?;
-    let mut store = MemStore::new(alloc, Files::new(alloc), vec![in alloc; 3]?);
-    same(
-        &rt,
-        save_start(&rt, alloc, live, &mut store, "a.ckpt")?,
-        Ok(()),
-    );
+    let failing = vec![in alloc; 3]?;
+    let store = kept(alloc, MemStore::new(alloc, Files::new(alloc), failing))?;
+    same(&rt, save_start(&rt, alloc, live, store, "a.ckpt")?, Ok(()));
     let text = store.read(alloc, "a.ckpt", 9_999)?;
     same(&rt, text.as_slice(), START.as_bytes());
-    let failed = save_start(&rt, alloc, live, &mut store, "b.ckpt")?;
+    let failed = save_start(&rt, alloc, live, store, "b.ckpt")?;
     same(&rt, failed, Err(StoreError::Failed));
     Ok(())
 }
@@ -339,7 +310,10 @@ fn fired_in_slots(alloc: Global, live: &Live, disk: &mut MemDisk) -> Result<u64,
     if text.len() >= 1 << 31 {
         return Err("the text is long".into());
     }
-    Ok(read_state(alloc, live, text.as_slice())?.fired())
+    let state = read_state(alloc, live, text.as_slice())?;
+    let fired = state.fired();
+    drop(state);
+    Ok(fired)
 }
 
 /// What a run by so many workers that goes on from the slots of a disk comes to.

@@ -1,43 +1,39 @@
-use crate::got::got;
-use crate::held_gate::HeldGate;
-use crate::same::same;
+use crate::tests::got::got;
+use crate::tests::held_gate::HeldGate;
+use crate::tests::same::same;
 use line_disk::MemDisk;
 use line_io::{Files, MemSink, MemStore};
 use line_workers::Gate;
 use pull_cli::pull;
+use sample_plants::{BASE_STOCK, FORTY_DEMANDS, ONE_PART, stages_file};
 use std::alloc::{AllocError, Global};
 use std::process::Abort;
 use std::sync::Wait;
 use std::thread::Threads;
-
-/// Two stages without cards, with a part in each stock and forty demands.
-const FORTY_FROM_STOCK: &str = "\
-policy = \"base-stock\"
-demands = [
-  0, 2, 4, 6, 8, 10, 12, 14, 16, 18, 20, 22, 24, 26, 28, 30, 32, 34, 36, 38,
-  40, 42, 44, 46, 48, 50, 52, 54, 56, 58, 60, 62, 64, 66, 68, 70, 72, 74, 76, 78,
-]
-stage = [
-  { name = \"cut\", feeds = \"weld\", stock = 1, machine = [{ name = \"saw\", time = 3 }] },
-  { name = \"weld\", stock = 1, machine = [{ name = \"torch\", time = 5 }] },
-]
-";
 
 /// How often a worker with three stations passes a gate in a burst.
 const PASSES: u64 = 48;
 
 /// The words of a line.
 fn words_of(alloc: Global, line: &str) -> Result<Vec<String>, AllocError> {
-    line.split(' ')
-        .map(|word| String::from_str(alloc, word))
-        .try_collect(alloc)
+    let mut words = Vec::new(alloc);
+    add_words(alloc, &mut words, line)?;
+    Ok(words)
+}
+
+/// Adds the words of a line.
+fn add_words(alloc: Global, words: &mut Vec<String>, line: &str) -> Result<(), AllocError> {
+    for word in line.split(' ') {
+        words.push(String::from_str(alloc, word)?)?;
+    }
+    Ok(())
 }
 
 /// A store with one file, of this name and with this text.
 fn store_of(alloc: Global, name: &str, text: &str) -> Result<MemStore, AllocError> {
-    let mut files = Files::new(alloc);
     let name = String::from_str(alloc, name)?;
     let bytes = Vec::from_slice(alloc, text.as_bytes())?;
+    let mut files = Files::new(alloc);
     let _ = files.insert(name, bytes)?;
     Ok(MemStore::new(alloc, files, Vec::new(alloc)))
 }
@@ -52,10 +48,13 @@ fn status_of<R: Threads + Wait + Sync, G: Gate>(
     gate: &G,
 ) -> u8 {
     let mut disk = MemDisk::new(alloc, Vec::new(alloc));
-    pull(rt, alloc, words, store, sink, gate, &mut disk)
+    let status = pull(rt, alloc, words, store, sink, gate, &mut disk);
+    drop(disk);
+    status
 }
 
-/// Runs the plant of forty demands by the words of a line, through a gate. Answers what it wrote.
+/// Runs the two stages without cards, with a part in each stock and forty demands, by the words of a line, through a gate.
+/// Answers what it wrote.
 fn written<R: Abort + Threads + Wait + Sync, G: Gate>(
     rt: &R,
     alloc: Global,
@@ -63,11 +62,19 @@ fn written<R: Abort + Threads + Wait + Sync, G: Gate>(
     gate: &G,
 ) -> Vec<u8> {
     let words = got(rt, words_of(alloc, line));
-    let mut store = got(rt, store_of(alloc, "a.toml", FORTY_FROM_STOCK));
+    let file = got(
+        rt,
+        stages_file(alloc, BASE_STOCK, FORTY_DEMANDS, ONE_PART, ONE_PART),
+    );
+    let mut store = got(rt, store_of(alloc, "a.toml", file.as_str()));
     let mut sink = got(rt, MemSink::new(alloc, 100_000, Vec::new(alloc), 0));
     let status = status_of(rt, alloc, &words, &mut store, &mut sink, gate);
+    drop(words);
     same(rt, status, 0);
-    got(rt, Vec::from_slice(alloc, sink.written()))
+    let report = got(rt, Vec::from_slice(alloc, sink.written()));
+    drop(sink);
+    drop(store);
+    report
 }
 
 // Worker 1 begins when worker 0 has made all of its first burst. With room for one token the feed has then come to a

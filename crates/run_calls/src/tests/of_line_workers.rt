@@ -2,8 +2,8 @@ ghost use Rattle.std.specs.Prelude.{◌≡◌, ◌≤◌, ◌^◌, All, IfOk};
 ghost use Rattle.worker_crew.specs.Work.{TurnsBelow};
 ghost use Rattle.worker_crew.specs.Crews.{live_of, AreCrews};
 
-use crate::got::got;
-use crate::same::same;
+use crate::tests::got::got;
+use crate::tests::same::same;
 use line_base::Date;
 use line_core::State;
 use line_workers::{Burst, Crew, FreeGate, Gate, Line};
@@ -81,6 +81,7 @@ pub fn closes_with_all_dates(rt: &impl Abort, live: &Live, line: Line)
 {
     let state = line.close(live);
     has_all_dates(rt, live, &state);
+    drop(state);
 }
 
 /// Asserts that the next burst of a line fires so often, and makes no other step.
@@ -103,6 +104,7 @@ fn one_worker_fires_with_every_step(rt: HostRuntime) -> Result<(), Fail> {
     fires(&rt, live, &mut line, 96);
     fires(&rt, live, &mut line, 48);
     fires(&rt, live, &mut line, 0);
+    drop(line);
     Ok(())
 }
 
@@ -112,6 +114,7 @@ fn three_jobs_are_one_burst_of_one_worker(rt: HostRuntime) -> Result<(), Fail> {
     let mut line = new_line(rt.alloc(), live, 1)?;
     fires(&rt, live, &mut line, 18);
     fires(&rt, live, &mut line, 0);
+    drop(line);
     Ok(())
 }
 
@@ -182,6 +185,7 @@ fn closes_with(rt: &impl Abort, live: &Live, line: Line, t: u32, dates: &[Date])
 {
     let state = line.close(live);
     has_log(rt, live, &state, t, dates);
+    drop(state);
 }
 
 /// Asserts the dates of the second station where its token comes back to it this much later.
@@ -240,7 +244,10 @@ fn has_fired(rt: &impl Abort, alloc: Global, live: &Live, line: Line, times: u64
 {
     let copy = got(rt, line.state(alloc, live));
     same(rt, copy.fired(), times);
-    same(rt, line.close(live).fired(), times);
+    drop(copy);
+    let state = line.close(live);
+    same(rt, state.fired(), times);
+    drop(state);
 }
 
 /// Lets the first crew of a line make a sweep. Answers how often its stations fired.

@@ -1,6 +1,6 @@
-use crate::held_gate::HeldGate;
-use crate::of_line_workers::{closes_with_all_dates, new_line};
-use crate::same::same;
+use crate::tests::held_gate::HeldGate;
+use crate::tests::of_line_workers::{closes_with_all_dates, new_line};
+use crate::tests::same::same;
 use line_workers::FreeGate;
 use sample_plants::live_stages;
 use standing_line::stand;

@@ -4,7 +4,7 @@ use Rattle.worker_crew.specs.Crew.{WorkCrew}
 use Rattle.worker_crew.specs.Crews.{crew_at}
 use Rattle.line_workers.specs.Gather.{IsCrewAfter}
 use Rattle.line_workers.proofs.AfterSweeps.{crews_after, one_after}
-use Rattle.run_calls.proofs.of_line_workers.sweep_first.Goals as goal
+use Rattle.run_calls.proofs.tests.of_line_workers.sweep_first.Goals as goal
 
 pub returns-clause-crews : goal.returns-clause-crews
 returns-clause-crews c =
