@@ -16,17 +16,9 @@ const PASSES: u64 = 48;
 
 /// The words of a line.
 fn words_of(alloc: Global, line: &str) -> Result<Vec<String>, AllocError> {
-    let mut words = Vec::new(alloc);
-    add_words(alloc, &mut words, line)?;
-    Ok(words)
-}
-
-/// Adds the words of a line.
-fn add_words(alloc: Global, words: &mut Vec<String>, line: &str) -> Result<(), AllocError> {
-    for word in line.split(' ') {
-        words.push(String::from_str(alloc, word)?)?;
-    }
-    Ok(())
+    line.split(' ')
+        .map(|word| String::from_str(alloc, word))
+        .try_collect(alloc)
 }
 
 /// A store with one file, of this name and with this text.
