@@ -1,4 +1,5 @@
 pub mod Calls
+pub mod Noted
 pub mod Contents
 pub mod FailPlans
 pub mod Faults

@@ -2,6 +2,7 @@
 use Rattle.std.specs.Prelude.{None}
 use Rattle.line_io.specs.SinkView.{SinkView}
 use Rattle.line_io.specs.StoreView.{StoreView}
+use Rattle.line_io.specs.Noted.{asked_of}
 use Rattle.line_io.specs.declared.file_store.FileStore.{FileStore}
 use Rattle.line_io.specs.declared.std_sink.StdSink.{StdSink}
 
@@ -12,7 +13,7 @@ file_view store = record {
   read_faults = λ _. store.faults;
   write_faults = λ _. store.faults;
   taken = store.taken;
-  asked = store.calls.asked;
+  asked = asked_of store.calls;
 }
 
 -- the runtime that opens the files
@@ -21,7 +22,7 @@ file_opener store = store.rt
 
 -- what standard output shows: the pieces that it accepted
 abbrev pub std_view : {P : Type 0} → StdSink P → SinkView
-std_view sink = record { written = sink.accepted.bytes; faults = sink.faults }
+std_view sink = record { written = sink.accepted.items; faults = sink.faults }
 
 -- the runtime that prints
 abbrev pub std_printer : {P : Type 0} → StdSink P → P

@@ -7,6 +7,7 @@ use Rattle.line_io.specs.Held.{contents, times_noted}
 use Rattle.line_io.specs.Left.{left_by}
 use Rattle.line_io.specs.SinkView.{SinkView, IsBlank}
 use Rattle.line_io.specs.StoreView.{StoreView, IsUnused}
+use Rattle.line_io.specs.Noted.{asked_of}
 use Rattle.line_io.specs.declared.fail_plan.FailPlan.{FailPlan}
 use Rattle.line_io.specs.declared.mem_sink.MemSink.{MemSink}
 use Rattle.line_io.specs.declared.mem_store.MemStore.{MemStore}
@@ -46,7 +47,7 @@ store_view store = record {
   read_faults = times_noted store.failed_reads;
   write_faults = times_noted store.failed_writes;
   taken = store.taken;
-  asked = store.calls.asked;
+  asked = asked_of store.calls;
 }
 
 -- which calls of a store are to fail, and how many were made

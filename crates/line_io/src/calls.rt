@@ -1,53 +1,53 @@
 //! What was asked of a store, and what it answered, for contracts alone.
 ghost use Rattle.std.specs.Prelude.{◌≡◌};
-ghost use Rattle.line_io.specs.Calls.{Asked, none_asked, after_read, after_write};
+ghost use Rattle.line_io.specs.Calls.{none_asked, after_read, after_write};
+ghost use Rattle.line_io.specs.Noted.{asked_of};
 
 use crate::store::StoreError;
-use std::marker::{Model, PhantomData};
+use std::marker::Model;
+use transcript::Transcript;
 
-/// The reads and the writes of a store, which only contracts see. It takes no memory, and nothing reads it when the program runs.
+/// Names to a transcript what contracts see of a read. No value of it is made.
 #[derive(Drop)]
-pub struct Calls {
-    marker: PhantomData<u8>,
-    pub ghost asked: { Asked },
+pub struct ReadCall {}
+
+impl Model for ReadCall {
+    ghost use Rattle.std.specs.Prelude.{[], Ok};
+    ghost use Rattle.line_io.specs.Calls.{Read};
+
+    ghost Value = { Read };
+
+    ghost view = { λ _. record { name = []; answer = Ok [] } };
 }
 
-impl Model for Calls {
-    ghost use base.Fml.{ftrue};
+/// Names to a transcript what contracts see of a write. No value of it is made.
+#[derive(Drop)]
+pub struct WriteCall {}
 
-    ghost also_owns = { λ _. ftrue };
+impl Model for WriteCall {
+    ghost use Rattle.std.specs.Prelude.{[], Ok};
+    ghost use Rattle.line_io.specs.Calls.{Write};
+
+    ghost Value = { Write };
+
+    ghost view = { λ _. record { name = []; bytes = []; answer = Ok tt } };
+}
+
+/// The reads and the writes of a store, which only contracts see.
+#[derive(Drop)]
+pub struct Calls {
+    reads: Transcript<ReadCall>,
+    writes: Transcript<WriteCall>,
 }
 
 impl Calls {
     /// No call yet.
     pub fn new() -> Self
-        ensures { result.asked ≡ none_asked }
+        ensures { asked_of result ≡ none_asked }
     {
         Calls {
-            marker: PhantomData,
-        }
-    }
-
-    /// One more read, and what it answered.
-    pub fn with_read(&self, name: &[u8], answer: &Result<Vec<u8>, StoreError>) -> Self
-        ensures { result.asked ≡ after_read self.now.asked name.now answer.now }
-    {
-        let _ = name;
-        let _ = answer;
-        Calls {
-            marker: PhantomData,
-        }
-    }
-
-    /// One more write, and what it answered.
-    pub fn with_write(&self, name: &[u8], bytes: &[u8], answer: &Result<(), StoreError>) -> Self
-        ensures { result.asked ≡ after_write self.now.asked name.now bytes.now answer.now }
-    {
-        let _ = name;
-        let _ = bytes;
-        let _ = answer;
-        Calls {
-            marker: PhantomData,
+            reads: Transcript::new(),
+            writes: Transcript::new(),
         }
     }
 
@@ -58,9 +58,9 @@ impl Calls {
         answer: Result<Vec<u8>, StoreError>,
     ) -> Result<Vec<u8>, StoreError>
         ensures same { result ≡ answer }
-        ensures noted { self.new.asked ≡ after_read self.old.asked name.now result }
+        ensures noted { asked_of self.new ≡ after_read (asked_of self.old) name.now result }
     {
-        *self = self.with_read(name.as_bytes(), &answer);
+        self.reads = Transcript::told(&(&self.reads, name.as_bytes(), &answer));
         answer
     }
 
@@ -72,9 +72,9 @@ impl Calls {
         answer: Result<(), StoreError>,
     ) -> Result<(), StoreError>
         ensures same { result ≡ answer }
-        ensures noted { self.new.asked ≡ after_write self.old.asked name.now bytes.now result }
+        ensures noted { asked_of self.new ≡ after_write (asked_of self.old) name.now bytes.now result }
     {
-        *self = self.with_write(name.as_bytes(), bytes, &answer);
+        self.writes = Transcript::told(&(&self.writes, name.as_bytes(), bytes, &answer));
         answer
     }
 }

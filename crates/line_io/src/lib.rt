@@ -12,7 +12,6 @@ mod pieces;
 mod sink;
 mod std_sink;
 mod store;
-mod transcript;
 
 pub use file_store::FileStore;
 pub use mem_sink::MemSink;

@@ -1,13 +1,13 @@
 ghost use Rattle.std.specs.Prelude.{◌≡◌, ◌<◌};
 
 use crate::sink::{Failed, Sink};
-use crate::transcript::Transcript;
+use transcript::Transcript;
 
 /// Standard output as a sink. What was written is the pieces that it accepted.
 #[derive(Drop)]
 pub struct StdSink<P: Print + Drop> {
     rt: P,
-    accepted: Transcript,
+    accepted: Transcript<u8>,
     faults: u64,
 }
 

@@ -1,0 +1,6 @@
+use borrow.Author.Rules.{rules, lives}
+use Rattle.line_io.proofs.calls.Calls.note_read.Goals as goal
+
+-- what is told lives as long as the call
+pub told-self-requires : goal.told-self-requires
+told-self-requires c κs within = search (rules, lives, within) depth 24 fits 20000
