@@ -9,6 +9,7 @@ use Rattle.station_step.specs.declared.ends.Inlet.TheVariants.{Local}
 use Rattle.station_step.specs.declared.input.Input.{Input}
 use Rattle.station_step.specs.Input.{input_at}
 use Rattle.station_step.specs.Station.{bare_input}
+use Rattle.station_step.proofs.Turns.{below-set}
 
 -- the hands of the inputs below k are empty, the other inputs as they were
 pub record EmptiedUpTo (k : ℕ) (before after : List Input) : Type 0 where
@@ -45,10 +46,6 @@ emptied_more k before after input low up_to inlet empty =
           (cases_eq j k)
           ∙ up_to.inlets j;
       same = map-set_same bare_input after k input d (ap (λ (i : Inlet). bare_input (record { inlet = i; hand = None })) inlet) ∙ up_to.same;
-      hands = λ j lt.
-          ⊎_elim
-          (λ (e : j ≡ k). ap (λ (i : Input). i.hand) (here j e) ∙ empty)
-          (λ (ne : j ≢ k). ap (λ (i : Input). i.hand) (elsewhere j ne) ∙ up_to.hands j (omega arith))
-          (cases_eq j k);
+      hands = below-set d (λ (j : ℕ) (i : Input). i.hand ≡ None) k after input low up_to.hands empty;
       rest = λ j le. elsewhere j (λ e. absurd (omega (arith, e))) ∙ up_to.rest j (omega arith);
     }

@@ -1,5 +1,5 @@
 -- The outlets of a station while a token is put on each, one after the other.
-use Rattle.std.proofs.Common.{◌≡◌, ◌≢◌, ℕ, ◌+◌, ◌<◌, ◌≤◌, List, [], ◌∷◌, ◌++◌, length, set, map, refl, sym, ap, ◌∙◌, subst, arith, ⊎_elim, get_or-set_same, get_or-set_other, append_assoc}
+use Rattle.std.proofs.Common.{◌≡◌, ◌≢◌, ℕ, ◌+◌, ◌<◌, ◌≤◌, List, [], ◌∷◌, ◌++◌, length, set, map, refl, sym, ap, ◌∙◌, subst, arith, ⊎_elim, get_or-set_other, append_assoc}
 use mathlib.Core.List.{IsPrefix}
 use Rattle.std.specs.Prelude.{Some}
 use Rattle.std.proofs.Math.Seq.{map-set_same}
@@ -8,11 +8,12 @@ use Rattle.std.proofs.lemmas.List.{length-set, append-nil}
 use Rattle.card_queue.specs.Plain.{PlainQueue}
 use Rattle.station_step.specs.declared.ends.Outlet.{Outlet}
 use Rattle.station_step.specs.declared.ends.Outlet.TheVariants as outlet
-use Rattle.station_step.specs.Shelf.{queue_at, OnlyPuts}
+use Rattle.token_shelf.specs.Shelf.{queue_at, OnlyPuts}
 use Rattle.station_step.specs.Ends.{outlet_added, outlet_queue, bare_outlet, HasShelfRoom}
 use Rattle.station_step.specs.Station.{outlet_at, PutApart}
 use Rattle.station_step.specs.Step.{Grows}
 use Rattle.station_step.proofs.OwnQueues.{None-Some, Some-injective, OutletQueueStays, outlet_added-same, outlet_queue-same, outlet-same, OnlyPuts-trans}
+use Rattle.station_step.proofs.Turns.{below-set}
 
 -- the outlets below k got these tokens, the others are as they were
 pub record FilledUpTo (k : ℕ) (tokens : ℕ → ℕ) (old new : List PlainQueue) (before after : List Outlet) : Type 0 where
@@ -99,13 +100,8 @@ filled_more k tokens old mid new before after o apart low up_to same added only 
     record {
       count = length-set after k o ∙ up_to.count;
       same = map-set_same bare_outlet after k o d same ∙ up_to.same;
-      done = λ j lt.
-          ⊎_elim
-          (λ (e : j ≡ k).
-          subst (λ (n : ℕ). Goal n (outlet_at (set after k o) n)) (sym e)
-          (subst (Goal k) (sym (get_or-set_same after k o d low)) new_one))
-          (λ (ne : j ≢ k).
-          let below : j < k = omega arith in
+      done = below-set d Goal k after o low
+          (λ (j : ℕ) (below : j < k).
           let which : outlet_queue (outlet_at after j) ≡ outlet_queue (outlet_at before j) =
           outlet_queue-same (outlet_at before j) (outlet_at after j) (outlet-same before after j up_to.same) in
           let stays : OutletQueueStays mid new (outlet_at after j) =
@@ -114,9 +110,8 @@ filled_more k tokens old mid new before after o apart low up_to same added only 
           (λ clash.
           apart j k below low_before q (sym which ∙ is)
           (ap outlet_queue (sym at_k) ∙ clash)) in
-          subst (Goal j) (sym (get_or-set_other after k j o d ne))
-          (outlet_added-same mid new (outlet_at after j) stays ∙ up_to.done j below))
-          (cases_eq j k);
+          outlet_added-same mid new (outlet_at after j) stays ∙ up_to.done j below)
+          new_one;
       rest = λ j le. get_or-set_other after k j o d (λ e. absurd (omega (arith, e))) ∙ up_to.rest j (omega arith);
       only_puts = OnlyPuts-trans up_to.only_puts only;
       grows = Grows-trans old mid new up_to.grows (put_grows mid new (outlet_at after k) o (tokens k) same added others);

@@ -1,8 +1,5 @@
-pub mod Rings
-pub mod Tables
-pub mod Growing
-pub mod Laying
 pub mod OwnQueues
+pub mod Turns
 pub mod Refilling
 pub mod Emptying
 pub mod Looking

@@ -1,11 +1,10 @@
 -- The outlets of a station while it looks for space at each, one after the other: what they have seen says nothing of
 -- their queues and of the tokens put at them.
 use Rattle.std.specs.Option.{option_or}
-use Rattle.std.proofs.Common.{◌≡◌, ◌≢◌, ℕ, ◌+◌, ◌<◌, ◌≤◌, List, length, set, map, refl, sym, ap, ◌∙◌, subst, arith, ⊎_elim, get_or-set_same, get_or-set_other}
+use Rattle.std.proofs.Common.{◌≡◌, ◌≢◌, ℕ, ◌+◌, ◌<◌, ◌≤◌, List, length, set, map, refl, sym, ap, ◌∙◌, subst, arith, get_or-set_same, get_or-set_other}
 use Rattle.std.specs.List.{list_any}
 use Rattle.std.specs.Prelude.{Option, None, Some, Bool, true, false, ◌||◌, [], ◌∷◌, IfNone, IfSome, IsTrue}
 use Rattle.std.proofs.Math.Seq.{map-set_same}
-use Rattle.std.proofs.lemmas.Bool.{cases_eq}
 use Rattle.std.proofs.lemmas.List.{length-set}
 use Rattle.std.proofs.lemmas.List.Folds.{list_any_at}
 use Rattle.line_base.specs.declared.event.Parts.{Parts}
@@ -13,12 +12,13 @@ use Rattle.card_queue.specs.Plain.{PlainQueue}
 use Rattle.station_step.specs.declared.ends.Outlet.{Outlet}
 use Rattle.station_step.specs.declared.ends.Outlet.TheVariants as outlet
 use Rattle.station_step.specs.Ends.{outlet_added, bare_outlet, unseen_outlet, HasRingRoom, HasShelfRoom, is_bounded, HasSpace, HasNoSpace, HasLooked}
-use Rattle.station_step.specs.Shelf.{OnlyTakes}
+use Rattle.token_shelf.specs.Shelf.{OnlyTakes}
 use Rattle.station_step.specs.Station.{outlet_at, NonePuts}
 use Rattle.station_step.specs.declared.noted.NotedInput.{NotedInput}
 use Rattle.station_step.specs.declared.noted.NotedOutlet.{NotedOutlet}
 use Rattle.station_step.specs.Noted.{IsNoted, extras_of, outlets_of, delays_of}
 use Rattle.station_step.proofs.OwnQueues.{outlet_queue-same}
+use Rattle.station_step.proofs.Turns.{below-set}
 
 -- ---- one outlet, with and without what it has seen
 
@@ -179,15 +179,8 @@ pub looked_more : (k : ℕ) (before after : List Outlet) (o : Outlet) → k < le
 looked_more k before after o low up_to looked = record {
   count = length-set after k o ∙ up_to.count;
   same = bare-set after k o looked.same ∙ up_to.same;
-  done = λ j lt.
-      ⊎_elim
-      (λ (e : j ≡ k).
-      subst (λ (n : ℕ). HasLooked (outlet_at before n) (outlet_at (set after k o) n)) (sym e)
-      (subst (HasLooked (outlet_at before k)) (sym (at-set after k o low))
-      (subst (λ (was : Outlet). HasLooked was o) (up_to.rest k (omega arith)) looked)))
-      (λ (ne : j ≢ k).
-      subst (HasLooked (outlet_at before j)) (sym (beside-set after k j o ne)) (up_to.done j (omega arith)))
-      (cases_eq j k);
+  done = below-set no_outlet (λ (j : ℕ) (p : Outlet). HasLooked (outlet_at before j) p) k after o low up_to.done
+      (subst (λ (was : Outlet). HasLooked was o) (up_to.rest k (omega arith)) looked);
   rest = λ j le. beside-set after k j o (λ e. absurd (omega (arith, e))) ∙ up_to.rest j (omega arith);
 }
 
@@ -231,12 +224,7 @@ first-full k None outlets o low none is = record {
 pub first-space : (k : ℕ) (found : Option ℕ) (outlets : List Outlet) (o : Outlet) → k < length outlets → HasSpace o → IsFirstFull k found outlets → IsFirstFull (k + 1) found (set outlets k o)
 first-space k (Some i) outlets o low space is = found_stays k i outlets o is
 first-space k None outlets o low space is = record {
-  none = λ j lt.
-      ⊎_elim
-      (λ (e : j ≡ k).
-      subst (λ (n : ℕ). HasSpace (outlet_at (set outlets k o) n)) (sym e) (subst HasSpace (sym (at-set outlets k o low)) space))
-      (λ (ne : j ≢ k). subst HasSpace (sym (beside-set outlets k j o ne)) (is.none j (omega arith)))
-      (cases_eq j k);
+  none = below-set no_outlet (λ (j : ℕ) (p : Outlet). HasSpace p) k outlets o low is.none space;
   there = tt;
   full = tt;
   first = tt;

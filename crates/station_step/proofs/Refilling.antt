@@ -1,19 +1,19 @@
 -- The inputs of a station while its hands are refilled, one after the other.
 use Rattle.std.specs.Option.{option_or}
-use Rattle.std.proofs.Common.{◌≡◌, ◌≢◌, ℕ, ◌+◌, ◌<◌, ◌≤◌, List, ◌++◌, length, set, map, refl, sym, ap, ◌∙◌, subst, arith, ⊎_elim, get_or-set_same, get_or-set_other}
+use Rattle.std.proofs.Common.{◌≡◌, ◌≢◌, ℕ, ◌+◌, ◌<◌, ◌≤◌, List, ◌++◌, length, set, map, refl, sym, ap, ◌∙◌, subst, arith, get_or-set_same, get_or-set_other}
 use Rattle.std.specs.Prelude.{Option, None, Some, is_some, false, IsSome, IfNone, IfSome, option_to_list}
 use Rattle.std.proofs.Math.Seq.{map-set_same}
-use Rattle.std.proofs.lemmas.Bool.{cases_eq}
 use Rattle.std.proofs.lemmas.List.{length-set}
 use Rattle.card_queue.specs.Plain.{PlainQueue}
 use Rattle.station_step.specs.declared.ends.Inlet.{Inlet}
 use Rattle.station_step.specs.declared.ends.Inlet.TheVariants.{Local}
 use Rattle.station_step.specs.declared.input.Input.{Input}
-use Rattle.station_step.specs.Shelf.{queue_at, OnlyTakes}
+use Rattle.token_shelf.specs.Shelf.{queue_at, OnlyTakes}
 use Rattle.station_step.specs.Ends.{inlet_queue}
 use Rattle.station_step.specs.Input.{input_at, IsRefilled, TakeApart}
 use Rattle.station_step.specs.Station.{bare_input}
 use Rattle.station_step.proofs.OwnQueues.{InletQueueStays, inlet_taken-same, inlet_ahead-same, inlet_queue-same, OnlyTakes-trans}
+use Rattle.station_step.proofs.Turns.{below-set}
 
 -- the inputs below k are refilled, the others as they were
 pub record RefilledUpTo (k : ℕ) (old new : List PlainQueue) (before after : List Input) : Type 0 where
@@ -66,13 +66,8 @@ refilled_more k old mid new before after input apart low up_to next only others 
     record {
       count = length-set after k input ∙ up_to.count;
       same = map-set_same bare_input after k input d (ap (λ (i : Inlet). record { inlet = i; hand = None }) next.same) ∙ up_to.same;
-      done = λ j lt.
-          ⊎_elim
-          (λ (e : j ≡ k).
-          subst (λ (n : ℕ). Goal n (input_at (set after k input) n)) (sym e)
-          (subst (Goal k) (sym (get_or-set_same after k input d low)) new_one))
-          (λ (ne : j ≢ k).
-          let below : j < k = omega arith in
+      done = below-set d Goal k after input low
+          (λ (j : ℕ) (below : j < k).
           let stays : InletQueueStays mid new (input_at after j).inlet =
           λ q is.
           others q
@@ -80,9 +75,8 @@ refilled_more k old mid new before after input apart low up_to next only others 
           apart j k below low_before q
           (sym (inlet_queue-same (input_at before j).inlet (input_at after j).inlet (up_to.done j below).same) ∙ is)
           (ap (λ (i : Input). inlet_queue i.inlet) (sym at_k) ∙ clash)) in
-          subst (Goal j) (sym (get_or-set_other after k j input d ne))
-          (refilled-later old mid new (input_at before j) (input_at after j) (up_to.done j below) stays))
-          (cases_eq j k);
+          refilled-later old mid new (input_at before j) (input_at after j) (up_to.done j below) stays)
+          new_one;
       rest = λ j le. get_or-set_other after k j input d (λ e. absurd (omega (arith, e))) ∙ up_to.rest j (omega arith);
       only_takes = OnlyTakes-trans up_to.only_takes only;
       others = λ q none.
@@ -135,14 +129,7 @@ first-empty k None inputs input low empty is = record {
 pub first-full : (k : ℕ) (found : Option ℕ) (inputs : List Input) (input : Input) → k < length inputs → IsSome input.hand → IsFirstEmpty k found inputs → IsFirstEmpty (k + 1) found (set inputs k input)
 first-full k (Some i) inputs input low full is = found_stays k i inputs input is
 first-full k None inputs input low full is = record {
-  none = λ j lt.
-      ⊎_elim
-      (λ (e : j ≡ k).
-      subst (λ (n : ℕ). IsSome (input_at (set inputs k input) n).hand) (sym e)
-      (subst (λ (l : Input). IsSome l.hand) (sym (input_at-set inputs k input low)) full))
-      (λ (ne : j ≢ k).
-      subst (λ (l : Input). IsSome l.hand) (sym (before-set inputs k j input (omega arith))) (is.none j (omega arith)))
-      (cases_eq j k);
+  none = below-set (record { inlet = Local 0; hand = None }) (λ (j : ℕ) (l : Input). IsSome l.hand) k inputs input low is.none full;
   there = tt;
   empty = tt;
   first = tt;

@@ -1,5 +1,3 @@
-pub mod Shelf
-pub mod Table
 pub mod Ends
 pub mod Input
 pub mod Station

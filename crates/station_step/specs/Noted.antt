@@ -3,6 +3,7 @@
 use Rattle.std.specs.Prelude.{◌≡◌, ℕ, Bool, List, IsTrue, if◌then◌else◌, map}
 use Rattle.std.specs.List.{list_any}
 use Rattle.line_base.specs.declared.event.Parts.{Parts}
+use Rattle.line_base.specs.Roomy.{RoomyLog}
 use Rattle.event_graph.specs.Network.{arc, ins, outs, delay}
 use Rattle.event_graph.specs.Term.{work}
 use Rattle.station_step.specs.declared.ends.Inlet.{Inlet}
@@ -12,6 +13,7 @@ use Rattle.station_step.specs.declared.noted.NotedInput.{NotedInput}
 use Rattle.station_step.specs.declared.noted.NotedOutlet.{NotedOutlet}
 use Rattle.station_step.specs.Ends.{is_bounded}
 use Rattle.station_step.specs.Input.{empty_handed}
+use Rattle.station_step.specs.Station.{WorkStation}
 
 -- the inputs, and what stands beside each: what the time of the job adds to its token
 abbrev pub inputs_of : List NotedInput → List Input
@@ -55,3 +57,15 @@ pub record IsNoted (g : Parts) (t : ℕ) (inputs : List NotedInput) (outlets : L
   pub worked_is : worked ≡ worked_into g t
   pub delays_are : delays_of outlets ≡ delays_from g t
   pub bounded_is : bounded ≡ list_any is_bounded (outlets_of outlets)
+
+-- what contracts see of a station that notes this beside its inputs and its outlets
+abbrev pub seen_station : Parts → ℕ → List NotedInput → List NotedOutlet → RoomyLog → ℕ → ℕ → WorkStation
+seen_station g t inputs outlets log made turns = record {
+  graph = g;
+  number = t;
+  inputs = inputs_of inputs;
+  outlets = outlets_of outlets;
+  log = log;
+  made = made;
+  turns = turns;
+}

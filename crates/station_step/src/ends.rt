@@ -1,11 +1,11 @@
 ghost use Rattle.std.specs.Prelude.{◌≡◌, ◌≢◌, ℕ, ◌+◌, ◌<◌, ◌≤◌, ◌++◌, ◌∷◌, ◌↔◌, [], Some, length, IsTrue, IfSome, IfNone, option_to_list};
-ghost use Rattle.station_step.specs.Shelf.{queue_at, OnlyTakes, OnlyPuts};
+ghost use Rattle.token_shelf.specs.Shelf.{queue_at, OnlyTakes, OnlyPuts};
 ghost use Rattle.station_step.specs.Ends.{inlet_taken, inlet_ahead, outlet_added, bare_inlet, bare_outlet, unseen_inlet, unseen_outlet, inlet_queue, outlet_queue, HasRingRoom, HasShelfRoom, is_bounded, HasSpace, HasLooked, AreEnds, AreMet, KnowsMore, HasMoreSpace};
 
-use crate::shelf::Shelf;
 use card_queue::{Put, Take};
 use line_base::Date;
 use room_ring::{RoomPut, RoomTake};
+use token_shelf::Shelf;
 
 /// Where the tokens of an input come from: the end of a ring, that of a ring of bounded room, or the queue with this
 /// number on the worker's shelf.

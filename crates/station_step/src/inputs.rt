@@ -2,7 +2,7 @@ ghost use Rattle.std.specs.Prelude.{◌≡◌, ◌≢◌, ℕ, ◌<◌, ◌≤�
 ghost use Rattle.std.specs.List.{range_with_len};
 ghost use Rattle.event_graph.specs.Network.{jobs, demand};
 ghost use Rattle.event_graph.specs.Firing.{greatest};
-ghost use Rattle.station_step.specs.Shelf.{queue_at, OnlyTakes};
+ghost use Rattle.token_shelf.specs.Shelf.{queue_at, OnlyTakes};
 ghost use Rattle.station_step.specs.Input.{input_at, IsRefilled, TakeWithin, TakeApart, NoneTakes};
 ghost use Rattle.station_step.specs.Station.{bare_input};
 ghost use Rattle.station_step.specs.Noted.{inputs_of, extras_of, unnoted};
@@ -12,10 +12,10 @@ use crate::ends::Inlet;
 use crate::input::Input;
 use crate::noted::NotedInput;
 use crate::refilled::Refilled;
-use crate::shelf::Shelf;
 use event_graph::Graph;
 use line_base::Date;
 use std::alloc::{AllocError, Global};
+use token_shelf::Shelf;
 
 /// An input with an empty hand for each inlet. No job time is noted yet.
 pub(crate) fn with_empty_hands(

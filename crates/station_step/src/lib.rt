@@ -3,20 +3,16 @@
 #![tactic(auto)]
 
 mod ends;
-mod history;
 mod input;
 mod inputs;
 mod noted;
 mod outlets;
 mod refilled;
-mod shelf;
 mod station;
 mod stepped;
-mod tally;
 mod threads;
 
 pub use ends::{Inlet, Outlet};
-pub use shelf::Shelf;
 pub use station::{Station, meet_at};
 pub use stepped::Stepped;
 pub use threads::stations_may_move_to_another_thread;

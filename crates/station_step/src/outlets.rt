@@ -1,6 +1,6 @@
 ghost use Rattle.std.specs.Prelude.{◌≡◌, ◌≢◌, ℕ, ◌<◌, ◌≤◌, ◌++◌, ◌∷◌, [], map, length, slice_index, IfSome, IfNone};
 ghost use Rattle.std.specs.List.{list_any};
-ghost use Rattle.station_step.specs.Shelf.{queue_at, OnlyPuts};
+ghost use Rattle.token_shelf.specs.Shelf.{queue_at, OnlyPuts};
 ghost use Rattle.station_step.specs.Ends.{outlet_added, bare_outlet, HasRingRoom, HasShelfRoom, is_bounded, HasSpace, HasNoSpace, HasLooked};
 ghost use Rattle.station_step.specs.Station.{outlet_at, PutWithin, PutApart, NonePuts};
 ghost use Rattle.station_step.specs.Kept.{saturating};
@@ -8,8 +8,8 @@ ghost use Rattle.station_step.specs.Noted.{outlets_of, delays_of};
 ghost use Rattle.station_step.specs.Step.{Grows};
 
 use crate::noted::NotedOutlet;
-use crate::shelf::Shelf;
 use line_base::Date;
+use token_shelf::Shelf;
 
 /// Looks for space at each output that knows of none. The answer is the first output that has none after that. No
 /// output is asked where none of them can lack space.

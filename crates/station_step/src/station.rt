@@ -14,7 +14,6 @@ use crate::noted::{
 };
 use crate::outlets::{look_all, put_all};
 use crate::refilled::Refilled;
-use crate::shelf::Shelf;
 use crate::stepped::Stepped;
 use event_graph::Graph;
 use line_base::{Date, Log};
@@ -22,6 +21,7 @@ use live_check::Live;
 use std::alloc::{AllocError, Global};
 use std::marker::Model;
 use std::snapshot::Snapshot;
+use token_shelf::Shelf;
 
 /// A station at work: its log of dates, the ends of its queues, and for each arc into it a hand, which holds the token
 /// that was taken for the next firing.
@@ -49,29 +49,14 @@ pub struct Station {
 
 impl Model for Station {
     ghost use Rattle.station_step.specs.Station.{WorkStation, IsStation};
-    ghost use Rattle.station_step.specs.Noted.{IsNoted, inputs_of, outlets_of};
+    ghost use Rattle.station_step.specs.Noted.{IsNoted, seen_station};
 
     ghost Value = { WorkStation };
 
-    ghost view = { λ s. record {
-      graph = s.graph.value;
-      number = s.number;
-      inputs = inputs_of s.inputs.items;
-      outlets = outlets_of s.outlets.items;
-      log = s.log;
-      made = s.made;
-      turns = s.turns;
-    } };
+    ghost view = { λ s. seen_station s.graph.value s.number s.inputs.items s.outlets.items s.log s.made s.turns };
 
-    ghost invariant = { λ s. IsStation (record {
-      graph = s.graph.value;
-      number = s.number;
-      inputs = inputs_of s.inputs.items;
-      outlets = outlets_of s.outlets.items;
-      log = s.log;
-      made = s.made;
-      turns = s.turns;
-    }) × IsNoted s.graph.value s.number s.inputs.items s.outlets.items s.fixed s.worked.items s.bounded };
+    ghost invariant = { λ s. IsStation (seen_station s.graph.value s.number s.inputs.items s.outlets.items s.log s.made s.turns) ×
+        IsNoted s.graph.value s.number s.inputs.items s.outlets.items s.fixed s.worked.items s.bounded };
 }
 
 impl Station {

@@ -1,4 +1,5 @@
-use Rattle.station_step.proofs.Crossing.{station_send, shelf_send}
+use Rattle.token_shelf.proofs.Crossing.{shelf_send}
+use Rattle.station_step.proofs.Crossing.{station_send}
 use Rattle.station_step.proofs.threads.stations_may_move_to_another_thread.Goals as goal
 
 pub returns-clause-station : goal.returns-clause-station

@@ -4,7 +4,7 @@ use Rattle.line_base.specs.declared.event.Parts.{Parts}
 use Rattle.line_base.specs.Roomy.{RoomyLog, with_date}
 use Rattle.event_graph.specs.Network.{jobs, delay, ins, outs}
 use Rattle.card_queue.specs.Plain.{PlainQueue}
-use Rattle.station_step.specs.Shelf.{queue_at, OnlyTakes}
+use Rattle.token_shelf.specs.Shelf.{queue_at, OnlyTakes}
 use Rattle.station_step.specs.Input.{input_at, IsRefilled, NoneTakes}
 use Rattle.station_step.specs.Ends.{outlet_added}
 use Rattle.station_step.specs.Station.{WorkStation, IsStation, IsSeated, MayPut, outlet_at, bare_input}
@@ -17,6 +17,7 @@ use Rattle.station_step.proofs.Keeping.{kept-waits, kept-fires, IsFiring, fired_
 use Rattle.station_step.proofs.Looking.{AreAlike, alike-looked, NonePuts-alike, noted-same, shelf_room-alike, shelf_room-after_takes}
 use Rattle.station_step.specs.contracts.station.Station.{the_view}
 use Rattle.station_step.proofs.station.Station.step.Goals as goal
+use Rattle.station_step.proofs.station.Station.step.Goals.{After-refill}
 
 -- what the refilling of the hands did to the shelf
 own_waiting : (s now : WorkStation) (noted : List Input) (old mid : List PlainQueue) → s ≡ now → noted ≡ s.inputs → OnlyTakes old mid → ((q : ℕ) → NoneTakes q noted → queue_at mid q ≡ queue_at old q) → MovesItsOwn now old mid
@@ -28,6 +29,14 @@ own_waiting s now noted old mid same noted_is only others =
 each_refilled : (noted before after : List Input) (old mid : List PlainQueue) → noted ≡ before → ((k : ℕ) → k < length noted → IsRefilled old mid (input_at noted k) (input_at after k)) → (k : ℕ) → k < length before → IsRefilled old mid (input_at before k) (input_at after k)
 each_refilled noted before after old mid is each =
     subst (λ (l : List Input). (k : ℕ) → k < length l → IsRefilled old mid (input_at l k) (input_at after k)) is each
+
+-- what it did to the shelf, and what it grew there
+own : (c : After-refill) → MovesItsOwn c.args.self.now c.args.shelf.now c.refill.new.shelf
+own c =
+    own_waiting (the_view c.self.inside) c.args.self.now (inputs_of c.note_job.new.inputs.items) c.args.shelf.now c.refill.new.shelf c.self.view_is c.note_job.ensures.inputs c.refill.ensures.only_takes c.refill.ensures.others
+
+grows : (c : After-refill) → Grows c.args.shelf.now c.refill.new.shelf
+grows c = grows-waits c.args.shelf.now c.refill.new.shelf c.refill.ensures.only_takes
 
 -- ---- the station is done
 
@@ -46,21 +55,18 @@ returns-in-Empty-clause-kept c =
     (kept-waits c.args.shelf.now new (the_view c.self.inside) full (c.self.inside.turns + 1) c.self.invariant.0.an_input_each (c.refill.ensures.count ∙ ap length c.note_job.ensures.inputs) (each_refilled (inputs_of c.note_job.new.inputs.items) (the_view c.self.inside).inputs full c.args.shelf.now c.refill.new.shelf c.note_job.ensures.inputs c.refill.ensures.each) c.refill.ensures.only_takes)
 
 pub returns-in-Empty-clause-grows : goal.returns-in-Empty-clause-grows
-returns-in-Empty-clause-grows c = grows-waits c.args.shelf.now c.refill.new.shelf c.refill.ensures.only_takes
+returns-in-Empty-clause-grows c = grows (goal.at.returns-in-Empty-clause-grows c).After-refill
 
 pub returns-in-Empty-clause-own : goal.returns-in-Empty-clause-own
-returns-in-Empty-clause-own c =
-    own_waiting (the_view c.self.inside) c.args.self.now (inputs_of c.note_job.new.inputs.items) c.args.shelf.now c.refill.new.shelf c.self.view_is c.note_job.ensures.inputs c.refill.ensures.only_takes c.refill.ensures.others
+returns-in-Empty-clause-own c = own (goal.at.returns-in-Empty-clause-own c).After-refill
 
 pub returns-in-Empty-clause-others : goal.returns-in-Empty-clause-others
-returns-in-Empty-clause-others c =
-    let own = own_waiting (the_view c.self.inside) c.args.self.now (inputs_of c.note_job.new.inputs.items) c.args.shelf.now c.refill.new.shelf c.self.view_is c.note_job.ensures.inputs c.refill.ensures.only_takes c.refill.ensures.others in
-    kept-others c.args.shelf.now c.refill.new.shelf c.args.self.now own
+returns-in-Empty-clause-others c = kept-others _ _ _ (own (goal.at.returns-in-Empty-clause-others c).After-refill)
 
 pub returns-in-Empty-clause-ready : goal.returns-in-Empty-clause-ready
 returns-in-Empty-clause-ready c =
-    let own = own_waiting (the_view c.self.inside) c.args.self.now (inputs_of c.note_job.new.inputs.items) c.args.shelf.now c.refill.new.shelf c.self.view_is c.note_job.ensures.inputs c.refill.ensures.only_takes c.refill.ensures.others in
-    ready-others c.args.shelf.now c.refill.new.shelf c.args.self.now own (grows-waits c.args.shelf.now c.refill.new.shelf c.refill.ensures.only_takes)
+    let from = (goal.at.returns-in-Empty-clause-ready c).After-refill in
+    ready-others _ _ _ (own from) (grows from)
 
 -- ---- an output has no space
 
@@ -79,21 +85,18 @@ returns-in-Some-clause-kept c =
     subst (λ (w : WorkStation). IsKept old w → IsKept mid (record s { inputs = full; outlets = looked; turns = turns })) c.self.view_is kept
 
 pub returns-in-Some-clause-grows : goal.returns-in-Some-clause-grows
-returns-in-Some-clause-grows c = grows-waits c.args.shelf.now c.refill.new.shelf c.refill.ensures.only_takes
+returns-in-Some-clause-grows c = grows (goal.at.returns-in-Some-clause-grows c).After-refill
 
 pub returns-in-Some-clause-own : goal.returns-in-Some-clause-own
-returns-in-Some-clause-own c =
-    own_waiting (the_view c.self.inside) c.args.self.now (inputs_of c.note_job.new.inputs.items) c.args.shelf.now c.refill.new.shelf c.self.view_is c.note_job.ensures.inputs c.refill.ensures.only_takes c.refill.ensures.others
+returns-in-Some-clause-own c = own (goal.at.returns-in-Some-clause-own c).After-refill
 
 pub returns-in-Some-clause-others : goal.returns-in-Some-clause-others
-returns-in-Some-clause-others c =
-    let own = own_waiting (the_view c.self.inside) c.args.self.now (inputs_of c.note_job.new.inputs.items) c.args.shelf.now c.refill.new.shelf c.self.view_is c.note_job.ensures.inputs c.refill.ensures.only_takes c.refill.ensures.others in
-    kept-others c.args.shelf.now c.refill.new.shelf c.args.self.now own
+returns-in-Some-clause-others c = kept-others _ _ _ (own (goal.at.returns-in-Some-clause-others c).After-refill)
 
 pub returns-in-Some-clause-ready : goal.returns-in-Some-clause-ready
 returns-in-Some-clause-ready c =
-    let own = own_waiting (the_view c.self.inside) c.args.self.now (inputs_of c.note_job.new.inputs.items) c.args.shelf.now c.refill.new.shelf c.self.view_is c.note_job.ensures.inputs c.refill.ensures.only_takes c.refill.ensures.others in
-    ready-others c.args.shelf.now c.refill.new.shelf c.args.self.now own (grows-waits c.args.shelf.now c.refill.new.shelf c.refill.ensures.only_takes)
+    let from = (goal.at.returns-in-Some-clause-ready c).After-refill in
+    ready-others _ _ _ (own from) (grows from)
 
 -- ---- the station fires
 

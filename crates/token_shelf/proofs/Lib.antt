@@ -1,0 +1,5 @@
+pub mod Rings
+pub mod Tables
+pub mod Growing
+pub mod Laying
+pub mod Crossing

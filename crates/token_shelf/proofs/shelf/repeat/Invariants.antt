@@ -1,0 +1,10 @@
+use Rattle.std.proofs.Common.{◌≡◌, ℕ, ◌+◌, ◌<◌, length, get_or}
+use Rattle.token_shelf.proofs.shelf.repeat.Given as goal
+
+abbrev pub invariant-loop-place : goal.invariant-loop-place
+invariant-loop-place l = record {
+  count : length l.table.items ≡ length l.initial.table.items + l.place;
+  stays : (p : ℕ) → p < length l.initial.table.items → get_or l.table.items p 0 ≡ get_or l.initial.table.items p 0;
+  again : (p : ℕ) → p < l.place → get_or l.table.items (length l.initial.table.items + p) 0 ≡ get_or l.initial.table.items p 0;
+  capacity : l.table.cap ≡ l.initial.table.cap;
+}
