@@ -19,7 +19,7 @@ use Rattle.station_step.specs.declared.ends.Outlet.{Outlet}
 use Rattle.station_step.specs.declared.ends.Inlet.TheVariants as inlet
 use Rattle.station_step.specs.declared.ends.Outlet.TheVariants as outlet
 use Rattle.station_step.specs.declared.input.Input.{Input}
-use Rattle.station_step.specs.Shelf.{queue_at, new_queue}
+use Rattle.token_shelf.specs.Shelf.{queue_at, new_queue}
 use Rattle.station_step.specs.Ends.{inlet_queue, outlet_queue, AreEnds, HasRingRoom, IsUntaken, IsUnfilled}
 use Rattle.station_step.specs.Input.{input_at, empty_handed, NoneTakes}
 use Rattle.station_step.specs.Station.{WorkStation, IsSeated, NonePuts, outlet_at}

@@ -9,7 +9,8 @@ use crate::laying::Ends;
 use line_base::{Date, Log};
 use line_core::State;
 use live_check::Live;
-use station_step::{Shelf, Station};
+use station_step::Station;
+use token_shelf::Shelf;
 use std::alloc::{AllocError, Global};
 use worker_crew::{Team, first_of, log_with};
 

@@ -20,7 +20,7 @@ use Rattle.station_step.specs.declared.ends.Outlet.{Outlet}
 use Rattle.station_step.specs.declared.ends.Inlet.TheVariants as inlet
 use Rattle.station_step.specs.declared.ends.Outlet.TheVariants as outlet
 use Rattle.station_step.specs.declared.input.Input.{Input}
-use Rattle.station_step.specs.Shelf.{queue_at, new_queue}
+use Rattle.token_shelf.specs.Shelf.{queue_at, new_queue}
 use Rattle.station_step.specs.Ends.{IsUntaken, IsUnfilled, HasRingRoom, inlet_queue, outlet_queue, bare_inlet, bare_outlet}
 use Rattle.station_step.specs.Input.{empty_handed, input_at, NoneTakes}
 use Rattle.station_step.specs.Station.{WorkStation, IsStation, IsSeated, AreApart, NonePuts, outlet_at, new_station, bare_input, bare_station}

@@ -7,7 +7,8 @@ use Rattle.line_base.specs.contracts.log.Log.TheInside as LogInside
 use Rattle.line_base.specs.contracts.log.Logs as Logs
 use Rattle.line_base.specs.contracts.log.Logs.TheInside as LogsInside
 use Rattle.station_step.specs.contracts.station.Station as Station
-use Rattle.station_step.proofs.Crossing.{station_send, shelf_send}
+use Rattle.token_shelf.proofs.Crossing.{shelf_send}
+use Rattle.station_step.proofs.Crossing.{station_send}
 use Rattle.worker_crew.specs.contracts.team.Team as Team
 use Rattle.worker_crew.specs.contracts.team.Team.TheInside as TeamInside
 use Rattle.worker_crew.specs.contracts.crew.Crew as Crew

@@ -9,7 +9,8 @@ ghost use Rattle.worker_crew.specs.Meeting.{OutletMet, InletMet};
 ghost use Rattle.worker_crew.specs.Cleared.{cleared_team};
 
 use crate::clearing::clear_stations;
-use station_step::{Shelf, Station, meet_at};
+use station_step::{Station, meet_at};
+use token_shelf::Shelf;
 use std::marker::Model;
 
 /// The stations of one worker, and the shelf with the queues between them.

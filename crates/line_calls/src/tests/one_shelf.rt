@@ -9,7 +9,8 @@ ghost use Rattle.line_calls.specs.OneShelf.{IsFreshShelf, IsLocal, IsLine, local
 use event_graph::Graph;
 use line_base::{Date, Log};
 use live_check::Live;
-use station_step::{Inlet, Outlet, Shelf, Station, Stepped};
+use station_step::{Inlet, Outlet, Station, Stepped};
+use token_shelf::Shelf;
 use std::alloc::{AllocError, Global};
 
 /// The most turns that a station makes.
