@@ -3,8 +3,8 @@
 #![tactic(auto)]
 
 ghost use Rattle.std.specs.Prelude.{◌≡◌, ◌+◌, ◌<◌, ◌^◌, [], length, IfOk};
-ghost use mathlib.Core.List.{IsPrefix};
 ghost use Rattle.card_queue.specs.Queue.{IsQueue, IsMet};
+ghost use mathlib.Core.List.{IsPrefix};
 
 mod plain;
 mod put;

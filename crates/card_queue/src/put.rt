@@ -14,9 +14,9 @@ pub struct Put {
 
 impl Model for Put {
     ghost use Rattle.std.specs.Prelude.{◌-◌, ◌≤◌, take, drop, length};
-    ghost use Rattle.rtrb.specs.Ring.{sent, producer_capacity};
-    ghost use Rattle.card_queue.specs.Ring.{ring_of_producer};
     ghost use Rattle.card_queue.specs.Put.{PutEnd};
+    ghost use Rattle.card_queue.specs.Ring.{ring_of_producer};
+    ghost use Rattle.rtrb.specs.Ring.{sent, producer_capacity};
 
     ghost Value = { PutEnd };
 

@@ -13,9 +13,9 @@ pub struct Take {
 
 impl Model for Take {
     ghost use Rattle.std.specs.Prelude.{◌<◌, ◌^◌};
-    ghost use Rattle.rtrb.specs.Ring.{received, known_items, consumer_capacity};
     ghost use Rattle.card_queue.specs.Ring.{ring_of_consumer};
     ghost use Rattle.card_queue.specs.Take.{TakeEnd};
+    ghost use Rattle.rtrb.specs.Ring.{received, known_items, consumer_capacity};
 
     ghost Value = { TakeEnd };
 

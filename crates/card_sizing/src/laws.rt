@@ -1,8 +1,8 @@
 ghost use Rattle.std.specs.Prelude.{◌≡◌, true};
-ghost use Rattle.plant_model.specs.declared.plant.Plant.{Plant};
-ghost use Rattle.plant_model.specs.Sound.{IsSound};
-ghost use Rattle.card_sizing.specs.Sized.{has_single_count};
 ghost use Rattle.card_sizing.specs.Laws.{CountsAreSound, MoreCardsServe};
+ghost use Rattle.card_sizing.specs.Sized.{has_single_count};
+ghost use Rattle.plant_model.specs.Sound.{IsSound};
+ghost use Rattle.plant_model.specs.declared.plant.Plant.{Plant};
 
 /// A law of the definitions: a sound plant that has a single count is sound with each count from the lowest to 10,000.
 pub fn sized_plants_are_sound()

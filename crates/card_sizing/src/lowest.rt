@@ -1,8 +1,8 @@
 //! Which plants have a single count of cards, and from which count on their stock has a card each.
 ghost use Rattle.std.specs.Prelude.{◌≡◌, ◌≤◌, IfOk};
+ghost use Rattle.card_sizing.specs.Sized.{has_single_count, most_stock, most_path_stock, lowest};
 ghost use Rattle.line_base.specs.Limits.{most_cards};
 ghost use Rattle.plant_model.specs.Sound.{IsSound};
-ghost use Rattle.card_sizing.specs.Sized.{has_single_count, most_stock, most_path_stock, lowest};
 
 use plant_model::{Layout, Plant, Policy};
 use std::alloc::{AllocError, Global};

@@ -1,7 +1,7 @@
 //! A copy of a plant with another count of cards.
 ghost use Rattle.std.specs.Prelude.{◌≡◌, ◌≤◌, map, IfOk};
-ghost use Rattle.plant_model.specs.declared.plant.Plant.{Plant};
 ghost use Rattle.card_sizing.specs.Sized.{policy_with, cards_under, stage_with, sized};
+ghost use Rattle.plant_model.specs.declared.plant.Plant.{Plant};
 
 use line_base::Items;
 use plant_model::{CardLoop, Machine, Plant, Policy, Stage};

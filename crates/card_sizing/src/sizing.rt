@@ -1,12 +1,12 @@
 //! The least count of cards that serves.
 ghost use Rattle.std.specs.Prelude.{◌≡◌, true, false, ◌↔◌, IfOk, OnOk, IfErr, IsErrOf};
-ghost use Rattle.line_base.specs.Limits.{most_cards};
-ghost use Rattle.plant_model.specs.Sound.{IsSound};
-ghost use Rattle.plant_model.specs.Graph.{graph};
-ghost use Rattle.event_graph.specs.Live.{IsLive};
-ghost use Rattle.card_sizing.specs.Sized.{has_single_count, lowest};
 ghost use Rattle.card_sizing.specs.Serving.{Serves};
+ghost use Rattle.card_sizing.specs.Sized.{has_single_count, lowest};
 ghost use Rattle.card_sizing.specs.Sizing.{NoneServesBelow, IsBelow, IsSizingRefusal};
+ghost use Rattle.event_graph.specs.Live.{IsLive};
+ghost use Rattle.line_base.specs.Limits.{most_cards};
+ghost use Rattle.plant_model.specs.Graph.{graph};
+ghost use Rattle.plant_model.specs.Sound.{IsSound};
 
 use crate::lowest::{has_single_count, lowest_count};
 use crate::trying::try_count;

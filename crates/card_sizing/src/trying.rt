@@ -1,14 +1,14 @@
 //! One count of cards tried.
 ghost use Rattle.std.specs.Prelude.{◌≡◌, ◌-◌, ◌≤◌, true, IfOk, MatchOption};
-ghost use Rattle.line_base.specs.Limits.{most_cards};
-ghost use Rattle.plant_model.specs.Sound.{IsSound};
-ghost use Rattle.plant_model.specs.Graph.{graph};
+ghost use Rattle.card_sizing.specs.Serving.{wait_until, NoneWaitsLonger, IsFirstLate};
+ghost use Rattle.card_sizing.specs.Sized.{has_single_count, sized, lowest};
+ghost use Rattle.card_sizing.specs.Trying.{Tells, ShowsItsCircuit, NamesItsCircuit};
 ghost use Rattle.event_graph.specs.Network.{stations, jobs};
 ghost use Rattle.event_graph.specs.Table.{date_in};
+ghost use Rattle.line_base.specs.Limits.{most_cards};
 ghost use Rattle.line_core.specs.Run.{IsLeastTable};
-ghost use Rattle.card_sizing.specs.Sized.{has_single_count, sized, lowest};
-ghost use Rattle.card_sizing.specs.Serving.{wait_until, NoneWaitsLonger, IsFirstLate};
-ghost use Rattle.card_sizing.specs.Trying.{Tells, ShowsItsCircuit, NamesItsCircuit};
+ghost use Rattle.plant_model.specs.Graph.{graph};
+ghost use Rattle.plant_model.specs.Sound.{IsSound};
 
 use crate::sized::sized_plant;
 use crate::sizing::Below;

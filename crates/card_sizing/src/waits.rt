@@ -1,8 +1,8 @@
 //! How long jobs wait for their delivery.
 ghost use Rattle.std.specs.Prelude.{◌≡◌, ◌-◌, MatchOption};
+ghost use Rattle.card_sizing.specs.Serving.{wait_until, NoneWaitsLonger, IsFirstLate};
 ghost use Rattle.event_graph.specs.Network.{stations, jobs};
 ghost use Rattle.event_graph.specs.Table.{date_in};
-ghost use Rattle.card_sizing.specs.Serving.{wait_until, NoneWaitsLonger, IsFirstLate};
 
 use line_core::Table;
 use plant_model::FEED;

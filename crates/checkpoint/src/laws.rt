@@ -1,8 +1,8 @@
-ghost use Rattle.line_base.specs.declared.event.Parts.{Parts};
-ghost use Rattle.event_graph.specs.Network.{IsGraph};
-ghost use Rattle.event_graph.specs.Limits.{IsWithinLimits};
-ghost use Rattle.checkpoint.specs.Length.{HasFewArcs, HasShortLabels, FitsLimit};
 ghost use Rattle.checkpoint.specs.Laws.{SaysOneState};
+ghost use Rattle.checkpoint.specs.Length.{HasFewArcs, HasShortLabels, FitsLimit};
+ghost use Rattle.event_graph.specs.Limits.{IsWithinLimits};
+ghost use Rattle.event_graph.specs.Network.{IsGraph};
+ghost use Rattle.line_base.specs.declared.event.Parts.{Parts};
 
 /// A law of the definitions: the texts of different states of a graph, in either format, are different.
 ///

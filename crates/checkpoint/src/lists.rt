@@ -1,13 +1,13 @@
 //! The lines of stations and arcs.
 ghost use Rattle.std.specs.Prelude.{◌≡◌, ℕ, ◌^◌, ◌<◌, ◌≤◌, ◌++◌, [], length, List, true, nat_lt, IfOk, IfErr};
-ghost use Rattle.line_base.specs.Roomy.{dates_of};
+ghost use Rattle.checkpoint.specs.Answers.{Tells};
+ghost use Rattle.checkpoint.specs.Reading.{HasRead, HasReadLogs, HasReadPlaces, KeepsLine, or_first, head_count, arcs_from, TellsPassing, TellsLine};
+ghost use Rattle.checkpoint.specs.Text.{station_words, IsReadFor, AreGiven};
 ghost use Rattle.event_graph.specs.Network.{stations, jobs, arc_count};
+ghost use Rattle.line_base.specs.Roomy.{dates_of};
 ghost use Rattle.line_core.specs.ArcTokens.{HasRoom};
 ghost use Rattle.line_core.specs.Parts.{refuse_if};
 ghost use Rattle.line_core.specs.declared.error.StateError.TheVariants as Core;
-ghost use Rattle.checkpoint.specs.Text.{station_words, IsReadFor, AreGiven};
-ghost use Rattle.checkpoint.specs.Reading.{HasRead, HasReadLogs, HasReadPlaces, KeepsLine, or_first, head_count, arcs_from, TellsPassing, TellsLine};
-ghost use Rattle.checkpoint.specs.Answers.{Tells};
 
 use crate::error::CheckpointError;
 use crate::format::Format;

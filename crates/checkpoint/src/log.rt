@@ -1,10 +1,10 @@
 //! Lists of dates, as a line has them.
 ghost use Rattle.std.specs.Prelude.{◌≡◌, ◌^◌, ◌<◌, ◌≤◌, ◌++◌, [], length, true, if◌then◌else◌, nat_lt, decimal, codes, IfSome, IfOk};
+ghost use Rattle.checkpoint.specs.Answers.{stopped_at};
+ghost use Rattle.checkpoint.specs.Reading.{KeepsDates, KeepsLine, TellsCount, TellsDate, TellsDates, TellsLine};
+ghost use Rattle.checkpoint.specs.Text.{date_word};
 ghost use Rattle.line_base.specs.Roomy.{with_date};
 ghost use Rattle.line_core.specs.Parts.{LATEST_GIVEN};
-ghost use Rattle.checkpoint.specs.Text.{date_word};
-ghost use Rattle.checkpoint.specs.Reading.{KeepsDates, KeepsLine, TellsCount, TellsDate, TellsDates, TellsLine};
-ghost use Rattle.checkpoint.specs.Answers.{stopped_at};
 
 use crate::error::CheckpointError;
 use crate::format::Format;

@@ -1,12 +1,12 @@
 ghost use Rattle.std.specs.Prelude.{◌≡◌, ℕ, ◌^◌, ◌<◌, [], length, List, None, Some, IfOk, IfErr, OnOk};
-ghost use Rattle.line_base.specs.Roomy.{dates_of};
+ghost use Rattle.checkpoint.specs.Answers.{IsReadOf, Tells, FindsStates};
+ghost use Rattle.checkpoint.specs.Reading.{HasRead, head_count, end_from};
+ghost use Rattle.checkpoint.specs.Text.{lines, filled, delayed_arcs, IsReadFor, IsTextOf, AreGiven};
+ghost use Rattle.checkpoint.specs.declared.format.Format.TheVariants.{Differences};
 ghost use Rattle.event_graph.specs.Network.{stations};
+ghost use Rattle.line_base.specs.Roomy.{dates_of};
 ghost use Rattle.line_core.specs.ArcTokens.{HasRoom};
 ghost use Rattle.line_core.specs.Run.{IsReached};
-ghost use Rattle.checkpoint.specs.declared.format.Format.TheVariants.{Differences};
-ghost use Rattle.checkpoint.specs.Text.{lines, filled, delayed_arcs, IsReadFor, IsTextOf, AreGiven};
-ghost use Rattle.checkpoint.specs.Reading.{HasRead, head_count, end_from};
-ghost use Rattle.checkpoint.specs.Answers.{IsReadOf, Tells, FindsStates};
 
 use crate::error::CheckpointError;
 use crate::format::Format;

@@ -1,5 +1,5 @@
-ghost use Rattle.std.specs.Prelude.{◌≡◌, ◌≤◌, ◌++◌, length, true, false, decimal};
 ghost use Rattle.std.specs.List.{prefix_len};
+ghost use Rattle.std.specs.Prelude.{◌≡◌, ◌≤◌, ◌++◌, length, true, false, decimal};
 ghost use Rattle.checkpoint.specs.Reading.{is_word_byte, TellsPassing, TellsWord};
 
 use line_base::digits;

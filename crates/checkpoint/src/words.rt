@@ -1,8 +1,8 @@
 //! The words of dates.
 ghost use Rattle.std.specs.Prelude.{◌≡◌, ℕ, ◌-◌, ◌<◌, ◌≤◌, ◌∷◌, decimal, IfSome, Some};
-ghost use Rattle.line_core.specs.Parts.{LATEST_GIVEN};
-ghost use Rattle.checkpoint.specs.declared.format.Format.TheVariants.{Differences};
 ghost use Rattle.checkpoint.specs.Text.{date_word};
+ghost use Rattle.checkpoint.specs.declared.format.Format.TheVariants.{Differences};
+ghost use Rattle.line_core.specs.Parts.{LATEST_GIVEN};
 
 use crate::format::Format;
 use line_base::{Date, number_of};

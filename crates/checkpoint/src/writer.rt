@@ -1,7 +1,7 @@
 ghost use Rattle.std.specs.Prelude.{◌≡◌, ◌≢◌, true, false, ◌++◌, ◌<◌, [], length, map, decimal, IfOk};
-ghost use Rattle.event_graph.specs.Network.{stations, arc_count};
-ghost use Rattle.checkpoint.specs.declared.format.Format.TheVariants.{Differences};
 ghost use Rattle.checkpoint.specs.Text.{date_word, dates_text, delayed_arcs, delays_line, two_words, station_lines, place_lines, filled, text};
+ghost use Rattle.checkpoint.specs.declared.format.Format.TheVariants.{Differences};
+ghost use Rattle.event_graph.specs.Network.{stations, arc_count};
 
 use event_graph::{Graph, Marking};
 use line_base::{Date, digits};

@@ -1,6 +1,6 @@
-ghost use Rattle.plant_model.specs.declared.plant.Plant.{Plant};
-ghost use Rattle.plant_model.specs.Sound.{IsSound};
 ghost use Rattle.circuit_sums.specs.Laws.{StagesLeadOn, StagesStartAtStations, PathsLeadOn, BoundsHaveCircuits, BoundsHold};
+ghost use Rattle.plant_model.specs.Sound.{IsSound};
+ghost use Rattle.plant_model.specs.declared.plant.Plant.{Plant};
 
 /// A law of the graph of a plant: the onward arcs of a stage lead from its release through its machines to what it feeds,
 /// with its starting stock, and those of the stages of a part of a path from the release of the first to what the last

@@ -1,7 +1,7 @@
 ghost use Rattle.std.specs.Prelude.{◌≡◌, ◌+◌, ◌-◌, ◌<◌, ◌≤◌, ◌++◌, length, IfOk, OnOk, All};
+ghost use Rattle.circuit_sums.specs.Circuits.{stage_circuit, kanban_circuits, extended_circuits, conwip_circuits, policy_circuits, loop_circuits, circuits_with, circuits, IsCardCircuit};
 ghost use Rattle.plant_model.specs.Graph.{graph as plant_graph};
 ghost use Rattle.plant_model.specs.Sound.{IsSound};
-ghost use Rattle.circuit_sums.specs.Circuits.{stage_circuit, kanban_circuits, extended_circuits, conwip_circuits, policy_circuits, loop_circuits, circuits_with, circuits, IsCardCircuit};
 
 use crate::around::around;
 use crate::circuit::{CardCircuit, CircuitKind};

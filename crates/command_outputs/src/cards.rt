@@ -1,6 +1,6 @@
 //! What `cards` writes.
-ghost use Rattle.std.specs.Prelude.{◌≡◌, ◌++◌, IfOk, OnOk};
 ghost use Rattle.std.specs.List.{flat_map};
+ghost use Rattle.std.specs.Prelude.{◌≡◌, ◌++◌, IfOk, OnOk};
 ghost use Rattle.command_outputs.specs.CardsText.{spaced, job_words, dead_words, below_words, cards_text};
 
 use card_sizing::{Below, Sizing};

@@ -1,11 +1,11 @@
 //! What `whatif` writes.
 ghost use Rattle.std.specs.Prelude.{◌≡◌, ◌≤◌, ◌<◌, ◌^◌, IfOk, OnOk, OnErr};
-ghost use Rattle.line_io.specs.SinkView.{PutsAll, PutsFront};
-ghost use Rattle.line_io.specs.Faults.{Rose};
-ghost use Rattle.line_io.specs.Outgoing.{Pushed, stream};
-ghost use Rattle.event_graph.specs.Network.{stations};
 ghost use Rattle.command_outputs.specs.ChangesText.{change_line, lines_of_dates, lines_of_date, lines_of_station, change_lines, changes_text};
 ghost use Rattle.command_outputs.specs.Written.{IsWritten};
+ghost use Rattle.event_graph.specs.Network.{stations};
+ghost use Rattle.line_io.specs.Faults.{Rose};
+ghost use Rattle.line_io.specs.Outgoing.{Pushed, stream};
+ghost use Rattle.line_io.specs.SinkView.{PutsAll, PutsFront};
 
 use line_base::Date;
 use line_io::{Failed, Outgoing, Sink};

@@ -1,8 +1,8 @@
 //! The stations of a circuit, from the one with the least number on.
-ghost use Rattle.std.specs.Prelude.{◌≡◌, ◌<◌, ◌++◌, All, OnOk};
 ghost use Rattle.std.specs.List.{flat_map};
-ghost use Rattle.event_graph.specs.Network.{stations, arc_count};
+ghost use Rattle.std.specs.Prelude.{◌≡◌, ◌<◌, ◌++◌, All, OnOk};
 ghost use Rattle.command_outputs.specs.CycleText.{spaced_label, AreStationsAdded};
+ghost use Rattle.event_graph.specs.Network.{stations, arc_count};
 
 use event_graph::Graph;
 use line_graph::circuit_stations;

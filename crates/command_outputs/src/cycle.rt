@@ -1,9 +1,9 @@
 //! What `cycle` writes.
-ghost use Rattle.std.specs.Prelude.{◌≡◌, ◌<◌, ◌≤◌, ◌++◌, length, All, IfOk, OnOk};
 ghost use Rattle.std.specs.List.{flat_map, range_with_len};
-ghost use Rattle.event_graph.specs.Network.{stations, arc_count};
-ghost use Rattle.cycle_time.specs.Certificate.{IsSmall};
+ghost use Rattle.std.specs.Prelude.{◌≡◌, ◌<◌, ◌≤◌, ◌++◌, length, All, IfOk, OnOk};
 ghost use Rattle.command_outputs.specs.CycleText.{IsCircuitText, IsCycleText, ratio_line, sums_words, potential_words, potential_line};
+ghost use Rattle.cycle_time.specs.Certificate.{IsSmall};
+ghost use Rattle.event_graph.specs.Network.{stations, arc_count};
 
 use crate::circuit::add_circuit_stations;
 use cycle_time::{Certificate, time_of, tokens_of};

@@ -1,7 +1,7 @@
 ghost use Rattle.std.specs.Prelude.{◌≡◌, ◌≤◌, IfSome};
-ghost use Rattle.line_base.specs.Limits.{most_workers};
 ghost use Rattle.command_words.specs.Numbers.{number_in, most_ring_room};
 ghost use Rattle.command_words.specs.Ranges.{AreWorkers, IsRingRoom};
+ghost use Rattle.line_base.specs.Limits.{most_workers};
 
 use crate::limits::MAX_RING_ROOM;
 use line_base::{MAX_WORKERS, number_of};

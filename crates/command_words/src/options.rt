@@ -1,7 +1,7 @@
 ghost use Rattle.std.specs.Prelude.{◌≡◌, codes, option_map, IfSome, Some};
 ghost use Rattle.std.specs.Str.{bytes_eq};
-ghost use Rattle.command_words.specs.Ranges.{AreInRange};
 ghost use Rattle.command_words.specs.Options.{seen, none_given, once, with_flag, with_value, options_after, takes_no_value, has_stand, texts};
+ghost use Rattle.command_words.specs.Ranges.{AreInRange};
 
 use crate::first::first_word;
 use crate::limits::MAX_FIRINGS;

@@ -1,6 +1,6 @@
 ghost use Rattle.std.specs.Prelude.{◌≡◌, option_map, unwrap_or, IfSome};
-ghost use Rattle.command_words.specs.Ranges.{AreInRange, AreSettingsInRange, IsModeInRange};
 ghost use Rattle.command_words.specs.Options.{seen, texts};
+ghost use Rattle.command_words.specs.Ranges.{AreInRange, AreSettingsInRange, IsModeInRange};
 ghost use Rattle.command_words.specs.Settings.{way_of, way_seen, asked, settings_seen};
 
 use crate::options::{Options, options_of};

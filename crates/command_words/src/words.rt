@@ -1,9 +1,9 @@
 ghost use Rattle.std.specs.Prelude.{◌≡◌, ◌↔◌, IfOk, IsErrOf, Some, None};
-ghost use Rattle.command_words.specs.declared.command.Command.TheVariants.{Check, Cycle};
 ghost use Rattle.command_words.specs.Options.{texts};
 ghost use Rattle.command_words.specs.Ranges.{IsInRange};
 ghost use Rattle.command_words.specs.Settings.{settings_seen, asked};
 ghost use Rattle.command_words.specs.Words.{IsReadAs, alone, run_command, resume_command, resume_slots_command, with_options, after_big, after_resume, after_replay, after_whatif, after_cards, plant_command, after_plant_word, command_of};
+ghost use Rattle.command_words.specs.declared.command.Command.TheVariants.{Check, Cycle};
 
 use crate::command::{Command, Stop, WordsError};
 use crate::file_name::FileName;

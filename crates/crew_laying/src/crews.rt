@@ -1,7 +1,7 @@
 ghost use Rattle.std.specs.Prelude.{◌≡◌, ◌≤◌, IfOk};
-ghost use Rattle.event_graph.specs.Reached.{Reached};
 ghost use Rattle.crew_laying.specs.Making.{MayHold};
 ghost use Rattle.crew_laying.specs.NewCrews.{AreNewCrews};
+ghost use Rattle.event_graph.specs.Reached.{Reached};
 
 use crate::making::teams_of;
 use line_core::State;

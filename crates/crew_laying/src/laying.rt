@@ -1,7 +1,7 @@
 ghost use Rattle.std.specs.Prelude.{◌≡◌, ◌≢◌, ◌+◌, ◌<◌, ◌≤◌, ◌^◌, [], None, Some, map, length, replicate, IfOk, OnOk, slice_set};
+ghost use Rattle.crew_laying.specs.Making.{room_on, FitsRoom, MayHold, HasRing, QueueEnds, outlets_at, inlets_at, firsts_at, with_one, with_ends, without, putter, taker, AreLaid};
 ghost use Rattle.event_graph.specs.Network.{stations, jobs, arc, arc_count, IsGraph};
 ghost use Rattle.event_graph.specs.State.{place};
-ghost use Rattle.crew_laying.specs.Making.{room_on, FitsRoom, MayHold, HasRing, QueueEnds, outlets_at, inlets_at, firsts_at, with_one, with_ends, without, putter, taker, AreLaid};
 
 use card_queue::queue;
 use line_base::Date;

@@ -1,17 +1,17 @@
 ghost use Rattle.std.specs.Prelude.{◌≡◌, ℕ, ◌+◌, ◌<◌, ◌≤◌, length, map, IfOk, OnOk};
+ghost use Rattle.crew_laying.specs.Making.{outlets_at, inlets_at, firsts_at, new_shelf, without, MayHold, MayShelve, AreFitFrom, IsNewStation, AreNewStations, IsNewTeam, AreNewTeams, SameStationsFrom, SameShelvesFrom};
 ghost use Rattle.event_graph.specs.Network.{stations, jobs};
 ghost use Rattle.event_graph.specs.State.{log};
 ghost use Rattle.worker_crew.specs.Share.{first_of};
 ghost use Rattle.worker_crew.specs.Teams.{AreTeams, AreOfRoom, AreAllMet, HaveBegun};
-ghost use Rattle.crew_laying.specs.Making.{outlets_at, inlets_at, firsts_at, new_shelf, without, MayHold, MayShelve, AreFitFrom, IsNewStation, AreNewStations, IsNewTeam, AreNewTeams, SameStationsFrom, SameShelvesFrom};
 
 use crate::laying::Ends;
 use line_base::{Date, Log};
 use line_core::State;
 use live_check::Live;
 use station_step::Station;
-use token_shelf::Shelf;
 use std::alloc::{AllocError, Global};
+use token_shelf::Shelf;
 use worker_crew::{Team, first_of, log_with};
 
 /// A copy of the log of station `t`, with room for a date of each job.

@@ -1,7 +1,7 @@
 ghost use Rattle.std.specs.Prelude.{◌≡◌, ◌≤◌, ◌<◌, ◌^◌, length, All, IsTrue, ◌↔◌, neg_ℤ, pos, ◌≤ℤ◌, ◌+ℤ◌};
-ghost use Rattle.event_graph.specs.Network.{stations, arc_count};
-ghost use Rattle.cycle_time.specs.Weight.{weight, ArePotentials};
 ghost use Rattle.cycle_time.specs.Certificate.{HasRatio, IsIdle, IsCertificate, HasNoGreaterRatio, NoneVaries, IsSmall};
+ghost use Rattle.cycle_time.specs.Weight.{weight, ArePotentials};
+ghost use Rattle.event_graph.specs.Network.{stations, arc_count};
 
 use crate::certificate::Certificate;
 use crate::circuit::{is_circuit, time_of, time_on, tokens_of};

@@ -1,8 +1,8 @@
-ghost use Rattle.std.specs.Prelude.{◌≡◌, ◌≢◌, ℕ, ◌+◌, ◌*◌, ◌<◌, ◌≤◌, length, All, AllPairs, IsTrue, ◌↔◌};
 ghost use Rattle.std.specs.List.{Contains};
+ghost use Rattle.std.specs.Prelude.{◌≡◌, ◌≢◌, ℕ, ◌+◌, ◌*◌, ◌<◌, ◌≤◌, length, All, AllPairs, IsTrue, ◌↔◌};
+ghost use Rattle.event_graph.specs.Circuit.{IsWalk, IsCircuit, starting_stations, tokens_on, time_along};
 ghost use Rattle.event_graph.specs.Network.{arc_count, delay};
 ghost use Rattle.event_graph.specs.Term.{work};
-ghost use Rattle.event_graph.specs.Circuit.{IsWalk, IsCircuit, starting_stations, tokens_on, time_along};
 
 use event_graph::Graph;
 

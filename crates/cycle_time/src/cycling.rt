@@ -1,10 +1,10 @@
 ghost use Rattle.std.specs.Prelude.{◌≡◌, ◌<◌, ◌≤◌, ◌^◌, map, pos, length, All, IfOk, OnOk, IfErr, MatchOption};
-ghost use Rattle.event_graph.specs.Network.{stations};
-ghost use Rattle.event_graph.specs.Faults.{IsFirst};
-ghost use Rattle.event_graph.specs.Varying.{Varies};
 ghost use Rattle.cycle_time.specs.Certificate.{NoneVaries, SaysWhy};
 ghost use Rattle.cycle_time.specs.CycleTime.{IsCycleTime};
 ghost use Rattle.cycle_time.specs.Ratio.{IsRatio, Holds};
+ghost use Rattle.event_graph.specs.Faults.{IsFirst};
+ghost use Rattle.event_graph.specs.Network.{stations};
+ghost use Rattle.event_graph.specs.Varying.{Varies};
 
 use crate::certificate::{Certificate, CycleError};
 use crate::finding::{Found, search};

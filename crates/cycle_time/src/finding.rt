@@ -1,6 +1,6 @@
 ghost use Rattle.std.specs.Prelude.{◌≡◌, ℕ, ◌≤◌, ◌<◌, IfOk};
-ghost use Rattle.event_graph.specs.Network.{stations};
 ghost use Rattle.cycle_time.specs.Search.{IsModest, Finds};
+ghost use Rattle.event_graph.specs.Network.{stations};
 
 use crate::tree::{Sweep, Tree};
 use crate::weights::{Weighing, Weights};

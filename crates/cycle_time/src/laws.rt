@@ -1,11 +1,11 @@
-ghost use Rattle.std.specs.Prelude.{ℕ, List};
 ghost use Rattle.std.specs.List.Sorted.{IsNonDecreasing};
-ghost use Rattle.line_base.specs.declared.event.Parts.{Parts};
-ghost use Rattle.event_graph.specs.Network.{IsGraph};
-ghost use Rattle.event_graph.specs.Circuit.{IsCircuit};
-ghost use Rattle.cycle_time.specs.declared.certificate.Certificate.{Certificate};
+ghost use Rattle.std.specs.Prelude.{ℕ, List};
 ghost use Rattle.cycle_time.specs.Certificate.{IsCertificate, HasNoGreaterRatio, NoneVaries};
 ghost use Rattle.cycle_time.specs.Dates.{NoneIsNegative, BoundsDates, HoldsBack};
+ghost use Rattle.cycle_time.specs.declared.certificate.Certificate.{Certificate};
+ghost use Rattle.event_graph.specs.Circuit.{IsCircuit};
+ghost use Rattle.event_graph.specs.Network.{IsGraph};
+ghost use Rattle.line_base.specs.declared.event.Parts.{Parts};
 
 /// A law of the definitions: where a ratio has a certificate, no circuit has a greater one.
 ///

@@ -1,9 +1,9 @@
-ghost use Rattle.std.specs.Prelude.{◌≡◌, ◌<◌, ◌≤◌, ◌*◌, length, All};
 ghost use Rattle.std.specs.Int.{IsGcd};
-ghost use Rattle.event_graph.specs.Network.{arc_count};
+ghost use Rattle.std.specs.Prelude.{◌≡◌, ◌<◌, ◌≤◌, ◌*◌, length, All};
+ghost use Rattle.cycle_time.specs.Ratio.{IsRatio};
 ghost use Rattle.event_graph.specs.Circuit.{IsCircuit};
 ghost use Rattle.event_graph.specs.Live.{IsLive};
-ghost use Rattle.cycle_time.specs.Ratio.{IsRatio};
+ghost use Rattle.event_graph.specs.Network.{arc_count};
 
 use crate::circuit::{time_of, tokens_of};
 use event_graph::Graph;

@@ -1,7 +1,7 @@
 ghost use Rattle.std.specs.Prelude.{◌≡◌, ℕ, ◌+◌, ◌*◌, ◌^◌, ◌<◌, ◌≤◌, length, reverse, drop, slice_index, All, IfOk, IfNone, IfSome, MatchBool, MatchOption};
-ghost use Rattle.event_graph.specs.Network.{stations, arc_count, EndsAt};
-ghost use Rattle.cycle_time.specs.declared.weights.Weighing.{Weighing};
 ghost use Rattle.cycle_time.specs.Search.{most_gain, AreWeights, IsGrown, IsBetter, IsBestOffer, IsRaisedAt, IsRest, step_of, IsRaised, Covers, HasRisen, IsWithin, Enter, IsSoonReached, IsHeavy};
+ghost use Rattle.cycle_time.specs.declared.weights.Weighing.{Weighing};
+ghost use Rattle.event_graph.specs.Network.{stations, arc_count, EndsAt};
 
 use crate::weights::Weights;
 use event_graph::Graph;

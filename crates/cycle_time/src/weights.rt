@@ -1,6 +1,6 @@
 ghost use Rattle.std.specs.Prelude.{◌≡◌, ◌*◌, ◌<◌, ◌≤◌, length, slice_index, IfOk};
-ghost use Rattle.event_graph.specs.Network.{arc_count};
 ghost use Rattle.cycle_time.specs.Search.{gain, loss, IsModest, AreWeights};
+ghost use Rattle.event_graph.specs.Network.{arc_count};
 
 use crate::circuit::time_on;
 use event_graph::Graph;

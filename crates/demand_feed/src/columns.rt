@@ -1,10 +1,10 @@
-ghost use Rattle.std.specs.Prelude.{◌≡◌, ◌≤◌, ◌<◌, ◌==◌, All, Contains, IfErr, IfOk, Ok, length};
 ghost use Rattle.std.specs.List.{position_or_len};
 ghost use Rattle.std.specs.List.Sorted.{IsStrictlyIncreasing};
-ghost use Rattle.line_base.specs.declared.limits.TheConstants.{MAX_CHECKPOINT_BYTES, MAX_COLUMN, MAX_TIME};
+ghost use Rattle.std.specs.Prelude.{◌≡◌, ◌≤◌, ◌<◌, ◌==◌, All, Contains, IfErr, IfOk, Ok, length};
 ghost use Rattle.demand_feed.specs.FeedError.{TellsBadRecord};
 ghost use Rattle.demand_feed.specs.JobTimes.{field_of, numbers_in};
 ghost use Rattle.demand_feed.specs.Times.{times_of};
+ghost use Rattle.line_base.specs.declared.limits.TheConstants.{MAX_CHECKPOINT_BYTES, MAX_COLUMN, MAX_TIME};
 
 use crate::error::FeedError;
 use crate::rows::{Rows, read_rows};

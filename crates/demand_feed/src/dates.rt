@@ -1,7 +1,7 @@
 ghost use Rattle.std.specs.Prelude.{◌≡◌, ◌≤◌, ◌<◌, All, IfErr, IfOk, Ok, vec_len};
-ghost use Rattle.line_base.specs.declared.limits.TheConstants.{MAX_DEMAND_DATE};
 ghost use Rattle.demand_feed.specs.Dates.{dates_of};
 ghost use Rattle.demand_feed.specs.FeedError.{TellsBadRecord};
+ghost use Rattle.line_base.specs.declared.limits.TheConstants.{MAX_DEMAND_DATE};
 
 use crate::error::FeedError;
 use crate::rows::{Rows, read_rows};

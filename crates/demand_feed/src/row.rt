@@ -1,5 +1,5 @@
-ghost use Rattle.std.specs.Prelude.{◌≡◌, ◌≤◌, ◌++◌, not, true, All, IfOk, option_map};
 ghost use Rattle.std.specs.List.{list_all};
+ghost use Rattle.std.specs.Prelude.{◌≡◌, ◌≤◌, ◌++◌, not, true, All, IfOk, option_map};
 ghost use Rattle.csv.specs.Records.{fields_of};
 ghost use Rattle.demand_feed.specs.Rows.{field_in, has_title_at, lacks_number, number_at, numbers_of};
 

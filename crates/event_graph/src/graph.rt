@@ -1,9 +1,9 @@
 ghost use Rattle.std.specs.Prelude.{◌≡◌, ℕ, ◌≤◌, ◌<◌, All, IfOk, OnOk, IfErr, slice_index_or, IsTrue, ◌↔◌};
-ghost use Rattle.line_base.specs.Text.{is_label};
-ghost use Rattle.event_graph.specs.Network.{stations, jobs, arc_count, arc, time, demand, delay, label, ins, outs, IsGraph, EndsAt, StartsAt};
-ghost use Rattle.event_graph.specs.Limits.{IsWithinLimits};
 ghost use Rattle.event_graph.specs.Faults.{IsFirstFault};
+ghost use Rattle.event_graph.specs.Limits.{IsWithinLimits};
+ghost use Rattle.event_graph.specs.Network.{stations, jobs, arc_count, arc, time, demand, delay, label, ins, outs, IsGraph, EndsAt, StartsAt};
 ghost use Rattle.event_graph.specs.Varying.{Varies};
+ghost use Rattle.line_base.specs.Text.{is_label};
 
 use crate::checks::{check_ends, check_feed, check_inputs};
 use crate::error::GraphError;
@@ -21,8 +21,8 @@ pub struct Graph {
 }
 
 impl Model for Graph {
-    ghost use Rattle.line_base.specs.declared.event.Parts.{Parts};
     ghost use Rattle.event_graph.specs.Lists.{IsListed};
+    ghost use Rattle.line_base.specs.declared.event.Parts.{Parts};
 
     ghost Value = { Parts };
 

@@ -1,8 +1,8 @@
-ghost use Rattle.line_base.specs.declared.event.Parts.{Parts};
-ghost use Rattle.event_graph.specs.State.{start};
-ghost use Rattle.event_graph.specs.Reached.{Reached};
-ghost use Rattle.event_graph.specs.Network.{IsGraph};
 ghost use Rattle.event_graph.specs.Laws.{HasOneLeast, LeastIsGreatest, StartsFull, KeepsCircuits};
+ghost use Rattle.event_graph.specs.Network.{IsGraph};
+ghost use Rattle.event_graph.specs.Reached.{Reached};
+ghost use Rattle.event_graph.specs.State.{start};
+ghost use Rattle.line_base.specs.declared.event.Parts.{Parts};
 
 /// A law of the definitions: a graph has at most one least solution.
 pub fn one_least_solution()

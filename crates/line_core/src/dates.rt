@@ -1,12 +1,12 @@
 ghost use Rattle.std.specs.Prelude.{◌≡◌, ◌+◌, ◌<◌, ◌≤◌, length, slice_index, IfSome};
-ghost use Rattle.event_graph.specs.Network.{stations, jobs, arc_count, arc};
-ghost use Rattle.event_graph.specs.Term.{work};
 ghost use Rattle.event_graph.specs.Firing.{CanFire, new_date};
+ghost use Rattle.event_graph.specs.Network.{stations, jobs, arc_count, arc};
 ghost use Rattle.event_graph.specs.State.{log, place};
+ghost use Rattle.event_graph.specs.Term.{work};
 ghost use Rattle.line_base.specs.Roomy.{dates_of};
 ghost use Rattle.line_core.specs.Consistent.{state_of, all_tokens};
-ghost use Rattle.line_core.specs.Run.{IsRunWithRoom};
 ghost use Rattle.line_core.specs.Refusals.{first_empty, first_unfinished};
+ghost use Rattle.line_core.specs.Run.{IsRunWithRoom};
 
 use event_graph::{Arc, Graph};
 use line_base::{Date, Logs};

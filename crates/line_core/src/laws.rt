@@ -1,11 +1,11 @@
 ghost use Rattle.std.specs.Prelude.{◌≡◌, ℕ, ◌≤◌, List};
-ghost use Rattle.line_base.specs.declared.event.Parts.{Parts};
-ghost use Rattle.event_graph.specs.Network.{stations, IsGraph};
 ghost use Rattle.event_graph.specs.Limits.{IsWithinLimits};
-ghost use Rattle.event_graph.specs.State.{State};
-ghost use Rattle.event_graph.specs.Reached.{Reached};
-ghost use Rattle.line_core.specs.Consistent.{IsConsistent};
 ghost use Rattle.event_graph.specs.Live.{IsLive};
+ghost use Rattle.event_graph.specs.Network.{stations, IsGraph};
+ghost use Rattle.event_graph.specs.Reached.{Reached};
+ghost use Rattle.event_graph.specs.State.{State};
+ghost use Rattle.line_base.specs.declared.event.Parts.{Parts};
+ghost use Rattle.line_core.specs.Consistent.{IsConsistent};
 ghost use Rattle.line_core.specs.Laws.{EndsLeast, HasLeast, DeadStationsStayIdle, KeepsNumbers, StaysEarly};
 
 /// A law of the definitions: in every state that firings reach each place holds what the logs leave there, and each

@@ -1,6 +1,6 @@
 ghost use Rattle.std.specs.Prelude.{◌≡◌, ◌+◌, ◌^◌, ◌<◌, ◌≤◌, [], length, slice_index, All, IfOk};
-ghost use Rattle.event_graph.specs.Network.{stations, jobs, arc_count, arc};
 ghost use Rattle.event_graph.specs.Limits.{IsWithinLimits};
+ghost use Rattle.event_graph.specs.Network.{stations, jobs, arc_count, arc};
 ghost use Rattle.event_graph.specs.Table.{date_in};
 ghost use Rattle.event_graph.specs.Term.{term, token_date};
 ghost use Rattle.line_base.specs.Roomy.{dates_of};

@@ -1,8 +1,8 @@
 ghost use Rattle.std.specs.Prelude.{◌≡◌, ◌+◌, ◌<◌, IfOk, OnOk};
 ghost use Rattle.event_graph.specs.Network.{stations, jobs};
 ghost use Rattle.line_core.specs.Consistent.{IsFinished};
-ghost use Rattle.line_core.specs.Run.{IsReached};
 ghost use Rattle.line_core.specs.Round.{IsInRound, HasFired};
+ghost use Rattle.line_core.specs.Run.{IsReached};
 
 use crate::state::State;
 use live_check::Live;

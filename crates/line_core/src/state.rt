@@ -1,15 +1,15 @@
 ghost use Rattle.std.specs.Prelude.{◌≡◌, ◌<◌, ◌≤◌, map, length, All, IsTrue, ◌↔◌, IfOk, IfErr, IfSome, OnOk, OnErr, replicate, []};
-ghost use Rattle.line_base.specs.Roomy.{dates_of};
-ghost use Rattle.event_graph.specs.Network.{stations, arc_count};
-ghost use Rattle.event_graph.specs.State.{log, place};
-ghost use Rattle.event_graph.specs.Reached.{Reached};
 ghost use Rattle.event_graph.specs.Firing.{CanFire};
-ghost use Rattle.line_core.specs.Consistent.{IsFinished, fired, state_of};
+ghost use Rattle.event_graph.specs.Network.{stations, arc_count};
+ghost use Rattle.event_graph.specs.Reached.{Reached};
+ghost use Rattle.event_graph.specs.State.{log, place};
+ghost use Rattle.line_base.specs.Roomy.{dates_of};
 ghost use Rattle.line_core.specs.ArcTokens.{FillsCircuits, HasRoom};
-ghost use Rattle.line_core.specs.Run.{run_of, begun, fired_at, IsReached, IsLeastTable, IsRunWithRoom};
-ghost use Rattle.line_core.specs.Refusals.{Refuses, first_unfinished};
-ghost use Rattle.line_core.specs.Parts.{LATEST_GIVEN, AreParts, run_with, IsStateRefusal, IsReachedExactly};
+ghost use Rattle.line_core.specs.Consistent.{IsFinished, fired, state_of};
 ghost use Rattle.line_core.specs.Marked.{RefusesMarked, RefusesTokensAlone};
+ghost use Rattle.line_core.specs.Parts.{LATEST_GIVEN, AreParts, run_with, IsStateRefusal, IsReachedExactly};
+ghost use Rattle.line_core.specs.Refusals.{Refuses, first_unfinished};
+ghost use Rattle.line_core.specs.Run.{run_of, begun, fired_at, IsReached, IsLeastTable, IsRunWithRoom};
 
 use crate::dates::{arc_at, count_at, first_empty, first_unfinished, next_date, tokens_on};
 use crate::error::{FireError, StateError};

@@ -1,6 +1,6 @@
 ghost use Rattle.std.specs.Prelude.{◌≡◌, ◌+◌, ◌≤◌, ℕ, Bool, length, IsTrue, IfOk, OnOk, OnErr, IsErrOf};
-ghost use Rattle.line_disk.specs.declared.disk.DiskError.TheVariants.{NoMemory};
 ghost use Rattle.line_disk.specs.DiskView.{DiskView, Passes, Torn, held_now, written, synced, bytes_at};
+ghost use Rattle.line_disk.specs.declared.disk.DiskError.TheVariants.{NoMemory};
 ghost use Rattle.line_io.specs.Faults.{Rose};
 
 use std::alloc::{AllocError, AllocFailed, Global};

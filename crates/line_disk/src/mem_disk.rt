@@ -1,6 +1,6 @@
 ghost use Rattle.std.specs.Prelude.{◌≡◌, ◌+◌, ◌-◌, ◌^◌, ◌≤◌, ◌↔◌, ◌++◌, [], length, map, min, IsTrue, IfOk, OnOk, OnErr, IsErrOf};
-ghost use Rattle.line_io.specs.Faults.{Rose};
 ghost use Rattle.line_disk.specs.Memory.{span_of, left_by, spans_left};
+ghost use Rattle.line_io.specs.Faults.{Rose};
 
 use crate::disk::{DISK_END, Disk, DiskError};
 use crate::patch::{

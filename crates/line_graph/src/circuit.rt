@@ -1,6 +1,6 @@
 ghost use Rattle.std.specs.Prelude.{◌≡◌, ◌<◌, ◌≤◌, length, slice_index, All, IfOk};
-ghost use Rattle.event_graph.specs.Network.{stations, arc_count};
 ghost use Rattle.event_graph.specs.Circuit.{starting_stations};
+ghost use Rattle.event_graph.specs.Network.{stations, arc_count};
 ghost use Rattle.line_graph.specs.Turned.{IsTurned};
 
 use event_graph::Graph;

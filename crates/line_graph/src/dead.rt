@@ -1,7 +1,7 @@
 ghost use Rattle.std.specs.Prelude.{◌≡◌, ◌<◌, map, All, IfOk};
 ghost use Rattle.event_graph.specs.Network.{stations, label};
-ghost use Rattle.live_check.specs.DeadCircuit.{IsDeadCircuit};
 ghost use Rattle.line_graph.specs.DeadLabels.{AreDead};
+ghost use Rattle.live_check.specs.DeadCircuit.{IsDeadCircuit};
 
 use crate::circuit::circuit_stations;
 use event_graph::Graph;

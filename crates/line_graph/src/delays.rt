@@ -1,6 +1,6 @@
 //! How long cards are on their way back: the delays of the policy's arcs, and those of the loops.
-ghost use Rattle.std.specs.Prelude.{◌≡◌, ◌∷◌, [], length, map, replicate, IfOk};
 ghost use Rattle.std.specs.List.{flat_map};
+ghost use Rattle.std.specs.Prelude.{◌≡◌, ◌∷◌, [], length, map, replicate, IfOk};
 ghost use Rattle.plant_model.specs.Graph.{delays_of, policy_rows};
 
 use plant_model::{CardLoop, Plant, Policy, Stage};

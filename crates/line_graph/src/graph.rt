@@ -1,8 +1,8 @@
 ghost use Rattle.std.specs.Prelude.{◌≡◌, ◌+◌, ◌*◌, ◌≤◌, IfOk};
-ghost use Rattle.plant_model.specs.Graph.{graph};
-ghost use Rattle.plant_model.specs.Sound.{IsSound};
 ghost use Rattle.event_graph.specs.Network.{stations, arc_count};
 ghost use Rattle.line_graph.specs.Labels.{HasLabels};
+ghost use Rattle.plant_model.specs.Graph.{graph};
+ghost use Rattle.plant_model.specs.Sound.{IsSound};
 
 use crate::labels::station_labels;
 use crate::rows::{Rows, line_rows};

@@ -1,7 +1,7 @@
 ghost use Rattle.std.specs.Prelude.{◌≡◌, ◌∷◌, [], ◌++◌, IfOk, OnOk, IsTrue, map, codes};
 ghost use Rattle.line_base.specs.Text.{is_label};
-ghost use Rattle.plant_model.specs.Graph.{labels, stage_labels};
 ghost use Rattle.line_graph.specs.Labels.{AreLabels};
+ghost use Rattle.plant_model.specs.Graph.{labels, stage_labels};
 
 use line_base::{Label, Name};
 use plant_model::{Plant, Stage};

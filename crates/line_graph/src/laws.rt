@@ -1,9 +1,9 @@
-ghost use Rattle.plant_model.specs.declared.plant.Plant.{Plant};
-ghost use Rattle.plant_model.specs.Sound.{IsSound};
-ghost use Rattle.plant_model.specs.Graph.{graph};
-ghost use Rattle.live_check.specs.MoreTokens.{ListsKeepOrder};
 ghost use Rattle.line_graph.specs.Laws.{ExtendedIsKanban, ExtendedIsBaseStock};
 ghost use Rattle.line_graph.specs.MoreCards.{MoreOnEachArcNeverLater, MoreCardsNeverLater};
+ghost use Rattle.live_check.specs.MoreTokens.{ListsKeepOrder};
+ghost use Rattle.plant_model.specs.Graph.{graph};
+ghost use Rattle.plant_model.specs.Sound.{IsSound};
+ghost use Rattle.plant_model.specs.declared.plant.Plant.{Plant};
 
 /// A law of the policies: a plant under extended kanban in which each stage has as many cards as stock has the least
 /// solution that it has under kanban. A card that comes back has passed a delivery, and so a demand.

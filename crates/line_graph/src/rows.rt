@@ -1,7 +1,7 @@
-ghost use Rattle.std.specs.Prelude.{◌≡◌, ◌∷◌, [], ◌<◌, ◌++◌, length, IfOk, OnOk};
 ghost use Rattle.std.specs.List.{flat_map};
-ghost use Rattle.plant_model.specs.Line.{stage_at, stage_numbers};
+ghost use Rattle.std.specs.Prelude.{◌≡◌, ◌∷◌, [], ◌<◌, ◌++◌, length, IfOk, OnOk};
 ghost use Rattle.plant_model.specs.Graph.{arcs_of, delays_of, worked, plain, onward, machine_rows, stage_rows, feed_row, policy_rows, rows};
+ghost use Rattle.plant_model.specs.Line.{stage_at, stage_numbers};
 ghost use Rattle.plant_model.specs.Sound.{IsSound};
 
 use crate::delays::{loop_delays, policy_delays};

@@ -60,10 +60,10 @@ impl MemSink {
 
 impl Sink for MemSink {
     ghost use Rattle.std.specs.Prelude.{◌<◌, ◌↔◌, ◌⊎◌, IsErr, OnOk, OnErr};
-    ghost use Rattle.line_io.specs.SinkView.{PutsAll, PutsFront};
-    ghost use Rattle.line_io.specs.Faults.{Rose};
     ghost use Rattle.line_io.specs.FailPlans.{IsDue, Counts};
+    ghost use Rattle.line_io.specs.Faults.{Rose};
     ghost use Rattle.line_io.specs.Memory.{sink_view, sink_plan, room_left, kept_of, IsMadeAlike};
+    ghost use Rattle.line_io.specs.SinkView.{PutsAll, PutsFront};
 
     ghost shown = { sink_view };
 

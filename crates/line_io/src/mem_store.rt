@@ -1,10 +1,10 @@
-ghost use Rattle.std.specs.Prelude.{◌≡◌, ◌≢◌, ◌+◌, ◌≤◌, ◌<◌, ◌↔◌, ◌⊎◌, List, ℕ, Some, None, length, IfOk, OnOk, OnErr, IsErr, IsErrOf, option_map, true};
 ghost use Rattle.std.specs.Bool.{OnTrue, OnFalse};
+ghost use Rattle.std.specs.Prelude.{◌≡◌, ◌≢◌, ◌+◌, ◌≤◌, ◌<◌, ◌↔◌, ◌⊎◌, List, ℕ, Some, None, length, IfOk, OnOk, OnErr, IsErr, IsErrOf, option_map, true};
 ghost use Rattle.line_io.specs.Calls.{none_asked};
-ghost use Rattle.line_io.specs.Held.{contents, times_noted, NotesOnce};
-ghost use Rattle.line_io.specs.Left.{left_by};
 ghost use Rattle.line_io.specs.Contents.{SameFiles, OthersStay, IsTorn};
 ghost use Rattle.line_io.specs.Faults.{Rose, NeverFall};
+ghost use Rattle.line_io.specs.Held.{contents, times_noted, NotesOnce};
+ghost use Rattle.line_io.specs.Left.{left_by};
 
 use crate::calls::Calls;
 use crate::fail_plan::FailPlan;
@@ -180,10 +180,10 @@ fn break_off(
 }
 
 impl Store for MemStore {
-    ghost use Rattle.line_io.specs.Memory.{store_view, store_plan, store_files, store_keep, failed_reads, failed_writes, IsAbsent, left_of};
-    ghost use Rattle.line_io.specs.FailPlans.{IsDue, Counts};
     ghost use Rattle.line_io.specs.Calls.{after_read, after_write};
     ghost use Rattle.line_io.specs.Contents.{IsLongerThan};
+    ghost use Rattle.line_io.specs.FailPlans.{IsDue, Counts};
+    ghost use Rattle.line_io.specs.Memory.{store_view, store_plan, store_files, store_keep, failed_reads, failed_writes, IsAbsent, left_of};
 
     ghost tells = { true };
 

@@ -1,6 +1,6 @@
 ghost use Rattle.std.specs.Prelude.{◌≤◌, OnOk, OnErr};
-ghost use Rattle.line_io.specs.SinkView.{PutsAll, PutsFront};
 ghost use Rattle.line_io.specs.Faults.{Rose};
+ghost use Rattle.line_io.specs.SinkView.{PutsAll, PutsFront};
 
 use crate::sink::{Failed, MAX_PIECE, Sink};
 

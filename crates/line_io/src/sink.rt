@@ -1,6 +1,6 @@
 ghost use Rattle.std.specs.Prelude.{◌<◌, ◌≤◌, length, OnOk, OnErr};
-ghost use Rattle.line_io.specs.SinkView.{SinkView, PutsAll, PutsFront};
 ghost use Rattle.line_io.specs.Faults.{Rose};
+ghost use Rattle.line_io.specs.SinkView.{SinkView, PutsAll, PutsFront};
 
 use thiserror::Error;
 

@@ -1,9 +1,9 @@
 ghost use Rattle.std.specs.Prelude.{◌≡◌, ◌<◌, ◌≤◌, ◌↔◌, Bool, Some, length, IsTrue, IfOk, OnOk, IsErrOf};
-ghost use Rattle.line_io.specs.declared.store.StoreError.TheVariants.{NoMemory};
-ghost use Rattle.line_io.specs.StoreView.{StoreView};
 ghost use Rattle.line_io.specs.Calls.{after_read, after_write};
 ghost use Rattle.line_io.specs.Contents.{SameFiles, OthersStay, IsTorn, IsLongerThan};
 ghost use Rattle.line_io.specs.Faults.{Rose, NeverFall};
+ghost use Rattle.line_io.specs.StoreView.{StoreView};
+ghost use Rattle.line_io.specs.declared.store.StoreError.TheVariants.{NoMemory};
 
 use std::alloc::{AllocError, AllocFailed, Global};
 use thiserror::Error;

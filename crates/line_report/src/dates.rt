@@ -1,8 +1,8 @@
 //! The dates of all jobs at all stations, one line each.
 ghost use Rattle.std.specs.Prelude.{◌≡◌, ◌<◌, ◌∷◌, [], decimal};
-ghost use Rattle.line_io.specs.Outgoing.{Pushed, stream};
 ghost use Rattle.event_graph.specs.Network.{stations};
 ghost use Rattle.event_graph.specs.Table.{date_in};
+ghost use Rattle.line_io.specs.Outgoing.{Pushed, stream};
 ghost use Rattle.line_report.specs.ReportText.{line, station_lines, date_lines};
 
 use event_graph::Graph;

@@ -1,7 +1,7 @@
-ghost use Rattle.plant_model.specs.declared.plant.Plant.{Plant};
-ghost use Rattle.plant_model.specs.Sound.{IsSound};
-ghost use Rattle.line_report.specs.Reported.{Reported};
 ghost use Rattle.line_report.specs.Laws.{HasOneReport, HaveOneText};
+ghost use Rattle.line_report.specs.Reported.{Reported};
+ghost use Rattle.plant_model.specs.Sound.{IsSound};
+ghost use Rattle.plant_model.specs.declared.plant.Plant.{Plant};
 
 /// The law *Schedules agree*, to the bytes: the least solutions of a plant's graph have one report, and any two reports of
 /// one plant have the same text. So a run comes to the same bytes in whatever order its stations fire.

@@ -1,11 +1,11 @@
 ghost use Rattle.std.specs.Prelude.{◌≡◌, ◌≤◌, [], IfOk, OnOk, OnErr, is_err, false};
-ghost use Rattle.line_io.specs.SinkView.{PutsAll, PutsFront};
+ghost use Rattle.event_graph.specs.Table.{date_in};
 ghost use Rattle.line_io.specs.Faults.{Rose};
 ghost use Rattle.line_io.specs.Outgoing.{Pushed, stream, emptied};
-ghost use Rattle.event_graph.specs.Table.{date_in};
+ghost use Rattle.line_io.specs.SinkView.{PutsAll, PutsFront};
 ghost use Rattle.line_report.specs.ReportText.{report};
-ghost use Rattle.line_report.specs.SummaryText.{summary};
 ghost use Rattle.line_report.specs.Reported.{IsReported, AreOfPlant, report_of, summary_of};
+ghost use Rattle.line_report.specs.SummaryText.{summary};
 
 use crate::dates::write_dates;
 use crate::observed::write_observed;

@@ -1,7 +1,7 @@
 //! The sizes of a run and the sum of its dates, for runs whose dates are too many to print.
 ghost use Rattle.std.specs.Prelude.{◌≡◌};
-ghost use Rattle.line_io.specs.Outgoing.{Pushed, stream};
 ghost use Rattle.event_graph.specs.Table.{date_in};
+ghost use Rattle.line_io.specs.Outgoing.{Pushed, stream};
 ghost use Rattle.line_report.specs.SummaryText.{number_line, size_lines, sum_line};
 
 use event_graph::Graph;

@@ -1,12 +1,12 @@
 //! What is said of a whole run: the peak of each stage, how long the jobs wait, and the last date.
-ghost use Rattle.std.specs.Prelude.{◌≡◌, ◌<◌, ◌++◌, length};
 ghost use Rattle.std.specs.List.{flat_map};
-ghost use Rattle.line_io.specs.Outgoing.{Pushed, stream};
-ghost use Rattle.plant_model.specs.Line.{stage_numbers};
-ghost use Rattle.plant_model.specs.Graph.{graph};
+ghost use Rattle.std.specs.Prelude.{◌≡◌, ◌<◌, ◌++◌, length};
 ghost use Rattle.event_graph.specs.Table.{date_in};
+ghost use Rattle.line_io.specs.Outgoing.{Pushed, stream};
 ghost use Rattle.line_report.specs.ReportText.{bound_word, peak_line, waiting_line, last_line, end_lines};
 ghost use Rattle.line_report.specs.Reported.{AreOfPlant};
+ghost use Rattle.plant_model.specs.Graph.{graph};
+ghost use Rattle.plant_model.specs.Line.{stage_numbers};
 
 use crate::run::FinishedRun;
 use line_core::Table;

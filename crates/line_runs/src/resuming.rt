@@ -1,7 +1,7 @@
 ghost use Rattle.std.specs.Prelude.{◌≡◌, ◌^◌, ◌<◌, ◌≤◌, length, IfOk, IfErr};
-ghost use Rattle.line_workers.specs.Line.{IsLine};
 ghost use Rattle.checkpoint.specs.Answers.{Tells};
 ghost use Rattle.line_runs.specs.Resume.{StandsFor, FailsOnlyFor, Resumes};
+ghost use Rattle.line_workers.specs.Line.{IsLine};
 
 use crate::run::run_to_end;
 use checkpoint::{CheckpointError, read_state};

@@ -1,16 +1,16 @@
 ghost use Rattle.std.specs.Prelude.{◌≡◌, ℕ, ◌+◌, ◌*◌, ◌<◌, ◌≤◌, ◌↔◌, IsTrue, IfOk, OnOk, IsErrOf};
 ghost use Rattle.event_graph.specs.Network.{stations};
+ghost use Rattle.line_core.specs.Consistent.{fired};
 ghost use Rattle.line_disk.specs.DiskView.{LeavesOnly, held_now};
 ghost use Rattle.line_io.specs.Faults.{Rose};
-ghost use Rattle.line_core.specs.Consistent.{fired};
-ghost use Rattle.line_workers.specs.Line.{IsLine, run_in};
-ghost use Rattle.slot_store.specs.declared.error.SlotError.TheVariants.{TooLong};
-ghost use Rattle.slot_store.specs.Crash.{IsOldOrNew, IsSaved};
-ghost use Rattle.line_runs.specs.Stop.{all_firings};
-ghost use Rattle.line_runs.specs.Table.{ComesToLeast};
 ghost use Rattle.line_runs.specs.Saves.{IsDue, SavesIfDue, HasSaved, IsLateState};
 ghost use Rattle.line_runs.specs.Saves.{IsOldOrState, HasTooLongState};
+ghost use Rattle.line_runs.specs.Stop.{all_firings};
 ghost use Rattle.line_runs.specs.Store.{text_of, IsOver};
+ghost use Rattle.line_runs.specs.Table.{ComesToLeast};
+ghost use Rattle.line_workers.specs.Line.{IsLine, run_in};
+ghost use Rattle.slot_store.specs.Crash.{IsOldOrNew, IsSaved};
+ghost use Rattle.slot_store.specs.declared.error.SlotError.TheVariants.{TooLong};
 
 use crate::run::{burst_on, table_of};
 use checkpoint::write_state;

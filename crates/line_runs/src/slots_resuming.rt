@@ -1,8 +1,8 @@
 ghost use Rattle.std.specs.Prelude.{◌≡◌, ◌≤◌, IsTrue, IfOk, OnErr, IsErrOf};
 ghost use Rattle.line_disk.specs.DiskView.{Stays};
 ghost use Rattle.line_io.specs.Faults.{Rose};
-ghost use Rattle.slot_store.specs.Crash.{bytes_now};
 ghost use Rattle.line_runs.specs.ResumeSlots.{ResumesSlots};
+ghost use Rattle.slot_store.specs.Crash.{bytes_now};
 
 use crate::error::ResumeError;
 use crate::resuming::resume;

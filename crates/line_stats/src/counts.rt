@@ -1,11 +1,11 @@
 //! What stands where at a date. Stages are numbered from 0, dates are in the plant's unit. The
 //! numbers are those of the plant, which contracts see.
 ghost use Rattle.std.specs.Prelude.{◌≡◌, ◌+◌, ◌<◌, length};
-ghost use Rattle.plant_model.specs.Line.{release, last_machine, deliver, receiver, starting};
-ghost use Rattle.plant_model.specs.Graph.{graph};
-ghost use Rattle.plant_model.specs.Sound.{IsSound};
 ghost use Rattle.event_graph.specs.Table.{date_in};
 ghost use Rattle.line_stats.specs.Counts.{done, arrived, in_process, in_move, in_stock, backlog};
+ghost use Rattle.plant_model.specs.Graph.{graph};
+ghost use Rattle.plant_model.specs.Line.{release, last_machine, deliver, receiver, starting};
+ghost use Rattle.plant_model.specs.Sound.{IsSound};
 
 use crate::logs::done;
 use line_base::Date;

@@ -1,6 +1,6 @@
-ghost use Rattle.plant_model.specs.declared.plant.Plant.{Plant};
-ghost use Rattle.plant_model.specs.Sound.{IsSound};
 ghost use Rattle.line_stats.specs.Laws.{KeepsJobsInOrder, DeliversOnDemand, StaysBounded};
+ghost use Rattle.plant_model.specs.Sound.{IsSound};
+ghost use Rattle.plant_model.specs.declared.plant.Plant.{Plant};
 
 /// A law of the definitions: in the least solution of a plant's graph the dates of a station don't decrease from job to
 /// job. So how many jobs a station has done by a date is found by halving.

@@ -1,12 +1,12 @@
 //! Looks at the dates of a station, which don't decrease. None takes memory.
-ghost use Rattle.std.specs.Prelude.{◌≡◌, ◌<◌, ◌≤◌, length};
 ghost use Rattle.std.specs.List.Sorted.{IsNonDecreasing};
+ghost use Rattle.std.specs.Prelude.{◌≡◌, ◌<◌, ◌≤◌, length};
 ghost use Rattle.event_graph.specs.Network.{stations};
 ghost use Rattle.event_graph.specs.Table.{date_in};
-ghost use Rattle.live_check.specs.MoreTokens.{ListsKeepOrder};
 ghost use Rattle.line_core.specs.Run.{IsLeastTable};
-ghost use Rattle.line_stats.specs.Counts.{done};
 ghost use Rattle.line_stats.specs.Between.{dates_until};
+ghost use Rattle.line_stats.specs.Counts.{done};
+ghost use Rattle.live_check.specs.MoreTokens.{ListsKeepOrder};
 
 use line_base::Date;
 use line_core::Table;

@@ -1,12 +1,12 @@
 //! The most parts that a stage ever has.
-ghost use Rattle.std.specs.Prelude.{◌≡◌, ◌+◌, ◌<◌, ◌≤◌, ℕ, length, IfSome};
 ghost use Rattle.std.specs.List.Sorted.{IsNonDecreasing};
+ghost use Rattle.std.specs.Prelude.{◌≡◌, ◌+◌, ◌<◌, ◌≤◌, ℕ, length, IfSome};
+ghost use Rattle.event_graph.specs.Table.{date_in};
+ghost use Rattle.line_stats.specs.Between.{between};
+ghost use Rattle.line_stats.specs.Counts.{standing, peak};
+ghost use Rattle.plant_model.specs.Bound.{bound};
 ghost use Rattle.plant_model.specs.Graph.{graph};
 ghost use Rattle.plant_model.specs.Sound.{IsSound};
-ghost use Rattle.event_graph.specs.Table.{date_in};
-ghost use Rattle.plant_model.specs.Bound.{bound};
-ghost use Rattle.line_stats.specs.Counts.{standing, peak};
-ghost use Rattle.line_stats.specs.Between.{between};
 
 use crate::logs::{dates_until, dates_until_from};
 use line_base::{Date, MAX_CARDS, MAX_DEMANDS};

@@ -1,7 +1,7 @@
 ghost use Rattle.std.specs.Prelude.{◌≡◌, IfOk};
+ghost use Rattle.line_workers.specs.Close.{logs_among, copies_among};
 ghost use Rattle.worker_crew.specs.Crew.{teams_of};
 ghost use Rattle.worker_crew.specs.Crews.{live_of, graph_of, AreCrews};
-ghost use Rattle.line_workers.specs.Close.{logs_among, copies_among};
 
 use line_base::Logs;
 use live_check::Live;

@@ -1,17 +1,17 @@
 ghost use Rattle.std.specs.Prelude.{◌≡◌, ◌+◌, ◌*◌, ◌^◌, ◌<◌, ◌≤◌, ◌↔◌, ℕ, None, Some, length, sum, min, All, IsTrue, IfOk, IfErr};
+ghost use Rattle.crew_laying.specs.Making.{MayHold};
+ghost use Rattle.event_graph.specs.Firing.{CanFire};
+ghost use Rattle.event_graph.specs.Least.{IsLeast};
 ghost use Rattle.event_graph.specs.Network.{stations, jobs};
 ghost use Rattle.event_graph.specs.State.{log, start};
-ghost use Rattle.event_graph.specs.Firing.{CanFire};
 ghost use Rattle.event_graph.specs.Table.{date_in};
-ghost use Rattle.event_graph.specs.Least.{IsLeast};
 ghost use Rattle.line_core.specs.Consistent.{IsFinished, fired};
 ghost use Rattle.line_core.specs.Round.{HasFired};
 ghost use Rattle.line_core.specs.Run.{IsReached};
-ghost use Rattle.crew_laying.specs.Making.{MayHold};
-ghost use Rattle.worker_crew.specs.Crews.{live_of, room_of, AreCrews};
-ghost use Rattle.worker_crew.specs.Work.{TurnsBelow};
 ghost use Rattle.line_workers.specs.Gather.{logs_in};
 ghost use Rattle.line_workers.specs.Line.{IsLine, Stands, StandsIn, LogsGrow, run_in, line_of};
+ghost use Rattle.worker_crew.specs.Crews.{live_of, room_of, AreCrews};
+ghost use Rattle.worker_crew.specs.Work.{TurnsBelow};
 
 use crate::closing::{copies_of, logs_of};
 use crate::crews::{all_done, burst_of, dates_of, gather_crews};

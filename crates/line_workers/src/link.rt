@@ -1,7 +1,7 @@
 ghost use Rattle.std.specs.Prelude.{◌≡◌, ◌<◌, ◌≤◌, ◌^◌, ◌↔◌, IsTrue, length};
 ghost use Rattle.event_graph.specs.Network.{stations, arc_count, arc, ins, outs};
-ghost use Rattle.worker_crew.specs.Teams.{place_in};
 ghost use Rattle.line_workers.specs.Link.{seat_of, link_of, IsInside};
+ghost use Rattle.worker_crew.specs.Teams.{place_in};
 
 use live_check::Live;
 use worker_crew::{arc_at, first_of, worker_of};

@@ -1,8 +1,8 @@
-ghost use Rattle.line_base.specs.declared.event.Parts.{Parts};
-ghost use Rattle.event_graph.specs.Network.{IsGraph};
 ghost use Rattle.event_graph.specs.Live.{IsLive};
-ghost use Rattle.live_check.specs.Order.{HasOrder};
+ghost use Rattle.event_graph.specs.Network.{IsGraph};
+ghost use Rattle.line_base.specs.declared.event.Parts.{Parts};
 ghost use Rattle.live_check.specs.MoreTokens.{MoreTokensNeverLater};
+ghost use Rattle.live_check.specs.Order.{HasOrder};
 
 /// A law of the definitions: the stations of a live graph have an order in which every arc without a token goes upwards.
 ///

@@ -1,9 +1,9 @@
 ghost use Rattle.std.specs.Prelude.{◌≡◌, ◌<◌, slice_index, IfOk, OnOk, IfErr};
-ghost use Rattle.event_graph.specs.Network.{stations};
 ghost use Rattle.event_graph.specs.Live.{IsLive};
+ghost use Rattle.event_graph.specs.Network.{stations};
+ghost use Rattle.live_check.specs.NotLive.{HandsBack, ShowsDeadCircuit, SaysNotLive};
 ghost use Rattle.live_check.specs.Order.{IsRanked};
 ghost use Rattle.live_check.specs.Ranking.{IsComplete, AllRanked};
-ghost use Rattle.live_check.specs.NotLive.{HandsBack, ShowsDeadCircuit, SaysNotLive};
 
 use crate::circuit::dead_circuit;
 use crate::ranking::Ranking;

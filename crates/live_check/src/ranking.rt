@@ -1,7 +1,7 @@
-ghost use Rattle.std.specs.Prelude.{◌≡◌, ℕ, ◌+◌, ◌-◌, ◌^◌, ◌<◌, ◌≤◌, [], length, slice_index, slice_set, replicate, reverse, map, count_by, All, IfOk, OnOk, MatchOption};
 ghost use Rattle.std.specs.List.{range_with_len};
-ghost use Rattle.event_graph.specs.Network.{IsGraph, stations, arc_count};
+ghost use Rattle.std.specs.Prelude.{◌≡◌, ℕ, ◌+◌, ◌-◌, ◌^◌, ◌<◌, ◌≤◌, [], length, slice_index, slice_set, replicate, reverse, map, count_by, All, IfOk, OnOk, MatchOption};
 ghost use Rattle.event_graph.specs.Limits.{IsWithinLimits};
+ghost use Rattle.event_graph.specs.Network.{IsGraph, stations, arc_count};
 ghost use Rattle.live_check.specs.Ranking.{Ranks, with_next, released, CountsFree, IsPassing, IsPassed, NoneIsReady, IsComplete, AllRanked, IsUnranked, from_end};
 
 use event_graph::{Arc, Graph};

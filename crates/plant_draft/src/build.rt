@@ -1,10 +1,10 @@
 //! The draft of a plant file, read from its tree. What the walk refuses is read as the value of an absent key.
 ghost use Rattle.std.specs.Prelude.{◌≡◌, ◌≤◌, ◌++◌, [], ◌∷◌, map, position, bytes_eq, OnOk};
-ghost use Rattle.toml.specs.View.{view};
 ghost use Rattle.line_base.specs.declared.limits.TheConstants.{MAX_CARDS};
 ghost use Rattle.plant_draft.specs.Code.{Builds};
-ghost use Rattle.plant_tree.specs.Readers.{number_in, number_of, number_at, numbers_at, text_at, name_in, stage_names};
 ghost use Rattle.plant_draft.specs.Reading.{count_at, time_at, policy_of, demands_of, times_file_of, times_of, machine_of, feeds_of, stage_of, loop_of, draft_of};
+ghost use Rattle.plant_tree.specs.Readers.{number_in, number_of, number_at, numbers_at, text_at, name_in, stage_names};
+ghost use Rattle.toml.specs.View.{view};
 
 use crate::draft::{DraftDemands, DraftLoop, DraftMachine, DraftPlant, DraftStage, DraftTimes};
 use line_base::{Items, MAX_CARDS, MAX_COLUMN, MAX_DEMAND_DATE, MAX_OBSERVE_DATE, MAX_TIME, Name};

@@ -1,6 +1,6 @@
 ghost use Rattle.std.specs.Prelude.{◌≡◌, IfOk};
-ghost use Rattle.plant_draft.specs.Draft.{uses, columns_of};
 ghost use Rattle.plant_draft.specs.Columns.{AddsMarks, AreMarks, is_used_by, is_used_in};
+ghost use Rattle.plant_draft.specs.Draft.{uses, columns_of};
 
 use crate::draft::{DraftMachine, DraftPlant, DraftStage, DraftTimes};
 use line_base::MAX_COLUMN;

@@ -1,5 +1,5 @@
-ghost use Rattle.std.specs.Prelude.{◌≡◌, ◌≤◌, ◌↔◌, [], All, IsTrue, option_map};
 ghost use Rattle.std.specs.List.Sorted.{IsStrictlyIncreasing};
+ghost use Rattle.std.specs.Prelude.{◌≡◌, ◌≤◌, ◌↔◌, [], All, IsTrue, option_map};
 ghost use Rattle.line_base.specs.declared.limits.TheConstants.{MAX_COLUMN};
 ghost use Rattle.plant_draft.specs.Draft.{demands_file, columns_of, IsSoundDraft};
 
@@ -75,8 +75,8 @@ pub struct Draft {
 }
 
 impl Model for Draft {
-    ghost use Rattle.plant_draft.specs.declared.draft.DraftPlant.{DraftPlant};
     ghost use Rattle.plant_draft.specs.Draft.{IsDraft};
+    ghost use Rattle.plant_draft.specs.declared.draft.DraftPlant.{DraftPlant};
 
     ghost Value = { DraftPlant };
 

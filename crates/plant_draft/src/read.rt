@@ -1,12 +1,12 @@
 ghost use Rattle.std.specs.Prelude.{◌≡◌, ◌≢◌, [], Some, None, MatchResult};
+ghost use Rattle.plant_draft.specs.Code.{Builds};
+ghost use Rattle.plant_draft.specs.Draft.{IsSoundDraft};
+ghost use Rattle.plant_draft.specs.Reading.{AnswersReading, draft_of, draft_or_first, last_refusals, tree_of, tree_reading, reading};
 ghost use Rattle.plant_model.specs.declared.error.PlantError.TheVariants.{NoMemory, NotToml};
-ghost use Rattle.toml.specs.View.{view};
-ghost use Rattle.plant_tree.specs.declared.keys.Class.TheVariants.{MissingKeys, BadNames};
 ghost use Rattle.plant_tree.specs.Readers.{stage_names};
 ghost use Rattle.plant_tree.specs.Walk.{names_twice, walk};
-ghost use Rattle.plant_draft.specs.Draft.{IsSoundDraft};
-ghost use Rattle.plant_draft.specs.Code.{Builds};
-ghost use Rattle.plant_draft.specs.Reading.{AnswersReading, draft_of, draft_or_first, last_refusals, tree_of, tree_reading, reading};
+ghost use Rattle.plant_tree.specs.declared.keys.Class.TheVariants.{MissingKeys, BadNames};
+ghost use Rattle.toml.specs.View.{view};
 
 use crate::build::draft_of;
 use crate::columns::columns_of;

@@ -1,8 +1,8 @@
 //! How many job times the machines of a draft have. It tells whether a plant is refused before any of them is copied.
 ghost use Rattle.std.specs.Prelude.{◌≡◌, ◌*◌, ◌^◌, ◌≤◌, length, option_map};
-ghost use Rattle.plant_model.specs.Refusals.{AnswersFirst, each, times_count};
-ghost use Rattle.plant_file.specs.Finish.{dates_with, times_with};
 ghost use Rattle.plant_file.specs.Counts.{list_length, machine_counts, stage_counts, stations_in, stays_within, table_within};
+ghost use Rattle.plant_file.specs.Finish.{dates_with, times_with};
+ghost use Rattle.plant_model.specs.Refusals.{AnswersFirst, each, times_count};
 
 use demand_feed::Columns;
 use line_base::{Date, MAX_DEMANDS, MAX_STATIONS, MAX_TABLE};

@@ -1,14 +1,14 @@
 //! A draft becomes a plant, once the files that it names have been read.
 ghost use Rattle.std.specs.Prelude.{◌≡◌, ◌≢◌, ◌≤◌, ◌<◌, [], ◌∷◌, ℕ, List, Option, All, Ok, Some, IfErr, IfOk, IfSome, map, is_some, option_map, option_copied, length, vec_len};
-ghost use Rattle.line_base.specs.declared.limits.TheConstants.{MAX_CHECKPOINT_BYTES, MAX_DEMAND_DATE};
 ghost use Rattle.demand_feed.specs.Dates.{dates_of};
 ghost use Rattle.demand_feed.specs.Times.{times_of};
+ghost use Rattle.line_base.specs.declared.limits.TheConstants.{MAX_CHECKPOINT_BYTES, MAX_DEMAND_DATE};
+ghost use Rattle.plant_draft.specs.Draft.{demands_file, columns_of};
+ghost use Rattle.plant_file.specs.Complete.{HoldsDates, HoldsTimes, refusal_of};
+ghost use Rattle.plant_file.specs.Finish.{AnswersPlant, HasColumn, HasColumns, IsWithinLimit, bad_record_in, bad_records, completed, dates_with, finished, loop_with, machine_with, plant_with, stage_with, times_with};
+ghost use Rattle.plant_file.specs.PlantOfFiles.{Contents, IsReadFrom, plant_of};
 ghost use Rattle.plant_model.specs.Refusals.{first};
 ghost use Rattle.plant_model.specs.Sound.{IsSound};
-ghost use Rattle.plant_draft.specs.Draft.{demands_file, columns_of};
-ghost use Rattle.plant_file.specs.Finish.{AnswersPlant, HasColumn, HasColumns, IsWithinLimit, bad_record_in, bad_records, completed, dates_with, finished, loop_with, machine_with, plant_with, stage_with, times_with};
-ghost use Rattle.plant_file.specs.Complete.{HoldsDates, HoldsTimes, refusal_of};
-ghost use Rattle.plant_file.specs.PlantOfFiles.{Contents, IsReadFrom, plant_of};
 
 use crate::counts::{check_counts, count_demands, table_within};
 use demand_feed::{Columns, FeedError, read_dates, read_times};

@@ -1,6 +1,6 @@
 ghost use Rattle.std.specs.Prelude.{◌≡◌, ◌<◌, ◌↔◌, length, IsNone};
-ghost use Rattle.plant_model.specs.Line.{stage_at};
 ghost use Rattle.plant_model.specs.Bound.{bound};
+ghost use Rattle.plant_model.specs.Line.{stage_at};
 
 use crate::plant::{Plant, Policy};
 

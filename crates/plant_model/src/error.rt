@@ -1,7 +1,7 @@
-ghost use Rattle.plant_model.specs.declared.error.PlantError.TheVariants.{NoMemory};
-ghost use Rattle.std.specs.Prelude.{◌≡◌, Some};
 ghost use Rattle.std.specs.Fmt.{DisplaysOnOk};
+ghost use Rattle.std.specs.Prelude.{◌≡◌, Some};
 ghost use Rattle.plant_model.specs.Reasons.{at_place, bad_record, with_counts};
+ghost use Rattle.plant_model.specs.declared.error.PlantError.TheVariants.{NoMemory};
 
 use crate::text::Text;
 use std::alloc::AllocError;

@@ -1,5 +1,5 @@
-ghost use Rattle.plant_model.specs.declared.plant.Plant.{Plant};
 ghost use Rattle.plant_model.specs.Sound.{IsSound, IsSoundPlant};
+ghost use Rattle.plant_model.specs.declared.plant.Plant.{Plant};
 
 /// A law of the definitions: a plant of which nothing is refused is one of which the plain facts hold, and the other way
 /// round. So the facts are a full account of what `Plant::check` takes.

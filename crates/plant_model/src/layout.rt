@@ -1,6 +1,6 @@
 ghost use Rattle.std.specs.Prelude.{◌≡◌, ◌<◌, length, IfOk, IsTrue};
-ghost use Rattle.plant_model.specs.Line.{stage_at, release, machine_station, deliver, receiver, next, starting, is_first, is_downstream, path_stock, stock_between};
 ghost use Rattle.plant_model.specs.ArcNumbers.{entry_arc, policy_arc};
+ghost use Rattle.plant_model.specs.Line.{stage_at, release, machine_station, deliver, receiver, next, starting, is_first, is_downstream, path_stock, stock_between};
 ghost use Rattle.plant_model.specs.Sound.{IsSound};
 
 use crate::line::{stock_on_path, stock_up_to};
@@ -18,8 +18,8 @@ pub struct Layout<'a> {
 }
 
 impl<'a> Model for Layout<'a> {
-    ghost use Rattle.plant_model.specs.declared.plant.Plant.{Plant};
     ghost use Rattle.plant_model.specs.Layout.{IsLayout};
+    ghost use Rattle.plant_model.specs.declared.plant.Plant.{Plant};
 
     ghost Value = { Plant };
 

@@ -1,6 +1,6 @@
 ghost use Rattle.std.specs.Prelude.{◌≡◌, ◌<◌, length, IfOk};
-ghost use Rattle.plant_model.specs.Line.{release, last_machine, deliver, station_count, receiver, is_first};
 ghost use Rattle.plant_model.specs.ArcNumbers.{entry_arc, policy_arc};
+ghost use Rattle.plant_model.specs.Line.{release, last_machine, deliver, station_count, receiver, is_first};
 ghost use Rattle.plant_model.specs.Sound.{IsSound};
 
 use crate::path_table::fed_marks;
@@ -28,8 +28,8 @@ pub struct LineNumbers {
 }
 
 impl Model for LineNumbers {
-    ghost use Rattle.plant_model.specs.declared.plant.Plant.{Plant};
     ghost use Rattle.plant_model.specs.Layout.{IsLaidOut};
+    ghost use Rattle.plant_model.specs.declared.plant.Plant.{Plant};
 
     ghost Value = { Plant };
 

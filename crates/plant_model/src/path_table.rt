@@ -1,8 +1,8 @@
 //! The paths of a plant's stages as a table, made in one pass, by which few steps tell whether a stage is on the path of
 //! another.
 ghost use Rattle.std.specs.Prelude.{◌≡◌, ◌+◌, ◌<◌, ◌⊎◌, [], length, IfOk};
-ghost use Rattle.plant_model.specs.Line;
 ghost use Rattle.plant_model.specs.Line.{is_first, is_downstream, path_stock, stock_down_to};
+ghost use Rattle.plant_model.specs.Line;
 ghost use Rattle.plant_model.specs.Paths.{row_at, IsPathRow, ArePathRows, AreFedMarks};
 ghost use Rattle.plant_model.specs.Refusals.{all_feeds_not_later};
 
@@ -33,8 +33,8 @@ pub(crate) struct PathTable<'a> {
 }
 
 impl<'a> Model for PathTable<'a> {
-    ghost use Rattle.plant_model.specs.declared.plant.Plant.{Plant};
     ghost use Rattle.plant_model.specs.Paths.{IsPathTable};
+    ghost use Rattle.plant_model.specs.declared.plant.Plant.{Plant};
 
     ghost Value = { Plant };
 

@@ -3,11 +3,11 @@
 ghost use Rattle.std.specs.Prelude.{◌≡◌, not, ◌||◌};
 ghost use Rattle.plant_model.specs.Place.{at, key_of};
 ghost use Rattle.plant_model.specs.Refusals.{AnswersFirst, each};
-ghost use Rattle.toml.specs.View.{view};
+ghost use Rattle.plant_tree.specs.Code.{views, keys_of, key_of as key_seen};
 ghost use Rattle.plant_tree.specs.Keys.{has_stage_cards};
 ghost use Rattle.plant_tree.specs.Readers.{elements_of, is_filled};
-ghost use Rattle.plant_tree.specs.Code.{views, keys_of, key_of as key_seen};
 ghost use Rattle.plant_tree.specs.Walk.{has_kind, element_out, list_out, out_unless, may_be_number, out_of_range, absence_refusals, value_refusals, key_refusals, keys_refusals, table_refusals, machine_refusals, stage_refusals, loop_refusals, walk, refused_name, refused_type};
+ghost use Rattle.toml.specs.View.{view};
 
 use crate::keys::{
     Class, Key, Kind, has_stage_cards, loop_keys, machine_keys, stage_keys, top_keys,

@@ -1,9 +1,9 @@
-ghost use Rattle.std.specs.Prelude.{◌≡◌, map, codes};
 ghost use Rattle.std.specs.List.{list_any};
-ghost use Rattle.toml.specs.View.{view};
-ghost use Rattle.plant_tree.specs.Readers.{has};
-ghost use Rattle.plant_tree.specs.Keys.{optional, required_if, required, choice, has_stage_cards, has_line_cards, stage_has_column, has_column, top_keys, stage_keys, machine_keys, loop_keys};
+ghost use Rattle.std.specs.Prelude.{◌≡◌, map, codes};
 ghost use Rattle.plant_tree.specs.Code.{key_of};
+ghost use Rattle.plant_tree.specs.Keys.{optional, required_if, required, choice, has_stage_cards, has_line_cards, stage_has_column, has_column, top_keys, stage_keys, machine_keys, loop_keys};
+ghost use Rattle.plant_tree.specs.Readers.{has};
+ghost use Rattle.toml.specs.View.{view};
 
 use crate::values::{has, tables_at, text_at};
 use line_base::{MAX_CARDS, MAX_COLUMN, MAX_DEMAND_DATE, MAX_OBSERVE_DATE, MAX_TIME};

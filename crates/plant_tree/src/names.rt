@@ -1,10 +1,10 @@
-ghost use Rattle.std.specs.Prelude.{◌≡◌, ◌++◌, [], ◌∷◌, not, length, map, take, IfOk, OnOk, Ok, true, bytes_eq, position, codes};
 ghost use Rattle.std.specs.List.{list_any, position_or_len};
+ghost use Rattle.std.specs.Prelude.{◌≡◌, ◌++◌, [], ◌∷◌, not, length, map, take, IfOk, OnOk, Ok, true, bytes_eq, position, codes};
 ghost use Rattle.plant_model.specs.Refusals.{AnswersFirst, each};
-ghost use Rattle.toml.specs.View.{view};
 ghost use Rattle.plant_tree.specs.Code.{GivesNames, views};
 ghost use Rattle.plant_tree.specs.Readers.{name_in, stage_names};
 ghost use Rattle.plant_tree.specs.Walk.{name_twice, machine_name_twice, stage_name_twice, names_twice};
+ghost use Rattle.toml.specs.View.{view};
 
 use crate::values::{tables_at, text_at};
 use indexmap::IndexSet;

@@ -1,5 +1,5 @@
-ghost use Rattle.std.specs.Prelude.{◌≡◌};
 ghost use Rattle.std.specs.List.{list_all};
+ghost use Rattle.std.specs.Prelude.{◌≡◌};
 ghost use Rattle.plant_tree.specs.Walk.{keeps_name_rule, is_policy, is_plain, shown};
 
 use crate::keys::Kind;

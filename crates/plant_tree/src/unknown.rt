@@ -1,11 +1,11 @@
-ghost use Rattle.std.specs.Prelude.{◌≡◌, not, ◌&&◌, bytes_eq};
 ghost use Rattle.std.specs.List.{list_any};
+ghost use Rattle.std.specs.Prelude.{◌≡◌, not, ◌&&◌, bytes_eq};
 ghost use Rattle.plant_model.specs.Refusals.{AnswersFirst};
-ghost use Rattle.toml.specs.View.{view, table_view};
+ghost use Rattle.plant_tree.specs.Code.{keys_of};
 ghost use Rattle.plant_tree.specs.Keys.{is_allowed};
 ghost use Rattle.plant_tree.specs.Readers.{members_in};
-ghost use Rattle.plant_tree.specs.Code.{keys_of};
 ghost use Rattle.plant_tree.specs.Walk.{unknown_key, unknown_keys};
+ghost use Rattle.toml.specs.View.{view, table_view};
 
 use crate::keys::Key;
 use crate::rules::shown;

@@ -1,9 +1,9 @@
-ghost use Rattle.std.specs.Prelude.{◌≡◌, option_map, map};
 ghost use Rattle.std.specs.List.{list_all};
-ghost use Rattle.toml.specs.Data.{get};
-ghost use Rattle.toml.specs.View.{view};
+ghost use Rattle.std.specs.Prelude.{◌≡◌, option_map, map};
 ghost use Rattle.plant_tree.specs.Code.{views};
 ghost use Rattle.plant_tree.specs.Readers.{has, elements_of, is_table, is_number, is_text, is_list_of, is_within, text_of, text_at, tables_of, tables_at};
+ghost use Rattle.toml.specs.Data.{get};
+ghost use Rattle.toml.specs.View.{view};
 
 use toml::Value;
 

@@ -2,8 +2,8 @@
 #![tactic(auto)]
 
 ghost use Rattle.std.specs.Prelude.{◌≡◌, ◌-◌, ◌<◌, ◌≤◌, ℕ, length, IfOk};
-ghost use Rattle.plant_model.specs.Line.{line_cards, path_stock};
 ghost use Rattle.plant_model.specs.Graph.{arcs_of, line_card_row, conwip_rows};
+ghost use Rattle.plant_model.specs.Line.{line_cards, path_stock};
 ghost use Rattle.plant_model.specs.Sound.{IsSound};
 
 use line_base::Arc;

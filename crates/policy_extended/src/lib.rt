@@ -2,8 +2,8 @@
 #![tactic(auto)]
 
 ghost use Rattle.std.specs.Prelude.{◌≡◌, ◌-◌, ◌<◌, ◌≤◌, length, IfOk};
-ghost use Rattle.plant_model.specs.Line.{stage_at, starting};
 ghost use Rattle.plant_model.specs.Graph.{arcs_of, card_row, demand_row, extended_rows};
+ghost use Rattle.plant_model.specs.Line.{stage_at, starting};
 ghost use Rattle.plant_model.specs.Sound.{IsSound};
 
 use line_base::Arc;

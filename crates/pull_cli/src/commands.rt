@@ -4,12 +4,12 @@ ghost use Rattle.command_words.specs.Ranges.{IsInRange};
 ghost use Rattle.command_words.specs.Words.{IsStill};
 ghost use Rattle.command_words.specs.declared.command.Command.TheVariants as command;
 ghost use Rattle.line_base.specs.Limits.{most_checkpoint_bytes, most_workers};
+ghost use Rattle.pull_cli.specs.Tasks.{plant_of, file_of, IsAnswered, SaysAlone, SaysOfPlant, SaysOfFile, StepOf, DoesWith};
+ghost use Rattle.pull_cli.specs.Verdict.{task_of, OfCommand, CommandDoes};
 ghost use Rattle.pull_steps.specs.Deeds.{disk_over, DoesOnStore};
 ghost use Rattle.pull_steps.specs.LivePlant.{IsLivePlant};
 ghost use Rattle.pull_steps.specs.Outside.{store_over};
 ghost use Rattle.pull_steps.specs.Steps.{Makes};
-ghost use Rattle.pull_cli.specs.Tasks.{plant_of, file_of, IsAnswered, SaysAlone, SaysOfPlant, SaysOfFile, StepOf, DoesWith};
-ghost use Rattle.pull_cli.specs.Verdict.{task_of, OfCommand, CommandDoes};
 
 use command_words::{Command, FileName};
 use line_disk::Disk;

@@ -5,12 +5,12 @@ ghost use Rattle.command_words.specs.Usage.{as_line};
 ghost use Rattle.command_words.specs.Words.{command_of};
 ghost use Rattle.line_io.specs.Faults.{Rose};
 ghost use Rattle.line_io.specs.SinkView.{PutsAll, PutsFront};
-ghost use Rattle.pull_steps.specs.Deeds.{disk_over, Does};
-ghost use Rattle.pull_steps.specs.Outside.{store_over, sink_over};
 ghost use Rattle.pull_cli.specs.Ends.{Ends, Finishes, IsWrittenInParts, Writes, WritesReply};
 ghost use Rattle.pull_cli.specs.Files.{FilesStay};
 ghost use Rattle.pull_cli.specs.Headline.{Headline};
 ghost use Rattle.pull_cli.specs.Verdict.{CommandDoes, IsWordsReply, OfWords};
+ghost use Rattle.pull_steps.specs.Deeds.{disk_over, Does};
+ghost use Rattle.pull_steps.specs.Outside.{store_over, sink_over};
 
 use crate::commands::{do_command, stand_plant};
 use command_words::{Command, WordsError, has_stand, read_words};

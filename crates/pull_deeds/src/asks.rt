@@ -4,8 +4,8 @@ ghost use Rattle.event_graph.specs.Least.{IsLeast};
 ghost use Rattle.event_graph.specs.Table.{date_in};
 ghost use Rattle.line_core.specs.Schedule.{follow};
 ghost use Rattle.plant_model.specs.Graph.{graph};
-ghost use Rattle.pull_steps.specs.LivePlant.{IsLivePlant};
 ghost use Rattle.pull_deeds.specs.Answers.{IsEnd, IsCheck, IsCycled, IsCards, IsPageOf, IsRefusedLine, IsWhatIf};
+ghost use Rattle.pull_steps.specs.LivePlant.{IsLivePlant};
 ghost use Rattle.what_if.specs.Sheet.{IsBegun};
 
 use crate::output::Output;

@@ -1,7 +1,7 @@
 ghost use Rattle.std.specs.Prelude.{OnOk, OnErr, ◌≤◌};
+ghost use Rattle.command_outputs.specs.ChangesText.{changes_text};
 ghost use Rattle.line_io.specs.Faults.{Rose};
 ghost use Rattle.line_io.specs.SinkView.{PutsAll, PutsFront};
-ghost use Rattle.command_outputs.specs.ChangesText.{changes_text};
 ghost use Rattle.line_report.specs.Reported.{report_of, summary_of};
 ghost use Rattle.pull_deeds.specs.Output.{output_bytes};
 

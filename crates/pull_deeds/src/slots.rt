@@ -2,10 +2,10 @@
 ghost use Rattle.std.specs.Prelude.{◌≡◌, ℕ, ◌≤◌};
 ghost use Rattle.event_graph.specs.State.{start};
 ghost use Rattle.line_base.specs.Limits.{most_workers};
+ghost use Rattle.pull_deeds.specs.Saving.{NamesStationOf, IsResumeReply};
+ghost use Rattle.pull_deeds.specs.Saving.{RunsWithSlots, ResumesSlots, ComesOfSave};
 ghost use Rattle.pull_steps.specs.Deeds.{disk_over, DoesOnDisk};
 ghost use Rattle.pull_steps.specs.LivePlant.{IsLivePlant};
-ghost use Rattle.pull_deeds.specs.Saving.{RunsWithSlots, ResumesSlots, ComesOfSave};
-ghost use Rattle.pull_deeds.specs.Saving.{NamesStationOf, IsResumeReply};
 ghost use Rattle.slot_store.specs.declared.error.SlotError.TheVariants.{TooLong};
 
 use crate::output::Output;

@@ -1,10 +1,10 @@
 ghost use Rattle.std.specs.Prelude.{◌≡◌, ◌≤◌, length, option_map, is_some, IfOk, IfSome};
+ghost use Rattle.plant_draft.specs.Reading.{reading as reading_of, AnswersReading};
 ghost use Rattle.plant_model.specs.Sound.{IsSound};
 ghost use Rattle.pull_steps.specs.Outside.{store_over, limit_of};
+ghost use Rattle.pull_steps.specs.PlantSteps.{OfDraft, OfPlantFile};
 ghost use Rattle.pull_steps.specs.Replies.{IsFaultOf, refusal_of};
 ghost use Rattle.pull_steps.specs.Steps.{Makes, LooksAt, LooksAtNamed};
-ghost use Rattle.pull_steps.specs.PlantSteps.{OfDraft, OfPlantFile};
-ghost use Rattle.plant_draft.specs.Reading.{reading as reading_of, AnswersReading};
 
 use line_base::{Items, MAX_CHECKPOINT_BYTES, MAX_FILE_BYTES, is_checkpoint_name};
 use line_io::{Store, StoreError};

@@ -1,13 +1,13 @@
 ghost use Rattle.std.specs.Prelude.{◌≡◌, ◌⊎◌, IfOk, IfErr, OnOk};
-ghost use Rattle.plant_model.specs.Graph.{graph};
-ghost use Rattle.plant_model.specs.Sound.{IsSound};
 ghost use Rattle.event_graph.specs.Live.{IsLive};
 ghost use Rattle.line_graph.specs.Labels.{HasLabels};
 ghost use Rattle.live_check.specs.DeadCircuit.{IsDeadCircuit};
+ghost use Rattle.plant_model.specs.Graph.{graph};
+ghost use Rattle.plant_model.specs.Sound.{IsSound};
 ghost use Rattle.pull_steps.specs.LivePlant.{plant_in, IsLivePlant};
 ghost use Rattle.pull_steps.specs.Outside.{store_over};
-ghost use Rattle.pull_steps.specs.Steps.{Makes};
 ghost use Rattle.pull_steps.specs.PlantSteps.{OfPlantNamed, IsDeadReply};
+ghost use Rattle.pull_steps.specs.Steps.{Makes};
 
 use crate::files::read_plant_files;
 use event_graph::Graph;

@@ -1,8 +1,8 @@
-ghost use Rattle.std.specs.Prelude.{◌≡◌, ◌++◌, IfOk, OnErr, string_bytes};
 ghost use Rattle.std.specs.Cow.{cow_slice_items};
+ghost use Rattle.std.specs.Prelude.{◌≡◌, ◌++◌, IfOk, OnErr, string_bytes};
 ghost use Rattle.command_words.specs.Usage.{as_line, usage};
-ghost use Rattle.pull_words.specs.Reply.{status_of, text_of, IsFixed};
 ghost use Rattle.pull_words.specs.Refusals.{sizing_reply, edits_reply};
+ghost use Rattle.pull_words.specs.Reply.{status_of, text_of, IsFixed};
 ghost use Rattle.pull_words.specs.declared.reply.Reply.TheVariants.{NoMemory};
 
 use crate::checkpoint_refusal::{CheckpointRefusal, checkpoint_line};

@@ -3,9 +3,9 @@
 #![tactic(auto)]
 
 ghost use Rattle.std.specs.Prelude.{◌≡◌, ◌+◌, ◌≤◌, [], length, IfOk};
+ghost use Rattle.room_ring.specs.Ends.{IsRoomRing, IsInOrder, IsWithinRoom, IsAllKnown, IsAllSpace};
 ghost use Rattle.room_ring.specs.Put.{room_tokens, room_space};
 ghost use Rattle.room_ring.specs.Take.{room_known};
-ghost use Rattle.room_ring.specs.Ends.{IsRoomRing, IsInOrder, IsWithinRoom, IsAllKnown, IsAllSpace};
 
 mod put;
 mod take;

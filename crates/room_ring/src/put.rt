@@ -40,8 +40,8 @@ impl Model for RoomPut {
       ring = record { table = p.seat.table_id; room = p.room };
     } };
 
-    ghost use Rattle.std.specs.Prelude.{◌≡◌, ◌+◌, ◌≤◌, true, [], None, length};
     ghost use Rattle.std.specs.Arc.{arc_value};
+    ghost use Rattle.std.specs.Prelude.{◌≡◌, ◌+◌, ◌≤◌, true, [], None, length};
     ghost use Rattle.room_ring.specs.declared.view.Role.TheVariants.{Putter};
 
     ghost invariant = { λ p. record {

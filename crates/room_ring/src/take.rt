@@ -30,8 +30,8 @@ impl Model for RoomTake {
       ring = record { table = t.seat.table_id; room = t.room };
     } };
 
-    ghost use Rattle.std.specs.Prelude.{◌≡◌, ◌+◌, ◌≤◌, false, [], length};
     ghost use Rattle.std.specs.Arc.{arc_value};
+    ghost use Rattle.std.specs.Prelude.{◌≡◌, ◌+◌, ◌≤◌, false, [], length};
     ghost use Rattle.room_ring.specs.declared.view.Role.TheVariants.{Taker};
 
     ghost invariant = { λ t. record {

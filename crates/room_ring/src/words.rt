@@ -1,7 +1,7 @@
 //! The rule of a ring's table, and the names of its steps.
 ghost use Rattle.std.specs.Prelude.{◌≡◌, ◌<◌, length};
-ghost use Rattle.room_ring.specs.Rule.{KeepsRule, cell_of};
 ghost use Rattle.room_ring.specs.Plays.{StoresCell, StoresTail, LoadsHead, LoadsTail, LoadsCell, StoresHead};
+ghost use Rattle.room_ring.specs.Rule.{KeepsRule, cell_of};
 ghost use Rattle.room_ring.specs.View.{first_putter, first_taker, note, spent, opened, joined};
 
 use crate::view::View;

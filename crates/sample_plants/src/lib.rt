@@ -2,8 +2,8 @@
 #![tactic(auto)]
 
 ghost use Rattle.std.specs.Prelude.{◌≡◌, ◌≤◌, length, All, IfOk};
-ghost use Rattle.line_base.specs.declared.limits.TheConstants.{MAX_ARCS, MAX_CARDS, MAX_TIME};
 ghost use Rattle.event_graph.specs.Limits.{IsWithinLimits};
+ghost use Rattle.line_base.specs.declared.limits.TheConstants.{MAX_ARCS, MAX_CARDS, MAX_TIME};
 ghost use Rattle.plant_model.specs.Graph.{graph};
 ghost use Rattle.plant_model.specs.Sound.{IsSound};
 

@@ -1,6 +1,6 @@
 ghost use Rattle.std.specs.Prelude.{◌≡◌};
-ghost use Rattle.slot_store.specs.declared.error.SlotError.TheVariants.{DiskFault, NoMemory};
 ghost use Rattle.line_disk.specs.declared.disk.DiskError.TheVariants.{Failed};
+ghost use Rattle.slot_store.specs.declared.error.SlotError.TheVariants.{DiskFault, NoMemory};
 
 use line_disk::DiskError;
 use thiserror::Error;

@@ -1,6 +1,6 @@
 //! What a save writes, in three parts. Each says what a crash leaves while it runs.
-ghost use Rattle.std.specs.Prelude.{◌≡◌, ◌⊎◌, ◌∷◌, ◌+◌, ◌≤◌, Some, length, IsTrue, IfOk, OnOk, IsErrOf};
 ghost use Rattle.std.specs.Int.{w64, to_be_bytes};
+ghost use Rattle.std.specs.Prelude.{◌≡◌, ◌⊎◌, ◌∷◌, ◌+◌, ◌≤◌, Some, length, IsTrue, IfOk, OnOk, IsErrOf};
 ghost use Rattle.line_disk.specs.DiskView.{MayLeave, LeavesOnly, held_now};
 ghost use Rattle.line_io.specs.Faults.{Rose};
 ghost use Rattle.slot_store.specs.Crash.{SameContent, TellsGate, IsSettled, IsClosed, IsStaged, IsReady, IsSaved, IsKeptOrNew, bytes_now, staged_in};

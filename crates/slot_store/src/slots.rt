@@ -22,9 +22,9 @@ impl<'a, D: Disk> Slots<'a, D> {
     ghost use Rattle.std.specs.Prelude.{◌↔◌, ◌<◌, ℕ, Ok, Err, Some, None, length, IsTrue, IfOk, OnOk, OnErr, IsErrOf};
     ghost use Rattle.line_disk.specs.DiskView.{Stays, LeavesOnly, held_now};
     ghost use Rattle.line_io.specs.Faults.{Rose};
-    ghost use Rattle.slot_store.specs.declared.error.SlotError.TheVariants.{TooLong};
     ghost use Rattle.slot_store.specs.Crash.{IsOldOrNew, IsSaved, bytes_now};
     ghost use Rattle.slot_store.specs.Layout.{content};
+    ghost use Rattle.slot_store.specs.declared.error.SlotError.TheVariants.{TooLong};
 
     /// The slots of this disk, each with room for so many bytes of content: 1 to 167,772,160. It takes no memory, and
     /// the disk is untouched.

@@ -1,7 +1,7 @@
 ghost use Rattle.std.specs.Prelude.{◌≡◌, ◌↔◌, IsTrue};
-ghost use Rattle.worker_crew.specs.Crew.{IsCrew};
 ghost use Rattle.line_workers.specs.Gather.{IsCrewAfter};
 ghost use Rattle.standing_line.specs.Sweeping.{IsCrewFor, MaySweep};
+ghost use Rattle.worker_crew.specs.Crew.{IsCrew};
 
 use line_workers::{Crew, Gate};
 use live_check::Live;

@@ -1,6 +1,6 @@
 ghost use Rattle.std.specs.Prelude.{◌≡◌, ◌≢◌, ℕ, ◌+◌, ◌<◌, ◌≤◌, ◌++◌, ◌∷◌, ◌↔◌, [], Some, length, IsTrue, IfSome, IfNone, option_to_list};
-ghost use Rattle.token_shelf.specs.Shelf.{queue_at, OnlyTakes, OnlyPuts};
 ghost use Rattle.station_step.specs.Ends.{inlet_taken, inlet_ahead, outlet_added, bare_inlet, bare_outlet, unseen_inlet, unseen_outlet, inlet_queue, outlet_queue, HasRingRoom, HasShelfRoom, is_bounded, HasSpace, HasLooked, AreEnds, AreMet, KnowsMore, HasMoreSpace};
+ghost use Rattle.token_shelf.specs.Shelf.{queue_at, OnlyTakes, OnlyPuts};
 
 use card_queue::{Put, Take};
 use line_base::Date;

@@ -1,7 +1,7 @@
 ghost use Rattle.std.specs.Prelude.{◌≡◌, ◌≢◌, ℕ, ◌<◌, Some, length, IfSome};
-ghost use Rattle.token_shelf.specs.Shelf.{queue_at, OnlyTakes};
 ghost use Rattle.station_step.specs.Ends.{inlet_queue};
 ghost use Rattle.station_step.specs.Input.{IsRefilled};
+ghost use Rattle.token_shelf.specs.Shelf.{queue_at, OnlyTakes};
 
 use crate::ends::Inlet;
 use line_base::Date;

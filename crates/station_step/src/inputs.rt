@@ -1,12 +1,12 @@
-ghost use Rattle.std.specs.Prelude.{◌≡◌, ◌≢◌, ℕ, ◌<◌, ◌≤◌, ◌==◌, if◌then◌else◌, None, map, length, IsSome, IfOk};
 ghost use Rattle.std.specs.List.{range_with_len};
-ghost use Rattle.event_graph.specs.Network.{jobs, demand};
+ghost use Rattle.std.specs.Prelude.{◌≡◌, ◌≢◌, ℕ, ◌<◌, ◌≤◌, ◌==◌, if◌then◌else◌, None, map, length, IsSome, IfOk};
 ghost use Rattle.event_graph.specs.Firing.{greatest};
-ghost use Rattle.token_shelf.specs.Shelf.{queue_at, OnlyTakes};
+ghost use Rattle.event_graph.specs.Network.{jobs, demand};
 ghost use Rattle.station_step.specs.Input.{input_at, IsRefilled, TakeWithin, TakeApart, NoneTakes};
-ghost use Rattle.station_step.specs.Station.{bare_input};
 ghost use Rattle.station_step.specs.Noted.{inputs_of, extras_of, unnoted};
 ghost use Rattle.station_step.specs.Refilled.{IfFull, IfEmpty, hand_asks};
+ghost use Rattle.station_step.specs.Station.{bare_input};
+ghost use Rattle.token_shelf.specs.Shelf.{queue_at, OnlyTakes};
 
 use crate::ends::Inlet;
 use crate::input::Input;

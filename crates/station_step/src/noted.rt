@@ -1,5 +1,5 @@
-ghost use Rattle.std.specs.Prelude.{◌≡◌, ℕ, ◌<◌, ◌≤◌, IsTrue, IfOk, length};
 ghost use Rattle.std.specs.List.{list_any};
+ghost use Rattle.std.specs.Prelude.{◌≡◌, ℕ, ◌<◌, ◌≤◌, IsTrue, IfOk, length};
 ghost use Rattle.event_graph.specs.Network.{stations, jobs, ins, outs};
 ghost use Rattle.station_step.specs.Ends.{is_bounded};
 ghost use Rattle.station_step.specs.Noted.{inputs_of, extras_of, outlets_of, delays_of, worked_into, extras_for, extras_into, delays_from};

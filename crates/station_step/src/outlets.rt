@@ -1,11 +1,11 @@
-ghost use Rattle.std.specs.Prelude.{◌≡◌, ◌≢◌, ℕ, ◌<◌, ◌≤◌, ◌++◌, ◌∷◌, [], map, length, slice_index, IfSome, IfNone};
 ghost use Rattle.std.specs.List.{list_any};
-ghost use Rattle.token_shelf.specs.Shelf.{queue_at, OnlyPuts};
+ghost use Rattle.std.specs.Prelude.{◌≡◌, ◌≢◌, ℕ, ◌<◌, ◌≤◌, ◌++◌, ◌∷◌, [], map, length, slice_index, IfSome, IfNone};
 ghost use Rattle.station_step.specs.Ends.{outlet_added, bare_outlet, HasRingRoom, HasShelfRoom, is_bounded, HasSpace, HasNoSpace, HasLooked};
-ghost use Rattle.station_step.specs.Station.{outlet_at, PutWithin, PutApart, NonePuts};
 ghost use Rattle.station_step.specs.Kept.{saturating};
 ghost use Rattle.station_step.specs.Noted.{outlets_of, delays_of};
+ghost use Rattle.station_step.specs.Station.{outlet_at, PutWithin, PutApart, NonePuts};
 ghost use Rattle.station_step.specs.Step.{Grows};
+ghost use Rattle.token_shelf.specs.Shelf.{queue_at, OnlyPuts};
 
 use crate::noted::NotedOutlet;
 use line_base::Date;

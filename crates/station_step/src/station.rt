@@ -3,8 +3,8 @@ ghost use Rattle.card_queue.specs.Plain.{PlainQueue};
 ghost use Rattle.event_graph.specs.Network.{stations, jobs, ins, outs};
 ghost use Rattle.station_step.specs.Ends.{IsUntaken, IsUnfilled, HasRingRoom, unseen_inlet, unseen_outlet, AreEnds, AreMet, KnowsMore, HasMoreSpace};
 ghost use Rattle.station_step.specs.Input.{input_at};
-ghost use Rattle.station_step.specs.Station.{WorkStation, IsStation, IsSeated, MayPut, AreApart, outlet_at, bare_station, new_station, with_inlet, with_outlet};
 ghost use Rattle.station_step.specs.Kept.{IsKept, IsFresh};
+ghost use Rattle.station_step.specs.Station.{WorkStation, IsStation, IsSeated, MayPut, AreApart, outlet_at, bare_station, new_station, with_inlet, with_outlet};
 ghost use Rattle.station_step.specs.Step.{IsReady, IsDone, HasFired, IfBlocked, IsBlocked, IfFull, IsFull, Did, MovesItsOwn, Grows};
 
 use crate::ends::{Inlet, Outlet, meet_ends};
@@ -48,8 +48,8 @@ pub struct Station {
 }
 
 impl Model for Station {
-    ghost use Rattle.station_step.specs.Station.{WorkStation, IsStation};
     ghost use Rattle.station_step.specs.Noted.{IsNoted, seen_station};
+    ghost use Rattle.station_step.specs.Station.{WorkStation, IsStation};
 
     ghost Value = { WorkStation };
 

@@ -1,13 +1,13 @@
-ghost use Rattle.std.specs.Prelude.{◌≡◌, ◌+◌, ◌≤◌, ◌↔◌, IsTrue, Ok, Err, IfErr, OnOk, length};
 ghost use Rattle.std.specs.Bool.{OnTrue, OnFalse};
 ghost use Rattle.std.specs.List.{position_or_len};
 ghost use Rattle.std.specs.Prelude.{◌==◌};
+ghost use Rattle.std.specs.Prelude.{◌≡◌, ◌+◌, ◌≤◌, ◌↔◌, IsTrue, Ok, Err, IfErr, OnOk, length};
 ghost use Rattle.std.specs.Str.Lines.{strip_carriage_return};
 ghost use Rattle.event_graph.specs.Network.{jobs};
 ghost use Rattle.line_core.specs.Schedule.{lines_of};
 ghost use Rattle.what_if.specs.Edited.{FitsBetween};
-ghost use Rattle.what_if.specs.Page.{mark_count};
 ghost use Rattle.what_if.specs.Edits.{IsEdit, MayFollow, inputs_after, LeadsTo, IsRefused, ComesTo};
+ghost use Rattle.what_if.specs.Page.{mark_count};
 ghost use Rattle.what_if.specs.Settled.{KeepsDates};
 
 use crate::edit::Edit;

@@ -1,7 +1,7 @@
 ghost use Rattle.std.specs.Prelude.{◌≡◌, ◌<◌, ◌≤◌, if◌then◌else◌, false, length, slice_set};
 ghost use Rattle.event_graph.specs.Network.{arc_count, jobs};
-ghost use Rattle.what_if.specs.Page.{IsDate, slot};
 ghost use Rattle.what_if.specs.Evaluation.{with_reader, with_readers};
+ghost use Rattle.what_if.specs.Page.{IsDate, slot};
 ghost use Rattle.what_if.specs.Sheet.{date_count};
 
 use crate::marks::Marks;

@@ -1,5 +1,5 @@
-ghost use Rattle.std.specs.Prelude.{◌≡◌, ◌+◌, ◌≤◌, ◌<◌, ◌*◌, ◌^◌, ℕ, length, IfOk, MatchOption, slice_set, true, false};
 ghost use Rattle.std.specs.Int.{bit_at};
+ghost use Rattle.std.specs.Prelude.{◌≡◌, ◌+◌, ◌≤◌, ◌<◌, ◌*◌, ◌^◌, ℕ, length, IfOk, MatchOption, slice_set, true, false};
 ghost use Rattle.what_if.specs.Marks.{bits_of, is_at, count_of, HasNone, IsFirstFrom};
 
 use std::alloc::{AllocError, Global};
@@ -13,8 +13,8 @@ pub struct Marks {
 }
 
 impl Model for Marks {
-    ghost use Rattle.std.specs.Prelude.{List, Bool};
     ghost use Rattle.std.specs.Int.{bit_at};
+    ghost use Rattle.std.specs.Prelude.{List, Bool};
     ghost use Rattle.what_if.specs.Marks.{bits_of, AreCounted};
 
     ghost Value = { List Bool };

@@ -1,8 +1,8 @@
 ghost use Rattle.std.specs.Prelude.{◌≡◌, ◌<◌, ◌≤◌, ℕ, decimal, codes, Some, IfSome};
+ghost use Rattle.event_graph.specs.Network.{label};
 ghost use Rattle.event_graph.specs.Network.{stations};
 ghost use Rattle.what_if.specs.Edits.{is_machine, machine_with, spaced, Writes};
 ghost use Rattle.what_if.specs.declared.edit.Edit.{Edit};
-ghost use Rattle.event_graph.specs.Network.{label};
 
 use crate::edit::Edit;
 use crate::words::split_word;

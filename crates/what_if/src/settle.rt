@@ -1,7 +1,7 @@
 ghost use Rattle.std.specs.Prelude.{◌≡◌, ◌^◌, ◌<◌};
 ghost use Rattle.what_if.specs.Page.{mark_count};
-ghost use Rattle.what_if.specs.Sheet.{IsSheet};
 ghost use Rattle.what_if.specs.Settled.{IsSolved, HasEvaluatedFew, KeepsInputs};
+ghost use Rattle.what_if.specs.Sheet.{IsSheet};
 
 use crate::sheet::Sheet;
 use crate::slots::date_at_slot;

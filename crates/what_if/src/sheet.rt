@@ -1,12 +1,12 @@
 ghost use Rattle.std.specs.Prelude.{◌≡◌, ◌≢◌, ◌-◌, ◌^◌, ◌<◌, ◌≤◌, ◌↔◌, if◌then◌else◌, IsTrue, IfOk, MatchOption, length, slice_index, slice_index_or};
-ghost use Rattle.line_base.specs.Limits.{longest_time, last_demand};
 ghost use Rattle.event_graph.specs.Network.{arc_count, jobs, time};
 ghost use Rattle.event_graph.specs.Table.{date_in};
 ghost use Rattle.event_graph.specs.Term.{term};
-ghost use Rattle.what_if.specs.Marks.{HasNone, IsFirstFrom};
+ghost use Rattle.line_base.specs.Limits.{longest_time, last_demand};
 ghost use Rattle.what_if.specs.Edited.{FitsBetween};
-ghost use Rattle.what_if.specs.Page.{graph_of, IsDate, date_at, greatest_term, is_marked, mark_count};
 ghost use Rattle.what_if.specs.Evaluation.{retimed, redemanded, evaluated};
+ghost use Rattle.what_if.specs.Marks.{HasNone, IsFirstFrom};
+ghost use Rattle.what_if.specs.Page.{graph_of, IsDate, date_at, greatest_term, is_marked, mark_count};
 ghost use Rattle.what_if.specs.Sheet.{IsSheet, IsBegun};
 
 use crate::copies::{all_times, demands_of, places_of, rows_of};

@@ -1,5 +1,5 @@
-ghost use Rattle.std.specs.Prelude.{◌≡◌, ◌==◌, ◌≤◌, length, take, drop, MatchOption};
 ghost use Rattle.std.specs.List.{position_or_len};
+ghost use Rattle.std.specs.Prelude.{◌≡◌, ◌==◌, ◌≤◌, length, take, drop, MatchOption};
 ghost use Rattle.what_if.specs.Edits.{IsSplit, HasNoSpace};
 
 /// Where the first space of a text stands, or else the length of the text.

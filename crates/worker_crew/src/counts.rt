@@ -1,5 +1,5 @@
-ghost use Rattle.std.specs.Prelude.{◌≡◌, ◌<◌, ◌≤◌, ◌^◌, ℕ, length, sum_by, IsTrue, ◌↔◌};
 ghost use Rattle.std.specs.List.{Any};
+ghost use Rattle.std.specs.Prelude.{◌≡◌, ◌<◌, ◌≤◌, ◌^◌, ℕ, length, sum_by, IsTrue, ◌↔◌};
 ghost use Rattle.line_base.specs.declared.limits.TheConstants.{MAX_STATIONS, MAX_DEMANDS};
 ghost use Rattle.worker_crew.specs.Team.{member};
 ghost use Rattle.worker_crew.specs.Work.{dates_of, turns_of};

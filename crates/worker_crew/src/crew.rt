@@ -1,17 +1,17 @@
-ghost use Rattle.std.specs.Prelude.{◌≡◌, ◌+◌, ◌<◌, ◌≤◌, ◌^◌, ◌++◌, ℕ, length, map, slice_index, if◌then◌else◌, IsTrue, ◌↔◌, IfOk, OnOk};
 ghost use Rattle.std.specs.List.{Any};
+ghost use Rattle.std.specs.Prelude.{◌≡◌, ◌+◌, ◌<◌, ◌≤◌, ◌^◌, ◌++◌, ℕ, length, map, slice_index, if◌then◌else◌, IsTrue, ◌↔◌, IfOk, OnOk};
 ghost use Rattle.event_graph.specs.Network.{jobs, stations};
 ghost use Rattle.event_graph.specs.Reached.{Reached};
-ghost use Rattle.worker_crew.specs.Share.{first_of};
 ghost use Rattle.station_step.specs.Ends.{AreEnds, AreMet};
 ghost use Rattle.station_step.specs.Input.{input_at};
 ghost use Rattle.station_step.specs.Station.{outlet_at};
-ghost use Rattle.worker_crew.specs.Team.{member, IsTeam};
-ghost use Rattle.worker_crew.specs.Crews.{IsSameCrew, CrewWorked, IsReadyFor, MayGoOn, HasGoneOn};
-ghost use Rattle.worker_crew.specs.Meeting.{OutletMet, InletMet};
-ghost use Rattle.worker_crew.specs.Crew.{IsCrew, with_team};
-ghost use Rattle.worker_crew.specs.Logs.{log_of, copy_of};
 ghost use Rattle.worker_crew.specs.Cleared.{cleared_crew};
+ghost use Rattle.worker_crew.specs.Crew.{IsCrew, with_team};
+ghost use Rattle.worker_crew.specs.Crews.{IsSameCrew, CrewWorked, IsReadyFor, MayGoOn, HasGoneOn};
+ghost use Rattle.worker_crew.specs.Logs.{log_of, copy_of};
+ghost use Rattle.worker_crew.specs.Meeting.{OutletMet, InletMet};
+ghost use Rattle.worker_crew.specs.Share.{first_of};
+ghost use Rattle.worker_crew.specs.Team.{member, IsTeam};
 ghost use Rattle.worker_crew.specs.Work.{dates_of, turns_of, dates_made, turns_made, SteppedAt, HasSwept, AllDone, TurnsBelow, IsAlone};
 
 use crate::counts::{all_done, dates_made, most_turns, turns_made};

@@ -1,7 +1,7 @@
 ghost use Rattle.std.specs.Prelude.{◌≡◌, ℕ, ◌+◌, ◌<◌, ◌≤◌, ◌++◌, map, length, IfOk, OnOk};
+ghost use Rattle.worker_crew.specs.Logs.{log_of, copy_of};
 ghost use Rattle.worker_crew.specs.Team.{member};
 ghost use Rattle.worker_crew.specs.Work.{dates_of};
-ghost use Rattle.worker_crew.specs.Logs.{log_of, copy_of};
 
 use line_base::{Date, Log, Logs};
 use station_step::Station;

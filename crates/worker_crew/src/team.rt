@@ -1,17 +1,17 @@
 ghost use Rattle.std.specs.Prelude.{◌≡◌, ℕ, ◌<◌, length};
-ghost use Rattle.line_base.specs.declared.event.Parts.{Parts};
 ghost use Rattle.event_graph.specs.State.{State};
+ghost use Rattle.line_base.specs.declared.event.Parts.{Parts};
 ghost use Rattle.station_step.specs.Ends.{AreEnds, AreMet};
 ghost use Rattle.station_step.specs.Input.{input_at};
 ghost use Rattle.station_step.specs.Station.{outlet_at};
-ghost use Rattle.worker_crew.specs.Team.{member, IsTeam};
-ghost use Rattle.worker_crew.specs.Meeting.{OutletMet, InletMet};
 ghost use Rattle.worker_crew.specs.Cleared.{cleared_team};
+ghost use Rattle.worker_crew.specs.Meeting.{OutletMet, InletMet};
+ghost use Rattle.worker_crew.specs.Team.{member, IsTeam};
 
 use crate::clearing::clear_stations;
 use station_step::{Station, meet_at};
-use token_shelf::Shelf;
 use std::marker::Model;
+use token_shelf::Shelf;
 
 /// The stations of one worker, and the shelf with the queues between them.
 #[derive(Drop)]

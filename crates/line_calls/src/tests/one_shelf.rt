@@ -2,16 +2,16 @@
 ghost use Rattle.std.specs.Prelude.{◌≡◌, ◌<◌, List, IfOk};
 ghost use Rattle.card_queue.specs.Plain.{PlainQueue};
 ghost use Rattle.event_graph.specs.Network.{stations};
-ghost use Rattle.station_step.specs.Station.{IsStation};
-ghost use Rattle.station_step.specs.Kept.{IsKept};
 ghost use Rattle.line_calls.specs.OneShelf.{IsFreshShelf, IsLocal, IsLine, local_inlets, local_outlets};
+ghost use Rattle.station_step.specs.Kept.{IsKept};
+ghost use Rattle.station_step.specs.Station.{IsStation};
 
 use event_graph::Graph;
 use line_base::{Date, Log};
 use live_check::Live;
 use station_step::{Inlet, Outlet, Station, Stepped};
-use token_shelf::Shelf;
 use std::alloc::{AllocError, Global};
+use token_shelf::Shelf;
 
 /// The most turns that a station makes.
 const MOST_TURNS: u64 = 1_000_000;

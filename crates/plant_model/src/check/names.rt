@@ -1,5 +1,5 @@
-ghost use Rattle.std.specs.Prelude.{◌≡◌, ◌≤◌, length, bytes_eq};
 ghost use Rattle.std.specs.List.{list_any};
+ghost use Rattle.std.specs.Prelude.{◌≡◌, ◌≤◌, length, bytes_eq};
 ghost use Rattle.plant_model.specs.Refusals.{AnswersFirst, bad_name, bad_names, is_reserved, machine_name_twice, stage_name_twice, names_twice};
 
 use crate::error::PlantError;

@@ -1,6 +1,6 @@
 ghost use Rattle.std.specs.Prelude.{◌≡◌, ◌≤◌, ◌^◌, All, IfOk};
-ghost use Rattle.worker_crew.specs.Work.{TurnsBelow};
 ghost use Rattle.worker_crew.specs.Crews.{live_of, AreCrews};
+ghost use Rattle.worker_crew.specs.Work.{TurnsBelow};
 
 use crate::tests::got::got;
 use crate::tests::same::same;
