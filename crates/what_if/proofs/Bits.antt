@@ -2,7 +2,7 @@
 use Rattle.std.proofs.Common.{◌≡◌, ◌≢◌, ℕ, ◌+◌, ◌-◌, ◌*◌, ◌/◌, ◌%◌, ◌<◌, ◌≤◌, Bool, true, false, cond, eqb, List, length, get_or, set, replicate, zero-add, sym, ap, ◌∙◌, arith, inl, inr}
 use Rattle.std.specs.Int.{bit_at}
 use Rattle.std.proofs.lemmas.Bool.{cases_eq, cases_lt}
-use Rattle.std.proofs.lemmas.List.{ext_get_or, get_or-set_same, get_or-set_other, length-set, get_or_past, get_or_default, get_or-replicate, length-replicate}
+use Rattle.std.proofs.lemmas.List.{ext_get_or, get_or-set_same, get_or-set_other, length-set, get_or_past, get_or_default, get_or_read, get_or-replicate, length-replicate}
 use Rattle.std.proofs.lemmas.List.FromFn.{length-map-range_with_len, get_or-map-range_with_len}
 use Rattle.std.proofs.lemmas.List.Sums.{sum_by-set, sum_by-le}
 use Rattle.std.proofs.lemmas.Nat.Bits.{bit_at-zero}
@@ -85,6 +85,12 @@ none-count marks none = sum_by-le (λ (m : Bool). cond m 1 0) 0 marks (λ k d lo
 pub count_of-none : (marks : List Bool) → ((k : ℕ) → is_at marks k ≡ false) → count_of marks ≡ 0
 count_of-none marks none = omega (arith, none-count marks none)
 
+-- a word in which one bit is changed goes to the place from which it was read
+pub bits_of-write : (words : List ℕ) (k n v : ℕ) (b : Bool) → k < 64 * length words → n ≡ get_or words (k / 64) n → eqb (bit_at v (k % 64)) 1 ≡ b → ((i : ℕ) → i < 64 → i ≢ k % 64 → bit_at v i ≡ bit_at n i) → bits_of (set words (k / 64) v) ≡ set (bits_of words) k b
+bits_of-write words k n v b low read is others =
+    let here = get_or_read words (k / 64) n (omega arith) read 0 in
+    bits_of-set words k v b low is (λ i in_word other. others i in_word other ∙ ap (λ w. bit_at w i) here)
+
 -- ---- the first mark
 
 bit_in-word : (words : List ℕ) (j i : ℕ) → i < 64 → bit_in words (64 * j + i) ≡ eqb (bit_at (get_or words j 0) i) 1
@@ -97,18 +103,24 @@ bit_in-word words j i low =
 is_at-word : (words : List ℕ) (j i : ℕ) → j < length words → i < 64 → is_at (bits_of words) (64 * j + i) ≡ eqb (bit_at (get_or words j 0) i) 1
 is_at-word words j i there low = is_at-bits words (64 * j + i) (omega arith) ∙ bit_in-word words j i low
 
+-- number k stands in word j, of which w has the bits from `from` on
+is_at-same_bits : (words : List ℕ) (from j w k : ℕ) → j < length words → ((i : ℕ) → from ≤ 64 * j + i → i < 64 → bit_at w i ≡ bit_at (get_or words j 0) i) → from ≤ k → 64 * j ≤ k → k < 64 * (j + 1) → is_at (bits_of words) k ≡ eqb (bit_at w (k - 64 * j)) 1
+is_at-same_bits words from j w k there same after here low =
+    let i = k - 64 * j in
+    let at : k ≡ 64 * j + i = omega arith in
+    let in_word : i < 64 = omega arith in
+    ap (is_at (bits_of words)) at
+    ∙ is_at-word words j i there in_word
+    ∙ ap (λ b. eqb b 1) (sym (same i (omega arith) in_word))
+
 -- a word without a bit is passed
 pub none_in_word : (words : List ℕ) (from j w : ℕ) → j < length words → ((i : ℕ) → from ≤ 64 * j + i → i < 64 → bit_at w i ≡ bit_at (get_or words j 0) i) → w ≡ 0 → HasNone (bits_of words) from (64 * j) → HasNone (bits_of words) from (64 * (j + 1))
 none_in_word words from j w there same zero before k after low =
     elim (cases_lt k (64 * j)) [
       | inl early ↦ before k after early
       | inr here ↦
-          let i = k - 64 * j in
-          let at : k ≡ 64 * j + i = omega arith in
-          let in_word : i < 64 = omega arith in
-          ap (is_at (bits_of words)) at
-          ∙ is_at-word words j i there in_word
-          ∙ ap (λ b. eqb b 1) (sym (same i (omega arith) in_word) ∙ ap (λ v. bit_at v i) zero ∙ bit_at-zero i)
+          is_at-same_bits words from j w k there same after here low
+          ∙ ap (λ b. eqb b 1) (ap (λ v. bit_at v (k - 64 * j)) zero ∙ bit_at-zero (k - 64 * j))
     ]
 
 -- in a word with a bit the lowest is the first
@@ -121,11 +133,7 @@ first_in_word words from j w low there same before in_word set_ none after = rec
       elim (cases_lt k (64 * j)) [
         | inl early ↦ before k from_on early
         | inr here ↦
-            let i = k - 64 * j in
-            let at : k ≡ 64 * j + i = omega arith in
-            let low_i : i < 64 = omega arith in
-            ap (is_at (bits_of words)) at
-            ∙ is_at-word words j i there low_i
-            ∙ ap (λ b. eqb b 1) (sym (same i (omega arith) low_i) ∙ none i (omega arith))
+            is_at-same_bits words from j w k there same from_on here (omega arith)
+            ∙ ap (λ b. eqb b 1) (none (k - 64 * j) (omega arith))
       ];
 }

@@ -32,6 +32,11 @@ same_date u m t n =
       | inr other ↦ inr (inl other)
     ]
 
+-- a time that is looked up is the one in the edited graph
+pub time-read : (p : Page) → IsSheet p → (t n : ℕ) → IsDate p.live.graph t n → (found : ℕ) → found ≡ date_in p.inputs.times t n → found ≡ time (graph_of p) t n
+time-read p sheet t n date found is =
+    is ∙ sym (time-edited p.live.graph p.inputs t n (omega (arith, date.station, sheet.times.row_for_each)) date.from_one)
+
 -- ---- an evaluation, as the code does it
 
 cond-not : {X : Type 0} (b : Bool) (x y : X) → cond (not b) x y ≡ cond b y x

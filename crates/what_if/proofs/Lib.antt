@@ -1,4 +1,5 @@
 pub mod Bits
+pub mod Made
 pub mod SlotOrder
 pub mod Rows
 pub mod Terms

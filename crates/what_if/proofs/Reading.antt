@@ -1,15 +1,17 @@
 -- What the words of a line tell of the edit that it writes.
 use Rattle.std.proofs.Common.{◌≡◌, ◌≢◌, ℕ, zero, suc, ◌+◌, ◌-◌, ◌<◌, ◌≤◌, ◌^◌, Bool, true, false, cond, eqb, List, [], ◌∷◌, ◌++◌, take, drop, length, get_or, refl, sym, ap, ◌∙◌, subst, arith}
 use Rattle.std.specs.Prelude.{Option, None, Some, codes, decimal, not, ◌&&◌, unwrap_or}
-use Rattle.std.specs.List.{position_or_len, find, range_with_len}
+use Rattle.std.specs.List.{position_or_len, find, list_all, range_with_len}
 use Rattle.std.proofs.lemmas.Bool.{eqb-true, eqb-false}
 use Rattle.std.proofs.lemmas.List.{get_or_at, length-append, length-take, get_or-take, get_or_default}
 use Rattle.std.proofs.lemmas.List.Elements.{All-head, All-tail}
-use Rattle.std.proofs.lemmas.List.Sums.{split_at_first, fails_before_first, passes_at_first, prefix_len-le-length}
+use Rattle.std.proofs.lemmas.List.FromFn.{length-range_with_len, get_or-range_with_len}
+use Rattle.std.proofs.lemmas.List.Sums.{split_at_first, fails_before_first, passes_at_first, prefix_len-le-length, AllPass-from_list_all}
 use Rattle.std.proofs.lemmas.Fmt.{decimal_is_IsNumeral}
 use Rattle.std.proofs.lemmas.Str.Parse.{digit_at}
 use Rattle.line_base.specs.declared.event.Parts.{Parts}
-use Rattle.event_graph.specs.Network.{stations, label}
+use Rattle.event_graph.specs.Network.{stations, jobs, label}
+use Rattle.line_core.proofs.Searches.{find-here, find-later}
 use Rattle.what_if.specs.declared.edit.Edit.{Edit}
 use Rattle.what_if.specs.declared.edit.Edit.TheVariants.{Time, Demand}
 use Rattle.what_if.specs.Edits.{spaced, is_machine_with, HasNoSpace, IsTimeEdit, IsDemandEdit, Writes, IsSplit}
@@ -77,21 +79,18 @@ pub one_word-no_edit : (g : Parts) (text : List ℕ) (edit : Edit) → HasNoSpac
 one_word-no_edit g text (Time t n time) none writes = has_space (codes "time") (spaced (label g t) (spaced (decimal n) (decimal time))) (subst HasNoSpace writes.text_is none)
 one_word-no_edit g text (Demand n date) none writes = has_space (codes "demand") (spaced (decimal n) (decimal date)) (subst HasNoSpace writes.text_is none)
 
+-- a word that is known has no space where a look at each of its bytes finds none
+no_space-looked : (word : List ℕ) → list_all (λ byte. not (is_space byte)) word ≡ true → HasNoSpace word
+no_space-looked word looked k d low e =
+    let passes = AllPass-from_list_all (λ byte. not (is_space byte)) word looked k d low in
+    let none : ⊥ = cc (sym passes, ap (λ byte. not (is_space byte)) e) in
+    none
+
 time-no_space : HasNoSpace (codes "time")
-time-no_space zero d low e = absurd (omega (arith, e))
-time-no_space (suc zero) d low e = absurd (omega (arith, e))
-time-no_space (suc (suc zero)) d low e = absurd (omega (arith, e))
-time-no_space (suc (suc (suc zero))) d low e = absurd (omega (arith, e))
-time-no_space (suc (suc (suc (suc k)))) d low e = absurd (omega (arith, low))
+time-no_space = no_space-looked (codes "time") refl
 
 demand-no_space : HasNoSpace (codes "demand")
-demand-no_space zero d low e = absurd (omega (arith, e))
-demand-no_space (suc zero) d low e = absurd (omega (arith, e))
-demand-no_space (suc (suc zero)) d low e = absurd (omega (arith, e))
-demand-no_space (suc (suc (suc zero))) d low e = absurd (omega (arith, e))
-demand-no_space (suc (suc (suc (suc zero)))) d low e = absurd (omega (arith, e))
-demand-no_space (suc (suc (suc (suc (suc zero))))) d low e = absurd (omega (arith, e))
-demand-no_space (suc (suc (suc (suc (suc (suc k)))))) d low e = absurd (omega (arith, low))
+demand-no_space = no_space-looked (codes "demand") refl
 
 -- behind `time` stand the label, the job and the time
 pub time-writes : (g : Parts) (text : List ℕ) (edit : Edit) (P : Edit → Type 0) → Writes g (spaced (codes "time") text) edit → ((t n time : ℕ) → IsTimeEdit g t n time → text ≡ spaced (label g t) (spaced (decimal n) (decimal time)) → P (Time t n time)) → P edit
@@ -140,22 +139,26 @@ some-is x y same = ap (λ (o : Option ℕ). unwrap_or o x) same
 
 -- ---- the words of an edit of a time, and of a demand date, as they were split
 
-pub record AreTimeWords (g : Parts) (t n time : ℕ) (label_ rest job last : List ℕ) : Type 0 where
-  pub label_is : label_ ≡ label g t
-  pub rest_is : rest ≡ spaced (decimal n) (decimal time)
-  pub job_is : IsSplit rest job last → job ≡ decimal n
-  pub last_is : IsSplit rest job last → last ≡ decimal time
+-- the text behind `time`, split once
+pub time-split : (g : Parts) (text label_ rest : List ℕ) (edit : Edit) (P : Edit → Type 0) → IsSplit text label_ rest → Writes g (spaced (codes "time") text) edit → ((t n time : ℕ) → IsTimeEdit g t n time → label_ ≡ label g t → rest ≡ spaced (decimal n) (decimal time) → P (Time t n time)) → P edit
+time-split g text label_ rest edit P split writes known =
+    time-writes g text edit P writes (λ t n time valid is.
+    let words = split_is text label_ rest (label g t) (spaced (decimal n) (decimal time)) split valid.word is in
+    known t n time valid words.0 words.1)
 
-pub time_words : (g : Parts) (t n time : ℕ) (text label_ rest job last : List ℕ) → IsTimeEdit g t n time → text ≡ spaced (label g t) (spaced (decimal n) (decimal time)) → IsSplit text label_ rest → n < 2 ^ 64 → AreTimeWords g t n time label_ rest job last
-time_words g t n time text label_ rest job last valid is split small =
-    let first = split_is text label_ rest (label g t) (spaced (decimal n) (decimal time)) split valid.word is in
-    let none = decimal-no_space n small in
-    record {
-      label_is = first.0;
-      rest_is = first.1;
-      job_is = λ further. (split_is rest job last (decimal n) (decimal time) further none first.1).0;
-      last_is = λ further. (split_is rest job last (decimal n) (decimal time) further none first.1).1;
-    }
+-- and twice
+pub time-parts : (g : Parts) (text label_ rest job last : List ℕ) (edit : Edit) (P : Edit → Type 0) → IsSplit text label_ rest → IsSplit rest job last → jobs g < 2 ^ 64 → Writes g (spaced (codes "time") text) edit → ((t n time : ℕ) → IsTimeEdit g t n time → label_ ≡ label g t → job ≡ decimal n → last ≡ decimal time → P (Time t n time)) → P edit
+time-parts g text label_ rest job last edit P split further few writes known =
+    time-split g text label_ rest edit P split writes (λ t n time valid named follows.
+    let words = split_is rest job last (decimal n) (decimal time) further (decimal-no_space n (omega (arith, valid.job, few))) follows in
+    known t n time valid named words.0 words.1)
+
+-- the text behind `demand`, split
+pub demand-parts : (g : Parts) (text job last : List ℕ) (edit : Edit) (P : Edit → Type 0) → IsSplit text job last → jobs g < 2 ^ 64 → Writes g (spaced (codes "demand") text) edit → ((n date : ℕ) → IsDemandEdit g n date → job ≡ decimal n → last ≡ decimal date → P (Demand n date)) → P edit
+demand-parts g text job last edit P split few writes known =
+    demand-writes g text edit P writes (λ n date valid is.
+    let words = split_is text job last (decimal n) (decimal date) split (decimal-no_space n (omega (arith, valid.job, few))) is in
+    known n date valid words.0 words.1)
 
 -- what a search among numbers finds is one of them
 picked : (b : Bool) (x t : ℕ) (rest : Option ℕ) (P : ℕ → Type 0) → cond b (Some x) rest ≡ Some t → P x → (rest ≡ Some t → P t) → P t
@@ -169,6 +172,24 @@ find-in_range p a (suc n) t found =
     picked (p a) a t (find p (range_with_len (a + 1) n)) InRange found (omega arith, omega arith) (λ later.
     let rest = find-in_range p (a + 1) n t later in
     (omega (arith, rest.0), omega (arith, rest.1)))
+
+-- a search among the numbers from 1 on, below n, goes on
+module _ (p : ℕ → Bool) (n t : ℕ) (one : 1 ≤ t) (low : t < n) where
+  number_at : get_or (range_with_len 1 (n - 1)) (t - 1) 0 ≡ t
+  number_at = get_or-range_with_len 1 (n - 1) (t - 1) 0 (omega arith) ∙ omega arith
+
+  there : t - 1 < length (range_with_len 1 (n - 1))
+  there = omega (arith, one, low, length-range_with_len 1 (n - 1))
+
+  pub find-from_one_here : p t ≡ true → Some t ≡ find p (drop (t - 1) (range_with_len 1 (n - 1)))
+  find-from_one_here found =
+      ap Some (sym number_at) ∙ sym (find-here p (range_with_len 1 (n - 1)) (t - 1) 0 there (ap p number_at ∙ found))
+
+  pub find-from_one_later : p t ≡ false → find p (drop (t + 1 - 1) (range_with_len 1 (n - 1))) ≡ find p (drop (t - 1) (range_with_len 1 (n - 1)))
+  find-from_one_later fails =
+      let next : t + 1 - 1 ≡ t - 1 + 1 = omega (arith, one) in
+      ap (λ k. find p (drop k (range_with_len 1 (n - 1)))) next
+      ∙ find-later p (range_with_len 1 (n - 1)) (t - 1) 0 there (ap p number_at ∙ fails)
 
 -- the station of an edit of a time isn't the feed, and is there
 pub time_edit-station : (g : Parts) (t n time : ℕ) → IsTimeEdit g t n time → (1 ≤ t) × (t < stations g)

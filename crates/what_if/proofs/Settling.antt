@@ -1,5 +1,5 @@
 -- What the evaluation of one marked date after the other keeps, from the first one on.
-use Rattle.std.proofs.Common.{◌≡◌, ◌≢◌, ℕ, ◌+◌, ◌-◌, ◌<◌, ◌≤◌, ◌⊎◌, false, length, refl, sym, ap, ◌∙◌, arith, inl, inr}
+use Rattle.std.proofs.Common.{◌≡◌, ◌≢◌, ℕ, ◌+◌, ◌-◌, ◌<◌, ◌≤◌, ◌⊎◌, false, length, refl, sym, ap, ◌∙◌, subst, arith, inl, inr}
 use Rattle.std.specs.Prelude.{Option, None, Some, MatchOption}
 use Rattle.std.proofs.lemmas.Bool.{cases_lt, cases_eq}
 use Rattle.std.proofs.lemmas.List.{get_or_past}
@@ -154,6 +154,12 @@ pub record IsNext (old now : Page) (next : Option ℕ) : Type 0 where
   pub from : ℕ
   pub settling : IsSettling old now from
   pub next_is : MatchOption next (HasNone now.marks from (length now.marks)) (IsFirstFrom now.marks from)
+
+-- where there is none, no date is marked, and the dates are the least solution
+pub none_next : (old now : Page) (next : Option ℕ) → IsNext old now next → next ≡ None → (mark_count now ≡ 0) × IsSolved now
+none_next old now next s none =
+    let left = subst (λ (o : Option ℕ). MatchOption o (HasNone now.marks s.from (length now.marks)) (IsFirstFrom now.marks s.from)) none s.next_is in
+    (no_mark old now s.from s.settling left, is_solved old now s.from s.settling left)
 
 -- how many dates may still be evaluated
 abbrev pub left_from : ℕ → Option ℕ → ℕ

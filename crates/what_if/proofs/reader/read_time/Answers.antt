@@ -1,10 +1,10 @@
-use Rattle.std.proofs.Common.{◌≡◌, ◌≤◌, sym, ap, subst, ◌∙◌, arith}
+use Rattle.std.proofs.Common.{◌≡◌, sym, ap, subst, ◌∙◌, arith}
 use Rattle.std.specs.Prelude.{Some, decimal}
 use Rattle.event_graph.specs.Network.{label}
 use Rattle.what_if.specs.declared.edit.Edit.{Edit}
 use Rattle.what_if.specs.declared.edit.Edit.TheVariants.{Time}
 use Rattle.what_if.specs.Edits.{spaced, machine_with, HasNoSpace}
-use Rattle.what_if.proofs.Reading.{has_space, split_is, time-writes, none-some, nothing-is, some-is, time_words}
+use Rattle.what_if.proofs.Reading.{has_space, time-writes, time-split, time-parts, none-some, nothing-is, some-is}
 use Rattle.what_if.proofs.reader.read_time.Goals as goal
 
 pub returns-in_err-label-clause-told : goal.returns-in_err-label-clause-told
@@ -15,50 +15,37 @@ returns-in_err-label-clause-told c edit writes =
 
 pub returns-in_err-job-clause-told : goal.returns-in_err-job-clause-told
 returns-in_err-job-clause-told c edit writes =
-    let g = c.args.graph.now in
-    let text = c.args.text.now in
-    time-writes g text edit (λ e. c.from_residual-in_err-job.result ≡ Some e) writes (λ t n time valid is.
-    let words = split_is text c.in_ok-label.label.now c.in_ok-label.rest.now (label g t) (spaced (decimal n) (decimal time)) c.in_ok-label.ensures valid.word is in
-    absurd (has_space (decimal n) (decimal time) (subst HasNoSpace words.1 c.in_err-job.ensures)))
+    time-split c.args.graph.now c.args.text.now c.in_ok-label.label.now c.in_ok-label.rest.now edit (λ e. c.from_residual-in_err-job.result ≡ Some e) c.in_ok-label.ensures writes (λ t n time valid named follows.
+    absurd (has_space (decimal n) (decimal time) (subst HasNoSpace follows c.in_err-job.ensures)))
 
 pub returns-in_err-station-clause-told : goal.returns-in_err-station-clause-told
 returns-in_err-station-clause-told c edit writes =
     let g = c.args.graph.now in
-    let text = c.args.text.now in
-    time-writes g text edit (λ e. c.from_residual-in_err-station.result ≡ Some e) writes (λ t n time valid is.
-    let words = split_is text c.in_ok-label.label.now c.in_ok-label.rest.now (label g t) (spaced (decimal n) (decimal time)) c.in_ok-label.ensures valid.word is in
-    absurd (none-some (machine_with g (label g t)) t (ap (machine_with g) (sym words.0) ∙ sym c.in_err-station.ensures.found) valid.machine))
+    time-split g c.args.text.now c.in_ok-label.label.now c.in_ok-label.rest.now edit (λ e. c.from_residual-in_err-station.result ≡ Some e) c.in_ok-label.ensures writes (λ t n time valid named follows.
+    absurd (none-some (machine_with g (label g t)) t (ap (machine_with g) (sym named) ∙ sym c.in_err-station.ensures.found) valid.machine))
 
 pub returns-in_err-job-2-clause-told : goal.returns-in_err-job-2-clause-told
 returns-in_err-job-2-clause-told c edit writes =
-    let g = c.args.graph.now in
-    let text = c.args.text.now in
-    time-writes g text edit (λ e. c.from_residual-in_err-job-2.result ≡ Some e) writes (λ t n time valid is.
-    let within : n ≤ c.jobs-jobs.result = omega (arith, valid.job, c.jobs-jobs.ensures.count) in
-    let words = time_words g t n time text c.in_ok-label.label.now c.in_ok-label.rest.now c.in_ok-job.job.now c.in_ok-job.time.now valid is c.in_ok-label.ensures (omega (arith, within)) in
-    absurd (nothing-is n (c.in_err-job-2.ensures.told n valid.from_one within (words.job_is c.in_ok-job.ensures))))
+    let few = c.jobs-jobs.ensures.limits.few_jobs in
+    time-parts c.args.graph.now c.args.text.now c.in_ok-label.label.now c.in_ok-label.rest.now c.in_ok-job.job.now c.in_ok-job.time.now edit (λ e. c.from_residual-in_err-job-2.result ≡ Some e) c.in_ok-label.ensures c.in_ok-job.ensures (omega (arith, few)) writes (λ t n time valid named job_is last_is.
+    absurd (nothing-is n (c.in_err-job-2.ensures.told n valid.from_one (omega (arith, valid.job, c.jobs-jobs.ensures.count)) job_is)))
 
 pub returns-in_err-time-clause-told : goal.returns-in_err-time-clause-told
 returns-in_err-time-clause-told c edit writes =
-    let g = c.args.graph.now in
-    let text = c.args.text.now in
-    time-writes g text edit (λ e. c.from_residual-in_err-time.result ≡ Some e) writes (λ t n time valid is.
-    let within : n ≤ c.jobs-jobs.result = omega (arith, valid.job, c.jobs-jobs.ensures.count) in
-    let words = time_words g t n time text c.in_ok-label.label.now c.in_ok-label.rest.now c.in_ok-job.job.now c.in_ok-job.time.now valid is c.in_ok-label.ensures (omega (arith, within)) in
-    absurd (nothing-is time (c.in_err-time.ensures.told time valid.short (words.last_is c.in_ok-job.ensures))))
+    let few = c.jobs-jobs.ensures.limits.few_jobs in
+    time-parts c.args.graph.now c.args.text.now c.in_ok-label.label.now c.in_ok-label.rest.now c.in_ok-job.job.now c.in_ok-job.time.now edit (λ e. c.from_residual-in_err-time.result ≡ Some e) c.in_ok-label.ensures c.in_ok-job.ensures (omega (arith, few)) writes (λ t n time valid named job_is last_is.
+    absurd (nothing-is time (c.in_err-time.ensures.told time valid.short last_is)))
 
 pub returns-clause-told : goal.returns-clause-told
 returns-clause-told c edit writes =
     let g = c.args.graph.now in
-    let text = c.args.text.now in
+    let few = c.jobs-jobs.ensures.limits.few_jobs in
     let station = c.in_ok-station.station in
     let job = c.in_ok-job-2.job in
     let last = c.in_ok-time.time in
     let Same : Edit → Type 0 = λ e. Some (Time station job last) ≡ Some e in
-    time-writes g text edit Same writes (λ t n time valid is.
-    let within : n ≤ c.jobs-jobs.result = omega (arith, valid.job, c.jobs-jobs.ensures.count) in
-    let words = time_words g t n time text c.in_ok-label.label.now c.in_ok-label.rest.now c.in_ok-job.job.now c.in_ok-job.time.now valid is c.in_ok-label.ensures (omega (arith, within)) in
-    let same_station = some-is station t (c.in_ok-station.ensures.found ∙ ap (machine_with g) words.label_is ∙ valid.machine) in
-    let same_job = some-is job n (c.in_ok-job-2.ensures.told n valid.from_one within (words.job_is c.in_ok-job.ensures)) in
-    let same_time = some-is last time (c.in_ok-time.ensures.told time valid.short (words.last_is c.in_ok-job.ensures)) in
+    time-parts g c.args.text.now c.in_ok-label.label.now c.in_ok-label.rest.now c.in_ok-job.job.now c.in_ok-job.time.now edit Same c.in_ok-label.ensures c.in_ok-job.ensures (omega (arith, few)) writes (λ t n time valid named job_is last_is.
+    let same_station = some-is station t (c.in_ok-station.ensures.found ∙ ap (machine_with g) named ∙ valid.machine) in
+    let same_job = some-is job n (c.in_ok-job-2.ensures.told n valid.from_one (omega (arith, valid.job, c.jobs-jobs.ensures.count)) job_is) in
+    let same_time = some-is last time (c.in_ok-time.ensures.told time valid.short last_is) in
     ap (λ s. Some (Time s job last)) same_station ∙ ap (λ j. Some (Time t j last)) same_job ∙ ap (λ x. Some (Time t n x)) same_time)

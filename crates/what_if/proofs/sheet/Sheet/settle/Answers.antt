@@ -3,7 +3,7 @@ use Rattle.std.specs.Prelude.{Option, MatchOption}
 use Rattle.live_check.specs.Order.{LiveGraph}
 use Rattle.what_if.specs.Marks.{HasNone, IsFirstFrom}
 use Rattle.what_if.specs.Page.{Page, IsDate, slot}
-use Rattle.what_if.proofs.Settling.{IsSettling, goes_on, no_mark, is_solved}
+use Rattle.what_if.proofs.Settling.{IsSettling, goes_on, none_next}
 use Rattle.what_if.proofs.sheet.Sheet.settle.Goals as goal
 
 pub loop-next-preserved : goal.loop-next-preserved
@@ -24,15 +24,7 @@ loop-next-preserved c =
     }
 
 pub returns-clause-none_marked : goal.returns-clause-none_marked
-returns-clause-none_marked c =
-    let p = c.loop-next.self in
-    let h = c.loop-next.invariant.settled in
-    let none = subst (λ (o : Option ℕ). MatchOption o (HasNone p.marks h.from (length p.marks)) (IsFirstFrom p.marks h.from)) c.in_default.is h.next_is in
-    no_mark c.args.self.now p h.from h.settling none
+returns-clause-none_marked c = (none_next c.args.self.now c.loop-next.self c.loop-next.next c.loop-next.invariant.settled c.in_default.is).0
 
 pub returns-clause-solved : goal.returns-clause-solved
-returns-clause-solved c =
-    let p = c.loop-next.self in
-    let h = c.loop-next.invariant.settled in
-    let none = subst (λ (o : Option ℕ). MatchOption o (HasNone p.marks h.from (length p.marks)) (IsFirstFrom p.marks h.from)) c.in_default.is h.next_is in
-    is_solved c.args.self.now p h.from h.settling none
+returns-clause-solved c = (none_next c.args.self.now c.loop-next.self c.loop-next.next c.loop-next.invariant.settled c.in_default.is).1
