@@ -26,7 +26,7 @@ use line_report::Report;
 use line_runs::{Outcome, run_to_end, save_state};
 use line_workers::{Gate, Line};
 use live_check::Live;
-use pull_steps::{LivePlant, live_graph};
+use pull_steps::{LivePlant, live_plant_of};
 use pull_words::{FileName, Reply, checkpoint_reply};
 use std::alloc::{AllocError, Global};
 use std::sync::Wait;
@@ -323,11 +323,5 @@ fn big_line(alloc: Global, seed: u64) -> Result<LivePlant, Reply>
     ensures none { IfErr result (λ reply. reply ≡ Reply.NoMemory) }
 {
     let plant = big_plant(alloc, seed)?;
-    match live_graph(alloc, &plant) {
-        Ok(live) => Ok(LivePlant { plant, live }),
-        Err(reply) => {
-            drop(plant);
-            Err(reply)
-        }
-    }
+    live_plant_of(alloc, plant)
 }
