@@ -3,6 +3,7 @@ ghost use Rattle.std.specs.Prelude.{◌≡◌, true, false, ◌↔◌, IfOk, OnO
 ghost use Rattle.card_sizing.specs.Serving.{Serves};
 ghost use Rattle.card_sizing.specs.Sized.{has_single_count, lowest};
 ghost use Rattle.card_sizing.specs.Sizing.{NoneServesBelow, IsBelow, IsSizingRefusal};
+ghost use Rattle.card_sizing.specs.declared.sizing.SizingError.{SizingError};
 ghost use Rattle.event_graph.specs.Live.{IsLive};
 ghost use Rattle.line_base.specs.Limits.{most_cards};
 ghost use Rattle.plant_model.specs.Graph.{graph};
@@ -13,8 +14,7 @@ use crate::trying::try_count;
 use line_base::{Items, Label, MAX_CARDS};
 use plant_model::Plant;
 use std::alloc::{AllocError, Global};
-use std::error::Error;
-use std::fmt;
+use thiserror::Error;
 
 /// The least count of cards that serves, and why one less doesn't.
 #[derive(Drop)]
@@ -38,34 +38,23 @@ pub enum Below {
 }
 
 /// Why there is no count of cards to answer.
-#[derive(Clone, Copy, Debug, PartialEq, Eq)]
+#[derive(Clone, Copy, Debug, PartialEq, Eq, Error)]
 pub enum SizingError {
     /// The plant has no single count of cards: it runs by base stock, or by kanban with a loop.
+    #[error("no single count")]
     NoSingleCount,
     /// With 10,000 cards this job, counted from 1, is the first that waits longer than it may. Its wait is in the plant's unit.
+    #[error("no count: job {job} waits {wait}")]
     NoCount { job: u32, wait: u64 },
     /// Memory ran out.
+    #[error("memory")]
     NoMemory,
 }
 
-impl fmt::Display for SizingError {
-    fn fmt<W: fmt::Write>(&self, f: &mut fmt::Formatter<W>) -> fmt::Result {
-        match self {
-            SizingError::NoSingleCount => f.write_str("no single count"),
-            SizingError::NoCount { job, wait } => { write!(f, "no count: job {job} waits {wait}") }
-            SizingError::NoMemory => f.write_str("memory"),
-        }
-    }
-}
-
-impl Error for SizingError {}
-
 impl From<AllocError> for SizingError {
-    ghost use Rattle.card_sizing.specs.declared.sizing.SizingError.TheVariants.{NoMemory};
+    ghost from_gives = { λ _ e. e ≡ SizingError.NoMemory };
 
-    ghost from_gives = { λ _ e. e ≡ NoMemory };
-
-    fn from(_error: AllocError) -> Self {
+    fn from(_: AllocError) -> Self {
         SizingError::NoMemory
     }
 }

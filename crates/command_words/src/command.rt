@@ -1,5 +1,5 @@
 ghost use Rattle.std.specs.Prelude.{◌≡◌};
-ghost use Rattle.command_words.specs.declared.command.WordsError.TheVariants.{NoMemory};
+ghost use Rattle.command_words.specs.declared.command.WordsError.{WordsError};
 
 use crate::file_name::FileName;
 use std::alloc::AllocError;
@@ -123,7 +123,7 @@ pub enum WordsError {
 }
 
 impl From<AllocError> for WordsError {
-    ghost from_gives = { λ _ e. e ≡ NoMemory };
+    ghost from_gives = { λ _ e. e ≡ WordsError.NoMemory };
 
     fn from(_: AllocError) -> Self {
         WordsError::NoMemory

@@ -1,10 +1,9 @@
 ghost use Rattle.std.specs.Prelude.{◌≡◌};
-ghost use Rattle.cycle_time.specs.declared.certificate.CycleError.TheVariants.{NoMemory};
+ghost use Rattle.cycle_time.specs.declared.certificate.CycleError.{CycleError};
 
 use line_base::Items;
 use std::alloc::AllocError;
-use std::error::Error;
-use std::fmt;
+use thiserror::Error;
 
 /// The cycle time of an event graph, with what shows that no circuit has a greater ratio of time to tokens.
 ///
@@ -23,29 +22,20 @@ pub struct Certificate {
 }
 
 /// Why a graph has no cycle time.
-#[derive(Clone, Copy, Debug, PartialEq, Eq)]
+#[derive(Clone, Copy, Debug, PartialEq, Eq, Error)]
 pub enum CycleError {
     /// This station, the first such, has a list of times.
+    #[error("varying: station {station}")]
     Varying { station: u32 },
     /// Memory ran out.
+    #[error("memory")]
     NoMemory,
 }
 
-impl fmt::Display for CycleError {
-    fn fmt<W: fmt::Write>(&self, f: &mut fmt::Formatter<W>) -> fmt::Result {
-        match self {
-            CycleError::Varying { station } => write!(f, "varying: station {station}"),
-            CycleError::NoMemory => f.write_str("memory"),
-        }
-    }
-}
-
-impl Error for CycleError {}
-
 impl From<AllocError> for CycleError {
-    ghost from_gives = { λ _ e. e ≡ NoMemory };
+    ghost from_gives = { λ _ e. e ≡ CycleError.NoMemory };
 
-    fn from(_error: AllocError) -> Self {
+    fn from(_: AllocError) -> Self {
         CycleError::NoMemory
     }
 }

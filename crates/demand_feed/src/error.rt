@@ -1,5 +1,5 @@
 ghost use Rattle.std.specs.Prelude.{◌≡◌};
-ghost use Rattle.demand_feed.specs.declared.error.FeedError.TheVariants.{NoMemory};
+ghost use Rattle.demand_feed.specs.declared.error.FeedError.{FeedError};
 
 use std::alloc::AllocError;
 use thiserror::Error;
@@ -20,10 +20,9 @@ pub enum FeedError {
 }
 
 impl From<AllocError> for FeedError {
-    ghost from_gives = { λ _ error. error ≡ NoMemory };
+    ghost from_gives = { λ _ e. e ≡ FeedError.NoMemory };
 
-    /// Want of memory.
-    fn from(_error: AllocError) -> FeedError {
+    fn from(_: AllocError) -> Self {
         FeedError::NoMemory
     }
 }

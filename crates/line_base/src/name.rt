@@ -1,7 +1,7 @@
 ghost use Rattle.std.specs.List.{list_all};
 ghost use Rattle.std.specs.Prelude.{◌≡◌, ◌≤◌, IsTrue, IfOk, IsErrOf, ◌↔◌, false};
 ghost use Rattle.line_base.specs.Text.{is_between, is_letter, is_name_byte, is_file_byte, is_name, is_label, ends_in_ckpt, may_name_file, is_file_name, is_checkpoint_name};
-ghost use Rattle.line_base.specs.declared.name.NameError.TheVariants.{NoMemory};
+ghost use Rattle.line_base.specs.declared.name.NameError.{NameError};
 
 use std::alloc::{AllocError, Global};
 use std::marker::Model;
@@ -36,9 +36,8 @@ pub enum NameError {
 }
 
 impl From<AllocError> for NameError {
-    ghost from_gives = { λ _ e. e ≡ NoMemory };
+    ghost from_gives = { λ _ e. e ≡ NameError.NoMemory };
 
-    /// Want of memory.
     fn from(_: AllocError) -> Self {
         NameError::NoMemory
     }

@@ -1,69 +1,45 @@
+ghost use Rattle.std.specs.Prelude.{◌≡◌};
+ghost use Rattle.line_core.specs.declared.error.ReplayError.{ReplayError};
+ghost use Rattle.line_core.specs.declared.error.StateError.{StateError};
+
 use std::alloc::AllocError;
-use std::error::Error;
-use std::fmt;
+use thiserror::Error;
 
 /// Why a station didn't fire.
-#[derive(Clone, Copy, Debug, PartialEq, Eq)]
+#[derive(Clone, Copy, Debug, PartialEq, Eq, Error)]
 pub enum FireError {
     /// The station has fired once for each job.
+    #[error("the station is done")]
     Done,
     /// The place of this arc, the first of the station's input places without a token, is empty.
+    #[error("the station waits for a token of arc {arc}")]
     Empty { arc: u32 },
 }
 
-impl fmt::Display for FireError {
-    fn fmt<W: fmt::Write>(&self, f: &mut fmt::Formatter<W>) -> fmt::Result {
-        match self {
-            FireError::Done => f.write_str("the station is done"),
-            FireError::Empty { arc } => write!(f, "the station waits for a token of arc {arc}"),
-        }
-    }
-}
-
-impl Error for FireError {}
-
 /// Why a schedule wasn't followed to its end. Lines are counted from 1.
-#[derive(Clone, Copy, Debug, PartialEq, Eq)]
+#[derive(Clone, Copy, Debug, PartialEq, Eq, Error)]
 pub enum ReplayError {
     /// This line is the label of no station.
+    #[error("line {line} is no station")]
     NoStation { line: u64 },
     /// This line names a station that has fired once for each job.
+    #[error("line {line}: station {station} is done")]
     Done { line: u64, station: u32 },
     /// This line names a station that can't fire, since this input arc, the first such, has no token.
+    #[error("line {line}: the station waits for a token of arc {arc}")]
     Empty { line: u64, arc: u32 },
     /// Every line was followed, and this station, the first such, has fired only so many times.
+    #[error("station {station} made {have}")]
     Unfinished { station: u32, have: u64 },
     /// Memory ran out.
+    #[error("memory")]
     NoMemory,
 }
 
-impl fmt::Display for ReplayError {
-    fn fmt<W: fmt::Write>(&self, f: &mut fmt::Formatter<W>) -> fmt::Result {
-        match self {
-            ReplayError::NoStation { line } => write!(f, "line {line} is no station"),
-            ReplayError::Done { line, station } => {
-                write!(f, "line {line}: station {station} is done")
-            }
-            ReplayError::Empty { line, arc } => {
-                write!(f, "line {line}: the station waits for a token of arc {arc}")
-            }
-            ReplayError::Unfinished { station, have } => {
-                write!(f, "station {station} made {have}")
-            }
-            ReplayError::NoMemory => f.write_str("memory"),
-        }
-    }
-}
-
-impl Error for ReplayError {}
-
 impl From<AllocError> for ReplayError {
-    ghost use Rattle.std.specs.Prelude.{◌≡◌};
-    ghost use Rattle.line_core.specs.declared.error.ReplayError.TheVariants.{NoMemory};
+    ghost from_gives = { λ _ e. e ≡ ReplayError.NoMemory };
 
-    ghost from_gives = { λ _ e. e ≡ NoMemory };
-
-    fn from(_error: AllocError) -> Self {
+    fn from(_: AllocError) -> Self {
         ReplayError::NoMemory
     }
 }
@@ -71,9 +47,10 @@ impl From<AllocError> for ReplayError {
 /// Why logs and places are no state that firings reach: the first thing that is wrong with them. Stations and arcs are
 /// counted from 0, jobs and tokens from 1, dates are in the plant's unit. Each kind is tried whole before the next, by
 /// station and job, or by arc and token.
-#[derive(Clone, Copy, Debug, PartialEq, Eq)]
+#[derive(Clone, Copy, Debug, PartialEq, Eq, Error)]
 pub enum StateError {
     /// The log of this station has more dates than there are jobs.
+    #[error("station {station} has {have} of {limit}")]
     Count {
         station: u32,
         have: u64,
@@ -81,12 +58,14 @@ pub enum StateError {
     },
     /// The place of this arc has another number of tokens than its tokens of the start and the log where it starts,
     /// less the log where it ends.
+    #[error("place {arc} has {have} tokens, needs {need}")]
     Marking {
         arc: u32,
         have: u64,
         need: i64,
     },
     /// This date isn't the one that the equations of the graph give over the logs.
+    #[error("station {station} {job} has date {have}, needs {need}")]
     Date {
         station: u32,
         job: u32,
@@ -94,6 +73,7 @@ pub enum StateError {
         need: u64,
     },
     /// This token isn't the one that the logs leave on the arc.
+    #[error("place {arc} token {token} has date {have}, needs {need}")]
     PlaceDate {
         arc: u32,
         token: u32,
@@ -101,46 +81,14 @@ pub enum StateError {
         need: u64,
     },
     /// Memory ran out.
+    #[error("memory")]
     NoMemory,
 }
 
-impl fmt::Display for StateError {
-    fn fmt<W: fmt::Write>(&self, f: &mut fmt::Formatter<W>) -> fmt::Result {
-        match self {
-            StateError::Count {
-                station,
-                have,
-                limit,
-            } => write!(f, "station {station} has {have} of {limit}"),
-            StateError::Marking { arc, have, need } => {
-                write!(f, "place {arc} has {have} tokens, needs {need}")
-            }
-            StateError::Date {
-                station,
-                job,
-                have,
-                need,
-            } => write!(f, "station {station} {job} has date {have}, needs {need}"),
-            StateError::PlaceDate {
-                arc,
-                token,
-                have,
-                need,
-            } => write!(f, "place {arc} token {token} has date {have}, needs {need}"),
-            StateError::NoMemory => f.write_str("memory"),
-        }
-    }
-}
-
-impl Error for StateError {}
-
 impl From<AllocError> for StateError {
-    ghost use Rattle.std.specs.Prelude.{◌≡◌};
-    ghost use Rattle.line_core.specs.declared.error.StateError.TheVariants.{NoMemory};
+    ghost from_gives = { λ _ e. e ≡ StateError.NoMemory };
 
-    ghost from_gives = { λ _ e. e ≡ NoMemory };
-
-    fn from(_error: AllocError) -> Self {
+    fn from(_: AllocError) -> Self {
         StateError::NoMemory
     }
 }

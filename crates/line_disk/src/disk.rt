@@ -1,6 +1,6 @@
 ghost use Rattle.std.specs.Prelude.{◌≡◌, ◌+◌, ◌≤◌, ℕ, Bool, length, IsTrue, IfOk, OnOk, OnErr, IsErrOf};
 ghost use Rattle.line_disk.specs.DiskView.{DiskView, Passes, Torn, held_now, written, synced, bytes_at};
-ghost use Rattle.line_disk.specs.declared.disk.DiskError.TheVariants.{NoMemory};
+ghost use Rattle.line_disk.specs.declared.disk.DiskError.{DiskError};
 ghost use Rattle.line_io.specs.Faults.{Rose};
 
 use std::alloc::{AllocError, AllocFailed, Global};
@@ -21,7 +21,7 @@ pub enum DiskError {
 }
 
 impl From<AllocError> for DiskError {
-    ghost from_gives = { λ _ e. e ≡ NoMemory };
+    ghost from_gives = { λ _ e. e ≡ DiskError.NoMemory };
 
     fn from(_: AllocError) -> Self {
         DiskError::NoMemory
@@ -29,7 +29,7 @@ impl From<AllocError> for DiskError {
 }
 
 impl<T: Drop> From<AllocFailed<T>> for DiskError {
-    ghost from_gives = { λ _ e. e ≡ NoMemory };
+    ghost from_gives = { λ _ e. e ≡ DiskError.NoMemory };
 
     fn from(_: AllocFailed<T>) -> Self {
         DiskError::NoMemory

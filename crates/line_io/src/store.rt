@@ -3,9 +3,9 @@ ghost use Rattle.line_io.specs.Calls.{after_read, after_write};
 ghost use Rattle.line_io.specs.Contents.{SameFiles, OthersStay, IsTorn, IsLongerThan};
 ghost use Rattle.line_io.specs.Faults.{Rose, NeverFall};
 ghost use Rattle.line_io.specs.StoreView.{StoreView};
-ghost use Rattle.line_io.specs.declared.store.StoreError.TheVariants.{NoMemory};
+ghost use Rattle.line_io.specs.declared.store.StoreError.{StoreError};
 
-use std::alloc::{AllocError, AllocFailed, Global};
+use std::alloc::{AllocError, Global};
 use thiserror::Error;
 
 /// Why a call of a store gave up.
@@ -23,17 +23,9 @@ pub enum StoreError {
 }
 
 impl From<AllocError> for StoreError {
-    ghost from_gives = { λ _ e. e ≡ NoMemory };
+    ghost from_gives = { λ _ e. e ≡ StoreError.NoMemory };
 
     fn from(_: AllocError) -> Self {
-        StoreError::NoMemory
-    }
-}
-
-impl<T: Drop> From<AllocFailed<T>> for StoreError {
-    ghost from_gives = { λ _ e. e ≡ NoMemory };
-
-    fn from(_: AllocFailed<T>) -> Self {
         StoreError::NoMemory
     }
 }
