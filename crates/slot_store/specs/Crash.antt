@@ -1,6 +1,6 @@
 -- What a crash leaves of the content of a disk, while bytes are saved to it.
-use Rattle.std.specs.Prelude.{◌≡◌, ◌≢◌, ◌⊎◌, ℕ, ◌+◌, ◌==◌, List, length, false, Option, Some, None}
-use Rattle.line_disk.specs.DiskView.{Image, Held, MayLeave, DiskView, held_now}
+use Rattle.std.specs.Prelude.{◌≡◌, ◌≢◌, ◌⊎◌, ℕ, ◌+◌, ◌==◌, List, length, Bool, IsTrue, false, Option, Some, None}
+use Rattle.line_disk.specs.DiskView.{Image, Held, MayLeave, LeavesOnly, DiskView, held_now}
 use Rattle.slot_store.specs.Layout.{Saved, start_of, header_at, content_from, saved_in, next, bytes_of, content}
 use Rattle.slot_store.specs.declared.header.Slot.{Slot}
 use Rattle.slot_store.specs.declared.header.Slot.TheVariants.{Zero, One}
@@ -60,6 +60,10 @@ bytes_now disk = (held_now disk).bytes
 pub record IsReady (disk : DiskView) (room : ℕ) (target : Target) : Type 0 where
   pub settled : IsSettled (held_now disk)
   pub target_is : IsTarget (bytes_now disk) room target
+
+-- at any moment until now a crash leaves the content as it was
+abbrev pub KeepsContent : Bool → DiskView → DiskView → ℕ → Type 0
+KeepsContent tells old new room = IsTrue tells → LeavesOnly old new (SameContent (bytes_now old) room)
 
 -- the bytes that an open gate of the target would make the content
 abbrev pub staged_in : Image → ℕ → Target → List ℕ

@@ -3,7 +3,7 @@ ghost use Rattle.std.specs.Int.{w64, to_be_bytes};
 ghost use Rattle.std.specs.Prelude.{◌≡◌, ◌⊎◌, ◌∷◌, ◌+◌, ◌≤◌, Some, length, IsTrue, IfOk, OnOk, IsErrOf};
 ghost use Rattle.line_disk.specs.DiskView.{MayLeave, LeavesOnly, held_now};
 ghost use Rattle.line_io.specs.Faults.{Rose};
-ghost use Rattle.slot_store.specs.Crash.{SameContent, TellsGate, IsSettled, IsClosed, IsStaged, IsReady, IsSaved, IsKeptOrNew, bytes_now, staged_in};
+ghost use Rattle.slot_store.specs.Crash.{KeepsContent, TellsGate, IsSettled, IsClosed, IsStaged, IsReady, IsSaved, IsKeptOrNew, bytes_now, staged_in};
 ghost use Rattle.slot_store.specs.Layout.{header_at, newer_header, start_of, content, target_by};
 ghost use Rattle.slot_store.specs.Within.{WritesWithin};
 
@@ -36,8 +36,7 @@ pub fn close_gate<D: Disk>(disk: &mut D, room: u64, target: Target) -> Result<()
     requires room { room ≤ MAX_ROOM }
     requires ready { IsTrue D.tells → IsReady (D.shown disk.old) room target }
     requires gate { IsTrue D.tells → TellsGate (bytes_now (D.shown disk.old)) room target }
-    ensures any_moment { IsTrue D.tells → LeavesOnly (D.shown disk.old) (D.shown disk.new)
-        (SameContent (bytes_now (D.shown disk.old)) room) }
+    ensures any_moment { KeepsContent D.tells (D.shown disk.old) (D.shown disk.new) room }
     ensures ready { OnOk result (IsTrue D.tells → IsReady (D.shown disk.new) room target) }
     ensures closed { OnOk result
         (IsTrue D.tells → IsClosed (bytes_now (D.shown disk.new)) room target) }
@@ -70,8 +69,7 @@ pub fn write_content<D: Disk>(
     requires fits { length bytes.now ≤ room }
     requires ready { IsTrue D.tells → IsReady (D.shown disk.old) room target }
     requires closed { IsTrue D.tells → IsClosed (bytes_now (D.shown disk.old)) room target }
-    ensures any_moment { IsTrue D.tells → LeavesOnly (D.shown disk.old) (D.shown disk.new)
-        (SameContent (bytes_now (D.shown disk.old)) room) }
+    ensures any_moment { KeepsContent D.tells (D.shown disk.old) (D.shown disk.new) room }
     ensures ready { OnOk result (IsTrue D.tells → IsReady (D.shown disk.new) room target) }
     ensures staged { OnOk result
         (IsTrue D.tells → IsStaged (bytes_now (D.shown disk.new)) room target bytes.now) }
