@@ -159,7 +159,7 @@ pub fn read_places(
         }
     }
     Ok(PlaceLines {
-        marking: Marking::of(counts),
+        marking: Marking::from_vec(counts),
         wrong,
     })
 }

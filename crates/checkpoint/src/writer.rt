@@ -136,7 +136,7 @@ fn put_places(
         ≡ text.old.items
         ++ filled Differences (place_lines live.now.graph) state.now.state.places) }
 {
-    let counts = marking.lengths();
+    let counts = marking.as_slice();
     for a in 0..live.graph().arcs().len() as u32 {
         text.extend_from_slice(b"place ")?;
         put_number(text, u64::from(a))?;

@@ -9,7 +9,7 @@ pub fn sum(marking: &Marking, arcs: &[u32]) -> u64
     requires few { length arcs.now ≤ MAX_ARCS }
     ensures { result ≡ sum_by (slice_index marking.now) arcs.now }
 {
-    let lengths = marking.lengths();
+    let lengths = marking.as_slice();
     let mut tokens = 0;
     for arc in arcs {
         tokens += u64::from(lengths[*arc as usize]);

@@ -120,7 +120,7 @@ fn check_marked_at(
     requires arc { arc < arc_count graph.now }
     ensures { AnswersFirst result (wrong_marked graph.now (dates_of logs.now) marking.now arc) }
 {
-    let counts = marking.lengths();
+    let counts = marking.as_slice();
     check_count(graph, logs, arc, counts[arc as usize] as usize)
 }
 

@@ -185,7 +185,7 @@ impl State {
         for a in 0..arcs {
             lengths.push_reserved(tokens_on(&self.logs, graph, a) as u32);
         }
-        Ok(Marking::of(lengths))
+        Ok(Marking::from_vec(lengths))
     }
 
     /// The state that firings reach with these logs, which take the room of all later firings. It takes no memory.

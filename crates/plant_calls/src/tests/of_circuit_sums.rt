@@ -61,13 +61,13 @@ fn bounds_are_of_the_cards(rt: HostRuntime) -> Result<(), Fail> {
 #[test]
 fn sums_are_of_the_named_places(rt: HostRuntime) -> Result<(), Fail> {
     // The two stages after the feed and the delivery have fired: a card of `weld` lies on its way back.
-    let marking = Marking::of(vec![in rt.alloc(); 0, 1, 1, 1, 0, 1, 1, 0, 0, 0, 1]?);
+    let marking = Marking::from_vec(vec![in rt.alloc(); 0, 1, 1, 1, 0, 1, 1, 0, 0, 0, 1]?);
     same(&rt, sum(&marking, &[0, 3, 9]), 1);
     same(&rt, sum(&marking, &[4, 7, 10]), 1);
     same(&rt, sum(&marking, &[1, 2, 3, 5]), 4);
     same(&rt, sum(&marking, &[3, 3]), 2);
     same(&rt, sum(&marking, &[]), 0);
-    let large = Marking::of(vec![in rt.alloc(); u32::MAX, u32::MAX]?);
+    let large = Marking::from_vec(vec![in rt.alloc(); u32::MAX, u32::MAX]?);
     same(&rt, sum(&large, &[0, 1, 0]), 12_884_901_885);
     Ok(())
 }

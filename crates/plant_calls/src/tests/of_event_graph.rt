@@ -69,7 +69,7 @@ fn tells_its_stations(rt: &impl Abort, graph: &Graph) {
 
 #[test]
 fn a_marking_tells_its_lengths(rt: HostRuntime) -> Result<(), Fail> {
-    let marking = Marking::of(vec![in rt.alloc(); 3, 0, 1]?);
-    same(&rt, marking.lengths(), [3, 0, 1].as_slice());
+    let marking = Marking::from_vec(vec![in rt.alloc(); 3, 0, 1]?);
+    same(&rt, marking.as_slice(), [3, 0, 1].as_slice());
     Ok(())
 }

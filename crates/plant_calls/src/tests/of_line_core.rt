@@ -80,7 +80,7 @@ fn delays_keep_tokens_back(rt: HostRuntime) -> Result<(), Fail> {
 fn starts_with(rt: &impl Abort, alloc: Global, live: &Live, tokens: &[u32]) -> Result<(), Fail> {
     let state = State::start(alloc, live)?;
     same(rt, state.fired(), 0);
-    same(rt, got(rt, state.marking(live)).lengths(), tokens);
+    same(rt, got(rt, state.marking(live)).as_slice(), tokens);
     drop(state);
     Ok(())
 }

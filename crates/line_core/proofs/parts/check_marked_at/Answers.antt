@@ -8,4 +8,4 @@ use Rattle.line_core.proofs.parts.check_marked_at.Goals as goal
 pub returns : goal.returns
 unfolding wrong_marked
 returns c =
-    subst (λ n. AnswersFirst c.check_count.result (wrong_count c.args.graph.now (dates_of c.args.logs.now) c.args.arc n)) (ap (λ (l : List ℕ). slice_index l c.args.arc) c.lengths-counts.ensures) c.check_count.ensures
+    subst (λ n. AnswersFirst c.check_count.result (wrong_count c.args.graph.now (dates_of c.args.logs.now) c.args.arc n)) (ap (λ (l : List ℕ). slice_index l c.args.arc) c.as_slice-counts.ensures) c.check_count.ensures

@@ -42,7 +42,7 @@ returns-clause-lengths c =
     let counted = λ (h : Parts) (a : ℕ). length (place (state_in h logs) a) in
     let at = c.graph-graph.ensures.graph ∙ c.requires.made_for ∙ sym (ap (λ (r : Run). r.graph) c.self.view_is) in
     let all : c.loop-a.a ≡ arc_count g = omega (arith, c.loop-a-test.false, c.loop-a.auto.a-end, ap (λ (l : List Arc). length l) c.arcs.ensures.arcs, ap arc_count at) in
-    c.of.ensures
+    c.from_vec.ensures
     ∙ c.loop-a.invariant.counted
     ∙ ap (λ n. map (counted c.graph-graph.result.now) (range_with_len 0 n)) all
     ∙ ap (λ (h : Parts). map (counted h) (range_with_len 0 (arc_count g))) at
