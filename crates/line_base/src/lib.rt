@@ -1,4 +1,4 @@
-//! What every other crate of `pull` stands on: the limits of a plant, names, labels and numbers as text, job times,
+//! What every other crate of `pull` stands on: the limits of a plant, names, labels, texts and numbers as text, job times,
 //! lists of dates with room taken beforehand, and the parts of an event graph.
 #![tactic(auto)]
 
@@ -8,6 +8,7 @@ mod limits;
 mod log;
 mod name;
 mod number;
+mod text;
 mod times;
 
 pub use event::{Arc, Parts};
@@ -20,4 +21,5 @@ pub use limits::{
 pub use log::{Log, Logs, Places};
 pub use name::{Label, Name, NameError, is_checkpoint_name, is_file_name, is_name};
 pub use number::{digits, number_of};
+pub use text::Text;
 pub use times::{Date, Times};

@@ -1,9 +1,9 @@
 ghost use Rattle.std.specs.Fmt.{DisplaysOnOk};
 ghost use Rattle.std.specs.Prelude.{◌≡◌, Some};
 ghost use Rattle.plant_model.specs.Reasons.{at_place, bad_record, with_counts};
-ghost use Rattle.plant_model.specs.declared.error.PlantError.TheVariants.{NoMemory};
+ghost use Rattle.plant_model.specs.declared.error.PlantError.{PlantError};
 
-use crate::text::Text;
+use line_base::Text;
 use std::alloc::AllocError;
 use std::error::Error;
 use std::fmt;
@@ -47,9 +47,9 @@ pub enum PlantError {
 }
 
 impl From<AllocError> for PlantError {
-    ghost from_gives = { λ _ e. e ≡ NoMemory };
+    ghost from_gives = { λ _ e. e ≡ PlantError.NoMemory };
 
-    fn from(_error: AllocError) -> Self {
+    fn from(_: AllocError) -> Self {
         PlantError::NoMemory
     }
 }

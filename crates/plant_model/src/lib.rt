@@ -11,14 +11,13 @@ mod numbers;
 mod path_table;
 mod place;
 mod plant;
-mod text;
 
 pub use bound::bound_of;
 pub use check::{check_flow, is_reserved};
 pub use error::PlantError;
 pub use laws::soundness_is_plain;
 pub use layout::Layout;
+pub use line_base::Text;
 pub use numbers::{FEED, LineNumbers};
 pub use place::{FileTable, element_place, key_place, table_place};
 pub use plant::{CardLoop, Machine, Plant, Policy, Stage};
-pub use text::Text;

@@ -1,7 +1,7 @@
 ghost use Rattle.std.specs.Prelude.{◌≡◌, IfOk, string_bytes};
 ghost use Rattle.plant_model.specs.Place.{at, place_of, key_of};
 
-use crate::text::Text;
+use line_base::Text;
 use std::alloc::{AllocError, Global};
 
 /// A table of a plant file. Stages, machines and loops are numbered from 0 here, and from 1 in the text of a place.

@@ -4,8 +4,7 @@ ghost use Rattle.plant_model.specs.Refusals.{AnswersFirst, larger, too_large};
 
 use crate::error::PlantError;
 use crate::plant::{Plant, Stage};
-use crate::text::Text;
-use line_base::{MAX_DEMANDS, MAX_LOOPS, MAX_OBSERVE, MAX_STAGES, MAX_STATIONS, MAX_TABLE};
+use line_base::{MAX_DEMANDS, MAX_LOOPS, MAX_OBSERVE, MAX_STAGES, MAX_STATIONS, MAX_TABLE, Text};
 use std::alloc::Global;
 
 /// Whether a plant has no more of anything than is allowed.

@@ -1,8 +1,9 @@
-ghost use Rattle.std.specs.Prelude.{◌≡◌, string_bytes};
+ghost use Rattle.std.specs.Prelude.{◌≡◌, IfOk, string_bytes};
 
+use std::alloc::{AllocError, Global};
 use std::marker::Model;
 
-/// A text inside an error: a place in a plant file, a file's name, or what is too large. Contracts see its bytes.
+/// A text that contracts see as the list of its bytes.
 #[derive(Debug, Drop)]
 pub struct Text {
     text: String,
@@ -17,6 +18,14 @@ impl Model for Text {
 }
 
 impl Text {
+    /// A copy of a text.
+    pub fn of(alloc: Global, text: &str) -> Result<Self, AllocError>
+        ensures { IfOk result (λ copy. copy ≡ text.now) }
+    {
+        let text = String::from_str(alloc, text)?;
+        Ok(Text { text })
+    }
+
     /// The text of a string. It takes no memory.
     pub fn from_string(text: String) -> Self
         ensures { result ≡ string_bytes text }
