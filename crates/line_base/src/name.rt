@@ -1,7 +1,6 @@
 ghost use Rattle.std.specs.List.{list_all};
 ghost use Rattle.std.specs.Prelude.{◌≡◌, ◌≤◌, IsTrue, IfOk, IsErrOf, ◌↔◌, false};
 ghost use Rattle.line_base.specs.Text.{is_between, is_letter, is_name_byte, is_file_byte, is_name, is_label, ends_in_ckpt, may_name_file, is_file_name, is_checkpoint_name};
-ghost use Rattle.line_base.specs.declared.name.NameError.{NameError};
 
 use std::alloc::{AllocError, Global};
 use std::marker::Model;
@@ -35,14 +34,6 @@ pub enum NameError {
     NoMemory,
 }
 
-impl From<AllocError> for NameError {
-    ghost from_gives = { λ _ e. e ≡ NameError.NoMemory };
-
-    fn from(_: AllocError) -> Self {
-        NameError::NoMemory
-    }
-}
-
 impl Name {
     /// The name with this text. `BadName` comes exactly where the text breaks the rule of names.
     pub fn of(alloc: Global, text: &[u8]) -> Result<Self, NameError>
@@ -52,9 +43,10 @@ impl Name {
         if !is_name(text) {
             return Err(NameError::BadName);
         }
-        Ok(Name {
-            text: Vec::from_slice(alloc, text)?,
-        })
+        match Vec::from_slice(alloc, text) {
+            Ok(text) => Ok(Name { text }),
+            Err(_) => Err(NameError::NoMemory),
+        }
     }
 
     /// A copy of the name.
