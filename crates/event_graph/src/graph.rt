@@ -1,6 +1,7 @@
 ghost use Rattle.std.specs.Prelude.{◌≡◌, ℕ, ◌≤◌, ◌<◌, All, IfOk, OnOk, IfErr, slice_index_or, IsTrue, ◌↔◌};
 ghost use Rattle.event_graph.specs.Faults.{IsFirstFault};
 ghost use Rattle.event_graph.specs.Limits.{IsWithinLimits};
+ghost use Rattle.event_graph.specs.Lists.{IsListed};
 ghost use Rattle.event_graph.specs.Network.{stations, jobs, arc_count, arc, time, demand, delay, label, ins, outs, IsGraph, EndsAt, StartsAt};
 ghost use Rattle.event_graph.specs.Varying.{Varies};
 ghost use Rattle.line_base.specs.Text.{is_label};
@@ -31,6 +32,20 @@ impl Model for Graph {
     ghost invariant = { λ g. IsListed g.parts g.into g.out_of };
 }
 
+/// The arcs into each station of parts that give a graph, and those out of it.
+fn arc_lists(alloc: Global, parts: &Parts) -> Result<(ArcLists, ArcLists), GraphError>
+    requires { IsWithinLimits parts.now }
+    ensures listed { IfOk result (λ lists. IsListed parts.now lists.0 lists.1) }
+    ensures refused { IfErr result (IsFirstFault parts.now) }
+{
+    check_ends(parts)?;
+    check_feed(parts)?;
+    let into = arcs_by_station(alloc, parts, End::Finish)?;
+    check_inputs(parts, &into)?;
+    let out_of = arcs_by_station(alloc, parts, End::Start)?;
+    Ok((into, out_of))
+}
+
 impl Graph {
     /// The graph of these parts. Stations and arcs are numbered from 0 in the order of their lists, jobs from 1.
     ///
@@ -42,16 +57,17 @@ impl Graph {
         ensures sound { OnOk result (IsGraph parts) }
         ensures refused { IfErr result (IsFirstFault parts) }
     {
-        check_ends(&parts)?;
-        check_feed(&parts)?;
-        let into = arcs_by_station(alloc, &parts, End::Finish)?;
-        check_inputs(&parts, &into)?;
-        let out_of = arcs_by_station(alloc, &parts, End::Start)?;
-        Ok(Graph {
-            parts,
-            into,
-            out_of,
-        })
+        match arc_lists(alloc, &parts) {
+            Ok((into, out_of)) => Ok(Graph {
+                parts,
+                into,
+                out_of,
+            }),
+            Err(error) => {
+                drop(parts);
+                Err(error)
+            }
+        }
     }
 
     /// How many stations there are.
