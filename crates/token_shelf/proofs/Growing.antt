@@ -106,16 +106,17 @@ module _ (rows most room columns q : ℕ) (table longer : List ℕ) (enough : ro
       let here : (rows_taken tally - base') % most ≡ row = row-most (rows_taken tally) (omega arith) (omega (arith, some)) ∙ (let e : row + (rows_taken tally - rows_taken tally) ≡ row = omega arith in e) in
       subst (IsTally most room columns q longer) (sym (unwrap_case (nat_lt tally.put_place tally.take_place) (tally.put_place + length table) tally))
       (record {
-        few_firsts = is.few_firsts;
-        firsts_first = is.firsts_first;
+        firsts = is.firsts;
         counted = is.counted;
-        base = base';
-        based = omega arith;
-        taken_put = is.taken_put;
-        fits = is.fits;
-        few_wait = omega (arith, is.few_wait, enough);
-        next_put = put-most ∙ ap (λ n. n * columns + q) (end ∙ sym (row-most (puts tally) is.taken_put is.few_wait));
-        next_take = is.next_take ∙ ap (λ n. n * columns + q) (sym here);
+        placed = record {
+          base = base';
+          based = omega arith;
+          taken_put = is.taken_put;
+          fits = is.fits;
+          few_wait = omega (arith, is.few_wait, enough);
+          next_put = put-most ∙ ap (λ n. n * columns + q) (end ∙ sym (row-most (puts tally) is.taken_put is.few_wait));
+          next_take = is.next_take ∙ ap (λ n. n * columns + q) (sym here);
+        };
         stand = λ n past less.
             ap (λ j. slice_index longer (j * columns + q)) (row-most n past (omega (arith, less, is.few_wait)))
             ∙ stand-most n past (omega (arith, less, is.few_wait))

@@ -122,16 +122,17 @@ table-laid firsts tokens table capacity room rows tallies small some growable fu
         let place : q ≡ 0 * w + q = omega arith in
         place ∙ ap (λ i. i * w + q) (sym row) in
         record {
-          few_firsts = omega (arith, is.firsts_taken);
-          firsts_first = λ _. no_takes;
+          firsts = record { few_firsts = omega (arith, is.firsts_taken); firsts_first = λ _. no_takes };
           counted = omega (arith, is.initial, fits);
-          base = 0;
-          based = omega arith;
-          taken_put = omega (arith, no_takes);
-          fits = omega (arith, no_puts);
-          few_wait = omega (arith, no_puts, some);
-          next_put = is.next_put ∙ first (puts tally - 0) (omega (arith, no_puts));
-          next_take = is.next_take ∙ first (rows_taken tally - 0) (omega (arith, no_takes));
+          placed = record {
+            base = 0;
+            based = omega arith;
+            taken_put = omega (arith, no_takes);
+            fits = omega (arith, no_puts);
+            few_wait = omega (arith, no_puts, some);
+            next_put = is.next_put ∙ first (puts tally - 0) (omega (arith, no_puts));
+            next_take = is.next_take ∙ first (rows_taken tally - 0) (omega (arith, no_takes));
+          };
           stand = λ n taken less. absurd (omega (arith, less, no_puts));
         };
   };

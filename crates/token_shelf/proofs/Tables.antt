@@ -253,16 +253,9 @@ module _ (rows room columns k date : ℕ) (table : List ℕ) (full : length tabl
   -- another queue's tally is sound after the put
   tally-others : (q : ℕ) (other : Tally) → q < columns → q ≢ k → IsTally rows room columns q table other → IsTally rows room columns q put_table other
   tally-others q other low_q ne is = record {
-    few_firsts = is.few_firsts;
-    firsts_first = is.firsts_first;
+    firsts = is.firsts;
     counted = is.counted;
-    base = is.base;
-    based = is.based;
-    taken_put = is.taken_put;
-    fits = is.fits;
-    few_wait = is.few_wait;
-    next_put = is.next_put;
-    next_take = is.next_take;
+    placed = is.placed;
     stand = λ n taken less.
         get_or-set_other table tally.put_place (place_of rows columns q (n - is.base)) date 0
         (λ e. ne (same_place rows columns k (some_rows rows room columns k table tally was) low q (n - is.base) (puts tally - was.base) low_q (e ∙ was.next_put)).1)
@@ -296,16 +289,17 @@ module _ (rows room columns k date : ℕ) (table : List ℕ) (full : length tabl
       ∙ ap (λ i. slice_index (put ++ date ∷ []) i) (sym here))
       (cases_lt n (puts tally)) in
       record {
-        few_firsts = was.few_firsts;
-        firsts_first = was.firsts_first;
+        firsts = was.firsts;
         counted = was.counted;
-        base = was.base;
-        based = was.based;
-        taken_put = omega (arith, one, was.taken_put);
-        fits = omega (arith, one, more);
-        few_wait = omega (arith, one, space-few rows room columns k table tally was low space);
-        next_put = next-put rows room columns k table tally was low ∙ ap (place_of rows columns k) next;
-        next_take = was.next_take;
+        placed = record {
+          base = was.base;
+          based = was.based;
+          taken_put = omega (arith, one, was.taken_put);
+          fits = omega (arith, one, more);
+          few_wait = omega (arith, one, space-few rows room columns k table tally was low space);
+          next_put = next-put rows room columns k table tally was low ∙ ap (place_of rows columns k) next;
+          next_take = was.next_take;
+        };
         stand = stands;
       }
 
@@ -380,34 +374,28 @@ tally-one_taken rows room columns q token table tally low is more =
     ⊎_elim
     (λ (less : tally.firsts_taken < tally.initial).
     subst (IsTally rows room columns q table) (sym (take-first columns (columns * rows) token tally less)) (record {
-      few_firsts = omega (arith, less);
-      firsts_first = λ _. is.firsts_first less;
+      firsts = record { few_firsts = omega (arith, less); firsts_first = λ _. is.firsts_first less };
       counted = is.counted;
-      base = is.base;
-      based = is.based;
-      taken_put = is.taken_put;
-      fits = is.fits;
-      few_wait = is.few_wait;
-      next_put = is.next_put;
-      next_take = is.next_take;
+      placed = is.placed;
       stand = is.stand;
     }))
     (λ (past : tally.initial ≤ tally.firsts_taken).
     let one : length (tally.taken.items ++ token ∷ []) ≡ rows_taken tally + 1 = length-append tally.taken.items (token ∷ []) in
     let next : rows_taken tally - is.base + 1 ≡ length (tally.taken.items ++ token ∷ []) - is.base = omega (arith, one, is.based) in
     subst (IsTally rows room columns q table) (sym (take-row columns (columns * rows) token tally past)) (record {
-      few_firsts = is.few_firsts;
-      firsts_first = λ less. absurd (omega (arith, less, past));
+      firsts = record { few_firsts = is.few_firsts; firsts_first = λ less. absurd (omega (arith, less, past)) };
       counted = is.counted;
-      base = is.base;
-      based = omega (arith, one, is.based);
-      taken_put = omega (arith, one, more, past, is.few_firsts);
-      fits = is.fits;
-      few_wait = omega (arith, one, is.few_wait);
-      next_put = is.next_put;
-      next_take = ap (next_place columns (columns * rows)) is.next_take
-          ∙ place-next rows columns q (some_rows rows room columns q table tally is) low (rows_taken tally - is.base)
-          ∙ ap (place_of rows columns q) next;
+      placed = record {
+        base = is.base;
+        based = omega (arith, one, is.based);
+        taken_put = omega (arith, one, more, past, is.few_firsts);
+        fits = is.fits;
+        few_wait = omega (arith, one, is.few_wait);
+        next_put = is.next_put;
+        next_take = ap (next_place columns (columns * rows)) is.next_take
+            ∙ place-next rows columns q (some_rows rows room columns q table tally is) low (rows_taken tally - is.base)
+            ∙ ap (place_of rows columns q) next;
+      };
       stand = λ n taken less. is.stand n (omega (arith, one, taken)) less;
     }))
     (cases_lt tally.firsts_taken tally.initial)

@@ -59,22 +59,31 @@ abbrev pub next_place : ℕ → ℕ → ℕ → ℕ
 next_place columns places place =
     if nat_lt (place + columns) places then place + columns else place + columns - places
 
--- the tally of queue q over a table of so many rows and columns: the first tokens are taken before those that were put, its
--- places are those of the next token that is put and of the next that is taken, as the tokens are numbered from a base on,
--- and those that wait, fewer than there are rows, stand in the table
-pub record IsTally (rows room columns q : ℕ) (table : List ℕ) (tally : Tally) : Type 0 where
-  pub few_firsts : tally.firsts_taken ≤ tally.initial
-  pub firsts_first : tally.firsts_taken < tally.initial → rows_taken tally ≡ 0
-  pub counted : tally.initial + room < 2 ^ 32
+-- of the first tokens of a queue, so many were taken; all of them are taken before those that were put
+pub record TakesFirsts (initial firsts_taken rows_taken : ℕ) : Type 0 where
+  pub few_firsts : firsts_taken ≤ initial
+  pub firsts_first : firsts_taken < initial → rows_taken ≡ 0
+
+-- of the tokens that were put on queue q, those that wait are fewer than there are rows, and the places are those of the
+-- next token that is put and of the next that is taken, as the tokens are numbered from a base on
+pub record IsPlaced (rows room columns q : ℕ) (puts rows_taken put_place take_place : ℕ) : Type 0 where
   pub base : ℕ
-  pub based : base ≤ rows_taken tally
-  pub taken_put : rows_taken tally ≤ puts tally
-  pub fits : puts tally ≤ room
-  pub few_wait : puts tally < rows_taken tally + rows
-  pub next_put : tally.put_place ≡ place_of rows columns q (puts tally - base)
-  pub next_take : tally.take_place ≡ place_of rows columns q (rows_taken tally - base)
+  pub based : base ≤ rows_taken
+  pub taken_put : rows_taken ≤ puts
+  pub fits : puts ≤ room
+  pub few_wait : puts < rows_taken + rows
+  pub next_put : put_place ≡ place_of rows columns q (puts - base)
+  pub next_take : take_place ≡ place_of rows columns q (rows_taken - base)
+
+-- the tally of queue q over a table of so many rows and columns: the tokens that were put and wait stand in the table
+pub record IsTally (rows room columns q : ℕ) (table : List ℕ) (tally : Tally) : Type 0 where
+  pub firsts : TakesFirsts tally.initial tally.firsts_taken (rows_taken tally)
+  pub open firsts use *
+  pub counted : tally.initial + room < 2 ^ 32
+  pub placed : IsPlaced rows room columns q (puts tally) (rows_taken tally) tally.put_place tally.take_place
+  pub open placed use *
   pub stand : (n : ℕ) → rows_taken tally ≤ n → n < puts tally →
-      slice_index table (place_of rows columns q (n - base)) ≡ slice_index tally.put.items n
+      slice_index table (place_of rows columns q (n - placed.base)) ≡ slice_index tally.put.items n
 
 -- a token more can be put without one that waits being written over
 abbrev pub HasSpace : ℕ → ℕ → Tally → Type 0

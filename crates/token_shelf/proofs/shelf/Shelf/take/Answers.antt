@@ -120,18 +120,7 @@ taking : (c : After-index_mut-tally) {firsts table : List ℕ} (token : ℕ) {ta
 taking c {firsts} {table} token {tally} firsts_are table_is is noted_is =
     took c token tally noted_is (front c firsts table token firsts_are table_is is)
 
-pub returns-clause-only : goal.returns-clause-only
-returns-clause-only c =
-    (taking (goal.at.returns-clause-only c).After-index_mut-tally c.in_ok-token.token c.as_slice.ensures.value c.as_slice-2.ensures.value c.in_ok-token.ensures c.note_take.ensures).only
-
-pub returns-clause-taken : goal.returns-clause-taken
-returns-clause-taken c =
-    (taking (goal.at.returns-clause-taken c).After-index_mut-tally c.in_ok-token.token c.as_slice.ensures.value c.as_slice-2.ensures.value c.in_ok-token.ensures c.note_take.ensures).taken
-
-pub returns-clause-none : goal.returns-clause-none
-returns-clause-none c =
-    (taking (goal.at.returns-clause-none c).After-index_mut-tally c.in_ok-token.token c.as_slice.ensures.value c.as_slice-2.ensures.value c.in_ok-token.ensures c.note_take.ensures).none
-
-pub returns-clause-puts : goal.returns-clause-puts
-returns-clause-puts c =
-    (taking (goal.at.returns-clause-puts c).After-index_mut-tally c.in_ok-token.token c.as_slice.ensures.value c.as_slice-2.ensures.value c.in_ok-token.ensures c.note_take.ensures).puts
+pub returns : goal.returns
+returns c =
+    let did = taking (goal.at.returns c).After-index_mut-tally c.in_ok-token.token c.as_slice.ensures.value c.as_slice-2.ensures.value c.in_ok-token.ensures c.note_take.ensures in
+    record { only = did.only; taken = did.taken; none = did.none; puts = did.puts }
