@@ -1,5 +1,5 @@
 -- Each step of a seat is one that the table of a ring allows.
-use Rattle.std.proofs.Common.{◌≡◌, ℕ, zero, suc, ◌+◌, ◌<◌, ◌≢◌, ◌⊎◌, ⊎_elim, true, false, List, [], ◌∷◌, ◌++◌, length, get_or, set, subst, sym, refl, ap, ◌∙◌, arith, None, Some}
+use Rattle.std.proofs.Common.{◌≡◌, ℕ, zero, suc, ◌+◌, ◌<◌, ◌≢◌, ⊎_elim, true, false, List, [], ◌∷◌, ◌++◌, length, get_or, set, subst, sym, refl, ap, ◌∙◌, arith, None, Some}
 use Rattle.std.proofs.lemmas.Bool.{false≢true}
 use Rattle.std.proofs.lemmas.List.{set-get_or}
 use mathlib.Core.Option.{none, some, some-injective, some-ne-none}
@@ -8,7 +8,7 @@ use Rattle.atomic_table.specs.Table.{State, Act, keeps, step, Valid, carried_aft
 use Rattle.atomic_table.proofs.Lists.{set_again, set_else}
 use Rattle.room_ring.specs.declared.view.View.{View}
 use Rattle.room_ring.specs.declared.view.Role.TheVariants.{Putter, Taker, Note}
-use Rattle.room_ring.specs.View.{first_taker, note, spent, cell_stored, tail_stored, other_seen, cell_loaded, head_stored, opened, joined}
+use Rattle.room_ring.specs.View.{first_taker, note, took, note_of, IsPutter, IsTaker, MayNote, MayBeTold, spent, cell_stored, tail_stored, other_seen, cell_loaded, head_stored, opened, joined}
 use Rattle.room_ring.specs.Rule.{number, tail, head, cell_of, Keeps, KeepsViews, KeepsRule}
 use Rattle.room_ring.specs.Plays.{Mine, StoresCell, StoresTail, LoadsHead, LoadsTail, LoadsCell, StoresHead}
 use Rattle.room_ring.proofs.Views.{prefix-length, prefix-self}
@@ -119,10 +119,6 @@ module _ (size id : ℕ) (v : View) where
       keeps_note size row v others k v.list 0 (λ e. false≢true (sym e ∙ split)) (prefix-self v.list) (omega arith)
   put_note_by is split row (p ∷ others) (suc j) kept here = absurd (kept.seats.one_putter j v here is)
 
-  -- a later split of the putter leaves a note of what was put
-  pub may_note_put : v.role ≡ Putter → v.is_split ≡ true → Splits (KeepsRule size) id v v (note v.list 0)
-  may_note_put is split s kept at = put_note_by is split s.words s.views id kept at
-
   taken_note_by : v.role ≡ Taker → v.is_loaded ≡ false → (row : List ℕ) (views : List View) (at : ℕ) → KeepsViews size row views → get_elem? views at ≡ some v → KeepsViews size row (set views at v ++ note v.list (length v.list) ∷ [])
   taken_note_by is free row [] at kept here = absurd kept
   taken_note_by is free row (p ∷ others) zero kept here = absurd (taker≢putter is (ap (λ (u : View). u.role) (sym (some-injective p v here)) ∙ kept.seats.putter))
@@ -131,12 +127,17 @@ module _ (size id : ℕ) (v : View) where
       subst (λ os. Keeps size row p (os ++ note v.list (length v.list) ∷ [])) (sym (set_again others j v here))
       (keeps_note size row p others kept v.list (length v.list) (λ e. some-ne-none v (sym here ∙ ap (λ l. get_elem? l j) (kept.seats.alone e))) (kept.truth.each j v here).list (omega arith))
 
-  -- a split of the taker between two takes leaves a note of what was taken
-  pub may_note_taken : v.role ≡ Taker → v.is_loaded ≡ false → Splits (KeepsRule size) id v v (note v.list (length v.list))
-  may_note_taken is free s kept at = taken_note_by is free s.words s.views id kept at
+  -- the putter or the taker leaves a note of what was put or taken
+  pub may_note : MayNote v → Splits (KeepsRule size) id v v (note_of v)
+  may_note may s kept at =
+      let left : ℕ → Type 0 = λ n. KeepsViews size s.words (set s.views id v ++ note v.list n ∷ []) in
+      ⊎_elim
+      (λ (putter : IsPutter v). subst left (sym (ap (λ r. took r (length v.list)) putter.role)) (put_note_by putter.role putter.split s.words s.views id kept at))
+      (λ (taker : IsTaker v.room v). subst left (sym (ap (λ r. took r (length v.list)) taker.role)) (taken_note_by taker.role taker.free s.words s.views id kept at))
+      may
 
   module _ (other : ℕ) (w : View) (is_note : w.role ≡ Note) where
-    join_by : (v.role ≡ Putter) ⊎ (v.role ≡ Taker) → (row : List ℕ) (views : List View) (i j : ℕ) → KeepsViews size row views → get_elem? views i ≡ some v → j ≢ i → get_elem? (set views i (joined v w)) j ≡ some w → KeepsViews size row (set (set views i (joined v w)) j spent)
+    join_by : MayBeTold v → (row : List ℕ) (views : List View) (i j : ℕ) → KeepsViews size row views → get_elem? views i ≡ some v → j ≢ i → get_elem? (set views i (joined v w)) j ≡ some w → KeepsViews size row (set (set views i (joined v w)) j spent)
     join_by is row [] i j kept here apart there_ = absurd kept
     join_by is row (p ∷ others) zero zero kept here apart there_ = absurd (apart refl)
     join_by is row (p ∷ others) zero (suc j) kept here apart there_ =
@@ -148,5 +149,5 @@ module _ (size id : ℕ) (v : View) where
         keeps_taker_join size row p others kept i j v w here taker (sym (set_else others i j (joined v w) (λ e. apart (ap suc e))) ∙ there_) there_ is_note
 
     -- the putter or the taker is told what a note says
-    pub may_join : (v.role ≡ Putter) ⊎ (v.role ≡ Taker) → Joins (KeepsRule size) id v other w (joined v w) spent
+    pub may_join : MayBeTold v → Joins (KeepsRule size) id v other w (joined v w) spent
     may_join is s kept at apart there_ = join_by is s.words s.views id other kept at apart there_

@@ -156,21 +156,26 @@ module _ (size : ℕ) (row : List ℕ) (p : View) (others : List View) (k : Keep
 
   -- the view w takes the place of v, and no word changes
   module _ (j : ℕ) (v : View) (at : get_elem? others j ≡ some v) where
+    seats-set : (w : View) → w.role ≢ Putter → is_taker w.role ≡ is_taker v.role → IsRoomy size w → HasSeats size p (set others j w)
+    seats-set w no_putter same roomy =
+        let t : takers (set others j w) ≡ takers others = takers-set others j v w at same in
+        let most = k.seats.one_taker in
+        record {
+          putter = k.seats.putter;
+          room = k.seats.room;
+          one_putter = each-set (λ u. u.role ≢ Putter) others j w (λ i u ne is. k.seats.one_putter i u is) no_putter;
+          one_taker = omega arith;
+          taker_room = each-set (IsRoomy size) others j w (λ i u ne is. k.seats.taker_room i u is) roomy;
+          alone = λ e. absurd (some-ne-none v (sym at ∙ ap (λ l. get_elem? l j) (k.seats.alone e)));
+        }
+
     pub reseated : (w : View) → w.role ≢ Putter → is_taker w.role ≡ is_taker v.role → IsRoomy size w → IsCounted (head row) w → IsSeen (tail row) w → IsTrueOf p.list (head row) w
         → Keeps size row p (set others j w)
     reseated w no_putter same roomy counted seen true_ =
         let t : takers (set others j w) ≡ takers others = takers-set others j v w at same in
-        let most = k.seats.one_taker in
         record {
           words = k.words;
-          seats = record {
-            putter = k.seats.putter;
-            room = k.seats.room;
-            one_putter = each-set (λ u. u.role ≢ Putter) others j w (λ i u ne is. k.seats.one_putter i u is) no_putter;
-            one_taker = omega arith;
-            taker_room = each-set (IsRoomy size) others j w (λ i u ne is. k.seats.taker_room i u is) roomy;
-            alone = λ e. absurd (some-ne-none v (sym at ∙ ap (λ l. get_elem? l j) (k.seats.alone e)));
-          };
+          seats = seats-set w no_putter same roomy;
           counts = record {
             put = k.counts.put;
             taken = each-set (IsCounted (head row)) others j w (λ i u ne is. k.counts.taken i u is) counted;
@@ -224,14 +229,7 @@ module _ (size : ℕ) (row : List ℕ) (p : View) (others : List View) (k : Keep
           let truth = k.truth.each j v at in
           record {
             words = length-set row 1 n ∙ k.words;
-            seats = record {
-              putter = k.seats.putter;
-              room = k.seats.room;
-              one_putter = each-set (λ u. u.role ≢ Putter) others j w (λ i u ne isu. k.seats.one_putter i u isu) (k.seats.one_putter j v at);
-              one_taker = omega arith;
-              taker_room = each-set (IsRoomy size) others j w (λ i u ne isu. k.seats.taker_room i u isu) (k.seats.taker_room j v at);
-              alone = λ e. absurd (some-ne-none v (sym at ∙ ap (λ l. get_elem? l j) (k.seats.alone e)));
-            };
+            seats = seats-set w (k.seats.one_putter j v at) refl (k.seats.taker_room j v at);
             counts = record {
               put = t ∙ k.counts.put;
               taken = each-set (IsCounted (head (set row 1 n))) others j w (λ i u ne isu role. absurd (ne (one_seat others i j u v most isu at role is))) (λ r. let goal : n ≡ head (set row 1 n) + 0 = omega arith in goal);

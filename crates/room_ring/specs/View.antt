@@ -1,5 +1,5 @@
 -- The views of a ring's seats, and what each kind of step does to the view of the seat that makes it.
-use Rattle.std.specs.Prelude.{ℕ, ◌+◌, true, false, List, [], ◌∷◌, ◌++◌, None, Some, option_to_list}
+use Rattle.std.specs.Prelude.{◌≡◌, ℕ, ◌+◌, ◌⊎◌, true, false, List, [], ◌∷◌, ◌++◌, length, None, Some, option_to_list}
 use Rattle.room_ring.specs.declared.view.View.{View}
 use Rattle.room_ring.specs.declared.view.Role.{Role}
 use Rattle.room_ring.specs.declared.view.Role.TheVariants.{Putter, Taker, Note, Spent}
@@ -30,6 +30,37 @@ first_taker room = blank Taker room
 -- a note of these tokens, of which so many were taken
 abbrev pub note : List ℕ → ℕ → View
 note tokens count = record (blank Note 0) { list = tokens; count = count }
+
+-- how many of so many tokens in its list a seat of this role took
+abbrev pub took : Role → ℕ → ℕ
+took Putter count = 0
+took Taker count = count
+took Note count = 0
+took Spent count = 0
+
+-- the note that a seat leaves: its list, and how many of it were taken
+abbrev pub note_of : View → View
+note_of v = note v.list (took v.role (length v.list))
+
+-- the putter between two puts, once it was split
+pub record IsPutter (v : View) : Type 0 where
+  pub role : v.role ≡ Putter
+  pub stored : v.stored ≡ None
+  pub split : v.is_split ≡ true
+
+-- the taker between two takes, which knows the room
+pub record IsTaker (room : ℕ) (v : View) : Type 0 where
+  pub role : v.role ≡ Taker
+  pub free : v.is_loaded ≡ false
+  pub room_is : v.room ≡ room
+
+-- the putter and the taker may leave a note
+abbrev pub MayNote : View → Type 0
+MayNote v = IsPutter v ⊎ IsTaker v.room v
+
+-- the putter and the taker may be told one
+abbrev pub MayBeTold : View → Type 0
+MayBeTold v = (v.role ≡ Putter) ⊎ (v.role ≡ Taker)
 
 -- a seat that was joined into another
 abbrev pub spent : View

@@ -2,22 +2,27 @@
 //! ends may move to a thread of its own.
 #![tactic(auto)]
 
-ghost use Rattle.std.specs.Prelude.{◌≡◌, ◌+◌, ◌≤◌, [], length, IfOk};
+ghost use Rattle.std.specs.Prelude.{◌≡◌, ◌+◌, ◌<◌, ◌≤◌, [], length, IfOk};
 ghost use Rattle.room_ring.specs.Ends.{IsRoomRing, IsInOrder, IsWithinRoom, IsAllKnown, IsAllSpace};
 ghost use Rattle.room_ring.specs.Put.{room_tokens, room_space};
-ghost use Rattle.room_ring.specs.Take.{room_known};
+ghost use Rattle.room_ring.specs.Take.{room_known, TakeLooks};
+ghost use Rattle.room_ring.specs.View.{note_of, joined, MayNote, MayBeTold};
 
+mod end;
 mod put;
 mod take;
 mod view;
 mod words;
 
+use atomic_table::Seat;
+use end::End;
 use line_base::Date;
 pub use put::{Full, RoomPut};
 use std::alloc::{AllocError, Global};
 use std::sync::Arc;
 pub use take::RoomTake;
-use words::{HEAD, LoadHead, LoadTail, NotePut, NoteTaken, Open, TAIL, Tell, Words};
+use view::View;
+use words::{HEAD, LeaveNote, LoadHead, LoadTail, Open, TAIL, Tell, Words};
 
 /// Makes a ring in which `room` tokens may wait at once. It has put the initial tokens and taken
 /// none, its take knows all of them, and its space is the room less their number. Fails only for
@@ -63,52 +68,56 @@ fn empty_ring(alloc: Global, room: u32) -> Result<(RoomPut, RoomTake), AllocErro
     let words = Arc::new(alloc, words)?;
     let others = Arc::try_clone(&words)?;
     let taker = words.shared.split_seat::<Open>(&mut seat);
-    let put = RoomPut {
+    let put = End {
         words,
         seat,
-        initial: 0,
         room,
-        tail: 0,
-        head: 0,
+        count: 0,
+        seen: 0,
     };
-    let take = RoomTake {
+    let take = End {
         words: others,
         seat: taker,
         room,
-        head: 0,
-        tail: 0,
+        count: 0,
+        seen: 0,
     };
-    Ok((put, take))
+    Ok((
+        RoomPut {
+            end: put,
+            initial: 0,
+        },
+        RoomTake { end: take },
+    ))
 }
 
-/// The taker tells the putter what it has taken, and the putter looks.
-fn tell_put(put: &mut RoomPut, take: &mut RoomTake)
-    requires { IsRoomRing put.old take.old }
-    ensures put { put.new ≡ record put.old { head = put.new.head; loads = put.new.loads } }
-    ensures take { take.new ≡ take.old }
-    ensures later { put.old.head ≤ put.new.head }
-    ensures loads { put.new.loads ≡ put.old.loads + 1 }
-    ensures in_order { IsInOrder put.new take.new }
-    ensures space { IsAllSpace put.new take.new }
+/// One seat leaves a note of what it has put or taken, and another is told it.
+fn tell(words: &Words, from: &mut Seat<(), View>, to: &mut Seat<(), View>)
+    requires some_words { 0 < words.now.shared.table_id.words }
+    requires from { from.old.table_id ≡ words.now.shared.table_id }
+    requires to { to.old.table_id ≡ words.now.shared.table_id }
+    requires may_note { MayNote from.old.me.0 }
+    requires may_be_told { MayBeTold to.old.me.0 }
+    ensures from_table { from.new.table_id ≡ from.old.table_id }
+    ensures to_table { to.new.table_id ≡ to.old.table_id }
+    ensures from { from.new.me ≡ from.old.me }
+    ensures to { to.new.me ≡ (joined to.old.me.0 (note_of from.old.me.0), to.old.me.1) }
 {
-    let note = put.words.shared.split_seat::<NoteTaken>(&mut take.seat);
-    put.words.shared.join_seat::<Tell>(&mut put.seat, note);
-    put.head = put.words.shared.load::<LoadHead>(&mut put.seat, HEAD);
+    let note = words.shared.split_seat::<LeaveNote>(from);
+    words.shared.join_seat::<Tell>(to, note);
 }
 
 /// The putter tells the taker what it has put, and the taker looks.
 fn tell_take(put: &mut RoomPut, take: &mut RoomTake)
     requires { IsRoomRing put.old take.old }
-    ensures put { put.new ≡ put.old }
-    ensures take { take.new ≡ record take.old { tail = take.new.tail; loads = take.new.loads } }
-    ensures later { take.old.tail ≤ take.new.tail }
-    ensures loads { take.new.loads ≡ take.old.loads + 1 }
+    ensures looks { TakeLooks take.old take.new }
     ensures within { IsWithinRoom put.new take.new }
     ensures known { IsAllKnown put.new take.new }
+    ensures put { put.new ≡ put.old }
 {
-    let note = take.words.shared.split_seat::<NotePut>(&mut put.seat);
-    take.words.shared.join_seat::<Tell>(&mut take.seat, note);
-    take.tail = take.words.shared.load::<LoadTail>(&mut take.seat, TAIL);
+    tell(&take.end.words, &mut put.end.seat, &mut take.end.seat);
+    let shared = &take.end.words.shared;
+    take.end.seen = shared.load::<LoadTail>(&mut take.end.seat, TAIL);
 }
 
 /// Brings the two ends of one ring together on one thread. What was taken is then a prefix of what
@@ -127,7 +136,10 @@ pub fn meet(put: &mut RoomPut, take: &mut RoomTake)
     ensures known { IsAllKnown put.new take.new }
     ensures space { IsAllSpace put.new take.new }
 {
-    tell_put(put, take);
+    // The taker tells the putter what it has taken, and the putter looks.
+    tell(&put.end.words, &mut take.end.seat, &mut put.end.seat);
+    let shared = &put.end.words.shared;
+    put.end.seen = shared.load::<LoadHead>(&mut put.end.seat, HEAD);
     tell_take(put, take);
 }
 

@@ -1,12 +1,12 @@
-ghost use Rattle.std.specs.Prelude.{◌≡◌, ◌+◌, ◌<◌, ◌≤◌, ◌^◌, [], ◌∷◌, ◌++◌, length, IsOk, OnOk, OnErr};
-ghost use Rattle.room_ring.specs.Put.{room_tokens, room_space, SpaceFills};
+ghost use Rattle.std.specs.Prelude.{◌≡◌, ◌+◌, ◌<◌, ◌≤◌, ◌^◌, [], ◌∷◌, ◌++◌, length, take, drop, IsOk, OnOk, OnErr};
+ghost use Rattle.room_ring.specs.Put.{RoomPutEnd, room_tokens, room_space, SpaceFills};
+ghost use Rattle.room_ring.specs.Seated.{IsSeated};
+ghost use Rattle.room_ring.specs.View.{IsPutter};
 
-use crate::view::View;
-use crate::words::{HEAD, LoadHead, StoreCell, StoreTail, TAIL, Words, cell};
-use atomic_table::Seat;
+use crate::end::End;
+use crate::words::{HEAD, LoadHead, StoreCell, StoreTail, TAIL, cell};
 use line_base::Date;
 use std::marker::Model;
-use std::sync::Arc;
 use thiserror::Error;
 
 /// As many tokens wait as there is room for, as far as was seen.
@@ -17,48 +17,28 @@ pub struct Full;
 /// The end of a ring at which tokens are put. It may move to another thread.
 #[derive(Drop)]
 pub struct RoomPut {
-    pub(crate) words: Arc<Words>,
-    pub(crate) seat: Seat<(), View>,
+    pub(crate) end: End,
     // How many tokens the ring began with. Contracts alone read it.
     pub(crate) initial: u32,
-    pub(crate) room: u32,
-    pub(crate) tail: u64,
-    pub(crate) head: u64,
 }
 
 impl Model for RoomPut {
-    ghost use Rattle.std.specs.Prelude.{take, drop};
-    ghost use Rattle.room_ring.specs.Put.{RoomPutEnd};
-
     ghost Value = { RoomPutEnd };
 
     ghost view = { λ p. record {
-      initial = take p.initial p.seat.me.0.list;
-      added = drop p.initial p.seat.me.0.list;
-      head = p.seat.me.0.seen;
-      loads = p.seat.me.0.loads;
-      ring = record { table = p.seat.table_id; room = p.room };
+      initial = take p.initial p.end.seat.me.0.list;
+      added = drop p.initial p.end.seat.me.0.list;
+      head = p.end.seat.me.0.seen;
+      loads = p.end.seat.me.0.loads;
+      ring = record { table = p.end.seat.table_id; room = p.end.room };
     } };
 
-    ghost use Rattle.std.specs.Arc.{arc_value};
-    ghost use Rattle.std.specs.Prelude.{◌≡◌, ◌+◌, ◌≤◌, true, [], None, length};
-    ghost use Rattle.room_ring.specs.declared.view.Role.TheVariants.{Putter};
-
     ghost invariant = { λ p. record {
-      table : p.seat.table_id ≡ (arc_value p.words).shared.table_id;
-      key : (arc_value p.words).shared.key ≡ p.room;
-      words : (arc_value p.words).shared.table_id.words ≡ p.room + 2;
-      some_room : 1 ≤ p.room;
-      most_room : p.room ≤ 20000;
-      no_slot : p.seat.me.1 ≡ [];
-      role : p.seat.me.0.role ≡ Putter;
-      stored : p.seat.me.0.stored ≡ None;
-      split : p.seat.me.0.is_split ≡ true;
-      tail : p.tail ≡ length p.seat.me.0.list;
-      head : p.head ≡ p.seat.me.0.seen;
-      within : length p.seat.me.0.list ≤ p.seat.me.0.seen + p.room;
-      taken : p.seat.me.0.seen ≤ length p.seat.me.0.list;
-      began : p.initial ≤ length p.seat.me.0.list;
+      seated : IsSeated p.end;
+      putter : IsPutter p.end.seat.me.0;
+      within : length p.end.seat.me.0.list ≤ p.end.seat.me.0.seen + p.end.room;
+      taken : p.end.seat.me.0.seen ≤ length p.end.seat.me.0.list;
+      began : p.initial ≤ length p.end.seat.me.0.list;
     } };
 }
 
@@ -69,7 +49,7 @@ impl RoomPut {
         ensures fills { SpaceFills self.now }
         ensures most { room_space self.now ≤ self.now.ring.room }
     {
-        self.room - (self.tail - self.head) as u32
+        self.end.room - (self.end.count - self.end.seen) as u32
     }
 
     /// Looks how many tokens were taken, and tells the space that there is then.
@@ -79,7 +59,8 @@ impl RoomPut {
         ensures counted { self.new.loads ≡ self.old.loads + 1 }
         ensures same { self.new ≡ record self.old { head = self.new.head; loads = self.new.loads } }
     {
-        self.head = self.words.shared.load::<LoadHead>(&mut self.seat, HEAD);
+        let shared = &self.end.words.shared;
+        self.end.seen = shared.load::<LoadHead>(&mut self.end.seat, HEAD);
         self.space()
     }
 
@@ -88,7 +69,7 @@ impl RoomPut {
         requires { length (room_tokens self.old) < 2 ^ 32 }
         ensures { self.new ≡ record self.old { initial = room_tokens self.old; added = [] } }
     {
-        self.initial = self.tail as u32;
+        self.initial = self.end.count as u32;
     }
 
     /// Puts a token behind all others, where there is space. It takes no memory.
@@ -97,11 +78,11 @@ impl RoomPut {
         requires most { length self.old.added < 2 ^ 40 }
         ensures { self.new ≡ record self.old { added = self.old.added ++ date ∷ [] } }
     {
-        let shared = &self.words.shared;
-        let word = cell(self.room, self.tail);
-        shared.store::<StoreCell>(&mut self.seat, word, date);
-        self.tail += 1;
-        shared.store::<StoreTail>(&mut self.seat, TAIL, self.tail);
+        let shared = &self.end.words.shared;
+        let word = cell(self.end.room, self.end.count);
+        shared.store::<StoreCell>(&mut self.end.seat, word, date);
+        self.end.count += 1;
+        shared.store::<StoreTail>(&mut self.end.seat, TAIL, self.end.count);
     }
 
     /// Puts a token behind all others. Where no space is known it looks once, and `Full` comes

@@ -1,8 +1,8 @@
 //! The rule of a ring's table, and the names of its steps.
-ghost use Rattle.std.specs.Prelude.{◌≡◌, ◌<◌, length};
+ghost use Rattle.std.specs.Prelude.{◌≡◌, ◌<◌};
 ghost use Rattle.room_ring.specs.Plays.{StoresCell, StoresTail, LoadsHead, LoadsTail, LoadsCell, StoresHead};
 ghost use Rattle.room_ring.specs.Rule.{KeepsRule, cell_of};
-ghost use Rattle.room_ring.specs.View.{first_putter, first_taker, note, spent, opened, joined};
+ghost use Rattle.room_ring.specs.View.{first_putter, first_taker, note_of, spent, opened, joined};
 
 use crate::view::View;
 use atomic_table::{Join, Play, Split, Table, TableRule};
@@ -84,22 +84,13 @@ impl Split<View> for Open {
     ghost right = { λ v. first_taker v.room };
 }
 
-/// A later split of the putter, which leaves a note of what was put.
-pub(crate) struct NotePut;
+/// A later split of the putter, or a split of the taker, which leaves a note of what was put or taken.
+pub(crate) struct LeaveNote;
 
-impl Split<View> for NotePut {
+impl Split<View> for LeaveNote {
     ghost left = { λ v. v };
 
-    ghost right = { λ v. note v.list 0 };
-}
-
-/// A split of the taker, which leaves a note of what was taken.
-pub(crate) struct NoteTaken;
-
-impl Split<View> for NoteTaken {
-    ghost left = { λ v. v };
-
-    ghost right = { λ v. note v.list (length v.list) };
+    ghost right = { note_of };
 }
 
 /// A note is told to the putter or to the taker.

@@ -8,23 +8,23 @@ pub store-requires : goal.store-requires
 store-requires c =
     let p = c.self.inside in
     let i = c.self.invariant in
-    let key = ap (λ w. w.shared.key) c.deref.ensures ∙ i.key in
-    let words = ap (λ w. w.shared.table_id.words) c.deref.ensures ∙ i.words in
-    let some_room = i.some_room in
-    let space = space_within p.initial p.room p.seat.me.0.seen p.seat.me.0.list (subst (λ v. 0 < room_space v) (sym c.self.view_is) c.requires.space) in (
+    let key = ap (λ w. w.shared.key) c.deref.ensures ∙ i.seated.key in
+    let words = ap (λ w. w.shared.table_id.words) c.deref.ensures ∙ i.seated.words in
+    let some_room = i.seated.some_room in
+    let space = space_within p.initial p.end.room p.end.seat.me.0.seen p.end.seat.me.0.list (subst (λ v. 0 < room_space v) (sym c.self.view_is) c.requires.space) in (
       search rules,
-      cell_within _ _ _ _ c.cell-word.ensures i.some_room words,
-      may_store_cell _ _ _ _ _ _ i.role (omega arith) i.stored (omega arith) (same_cell _ _ _ _ _ c.cell-word.ensures key i.tail),
+      cell_within _ _ _ _ c.cell-word.ensures i.seated.some_room words,
+      may_store_cell _ _ _ _ _ _ i.putter.role (omega arith) i.putter.stored (omega arith) (same_cell _ _ _ _ _ c.cell-word.ensures key i.seated.count),
     )
 
 pub store-requires-2 : goal.store-requires-2
 store-requires-2 c =
     let i = c.self.invariant in
-    let words = ap (λ w. w.shared.table_id.words) c.deref.ensures ∙ i.words in
+    let words = ap (λ w. w.shared.table_id.words) c.deref.ensures ∙ i.seated.words in
     let stored = ap (λ m. m.0) c.store.ensures.2 in
-    let tail = i.tail in
+    let tail = i.seated.count in
     let same = ap (λ v. length v.list) stored in (
       search rules,
       omega arith,
-      may_store_tail _ _ _ _ _ _ (ap (λ v. v.role) stored ∙ i.role) (ap (λ v. v.stored) stored) (omega arith),
+      may_store_tail _ _ _ _ _ _ (ap (λ v. v.role) stored ∙ i.putter.role) (ap (λ v. v.stored) stored) (omega arith),
     )

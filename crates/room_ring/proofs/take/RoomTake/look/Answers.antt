@@ -3,4 +3,4 @@ use Rattle.room_ring.proofs.Moves.{may_load_tail}
 use Rattle.room_ring.proofs.take.RoomTake.look.Goals as goal
 
 pub load-self-inside-requires : goal.load-self-inside-requires
-load-self-inside-requires c = (search rules, grind arith, may_load_tail _ _ _ _ c.self.invariant.role)
+load-self-inside-requires c = (search rules, grind arith, may_load_tail _ _ _ _ c.self.invariant.taker.role)

@@ -8,22 +8,22 @@ pub load-date-requires : goal.load-date-requires
 load-date-requires c =
     let t = c.self.inside in
     let i = c.self.invariant in
-    let key = ap (λ w. w.shared.key) c.deref.ensures ∙ i.key in
-    let words = ap (λ w. w.shared.table_id.words) c.deref.ensures ∙ i.words in (
+    let key = ap (λ w. w.shared.key) c.deref.ensures ∙ i.seated.key in
+    let words = ap (λ w. w.shared.table_id.words) c.deref.ensures ∙ i.seated.words in (
       search rules,
-      cell_within _ _ _ _ c.cell-word.ensures i.some_room words,
-      may_load_cell _ _ _ _ _ i.role i.free (known_within t.seat.me.0.seen t.seat.me.0.list (subst (λ v. 0 < room_known v) (sym c.self.view_is) c.requires)) (same_cell _ _ _ _ _ c.cell-word.ensures key i.head),
+      cell_within _ _ _ _ c.cell-word.ensures i.seated.some_room words,
+      may_load_cell _ _ _ _ _ i.taker.role i.taker.free (known_within t.end.seat.me.0.seen t.end.seat.me.0.list (subst (λ v. 0 < room_known v) (sym c.self.view_is) c.requires)) (same_cell _ _ _ _ _ c.cell-word.ensures key i.seated.count),
     )
 
 pub store-requires : goal.store-requires
 store-requires c =
     let i = c.self.invariant in
-    let words = ap (λ w. w.shared.table_id.words) c.deref.ensures ∙ i.words in
-    let some_room = i.some_room in
-    let head = i.head in
+    let words = ap (λ w. w.shared.table_id.words) c.deref.ensures ∙ i.seated.words in
+    let some_room = i.seated.some_room in
+    let head = i.seated.count in
     let taken = ap (λ m. m.0) c.load-date.ensures.2 in
-    let longer = ap (λ v. length v.list) taken ∙ length-append c.self.inside.seat.me.0.list (c.load-date.result ∷ []) in (
+    let longer = ap (λ v. length v.list) taken ∙ length-append c.self.inside.end.seat.me.0.list (c.load-date.result ∷ []) in (
       search rules,
       omega arith,
-      may_store_head _ _ _ _ _ (ap (λ v. v.role) taken ∙ i.role) (ap (λ v. v.is_loaded) taken) (omega arith),
+      may_store_head _ _ _ _ _ (ap (λ v. v.role) taken ∙ i.taker.role) (ap (λ v. v.is_loaded) taken) (omega arith),
     )
