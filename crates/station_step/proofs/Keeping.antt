@@ -20,7 +20,7 @@ use Rattle.station_step.specs.Ends.{inlet_taken, inlet_ahead, inlet_queue, outle
 use Rattle.station_step.specs.Input.{empty_handed, input_at, IsHeld, IsRefilled, NoneTakes}
 use Rattle.station_step.specs.Station.{new_station, WorkStation, firings, outlet_at, NonePuts, AreApart, IsStation, IsSeated, MayPut, bare_input}
 use Rattle.station_step.specs.Kept.{IsKept, IsFresh, date_for, token_for, saturating, sent}
-use Rattle.station_step.specs.Step.{MovesItsOwn, Grows, IsReady}
+use Rattle.station_step.specs.Step.{MovesItsOwn, Grows, MovesApart, IsReady}
 use Rattle.station_step.proofs.OwnQueues.{input-same, outlet-same, inlet_queue-same, outlet_queue-same, bare-unseen, taken-unseen}
 use Rattle.station_step.proofs.Looking.{AreAlike, bare-alike, added-alike, ring_room-alike, at-set, beside-set}
 use Rattle.station_step.proofs.Dates.{date_for-agree}
@@ -377,7 +377,7 @@ room-apart old new s (outlet.Ring put) own = refl
 room-apart old new s (outlet.Room put) own = refl
 room-apart old new s (outlet.Local q) own = ap (λ (queue : PlainQueue). queue.room) (own.made q)
 
-pub kept-others : (old new : List PlainQueue) (s : WorkStation) → MovesItsOwn s old new → (other : WorkStation) → IsStation other → AreApart s other → IsKept old other → IsKept new other
+kept-others : (old new : List PlainQueue) (s : WorkStation) → MovesItsOwn s old new → (other : WorkStation) → IsStation other → AreApart s other → IsKept old other → IsKept new other
 kept-others old new s own other sound apart kept =
     let taken : (k : ℕ) → k < length other.inputs → inlet_taken new (input_at other.inputs k).inlet ≡ inlet_taken old (input_at other.inputs k).inlet =
     λ k low. taken-apart old new s (input_at other.inputs k).inlet own (λ q is. takes-apart s other q k apart low is) in
@@ -416,7 +416,7 @@ ahead-apart old new s (inlet.Ring take) own grows none = omega arith
 ahead-apart old new s (inlet.Room take) own grows none = omega arith
 ahead-apart old new s (inlet.Local q) own grows none = waiting-grows old new q (own.made q) (own.takes q (none q refl)) grows
 
-pub ready-others : (old new : List PlainQueue) (s : WorkStation) → MovesItsOwn s old new → Grows old new → (other : WorkStation) → AreApart s other → IsReady old other → IsReady new other
+ready-others : (old new : List PlainQueue) (s : WorkStation) → MovesItsOwn s old new → Grows old new → (other : WorkStation) → AreApart s other → IsReady old other → IsReady new other
 ready-others old new s own grows other apart ready = record {
   more = ready.more;
   tokens = λ k low.
@@ -425,6 +425,22 @@ ready-others old new s own grows other apart ready = record {
       let ahead = ahead-apart old new s input.inlet own grows (λ q is. takes-apart s other q k apart low is) in
       omega (arith, had, ahead);
   space = ready.space;
+}
+
+pub moves-apart : (old new : List PlainQueue) (s : WorkStation) → MovesItsOwn s old new → Grows old new → MovesApart s old new
+moves-apart old new s own grows = record {
+  grows = grows;
+  own = own;
+  others = kept-others old new s own;
+  ready = ready-others old new s own grows;
+}
+
+pub moves-none : (shelf : List PlainQueue) (s : WorkStation) → MovesApart s shelf shelf
+moves-none shelf s = record {
+  grows = λ q. ([], append-nil (queue_at shelf q).added);
+  own = record { count = refl; made = λ q. refl; takes = λ q none. refl; taken = λ q none. refl; puts = λ q none. refl };
+  others = λ other sound apart kept. kept;
+  ready = λ other apart ready. ready;
 }
 
 -- ---- before a step

@@ -9,7 +9,8 @@ use Rattle.station_step.specs.declared.stepped.Stepped.TheVariants.{Fired, Block
 use Rattle.token_shelf.specs.Shelf.{queue_at, unused, OnlyTakes}
 use Rattle.station_step.specs.Ends.{outlet_looks, HasSpace, HasNoSpace, HasLooked}
 use Rattle.station_step.specs.Input.{input_at, tokens_ahead, IsRefilled, NoneTakes}
-use Rattle.station_step.specs.Station.{WorkStation, outlet_at, NonePuts}
+use Rattle.station_step.specs.Station.{WorkStation, IsStation, AreApart, outlet_at, NonePuts}
+use Rattle.station_step.specs.Kept.{IsKept}
 
 -- dates are left to be made, each arc into the station has a token, in the hand or known to come next, and each
 -- outlet has space, as all have but those of rings of bounded room
@@ -110,3 +111,11 @@ pub record MovesItsOwn (s : WorkStation) (old new : List PlainQueue) : Type 0 wh
 -- every queue has the tokens that were put on it before, and then those that were put since
 abbrev pub Grows : List PlainQueue → List PlainQueue → Type 0
 Grows old new = (q : ℕ) → IsPrefix (queue_at old q).added (queue_at new q).added
+
+-- a step of a station moves tokens of its own queues alone and takes no put back, so that every other station of the shelf,
+-- where no queue is an input of both or an output of both, keeps what it kept, and can still fire if it could
+pub record MovesApart (s : WorkStation) (old new : List PlainQueue) : Type 0 where
+  pub grows : Grows old new
+  pub own : MovesItsOwn s old new
+  pub others : (other : WorkStation) → IsStation other → AreApart s other → IsKept old other → IsKept new other
+  pub ready : (other : WorkStation) → AreApart s other → IsReady old other → IsReady new other

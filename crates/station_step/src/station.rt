@@ -4,8 +4,8 @@ ghost use Rattle.event_graph.specs.Network.{stations, jobs, ins, outs};
 ghost use Rattle.station_step.specs.Ends.{IsUntaken, IsUnfilled, HasRingRoom, unseen_inlet, unseen_outlet, AreEnds, AreMet, KnowsMore, HasMoreSpace};
 ghost use Rattle.station_step.specs.Input.{input_at};
 ghost use Rattle.station_step.specs.Kept.{IsKept, IsFresh};
-ghost use Rattle.station_step.specs.Station.{WorkStation, IsStation, IsSeated, MayPut, AreApart, outlet_at, bare_station, new_station, with_inlet, with_outlet};
-ghost use Rattle.station_step.specs.Step.{IsReady, IsDone, HasFired, IfBlocked, IsBlocked, IfFull, IsFull, Did, MovesItsOwn, Grows};
+ghost use Rattle.station_step.specs.Station.{WorkStation, IsStation, IsSeated, MayPut, outlet_at, bare_station, new_station, with_inlet, with_outlet};
+ghost use Rattle.station_step.specs.Step.{IsReady, IsDone, HasFired, IfBlocked, IsBlocked, IfFull, IsFull, Did, MovesApart};
 
 use crate::ends::{Inlet, Outlet, meet_ends};
 use crate::inputs::{empty_hands, next_date, refill, with_empty_hands};
@@ -55,8 +55,12 @@ impl Model for Station {
 
     ghost view = { λ s. seen_station s.graph.value s.number s.inputs.items s.outlets.items s.log s.made s.turns };
 
-    ghost invariant = { λ s. IsStation (seen_station s.graph.value s.number s.inputs.items s.outlets.items s.log s.made s.turns) ×
-        IsNoted s.graph.value s.number s.inputs.items s.outlets.items s.fixed s.worked.items s.bounded };
+    ghost invariant = { λ s. record {
+      station : IsStation (seen_station s.graph.value s.number s.inputs.items s.outlets.items s.log
+          s.made s.turns);
+      noted : IsNoted s.graph.value s.number s.inputs.items s.outlets.items s.fixed s.worked.items
+          s.bounded;
+    } };
 }
 
 impl Station {
@@ -133,12 +137,7 @@ impl Station {
         ensures fires { IsReady shelf.old self.old → HasFired result }
         ensures did { Did result shelf.old shelf.new self.old self.new }
         ensures kept { IsKept shelf.old self.old → IsKept shelf.new self.new }
-        ensures grows { Grows shelf.old shelf.new }
-        ensures own { MovesItsOwn self.old shelf.old shelf.new }
-        ensures others { (other : WorkStation) → IsStation other → AreApart self.old other →
-            IsKept shelf.old other → IsKept shelf.new other }
-        ensures ready { (other : WorkStation) → AreApart self.old other → IsReady shelf.old other →
-            IsReady shelf.new other }
+        ensures moves { MovesApart self.old shelf.old shelf.new }
     {
         self.turns += 1;
         let graph = live.graph();

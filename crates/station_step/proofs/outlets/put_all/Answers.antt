@@ -45,33 +45,29 @@ put-requires-clause-space c =
     let from = (goal.at.put-requires-clause-space c).After-index_mut-noted in
     subst HasSpace (sym (at from ∙ c.loop-k.invariant.filled.rest c.loop-k.k (omega arith))) (c.requires.space c.loop-k.k (there from))
 
+-- its delay is the one that is noted beside it
+delay_at : (c : After-index_mut-noted) → c.index_mut-noted.result.now.delay ≡ (get_or c.loop-k.outlets.items c.loop-k.k no_outlet).delay
+delay_at c = ap (λ (n : NotedOutlet). n.delay) (outlet-lent c.loop-k.outlets.items c.loop-k.k c.index_mut-noted.result.now (below c) c.index_mut-noted.ensures.value)
+
 pub loop-k-preserved : goal.loop-k-preserved
 loop-k-preserved c =
-    let items = c.loop-k.outlets.items in
-    let before = outlets_of c.args.outlets.now.items in
-    let outlets = outlets_of items in
+    let from = (goal.at.loop-k-preserved c).After-index_mut-noted in
     let k = c.loop-k.k in
     let was = c.loop-k.invariant in
-    let mid = c.loop-k.shelf in
-    let new = c.put.new.shelf in
-    let o : Outlet = c.put.new.self in
-    let lent_now = c.index_mut-noted.result.now in
-    let noted : NotedOutlet = record { outlet = o; delay = lent_now.delay } in
+    let items = c.loop-k.outlets.items in
+    let delay = delay_at from in
+    let noted : NotedOutlet = record { outlet = c.put.new.self; delay = c.index_mut-noted.result.now.delay } in
     let tokens = λ (j : ℕ). saturating c.args.date (slice_index (delays_of c.args.outlets.now.items) j) in
-    let from = (goal.at.loop-k-preserved c).After-index_mut-noted in
-    let low : k < length outlets = omega (arith, there from, was.filled.count) in
-    let delay : lent_now.delay ≡ (get_or items k no_outlet).delay =
-    ap (λ (n : NotedOutlet). n.delay) (outlet-lent items k lent_now (below from) c.index_mut-noted.ensures.value) in
     let later : c.saturating_add-later.result ≡ tokens k =
     c.saturating_add-later.ensures
     ∙ ap (saturating c.args.date) (delay ∙ sym (delay-at items k) ∙ ap (λ (l : List ℕ). slice_index l k) was.delays) in
     record {
       delays = delays-stay items k noted delay ∙ was.delays;
       filled =
-          subst (FilledUpTo (k + 1) tokens c.args.shelf.now new before) (sym (outlets-set items k noted))
-          (filled_more k tokens c.args.shelf.now mid new before outlets o c.requires.apart low was.filled
+          subst (FilledUpTo (k + 1) tokens c.args.shelf.now c.put.new.shelf (outlets_of c.args.outlets.now.items)) (sym (outlets-set items k noted))
+          (filled_more k tokens c.args.shelf.now c.loop-k.shelf c.put.new.shelf (outlets_of c.args.outlets.now.items) (outlets_of items) c.put.new.self c.requires.apart (omega (arith, there from, was.filled.count)) was.filled
           (c.put.ensures.same ∙ ap bare_outlet (at from))
-          (c.put.ensures.added ∙ ap (λ n. outlet_added mid lent_now.outlet ++ n ∷ []) later ∙ ap (λ (p : Outlet). outlet_added mid p ++ tokens k ∷ []) (at from))
+          (c.put.ensures.added ∙ ap (λ n. outlet_added c.loop-k.shelf c.index_mut-noted.result.now.outlet ++ n ∷ []) later ∙ ap (λ (p : Outlet). outlet_added c.loop-k.shelf p ++ tokens k ∷ []) (at from))
           c.put.ensures.only_puts
-          (subst (λ (p : Outlet). (q : ℕ) → outlet_queue p ≢ Some q → queue_at new q ≡ queue_at mid q) (at from) c.put.ensures.others));
+          (subst (λ (p : Outlet). (q : ℕ) → outlet_queue p ≢ Some q → queue_at c.put.new.shelf q ≡ queue_at c.loop-k.shelf q) (at from) c.put.ensures.others));
     }

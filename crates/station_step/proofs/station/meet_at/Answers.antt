@@ -105,34 +105,34 @@ from_stands c =
     subst IsStation (sym (from_is c))
     (station-alike (the_view c.from.inside) (set (outlets c) c.args.k c.meet_ends.new.outlet)
     (alike-set (outlets c) c.args.k c.meet_ends.new.outlet (output_there c) (same_but_seen c))
-    c.from.invariant.0)
+    c.from.invariant.station)
 
 to_stands : (c : goal.After-to-1) → IsStation (after_to c)
 to_stands c =
     subst IsStation (sym (to_is c))
-    (station-met (the_view c.to.inside) c.args.j c.meet_ends.new.inlet c.index_mut-2.result.now.input.hand c.to.invariant.0)
+    (station-met (the_view c.to.inside) c.args.j c.meet_ends.new.inlet c.index_mut-2.result.now.input.hand c.to.invariant.station)
 
 pub invariant_of-from : goal.invariant_of-from
 invariant_of-from c =
-    let s = c.from.inside in (
-      from_stands c,
-      noted-same s.graph.value s.number s.inputs.items s.inputs.items s.outlets.items (met_outlets c) s.fixed s.worked.items s.bounded
+    let s = c.from.inside in record {
+      station = from_stands c;
+      noted = noted-same s.graph.value s.number s.inputs.items s.inputs.items s.outlets.items (met_outlets c) s.fixed s.worked.items s.bounded
           (λ is. refl)
           (delays-stay s.outlets.items c.args.k _ (ap (λ (n : NotedOutlet). n.delay) (outlet_lent c)))
           (ap (map bare_outlet) (met_outlets_are c) ∙ bare-set (outlets c) c.args.k c.meet_ends.new.outlet (same_but_seen c))
-          c.from.invariant.1,
-    )
+          c.from.invariant.noted;
+    }
 
 pub invariant_of-to : goal.invariant_of-to
 invariant_of-to c =
-    let s = c.to.inside in (
-      to_stands c,
-      noted-same s.graph.value s.number s.inputs.items (met_inputs c) s.outlets.items s.outlets.items s.fixed s.worked.items s.bounded
+    let s = c.to.inside in record {
+      station = to_stands c;
+      noted = noted-same s.graph.value s.number s.inputs.items (met_inputs c) s.outlets.items s.outlets.items s.fixed s.worked.items s.bounded
           (λ is. extras-stay s.inputs.items c.args.j _ (ap (λ (n : NotedInput). n.extra) (lent c)))
           refl
           refl
-          c.to.invariant.1,
-    )
+          c.to.invariant.noted;
+    }
 
 pub returns-clause-from : goal.returns-clause-from
 returns-clause-from c =

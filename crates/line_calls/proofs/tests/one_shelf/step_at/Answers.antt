@@ -40,4 +40,4 @@ returns c =
     let low : c.args.t < length line = omega (arith, c.requires.is_line.count, c.requires.exists) in
     let was : IsMember g old c.args.t s =
     subst (IsMember g old c.args.t) (sym c.index_mut.ensures.value) (c.requires.is_line.members c.args.t s low) in
-    line-steps g old c.step.new.shelf line c.args.t s c.step.new.self low c.requires.is_line c.index_mut.ensures.value c.step.ensures.own.count c.step.ensures.same c.step.ensures.station (c.step.ensures.kept was.kept) c.step.ensures.others
+    line-steps g old c.step.new.shelf line c.args.t s c.step.new.self low c.requires.is_line c.index_mut.ensures.value c.step.ensures.moves.own.count c.step.ensures.same c.step.ensures.station (c.step.ensures.kept was.kept) c.step.ensures.moves.others

@@ -66,11 +66,11 @@ invariant_of-result c =
       delays_are = c.in_ok-with_delays.ensures.delays;
       bounded_is = c.has_bounded-bounded.ensures
           ∙ ap (list_any is_bounded) (c.as_slice.ensures.value ∙ sym c.in_ok-with_delays.ensures.outlets);
-    } in (
-      subst IsStation (sym (made_is c))
-          (station-new c.args.live.now.graph t c.args.inlets.items c.args.outlets.items c.args.log c.requires.exists c.requires.an_inlet_each c.requires.an_outlet_each c.requires.few_dates c.requires.log_room c.requires.ring_room),
-      subst (λ (h : Parts). IsNoted h t inputs outlets (not c.varies.result) c.in_ok-worked.worked.items c.has_bounded-bounded.result) (sym c.of.ensures) noted,
-    )
+    } in record {
+      station = subst IsStation (sym (made_is c))
+          (station-new c.args.live.now.graph t c.args.inlets.items c.args.outlets.items c.args.log c.requires.exists c.requires.an_inlet_each c.requires.an_outlet_each c.requires.few_dates c.requires.log_room c.requires.ring_room);
+      noted = subst (λ (h : Parts). IsNoted h t inputs outlets (not c.varies.result) c.in_ok-worked.worked.items c.has_bounded-bounded.result) (sym c.of.ensures) noted;
+    }
 
 pub returns-clause-made : goal.returns-clause-made
 returns-clause-made c = made_is c

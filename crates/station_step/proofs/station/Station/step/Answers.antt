@@ -9,11 +9,11 @@ use Rattle.station_step.specs.Input.{input_at, IsRefilled, NoneTakes}
 use Rattle.station_step.specs.Ends.{outlet_added}
 use Rattle.station_step.specs.Station.{WorkStation, IsStation, IsSeated, MayPut, outlet_at, bare_input}
 use Rattle.station_step.specs.Kept.{IsKept, date_for, saturating}
-use Rattle.station_step.specs.Step.{MovesItsOwn, Grows}
+use Rattle.station_step.specs.Step.{MovesItsOwn, MovesApart}
 use Rattle.station_step.specs.Noted.{inputs_of, extras_of, outlets_of, delays_of}
 use Rattle.station_step.specs.declared.input.Input.{Input}
 use Rattle.station_step.proofs.Dates.{delay-noted, date_for-is, latest-is}
-use Rattle.station_step.proofs.Keeping.{kept-waits, kept-fires, IsFiring, fired_station, station-fires, seated-same, own-waits, own-fires, grows-waits, grows-fires, kept-others, ready-others, kept-alike, station-alike}
+use Rattle.station_step.proofs.Keeping.{kept-waits, kept-fires, IsFiring, fired_station, station-fires, seated-same, own-waits, own-fires, grows-waits, grows-fires, moves-apart, moves-none, kept-alike, station-alike}
 use Rattle.station_step.proofs.Looking.{AreAlike, alike-looked, NonePuts-alike, noted-same, shelf_room-alike, shelf_room-after_takes}
 use Rattle.station_step.specs.contracts.station.Station.{the_view}
 use Rattle.station_step.proofs.station.Station.step.Goals as goal
@@ -30,13 +30,15 @@ each_refilled : (noted before after : List Input) (old mid : List PlainQueue) �
 each_refilled noted before after old mid is each =
     subst (λ (l : List Input). (k : ℕ) → k < length l → IsRefilled old mid (input_at l k) (input_at after k)) is each
 
--- what it did to the shelf, and what it grew there
-own : (c : After-refill) → MovesItsOwn c.args.self.now c.args.shelf.now c.refill.new.shelf
-own c =
-    own_waiting (the_view c.self.inside) c.args.self.now (inputs_of c.note_job.new.inputs.items) c.args.shelf.now c.refill.new.shelf c.self.view_is c.note_job.ensures.inputs c.refill.ensures.only_takes c.refill.ensures.others
-
-grows : (c : After-refill) → Grows c.args.shelf.now c.refill.new.shelf
-grows c = grows-waits c.args.shelf.now c.refill.new.shelf c.refill.ensures.only_takes
+-- and to the shelf
+moves : (c : After-refill) → MovesApart c.args.self.now c.args.shelf.now c.refill.new.shelf
+moves c =
+    let old = c.args.shelf.now in
+    let mid = c.refill.new.shelf in
+    let only = c.refill.ensures.only_takes in
+    moves-apart old mid c.args.self.now
+    (own_waiting (the_view c.self.inside) c.args.self.now (inputs_of c.note_job.new.inputs.items) old mid c.self.view_is c.note_job.ensures.inputs only c.refill.ensures.others)
+    (grows-waits old mid only)
 
 -- ---- the station is done
 
@@ -45,6 +47,9 @@ returns-then-done-jobs-clause-kept c was =
     let kept : IsKept c.args.shelf.now (the_view c.self.inside) = subst (IsKept c.args.shelf.now) (sym c.self.view_is) was in
     record { held = kept.held; dates = kept.dates; added = kept.added; room = kept.room }
 
+pub returns-then-done-jobs-clause-moves : goal.returns-then-done-jobs-clause-moves
+returns-then-done-jobs-clause-moves c = moves-none c.args.shelf.now c.args.self.now
+
 -- ---- an input has no token
 
 pub returns-in-Empty-clause-kept : goal.returns-in-Empty-clause-kept
@@ -52,21 +57,10 @@ returns-in-Empty-clause-kept c =
     let new = c.refill.new.shelf in
     let full = inputs_of c.refill.new.inputs.items in
     subst (λ (s : WorkStation). IsKept c.args.shelf.now s → IsKept new (record (the_view c.self.inside) { inputs = full; turns = c.self.inside.turns + 1 })) c.self.view_is
-    (kept-waits c.args.shelf.now new (the_view c.self.inside) full (c.self.inside.turns + 1) c.self.invariant.0.an_input_each (c.refill.ensures.count ∙ ap length c.note_job.ensures.inputs) (each_refilled (inputs_of c.note_job.new.inputs.items) (the_view c.self.inside).inputs full c.args.shelf.now c.refill.new.shelf c.note_job.ensures.inputs c.refill.ensures.each) c.refill.ensures.only_takes)
+    (kept-waits c.args.shelf.now new (the_view c.self.inside) full (c.self.inside.turns + 1) c.self.invariant.station.an_input_each (c.refill.ensures.count ∙ ap length c.note_job.ensures.inputs) (each_refilled (inputs_of c.note_job.new.inputs.items) (the_view c.self.inside).inputs full c.args.shelf.now c.refill.new.shelf c.note_job.ensures.inputs c.refill.ensures.each) c.refill.ensures.only_takes)
 
-pub returns-in-Empty-clause-grows : goal.returns-in-Empty-clause-grows
-returns-in-Empty-clause-grows c = grows (goal.at.returns-in-Empty-clause-grows c).After-refill
-
-pub returns-in-Empty-clause-own : goal.returns-in-Empty-clause-own
-returns-in-Empty-clause-own c = own (goal.at.returns-in-Empty-clause-own c).After-refill
-
-pub returns-in-Empty-clause-others : goal.returns-in-Empty-clause-others
-returns-in-Empty-clause-others c = kept-others _ _ _ (own (goal.at.returns-in-Empty-clause-others c).After-refill)
-
-pub returns-in-Empty-clause-ready : goal.returns-in-Empty-clause-ready
-returns-in-Empty-clause-ready c =
-    let from = (goal.at.returns-in-Empty-clause-ready c).After-refill in
-    ready-others _ _ _ (own from) (grows from)
+pub returns-in-Empty-clause-moves : goal.returns-in-Empty-clause-moves
+returns-in-Empty-clause-moves c = moves (goal.at.returns-in-Empty-clause-moves c).After-refill
 
 -- ---- an output has no space
 
@@ -81,22 +75,11 @@ returns-in-Some-clause-kept c =
     let kept : IsKept old s → IsKept mid (record s { inputs = full; outlets = looked; turns = turns }) =
     λ was.
     kept-alike mid (record s { inputs = full; turns = turns }) looked (alike-looked s.outlets looked c.look_all.ensures.count c.look_all.ensures.looked)
-    (kept-waits old mid s full turns c.self.invariant.0.an_input_each (c.refill.ensures.count ∙ ap length c.note_job.ensures.inputs) (each_refilled (inputs_of c.note_job.new.inputs.items) (the_view c.self.inside).inputs full c.args.shelf.now c.refill.new.shelf c.note_job.ensures.inputs c.refill.ensures.each) c.refill.ensures.only_takes was) in
+    (kept-waits old mid s full turns c.self.invariant.station.an_input_each (c.refill.ensures.count ∙ ap length c.note_job.ensures.inputs) (each_refilled (inputs_of c.note_job.new.inputs.items) (the_view c.self.inside).inputs full c.args.shelf.now c.refill.new.shelf c.note_job.ensures.inputs c.refill.ensures.each) c.refill.ensures.only_takes was) in
     subst (λ (w : WorkStation). IsKept old w → IsKept mid (record s { inputs = full; outlets = looked; turns = turns })) c.self.view_is kept
 
-pub returns-in-Some-clause-grows : goal.returns-in-Some-clause-grows
-returns-in-Some-clause-grows c = grows (goal.at.returns-in-Some-clause-grows c).After-refill
-
-pub returns-in-Some-clause-own : goal.returns-in-Some-clause-own
-returns-in-Some-clause-own c = own (goal.at.returns-in-Some-clause-own c).After-refill
-
-pub returns-in-Some-clause-others : goal.returns-in-Some-clause-others
-returns-in-Some-clause-others c = kept-others _ _ _ (own (goal.at.returns-in-Some-clause-others c).After-refill)
-
-pub returns-in-Some-clause-ready : goal.returns-in-Some-clause-ready
-returns-in-Some-clause-ready c =
-    let from = (goal.at.returns-in-Some-clause-ready c).After-refill in
-    ready-others _ _ _ (own from) (grows from)
+pub returns-in-Some-clause-moves : goal.returns-in-Some-clause-moves
+returns-in-Some-clause-moves c = moves (goal.at.returns-in-Some-clause-moves c).After-refill
 
 -- ---- the station fires
 
@@ -111,7 +94,7 @@ put_all-requires-clause-shelf_room c k low =
     c.graph-graph.ensures.graph ∙ c.requires.made_for ∙ sym (ap (λ (w : WorkStation). w.graph) c.self.view_is) in
     let left : length s.log.dates ≢ jobs s.graph =
     λ all. c.if-done-jobs.false (ap length c.dates.ensures ∙ all ∙ sym (ap jobs graph) ∙ sym c.jobs.ensures.count) in
-    let more : length s.log.dates < jobs s.graph = omega (arith, left, c.self.invariant.0.few_dates) in
+    let more : length s.log.dates < jobs s.graph = omega (arith, left, c.self.invariant.station.few_dates) in
     let may : MayPut old s = subst (MayPut old) (sym c.self.view_is) c.requires.may_put in
     shelf_room-alike mid (outlet_at s.outlets k) (outlet_at looked k) (c.look_all.ensures.looked k below).same
     (shelf_room-after_takes old mid (outlet_at s.outlets k) c.refill.ensures.only_takes (may more k below))
@@ -124,13 +107,13 @@ looked_alike : (c : goal.After-add) → AreAlike (the_view c.self.inside).outlet
 looked_alike c = alike-looked (the_view c.self.inside).outlets (outlets_of c.look_all.new.outlets.items) c.look_all.ensures.count c.look_all.ensures.looked
 
 looks_soundly : (c : goal.After-add) → IsStation (looked_station c)
-looks_soundly c = station-alike (the_view c.self.inside) (outlets_of c.look_all.new.outlets.items) (looked_alike c) c.self.invariant.0
+looks_soundly c = station-alike (the_view c.self.inside) (outlets_of c.look_all.new.outlets.items) (looked_alike c) c.self.invariant.station
 
 -- the delay of the arc of output k, as the station noted it
 delay_is : (c : goal.After-add) (k : ℕ) → k < length (the_view c.self.inside).outlets → slice_index (delays_of c.look_all.new.outlets.items) k ≡ delay (the_view c.self.inside).graph (slice_index (outs (the_view c.self.inside).graph (the_view c.self.inside).number) k)
 delay_is c k low =
     let s = the_view c.self.inside in
-    delay-noted s.graph s.number k (delays_of c.look_all.new.outlets.items) (omega (arith, low, c.self.invariant.0.an_outlet_each)) (c.look_all.ensures.delays ∙ c.self.invariant.1.delays_are)
+    delay-noted s.graph s.number k (delays_of c.look_all.new.outlets.items) (omega (arith, low, c.self.invariant.station.an_outlet_each)) (c.look_all.ensures.delays ∙ c.self.invariant.noted.delays_are)
 
 -- as many inputs as before
 full_count : (c : goal.After-add) → length (inputs_of c.refill.new.inputs.items) ≡ length (the_view c.self.inside).inputs
@@ -146,7 +129,7 @@ date_is c =
     let graph : g ≡ s.graph =
     c.graph-graph.ensures.graph ∙ c.requires.made_for ∙ sym (ap (λ (w : WorkStation). w.graph) c.self.view_is) in
     let each : length full ≡ length (ins g s.number) =
-    full_count c ∙ c.self.invariant.0.an_input_each ∙ ap (λ (h : Parts). length (ins h s.number)) (sym graph) in
+    full_count c ∙ c.self.invariant.station.an_input_each ∙ ap (λ (h : Parts). length (ins h s.number)) (sym graph) in
     let latest =
     c.in-Full.ensures.date
     ∙ latest-is g s.number (length c.dates.result.now + 1) (extras_of c.refill.new.inputs.items) full (length full) each (c.refill.ensures.extras ∙ c.note_job.ensures.extras) in
@@ -201,14 +184,14 @@ with_log c log = record (the_view c.self.inside) {
 
 pub invariant_of-self-2 : goal.invariant_of-self-2
 invariant_of-self-2 c =
-    let s = c.self.inside in (
-      subst (λ (log : RoomyLog). IsStation (with_log c log)) (sym c.add.ensures) (fires_soundly c),
-      noted-same s.graph.value s.number s.inputs.items c.empty_hands.new.inputs.items s.outlets.items c.put_all.new.outlets.items s.fixed s.worked.items s.bounded
+    let s = c.self.inside in record {
+      station = subst (λ (log : RoomyLog). IsStation (with_log c log)) (sym c.add.ensures) (fires_soundly c);
+      noted = noted-same s.graph.value s.number s.inputs.items c.empty_hands.new.inputs.items s.outlets.items c.put_all.new.outlets.items s.fixed s.worked.items s.bounded
           (λ is. c.empty_hands.ensures.extras ∙ c.refill.ensures.extras ∙ c.note_job.ensures.stays is)
           (c.put_all.ensures.delays ∙ c.look_all.ensures.delays)
           (c.put_all.ensures.same ∙ c.look_all.ensures.same)
-          c.self.invariant.1,
-    )
+          c.self.invariant.noted;
+    }
 
 pub returns-clause-station : goal.returns-clause-station
 returns-clause-station c = subst (λ (log : RoomyLog). IsStation (with_log c log)) (sym c.add.ensures) (fires_soundly c)
@@ -237,25 +220,15 @@ returns-clause-kept c =
     subst (λ (s : WorkStation). IsKept old s → IsKept new (with_log c c.add.new.self)) c.self.view_is
     (subst (λ (log : RoomyLog). IsKept old (the_view c.self.inside) → IsKept new (with_log c log)) (sym c.add.ensures) kept)
 
-own_in_firing : (c : goal.After-add) → MovesItsOwn c.args.self.now c.args.shelf.now c.put_all.new.shelf
-own_in_firing c =
-    subst (λ (s : WorkStation). MovesItsOwn s c.args.shelf.now c.put_all.new.shelf) c.self.view_is
-    (own-fires (the_view c.self.inside) c.args.shelf.now c.refill.new.shelf c.put_all.new.shelf c.refill.ensures.only_takes
-    (subst (λ (l : List Input). (q : ℕ) → NoneTakes q l → queue_at c.refill.new.shelf q ≡ queue_at c.args.shelf.now q) c.note_job.ensures.inputs c.refill.ensures.others)
-    c.put_all.ensures.only_puts
-    (λ q none. c.put_all.ensures.others q (NonePuts-alike q (the_view c.self.inside).outlets (outlets_of c.look_all.new.outlets.items) (looked_alike c) none)))
-
-grows_in_firing : (c : goal.After-add) → Grows c.args.shelf.now c.put_all.new.shelf
-grows_in_firing c = grows-fires c.args.shelf.now c.refill.new.shelf c.put_all.new.shelf c.refill.ensures.only_takes c.put_all.ensures.grows
-
-pub returns-clause-own : goal.returns-clause-own
-returns-clause-own c = own_in_firing c
-
-pub returns-clause-grows : goal.returns-clause-grows
-returns-clause-grows c = grows_in_firing c
-
-pub returns-clause-others : goal.returns-clause-others
-returns-clause-others c = kept-others c.args.shelf.now c.put_all.new.shelf c.args.self.now (own_in_firing c)
-
-pub returns-clause-ready : goal.returns-clause-ready
-returns-clause-ready c = ready-others c.args.shelf.now c.put_all.new.shelf c.args.self.now (own_in_firing c) (grows_in_firing c)
+pub returns-clause-moves : goal.returns-clause-moves
+returns-clause-moves c =
+    let s = the_view c.self.inside in
+    let old = c.args.shelf.now in
+    let mid = c.refill.new.shelf in
+    let new = c.put_all.new.shelf in
+    let outlets = outlets_of c.look_all.new.outlets.items in
+    let taken = subst (λ (l : List Input). (q : ℕ) → NoneTakes q l → queue_at mid q ≡ queue_at old q) c.note_job.ensures.inputs c.refill.ensures.others in
+    let own = own-fires s old mid new c.refill.ensures.only_takes taken c.put_all.ensures.only_puts (λ q none. c.put_all.ensures.others q (NonePuts-alike q s.outlets outlets (looked_alike c) none)) in
+    moves-apart old new c.args.self.now
+    (subst (λ (w : WorkStation). MovesItsOwn w old new) c.self.view_is own)
+    (grows-fires old mid new c.refill.ensures.only_takes c.put_all.ensures.grows)

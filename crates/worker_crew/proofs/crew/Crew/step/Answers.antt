@@ -54,7 +54,7 @@ invariant_of-self c =
     let there : c.args.i < length stations = omega (arith, c.requires.station, count-in seen c.args.self.now stations shelf c.self.view_is c.team.view_is) in
     let e = c.step-stepped.ensures in
     let step : IsStep shelf c.step-stepped.new.shelf c.index_mut.result.now c.step-stepped.new.self =
-    record { turn = e.turns; same = e.same; station = e.station; seated = e.seated; gains = gains-did _ _ _ _ _ e.did; fires = λ ready. more-did _ _ _ _ _ (e.fires ready) e.did; kept = e.kept; own = e.own; others = e.others; ready = e.ready } in
+    record { turn = e.turns; same = e.same; station = e.station; seated = e.seated; gains = gains-did _ _ _ _ _ e.did; fires = λ ready. more-did _ _ _ _ _ (e.fires ready) e.did; kept = e.kept; own = e.moves.own; others = e.moves.others; ready = e.moves.ready } in
     (crew-after seen stations shelf c.step-stepped.new.shelf c.args.i c.index_mut.result.now c.step-stepped.new.self c.self.invariant c.team.view_is there c.index_mut.ensures.value step).0
 
 pub returns-clause-stepped : goal.returns-clause-stepped
@@ -65,7 +65,7 @@ returns-clause-stepped c =
     let there : c.args.i < length stations = omega (arith, c.requires.station, count-in seen c.args.self.now stations shelf c.self.view_is c.team.view_is) in
     let e = c.step-stepped.ensures in
     let step : IsStep shelf c.step-stepped.new.shelf c.index_mut.result.now c.step-stepped.new.self =
-    record { turn = e.turns; same = e.same; station = e.station; seated = e.seated; gains = gains-did _ _ _ _ _ e.did; fires = λ ready. more-did _ _ _ _ _ (e.fires ready) e.did; kept = e.kept; own = e.own; others = e.others; ready = e.ready } in
+    record { turn = e.turns; same = e.same; station = e.station; seated = e.seated; gains = gains-did _ _ _ _ _ e.did; fires = λ ready. more-did _ _ _ _ _ (e.fires ready) e.did; kept = e.kept; own = e.moves.own; others = e.moves.others; ready = e.moves.ready } in
     let stepped = (crew-after seen stations shelf c.step-stepped.new.shelf c.args.i c.index_mut.result.now c.step-stepped.new.self c.self.invariant c.team.view_is there c.index_mut.ensures.value step).1 in
     subst (λ (w : WorkCrew). SteppedAt c.args.i w.team (record { stations = set stations c.args.i c.step-stepped.new.self; shelf = c.step-stepped.new.shelf })) c.self.view_is stepped
 
