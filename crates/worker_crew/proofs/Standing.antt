@@ -1,7 +1,7 @@
 -- What the teams of a line stand for, where every queue was met: a state that firings reach.
-use Rattle.std.proofs.Common.{◌≡◌, ℕ, ◌+◌, ◌-◌, ◌<◌, ◌≤◌, cond, eqb, List, [], ◌++◌, map, drop, take, length, get_or, refl, ap, ◌∙◌, sym, subst, arith, length-append, zero-add}
+use Rattle.std.proofs.Common.{◌≡◌, ◌≢◌, ℕ, ◌+◌, ◌-◌, ◌<◌, ◌≤◌, cond, eqb, List, [], ◌++◌, map, drop, take, length, get_or, refl, ap, ◌∙◌, sym, subst, arith, length-append, zero-add}
 use Rattle.std.specs.Prelude.{option_to_list}
-use Rattle.std.specs.List.{range_with_len}
+use Rattle.std.specs.List.{AllPairs, range_with_len}
 use Rattle.std.proofs.Math.Seq.{drop-append_seam}
 use Rattle.std.proofs.lemmas.List.{get_or_append_left, drop-drop, drop-append-le, length-drop}
 use Rattle.std.proofs.lemmas.List.FromFn.{length-range_with_len, get_or-range_with_len, length-map-range_with_len, get_or-map-range_with_len, fill_by_all}
@@ -20,7 +20,7 @@ use Rattle.station_step.specs.declared.ends.Outlet.{Outlet}
 use Rattle.station_step.specs.declared.ends.Outlet.TheVariants as outlet
 use Rattle.station_step.specs.Ends.{inlet_taken, outlet_added, HasSpace}
 use Rattle.station_step.specs.Input.{input_at, IsHeld, tokens_ahead}
-use Rattle.station_step.specs.Station.{firings, outlet_at}
+use Rattle.station_step.specs.Station.{WorkStation, firings, outlet_at}
 use Rattle.station_step.specs.Kept.{saturating, asked, date_for, token_for}
 use Rattle.station_step.specs.Step.{IsReady}
 use Rattle.worker_crew.specs.Grown.{log_in, made_at, tokens_put, token_on, HasGrown}
@@ -81,18 +81,19 @@ module _ (g : Parts) (begun : State) (teams : List WorkTeam) (sound : IsGraph g)
   unfolding state_among
   place-among a there = get_or-map-range_with_len (place_of g teams) 0 (arc_count g) a a [] there (zero-add a)
 
+  -- station t has as many things as a count of the graph says of its own number
+  many_at : (count : WorkStation → ℕ) (lists : Parts → ℕ → List ℕ) (t : ℕ) → t < stations g → (let s = station_of g teams t in count s ≡ length (lists s.graph s.number)) → count (station_of g teams t) ≡ length (lists g t)
+  many_at count lists t there many =
+      let m = member_is t there in
+      let s = station_of g teams t in
+      many ∙ ap (λ gr. length (lists gr s.number)) m.graph ∙ ap (λ n. length (lists g n)) m.number
+
   -- each arc has its input and its outlet
   pub inputs-many : (t : ℕ) → t < stations g → length (station_of g teams t).inputs ≡ length (ins g t)
-  inputs-many t there =
-      let m = member_is t there in
-      let s = station_of g teams t in
-      m.station.an_input_each ∙ ap (λ gr. length (ins gr s.number)) m.graph ∙ ap (λ n. length (ins g n)) m.number
+  inputs-many t there = many_at (λ s. length s.inputs) ins t there (member_is t there).station.an_input_each
 
   pub outlets-many : (t : ℕ) → t < stations g → length (station_of g teams t).outlets ≡ length (outs g t)
-  outlets-many t there =
-      let m = member_is t there in
-      let s = station_of g teams t in
-      m.station.an_outlet_each ∙ ap (λ gr. length (outs gr s.number)) m.graph ∙ ap (λ n. length (outs g n)) m.number
+  outlets-many t there = many_at (λ s. length s.outlets) outs t there (member_is t there).station.an_outlet_each
 
   -- the hand of each input
   pub input_held : (a : ℕ) → a < arc_count g → IsHeld (shelf_of g teams (arc g a).to) (firings (station_of g teams (arc g a).to)) (input_on g teams a)
@@ -125,21 +126,20 @@ module _ (g : Parts) (begun : State) (teams : List WorkTeam) (sound : IsGraph g)
       ∙ ap (λ l. l ++ outlet_added (shelf_of g teams from) (outlet_on g teams a)) (are.joined a listed).initial
       ∙ ap (λ l. place begun a ++ l) added
 
-  -- the input of a station with this number is that of its arc
+  -- what a station has on the k-th arc of a list of its arcs stands at place k
+  on_at : {X : Type 0} (has : WorkStation → ℕ → X) (lists : ℕ → List ℕ) (t u k : ℕ) → u ≡ t → k < length (lists t) → AllPairs (λ x y. x ≢ y) (lists t) → has (station_of g teams u) (place_in (lists u) (get_or (lists t) k 0)) ≡ has (station_of g teams t) k
+  on_at has lists t u k at low distinct =
+      ap (λ v. has (station_of g teams v) (place_in (lists v) (get_or (lists t) k 0))) at
+      ∙ ap (has (station_of g teams t)) (place_in-at (lists t) k (get_or (lists t) k 0) distinct low refl)
+
+  -- the input of a station with this number is that of its arc, and so is the outlet
   pub input_on-is : (t k : ℕ) → k < length (ins g t) → input_on g teams (get_or (ins g t) k 0) ≡ input_at (station_of g teams t).inputs k
   input_on-is t k low =
-      let a = get_or (ins g t) k 0 in
-      let at = All-ins g t k 0 low in
-      ap (λ u. input_at (station_of g teams u).inputs (place_in (ins g u) a)) at.1
-      ∙ ap (input_at (station_of g teams t).inputs) (place_in-at (ins g t) k a (distinct-ins g t) low refl)
+      on_at (λ s i. input_at s.inputs i) (ins g) t (arc g (get_or (ins g t) k 0)).to k (All-ins g t k 0 low).1 low (distinct-ins g t)
 
-  -- the outlet of a station with this number is that of its arc
   pub outlet_on-is : (t k : ℕ) → k < length (outs g t) → outlet_on g teams (get_or (outs g t) k 0) ≡ outlet_at (station_of g teams t).outlets k
   outlet_on-is t k low =
-      let a = get_or (outs g t) k 0 in
-      let at = All-outs g t k 0 low in
-      ap (λ u. outlet_at (station_of g teams u).outlets (place_in (outs g u) a)) at.1
-      ∙ ap (outlet_at (station_of g teams t).outlets) (place_in-at (outs g t) k a (distinct-outs g t) low refl)
+      on_at (λ s i. outlet_at s.outlets i) (outs g) t (arc g (get_or (outs g t) k 0)).from k (All-outs g t k 0 low).1 low (distinct-outs g t)
 
   -- what is on an arc: the token in the hand, and those put and not taken
   pub length-place : (a : ℕ) → a < arc_count g → length (place (state_among g teams) a) ≡ length (option_to_list (input_on g teams a).hand) + (length (outlet_tokens (shelf_of g teams (arc g a).from) (outlet_on g teams a)) - length (inlet_taken (shelf_of g teams (arc g a).to) (input_on g teams a).inlet))

@@ -1,7 +1,9 @@
 -- A step of one station among those of a team.
 use Rattle.std.proofs.Common.{◌≡◌, ◌≢◌, ℕ, ◌+◌, ◌<◌, ◌≤◌, List, [], ◌∷◌, ◌++◌, map, take, length, get_or, set, refl, ap, ◌∙◌, sym, subst, arith, ⊎_elim, inl, inr, length-append}
+use Rattle.std.specs.List.{sum_by}
 use Rattle.std.proofs.lemmas.Bool.{cases_eq}
 use Rattle.std.proofs.lemmas.List.{length-map, length-set, get_or_read, get_or-set_same, get_or-set_other, take-append-le, take_all}
+use Rattle.std.proofs.lemmas.List.Sums.{sum_by-set}
 use Rattle.line_base.specs.declared.event.Parts.{Parts}
 use Rattle.line_base.specs.Roomy.{RoomyLog}
 use Rattle.card_queue.specs.Plain.{PlainQueue}
@@ -18,7 +20,7 @@ use Rattle.station_step.proofs.Keeping.{seated-same}
 use Rattle.station_step.proofs.OwnQueues.{input-same, outlet-same, inlet_queue-same, outlet_queue-same}
 use Rattle.worker_crew.specs.Team.{WorkTeam, IsMember, IsTeam, member, no_station}
 use Rattle.worker_crew.specs.Crew.{WorkCrew, IsCrew, IsOrder, with_team}
-use Rattle.worker_crew.specs.Work.{dates_of, HasWorked, SteppedAt}
+use Rattle.worker_crew.specs.Work.{dates_of, dates_made, HasWorked, SteppedAt}
 
 -- ---- a station that is the same but for what it took, put and made
 
@@ -263,9 +265,23 @@ member-met g begun t shelf before after same log_same station kept m = record {
       ∙ m.begins;
 }
 
-pub team-met : (g : Parts) (begun : State) (first : ℕ) (stations : List WorkStation) (shelf : List PlainQueue) (j : ℕ) (before after : WorkStation) → j < length stations → before ≡ get_or stations j before → bare_station after ≡ bare_station before → after.log ≡ before.log → IsStation after → (IsKept shelf before → IsKept shelf after) → IsTeam g begun first (record { stations = stations; shelf = shelf }) → IsTeam g begun first (record { stations = set stations j after; shelf = shelf })
-team-met g begun first stations shelf j before after there at same log_same station kept is =
+-- the team whose station j met others, as its fields show it
+pub team-met : (g : Parts) (begun : State) (first : ℕ) (stations : List WorkStation) (shelf : List PlainQueue) (team : WorkTeam) (j : ℕ) (before after : WorkStation) → record { stations = stations; shelf = shelf } ≡ team → j < length team.stations → before ≡ get_or stations j before → bare_station after ≡ bare_station before → after.log ≡ before.log → IsStation after → (IsKept shelf before → IsKept shelf after) → IsTeam g begun first team → IsTeam g begun first (record { stations = set stations j after; shelf = shelf })
+team-met g begun first stations shelf team j before after view low at same log_same station kept is_team =
+    let old : WorkTeam = record { stations = stations; shelf = shelf } in
+    let is : IsTeam g begun first old = subst (IsTeam g begun first) (sym view) is_team in
+    let there : j < length stations = omega (arith, low, ap (λ (t : WorkTeam). length t.stations) view) in
     let here : before ≡ member stations j = get_or_read stations j before there at no_station in
-    team-set g begun first (record { stations = stations; shelf = shelf }) is j there shelf after (same ∙ ap bare_station here)
+    team-set g begun first old is j there shelf after (same ∙ ap bare_station here)
     (member-met g begun (first + j) shelf before after same log_same station kept (subst (IsMember g begun (first + j) shelf) (sym here) (is.members j there)))
-    (λ i low apart. is.members i low)
+    (λ i low_i apart. is.members i low_i)
+
+-- a crew whose team met another has as many stations, in their places
+pub crew-met : (c : WorkCrew) (stations : List WorkStation) (team : WorkTeam) → IsCrew c → team ≡ record { stations = stations; shelf = c.team.shelf } → length stations ≡ length c.team.stations → ((g : Parts) (begun : State) (first : ℕ) → IsTeam g begun first c.team → IsTeam g begun first team) → IsCrew (with_team c team)
+crew-met c stations team is only count stays =
+    crew-with_team c team is (stays c.live.graph c.begun c.first is.members) (ap (λ (t : WorkTeam). length t.stations) only ∙ count)
+
+-- where one station made a step, the dates of the team rise by those of the station
+pub dates-stepped : (i n : ℕ) (old new : WorkTeam) → i < length old.stations → SteppedAt i old new → dates_of (member new.stations i) ≡ dates_of (member old.stations i) + n → dates_made new ≡ dates_made old + n
+dates-stepped i n old new there stepped fired =
+    omega (arith, fired, ap (sum_by dates_of) stepped.only, sum_by-set dates_of old.stations i (member new.stations i) no_station there)

@@ -58,49 +58,20 @@ then_team s t u first next = record {
 
 -- ---- the ends of an arc
 
-to_bare_ends : (o : Outlet) (i : Inlet) → AreEnds o i → AreEnds (bare_outlet o) (bare_inlet i)
-to_bare_ends (outlet.Ring put) (inlet.Ring take) ends = ends
-to_bare_ends (outlet.Ring put) (inlet.Room take) ends = ends
-to_bare_ends (outlet.Ring put) (inlet.Local q) ends = ends
-to_bare_ends (outlet.Room put) (inlet.Ring take) ends = ends
-to_bare_ends (outlet.Room put) (inlet.Room take) ends = ends
-to_bare_ends (outlet.Room put) (inlet.Local q) ends = ends
-to_bare_ends (outlet.Local q) (inlet.Ring take) ends = ends
-to_bare_ends (outlet.Local q) (inlet.Room take) ends = ends
-to_bare_ends (outlet.Local q) (inlet.Local r) ends = ends
+as_itself : {A : Type 0} → (A → A) × (A → A)
+as_itself = (λ a. a, λ a. a)
 
-of_bare_ends : (o : Outlet) (i : Inlet) → AreEnds (bare_outlet o) (bare_inlet i) → AreEnds o i
-of_bare_ends (outlet.Ring put) (inlet.Ring take) ends = ends
-of_bare_ends (outlet.Ring put) (inlet.Room take) ends = ends
-of_bare_ends (outlet.Ring put) (inlet.Local q) ends = ends
-of_bare_ends (outlet.Room put) (inlet.Ring take) ends = ends
-of_bare_ends (outlet.Room put) (inlet.Room take) ends = ends
-of_bare_ends (outlet.Room put) (inlet.Local q) ends = ends
-of_bare_ends (outlet.Local q) (inlet.Ring take) ends = ends
-of_bare_ends (outlet.Local q) (inlet.Room take) ends = ends
-of_bare_ends (outlet.Local q) (inlet.Local r) ends = ends
-
-to_bare_queue : (o : Outlet) (i : Inlet) → ShareQueue o i → ShareQueue (bare_outlet o) (bare_inlet i)
-to_bare_queue (outlet.Ring put) (inlet.Ring take) share = share
-to_bare_queue (outlet.Ring put) (inlet.Room take) share = share
-to_bare_queue (outlet.Ring put) (inlet.Local q) share = share
-to_bare_queue (outlet.Room put) (inlet.Ring take) share = share
-to_bare_queue (outlet.Room put) (inlet.Room take) share = share
-to_bare_queue (outlet.Room put) (inlet.Local q) share = share
-to_bare_queue (outlet.Local q) (inlet.Ring take) share = share
-to_bare_queue (outlet.Local q) (inlet.Room take) share = share
-to_bare_queue (outlet.Local q) (inlet.Local r) share = share
-
-of_bare_queue : (o : Outlet) (i : Inlet) → ShareQueue (bare_outlet o) (bare_inlet i) → ShareQueue o i
-of_bare_queue (outlet.Ring put) (inlet.Ring take) share = share
-of_bare_queue (outlet.Ring put) (inlet.Room take) share = share
-of_bare_queue (outlet.Ring put) (inlet.Local q) share = share
-of_bare_queue (outlet.Room put) (inlet.Ring take) share = share
-of_bare_queue (outlet.Room put) (inlet.Room take) share = share
-of_bare_queue (outlet.Room put) (inlet.Local q) share = share
-of_bare_queue (outlet.Local q) (inlet.Ring take) share = share
-of_bare_queue (outlet.Local q) (inlet.Room take) share = share
-of_bare_queue (outlet.Local q) (inlet.Local r) share = share
+-- without their tokens they are those of one ring, or of one queue of a shelf, exactly where they are with them
+bare_ends : (o : Outlet) (i : Inlet) → ((AreEnds o i → AreEnds (bare_outlet o) (bare_inlet i)) × (AreEnds (bare_outlet o) (bare_inlet i) → AreEnds o i)) × ((ShareQueue o i → ShareQueue (bare_outlet o) (bare_inlet i)) × (ShareQueue (bare_outlet o) (bare_inlet i) → ShareQueue o i))
+bare_ends (outlet.Ring put) (inlet.Ring take) = (as_itself, as_itself)
+bare_ends (outlet.Ring put) (inlet.Room take) = (as_itself, as_itself)
+bare_ends (outlet.Ring put) (inlet.Local q) = (as_itself, as_itself)
+bare_ends (outlet.Room put) (inlet.Ring take) = (as_itself, as_itself)
+bare_ends (outlet.Room put) (inlet.Room take) = (as_itself, as_itself)
+bare_ends (outlet.Room put) (inlet.Local q) = (as_itself, as_itself)
+bare_ends (outlet.Local q) (inlet.Ring take) = (as_itself, as_itself)
+bare_ends (outlet.Local q) (inlet.Room take) = (as_itself, as_itself)
+bare_ends (outlet.Local q) (inlet.Local r) = (as_itself, as_itself)
 
 initial-bare : (shelf : List PlainQueue) (o : Outlet) → outlet_initial shelf (bare_outlet o) ≡ outlet_initial shelf o
 initial-bare shelf (outlet.Ring put) = refl
@@ -116,39 +87,30 @@ initial-shelf old new (outlet.Local q) same = ap (λ (queue : PlainQueue). queue
 module _ (o o' : Outlet) (i i' : Inlet) (out_same : bare_outlet o' ≡ bare_outlet o) (in_same : bare_inlet i' ≡ bare_inlet i) where
   ends-same : AreEnds o i → AreEnds o' i'
   ends-same ends =
-      of_bare_ends o' i' (
+      (bare_ends o' i').0.1 (
       subst (λ (p : Outlet). AreEnds p (bare_inlet i')) (sym out_same) (
-      subst (λ (j : Inlet). AreEnds (bare_outlet o) j) (sym in_same) (to_bare_ends o i ends)))
+      subst (λ (j : Inlet). AreEnds (bare_outlet o) j) (sym in_same) ((bare_ends o i).0.0 ends)))
 
   queue-same : ShareQueue o i → ShareQueue o' i'
   queue-same share =
-      of_bare_queue o' i' (
+      (bare_ends o' i').1.1 (
       subst (λ (p : Outlet). ShareQueue p (bare_inlet i')) (sym out_same) (
-      subst (λ (j : Inlet). ShareQueue (bare_outlet o) j) (sym in_same) (to_bare_queue o i share)))
+      subst (λ (j : Inlet). ShareQueue (bare_outlet o) j) (sym in_same) ((bare_ends o i).1.0 share)))
 
 initial-same : (old new : List PlainQueue) (o o' : Outlet) → IsSameShelf old new → bare_outlet o' ≡ bare_outlet o → outlet_initial new o' ≡ outlet_initial old o
 initial-same old new o o' shelf same =
     sym (initial-bare new o') ∙ ap (outlet_initial new) same ∙ initial-bare new o ∙ initial-shelf old new o shelf
 
-to_bare_room : (room : Option ℕ) (tokens : ℕ) (o : Outlet) → IsOfRoom room tokens o → IsOfRoom room tokens (bare_outlet o)
-to_bare_room None tokens (outlet.Ring put) is = is
-to_bare_room None tokens (outlet.Room put) is = is
-to_bare_room None tokens (outlet.Local q) is = is
-to_bare_room (Some room) tokens (outlet.Ring put) is = is
-to_bare_room (Some room) tokens (outlet.Room put) is = is
-to_bare_room (Some room) tokens (outlet.Local q) is = is
-
-of_bare_room : (room : Option ℕ) (tokens : ℕ) (o : Outlet) → IsOfRoom room tokens (bare_outlet o) → IsOfRoom room tokens o
-of_bare_room None tokens (outlet.Ring put) is = is
-of_bare_room None tokens (outlet.Room put) is = is
-of_bare_room None tokens (outlet.Local q) is = is
-of_bare_room (Some room) tokens (outlet.Ring put) is = is
-of_bare_room (Some room) tokens (outlet.Room put) is = is
-of_bare_room (Some room) tokens (outlet.Local q) is = is
+bare_room : (room : Option ℕ) (tokens : ℕ) (o : Outlet) → (IsOfRoom room tokens o → IsOfRoom room tokens (bare_outlet o)) × (IsOfRoom room tokens (bare_outlet o) → IsOfRoom room tokens o)
+bare_room None tokens (outlet.Ring put) = as_itself
+bare_room None tokens (outlet.Room put) = as_itself
+bare_room None tokens (outlet.Local q) = as_itself
+bare_room (Some room) tokens (outlet.Ring put) = as_itself
+bare_room (Some room) tokens (outlet.Room put) = as_itself
+bare_room (Some room) tokens (outlet.Local q) = as_itself
 
 room-same : (room : Option ℕ) (tokens : ℕ) (o o' : Outlet) → bare_outlet o' ≡ bare_outlet o → IsOfRoom room tokens o → IsOfRoom room tokens o'
-room-same room tokens o o' same is =
-    of_bare_room room tokens o' (subst (IsOfRoom room tokens) (sym same) (to_bare_room room tokens o is))
+room-same room tokens o o' same is = (bare_room room tokens o').1 (subst (IsOfRoom room tokens) (sym same) ((bare_room room tokens o).0 is))
 
 -- ---- all teams
 
@@ -230,13 +192,9 @@ module _ (g : Parts) (begun : State) (old new : List WorkTeam) (some : 1 ≤ sta
 
 -- ---- an arc inside one worker
 
-shared-is_met : (shelf : List PlainQueue) (o : Outlet) (i : Inlet) → ShareQueue o i → IsQueueMet shelf shelf o i
-shared-is_met shelf (outlet.Ring put) (inlet.Ring take) share = absurd share
-shared-is_met shelf (outlet.Ring put) (inlet.Room take) share = absurd share
-shared-is_met shelf (outlet.Ring put) (inlet.Local q) share = absurd share
-shared-is_met shelf (outlet.Room put) (inlet.Ring take) share = absurd share
-shared-is_met shelf (outlet.Room put) (inlet.Room take) share = absurd share
-shared-is_met shelf (outlet.Room put) (inlet.Local q) share = absurd share
+pub shared-is_met : (shelf : List PlainQueue) (o : Outlet) (i : Inlet) → ShareQueue o i → IsQueueMet shelf shelf o i
+shared-is_met shelf (outlet.Ring put) i share = absurd share
+shared-is_met shelf (outlet.Room put) i share = absurd share
 shared-is_met shelf (outlet.Local q) (inlet.Ring take) share = absurd share
 shared-is_met shelf (outlet.Local q) (inlet.Room take) share = absurd share
 shared-is_met shelf (outlet.Local q) (inlet.Local r) share =
