@@ -13,15 +13,7 @@ use Rattle.worker_crew.proofs.Stepping.{crew-with_team}
 -- ---- one station
 
 station_cleared : (s : WorkStation) → IsStation s → IsStation (cleared s)
-station_cleared s is = record {
-  exists = is.exists;
-  an_input_each = is.an_input_each;
-  an_outlet_each = is.an_outlet_each;
-  made = is.made;
-  few_dates = is.few_dates;
-  log_room = is.log_room;
-  ring_room = is.ring_room;
-}
+station_cleared s is = search
 
 member_cleared : (g : Parts) (begun : State) (t : ℕ) (shelf : List PlainQueue) (s : WorkStation) → IsMember g begun t shelf s → IsMember g begun t shelf (cleared s)
 member_cleared g begun t shelf s is = record {

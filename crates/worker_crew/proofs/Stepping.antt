@@ -18,6 +18,7 @@ use Rattle.station_step.specs.Kept.{IsKept}
 use Rattle.station_step.specs.Step.{IsReady, MovesItsOwn, HasFired, Did}
 use Rattle.station_step.proofs.Keeping.{seated-same}
 use Rattle.station_step.proofs.OwnQueues.{input-same, outlet-same, inlet_queue-same, outlet_queue-same}
+use Rattle.worker_crew.specs.Share.{first_of}
 use Rattle.worker_crew.specs.Team.{WorkTeam, IsMember, IsTeam, member, no_station}
 use Rattle.worker_crew.specs.Crew.{WorkCrew, IsCrew, IsOrder, with_team}
 use Rattle.worker_crew.specs.Work.{dates_of, dates_made, HasWorked, SteppedAt}
@@ -198,19 +199,12 @@ module _ (g : Parts) (begun : State) (first : ℕ) (team : WorkTeam) (is : IsTea
 
 -- a crew with another team of as many stations
 pub crew-with_team : (c : WorkCrew) (team : WorkTeam) → IsCrew c → IsTeam c.live.graph c.begun c.first team → length team.stations ≡ length c.team.stations → IsCrew (with_team c team)
-crew-with_team c team is members count = record {
-  ranked = is.ranked;
-  reached = is.reached;
-  exists = is.exists;
-  few = is.few;
-  starts = is.starts;
-  ends = ap (λ n. c.first + n) count ∙ is.ends;
-  members = members;
-  in_order = subst (λ n. IsOrder c.live.places c.first n c.order) (sym count) is.in_order;
-  target = is.target;
-  spare = is.spare;
-  spare_room = is.spare_room;
-}
+crew-with_team c team is members count =
+    let ends : c.first + length team.stations ≡ first_of c.workers (stations c.live.graph) (c.worker + 1) =
+    ap (λ n. c.first + n) count ∙ is.ends in
+    let in_order : IsOrder c.live.places c.first (length team.stations) c.order =
+    subst (λ n. IsOrder c.live.places c.first n c.order) (sym count) is.in_order in
+    search
 
 -- a crew one of whose stations makes a step
 pub crew-after : (c : WorkCrew) (stations : List WorkStation) (shelf shelf' : List PlainQueue) (i : ℕ) (before after : WorkStation) → IsCrew c → record { stations = stations; shelf = shelf } ≡ c.team → i < length stations → before ≡ get_or stations i before → IsStep shelf shelf' before after → IsCrew (with_team c (record { stations = set stations i after; shelf = shelf' })) × SteppedAt i c.team (record { stations = set stations i after; shelf = shelf' })
