@@ -22,21 +22,15 @@ module _ (g : Parts) (begun : State) (a : ℕ) (P : Outlet → Inlet → Type 0)
   of_ring ring room (outlet.Ring put) (inlet.Local r) has = absurd has
   of_ring ring room (outlet.Room put) (inlet.Ring take) has = absurd has
   of_ring ring room (outlet.Room put) (inlet.Local r) has = absurd has
-  of_ring ring room (outlet.Local q) (inlet.Ring take) has = absurd has
-  of_ring ring room (outlet.Local q) (inlet.Room take) has = absurd has
-  of_ring ring room (outlet.Local q) (inlet.Local r) has = absurd has
+  of_ring ring room (outlet.Local q) i has = absurd has
 
   -- what holds of a queue of the shelf holds of the ends that have one
   pub of_plain : (firsts : List (List ℕ)) → ((q r : ℕ) → IsNewPlain begun firsts a q r → P (outlet.Local q) (inlet.Local r)) → (o : Outlet) (i : Inlet) → HasPlain begun firsts a o i → P o i
   of_plain firsts plain (outlet.Local q) (inlet.Local r) has = plain q r has
   of_plain firsts plain (outlet.Local q) (inlet.Ring take) has = absurd has
   of_plain firsts plain (outlet.Local q) (inlet.Room take) has = absurd has
-  of_plain firsts plain (outlet.Ring put) (inlet.Ring take) has = absurd has
-  of_plain firsts plain (outlet.Ring put) (inlet.Room take) has = absurd has
-  of_plain firsts plain (outlet.Ring put) (inlet.Local r) has = absurd has
-  of_plain firsts plain (outlet.Room put) (inlet.Ring take) has = absurd has
-  of_plain firsts plain (outlet.Room put) (inlet.Room take) has = absurd has
-  of_plain firsts plain (outlet.Room put) (inlet.Local r) has = absurd has
+  of_plain firsts plain (outlet.Ring put) i has = absurd has
+  of_plain firsts plain (outlet.Room put) i has = absurd has
 
   -- what holds of each kind holds of the ends of an arc
   pub of_ends : (workers : ℕ) (ends : QueueEnds) → HasEnds g begun workers ends a → ((put : PutEnd) (take : TakeEnd) → IsNewRing g begun a put take → P (outlet.Ring put) (inlet.Ring take)) → ((put : RoomPutEnd) (take : RoomTakeEnd) → IsNewRoom g begun a put take → P (outlet.Room put) (inlet.Room take)) → (putter g workers a ≡ taker g workers a → (q r : ℕ) → IsNewPlain begun (firsts_at ends (putter g workers a)) a q r → P (outlet.Local q) (inlet.Local r)) → P (outlet_of g ends a) (inlet_of g ends a)

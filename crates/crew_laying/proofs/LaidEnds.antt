@@ -11,6 +11,8 @@ use Rattle.station_step.specs.declared.ends.Outlet.{Outlet}
 use Rattle.station_step.specs.declared.ends.Inlet.TheVariants as inlet
 use Rattle.station_step.specs.declared.ends.Outlet.TheVariants as outlet
 use Rattle.station_step.specs.Ends.{outlet_queue}
+use Rattle.crew_laying.specs.declared.start.Start.{Start}
+use Rattle.crew_laying.specs.Start.{AreLaidFor, HasLaid}
 use Rattle.crew_laying.specs.Making.{AreNewEnds, HasRing, HasPlain, QueueEnds, outlets_at, inlets_at, firsts_at, first_tokens, with_one, with_ends, first_ins, first_outs, outlet_of, inlet_of, putter, taker, HasEnds, AreLaid}
 use Rattle.crew_laying.proofs.ArcOrder.{length-first_ins-here, length-first_ins-other, length-first_outs-here, length-first_outs-other, first_ins-below, first_outs-below, first_ins-none, first_outs-none}
 use Rattle.crew_laying.proofs.EndKinds.{of_ring, of_plain, of_ends}
@@ -68,6 +70,16 @@ queue-within g begun workers ends a q has =
     (λ put take new same. absurd (let no : ⊥ = cc in no))
     (λ one p r new same. let at : p ≡ q = cc in omega (arith, new.there))
 
+-- these ends may be laid for arc n, with these as the first tokens of the shelves
+pub record AreNext (g : Parts) (begun : State) (workers : ℕ) (ends : QueueEnds) (n : ℕ) (shelves : List (List (List ℕ))) (out : Outlet) (into : Inlet) : Type 0 where
+  pub count : length shelves ≡ workers
+  pub few : (w : ℕ) → length (get_or shelves w []) ≤ n + 1
+  pub small : (w q : ℕ) → q < length (get_or shelves w []) → length (first_tokens (get_or shelves w []) q) + jobs g < 2 ^ 32
+  pub extends : (w : ℕ) → Extends (firsts_at ends w) (get_or shelves w [])
+  pub ring : putter g workers n ≢ taker g workers n → HasRing ends.room g begun n out into
+  pub plain : putter g workers n ≡ taker g workers n → HasPlain begun (get_or shelves (putter g workers n) []) n out into
+  pub fresh : (a q : ℕ) → a < n → putter g workers a ≡ putter g workers n → outlet_queue (outlet_of g ends a) ≡ Some q → outlet_queue out ≢ Some q
+
 module _ (g : Parts) (begun : State) (workers : ℕ) (ends : QueueEnds) (n : ℕ) (graph : IsGraph g) (listed : n < arc_count g) (laid : AreLaid g begun workers ends n) (shelves : List (List (List ℕ))) (out : Outlet) (into : Inlet) where
   abbrev from : ℕ
   from = (arc g n).from
@@ -114,7 +126,7 @@ module _ (g : Parts) (begun : State) (workers : ℕ) (ends : QueueEnds) (n : ℕ
   inlets-more =
       side-more (stations g) n (λ b. (arc g b).to) (first_ins g) ends.inlets into (inlet.Local 0) to-there end-exists laid.inlets (length-first_ins-here g n) (length-first_ins-other g n)
 
-  module _ (count : length shelves ≡ workers) (few : (w : ℕ) → length (get_or shelves w []) ≤ n + 1) (small : (w q : ℕ) → q < length (get_or shelves w []) → length (first_tokens (get_or shelves w []) q) + jobs g < 2 ^ 32) (extends : (w : ℕ) → Extends (firsts_at ends w) (get_or shelves w [])) (ring : putter g workers n ≢ taker g workers n → HasRing ends.room g begun n out into) (plain : putter g workers n ≡ taker g workers n → HasPlain begun (get_or shelves (putter g workers n) []) n out into) (fresh : (a q : ℕ) → a < n → putter g workers a ≡ putter g workers n → outlet_queue (outlet_of g ends a) ≡ Some q → outlet_queue out ≢ Some q) where
+  module _ (next : AreNext g begun workers ends n shelves out into) where
     -- an arc whose ends are these
     has-ends : (a : ℕ) (o : Outlet) (i : Inlet) → outlet_of g more a ≡ o → inlet_of g more a ≡ i → (putter g workers a ≢ taker g workers a → HasRing ends.room g begun a o i) → (putter g workers a ≡ taker g workers a → HasPlain begun (get_or shelves (putter g workers a) []) a o i) → HasEnds g begun workers more a
     has-ends a o i out_is in_is on_ring on_shelf = record {
@@ -132,10 +144,10 @@ module _ (g : Parts) (begun : State) (workers : ℕ) (ends : QueueEnds) (n : ℕ
         let has = laid.each a low in
         let w = putter g workers a in
         has-ends a (outlet_of g ends a) (inlet_of g ends a) (outlet_of-before a low) (inlet_of-before a low) has.ring (λ one.
-        plain-extends g begun a (firsts_at ends w) (get_or shelves w []) (outlet_of g ends a) (inlet_of g ends a) (extends w) (has.shelf one))
+        plain-extends g begun a (firsts_at ends w) (get_or shelves w []) (outlet_of g ends a) (inlet_of g ends a) (next.extends w) (has.shelf one))
 
     last : HasEnds g begun workers more n
-    last = has-ends n out into outlet_of-last inlet_of-last ring plain
+    last = has-ends n out into outlet_of-last inlet_of-last next.ring next.plain
 
     apart-more : (a b q : ℕ) → a < n + 1 → b < n + 1 → putter g workers a ≡ putter g workers b → outlet_queue (outlet_of g more a) ≡ Some q → outlet_queue (outlet_of g more b) ≡ Some q → a ≡ b
     apart-more a b q a_low b_low one at_a at_b =
@@ -146,7 +158,7 @@ module _ (g : Parts) (begun : State) (workers : ℕ) (ends : QueueEnds) (n : ℕ
         (λ b_other.
         let b_before : b < n = omega arith in
         let at_out : outlet_queue out ≡ Some q = ap outlet_queue (sym outlet_of-last) ∙ ap (λ k. outlet_queue (outlet_of g more k)) (sym a_last) ∙ at_a in
-        absurd (fresh b q b_before (sym one ∙ ap (putter g workers) a_last) (ap outlet_queue (sym (outlet_of-before b b_before)) ∙ at_b) at_out))
+        absurd (next.fresh b q b_before (sym one ∙ ap (putter g workers) a_last) (ap outlet_queue (sym (outlet_of-before b b_before)) ∙ at_b) at_out))
         (cases_eq b n))
         (λ a_other.
         let a_before : a < n = omega arith in
@@ -154,7 +166,7 @@ module _ (g : Parts) (begun : State) (workers : ℕ) (ends : QueueEnds) (n : ℕ
         ⊎_elim
         (λ b_last.
         let at_out : outlet_queue out ≡ Some q = ap outlet_queue (sym outlet_of-last) ∙ ap (λ k. outlet_queue (outlet_of g more k)) (sym b_last) ∙ at_b in
-        absurd (fresh a q a_before (one ∙ ap (putter g workers) b_last) a_had at_out))
+        absurd (next.fresh a q a_before (one ∙ ap (putter g workers) b_last) a_had at_out))
         (λ b_other.
         let b_before : b < n = omega arith in
         laid.apart a b q a_before b_before one a_had (ap outlet_queue (sym (outlet_of-before b b_before)) ∙ at_b))
@@ -165,11 +177,11 @@ module _ (g : Parts) (begun : State) (workers : ℕ) (ends : QueueEnds) (n : ℕ
     laid_more = record {
       outlet_lists = length-set ends.outlets from (outlets_at ends from ++ out ∷ []) ∙ laid.outlet_lists;
       inlet_lists = length-set ends.inlets to (inlets_at ends to ++ into ∷ []) ∙ laid.inlet_lists;
-      shelves = count;
+      shelves = next.count;
       outlets = outlets-more;
       inlets = inlets-more;
-      queues = few;
-      small = small;
+      queues = next.few;
+      small = next.small;
       each = λ a low.
           ⊎_elim
           (λ same. subst (λ (k : ℕ). HasEnds g begun workers more k) (sym same) last)
@@ -182,25 +194,16 @@ module _ (g : Parts) (begun : State) (workers : ℕ) (ends : QueueEnds) (n : ℕ
 
 pub laid_ring : (g : Parts) (begun : State) (workers : ℕ) (ends : QueueEnds) (n : ℕ) (out : Outlet) (into : Inlet) → IsGraph g → n < arc_count g → AreLaid g begun workers ends n → putter g workers n ≢ taker g workers n → HasRing ends.room g begun n out into → AreLaid g begun workers (with_ends ends (arc g n).from (arc g n).to out into) (n + 1)
 laid_ring g begun workers ends n out into graph listed laid two has =
-    laid_more
-    g
-    begun
-    workers
-    ends
-    n
-    graph
-    listed
-    laid
-    ends.shelves
-    out
-    into
-    laid.shelves
-    (λ w. omega (arith, laid.queues w))
-    laid.small
-    (λ w. record { there = λ q low. low; queues = λ q low. refl })
-    (λ _. has)
-    (λ one. absurd (two one))
-    (λ a q low one had at_out. ring-no_queue g begun n q out into has.ends at_out)
+    laid_more g begun workers ends n graph listed laid ends.shelves out into
+    (record {
+      count = laid.shelves;
+      few = λ w. omega (arith, laid.queues w);
+      small = laid.small;
+      extends = λ w. record { there = λ q low. low; queues = λ q low. refl };
+      ring = λ _. has;
+      plain = λ one. absurd (two one);
+      fresh = λ a q low one had at_out. ring-no_queue g begun n q out into has.ends at_out;
+    })
 
 pub laid_plain : (g : Parts) (begun : State) (workers : ℕ) (ends : QueueEnds) (n w number : ℕ) (tokens : List ℕ) → IsGraph g → n < arc_count g → AreLaid g begun workers ends n → w < workers → putter g workers n ≡ w → taker g workers n ≡ w → tokens ≡ place begun n → length tokens + jobs g < 2 ^ 32 → number ≡ length (firsts_at ends w) → AreLaid g begun workers (with_ends (record ends { shelves = with_one ends.shelves w tokens }) (arc g n).from (arc g n).to (outlet.Local number) (inlet.Local number)) (n + 1)
 laid_plain g begun workers ends n w number tokens graph listed laid w_there puts takes are short numbered =
@@ -212,48 +215,39 @@ laid_plain g begun workers ends n w number tokens graph listed laid w_there puts
       there = omega (arith, length-with_one-here ends.shelves w tokens there);
       tokens = last-with_one ends.shelves w tokens number [] there (sym numbered) ∙ are;
     } in
-    laid_more
-    g
-    begun
-    workers
-    ends
-    n
-    graph
-    listed
-    laid
-    shelves
-    (outlet.Local number)
-    (inlet.Local number)
-    (length-set ends.shelves w (firsts_at ends w ++ tokens ∷ []) ∙ laid.shelves)
-    (λ v.
-    ⊎_elim
-    (λ same. omega (arith, ap (λ u. length (get_or shelves u [])) same, length-with_one-here ends.shelves w tokens there, laid.queues w))
-    (λ other. omega (arith, length-with_one-other ends.shelves w tokens v other, laid.queues v))
-    (cases_eq v w))
-    (λ v q low.
-    ⊎_elim
-    (λ early.
-    omega (arith, laid.small v q early, ap length (get_or-with_one ends.shelves w tokens v q [] there early)))
-    (λ late.
-    ⊎_elim
-    (λ same.
-    let last : length (firsts_at ends w) ≡ q =
-    omega (arith, ap (λ u. length (get_or shelves u [])) same, ap (λ u. length (firsts_at ends u)) same, length-with_one-here ends.shelves w tokens there) in
-    omega (arith, short, ap (λ u. length (first_tokens (get_or shelves u []) q)) same, ap length (last-with_one ends.shelves w tokens q [] there last)))
-    (λ other. absurd (omega (arith, length-with_one-other ends.shelves w tokens v other)))
-    (cases_eq v w))
-    (cases_lt q (length (firsts_at ends v))))
-    (λ v.
-    record {
-      there = λ q low. omega (arith, length-with_one-le ends.shelves w tokens v there);
-      queues = λ q low. get_or-with_one ends.shelves w tokens v q [] there low;
+    laid_more g begun workers ends n graph listed laid shelves (outlet.Local number) (inlet.Local number)
+    (record {
+      count = length-set ends.shelves w (firsts_at ends w ++ tokens ∷ []) ∙ laid.shelves;
+      few = λ v.
+          ⊎_elim
+          (λ same. omega (arith, ap (λ u. length (get_or shelves u [])) same, length-with_one-here ends.shelves w tokens there, laid.queues w))
+          (λ other. omega (arith, length-with_one-other ends.shelves w tokens v other, laid.queues v))
+          (cases_eq v w);
+      small = λ v q low.
+          ⊎_elim
+          (λ early.
+          omega (arith, laid.small v q early, ap length (get_or-with_one ends.shelves w tokens v q [] there early)))
+          (λ late.
+          ⊎_elim
+          (λ same.
+          let last : length (firsts_at ends w) ≡ q =
+          omega (arith, ap (λ u. length (get_or shelves u [])) same, ap (λ u. length (firsts_at ends u)) same, length-with_one-here ends.shelves w tokens there) in
+          omega (arith, short, ap (λ u. length (first_tokens (get_or shelves u []) q)) same, ap length (last-with_one ends.shelves w tokens q [] there last)))
+          (λ other. absurd (omega (arith, length-with_one-other ends.shelves w tokens v other)))
+          (cases_eq v w))
+          (cases_lt q (length (firsts_at ends v)));
+      extends = λ v. record {
+        there = λ q low. omega (arith, length-with_one-le ends.shelves w tokens v there);
+        queues = λ q low. get_or-with_one ends.shelves w tokens v q [] there low;
+      };
+      ring = λ two. absurd (two (puts ∙ sym takes));
+      plain = λ _.
+          subst (λ (v : ℕ). HasPlain begun (get_or shelves v []) n (outlet.Local number) (inlet.Local number)) (sym puts) has;
+      fresh = λ a q low one had at_out.
+          let within = queue-within g begun workers ends a q (laid.each a low) had in
+          let at : number ≡ q = cc in
+          omega (arith, within, ap (λ v. length (firsts_at ends v)) (one ∙ puts));
     })
-    (λ two. absurd (two (puts ∙ sym takes)))
-    (λ _. subst (λ (v : ℕ). HasPlain begun (get_or shelves v []) n (outlet.Local number) (inlet.Local number)) (sym puts) has)
-    (λ a q low one had at_out.
-    let within = queue-within g begun workers ends a q (laid.each a low) had in
-    let at : number ≡ q = cc in
-    omega (arith, within, ap (λ v. length (firsts_at ends v)) (one ∙ puts)))
 
 module _ (g : Parts) (begun : State) (workers : ℕ) (ends : QueueEnds) (shelves : ends.shelves ≡ replicate workers []) where
   none-shelved : (w : ℕ) → length (firsts_at ends w) ≤ 0
@@ -293,19 +287,32 @@ pub on_ok : {T E : Type 0} (r : Result T E) (P Q : Type 0) → (P → Q) → OnO
 on_ok (Ok x) P Q gives has = gives has
 on_ok (Err e) P Q gives has = tt
 
-pub laid_ring_read : (g : Parts) (begun : State) (workers : ℕ) (ends new : QueueEnds) (n : ℕ) (read : Arc) (out : Outlet) (into : Inlet) → IsGraph g → n < arc_count g → read ≡ arc g n → AreLaid g begun workers ends n → putter g workers n ≢ taker g workers n → HasRing ends.room g begun n out into → new ≡ with_ends ends read.from read.to out into → AreLaid g begun workers new (n + 1)
-laid_ring_read g begun workers ends new n read out into graph listed same laid two has new_is =
-    subst (λ (e : QueueEnds). AreLaid g begun workers e (n + 1)) (sym (new_is ∙ ap (λ (r : Arc). with_ends ends r.from r.to out into) same)) (
-    laid_ring g begun workers ends n out into graph listed laid two has)
+module _ (start : Start) where
+  abbrev runs : Parts
+  runs = start.live.now.graph
 
-pub laid_plain_read : (g : Parts) (begun : State) (workers : ℕ) (ends between new : QueueEnds) (n w number : ℕ) (read : Arc) (tokens : List ℕ) → IsGraph g → n < arc_count g → read ≡ arc g n → AreLaid g begun workers ends n → w < workers → putter g workers n ≡ w → taker g workers n ≡ w → tokens ≡ place begun n → length (place begun n) + jobs g < 2 ^ 32 → number ≡ length (firsts_at ends w) → between ≡ record ends { shelves = with_one ends.shelves w tokens } → new ≡ with_ends between read.from read.to (outlet.Local number) (inlet.Local number) → AreLaid g begun workers new (n + 1)
-laid_plain_read g begun workers ends between new n w number read tokens graph listed same laid there puts takes are few numbered between_is new_is =
-    let short : length tokens + jobs g < 2 ^ 32 = omega (arith, few, ap length are) in
-    let out : Outlet = outlet.Local number in
-    let into : Inlet = inlet.Local number in
-    subst (λ (e : QueueEnds). AreLaid g begun workers e (n + 1)) (
-    sym (
-    new_is
-    ∙ ap (λ (r : Arc). with_ends between r.from r.to out into) same
-    ∙ ap (λ (e : QueueEnds). with_ends e (arc g n).from (arc g n).to out into) between_is)) (
-    laid_plain g begun workers ends n w number tokens graph listed laid there puts takes are short numbered)
+  abbrev goes_on : State
+  goes_on = start.state.now.state
+
+  -- the ends as they were laid for an arc that was read, on shelves that got a queue or none
+  has_laid : (ends between new : QueueEnds) (n : ℕ) (read : Arc) (out : Outlet) (into : Inlet) → read ≡ arc runs n → between.room ≡ ends.room → new ≡ with_ends between read.from read.to out into → AreLaidFor start (with_ends between (arc runs n).from (arc runs n).to out into) (n + 1) → HasLaid start n ends new
+  has_laid ends between new n read out into same room new_is laid = record {
+    laid =
+        subst (λ (e : QueueEnds). AreLaidFor start e (n + 1)) (sym (new_is ∙ ap (λ (r : Arc). with_ends between r.from r.to out into) same)) laid;
+    room = ap (λ (e : QueueEnds). e.room) new_is ∙ room;
+  }
+
+  pub laid_ring_read : (ends new : QueueEnds) (n : ℕ) (read : Arc) (out : Outlet) (into : Inlet) → IsGraph runs → n < arc_count runs → read ≡ arc runs n → AreLaidFor start ends n → putter runs start.workers n ≢ taker runs start.workers n → ends.room ≡ start.room → HasRing start.room runs goes_on n out into → new ≡ with_ends ends read.from read.to out into → HasLaid start n ends new
+  laid_ring_read ends new n read out into graph listed same laid two room has new_is =
+      has_laid ends ends new n read out into same refl new_is (
+      laid_ring runs goes_on start.workers ends n out into graph listed laid two (
+      subst (λ (r : Option ℕ). HasRing r runs goes_on n out into) (sym room) has))
+
+  pub laid_plain_read : (ends between new : QueueEnds) (n w number : ℕ) (read : Arc) (tokens : List ℕ) → IsGraph runs → n < arc_count runs → read ≡ arc runs n → AreLaidFor start ends n → w < start.workers → putter runs start.workers n ≡ w → taker runs start.workers n ≡ w → tokens ≡ place goes_on n → length (place goes_on n) + jobs runs < 2 ^ 32 → number ≡ length (firsts_at ends w) → between ≡ record ends { shelves = with_one ends.shelves w tokens } → new ≡ with_ends between read.from read.to (outlet.Local number) (inlet.Local number) → HasLaid start n ends new
+  laid_plain_read ends between new n w number read tokens graph listed same laid there puts takes are few numbered between_is new_is =
+      let short : length tokens + jobs runs < 2 ^ 32 = omega (arith, few, ap length are) in
+      let out : Outlet = outlet.Local number in
+      let into : Inlet = inlet.Local number in
+      has_laid ends between new n read out into same (ap (λ (e : QueueEnds). e.room) between_is) new_is (
+      subst (λ (e : QueueEnds). AreLaidFor start (with_ends e (arc runs n).from (arc runs n).to out into) (n + 1)) (sym between_is) (
+      laid_plain runs goes_on start.workers ends n w number tokens graph listed laid there puts takes are short numbered))

@@ -125,6 +125,18 @@ fit-same g begun first t old new low same fit = record {
       fit.each u (omega arith) there));
 }
 
+-- where a shelf alone was taken, the stations' ends are as they were
+module _ (t : ℕ) (old left : QueueEnds) (shelves : List (List (List ℕ))) (left_is : left ≡ record old { shelves = shelves }) where
+  pub fit-unshelved : (g : Parts) (begun : State) → AreFitFrom g begun t old → AreFitFrom g begun t left
+  fit-unshelved g begun fit =
+      subst (λ (e : QueueEnds). AreFitFrom g begun t e) (sym left_is) (record { outlet_lists = fit.outlet_lists; inlet_lists = fit.inlet_lists; each = fit.each })
+
+  pub same-unshelved : (new : QueueEnds) → SameStationsFrom t left new → SameStationsFrom t old new
+  same-unshelved new same =
+      let is : SameStationsFrom t (record old { shelves = shelves }) new =
+      subst (λ (e : QueueEnds). SameStationsFrom t e new) left_is same in
+      record { outlet_lists = is.outlet_lists; inlet_lists = is.inlet_lists; outlets = is.outlets; inlets = is.inlets }
+
 pub none_made : (g : Parts) (begun : State) (first : ℕ) (ends : QueueEnds) (made : List WorkStation) → made ≡ [] → AreNewStations g begun first ends made
 none_made g begun first ends made none = record { each = λ i low. absurd (omega (arith, ap length none)) }
 

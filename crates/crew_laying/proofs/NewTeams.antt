@@ -21,13 +21,13 @@ use Rattle.station_step.specs.declared.ends.Outlet.TheVariants as outlet
 use Rattle.station_step.specs.declared.input.Input.{Input}
 use Rattle.token_shelf.specs.Shelf.{queue_at, new_queue}
 use Rattle.station_step.specs.Ends.{inlet_queue, outlet_queue, AreEnds, HasRingRoom, IsUntaken, IsUnfilled}
-use Rattle.station_step.specs.Input.{input_at, empty_handed, NoneTakes}
-use Rattle.station_step.specs.Station.{WorkStation, IsSeated, NonePuts, outlet_at}
+use Rattle.station_step.specs.Input.{input_at, empty_handed}
+use Rattle.station_step.specs.Station.{WorkStation, IsSeated, AreApart, outlet_at}
 use Rattle.station_step.specs.Kept.{IsFresh}
 use Rattle.worker_crew.specs.Share.{worker_of, first_of}
 use Rattle.worker_crew.specs.Team.{WorkTeam, IsMember, IsTeam, member}
 use Rattle.worker_crew.specs.Teams.{team_at, station_of, shelf_of, place_in, input_on, outlet_on, outlet_initial, ShareQueue, IsJoined, IsOfRoom, AreOfRoom, AreTeams, IsQueueMet, IsMetOn, AreAllMet, HaveBegun}
-use Rattle.crew_laying.specs.Making.{room_on, new_shelf, IsNewRing, IsNewRoom, QueueEnds, outlets_at, inlets_at, firsts_at, shelf_at, first_tokens, first_ins, first_outs, outlet_of, inlet_of, putter, taker, HasEnds, AreLaid, AreFit, AreFitFrom, IsNewStation, AreNewTeams}
+use Rattle.crew_laying.specs.Making.{room_on, new_shelf, IsNewRing, IsNewRoom, QueueEnds, outlets_at, inlets_at, firsts_at, shelf_at, first_tokens, first_ins, first_outs, outlet_of, inlet_of, putter, taker, HasEnds, AreLaid, AreFit, AreFitFrom, IsNewStation, AreNewTeams, AreAllNew}
 use Rattle.worker_crew.proofs.Share.{first-le, next-above, worker_is, worker-below, first-all, first-rises}
 use Rattle.crew_laying.proofs.ArcOrder.{first_ins-below, first_ins-all, first_outs-all, rank-ins, rank-outs, place_in-ins, place_in-outs}
 use Rattle.crew_laying.proofs.EndKinds.{of_ring, of_plain, of_ends}
@@ -189,18 +189,32 @@ found_or_none f q (suc n) =
 -- ---- the ends of a station
 
 module _ (g : Parts) (begun : State) (workers : ℕ) (ends : QueueEnds) (graph : IsGraph g) (laid : AreLaid g begun workers ends (arc_count g)) where
-  -- the arc whose inlet stands at a place of a station
-  record IsInletAt (t k a : ℕ) : Type 0 where
+  -- arc a, whose end on one side stands at place k of station t
+  record IsEndAt {X : Type 0} (side : ℕ → ℕ) (firsts : ℕ → ℕ → List ℕ) (end : ℕ → ℕ → X) (t k a : ℕ) : Type 0 where
     listed : a < arc_count g
-    station : (arc g a).to ≡ t
-    is : inlet_of g ends a ≡ get_or (inlets_at ends t) k (inlet.Local 0)
-    place : length (first_ins g a t) ≡ k
+    station : side a ≡ t
+    is : end (side a) (length (firsts a (side a))) ≡ end t k
+    place : length (firsts a t) ≡ k
 
-  record IsOutletAt (t k a : ℕ) : Type 0 where
-    listed : a < arc_count g
-    station : (arc g a).from ≡ t
-    is : outlet_of g ends a ≡ outlet_at (outlets_at ends t) k
-    place : length (first_outs g a t) ≡ k
+  end-at : {X : Type 0} (side : ℕ → ℕ) (firsts : ℕ → ℕ → List ℕ) (end : ℕ → ℕ → X) (t k a : ℕ) → a < arc_count g → side a ≡ t → length (firsts a t) ≡ k → IsEndAt side firsts end t k a
+  end-at side firsts end t k a listed station place = record {
+    listed = listed;
+    station = station;
+    is = ap (λ u. end u (length (firsts a u))) station ∙ ap (end t) place;
+    place = place;
+  }
+
+  abbrev to_of : ℕ → ℕ
+  to_of a = (arc g a).to
+
+  abbrev from_of : ℕ → ℕ
+  from_of a = (arc g a).from
+
+  abbrev inlet_there : ℕ → ℕ → Inlet
+  inlet_there t k = get_or (inlets_at ends t) k (inlet.Local 0)
+
+  abbrev outlet_there : ℕ → ℕ → Outlet
+  outlet_there t k = outlet_at (outlets_at ends t) k
 
   inlets-count : (t : ℕ) → t < stations g → length (inlets_at ends t) ≡ length (ins g t)
   inlets-count t there = laid.inlets t there ∙ ap length (first_ins-all g t)
@@ -208,31 +222,17 @@ module _ (g : Parts) (begun : State) (workers : ℕ) (ends : QueueEnds) (graph :
   outlets-count : (t : ℕ) → t < stations g → length (outlets_at ends t) ≡ length (outs g t)
   outlets-count t there = laid.outlets t there ∙ ap length (first_outs-all g t)
 
-  inlet-at : (t k : ℕ) → t < stations g → k < length (inlets_at ends t) → IsInletAt t k (get_or (ins g t) k 0)
+  inlet-at : (t k : ℕ) → t < stations g → k < length (inlets_at ends t) → IsEndAt to_of (first_ins g) inlet_there t k (get_or (ins g t) k 0)
   inlet-at t k there low =
       let listed : k < length (ins g t) = omega (arith, inlets-count t there) in
-      let a = get_or (ins g t) k 0 in
       let at = All-ins g t k 0 listed in
-      let stands = rank-ins g t k listed in
-      record {
-        listed = at.0;
-        station = at.1;
-        is = ap (λ u. get_or (inlets_at ends u) (length (first_ins g a u)) (inlet.Local 0)) at.1 ∙ ap (λ i. get_or (inlets_at ends t) i (inlet.Local 0)) stands;
-        place = stands;
-      }
+      end-at to_of (first_ins g) inlet_there t k (get_or (ins g t) k 0) at.0 at.1 (rank-ins g t k listed)
 
-  outlet-at : (t k : ℕ) → t < stations g → k < length (outlets_at ends t) → IsOutletAt t k (get_or (outs g t) k 0)
+  outlet-at : (t k : ℕ) → t < stations g → k < length (outlets_at ends t) → IsEndAt from_of (first_outs g) outlet_there t k (get_or (outs g t) k 0)
   outlet-at t k there low =
       let listed : k < length (outs g t) = omega (arith, outlets-count t there) in
-      let a = get_or (outs g t) k 0 in
       let at = All-outs g t k 0 listed in
-      let stands = rank-outs g t k listed in
-      record {
-        listed = at.0;
-        station = at.1;
-        is = ap (λ u. outlet_at (outlets_at ends u) (length (first_outs g a u))) at.1 ∙ ap (outlet_at (outlets_at ends t)) stands;
-        place = stands;
-      }
+      end-at from_of (first_outs g) outlet_there t k (get_or (outs g t) k 0) at.0 at.1 (rank-outs g t k listed)
 
   -- the ends that are laid are those that the stations need
   pub laid_fit : (t : ℕ) → t < stations g → AreFit g begun t (outlets_at ends t) (inlets_at ends t)
@@ -280,6 +280,32 @@ module _ (g : Parts) (begun : State) (workers : ℕ) (ends : QueueEnds) (graph :
   uses-queue w q a uses =
       ap (λ v. queue_at (shelf_at g ends v) q) (sym uses.worker) ∙ end-queue g begun workers ends a (laid.each a uses.listed) q uses.queue
 
+  -- an arc on queue q of worker w's shelf whose end on one side is the k-th of station t
+  record UsedAt (side : ℕ → ℕ) (firsts : ℕ → ℕ → List ℕ) (t w q k : ℕ) : Type 0 where
+    number : ℕ
+    uses : Uses w q number
+    station : side number ≡ t
+    place : length (firsts number t) ≡ k
+
+  used-there : (side : ℕ → ℕ) (firsts : ℕ → ℕ → List ℕ) (t w q k : ℕ) → UsedAt side firsts t w q k → q < length (shelf_at g ends w)
+  used-there side firsts t w q k at = uses-there w q at.number at.uses
+
+  one-place : (side : ℕ → ℕ) (firsts : ℕ → ℕ → List ℕ) (t w q j k : ℕ) → j < k → UsedAt side firsts t w q j → UsedAt side firsts t w q k → ⊥
+  one-place side firsts t w q j k before left right =
+      omega (arith, left.place, right.place, ap (λ a. length (firsts a t)) (one_arc w q left.number right.number left.uses right.uses))
+
+  -- the ends of two stations on one side have no queue of a shelf together
+  ends-apart : (side : ℕ → ℕ) (firsts : ℕ → ℕ → List ℕ) (t u w q m n : ℕ) (queue other_queue : ℕ → Option ℕ) → t ≢ u → ((k : ℕ) → k < m → queue k ≡ Some q → UsedAt side firsts t w q k) → ((k : ℕ) → k < n → other_queue k ≡ Some q → UsedAt side firsts u w q k) → ((k : ℕ) → k < m → queue k ≢ Some q) ⊎ ((k : ℕ) → k < n → other_queue k ≢ Some q)
+  ends-apart side firsts t u w q m n queue other_queue two used other_used =
+      ⊎_elim
+      (λ none. inl none)
+      (λ found.
+      inr (λ k low same.
+      let left = used found.0 found.1 found.2 in
+      let right = other_used k low same in
+      two (sym left.station ∙ ap side (one_arc w q left.number right.number left.uses right.uses) ∙ right.station)))
+      (found_or_none queue q m)
+
   -- ---- a new station
 
   module _ (t w : ℕ) (s : WorkStation) (there : t < stations g) (owned : worker_of workers (stations g) t ≡ w) (new : IsNewStation g begun t (outlets_at ends t) (inlets_at ends t) s) where
@@ -300,64 +326,62 @@ module _ (g : Parts) (begun : State) (workers : ℕ) (ends : QueueEnds) (graph :
         let at = outlet-at t k there here in
         ap (λ l. outlet_at l k) new.outlets ∙ sym at.is
 
-    takes-uses : (k q : ℕ) → k < length s.inputs → inlet_queue (input_at s.inputs k).inlet ≡ Some q → Uses w q (get_or (ins g t) k 0)
-    takes-uses k q low same =
+    -- what an input that takes from queue q says of its arc, and what an outlet that puts there says
+    takes-used : (k q : ℕ) → k < length s.inputs → inlet_queue (input_at s.inputs k).inlet ≡ Some q → UsedAt to_of (first_ins g) t w q k
+    takes-used k q low same =
         let a = get_or (ins g t) k 0 in
         let at = inlet-at t k there (omega (arith, inputs-count)) in
         let has = laid.each a at.listed in
         let queue : inlet_queue (inlet_of g ends a) ≡ Some q = ap inlet_queue (sym (inlet-is k low)) ∙ same in
+        let inside : putter g workers a ≡ taker g workers a = end-inside g begun workers ends a has q queue in
         record {
-          listed = at.listed;
-          worker = end-inside g begun workers ends a has q queue ∙ ap (worker_of workers (stations g)) at.station ∙ owned;
-          queue = end-shared g begun workers ends a has q queue;
+          number = a;
+          uses = record {
+            listed = at.listed;
+            worker = inside ∙ ap (worker_of workers (stations g)) at.station ∙ owned;
+            queue = end-shared g begun workers ends a has q queue;
+          };
+          station = at.station;
+          place = at.place;
         }
 
-    puts-uses : (k q : ℕ) → k < length s.outlets → outlet_queue (outlet_at s.outlets k) ≡ Some q → Uses w q (get_or (outs g t) k 0)
-    puts-uses k q low same =
+    puts-used : (k q : ℕ) → k < length s.outlets → outlet_queue (outlet_at s.outlets k) ≡ Some q → UsedAt from_of (first_outs g) t w q k
+    puts-used k q low same =
         let a = get_or (outs g t) k 0 in
         let at = outlet-at t k there (omega (arith, ap length new.outlets)) in
         record {
-          listed = at.listed;
-          worker = ap (worker_of workers (stations g)) at.station ∙ owned;
-          queue = ap outlet_queue (sym (outlet-is k low)) ∙ same;
+          number = a;
+          uses = record {
+            listed = at.listed;
+            worker = ap (worker_of workers (stations g)) at.station ∙ owned;
+            queue = ap outlet_queue (sym (outlet-is k low)) ∙ same;
+          };
+          station = at.station;
+          place = at.place;
         }
-
-    takes-one : (j k q : ℕ) → j < k → k < length s.inputs → inlet_queue (input_at s.inputs j).inlet ≡ Some q → inlet_queue (input_at s.inputs k).inlet ≢ Some q
-    takes-one j k q before low at_j at_k =
-        let first : j < length s.inputs = omega arith in
-        let same = one_arc w q (get_or (ins g t) j 0) (get_or (ins g t) k 0) (takes-uses j q first at_j) (takes-uses k q low at_k) in
-        let left = inlet-at t j there (omega (arith, inputs-count)) in
-        let right = inlet-at t k there (omega (arith, inputs-count)) in
-        omega (arith, left.place, right.place, ap (λ a. length (first_ins g a t)) same)
-
-    puts-one : (j k q : ℕ) → j < k → k < length s.outlets → outlet_queue (outlet_at s.outlets j) ≡ Some q → outlet_queue (outlet_at s.outlets k) ≢ Some q
-    puts-one j k q before low at_j at_k =
-        let first : j < length s.outlets = omega arith in
-        let same = one_arc w q (get_or (outs g t) j 0) (get_or (outs g t) k 0) (puts-uses j q first at_j) (puts-uses k q low at_k) in
-        let left = outlet-at t j there (omega (arith, ap length new.outlets)) in
-        let right = outlet-at t k there (omega (arith, ap length new.outlets)) in
-        omega (arith, left.place, right.place, ap (λ a. length (first_outs g a t)) same)
 
     new-seated : IsSeated (shelf_at g ends w) s
     new-seated = record {
-      takes_within = λ k low. if_some (inlet_queue (input_at s.inputs k).inlet) (λ q. q < length (shelf_at g ends w)) (λ q same. uses-there w q (get_or (ins g t) k 0) (takes-uses k q low same));
-      takes_apart = λ j k before low q. takes-one j k q before low;
-      puts_within = λ k low. if_some (outlet_queue (outlet_at s.outlets k)) (λ q. q < length (shelf_at g ends w)) (λ q same. uses-there w q (get_or (outs g t) k 0) (puts-uses k q low same));
-      puts_apart = λ j k before low q. puts-one j k q before low;
+      takes_within = λ k low. if_some (inlet_queue (input_at s.inputs k).inlet) (λ q. q < length (shelf_at g ends w)) (λ q same. used-there _ _ t w q k (takes-used k q low same));
+      takes_apart = λ j k before low q at_j at_k. one-place _ _ t w q j k before (takes-used j q (omega arith) at_j) (takes-used k q low at_k);
+      puts_within = λ k low. if_some (outlet_queue (outlet_at s.outlets k)) (λ q. q < length (shelf_at g ends w)) (λ q same. used-there _ _ t w q k (puts-used k q low same));
+      puts_apart = λ j k before low q at_j at_k. one-place _ _ t w q j k before (puts-used j q (omega arith) at_j) (puts-used k q low at_k);
     }
 
     new-fresh : IsFresh (shelf_at g ends w) s
     new-fresh = record {
       untaken = λ k low.
           if_some (inlet_queue (input_at s.inputs k).inlet) (λ q. plain_taken (queue_at (shelf_at g ends w) q) ≡ []) (λ q same.
-          ap plain_taken (uses-queue w q (get_or (ins g t) k 0) (takes-uses k q low same)));
+          let at = takes-used k q low same in
+          ap plain_taken (uses-queue w q at.number at.uses));
       unfilled = λ k low.
           if_some (outlet_queue (outlet_at s.outlets k)) (λ q. (queue_at (shelf_at g ends w) q).added ≡ []) (λ q same.
-          ap (λ (p : PlainQueue). p.added) (uses-queue w q (get_or (outs g t) k 0) (puts-uses k q low same)));
+          let at = puts-used k q low same in
+          ap (λ (p : PlainQueue). p.added) (uses-queue w q at.number at.uses));
       room = λ k low.
           if_some (outlet_queue (outlet_at s.outlets k)) (λ q. jobs s.graph ≤ s.made + (queue_at (shelf_at g ends w) q).room) (λ q same.
-          let room = ap (λ (p : PlainQueue). p.room) (uses-queue w q (get_or (outs g t) k 0) (puts-uses k q low same)) in
-          omega (arith, room, ap jobs new.graph));
+          let at = puts-used k q low same in
+          omega (arith, ap (λ (p : PlainQueue). p.room) (uses-queue w q at.number at.uses), ap jobs new.graph));
     }
 
     new-member : IsMember g begun t (shelf_at g ends w) s
@@ -373,35 +397,17 @@ module _ (g : Parts) (begun : State) (workers : ℕ) (ends : QueueEnds) (graph :
 
   -- ---- two new stations of a worker
 
-  takes-apart : (t u w : ℕ) (s r : WorkStation) (t_there : t < stations g) (u_there : u < stations g) (t_owned : worker_of workers (stations g) t ≡ w) (u_owned : worker_of workers (stations g) u ≡ w) (t_new : IsNewStation g begun t (outlets_at ends t) (inlets_at ends t) s) (u_new : IsNewStation g begun u (outlets_at ends u) (inlets_at ends u) r) → t ≢ u → (q : ℕ) → NoneTakes q s.inputs ⊎ NoneTakes q r.inputs
-  takes-apart t u w s r t_there u_there t_owned u_owned t_new u_new other q =
-      ⊎_elim
-      (λ none. inl none)
-      (λ found.
-      inr (λ k low same.
-      let j = found.0 in
-      let a = get_or (ins g t) j 0 in
-      let b = get_or (ins g u) k 0 in
-      let one = one_arc w q a b (takes-uses t w s t_there t_owned t_new j q found.1 found.2) (takes-uses u w r u_there u_owned u_new k q low same) in
-      let left = inlet-at t j t_there (omega (arith, found.1, inputs-count t w s t_there t_owned t_new)) in
-      let right = inlet-at u k u_there (omega (arith, inputs-count u w r u_there u_owned u_new)) in
-      other (sym left.station ∙ ap (λ n. (arc g n).to) one ∙ right.station)))
-      (found_or_none (λ k. inlet_queue (input_at s.inputs k).inlet) q (length s.inputs))
-
-  puts-apart : (t u w : ℕ) (s r : WorkStation) (t_there : t < stations g) (u_there : u < stations g) (t_owned : worker_of workers (stations g) t ≡ w) (u_owned : worker_of workers (stations g) u ≡ w) (t_new : IsNewStation g begun t (outlets_at ends t) (inlets_at ends t) s) (u_new : IsNewStation g begun u (outlets_at ends u) (inlets_at ends u) r) → t ≢ u → (q : ℕ) → NonePuts q s.outlets ⊎ NonePuts q r.outlets
-  puts-apart t u w s r t_there u_there t_owned u_owned t_new u_new other q =
-      ⊎_elim
-      (λ none. inl none)
-      (λ found.
-      inr (λ k low same.
-      let j = found.0 in
-      let a = get_or (outs g t) j 0 in
-      let b = get_or (outs g u) k 0 in
-      let one = one_arc w q a b (puts-uses t w s t_there t_owned t_new j q found.1 found.2) (puts-uses u w r u_there u_owned u_new k q low same) in
-      let left = outlet-at t j t_there (omega (arith, found.1, ap length t_new.outlets)) in
-      let right = outlet-at u k u_there (omega (arith, ap length u_new.outlets)) in
-      other (sym left.station ∙ ap (λ n. (arc g n).from) one ∙ right.station)))
-      (found_or_none (λ k. outlet_queue (outlet_at s.outlets k)) q (length s.outlets))
+  stations-apart : (t u w : ℕ) (s r : WorkStation) (t_there : t < stations g) (u_there : u < stations g) (t_owned : worker_of workers (stations g) t ≡ w) (u_owned : worker_of workers (stations g) u ≡ w) (t_new : IsNewStation g begun t (outlets_at ends t) (inlets_at ends t) s) (u_new : IsNewStation g begun u (outlets_at ends u) (inlets_at ends u) r) → t ≢ u → AreApart s r
+  stations-apart t u w s r t_there u_there t_owned u_owned t_new u_new two = record {
+    takes = λ q.
+        ends-apart to_of (first_ins g) t u w q (length s.inputs) (length r.inputs) (λ k. inlet_queue (input_at s.inputs k).inlet) (λ k. inlet_queue (input_at r.inputs k).inlet) two
+        (λ k low same. takes-used t w s t_there t_owned t_new k q low same)
+        (λ k low same. takes-used u w r u_there u_owned u_new k q low same);
+    puts = λ q.
+        ends-apart from_of (first_outs g) t u w q (length s.outlets) (length r.outlets) (λ k. outlet_queue (outlet_at s.outlets k)) (λ k. outlet_queue (outlet_at r.outlets k)) two
+        (λ k low same. puts-used t w s t_there t_owned t_new k q low same)
+        (λ k low same. puts-used u w r u_there u_owned u_new k q low same);
+  }
 
 -- ---- all teams
 
@@ -430,15 +436,8 @@ module _ (g : Parts) (begun : State) (ends : QueueEnds) (teams : List WorkTeam) 
             subst (λ (l : List PlainQueue). IsMember g begun (first w + i) l (member (team_at teams w).stations i)) (sym (new w low).shelf) (
             new-member g begun (length teams) ends graph laid (first w + i) w (member (team_at teams w).stations i) (member-there w i low i_low) (member-owner w i low i_low) (made i i_low));
         apart = λ i j i_low j_low other.
-            let t = first w + i in
-            let u = first w + j in
-            let s = member (team_at teams w).stations i in
-            let r = member (team_at teams w).stations j in
-            let two : t ≢ u = (λ same. other (omega arith)) in
-            record {
-              takes = takes-apart g begun (length teams) ends graph laid t u w s r (member-there w i low i_low) (member-there w j low j_low) (member-owner w i low i_low) (member-owner w j low j_low) (made i i_low) (made j j_low) two;
-              puts = puts-apart g begun (length teams) ends graph laid t u w s r (member-there w i low i_low) (member-there w j low j_low) (member-owner w i low i_low) (member-owner w j low j_low) (made i i_low) (made j j_low) two;
-            };
+            let two : first w + i ≢ first w + j = (λ same. other (omega arith)) in
+            stations-apart g begun (length teams) ends graph laid (first w + i) (first w + j) w (member (team_at teams w).stations i) (member (team_at teams w).stations j) (member-there w i low i_low) (member-there w j low j_low) (member-owner w i low i_low) (member-owner w j low j_low) (made i i_low) (made j j_low) two;
       }
 
   owner-below : (t : ℕ) → t < stations g → owner t < length teams
@@ -535,14 +534,7 @@ module _ (g : Parts) (begun : State) (ends : QueueEnds) (teams : List WorkTeam) 
 
 -- ---- as the code has them
 
--- what holds of the teams of a worker each, however many there are
-pub record HaveAll (room : Option ℕ) (g : Parts) (begun : State) (teams : List WorkTeam) : Type 0 where
-  pub teams_are : AreTeams g begun teams
-  pub rooms_are : AreOfRoom room g teams
-  pub met : AreAllMet g teams
-  pub begun_are : HaveBegun g begun teams
-
-pub all_new : (g : Parts) (begun : State) (workers : ℕ) (ends : QueueEnds) (teams : List WorkTeam) → IsGraph g → 1 ≤ stations g → 1 ≤ workers → AreLaid g begun workers ends (arc_count g) → length teams ≡ workers → AreNewTeams g begun workers ends teams → HaveAll ends.room g begun teams
+pub all_new : (g : Parts) (begun : State) (workers : ℕ) (ends : QueueEnds) (teams : List WorkTeam) → IsGraph g → 1 ≤ stations g → 1 ≤ workers → AreLaid g begun workers ends (arc_count g) → length teams ≡ workers → AreNewTeams g begun workers ends teams → AreAllNew ends.room g begun teams
 all_new g begun workers ends teams graph any some laid count new =
     let some_team : 1 ≤ length teams = omega arith in
     let laid_for = subst (λ (w : ℕ). AreLaid g begun w ends (arc_count g)) (sym count) laid in
@@ -554,10 +546,6 @@ all_new g begun workers ends teams graph any some laid count new =
       begun_are = new_have_begun g begun ends teams graph any some_team laid_for new_for;
     }
 
-pub all_new_ok : (g : Parts) (begun : State) (workers : ℕ) (ends : QueueEnds) (r : Result (Vec WorkTeam Global) AllocError) → IsGraph g → 1 ≤ stations g → 1 ≤ workers → AreLaid g begun workers ends (arc_count g) → IfOk r (λ teams. length teams.items ≡ workers) → IfOk r (λ teams. AreNewTeams g begun workers ends teams.items) → IfOk r (λ teams. HaveAll ends.room g begun teams.items)
+pub all_new_ok : (g : Parts) (begun : State) (workers : ℕ) (ends : QueueEnds) (r : Result (Vec WorkTeam Global) AllocError) → IsGraph g → 1 ≤ stations g → 1 ≤ workers → AreLaid g begun workers ends (arc_count g) → IfOk r (λ teams. length teams.items ≡ workers) → IfOk r (λ teams. AreNewTeams g begun workers ends teams.items) → IfOk r (λ teams. AreAllNew ends.room g begun teams.items)
 all_new_ok g begun workers ends (Ok teams) graph any some laid count new = all_new g begun workers ends teams.items graph any some laid count new
 all_new_ok g begun workers ends (Err e) graph any some laid count new = tt
-
-pub if_ok : {T E : Type 0} (r : Result T E) (P Q : T → Type 0) → ((x : T) → P x → Q x) → IfOk r P → IfOk r Q
-if_ok (Ok x) P Q gives has = gives x has
-if_ok (Err e) P Q gives has = tt

@@ -22,7 +22,7 @@ use Rattle.station_step.specs.Station.{WorkStation, IsStation, outlet_at}
 use Rattle.station_step.specs.Kept.{IsFresh, IsKept}
 use Rattle.worker_crew.specs.Share.{worker_of, first_of}
 use Rattle.worker_crew.specs.Team.{WorkTeam, member}
-use Rattle.worker_crew.specs.Teams.{team_at, IsOfRoom}
+use Rattle.worker_crew.specs.Teams.{team_at, IsOfRoom, AreOfRoom, AreTeams, AreAllMet, HaveBegun}
 
 -- ---- the queue of an arc
 
@@ -229,3 +229,10 @@ pub record AreFitFrom (g : Parts) (begun : State) (t : ℕ) (ends : QueueEnds) :
 abbrev pub AreNewTeams : Parts → State → ℕ → QueueEnds → List WorkTeam → Type 0
 AreNewTeams g begun workers ends teams =
     (w : ℕ) → w < length teams → IsNewTeam g begun workers ends w (team_at teams w)
+
+-- the teams of a new line, one for each worker
+pub record AreAllNew (room : Option ℕ) (g : Parts) (begun : State) (teams : List WorkTeam) : Type 0 where
+  pub teams_are : AreTeams g begun teams
+  pub rooms_are : AreOfRoom room g teams
+  pub met : AreAllMet g teams
+  pub begun_are : HaveBegun g begun teams

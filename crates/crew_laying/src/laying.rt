@@ -1,8 +1,10 @@
 ghost use Rattle.std.specs.Prelude.{◌≡◌, ◌≢◌, ◌+◌, ◌<◌, ◌≤◌, ◌^◌, [], None, Some, map, length, replicate, IfOk, OnOk, slice_set};
-ghost use Rattle.crew_laying.specs.Making.{room_on, FitsRoom, MayHold, HasRing, QueueEnds, outlets_at, inlets_at, firsts_at, with_one, with_ends, without, putter, taker, AreLaid};
+ghost use Rattle.crew_laying.specs.Making.{room_on, FitsRoom, MayHold, HasRing, QueueEnds, outlets_at, inlets_at, firsts_at, with_one, with_ends, without, putter, taker};
+ghost use Rattle.crew_laying.specs.Start.{MayBegin, AreLaidFor, HasLaid};
 ghost use Rattle.event_graph.specs.Network.{stations, jobs, arc, arc_count, IsGraph};
 ghost use Rattle.event_graph.specs.State.{place};
 
+use crate::start::Start;
 use card_queue::queue;
 use line_base::Date;
 use line_core::State;
@@ -181,24 +183,20 @@ impl Ends {
     fn join_within(
         &mut self,
         alloc: Global,
-        live: &Live,
-        state: &State,
-        workers: u32,
+        start: &Start,
         a: u32,
         worker: u32,
     ) -> Result<(), AllocError>
-        requires made_for { live.now.graph ≡ state.now.graph }
-        requires arc { a < arc_count live.now.graph }
-        requires worker { worker < workers }
-        requires puts { putter live.now.graph workers a ≡ worker }
-        requires takes { taker live.now.graph workers a ≡ worker }
-        requires laid { AreLaid live.now.graph state.now.state workers self.old a }
-        ensures laid { OnOk result
-            (AreLaid live.now.graph state.now.state workers self.new (a + 1)) }
-        ensures room { OnOk result (self.new.room ≡ self.old.room) }
+        requires may_begin { MayBegin start.now }
+        requires arc { a < arc_count start.now.live.now.graph }
+        requires worker { worker < start.now.workers }
+        requires puts { putter start.now.live.now.graph start.now.workers a ≡ worker }
+        requires takes { taker start.now.live.now.graph start.now.workers a ≡ worker }
+        requires laid { AreLaidFor start.now self.old a }
+        ensures { OnOk result (HasLaid start.now a self.old self.new) }
     {
-        let arc = arc_at(live, a);
-        let number = self.shelve(worker, tokens_on(alloc, live, state, a)?)?;
+        let arc = arc_at(start.live, a);
+        let number = self.shelve(worker, tokens_on(alloc, start.live, start.state, a)?)?;
         self.lay(
             arc.from,
             arc.to,
@@ -208,82 +206,53 @@ impl Ends {
     }
 
     /// Makes the ring of arc `a`, whose stations two workers have.
-    fn join_between(
-        &mut self,
-        alloc: Global,
-        live: &Live,
-        state: &State,
-        workers: u32,
-        a: u32,
-    ) -> Result<(), AllocError>
-        requires made_for { live.now.graph ≡ state.now.graph }
-        requires arc { a < arc_count live.now.graph }
-        requires two { putter live.now.graph workers a ≢ taker live.now.graph workers a }
-        requires fits { MayHold self.old.room live.now.graph state.now.state }
-        requires laid { AreLaid live.now.graph state.now.state workers self.old a }
-        ensures laid { OnOk result
-            (AreLaid live.now.graph state.now.state workers self.new (a + 1)) }
-        ensures room { OnOk result (self.new.room ≡ self.old.room) }
+    fn join_between(&mut self, alloc: Global, start: &Start, a: u32) -> Result<(), AllocError>
+        requires may_begin { MayBegin start.now }
+        requires arc { a < arc_count start.now.live.now.graph }
+        requires two { putter start.now.live.now.graph start.now.workers a ≢
+            taker start.now.live.now.graph start.now.workers a }
+        requires room { self.old.room ≡ start.now.room }
+        requires laid { AreLaidFor start.now self.old a }
+        ensures { OnOk result (HasLaid start.now a self.old self.new) }
     {
-        let arc = arc_at(live, a);
-        let (outlet, inlet) = new_ring(alloc, live, state, a, self.room)?;
+        let arc = arc_at(start.live, a);
+        let (outlet, inlet) = new_ring(alloc, start.live, start.state, a, start.room)?;
         self.lay(arc.from, arc.to, outlet, inlet)
     }
 
     /// Makes the queue of arc `a`, the next one.
-    fn join(
-        &mut self,
-        alloc: Global,
-        live: &Live,
-        state: &State,
-        workers: u32,
-        a: u32,
-    ) -> Result<(), AllocError>
-        requires made_for { live.now.graph ≡ state.now.graph }
-        requires some { 1 ≤ workers }
-        requires workers { workers ≤ 16 }
-        requires arc { a < arc_count live.now.graph }
-        requires fits { MayHold self.old.room live.now.graph state.now.state }
-        requires laid { AreLaid live.now.graph state.now.state workers self.old a }
-        ensures laid { OnOk result
-            (AreLaid live.now.graph state.now.state workers self.new (a + 1)) }
-        ensures room { OnOk result (self.new.room ≡ self.old.room) }
+    fn join(&mut self, alloc: Global, start: &Start, a: u32) -> Result<(), AllocError>
+        requires may_begin { MayBegin start.now }
+        requires arc { a < arc_count start.now.live.now.graph }
+        requires room { self.old.room ≡ start.now.room }
+        requires laid { AreLaidFor start.now self.old a }
+        ensures { OnOk result (HasLaid start.now a self.old self.new) }
     {
-        let stations = live.graph().stations();
-        let arc = arc_at(live, a);
-        let putter = worker_of(workers, stations, arc.from);
-        let taker = worker_of(workers, stations, arc.to);
+        let stations = start.live.graph().stations();
+        let arc = arc_at(start.live, a);
+        let putter = worker_of(start.workers, stations, arc.from);
+        let taker = worker_of(start.workers, stations, arc.to);
         if putter == taker {
-            self.join_within(alloc, live, state, workers, a, putter)
+            self.join_within(alloc, start, a, putter)
         } else {
-            self.join_between(alloc, live, state, workers, a)
+            self.join_between(alloc, start, a)
         }
     }
 
     /// The ends of the queues of all arcs.
-    pub(crate) fn of(
-        alloc: Global,
-        live: &Live,
-        state: &State,
-        workers: u32,
-        room: Option<u32>,
-    ) -> Result<Ends, AllocError>
-        requires made_for { live.now.graph ≡ state.now.graph }
-        requires some { 1 ≤ workers }
-        requires workers { workers ≤ 16 }
-        requires fits { MayHold room live.now.graph state.now.state }
+    pub(crate) fn of(alloc: Global, start: &Start) -> Result<Ends, AllocError>
+        requires { MayBegin start.now }
         ensures laid { IfOk result
-            (λ ends. AreLaid live.now.graph state.now.state workers ends
-            (arc_count live.now.graph)) }
-        ensures room { IfOk result (λ ends. ends.room ≡ room) }
-        ensures sound { OnOk result (IsGraph live.now.graph) }
-        ensures some_station { OnOk result (1 ≤ stations live.now.graph) }
-        ensures few_arcs { OnOk result (arc_count live.now.graph < 2 ^ 32) }
+            (λ ends. AreLaidFor start.now ends (arc_count start.now.live.now.graph)) }
+        ensures room { IfOk result (λ ends. ends.room ≡ start.now.room) }
+        ensures sound { OnOk result (IsGraph start.now.live.now.graph) }
+        ensures some_station { OnOk result (1 ≤ stations start.now.live.now.graph) }
+        ensures few_arcs { OnOk result (arc_count start.now.live.now.graph < 2 ^ 32) }
     {
-        let graph = live.graph();
-        let mut ends = Ends::none(alloc, graph.stations(), workers, room)?;
+        let graph = start.live.graph();
+        let mut ends = Ends::none(alloc, graph.stations(), start.workers, start.room)?;
         for a in 0..graph.arcs().len() as u32 {
-            ends.join(alloc, live, state, workers, a)?;
+            ends.join(alloc, start, a)?;
         }
         Ok(ends)
     }

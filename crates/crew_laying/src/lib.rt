@@ -4,5 +4,7 @@
 mod crews;
 mod laying;
 mod making;
+mod start;
 
 pub use crews::crews_of;
+pub use start::Start;

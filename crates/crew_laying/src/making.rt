@@ -1,11 +1,12 @@
 ghost use Rattle.std.specs.Prelude.{◌≡◌, ℕ, ◌+◌, ◌<◌, ◌≤◌, length, map, IfOk, OnOk};
-ghost use Rattle.crew_laying.specs.Making.{outlets_at, inlets_at, firsts_at, new_shelf, without, MayHold, MayShelve, AreFitFrom, IsNewStation, AreNewStations, IsNewTeam, AreNewTeams, SameStationsFrom, SameShelvesFrom};
+ghost use Rattle.crew_laying.specs.Making.{outlets_at, inlets_at, firsts_at, new_shelf, without, MayShelve, AreFitFrom, IsNewStation, AreNewStations, IsNewTeam, AreNewTeams, AreAllNew, SameStationsFrom, SameShelvesFrom};
+ghost use Rattle.crew_laying.specs.Start.{MayBegin};
 ghost use Rattle.event_graph.specs.Network.{stations, jobs};
 ghost use Rattle.event_graph.specs.State.{log};
 ghost use Rattle.worker_crew.specs.Share.{first_of};
-ghost use Rattle.worker_crew.specs.Teams.{AreTeams, AreOfRoom, AreAllMet, HaveBegun};
 
 use crate::laying::Ends;
+use crate::start::Start;
 use line_base::{Date, Log};
 use line_core::State;
 use live_check::Live;
@@ -145,23 +146,13 @@ fn new_teams(
 /// queue on the worker's shelf. Each ring, and each log, has room for the dates that are left to be made. Each queue on
 /// a shelf has room for a token of each job. Where a room is given, a ring has that of the tokens with which its arc
 /// starts and so much more.
-pub(crate) fn teams_of(
-    alloc: Global,
-    live: &Live,
-    state: &State,
-    workers: u32,
-    room: Option<u32>,
-) -> Result<Vec<Team>, AllocError>
-    requires made_for { live.now.graph ≡ state.now.graph }
-    requires some { 1 ≤ workers }
-    requires few { workers ≤ 16 }
-    requires fits { MayHold room live.now.graph state.now.state }
-    ensures count { IfOk result (λ teams. length teams.items ≡ workers) }
-    ensures teams { IfOk result (λ teams. AreTeams live.now.graph state.now.state teams.items) }
-    ensures rooms { IfOk result (λ teams. AreOfRoom room live.now.graph teams.items) }
-    ensures met { IfOk result (λ teams. AreAllMet live.now.graph teams.items) }
-    ensures begun { IfOk result (λ teams. HaveBegun live.now.graph state.now.state teams.items) }
+pub(crate) fn teams_of(alloc: Global, start: &Start) -> Result<Vec<Team>, AllocError>
+    requires { MayBegin start.now }
+    ensures count { IfOk result (λ teams. length teams.items ≡ start.now.workers) }
+    ensures teams { IfOk result
+        (λ teams. AreAllNew start.now.room start.now.live.now.graph start.now.state.now.state
+        teams.items) }
 {
-    let ends = Ends::of(alloc, live, state, workers, room)?;
-    new_teams(alloc, live, state, ends, workers)
+    let ends = Ends::of(alloc, start)?;
+    new_teams(alloc, start.live, start.state, ends, start.workers)
 }

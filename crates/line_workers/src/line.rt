@@ -16,7 +16,7 @@ ghost use Rattle.worker_crew.specs.Work.{TurnsBelow};
 use crate::closing::{copies_of, logs_of};
 use crate::crews::{all_done, burst_of, dates_of, gather_crews};
 use crate::threading::Threading;
-use crew_laying::crews_of;
+use crew_laying::{Start, crews_of};
 use line_core::State;
 use live_check::Live;
 use std::alloc::{AllocError, Global};
@@ -74,7 +74,13 @@ impl Line {
         ensures stands { IfOk result (StandsIn room live.now state.now.state workers) }
     {
         let made = state.fired();
-        let crews = crews_of(alloc, live, state, workers, room)?;
+        let start = Start {
+            live,
+            state,
+            workers,
+            room,
+        };
+        let crews = crews_of(alloc, &start)?;
         Ok(Line {
             crews,
             made,

@@ -1,17 +1,11 @@
-use Rattle.std.proofs.Common.{ap, ◌∙◌}
-use Rattle.crew_laying.specs.Making.{QueueEnds}
 use Rattle.crew_laying.proofs.LaidEnds.{laid_plain_read, on_ok}
 use Rattle.crew_laying.proofs.laying.Ends.join_within.Goals as goal
 
-pub returns-clause-laid : goal.returns-clause-laid
-returns-clause-laid c =
+pub returns : goal.returns
+returns c =
     let shelved = c.in_ok-number.ensures in
     let tokens = c.in_ok-tokens_on in
     let asked = c.requires in
     on_ok c.lay.result _ _ (
-    laid_plain_read c.args.live.now.graph c.args.state.now.state c.args.workers c.args.self.now c.shelve.new.self c.lay.new.self c.args.a c.args.worker c.in_ok-number.number c.arc_at-arc.result tokens.field-0.items c.arc_at-arc.ensures.sound asked.arc c.arc_at-arc.ensures.arc asked.laid asked.worker asked.puts asked.takes tokens.ensures.tokens c.tokens_on.ensures.few shelved.number shelved.shelved)
+    laid_plain_read c.args.start.now c.args.self.now c.shelve.new.self c.lay.new.self c.args.a c.args.worker c.in_ok-number.number c.arc_at-arc.result tokens.field-0.items c.arc_at-arc.ensures.sound asked.arc c.arc_at-arc.ensures.arc asked.laid asked.worker asked.puts asked.takes tokens.ensures.tokens c.tokens_on.ensures.few shelved.number shelved.shelved)
     c.lay.ensures
-
-pub returns-clause-room : goal.returns-clause-room
-returns-clause-room c =
-    on_ok c.lay.result _ _ (λ same. ap (λ (e : QueueEnds). e.room) same ∙ ap (λ (e : QueueEnds). e.room) c.in_ok-number.ensures.shelved) c.lay.ensures

@@ -1,8 +1,7 @@
-use Rattle.std.proofs.Common.{ℕ, List, [], Option, replicate, ap, ◌∙◌, sym, subst}
+use Rattle.std.proofs.Common.{List, [], replicate, ap, ◌∙◌}
 use Rattle.station_step.specs.declared.ends.Inlet.{Inlet}
 use Rattle.station_step.specs.declared.ends.Outlet.{Outlet}
 use Rattle.event_graph.specs.Network.{stations}
-use Rattle.crew_laying.specs.Making.{MayHold}
 use Rattle.crew_laying.proofs.LaidEnds.{laid_none}
 use Rattle.crew_laying.proofs.laying.Ends.of.Goals as goal
 
@@ -12,9 +11,9 @@ loop-a-init c =
     record {
       laid =
           laid_none
-          c.args.live.now.graph
-          c.args.state.now.state
-          c.args.workers
+          c.args.start.now.live.now.graph
+          c.args.start.now.state.now.state
+          c.args.start.now.workers
           c.in_ok-ends.ends
           c.in_ok-ends.ensures.shelves
           (c.in_ok-ends.ensures.outlets ∙ ap (λ n. replicate {A = List Outlet} n []) many)
@@ -22,6 +21,7 @@ loop-a-init c =
       room = c.in_ok-ends.ensures.room;
     }
 
-pub join-requires-clause-fits : goal.join-requires-clause-fits
-join-requires-clause-fits c =
-    subst (λ (r : Option ℕ). MayHold r c.args.live.now.graph c.args.state.now.state) (sym c.loop-a.invariant.room) c.requires.fits
+pub loop-a-preserved : goal.loop-a-preserved
+loop-a-preserved c =
+    let laid = c.in_ok-join.ensures in
+    record { laid = laid.laid; room = laid.room ∙ c.loop-a.invariant.room }

@@ -4,6 +4,11 @@ use Rattle.event_graph.specs.Reached.{Reached}
 use Rattle.line_workers.proofs.Lines.{at_rest_is_line, new_at_rest, new_stands}
 use Rattle.line_workers.proofs.line.Line.of.Goals as goal
 
+pub crews_of-requires-clause-may_begin : goal.crews_of-requires-clause-may_begin
+crews_of-requires-clause-may_begin c =
+    let asked = c.requires in
+    record { made_for = asked.made_for; some = asked.some; few = asked.few; fits = asked.fits }
+
 pub invariant_of-result : goal.invariant_of-result
 invariant_of-result c =
     let reached = subst (λ (g : Parts). Reached g c.args.state.now.state) (sym c.requires.made_for) c.fired-made.ensures.reached.reached in
