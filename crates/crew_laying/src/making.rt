@@ -8,12 +8,12 @@ ghost use Rattle.worker_crew.specs.Share.{first_of};
 use crate::laying::Ends;
 use crate::start::Start;
 use line_base::{Date, Log};
-use line_core::State;
+use line_core::{State, log_with};
 use live_check::Live;
 use station_step::Station;
 use std::alloc::{AllocError, Global};
 use token_shelf::Shelf;
-use worker_crew::{Team, first_of, log_with};
+use worker_crew::{Team, first_of};
 
 /// A copy of the log of station `t`, with room for a date of each job.
 fn log_of(alloc: Global, live: &Live, state: &State, t: u32) -> Result<Log, AllocError>

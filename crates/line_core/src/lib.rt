@@ -4,6 +4,7 @@
 mod dates;
 mod error;
 mod laws;
+mod logs;
 mod parts;
 mod rounds;
 mod schedule;
@@ -16,6 +17,7 @@ pub use laws::{
     circuits_keep_their_number, dates_stay_early, dead_stations_stay_idle,
     finished_states_are_least, live_graphs_have_a_least_solution, reached_states_are_consistent,
 };
+pub use logs::log_with;
 pub use rounds::run;
 pub use schedule::replay;
 pub use state::State;

@@ -9,8 +9,9 @@ ghost use Rattle.line_core.specs.Marked.{wrong_marked, wrong_counts, marked_refu
 ghost use Rattle.line_core.specs.Parts.{LATEST_GIVEN, AreLogs, AreParts, list_at, long_log, long_logs, wrong_count, wrong_marking, wrong_markings, wrong_date, wrong_dates_at, wrong_dates, wrong_token, wrong_tokens_on, wrong_tokens, state_refusals, AnswersFirst};
 
 use crate::error::StateError;
+use crate::logs::log_with;
 use event_graph::{Graph, Marking};
-use line_base::{Arc, Date, Log, Logs, Places};
+use line_base::{Arc, Date, Logs, Places};
 use std::alloc::{AllocError, Global};
 
 /// The dates of list number `k`.
@@ -322,18 +323,6 @@ pub fn check_marked(graph: &Graph, logs: &Logs, marking: &Marking) -> Result<(),
     check_dates(graph, logs)
 }
 
-/// A log with these dates and this room.
-fn log_with_room(alloc: Global, dates: &[Date], room: u32) -> Result<Log, AllocError>
-    requires { length dates.now ≤ room }
-    ensures { IfOk result (λ log. log ≡ record { dates = dates.now; room = room }) }
-{
-    let mut log = Log::new(alloc, room)?;
-    for date in dates {
-        log.add(*date);
-    }
-    Ok(log)
-}
-
 /// The same logs, each with room for so many dates.
 pub fn with_room(alloc: Global, logs: &Logs, room: u32) -> Result<Logs, AllocError>
     requires few { All (λ dates. length dates ≤ room) (dates_of logs.now) }
@@ -344,7 +333,7 @@ pub fn with_room(alloc: Global, logs: &Logs, room: u32) -> Result<Logs, AllocErr
     let number = logs.len() as u32;
     let mut copy = Logs::new(alloc, number)?;
     for k in 0..number {
-        copy.add(log_with_room(alloc, dates_at(logs, k), room)?);
+        copy.add(log_with(alloc, dates_at(logs, k), room)?);
     }
     Ok(copy)
 }

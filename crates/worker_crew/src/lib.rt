@@ -14,6 +14,5 @@ mod team;
 pub use arcs::arc_at;
 pub use crew::{Crew, SWEEPS};
 pub use gate::{FreeGate, Gate};
-pub use logs::log_with;
 pub use owner::{first_of, worker_of};
 pub use team::Team;

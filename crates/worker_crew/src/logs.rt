@@ -1,23 +1,12 @@
-ghost use Rattle.std.specs.Prelude.{◌≡◌, ℕ, ◌+◌, ◌<◌, ◌≤◌, ◌++◌, map, length, IfOk, OnOk};
+ghost use Rattle.std.specs.Prelude.{◌≡◌, ℕ, ◌+◌, ◌<◌, ◌≤◌, ◌++◌, map, length, OnOk};
 ghost use Rattle.worker_crew.specs.Logs.{log_of, copy_of};
 ghost use Rattle.worker_crew.specs.Team.{member};
 ghost use Rattle.worker_crew.specs.Work.{dates_of};
 
-use line_base::{Date, Log, Logs};
+use line_base::Logs;
+use line_core::log_with;
 use station_step::Station;
 use std::alloc::{AllocError, Global};
-
-/// A log with these dates, and room for so many.
-pub fn log_with(alloc: Global, dates: &[Date], room: u32) -> Result<Log, AllocError>
-    requires { length dates.now ≤ room }
-    ensures { IfOk result (λ log. log ≡ record { dates = dates.now; room = room }) }
-{
-    let mut log = Log::new(alloc, room)?;
-    for date in dates {
-        log.add(*date);
-    }
-    Ok(log)
-}
 
 /// Gives up the logs of stations, one after the other, behind those of a list. It takes no memory.
 pub(crate) fn give_logs(stations: Vec<Station>, logs: &mut Logs)
