@@ -45,25 +45,31 @@ back_walk g base t u before a part after closed through =
 sum_by-parts : (f : ℕ → ℕ) (xs ys zs : List ℕ) → sum_by f (xs ++ (ys ++ zs)) ≡ sum_by f ys + sum_by f (zs ++ xs)
 sum_by-parts f xs ys zs = omega (arith, sum_by-append f xs (ys ++ zs), sum_by-append f ys zs, sum_by-append f zs xs)
 
+-- the arcs go through a stage: these before it, these after it
+record GoesThrough (p : Plant) (i : ℕ) (arcs : List ℕ) : Type 0 where
+  before : List ℕ
+  after : List ℕ
+  through : arcs ≡ before ++ (onward_arcs p i ++ after)
+
 -- a card circuit through a stage bounds it
-bounded : (p : Plant) (i number : ℕ) (c : CardCircuit) (before after : List ℕ) → IsSound p → i < length p.stages → Contains (circuits p) c → c.number ≡ number → c.arcs ≡ before ++ (onward_arcs p i ++ after) → IsBounded p i number
-bounded p i number c before after sound below listed cards through =
+bounded : (p : Plant) (i number : ℕ) (c : CardCircuit) → IsSound p → i < length p.stages → Contains (circuits p) c → c.number ≡ number → GoesThrough p i c.arcs → IsBounded p i number
+bounded p i number c sound below listed cards way =
     let g = graph p in
     let circuit = All-contains (IsCardCircuit g) (circuits p) c (circuits-closed p sound) listed in
     let line = stage_line p i sound below in
     let base = circuit.closed.base in
-    let closed = subst (λ arcs. IsWalk g base arcs base) through circuit.closed.closed in
-    let tokens = sym (ap (tokens_on g) through) ∙ circuit.number ∙ cards in
+    let closed = subst (λ arcs. IsWalk g base arcs base) way.through circuit.closed.closed in
+    let tokens = sym (ap (tokens_on g) way.through) ∙ circuit.number ∙ cards in
     let stock = line.leads.stock in
     record {
       circuit = c;
       listed = listed;
       cards = cards;
-      before = before;
-      after = after;
-      through = through;
-      back = back_walk g base (release p i) (receiver p i) before _ _ after (rw add-one at closed) (rw add-one at line.leads.walk);
-      free = omega (arith, sum_by-parts (λ a. (arc g a).tokens) before (onward_arcs p i) after);
+      before = way.before;
+      after = way.after;
+      through = way.through;
+      back = back_walk g base (release p i) (receiver p i) way.before _ _ way.after (rw add-one at closed) (rw add-one at line.leads.walk);
+      free = omega (arith, sum_by-parts (λ a. (arc g a).tokens) way.before (onward_arcs p i) way.after);
     }
 
 -- a circuit of the policy is a card circuit
@@ -146,8 +152,10 @@ bounded-conwip p cards i sound below is =
     let listed = Contains-map-filter (line_circuit p cards) (is_first p) (length p.stages) a from.exists from.unfed in
     let c = line_circuit p cards a in
     let through = ap (λ is. onward_arcs_of p is ++ conwip_arc p a ∷ []) whole ∙ through_path p from.before rest i (conwip_arc p a) in
-    bounded p i cards c (onward_arcs_of p from.before) (onward_arcs_of p rest ++ conwip_arc p a ∷ []) sound below
-    (of_policy p c (rw (policy_circuits-conwip p cards is) listed)) refl through
+    let before = onward_arcs_of p from.before in
+    let after = onward_arcs_of p rest ++ conwip_arc p a ∷ [] in
+    bounded p i cards c sound below (of_policy p c (rw (policy_circuits-conwip p cards is) listed)) refl
+    (record { before = before; after = after; through = through })
 
 -- a circuit of a stage's own cards, under a policy that has one for each stage
 bounded-stage : (p : Plant) (i number : ℕ) (card_arc : ℕ → ℕ) → IsSound p → i < length p.stages → policy_circuits p ≡ map (stage_circuit p card_arc) (stage_numbers p) → bound p i ≡ Some (stage_at p i).cards → bound p i ≡ Some number → IsBounded p i number
@@ -156,7 +164,8 @@ bounded-stage p i number card_arc sound below each own bounded_by =
     let same : Some (stage_at p i).cards ≡ Some number = sym own ∙ bounded_by in
     let cards_are : (stage_at p i).cards ≡ number = cc in
     let listed = of_policy p (f i) (rw each (Contains-map-range f (length p.stages) i below)) in
-    bounded p i number (f i) [] (card_arc i ∷ []) sound below listed cards_are refl
+    bounded p i number (f i) sound below listed cards_are
+    (record { before = []; after = card_arc i ∷ []; through = refl })
 
 -- where a stage's bound is a number, a card circuit of that number goes through the stage
 pub bounds-have-circuits : (p : Plant) → IsSound p → (i number : ℕ) → i < length p.stages → bound p i ≡ Some number → IsBounded p i number
