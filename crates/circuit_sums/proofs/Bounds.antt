@@ -26,7 +26,7 @@ use Rattle.circuit_sums.specs.declared.circuit.CardCircuit.{CardCircuit}
 use Rattle.plant_model.specs.ArcNumbers.{onward_arcs, onward_arcs_of, kanban_arc, extended_arc, conwip_arc, first_loop_arc}
 use Rattle.circuit_sums.specs.Circuits.{stage_circuit, line_circuit, policy_circuits, loop_circuits, circuits, IsCardCircuit}
 use Rattle.plant_model.specs.Bound.{bound}
-use Rattle.circuit_sums.specs.Laws.{IsBounded}
+use Rattle.circuit_sums.specs.Laws.{IsBounded, GoThrough}
 use Rattle.line_base.proofs.RangeLists.{Contains-map-range, Contains-map-filter}
 use Rattle.circuit_sums.proofs.Lines.{walk-append, walk-split, walk-begin}
 use Rattle.circuit_sums.proofs.StageLines.{stage_line}
@@ -45,14 +45,8 @@ back_walk g base t u before a part after closed through =
 sum_by-parts : (f : ℕ → ℕ) (xs ys zs : List ℕ) → sum_by f (xs ++ (ys ++ zs)) ≡ sum_by f ys + sum_by f (zs ++ xs)
 sum_by-parts f xs ys zs = omega (arith, sum_by-append f xs (ys ++ zs), sum_by-append f ys zs, sum_by-append f zs xs)
 
--- the arcs go through a stage: these before it, these after it
-record GoesThrough (p : Plant) (i : ℕ) (arcs : List ℕ) : Type 0 where
-  before : List ℕ
-  after : List ℕ
-  through : arcs ≡ before ++ (onward_arcs p i ++ after)
-
 -- a card circuit through a stage bounds it
-bounded : (p : Plant) (i number : ℕ) (c : CardCircuit) → IsSound p → i < length p.stages → Contains (circuits p) c → c.number ≡ number → GoesThrough p i c.arcs → IsBounded p i number
+bounded : (p : Plant) (i number : ℕ) (c : CardCircuit) → IsSound p → i < length p.stages → Contains (circuits p) c → c.number ≡ number → GoThrough p i c.arcs → IsBounded p i number
 bounded p i number c sound below listed cards way =
     let g = graph p in
     let circuit = All-contains (IsCardCircuit g) (circuits p) c (circuits-closed p sound) listed in
@@ -65,9 +59,7 @@ bounded p i number c sound below listed cards way =
       circuit = c;
       listed = listed;
       cards = cards;
-      before = way.before;
-      after = way.after;
-      through = way.through;
+      way = way;
       back = back_walk g base (release p i) (receiver p i) way.before _ _ way.after (rw add-one at closed) (rw add-one at line.leads.walk);
       free = omega (arith, sum_by-parts (λ a. (arc g a).tokens) way.before (onward_arcs p i) way.after);
     }
@@ -195,5 +187,5 @@ bounds-hold p sound s reached i number below bounded_by =
     let b = bounds-have-circuits p sound i number below bounded_by in
     let circuit = All-contains (IsCardCircuit g) (circuits p) b.circuit (circuits-closed p sound) b.listed in
     let kept = circuit-keeps g s reached b.circuit.arcs circuit.closed in
-    let parts = ap (tokens_in s) b.through ∙ sum_by-parts (λ a. length (place s a)) b.before (onward_arcs p i) b.after in
+    let parts = ap (tokens_in s) b.way.through ∙ sum_by-parts (λ a. length (place s a)) b.way.before (onward_arcs p i) b.way.after in
     omega (arith, kept, parts, circuit.number, b.cards)

@@ -38,17 +38,21 @@ PathsLeadOn p =
     (a b : ℕ) → a < length p.stages → IsTrue (is_downstream p a b)
     → LeadsOn (graph p) (release p a) (onward_arcs_between p a b) (receiver p b) (stock_between p a b)
 
+-- the arcs go through stage i: those before it, its onward arcs, those after it
+pub record GoThrough (p : Plant) (i : ℕ) (arcs : List ℕ) : Type 0 where
+  pub before : List ℕ
+  pub after : List ℕ
+  pub through : arcs ≡ before ++ (onward_arcs p i ++ after)
+
 -- a card circuit of this number goes through stage i, and its other arcs lead from what the stage feeds back to the
 -- release of the stage, with what the stage's starting stock leaves of the number
 pub record IsBounded (p : Plant) (i number : ℕ) : Type 0 where
   pub circuit : CardCircuit
   pub listed : Contains (circuits p) circuit
   pub cards : circuit.number ≡ number
-  pub before : List ℕ
-  pub after : List ℕ
-  pub through : circuit.arcs ≡ before ++ (onward_arcs p i ++ after)
-  pub back : IsWalk (graph p) (receiver p i) (after ++ before) (release p i)
-  pub free : tokens_on (graph p) (after ++ before) + starting p i ≡ number
+  pub way : GoThrough p i circuit.arcs
+  pub back : IsWalk (graph p) (receiver p i) (way.after ++ way.before) (release p i)
+  pub free : tokens_on (graph p) (way.after ++ way.before) + starting p i ≡ number
 
 -- where a stage's bound is a number, a card circuit of that number goes through the stage
 abbrev pub BoundsHaveCircuits : Plant → Type 0
