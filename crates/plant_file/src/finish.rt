@@ -66,22 +66,6 @@ pub fn complete_draft(
         → IsReadFrom name files draft (option_copied demands.entry) (option_copied times.entry)
         → AnswersPlant result (plant_of name files) }
 {
-    completed(alloc, draft, demands, times)
-}
-
-/// The plant of a draft and of the bytes of its files, or the first of the refusals 10 to 15.
-fn completed(
-    alloc: Global,
-    draft: Draft,
-    demands: Option<&[u8]>,
-    times: Option<&[u8]>,
-) -> Result<Plant, PlantError>
-    requires demands_where_used { is_some demands ≡ is_some (demands_file draft) }
-    requires times_where_used { is_some times ≡ is_some draft.times_file }
-    requires times_size { IfSome times (λ bytes. length bytes.now ≤ MAX_CHECKPOINT_BYTES) }
-    ensures plant { AnswersPlant result (completed draft (option_copied demands.entry) (option_copied times.entry)) }
-    ensures sound { IfOk result IsSound }
-{
     let tables = tables_in(alloc, &draft, demands, times)?;
     finish_draft(alloc, draft, tables.0, tables.1)
 }
@@ -181,8 +165,12 @@ fn plant_with(
         return Err(PlantError::NoMemory);
     };
     keeps_limit(&table);
-    let stages = stages_with(alloc, draft.stages, table.as_ref())?;
-    let loops = loops_with(alloc, draft.loops, count)?;
+    let source = TimesSource {
+        alloc,
+        table: &table,
+    };
+    let stages = source.stages(draft.stages)?;
+    let loops = loops_with(alloc, draft.loops.as_slice(), count)?;
     Ok(Plant {
         policy: draft.policy,
         stages,
@@ -216,15 +204,11 @@ fn dates_with(alloc: Global, demands: DraftDemands, dates: Option<Vec<Date>>) ->
 }
 
 /// The loops of a plant of so many stages. An end that names no stage gets the number after the last.
-fn loops_with(
-    alloc: Global,
-    loops: Items<DraftLoop>,
-    count: u32,
-) -> Result<Items<CardLoop>, AllocError>
-    ensures { IfOk result (λ made. made ≡ map (loop_with count) loops) }
+fn loops_with(alloc: Global, loops: &[DraftLoop], count: u32) -> Result<Items<CardLoop>, AllocError>
+    ensures { IfOk result (λ made. made ≡ map (loop_with count) loops.now) }
 {
     let mut made = Vec::with_capacity(alloc, loops.len())?;
-    for card_loop in loops.as_slice() {
+    for card_loop in loops {
         made.push(loop_with(card_loop, count))?;
     }
     Ok(Items::from_vec(made))
@@ -242,76 +226,70 @@ fn loop_with(card_loop: &DraftLoop, count: u32) -> CardLoop
     }
 }
 
-/// The stages with their job times.
-fn stages_with(
+/// Where the job times of columns come from: the table of the times file, if there is one, copied into this memory.
+#[derive(Drop)]
+struct TimesSource<'a> {
     alloc: Global,
-    stages: Items<DraftStage>,
-    table: Option<&Columns>,
-) -> Result<Items<Stage>, AllocError>
-    requires { All (HasColumns (option_copied table)) stages }
-    ensures { IfOk result (λ made. made ≡ map (stage_with (option_copied table.entry)) stages) }
-{
-    let mut made = Vec::with_capacity(alloc, stages.len())?;
-    for stage in stages.into_vec() {
-        made.push(stage_with(alloc, stage, table)?)?;
+    table: &'a Option<Columns>,
+}
+
+impl<'a> TimesSource<'a> {
+    /// The stages with their job times.
+    fn stages(&self, stages: Items<DraftStage>) -> Result<Items<Stage>, AllocError>
+        requires { All (HasColumns self.now.table.now) stages }
+        ensures { IfOk result (λ made. made ≡ map (stage_with self.now.table.now) stages) }
+    {
+        let mut made = Vec::with_capacity(self.alloc, stages.len())?;
+        for stage in stages.into_vec() {
+            made.push(self.stage(stage)?)?;
+        }
+        Ok(Items::from_vec(made))
     }
-    Ok(Items::from_vec(made))
-}
 
-/// A stage with the job times of its machines.
-fn stage_with(
-    alloc: Global,
-    stage: DraftStage,
-    table: Option<&Columns>,
-) -> Result<Stage, AllocError>
-    requires { HasColumns (option_copied table) stage }
-    ensures { IfOk result (λ made. made ≡ stage_with (option_copied table.entry) stage) }
-{
-    let machines = machines_with(alloc, stage.machines, table)?;
-    Ok(Stage {
-        name: stage.name,
-        feeds: stage.feeds,
-        cards: stage.cards,
-        stock: stage.stock,
-        travel: stage.travel,
-        card_time: stage.card_time,
-        machines,
-    })
-}
-
-/// The machines with their job times.
-fn machines_with(
-    alloc: Global,
-    machines: Items<DraftMachine>,
-    table: Option<&Columns>,
-) -> Result<Items<Machine>, AllocError>
-    requires { All (λ m. HasColumn (option_copied table) m.times) machines }
-    ensures { IfOk result (λ made. made ≡ map (machine_with (option_copied table.entry)) machines) }
-{
-    let mut made = Vec::with_capacity(alloc, machines.len())?;
-    for machine in machines.into_vec() {
-        let (times, machine) = machine.split();
-        let times = times_with(alloc, times, table)?;
-        made.push(machine.with_times(times))?;
+    /// A stage with the job times of its machines.
+    fn stage(&self, stage: DraftStage) -> Result<Stage, AllocError>
+        requires { HasColumns self.now.table.now stage }
+        ensures { IfOk result (λ made. made ≡ stage_with self.now.table.now stage) }
+    {
+        let machines = self.machines(stage.machines)?;
+        Ok(Stage {
+            name: stage.name,
+            feeds: stage.feeds,
+            cards: stage.cards,
+            stock: stage.stock,
+            travel: stage.travel,
+            card_time: stage.card_time,
+            machines,
+        })
     }
-    Ok(Items::from_vec(made))
-}
 
-/// The job times of a machine: one time, a list, or a column of the times file, and the time 0 where there is no table.
-fn times_with(
-    alloc: Global,
-    times: DraftTimes,
-    table: Option<&Columns>,
-) -> Result<Times, AllocError>
-    requires { HasColumn (option_copied table) times }
-    ensures { IfOk result (λ made. made ≡ times_with (option_copied table.entry) times) }
-{
-    match times {
-        DraftTimes::Fixed(time) => Ok(Times::Fixed(time)),
-        DraftTimes::Each(times) => Ok(Times::Each(times)),
-        DraftTimes::Column(column) => match table {
-            Some(table) => Ok(Times::Each(Items::from_vec(table.column(alloc, column)?))),
-            None => Ok(Times::Fixed(0)),
-        },
+    /// The machines with their job times.
+    fn machines(&self, machines: Items<DraftMachine>) -> Result<Items<Machine>, AllocError>
+        requires { All (λ m. HasColumn self.now.table.now m.times) machines }
+        ensures { IfOk result (λ made. made ≡ map (machine_with self.now.table.now) machines) }
+    {
+        let mut made = Vec::with_capacity(self.alloc, machines.len())?;
+        for machine in machines.into_vec() {
+            let (times, machine) = machine.split();
+            let times = self.times(times)?;
+            made.push(machine.with_times(times))?;
+        }
+        Ok(Items::from_vec(made))
+    }
+
+    /// The job times of a machine: one time, a list, or a column of the times file, and the time 0 where there is no
+    /// table.
+    fn times(&self, times: DraftTimes) -> Result<Times, AllocError>
+        requires { HasColumn self.now.table.now times }
+        ensures { IfOk result (λ made. made ≡ times_with self.now.table.now times) }
+    {
+        match times {
+            DraftTimes::Fixed(time) => Ok(Times::Fixed(time)),
+            DraftTimes::Each(times) => Ok(Times::Each(times)),
+            DraftTimes::Column(column) => match self.table {
+                Some(table) => Ok(Times::Each(Items::from_vec(table.column(self.alloc, column)?))),
+                None => Ok(Times::Fixed(0)),
+            },
+        }
     }
 }
