@@ -3,6 +3,7 @@ use Rattle.std.specs.Prelude.{◌≡◌, ℕ, List, [], ◌∷◌, Option, None,
 use Rattle.std.specs.Fmt.{digits}
 use Rattle.line_base.specs.declared.times.Times.TheVariants.{Fixed}
 use Rattle.plant_model.specs.Stages.{Machine, Stage, one_server}
+use Rattle.plant_model.specs.Line.{no_stage}
 use Rattle.big_plant.specs.Generator.{next_state, state_after, draw}
 use Rattle.big_plant.specs.Big.{stage_of, stage_from, machines_from, date_from, dates_from}
 
@@ -16,15 +17,8 @@ machine name servers time = record (one_server name (Fixed time)) { servers = se
 
 -- a stage with a name, the next stage, cards and stock; cards go back at once
 abbrev stage : List ℕ → Option ℕ → ℕ → ℕ → List Machine → Stage
-stage name feeds cards stock machines = record {
-  name = name;
-  feeds = feeds;
-  cards = cards;
-  stock = stock;
-  travel = 0;
-  card_time = 0;
-  machines = machines;
-}
+stage name feeds cards stock machines =
+    record no_stage { name = name; feeds = feeds; cards = cards; stock = stock; machines = machines }
 
 -- of the draws 1059165278, 2052263231, 1946856753, 585718673, 572045545, 297257219, 865189864, 691615764
 first_stage :
