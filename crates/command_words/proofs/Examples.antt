@@ -10,7 +10,7 @@ use Rattle.line_base.proofs.Numbers.{decimal-read}
 use Rattle.command_words.specs.Numbers.{number_in}
 use Rattle.command_words.specs.Options.{with_flag, with_value, options_after}
 use Rattle.command_words.specs.Settings.{asked}
-use Rattle.command_words.specs.Words.{after_big, after_resume, after_replay, after_whatif, after_cards, plant_command, after_plant_word, command_of}
+use Rattle.command_words.specs.Words.{after_big, after_resume, after_cards, plant_command, after_plant_word, command_of}
 use Rattle.command_words.specs.declared.command.Command.TheVariants.{Run, Replay, Big, Resume, RunSlots, RunRoom, RunStand, ResumeSlots, Cards, WhatIf, Help}
 
 own : IsNumeralModel (λ ds. list_all is_ascii_digit ds ≡ true) (digits_value 10)
@@ -65,7 +65,7 @@ commands : (command_of (codes "run" ∷ codes "a.toml" ∷ []) ≡ Some (Run (co
     × (command_of (codes "replay" ∷ codes "a.toml" ∷ codes "s.txt" ∷ []) ≡ Some (Replay (codes "a.toml") (codes "s.txt")))
     × (command_of (codes "whatif" ∷ codes "a.toml" ∷ codes "e.txt" ∷ []) ≡ Some (WhatIf (codes "a.toml") (codes "e.txt")))
     × (command_of (codes "--help" ∷ []) ≡ Some Help)
-unfolding number_in with_flag with_value options_after asked after_big after_resume after_replay after_whatif after_cards plant_command after_plant_word
+unfolding number_in with_flag with_value options_after asked after_big after_resume after_cards plant_command after_plant_word
 commands = (
   refl,
   rw numerals.none refl,
@@ -113,7 +113,7 @@ others : IsNone (codes "--help" ∷ codes "run" ∷ [])
     × IsNone (codes "run" ∷ codes "--workers" ∷ codes "2" ∷ codes "a.toml" ∷ [])
     × IsNone (codes "run" ∷ codes "c.ckpt" ∷ [])
     × IsNone (codes "resume" ∷ codes "a.toml" ∷ codes "b.toml" ∷ [])
-unfolding number_in with_flag with_value options_after asked after_big after_resume after_replay after_whatif after_cards plant_command after_plant_word
+unfolding number_in with_flag with_value options_after asked after_big after_resume after_cards plant_command after_plant_word
 others = (
   refl,
   refl,

@@ -1,3 +1,5 @@
+pub mod EachCommand
 pub mod Examples
 pub mod Reading
+pub mod ResumeWords
 pub mod Standing

@@ -8,6 +8,8 @@ use Rattle.command_words.specs.Ranges.{IsInRange}
 use Rattle.command_words.specs.declared.command.Command.{Command}
 use Rattle.command_words.specs.declared.command.Command.TheVariants.{Run, Check, Replay, Big, Resume, Cycle, RunSlots, RunRoom, RunStand, ResumeSlots, Cards, WhatIf, Help, Version}
 use Rattle.command_words.specs.declared.command.WordsError.{WordsError}
+use Rattle.command_words.specs.declared.words.Question.{Question}
+use Rattle.command_words.specs.declared.words.Question.TheVariants as question
 use Rattle.command_words.specs.declared.command.WordsError.TheVariants.{Usage}
 
 -- a command with no word behind it
@@ -58,18 +60,17 @@ after_resume plant (word ∷ words) =
     then with_options (resume_command plant word) words
     else with_options (resume_slots_command plant) (word ∷ words)
 
--- one word, which names a file, as the command that it makes
-abbrev pub with_file : (List ℕ → Command) → List (List ℕ) → Option Command
-with_file command (file ∷ []) = if is_file_name file then Some (command file) else None
-with_file command words = None
+-- `check PLANT` and `cycle PLANT`
+abbrev pub asking : Question → List ℕ → Command
+asking question.Check plant = Check plant
+asking question.Cycle plant = Cycle plant
 
--- the words behind `replay PLANT`, `whatif PLANT` and `cards PLANT`
-unfoldable pub after_replay : List ℕ → List (List ℕ) → Option Command
-after_replay plant words = with_file (λ schedule. Replay plant schedule) words
+-- one word, which names a file
+abbrev pub one_file : List (List ℕ) → Option (List ℕ)
+one_file (file ∷ []) = if is_file_name file then Some file else None
+one_file words = None
 
-unfoldable pub after_whatif : List ℕ → List (List ℕ) → Option Command
-after_whatif plant words = with_file (λ edits. WhatIf plant edits) words
-
+-- the words behind `cards PLANT`
 unfoldable pub after_cards : List ℕ → List (List ℕ) → Option Command
 after_cards plant (wait ∷ []) = option_map (λ n. Cards plant n) (number_in 0 longest_wait wait)
 after_cards plant words = None
@@ -79,11 +80,11 @@ unfoldable pub plant_command : List ℕ → List ℕ → List (List ℕ) → Opt
 plant_command word plant words =
     if bytes_eq word (codes "run") then with_options (run_command plant) words
     else if bytes_eq word (codes "check") then alone (Check plant) words
-    else if bytes_eq word (codes "replay") then after_replay plant words
+    else if bytes_eq word (codes "replay") then option_map (λ schedule. Replay plant schedule) (one_file words)
     else if bytes_eq word (codes "resume") then after_resume plant words
     else if bytes_eq word (codes "cycle") then alone (Cycle plant) words
     else if bytes_eq word (codes "cards") then after_cards plant words
-    else if bytes_eq word (codes "whatif") then after_whatif plant words
+    else if bytes_eq word (codes "whatif") then option_map (λ edits. WhatIf plant edits) (one_file words)
     else None
 
 -- the words behind the first, where that is one of those commands

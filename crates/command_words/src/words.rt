@@ -2,8 +2,7 @@ ghost use Rattle.std.specs.Prelude.{◌≡◌, ◌↔◌, IfOk, IsErrOf, Some, N
 ghost use Rattle.command_words.specs.Options.{texts};
 ghost use Rattle.command_words.specs.Ranges.{IsInRange};
 ghost use Rattle.command_words.specs.Settings.{settings_seen, asked};
-ghost use Rattle.command_words.specs.Words.{IsReadAs, alone, run_command, resume_command, resume_slots_command, with_options, after_big, after_resume, after_replay, after_whatif, after_cards, plant_command, after_plant_word, command_of};
-ghost use Rattle.command_words.specs.declared.command.Command.TheVariants.{Check, Cycle};
+ghost use Rattle.command_words.specs.Words.{IsReadAs, alone, asking, run_command, resume_command, resume_slots_command, with_options, one_file, after_big, after_resume, after_cards, plant_command, after_plant_word, command_of};
 
 use crate::command::{Command, Stop, WordsError};
 use crate::file_name::FileName;
@@ -80,12 +79,18 @@ fn of_plant(alloc: Global, word: &str, words: &[String]) -> Result<Command, Word
     }
     match word {
         "run" => run(alloc, plant, words),
-        "check" => check(alloc, plant, words),
-        "replay" => replay(alloc, plant, words),
+        "check" => ask(alloc, plant, words, Question::Check),
+        "replay" => {
+            let (plant, schedule) = plant_and_file(alloc, plant, words)?;
+            Ok(Command::Replay { plant, schedule })
+        }
         "resume" => resume(alloc, plant, words),
-        "cycle" => cycle(alloc, plant, words),
+        "cycle" => ask(alloc, plant, words, Question::Cycle),
         "cards" => cards(alloc, plant, words),
-        "whatif" => what_if(alloc, plant, words),
+        "whatif" => {
+            let (plant, edits) = plant_and_file(alloc, plant, words)?;
+            Ok(Command::WhatIf { plant, edits })
+        }
         _ => Err(WordsError::Usage),
     }
 }
@@ -130,40 +135,49 @@ fn run(alloc: Global, plant: &str, words: &[String]) -> Result<Command, WordsErr
     }
 }
 
-/// The command of the words behind `check PLANT`.
-fn check(alloc: Global, plant: &str, words: &[String]) -> Result<Command, WordsError>
-    ensures { IsReadAs result (alone (Check plant.now) (texts words.now)) }
+/// What is asked of a plant by its name alone.
+#[derive(Clone, Copy)]
+enum Question {
+    /// `check PLANT`.
+    Check,
+    /// `cycle PLANT`.
+    Cycle,
+}
+
+/// The command of the words behind a question and a plant, of which there are none.
+fn ask(
+    alloc: Global,
+    plant: &str,
+    words: &[String],
+    question: Question,
+) -> Result<Command, WordsError>
+    ensures { IsReadAs result (alone (asking question plant.now) (texts words.now)) }
 {
     if !words.is_empty() {
         return Err(WordsError::Usage);
     }
-    Ok(Command::Check {
-        plant: FileName::of(alloc, plant)?,
-    })
-}
-
-/// The command of the words behind `cycle PLANT`.
-fn cycle(alloc: Global, plant: &str, words: &[String]) -> Result<Command, WordsError>
-    ensures { IsReadAs result (alone (Cycle plant.now) (texts words.now)) }
-{
-    if !words.is_empty() {
-        return Err(WordsError::Usage);
+    let plant = FileName::of(alloc, plant)?;
+    match question {
+        Question::Check => Ok(Command::Check { plant }),
+        Question::Cycle => Ok(Command::Cycle { plant }),
     }
-    Ok(Command::Cycle {
-        plant: FileName::of(alloc, plant)?,
-    })
 }
 
-/// The command of the words behind `replay PLANT`.
-#[tactic(auto, unfolding(crate::specs::Words::after_replay))]
-fn replay(alloc: Global, plant: &str, words: &[String]) -> Result<Command, WordsError>
-    ensures { IsReadAs result (after_replay plant.now (texts words.now)) }
+/// The names of the plant and of the one file that words behind it name.
+fn plant_and_file(
+    alloc: Global,
+    plant: &str,
+    words: &[String],
+) -> Result<(FileName, FileName), WordsError>
+    ensures plant { IfOk result (λ names. names.0 ≡ plant.now) }
+    ensures file { IfOk result (λ names. one_file (texts words.now) ≡ Some names.1) }
+    ensures usage { IsErrOf result WordsError.Usage ↔ (one_file (texts words.now) ≡ None) }
 {
     match words {
-        [schedule] if is_file_name(schedule.as_bytes()) => Ok(Command::Replay {
-            plant: FileName::of(alloc, plant)?,
-            schedule: FileName::of(alloc, schedule.as_str())?,
-        }),
+        [file] if is_file_name(file.as_bytes()) => Ok((
+            FileName::of(alloc, plant)?,
+            FileName::of(alloc, file.as_str())?,
+        )),
         _ => Err(WordsError::Usage),
     }
 }
@@ -236,18 +250,4 @@ fn cards(alloc: Global, plant: &str, words: &[String]) -> Result<Command, WordsE
         plant: FileName::of(alloc, plant)?,
         wait,
     })
-}
-
-/// The command of the words behind `whatif PLANT`.
-#[tactic(auto, unfolding(crate::specs::Words::after_whatif))]
-fn what_if(alloc: Global, plant: &str, words: &[String]) -> Result<Command, WordsError>
-    ensures { IsReadAs result (after_whatif plant.now (texts words.now)) }
-{
-    match words {
-        [edits] if is_file_name(edits.as_bytes()) => Ok(Command::WhatIf {
-            plant: FileName::of(alloc, plant)?,
-            edits: FileName::of(alloc, edits.as_str())?,
-        }),
-        _ => Err(WordsError::Usage),
-    }
 }

@@ -1,7 +1,6 @@
 pub mod FileNames
 pub mod ResumeEnds
 pub mod ResumeStops
-pub mod ResumeWords
 pub mod Resuming
 pub mod ShortFiles
 pub mod SoundFiles

@@ -34,7 +34,7 @@ use Rattle.pull_cli.specs.Headline.{ResumesToReport}
 use Rattle.pull_laws.specs.Resuming.{Call, files_before, HasFailedRead, HasStopped, IsResumedBy, EndsResumed, reported, unread, unwritten, no_memory}
 use Rattle.pull_cli.specs.Verdict.{OfWords}
 use Rattle.pull_laws.proofs.ResumeStops.{look_stops, plant_stops}
-use Rattle.pull_laws.proofs.ResumeWords.{names_files}
+use Rattle.command_words.proofs.ResumeWords.{names_files}
 use Rattle.pull_laws.proofs.Resuming.{one_plant, same_files, plant_plain, second_plant, second_reports}
 use Rattle.pull_laws.proofs.ShortFiles.{IsShort, IsShortPlant, short_bytes, plant_short, same_short}
 

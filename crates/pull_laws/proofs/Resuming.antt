@@ -24,7 +24,7 @@ use Rattle.pull_cli.specs.Headline.{run_of, stop_of, HasReported, RunEndsWell}
 use Rattle.pull_laws.specs.Resuming.{Call, files_before, files_after, CallsFor, HasStopped, IsResumedBy, IsWholeRun, WroteTheSame}
 use Rattle.pull_laws.proofs.FileNames.{IsPlain, file_is_plain, reading_sound, same_plant}
 use Rattle.pull_cli.proofs.HeadlineLemmas.{headline_of}
-use Rattle.pull_laws.proofs.ResumeWords.{names_files}
+use Rattle.command_words.proofs.ResumeWords.{names_files}
 
 -- one answer
 pub one_plant : (r : Result Plant PlantError) (p q : Plant) → r ≡ Ok p → r ≡ Ok q → p ≡ q
