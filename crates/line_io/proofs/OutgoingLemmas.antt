@@ -1,7 +1,7 @@
 -- Bytes that are given to a sink and the buffer before it, one part after another.
 use Rattle.std.proofs.Common.{◌≡◌, ◌≤◌, ℕ, List, [], ◌++◌, Bool, true, false, Result, Ok, Err, OnOk, OnErr, is_err, refl, sym, ap, ◌∙◌, append_assoc, append-nil, arith}
 use Rattle.std.proofs.lemmas.Bool.{false≢true}
-use Rattle.line_io.specs.SinkView.{SinkView, PutsAll, PutsFront}
+use Rattle.line_io.specs.SinkView.{SinkView, PutsAll, PutsFront, WritesText}
 use Rattle.line_io.specs.Faults.{Rose}
 use Rattle.line_io.specs.Outgoing.{Stream, Pushed}
 use Rattle.line_io.proofs.WrittenLemmas.{puts_none, puts_all_after}
@@ -139,6 +139,15 @@ front_on_err {text = text} new (Err e) none well p q =
 pub cause_on_err : {T E : Type 0} {a b : Stream} {text : List ℕ} (new : SinkView) (r : Result T E) → a.failed ≡ false → Pushed a b text → Pushed b (record { sink = new; pending = []; failed = is_err r }) [] → OnErr r (Rose a.sink.faults new.faults)
 cause_on_err new (Ok x) well p q = tt
 cause_on_err new (Err e) well p q = (pushed_then_none p q).cause well refl
+
+-- so the text is written, or a front of it
+pub writes_text : {T E : Type 0} {a b : Stream} {text : List ℕ} (new : SinkView) (r : Result T E) → a.pending ≡ [] → a.failed ≡ false → Pushed a b text → Pushed b (record { sink = new; pending = []; failed = is_err r }) [] → WritesText a.sink new text r
+writes_text new r none well p q = record {
+  written = put_on_ok new r none well p q;
+  front = front_on_err new r none well p q;
+  cause = cause_on_err new r well p q;
+  faults_stay_or_rise = (pushed_then_none p q).faults_stay_or_rise;
+}
 
 -- a part is held, and then pieces that are full are sent
 pub pushed_part : {c : Stream} (sink : SinkView) (pending part held : List ℕ) (failed : Bool) → held ≡ pending ++ part → Pushed (record { sink = sink; pending = held; failed = failed }) c [] → Pushed (record { sink = sink; pending = pending; failed = failed }) c part
