@@ -1,13 +1,13 @@
 -- Lines that are given to a sink one after another, and counted.
-use Rattle.std.proofs.Common.{◌≡◌, ℕ, ◌+◌, List, [], ◌∷◌, ◌++◌, refl, sym, ap, ◌∙◌, append-nil, append_assoc, map-id, zero-add}
+use Rattle.std.proofs.Common.{◌≡◌, ◌≢◌, ℕ, ◌+◌, List, [], ◌∷◌, ◌++◌, refl, sym, ap, ◌∙◌, append-nil, append_assoc, map-id, zero-add}
 use Rattle.std.specs.List.{flat_map, range_with_len}
-use Rattle.std.proofs.lemmas.Bool.{eq-eqb}
+use Rattle.std.proofs.lemmas.Bool.{eq-eqb, ne_eqb}
 use Rattle.std.proofs.lemmas.List.{length-append}
 use Rattle.std.proofs.lemmas.List.Concat.{flat_map-append}
 use Rattle.std.proofs.lemmas.List.FromFn.{map-range_with_len_more}
 use Rattle.line_io.specs.Outgoing.{Stream, Pushed}
 use Rattle.line_io.proofs.OutgoingLemmas.{pushed_none, pushed_after}
-use Rattle.command_outputs.specs.ChangesText.{lines_of_dates}
+use Rattle.command_outputs.specs.ChangesText.{change_line, lines_of_dates}
 use Rattle.command_outputs.specs.Written.{IsWritten}
 
 -- one more number, and what is made of it
@@ -47,3 +47,7 @@ written_more a b c f from n j m k at before now =
 -- a date that is the same has no line
 pub no_line : (label : List ℕ) (n old new : ℕ) → old ≡ new → lines_of_dates label n old new ≡ []
 no_line label n old new same = rw (eq-eqb old new same) refl
+
+-- and one that isn't has one
+pub one_line : (label : List ℕ) (n old new : ℕ) → old ≢ new → lines_of_dates label n old new ≡ change_line label n old new ∷ []
+one_line label n old new other = rw (ne_eqb old new other) refl

@@ -1,11 +1,10 @@
 //! What `whatif` writes.
-ghost use Rattle.std.specs.Prelude.{◌≡◌, ◌≤◌, ◌<◌, ◌^◌, IfOk, OnOk, OnErr};
-ghost use Rattle.command_outputs.specs.ChangesText.{change_line, lines_of_dates, lines_of_date, lines_of_station, change_lines, changes_text};
+ghost use Rattle.std.specs.Prelude.{◌≡◌, ◌≤◌, ◌<◌, ◌^◌, IfOk};
+ghost use Rattle.command_outputs.specs.ChangesText.{lines_of_dates, lines_of_date, lines_of_station, change_lines, changes_text};
 ghost use Rattle.command_outputs.specs.Written.{IsWritten};
 ghost use Rattle.event_graph.specs.Network.{stations};
-ghost use Rattle.line_io.specs.Faults.{Rose};
 ghost use Rattle.line_io.specs.Outgoing.{Pushed, stream};
-ghost use Rattle.line_io.specs.SinkView.{PutsAll, PutsFront};
+ghost use Rattle.line_io.specs.SinkView.{WritesText};
 
 use line_base::Date;
 use line_io::{Failed, Outgoing, Sink};
@@ -34,25 +33,8 @@ impl Model for Changes {
     ghost invariant = { λ c. (c.live ≡ c.sheet.live) × (c.out ≡ emptied false) };
 }
 
-/// Writes the line of a job at the station with this label: the date of the table, and the present one.
-fn write_change<K: Sink>(
-    out: &mut Outgoing,
-    sink: &mut K,
-    label: &[u8],
-    job: u32,
-    old: Date,
-    new: Date,
-)
-    ensures { Pushed (stream (K.shown sink.old) out.old)
-        (stream (K.shown sink.new) out.new) (change_line label.now job old new) }
-{
-    out.push(sink, label);
-    out.push(sink, b" ");
-    out.push_number(sink, job as u64);
-    out.push_last_two_numbers(sink, old, new);
-}
-
-/// Writes that line where the dates differ, and answers how many lines that are.
+/// Writes the line of a job at the station with this label, the date of the table and the present one, where these
+/// differ; and answers how many lines that are.
 fn write_date<K: Sink>(
     out: &mut Outgoing,
     sink: &mut K,
@@ -68,7 +50,10 @@ fn write_date<K: Sink>(
     if old == new {
         return 0;
     }
-    write_change(out, sink, label, job, old, new);
+    out.push(sink, label);
+    out.push(sink, b" ");
+    out.push_number(sink, job as u64);
+    out.push_last_two_numbers(sink, old, new);
     1
 }
 
@@ -140,11 +125,7 @@ impl Changes {
     /// Writes the lines to the sink, from the first on, in pieces of 4,096 bytes and a last one that may be shorter. After
     /// `Failed` a front of them was written. It takes no memory.
     pub fn write<K: Sink>(&mut self, sink: &mut K) -> Result<(), Failed>
-        ensures written { OnOk result (PutsAll (K.shown sink.old) (K.shown sink.new) (changes_text self.old)) }
-        ensures front { OnErr result
-            (PutsFront (K.shown sink.old) (K.shown sink.new) (changes_text self.old)) }
-        ensures cause { OnErr result (Rose (K.shown sink.old).faults (K.shown sink.new).faults) }
-        ensures faults_stay_or_rise { (K.shown sink.old).faults ≤ (K.shown sink.new).faults }
+        ensures puts { WritesText (K.shown sink.old) (K.shown sink.new) (changes_text self.old) result }
         ensures same { self.new ≡ self.old }
     {
         write_text(&mut self.out, sink, &self.live, &self.sheet);

@@ -1,9 +1,9 @@
 //! What `cycle` writes.
 ghost use Rattle.std.specs.List.{flat_map, range_with_len};
-ghost use Rattle.std.specs.Prelude.{◌≡◌, ◌<◌, ◌≤◌, ◌++◌, length, All, IfOk, OnOk};
-ghost use Rattle.command_outputs.specs.CycleText.{IsCircuitText, IsCycleText, ratio_line, sums_words, potential_words, potential_line};
+ghost use Rattle.std.specs.Prelude.{◌≡◌, ◌++◌, length, IfOk, OnOk};
+ghost use Rattle.command_outputs.specs.CycleText.{IsCycleText, ratio_line, sums_words, potential_words, potential_line};
 ghost use Rattle.cycle_time.specs.Certificate.{IsSmall};
-ghost use Rattle.event_graph.specs.Network.{stations, arc_count};
+ghost use Rattle.event_graph.specs.Network.{stations};
 
 use crate::circuit::add_circuit_stations;
 use cycle_time::{Certificate, time_of, tokens_of};
@@ -23,7 +23,14 @@ pub fn cycle_text(
 {
     let circuit = certificate.circuit.as_slice();
     let mut text = ratio_line(alloc, certificate.time, certificate.cards)?;
-    add_circuit(alloc, &mut text, graph, circuit)?;
+    text.extend_from_slice(b"circuit")?;
+    add_circuit_stations(alloc, &mut text, graph, circuit)?;
+    add_sums(
+        alloc,
+        &mut text,
+        time_of(graph, circuit),
+        tokens_of(graph, circuit),
+    )?;
     add_potentials(alloc, &mut text, graph, certificate.potentials.as_slice())?;
     Ok(Items::from_vec(text))
 }
@@ -34,23 +41,6 @@ fn ratio_line(alloc: Global, time: u64, cards: u64) -> Result<Vec<u8>, AllocErro
 {
     let line = format!(in alloc; "cycle {time}/{cards}\n")?;
     Ok(line.into_bytes())
-}
-
-/// Adds the line of a circuit: its stations from the one with the least number on, its time and its tokens.
-fn add_circuit(
-    alloc: Global,
-    text: &mut Vec<u8>,
-    graph: &Graph,
-    arcs: &[u32],
-) -> Result<(), AllocError>
-    requires exist { All (λ a. a < arc_count graph.now) arcs.now }
-    requires few { length arcs.now ≤ 512 }
-    ensures { OnOk result (IsCircuitText graph.now arcs.now text.old.items text.new.items) }
-{
-    text.extend_from_slice(b"circuit")?;
-    add_circuit_stations(alloc, text, graph, arcs)?;
-    add_sums(alloc, text, time_of(graph, arcs), tokens_of(graph, arcs))?;
-    Ok(())
 }
 
 /// Adds the time and the tokens of a circuit.
