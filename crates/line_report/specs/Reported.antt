@@ -8,6 +8,7 @@ use Rattle.live_check.specs.Order.{LiveGraph}
 use Rattle.line_core.specs.Run.{Dates, IsLeastTable}
 use Rattle.line_report.specs.ReportText.{report}
 use Rattle.line_report.specs.SummaryText.{summary}
+use Rattle.line_report.specs.declared.run.FinishedRun.{FinishedRun}
 
 -- a plant, and a list of dates for each of its stations
 pub record Reported : Type 0 where
@@ -32,3 +33,13 @@ pub record AreOfPlant (p : Plant) (live : LiveGraph) (table : Dates) : Type 0 wh
   pub sound : IsSound p
   pub live_graph : live.graph ≡ graph p
   pub table_graph : table.graph ≡ graph p
+
+-- the numbers of a finished run are those of its plant, and its graph and its table are of that plant
+pub record IsOfRun (run : FinishedRun) : Type 0 where
+  pub numbers : run.numbers ≡ run.plant
+  pub of_plant : AreOfPlant run.plant run.live run.table
+
+-- a report that is written stays as it was, and its dates are the least solution
+pub record Stays (old new : Reported) : Type 0 where
+  pub same : new ≡ old
+  pub least : IsReported old

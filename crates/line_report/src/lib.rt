@@ -10,4 +10,4 @@ mod summary;
 mod totals;
 
 pub use laws::schedules_agree;
-pub use report::{Report, SinkFault};
+pub use report::Report;

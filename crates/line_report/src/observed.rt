@@ -4,7 +4,7 @@ ghost use Rattle.std.specs.Prelude.{◌≡◌, ◌<◌, length};
 ghost use Rattle.event_graph.specs.Table.{date_in};
 ghost use Rattle.line_io.specs.Outgoing.{Pushed, stream};
 ghost use Rattle.line_report.specs.ReportText.{stage_line, backlog_line, observed_lines};
-ghost use Rattle.line_report.specs.Reported.{AreOfPlant};
+ghost use Rattle.line_report.specs.Reported.{IsOfRun};
 
 use crate::run::FinishedRun;
 use line_base::Date;
@@ -13,8 +13,7 @@ use line_stats::{backlog, in_move, in_process, in_stock};
 
 /// Writes how many parts of a stage there are at a date; those on their way where the way takes time.
 fn write_stage<K: Sink>(out: &mut Outgoing, sink: &mut K, run: &FinishedRun, at: Date, stage: u32)
-    requires numbers { run.now.numbers ≡ run.now.plant }
-    requires of_plant { AreOfPlant run.now.plant run.now.live run.now.table }
+    requires run { IsOfRun run.now }
     requires exists { stage < length run.now.plant.stages }
     ensures { Pushed (stream (K.shown sink.old) out.old)
         (stream (K.shown sink.new) out.new) (stage_line run.now.plant (date_in run.now.table.rows) at stage) }
@@ -43,8 +42,7 @@ fn write_stage<K: Sink>(out: &mut Outgoing, sink: &mut K, run: &FinishedRun, at:
 
 /// Writes how many demands are not delivered at a date.
 fn write_backlog<K: Sink>(out: &mut Outgoing, sink: &mut K, run: &FinishedRun, at: Date)
-    requires numbers { run.now.numbers ≡ run.now.plant }
-    requires of_plant { AreOfPlant run.now.plant run.now.live run.now.table }
+    requires { IsOfRun run.now }
     ensures { Pushed (stream (K.shown sink.old) out.old)
         (stream (K.shown sink.new) out.new) (backlog_line run.now.plant (date_in run.now.table.rows) at) }
 {
@@ -57,8 +55,7 @@ fn write_backlog<K: Sink>(out: &mut Outgoing, sink: &mut K, run: &FinishedRun, a
 
 /// Writes what is in all stages at a date, and the backlog.
 fn write_date_observed<K: Sink>(out: &mut Outgoing, sink: &mut K, run: &FinishedRun, at: Date)
-    requires numbers { run.now.numbers ≡ run.now.plant }
-    requires of_plant { AreOfPlant run.now.plant run.now.live run.now.table }
+    requires { IsOfRun run.now }
     ensures { Pushed (stream (K.shown sink.old) out.old)
         (stream (K.shown sink.new) out.new) (observed_lines run.now.plant (date_in run.now.table.rows) at) }
 {
@@ -70,8 +67,7 @@ fn write_date_observed<K: Sink>(out: &mut Outgoing, sink: &mut K, run: &Finished
 
 /// Writes what is in all stages, and the backlog, at each date that is looked at, in order.
 pub fn write_observed<K: Sink>(out: &mut Outgoing, sink: &mut K, run: &FinishedRun)
-    requires numbers { run.now.numbers ≡ run.now.plant }
-    requires of_plant { AreOfPlant run.now.plant run.now.live run.now.table }
+    requires { IsOfRun run.now }
     ensures { Pushed (stream (K.shown sink.old) out.old)
         (stream (K.shown sink.new) out.new)
         (flat_map (observed_lines run.now.plant (date_in run.now.table.rows)) run.now.plant.observe) }

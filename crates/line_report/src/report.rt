@@ -1,10 +1,9 @@
-ghost use Rattle.std.specs.Prelude.{◌≡◌, ◌≤◌, [], IfOk, OnOk, OnErr, is_err, false};
+ghost use Rattle.std.specs.Prelude.{◌≡◌, IfOk};
 ghost use Rattle.event_graph.specs.Table.{date_in};
-ghost use Rattle.line_io.specs.Faults.{Rose};
-ghost use Rattle.line_io.specs.Outgoing.{Pushed, stream, emptied};
-ghost use Rattle.line_io.specs.SinkView.{PutsAll, PutsFront};
+ghost use Rattle.line_io.specs.Outgoing.{Pushed, stream};
+ghost use Rattle.line_io.specs.SinkView.{WritesText};
 ghost use Rattle.line_report.specs.ReportText.{report};
-ghost use Rattle.line_report.specs.Reported.{IsReported, AreOfPlant, report_of, summary_of};
+ghost use Rattle.line_report.specs.Reported.{IsReported, IsOfRun, Stays, AreOfPlant, report_of, summary_of};
 ghost use Rattle.line_report.specs.SummaryText.{summary};
 
 use crate::dates::write_dates;
@@ -18,18 +17,6 @@ use live_check::Live;
 use plant_model::{LineNumbers, Plant};
 use std::alloc::{AllocError, Global};
 use std::marker::Model;
-use thiserror::Error;
-
-/// The sink failed, and its count of faults rose. A front of the report was written.
-#[derive(Clone, Copy, Debug, PartialEq, Eq, Error)]
-#[error("the sink failed")]
-pub struct SinkFault;
-
-impl From<Failed> for SinkFault {
-    fn from(_: Failed) -> Self {
-        SinkFault
-    }
-}
 
 /// The report of a finished run of a plant, and the memory for writing it. Contracts see the plant and the dates.
 #[derive(Drop)]
@@ -54,8 +41,7 @@ impl Model for Report {
 
 /// Writes the whole text of a report.
 fn write_text<K: Sink>(out: &mut Outgoing, sink: &mut K, run: &FinishedRun)
-    requires numbers { run.now.numbers ≡ run.now.plant }
-    requires of_plant { AreOfPlant run.now.plant run.now.live run.now.table }
+    requires { IsOfRun run.now }
     ensures { Pushed (stream (K.shown sink.old) out.old)
         (stream (K.shown sink.new) out.new) (report run.now.plant (date_in run.now.table.rows)) }
 {
@@ -66,24 +52,13 @@ fn write_text<K: Sink>(out: &mut Outgoing, sink: &mut K, run: &FinishedRun)
 
 /// Writes the whole text of a summary.
 fn write_short_text<K: Sink>(out: &mut Outgoing, sink: &mut K, run: &FinishedRun)
-    requires numbers { run.now.numbers ≡ run.now.plant }
-    requires of_plant { AreOfPlant run.now.plant run.now.live run.now.table }
+    requires { IsOfRun run.now }
     ensures { Pushed (stream (K.shown sink.old) out.old)
         (stream (K.shown sink.new) out.new) (summary run.now.plant (date_in run.now.table.rows)) }
 {
     write_sizes(out, sink, run.live.graph());
     write_sum(out, sink, &run.table);
     write_end(out, sink, run);
-}
-
-/// Sends what is left of a text, and says whether all of it went out.
-fn finish<K: Sink>(out: &mut Outgoing, sink: &mut K) -> Result<(), SinkFault>
-    ensures flushed { Pushed (stream (K.shown sink.old) out.old)
-        (stream (K.shown sink.new) (emptied (is_err result))) [] }
-    ensures as_new { out.new ≡ emptied false }
-{
-    out.finish(sink)?;
-    Ok(())
 }
 
 impl Report {
@@ -111,34 +86,24 @@ impl Report {
 
     /// Writes the report to the sink, from its beginning: a line for each station and job, what stands in each stage at
     /// each date that is looked at, the peak of each stage, how long the jobs wait, and the last date. It goes out in
-    /// pieces of 4,096 bytes and a last one that may be shorter. After `SinkFault` a front of it was written. It takes no
+    /// pieces of 4,096 bytes and a last one that may be shorter. After `Failed` a front of it was written. It takes no
     /// memory.
-    pub fn write<K: Sink>(&mut self, sink: &mut K) -> Result<(), SinkFault>
-        ensures written { OnOk result (PutsAll (K.shown sink.old) (K.shown sink.new) (report_of self.old)) }
-        ensures front { OnErr result
-            (PutsFront (K.shown sink.old) (K.shown sink.new) (report_of self.old)) }
-        ensures cause { OnErr result (Rose (K.shown sink.old).faults (K.shown sink.new).faults) }
-        ensures faults_stay_or_rise { (K.shown sink.old).faults ≤ (K.shown sink.new).faults }
-        ensures same { self.new ≡ self.old }
-        ensures least { IsReported self.old }
+    pub fn write<K: Sink>(&mut self, sink: &mut K) -> Result<(), Failed>
+        ensures puts { WritesText (K.shown sink.old) (K.shown sink.new) (report_of self.old) result }
+        ensures stays { Stays self.old self.new }
     {
         write_text(&mut self.out, sink, &self.run);
-        finish(&mut self.out, sink)
+        self.out.finish(sink)
     }
 
     /// Writes the summary to the sink, from its beginning: how many stations, jobs and firings there are, the sum of all
     /// dates, and then as the report ends, the peak of each stage, how long the jobs wait, and the last date. All else is
     /// as with `write`.
-    pub fn write_summary<K: Sink>(&mut self, sink: &mut K) -> Result<(), SinkFault>
-        ensures written { OnOk result (PutsAll (K.shown sink.old) (K.shown sink.new) (summary_of self.old)) }
-        ensures front { OnErr result
-            (PutsFront (K.shown sink.old) (K.shown sink.new) (summary_of self.old)) }
-        ensures cause { OnErr result (Rose (K.shown sink.old).faults (K.shown sink.new).faults) }
-        ensures faults_stay_or_rise { (K.shown sink.old).faults ≤ (K.shown sink.new).faults }
-        ensures same { self.new ≡ self.old }
-        ensures least { IsReported self.old }
+    pub fn write_summary<K: Sink>(&mut self, sink: &mut K) -> Result<(), Failed>
+        ensures puts { WritesText (K.shown sink.old) (K.shown sink.new) (summary_of self.old) result }
+        ensures stays { Stays self.old self.new }
     {
         write_short_text(&mut self.out, sink, &self.run);
-        finish(&mut self.out, sink)
+        self.out.finish(sink)
     }
 }

@@ -4,7 +4,7 @@ ghost use Rattle.std.specs.Prelude.{◌≡◌, ◌<◌, ◌++◌, length};
 ghost use Rattle.event_graph.specs.Table.{date_in};
 ghost use Rattle.line_io.specs.Outgoing.{Pushed, stream};
 ghost use Rattle.line_report.specs.ReportText.{bound_word, peak_line, waiting_line, last_line, end_lines};
-ghost use Rattle.line_report.specs.Reported.{AreOfPlant};
+ghost use Rattle.line_report.specs.Reported.{IsOfRun};
 ghost use Rattle.plant_model.specs.Graph.{graph};
 ghost use Rattle.plant_model.specs.Line.{stage_numbers};
 
@@ -27,8 +27,7 @@ fn write_bound<K: Sink>(out: &mut Outgoing, sink: &mut K, bound: Option<u32>)
 
 /// Writes the most parts that are ever in a stage, and its bound.
 fn write_peak<K: Sink>(out: &mut Outgoing, sink: &mut K, run: &FinishedRun, stage: u32)
-    requires numbers { run.now.numbers ≡ run.now.plant }
-    requires of_plant { AreOfPlant run.now.plant run.now.live run.now.table }
+    requires run { IsOfRun run.now }
     requires exists { stage < length run.now.plant.stages }
     ensures { Pushed (stream (K.shown sink.old) out.old)
         (stream (K.shown sink.new) out.new) (peak_line run.now.plant (date_in run.now.table.rows) stage) }
@@ -48,8 +47,7 @@ fn write_peak<K: Sink>(out: &mut Outgoing, sink: &mut K, run: &FinishedRun, stag
 
 /// Writes the peaks of all stages, in order.
 fn write_peaks<K: Sink>(out: &mut Outgoing, sink: &mut K, run: &FinishedRun)
-    requires numbers { run.now.numbers ≡ run.now.plant }
-    requires of_plant { AreOfPlant run.now.plant run.now.live run.now.table }
+    requires { IsOfRun run.now }
     ensures { Pushed (stream (K.shown sink.old) out.old)
         (stream (K.shown sink.new) out.new)
         (flat_map (peak_line run.now.plant (date_in run.now.table.rows)) (stage_numbers run.now.plant)) }
@@ -75,8 +73,7 @@ fn write_totals<K: Sink>(out: &mut Outgoing, sink: &mut K, table: &Table)
 
 /// Writes how both texts end: the peaks of all stages, how long all jobs together wait, and the last date.
 pub fn write_end<K: Sink>(out: &mut Outgoing, sink: &mut K, run: &FinishedRun)
-    requires numbers { run.now.numbers ≡ run.now.plant }
-    requires of_plant { AreOfPlant run.now.plant run.now.live run.now.table }
+    requires { IsOfRun run.now }
     ensures { Pushed (stream (K.shown sink.old) out.old)
         (stream (K.shown sink.new) out.new) (end_lines run.now.plant (date_in run.now.table.rows)) }
 {

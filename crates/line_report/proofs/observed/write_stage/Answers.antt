@@ -18,7 +18,7 @@ returns g c =
     let read : stage ≡ stage_at plant c.args.stage =
     stage_read plant c.args.stage c.as_slice.result.now stage c.as_slice.ensures c.requires.exists c.index-as_slice-stage.is
     in
-    let process = rw (c.in_process.ensures.count, c.requires.numbers) at c.push_number-2.ensures in
+    let process = rw (c.in_process.ensures.count, c.requires.run.numbers) at c.push_number-2.ensures in
     let stock = rw c.in_stock.ensures.count at c.push_number-3.ensures in
     let moving = in_move plant x c.args.stage c.args.at in
     let way : Pushed (stream (g.K.Sink.shown c.push_number-2.new.sink) c.push_number-2.new.self) (stream (g.K.Sink.shown c.if-part-gt0.sink) c.if-part-gt0.out) (move_words stage.travel moving) =
@@ -44,7 +44,7 @@ returns g c =
     (pushed_after stock c.push-6.ensures)))))))))
 
 pub in_process-requires-clause-sound : goal.in_process-requires-clause-sound
-in_process-requires-clause-sound g c = subst IsSound (sym c.requires.numbers) c.requires.of_plant.sound
+in_process-requires-clause-sound g c = subst IsSound (sym c.requires.run.numbers) c.requires.run.of_plant.sound
 
 pub in_process-requires-clause-of_plant : goal.in_process-requires-clause-of_plant
-in_process-requires-clause-of_plant g c = c.requires.of_plant.table_graph ∙ ap graph (sym c.requires.numbers)
+in_process-requires-clause-of_plant g c = c.requires.run.of_plant.table_graph ∙ ap graph (sym c.requires.run.numbers)

@@ -1,8 +1,9 @@
-use Rattle.std.proofs.Common.{ap}
-use Rattle.line_io.proofs.OutgoingLemmas.{front_on_err}
+use Rattle.line_report.proofs.Lines.{text_written}
 use Rattle.line_report.proofs.report.Report.write.Goals as goal
 
-pub returns-clause-front : goal.returns-clause-front
-returns-clause-front g c =
-    let empty = c.self.invariant.2 in
-    rw (← c.self.view_is) (front_on_err (g.K.Sink.shown c.finish.new.sink) c.finish.result (ap (λ o. o.bytes) empty) (ap (λ o. o.failed) empty) c.write_text.ensures c.finish.ensures.flushed)
+pub write_text-requires : goal.write_text-requires
+write_text-requires g c = record { numbers = c.self.invariant.3; of_plant = c.self.invariant.0 }
+
+pub returns-clause-puts : goal.returns-clause-puts
+returns-clause-puts g c =
+    rw (← c.self.view_is) (text_written (g.K.Sink.shown c.finish.new.sink) c.finish.result c.self.invariant.2 c.write_text.ensures c.finish.ensures.flushed)
