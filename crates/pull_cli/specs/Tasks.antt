@@ -8,24 +8,17 @@ use Rattle.pull_steps.specs.Deeds.{DiskOver, Does}
 use Rattle.pull_steps.specs.Outside.{StoreOver}
 use Rattle.pull_steps.specs.Steps.{Step, LooksAt, Makes, Settles, Then}
 use Rattle.pull_deeds.specs.declared.output.Output.{Output}
+use Rattle.pull_cli.specs.Headline.{run_of}
 use Rattle.pull_cli.specs.Verdict.{Task, alone, of_plant, of_file, deed}
 
--- the plant file of a command, if it has one
+-- the plant file of a command, if it has one: of one that runs a plant by workers, or that asks about it
 abbrev pub plant_of : Command → Option (List ℕ)
-plant_of command.Help = None
-plant_of command.Version = None
-plant_of (command.Big seed workers) = None
-plant_of (command.Run plant workers stop) = Some plant
-plant_of (command.RunSlots plant every workers) = Some plant
-plant_of (command.RunRoom plant room workers) = Some plant
-plant_of (command.RunStand plant workers) = Some plant
-plant_of (command.Resume plant saved workers) = Some plant
-plant_of (command.ResumeSlots plant workers) = Some plant
 plant_of (command.Check plant) = Some plant
 plant_of (command.Replay plant schedule) = Some plant
 plant_of (command.Cycle plant) = Some plant
 plant_of (command.Cards plant wait) = Some plant
 plant_of (command.WhatIf plant edits) = Some plant
+plant_of other = run_of other
 
 -- the further file that a command reads, if it reads one
 abbrev pub file_of : Command → Option (List ℕ)
