@@ -1,9 +1,9 @@
 //! What each command comes to: the live plant is read, and then the further file, and what is asked is done with them.
 ghost use Rattle.std.specs.Prelude.{◌≡◌, ◌⊎◌, ◌≤◌, length, option_map, None, Err};
-ghost use Rattle.command_words.specs.Ranges.{IsInRange};
+ghost use Rattle.command_words.specs.Ranges.{AreWorkers, IsInRange};
 ghost use Rattle.command_words.specs.Words.{IsStill};
 ghost use Rattle.command_words.specs.declared.command.Command.TheVariants as command;
-ghost use Rattle.line_base.specs.Limits.{most_checkpoint_bytes, most_workers};
+ghost use Rattle.line_base.specs.Limits.{most_checkpoint_bytes};
 ghost use Rattle.pull_cli.specs.Tasks.{plant_of, file_of, IsAnswered, SaysAlone, SaysOfPlant, SaysOfFile, StepOf, DoesWith};
 ghost use Rattle.pull_cli.specs.Verdict.{task_of, OfCommand, CommandDoes};
 ghost use Rattle.pull_steps.specs.Deeds.{disk_over, DoesOnStore};
@@ -64,8 +64,7 @@ pub fn stand_plant<R: Threads + Wait + Sync, S: Store, G: Gate>(
     workers: u32,
     gate: &G,
 ) -> Result<Output, Reply>
-    requires some { 1 ≤ workers }
-    requires few { workers ≤ most_workers }
+    requires workers { AreWorkers workers }
     ensures { DoesOnStore (store_over S.tells (S.shown store.old) (S.shown store.new))
         (OfCommand S.tells (S.shown store.old).files (command.RunStand plant.now workers)) result }
 {

@@ -1,3 +1,4 @@
 pub mod Answers
+pub mod Crew
 pub mod Output
 pub mod Saving

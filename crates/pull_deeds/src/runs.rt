@@ -1,10 +1,10 @@
 //! Runs of a live plant by a line of workers.
 ghost use Rattle.std.specs.Prelude.{◌≡◌, ◌⊎◌, ◌≤◌, length, Err, IfErr, IfOk, IsErrOf};
 ghost use Rattle.big_plant.specs.Big.{big_plant};
-ghost use Rattle.command_words.specs.Numbers.{most_ring_room};
+ghost use Rattle.command_words.specs.Ranges.{AreWorkers, IsRingRoom};
 ghost use Rattle.event_graph.specs.Least.{IsLeast};
 ghost use Rattle.event_graph.specs.Table.{date_in};
-ghost use Rattle.line_base.specs.Limits.{most_checkpoint_bytes, most_workers};
+ghost use Rattle.line_base.specs.Limits.{most_checkpoint_bytes};
 ghost use Rattle.line_core.specs.Consistent.{fired};
 ghost use Rattle.line_runs.specs.Headline.{EndsWell};
 ghost use Rattle.line_runs.specs.Stop.{CountsWell};
@@ -12,6 +12,7 @@ ghost use Rattle.line_runs.specs.Store.{text_of};
 ghost use Rattle.line_runs.specs.Table.{ComesToLeast};
 ghost use Rattle.plant_model.specs.Graph.{graph};
 ghost use Rattle.pull_deeds.specs.Answers.{IsReport, IsResumed, IsSummary};
+ghost use Rattle.pull_deeds.specs.Crew.{IsCrewed};
 ghost use Rattle.pull_deeds.specs.Saving.{ComesOfWrite, RunsUntil, SavesText};
 ghost use Rattle.pull_steps.specs.Deeds.{DoesOnStore};
 ghost use Rattle.pull_steps.specs.LivePlant.{IsLivePlant};
@@ -83,9 +84,7 @@ pub fn run<R: Threads + Sync, G: Gate>(
     workers: u32,
     gate: &G,
 ) -> Result<Output, Reply>
-    requires plant { IsLivePlant line }
-    requires some { 1 ≤ workers }
-    requires few { workers ≤ most_workers }
+    requires crewed { IsCrewed line workers }
     ensures { IsReport line.plant result ⊎ (result ≡ Err Reply.NoMemory) }
 {
     let table = table_of(rt, alloc, &line.live, workers, gate);
@@ -100,8 +99,7 @@ fn table_of<R: Threads + Sync, G: Gate>(
     workers: u32,
     gate: &G,
 ) -> Result<Table, AllocError>
-    requires some { 1 ≤ workers }
-    requires few { workers ≤ most_workers }
+    requires workers { AreWorkers workers }
     ensures { IfOk result (ComesToLeast live.now.graph) }
 {
     let work = Line::prepare(alloc, live, workers)?;
@@ -118,11 +116,8 @@ pub fn run_with_room<R: Threads + Sync, G: Gate>(
     room: u32,
     gate: &G,
 ) -> Result<Output, Reply>
-    requires plant { IsLivePlant line }
-    requires some { 1 ≤ workers }
-    requires few { workers ≤ most_workers }
-    requires some_room { 1 ≤ room }
-    requires little_room { room ≤ most_ring_room }
+    requires crewed { IsCrewed line workers }
+    requires room { IsRingRoom room }
     ensures { IsReport line.plant result ⊎ (result ≡ Err Reply.NoMemory) }
 {
     let table = table_with_room(rt, alloc, &line.live, workers, room, gate);
@@ -138,10 +133,8 @@ fn table_with_room<R: Threads + Sync, G: Gate>(
     room: u32,
     gate: &G,
 ) -> Result<Table, AllocError>
-    requires some { 1 ≤ workers }
-    requires few { workers ≤ most_workers }
-    requires some_room { 1 ≤ room }
-    requires little_room { room ≤ most_ring_room }
+    requires workers { AreWorkers workers }
+    requires room { IsRingRoom room }
     ensures { IfOk result (ComesToLeast live.now.graph) }
 {
     let work = Line::prepare_room(alloc, live, workers, room)?;
@@ -157,9 +150,7 @@ pub fn run_standing<R: Threads + Wait + Sync, G: Gate>(
     workers: u32,
     gate: &G,
 ) -> Result<Output, Reply>
-    requires plant { IsLivePlant line }
-    requires some { 1 ≤ workers }
-    requires few { workers ≤ most_workers }
+    requires crewed { IsCrewed line workers }
     ensures { IsReport line.plant result ⊎ (result ≡ Err Reply.NoMemory) }
 {
     let table = standing_table_of(rt, alloc, &line.live, workers, gate);
@@ -174,8 +165,7 @@ fn standing_table_of<R: Threads + Wait + Sync, G: Gate>(
     workers: u32,
     gate: &G,
 ) -> Result<Table, AllocError>
-    requires some { 1 ≤ workers }
-    requires few { workers ≤ most_workers }
+    requires workers { AreWorkers workers }
     ensures { IfOk result (ComesToLeast live.now.graph) }
 {
     let work = Line::prepare(alloc, live, workers)?;
@@ -193,9 +183,7 @@ pub fn run_until<R: Threads + Sync, G: Gate, S: Store>(
     gate: &G,
     store: &mut S,
 ) -> Result<Output, Reply>
-    requires plant { IsLivePlant line }
-    requires some { 1 ≤ workers }
-    requires few { workers ≤ most_workers }
+    requires crewed { IsCrewed line workers }
     ensures { DoesOnStore (store_over S.tells (S.shown store.old) (S.shown store.new))
         (RunsUntil line.plant stop.after stop.save) result }
 {
@@ -217,8 +205,7 @@ fn outcome_of<R: Threads + Sync, G: Gate>(
     firings: u64,
     gate: &G,
 ) -> Result<Outcome, AllocError>
-    requires some { 1 ≤ workers }
-    requires few { workers ≤ most_workers }
+    requires workers { AreWorkers workers }
     ensures well { IfOk result (EndsWell live.now.graph) }
     ensures count { IfOk result (CountsWell live.now.graph firings 0) }
 {
@@ -282,9 +269,7 @@ pub fn resume<R: Threads + Sync, G: Gate>(
     workers: u32,
     gate: &G,
 ) -> Result<Output, Reply>
-    requires plant { IsLivePlant line }
-    requires some { 1 ≤ workers }
-    requires few { workers ≤ most_workers }
+    requires crewed { IsCrewed line workers }
     requires short { length bytes.now ≤ most_checkpoint_bytes }
     ensures { IsResumed line.plant bytes.now result ⊎ (result ≡ Err Reply.NoMemory) }
 {
@@ -306,8 +291,7 @@ pub fn big<R: Threads + Sync, G: Gate>(
     workers: u32,
     gate: &G,
 ) -> Result<Output, Reply>
-    requires some { 1 ≤ workers }
-    requires few { workers ≤ most_workers }
+    requires workers { AreWorkers workers }
     ensures { IsSummary seed result ⊎ (result ≡ Err Reply.NoMemory) }
 {
     let line = big_line(alloc, seed)?;

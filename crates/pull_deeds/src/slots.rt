@@ -1,7 +1,7 @@
 //! Runs of a live plant with the two slots of a disk.
 ghost use Rattle.std.specs.Prelude.{◌≡◌, ℕ, ◌≤◌};
 ghost use Rattle.event_graph.specs.State.{start};
-ghost use Rattle.line_base.specs.Limits.{most_workers};
+ghost use Rattle.pull_deeds.specs.Crew.{IsCrewed};
 ghost use Rattle.pull_deeds.specs.Saving.{NamesStationOf, IsResumeReply};
 ghost use Rattle.pull_deeds.specs.Saving.{RunsWithSlots, ResumesSlots, ComesOfSave};
 ghost use Rattle.pull_steps.specs.Deeds.{disk_over, DoesOnDisk};
@@ -31,9 +31,7 @@ pub fn run_with_slots<R: Threads + Sync, G: Gate, D: Disk>(
     gate: &G,
     disk: &mut D,
 ) -> Result<Output, Reply>
-    requires plant { IsLivePlant line }
-    requires some { 1 ≤ workers }
-    requires few { workers ≤ most_workers }
+    requires crewed { IsCrewed line workers }
     requires every { 1 ≤ every }
     ensures { DoesOnDisk (disk_over D.tells (D.shown disk.old) (D.shown disk.new))
         (RunsWithSlots line.plant every) result }
@@ -95,9 +93,7 @@ pub fn resume_slots<R: Threads + Sync, G: Gate, D: Disk>(
     gate: &G,
     disk: &mut D,
 ) -> Result<Output, Reply>
-    requires plant { IsLivePlant line }
-    requires some { 1 ≤ workers }
-    requires few { workers ≤ most_workers }
+    requires crewed { IsCrewed line workers }
     ensures { DoesOnDisk (disk_over D.tells (D.shown disk.old) (D.shown disk.new))
         (ResumesSlots line.plant) result }
 {
