@@ -1,4 +1,5 @@
 pub mod Causes
+pub mod Ended
 pub mod Ending
 pub mod FileLemmas
 pub mod HeadlineLemmas

@@ -46,7 +46,7 @@ does_also store disk deed other answer also does = record {
 }
 
 -- a deed that asks nothing of the store
-does_nothing : {A : Type 0} (tells : Bool) (view : StoreView) (disk : DiskOver) (deed : Deed A) (answer : Result A Reply) → disk.old.faults ≤ disk.new.faults → IfErr answer (HasCause (store_over tells view view) disk []) → deed none_asked disk answer → Does (store_over tells view view) disk deed answer
+pub does_nothing : {A : Type 0} (tells : Bool) (view : StoreView) (disk : DiskOver) (deed : Deed A) (answer : Result A Reply) → disk.old.faults ≤ disk.new.faults → IfErr answer (HasCause (store_over tells view view) disk []) → deed none_asked disk answer → Does (store_over tells view view) disk deed answer
 does_nothing tells view disk deed answer rise caused comes = record {
   asks = none_asked;
   asked = asked_nothing view.asked;
@@ -60,7 +60,7 @@ does_nothing tells view disk deed answer rise caused comes = record {
 }
 
 -- the count of faults of a disk that stays
-stays_low : (disk : DiskOver) → disk.new ≡ disk.old → disk.old.faults ≤ disk.new.faults
+pub stays_low : (disk : DiskOver) → disk.new ≡ disk.old → disk.old.faults ≤ disk.new.faults
 stays_low disk same = subst (λ view. disk.old.faults ≤ view.faults) (sym same) (omega arith)
 
 -- nothing is asked of a store
