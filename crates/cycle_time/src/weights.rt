@@ -32,29 +32,19 @@ impl Model for Weights {
     ghost view = { λ w. record { weighing = w.weighing; gained = w.gains.items; lost = w.losses.items } };
 }
 
-/// What arc `a` adds to a walk.
-#[tactic(auto, unfolding(crate::specs::Search::gain))]
-fn gain_of(graph: &Graph, weighing: Weighing, a: u32) -> u64
+/// What arc `a` adds to a walk, and what it takes away.
+#[tactic(auto, unfolding(crate::specs::Search::gain, crate::specs::Search::loss))]
+fn weights_of(graph: &Graph, weighing: Weighing, a: u32) -> (u64, u64)
     requires exists { a < arc_count graph.now }
     requires modest { IsModest weighing }
-    ensures gain { result ≡ gain graph.now weighing a }
+    ensures gain { result.0 ≡ gain graph.now weighing a }
+    ensures loss { result.1 ≡ loss graph.now weighing a }
 {
     match weighing {
-        Weighing::PerArc => 1,
-        Weighing::AtRatio { cards, .. } => cards * time_on(graph, a),
-    }
-}
-
-/// What arc `a` takes away from a walk.
-#[tactic(auto, unfolding(crate::specs::Search::loss))]
-fn loss_of(graph: &Graph, weighing: Weighing, a: u32) -> u64
-    requires exists { a < arc_count graph.now }
-    requires modest { IsModest weighing }
-    ensures loss { result ≡ loss graph.now weighing a }
-{
-    match weighing {
-        Weighing::PerArc => 0,
-        Weighing::AtRatio { time, .. } => time * u64::from(graph.tokens(a)),
+        Weighing::PerArc => (1, 0),
+        Weighing::AtRatio { time, cards } => {
+            (cards * time_on(graph, a), time * u64::from(graph.tokens(a)))
+        }
     }
 }
 
@@ -69,8 +59,9 @@ impl Weights {
         let mut gains = Vec::with_capacity(alloc, arcs)?;
         let mut losses = Vec::with_capacity(alloc, arcs)?;
         for a in 0..arcs as u32 {
-            gains.push_reserved(gain_of(graph, weighing, a));
-            losses.push_reserved(loss_of(graph, weighing, a));
+            let (gain, loss) = weights_of(graph, weighing, a);
+            gains.push_reserved(gain);
+            losses.push_reserved(loss);
         }
         Ok(Weights {
             weighing,
