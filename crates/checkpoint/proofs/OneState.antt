@@ -123,8 +123,8 @@ module _ (g : Parts) (bytes : List ℕ) (limits : IsWithinLimits g) (short : len
 
   not_refused : (refusal : StateError) → ¬ IsRefused g bytes refusal
   not_refused refusal refused =
-      let given = All-append (All IsGiven) refused.parts.logs refused.parts.places refused.logs_given refused.places_given in
-      let same = same_state refused.parts (record { a_log_each = refused.a_log_each; a_place_each = refused.a_place_each; given = given }) refused.text in
+      let given = All-append (All IsGiven) refused.parts.logs refused.parts.places refused.said.logs_given refused.said.places_given in
+      let same = same_state refused.parts (record { a_log_each = refused.said.a_log_each; a_place_each = refused.said.a_place_each; given = given }) refused.said.text in
       let c = reached_is_consistent g s reached in
       let nothing = ap first (nothing_wrong g s.logs s.places c.a_log_each c.a_place_each c) in
       let something = ap (λ (u : State). state_refusal g u.logs u.places) (sym same) ∙ refused.refusal_is in

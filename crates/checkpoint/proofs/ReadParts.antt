@@ -130,51 +130,43 @@ unlike_places-wrong g logs places =
     each_below-same (arc_count g) (λ a. unlike_tokens a (list_at places a) (tokens_left g logs a)) (wrong_tokens_on g logs places) (λ a there. unlike-wrong g logs places a)
 
 module _ (g : Parts) (bytes : List ℕ) (logs : RoomyLogs) (long : Option StateError) (marking : List ℕ) (wrong : Option StateError) (read : IsReadOf g bytes logs long marking wrong) where
-  refused_as : (refusal : StateError) → state_refusal g read.said.logs read.said.places ≡ Some refusal → IsRefused g bytes refusal
-  refused_as refusal is = record {
-    parts = read.said;
-    a_log_each = read.a_log_each;
-    a_place_each = read.a_place_each;
-    logs_given = read.logs_given;
-    places_given = read.places_given;
-    text = read.text;
-    refusal_is = is;
-  }
+  refused_as : (refusal : StateError) → state_refusal g read.parts.logs read.parts.places ≡ Some refusal → IsRefused g bytes refusal
+  refused_as refusal is = record { parts = read.parts; said = read.said; refusal_is = is }
 
   pub long_refused : (refusal : StateError) → long ≡ Some refusal → IsRefused g bytes refusal
   unfolding state_refusals
   long_refused refusal is =
-      refused_as refusal (first-front (long_logs g read.said.logs) _ refusal (sym read.long_is ∙ is))
+      refused_as refusal (first-front (long_logs g read.parts.logs) _ refusal (sym read.long_is ∙ is))
 
   module _ (none_long : long ≡ None) where
-    same_logs : dates_of logs ≡ read.said.logs
+    same_logs : dates_of logs ≡ read.parts.logs
     same_logs =
-        let none = first-none (long_logs g read.said.logs) (sym read.long_is ∙ none_long) in
-        let short = All-from_get_or (λ (l : List ℕ). length l ≤ jobs g) read.said.logs [] (λ t low. few_from g read.said.logs none t (omega (arith, low, read.a_log_each))) in
-        read.logs_are ∙ all_taken (jobs g) read.said.logs short
+        let none = first-none (long_logs g read.parts.logs) (sym read.long_is ∙ none_long) in
+        let short = All-from_get_or (λ (l : List ℕ). length l ≤ jobs g) read.parts.logs [] (λ t low. few_from g read.parts.logs none t (omega (arith, low, read.said.a_log_each))) in
+        read.logs_are ∙ all_taken (jobs g) read.parts.logs short
 
     pub marked_refused : (refusal : StateError) → RefusesMarked g (dates_of logs) marking refusal → IsRefused g bytes refusal
     marked_refused refusal refuses =
-        refused_as refusal (ap (λ l. state_refusal g l read.said.places) (sym same_logs) ∙ refuses read.said.places read.counts)
+        refused_as refusal (ap (λ l. state_refusal g l read.parts.places) (sym same_logs) ∙ refuses read.parts.places read.counts)
 
-    same_wrong : wrong ≡ first (wrong_tokens g read.said.logs read.said.places)
+    same_wrong : wrong ≡ first (wrong_tokens g read.parts.logs read.parts.places)
     same_wrong =
         read.wrong_is
-        ∙ ap (λ l. first (unlike_places g l (arc_count g) read.said.places)) same_logs
-        ∙ ap first (unlike_places-wrong g read.said.logs read.said.places)
+        ∙ ap (λ l. first (unlike_places g l (arc_count g) read.parts.places)) same_logs
+        ∙ ap first (unlike_places-wrong g read.parts.logs read.parts.places)
 
     module _ (alone : RefusesTokensAlone g (dates_of logs) marking) where
-      all_wrong : state_refusals g read.said.logs read.said.places ≡ wrong_tokens g read.said.logs read.said.places
+      all_wrong : state_refusals g read.parts.logs read.parts.places ≡ wrong_tokens g read.parts.logs read.parts.places
       all_wrong =
-          ap (λ l. state_refusals g l read.said.places) (sym same_logs)
-          ∙ alone read.said.places read.counts
-          ∙ ap (λ l. wrong_tokens g l read.said.places) same_logs
+          ap (λ l. state_refusals g l read.parts.places) (sym same_logs)
+          ∙ alone read.parts.places read.counts
+          ∙ ap (λ l. wrong_tokens g l read.parts.places) same_logs
 
       pub token_refused : (refusal : StateError) → wrong ≡ Some refusal → IsRefused g bytes refusal
       token_refused refusal is = refused_as refusal (ap first all_wrong ∙ sym same_wrong ∙ is)
 
-      pub state_said : wrong ≡ None → state_of g (dates_of logs) ≡ read.said
+      pub state_said : wrong ≡ None → state_of g (dates_of logs) ≡ read.parts
       state_said is =
-          let none = all_wrong ∙ first-none (wrong_tokens g read.said.logs read.said.places) (sym same_wrong ∙ is) in
-          let consistent = given_is_consistent g read.said.logs read.said.places read.a_log_each read.a_place_each none in
-          ap (state_of g) same_logs ∙ sym (state_of-logs g read.said consistent)
+          let none = all_wrong ∙ first-none (wrong_tokens g read.parts.logs read.parts.places) (sym same_wrong ∙ is) in
+          let consistent = given_is_consistent g read.parts.logs read.parts.places read.said.a_log_each read.said.a_place_each none in
+          ap (state_of g) same_logs ∙ sym (state_of-logs g read.parts consistent)

@@ -23,30 +23,30 @@ abbrev pub stopped_at : Stop → ℕ → CheckpointError
 stopped_at Form number = Line number
 stopped_at Memory number = NoMemory
 
--- every line is of the form, and this is the first thing that is wrong with the logs and places that they say
-pub record IsRefused (g : Parts) (bytes : List ℕ) (refusal : StateError) : Type 0 where
-  pub parts : State
+-- every line of a text is of the form, and these are the logs and places that they say
+pub record Says (g : Parts) (bytes : List ℕ) (parts : State) : Type 0 where
+  pub text : IsTextOf g parts bytes
   pub a_log_each : length parts.logs ≡ stations g
   pub a_place_each : length parts.places ≡ arc_count g
   pub logs_given : AreGiven parts.logs
   pub places_given : AreGiven parts.places
-  pub text : IsTextOf g parts bytes
+
+-- and this is the first thing that is wrong with them
+pub record IsRefused (g : Parts) (bytes : List ℕ) (refusal : StateError) : Type 0 where
+  pub parts : State
+  pub said : Says g bytes parts
   pub refusal_is : state_refusal g parts.logs parts.places ≡ Some refusal
 
 -- what is kept of a text of logs and places: the logs, each up to its first dates, one a job; the first log that is too
 -- long; how many tokens each place has; the first token that is unlike what these logs leave
 pub record IsReadOf (g : Parts) (bytes : List ℕ) (logs : RoomyLogs) (long : Option StateError)
     (marking : List ℕ) (wrong : Option StateError) : Type 0 where
-  pub said : State
-  pub text : IsTextOf g said bytes
-  pub a_log_each : length said.logs ≡ stations g
-  pub a_place_each : length said.places ≡ arc_count g
-  pub logs_given : AreGiven said.logs
-  pub places_given : AreGiven said.places
-  pub logs_are : dates_of logs ≡ map (take (jobs g)) said.logs
-  pub long_is : long ≡ first (long_logs g said.logs)
-  pub counts : HaveCounts said.places marking
-  pub wrong_is : wrong ≡ first (unlike_places g (dates_of logs) (arc_count g) said.places)
+  pub parts : State
+  pub said : Says g bytes parts
+  pub logs_are : dates_of logs ≡ map (take (jobs g)) parts.logs
+  pub long_is : long ≡ first (long_logs g parts.logs)
+  pub counts : HaveCounts parts.places marking
+  pub wrong_is : wrong ≡ first (unlike_places g (dates_of logs) (arc_count g) parts.places)
 
 -- when each error comes; want of memory is free
 abbrev pub Tells : Parts → List ℕ → CheckpointError → Type 0

@@ -30,16 +30,18 @@ returns-clause-read c =
     let p = c.in_ok-places.ensures.read in
     let has = p.read h.lists h.read in
     record {
-      said = record { logs = h.lists; places = p.places };
-      text = record {
-        format = c.in_ok-format.format;
-        read = c.in_ok-format.ensures.readable;
-        is = sym (c.in_ok-places.ensures.text ∙ c.in_ok-stations.ensures.text ∙ c.in_ok-format.ensures.text) ∙ c.in_ok-read_end.ensures.read (h.lists ++ p.places) has;
+      parts = record { logs = h.lists; places = p.places };
+      said = record {
+        text = record {
+          format = c.in_ok-format.format;
+          read = c.in_ok-format.ensures.readable;
+          is = sym (c.in_ok-places.ensures.text ∙ c.in_ok-stations.ensures.text ∙ c.in_ok-format.ensures.text) ∙ c.in_ok-read_end.ensures.read (h.lists ++ p.places) has;
+        };
+        a_log_each = h.a_log_each;
+        a_place_each = p.a_place_each;
+        logs_given = given_left h.lists p.places has.given;
+        places_given = given_right h.lists p.places has.given;
       };
-      a_log_each = h.a_log_each;
-      a_place_each = p.a_place_each;
-      logs_given = given_left h.lists p.places has.given;
-      places_given = given_right h.lists p.places has.given;
       logs_are = h.logs_are;
       long_is = h.long_is;
       counts = p.counts;

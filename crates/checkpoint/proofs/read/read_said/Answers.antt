@@ -42,4 +42,4 @@ returns-clause-text c =
     let g = c.args.live.now.graph in
     let read = read_here (goal.at.returns-clause-text c).In_ok-stations in
     let said = ap (λ (r : Run). r.state) c.in_ok-state.ensures.state ∙ state_said g c.args.bytes.now _ _ _ _ read c.in_ok-none_noted.ensures.none c.in_ok-state.ensures.tokens c.in_ok-none_noted-2.ensures.none in
-    subst (λ (u : State). IsTextOf g u c.args.bytes.now) (sym said) read.text
+    subst (λ (u : State). IsTextOf g u c.args.bytes.now) (sym said) read.said.text
