@@ -12,6 +12,10 @@ pub length-bits : (words : List ℕ) → length (bits_of words) ≡ 64 * length 
 unfolding bits_of
 length-bits words = length-map-range_with_len (bit_in words) 0 (64 * length words)
 
+-- a number of a list of marks has its bit in the words
+pub in_words : (words : List ℕ) (marks : List Bool) (k : ℕ) → bits_of words ≡ marks → k < length marks → k < 64 * length words
+in_words words marks k is low = omega (arith, ap length is, length-bits words)
+
 pub is_at-bits : (words : List ℕ) (k : ℕ) → k < 64 * length words → is_at (bits_of words) k ≡ bit_in words k
 unfolding bits_of
 is_at-bits words k low = get_or-map-range_with_len (bit_in words) 0 (64 * length words) k k false low (zero-add k)

@@ -58,6 +58,10 @@ pub record Writes (g : Parts) (text : List ℕ) (edit : Edit) : Type 0 where
   pub valid : IsEdit g edit
   pub text_is : text ≡ text_of g edit
 
+-- the edit that the text is of, if it is of one, was found
+abbrev pub FindsEdit : Parts → List ℕ → Option Edit → Type 0
+FindsEdit g text found = (edit : Edit) → Writes g text edit → found ≡ Some edit
+
 -- what an edit leaves, and where it may be followed: demand dates stay in order
 abbrev pub inputs_after : Inputs → Edit → Inputs
 inputs_after inputs (Time t n time) = with_time inputs t n time

@@ -1,6 +1,4 @@
 ghost use Rattle.std.specs.Bool.{OnTrue, OnFalse};
-ghost use Rattle.std.specs.List.{position_or_len};
-ghost use Rattle.std.specs.Prelude.{◌==◌};
 ghost use Rattle.std.specs.Prelude.{◌≡◌, ◌+◌, ◌≤◌, ◌↔◌, IsTrue, Ok, Err, IfErr, OnOk, length};
 ghost use Rattle.std.specs.Str.Lines.{strip_carriage_return};
 ghost use Rattle.event_graph.specs.Network.{jobs};
@@ -13,7 +11,7 @@ ghost use Rattle.what_if.specs.Settled.{KeepsDates};
 use crate::edit::Edit;
 use crate::reader::read_edit;
 use crate::sheet::Sheet;
-use crate::words::{behind, front};
+use crate::words::{behind, end_before, front};
 use live_check::Live;
 use thiserror::Error;
 
@@ -23,18 +21,6 @@ use thiserror::Error;
 pub struct RefusedLine {
     /// Which line.
     pub line: u64,
-}
-
-/// Where the first line feed of a text stands, or else the length of the text.
-fn line_end(text: &[u8]) -> usize
-    ensures { result ≡ position_or_len (λ byte. byte == 10) text.now }
-{
-    for (at, byte) in text.iter().enumerate() {
-        if *byte == b'\n' {
-            return at;
-        }
-    }
-    text.len()
 }
 
 /// A line without the carriage return that may stand at its end.
@@ -119,7 +105,7 @@ pub fn follow_edits(sheet: &mut Sheet, live: &Live, edits: &[u8]) -> Result<(), 
     let mut rest = edits;
     let mut line = 1;
     loop {
-        let end = line_end(rest);
+        let end = end_before(rest, b'\n');
         let text = without_return(front(rest, end));
         if !follow_line(sheet, live, text) {
             return Err(RefusedLine { line });

@@ -1,13 +1,11 @@
 ghost use Rattle.std.specs.Prelude.{◌≡◌, ◌<◌, ◌≤◌, ℕ, decimal, codes, Some, IfSome};
-ghost use Rattle.event_graph.specs.Network.{label};
-ghost use Rattle.event_graph.specs.Network.{stations};
-ghost use Rattle.what_if.specs.Edits.{is_machine, machine_with, spaced, Writes};
-ghost use Rattle.what_if.specs.declared.edit.Edit.{Edit};
+ghost use Rattle.event_graph.specs.Network.{jobs, label, stations};
+ghost use Rattle.what_if.specs.Edits.{is_machine, machine_with, spaced, Writes, FindsEdit};
 
 use crate::edit::Edit;
 use crate::words::split_word;
 use event_graph::Graph;
-use line_base::{MAX_DEMAND_DATE, MAX_TIME, number_of};
+use line_base::{MAX_DEMAND_DATE, MAX_DEMANDS, MAX_TIME, number_of};
 
 /// Whether a worked arc enters station `t`.
 fn is_machine(graph: &Graph, t: u32) -> bool
@@ -38,28 +36,27 @@ fn machine_with(graph: &Graph, text: &[u8]) -> Option<u32>
     None
 }
 
-/// The number of a job, of so many.
-fn read_job(text: &[u8], jobs: u32) -> Option<u32>
+/// The number of a job of the graph.
+fn read_job(graph: &Graph, text: &[u8]) -> Option<u32>
+    ensures few { jobs graph.now ≤ MAX_DEMANDS }
     ensures read { IfSome result (λ n. text.now ≡ decimal n) }
     ensures from_one { IfSome result (λ n. 1 ≤ n) }
-    ensures job { IfSome result (λ n. n ≤ jobs) }
-    ensures told { (n : ℕ) → 1 ≤ n → n ≤ jobs → text.now ≡ decimal n → result ≡ Some n }
+    ensures job { IfSome result (λ n. n ≤ jobs graph.now) }
+    ensures told { (n : ℕ) → 1 ≤ n → n ≤ jobs graph.now → text.now ≡ decimal n → result ≡ Some n }
 {
-    let n = number_of(text, jobs as u64)?;
+    let n = number_of(text, graph.jobs() as u64)?;
     if n == 0 { None } else { Some(n as u32) }
 }
 
 /// The edit that follows the word `time`.
 fn read_time(graph: &Graph, text: &[u8]) -> Option<Edit>
     ensures read { IfSome result (Writes graph.now (spaced (codes "time") text.now)) }
-    ensures told { (edit : Edit) → Writes graph.now (spaced (codes "time") text.now) edit
-        → result ≡ Some edit }
+    ensures told { FindsEdit graph.now (spaced (codes "time") text.now) result }
 {
-    let jobs = graph.jobs();
     let (label, rest) = split_word(text)?;
     let (job, time) = split_word(rest)?;
     let station = machine_with(graph, label)?;
-    let job = read_job(job, jobs)?;
+    let job = read_job(graph, job)?;
     let time = number_of(time, MAX_TIME)?;
     Some(Edit::Time { station, job, time })
 }
@@ -67,12 +64,10 @@ fn read_time(graph: &Graph, text: &[u8]) -> Option<Edit>
 /// The edit that follows the word `demand`.
 fn read_demand(graph: &Graph, text: &[u8]) -> Option<Edit>
     ensures read { IfSome result (Writes graph.now (spaced (codes "demand") text.now)) }
-    ensures told { (edit : Edit) → Writes graph.now (spaced (codes "demand") text.now) edit
-        → result ≡ Some edit }
+    ensures told { FindsEdit graph.now (spaced (codes "demand") text.now) result }
 {
-    let jobs = graph.jobs();
     let (job, date) = split_word(text)?;
-    let job = read_job(job, jobs)?;
+    let job = read_job(graph, job)?;
     let date = number_of(date, MAX_DEMAND_DATE)?;
     Some(Edit::Demand { job, date })
 }
@@ -80,7 +75,7 @@ fn read_demand(graph: &Graph, text: &[u8]) -> Option<Edit>
 /// The edit that a line writes; `None` exactly where it writes none.
 pub fn read_edit(graph: &Graph, line: &[u8]) -> Option<Edit>
     ensures read { IfSome result (Writes graph.now line.now) }
-    ensures told { (edit : Edit) → Writes graph.now line.now edit → result ≡ Some edit }
+    ensures told { FindsEdit graph.now line.now result }
 {
     let (word, rest) = split_word(line)?;
     if word == b"time".as_slice() {

@@ -2,12 +2,12 @@ ghost use Rattle.std.specs.List.{position_or_len};
 ghost use Rattle.std.specs.Prelude.{◌≡◌, ◌==◌, ◌≤◌, length, take, drop, MatchOption};
 ghost use Rattle.what_if.specs.Edits.{IsSplit, HasNoSpace};
 
-/// Where the first space of a text stands, or else the length of the text.
-fn word_end(text: &[u8]) -> usize
-    ensures { result ≡ position_or_len (λ byte. byte == 32) text.now }
+/// How many bytes of a text stand before the first that is this one: all, where none is.
+pub fn end_before(text: &[u8], stop: u8) -> usize
+    ensures { result ≡ position_or_len (λ byte. byte == stop) text.now }
 {
     for (at, byte) in text.iter().enumerate() {
-        if *byte == b' ' {
+        if *byte == stop {
             return at;
         }
     }
@@ -35,7 +35,7 @@ pub fn split_word(text: &[u8]) -> Option<(&[u8], &[u8])>
     ensures { MatchOption result (HasNoSpace text.now)
         (λ parts. IsSplit text.now parts.0.now parts.1.now) }
 {
-    let end = word_end(text);
+    let end = end_before(text, b' ');
     if end == text.len() {
         return None;
     }

@@ -8,46 +8,46 @@ use Rattle.what_if.proofs.Lines.{line-within, lines-more, comes-more, comes-last
 use Rattle.what_if.proofs.edits.follow_edits.Goals as goal
 
 pub front-requires : goal.front-requires
-front-requires c = omega (arith, c.line_end-end.ensures, line-within c.loop-rest.rest.now)
+front-requires c = omega (arith, c.end_before-end.ensures, line-within c.loop-rest.rest.now)
 
 pub returns-then-not-follow_line-clause-refused : goal.returns-then-not-follow_line-clause-refused
 returns-then-not-follow_line-clause-refused c =
     let g = c.args.live.now.graph in
     let rest = c.loop-rest.rest.now in
-    let end = c.line_end-end.result in
+    let end = c.end_before-end.result in
     let text = c.without_return-text.ensures ∙ ap strip_carriage_return c.front.ensures in
     let refused = subst (λ line. IsRefused g line c.loop-rest.sheet.inputs) text c.if-not-follow_line.ensures.refused in
     c.loop-rest.invariant.comes (Err c.loop-rest.line) (
-    comes-refused rest end c.line_end-end.ensures g c.loop-rest.line c.loop-rest.sheet.inputs (omega (arith, c.line_end-end.ensures, line-within rest)) refused)
+    comes-refused rest end c.end_before-end.ensures g c.loop-rest.line c.loop-rest.sheet.inputs (omega (arith, c.end_before-end.ensures, line-within rest)) refused)
 
 pub returns-then-end-rest-clause-followed : goal.returns-then-end-rest-clause-followed
 returns-then-end-rest-clause-followed c =
     let g = c.args.live.now.graph in
     let rest = c.loop-rest.rest.now in
-    let end = c.line_end-end.result in
+    let end = c.end_before-end.result in
     let next = c.follow_line.new.sheet.inputs in
     let text = c.without_return-text.ensures ∙ ap strip_carriage_return c.front.ensures in
     let leads = subst (λ line. LeadsTo g line c.loop-rest.sheet.inputs next) text c.if-not-follow_line.ensures.followed in
     c.loop-rest.invariant.comes (Ok next) (
-    comes-last rest end c.line_end-end.ensures g c.loop-rest.line c.loop-rest.sheet.inputs next c.if-end-rest.true leads)
+    comes-last rest end c.end_before-end.ensures g c.loop-rest.line c.loop-rest.sheet.inputs next c.if-end-rest.true leads)
 
 pub loop-rest-preserved : goal.loop-rest-preserved
 loop-rest-preserved c =
     let g = c.args.live.now.graph in
     let rest = c.loop-rest.rest.now in
-    let end = c.line_end-end.result in
+    let end = c.end_before-end.result in
     let next = c.follow_line.new.sheet.inputs in
-    let more : end < length rest = omega (arith, c.if-end-rest.false, c.line_end-end.ensures, line-within rest) in
+    let more : end < length rest = omega (arith, c.if-end-rest.false, c.end_before-end.ensures, line-within rest) in
     let text = c.without_return-text.ensures ∙ ap strip_carriage_return c.front.ensures in
     let leads = subst (λ line. LeadsTo g line c.loop-rest.sheet.inputs next) text c.if-not-follow_line.ensures.followed in
     let h = c.loop-rest.invariant in
     let step = c.follow_line.ensures.dates in
-    let cut = lines-more rest end c.line_end-end.ensures more in
+    let cut = lines-more rest end c.end_before-end.ensures more in
     record {
       made_for = h.made_for ∙ sym step.live;
       comes = λ outcome further.
           h.comes outcome (
-          comes-more rest end c.line_end-end.ensures g c.loop-rest.line c.loop-rest.sheet.inputs next outcome more leads (
+          comes-more rest end c.end_before-end.ensures g c.loop-rest.line c.loop-rest.sheet.inputs next outcome more leads (
           subst (λ text. ComesTo g (lines_of text) (c.loop-rest.line + 1) next outcome) c.behind-rest.ensures further));
       dates = record {
         live = step.live ∙ h.dates.live;

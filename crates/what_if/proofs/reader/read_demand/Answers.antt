@@ -13,12 +13,12 @@ returns-in_err-job-clause-told c edit writes =
 
 pub returns-in_err-job-2-clause-told : goal.returns-in_err-job-2-clause-told
 returns-in_err-job-2-clause-told c edit writes =
-    demand-parts c.args.graph.now c.args.text.now c.in_ok-job.job.now c.in_ok-job.date.now edit (λ e. c.from_residual-in_err-job-2.result ≡ Some e) c.in_ok-job.ensures (omega (arith, c.jobs-jobs.ensures.limits.few_jobs)) writes (λ n date valid job_is last_is.
-    absurd (nothing-is n (c.in_err-job-2.ensures.told n valid.from_one (omega (arith, valid.job, c.jobs-jobs.ensures.count)) job_is)))
+    demand-parts c.args.graph.now c.args.text.now c.in_ok-job.job.now c.in_ok-job.date.now edit (λ e. c.from_residual-in_err-job-2.result ≡ Some e) c.in_ok-job.ensures (omega (arith, c.in_err-job-2.ensures.few)) writes (λ n date valid job_is last_is.
+    absurd (nothing-is n (c.in_err-job-2.ensures.told n valid.from_one valid.job job_is)))
 
 pub returns-in_err-date-clause-told : goal.returns-in_err-date-clause-told
 returns-in_err-date-clause-told c edit writes =
-    demand-parts c.args.graph.now c.args.text.now c.in_ok-job.job.now c.in_ok-job.date.now edit (λ e. c.from_residual-in_err-date.result ≡ Some e) c.in_ok-job.ensures (omega (arith, c.jobs-jobs.ensures.limits.few_jobs)) writes (λ n date valid job_is last_is.
+    demand-parts c.args.graph.now c.args.text.now c.in_ok-job.job.now c.in_ok-job.date.now edit (λ e. c.from_residual-in_err-date.result ≡ Some e) c.in_ok-job.ensures (omega (arith, c.in_ok-job-2.ensures.few)) writes (λ n date valid job_is last_is.
     absurd (nothing-is date (c.in_err-date.ensures.told date valid.early last_is)))
 
 pub returns-clause-told : goal.returns-clause-told
@@ -26,7 +26,7 @@ returns-clause-told c edit writes =
     let job = c.in_ok-job-2.job in
     let last = c.in_ok-date.date in
     let Same : Edit → Type 0 = λ e. Some (Demand job last) ≡ Some e in
-    demand-parts c.args.graph.now c.args.text.now c.in_ok-job.job.now c.in_ok-job.date.now edit Same c.in_ok-job.ensures (omega (arith, c.jobs-jobs.ensures.limits.few_jobs)) writes (λ n date valid job_is last_is.
-    let same_job = some-is job n (c.in_ok-job-2.ensures.told n valid.from_one (omega (arith, valid.job, c.jobs-jobs.ensures.count)) job_is) in
+    demand-parts c.args.graph.now c.args.text.now c.in_ok-job.job.now c.in_ok-job.date.now edit Same c.in_ok-job.ensures (omega (arith, c.in_ok-job-2.ensures.few)) writes (λ n date valid job_is last_is.
+    let same_job = some-is job n (c.in_ok-job-2.ensures.told n valid.from_one valid.job job_is) in
     let same_date = some-is last date (c.in_ok-date.ensures.told date valid.early last_is) in
     ap (λ j. Some (Demand j last)) same_job ∙ ap (λ x. Some (Demand n x)) same_date)

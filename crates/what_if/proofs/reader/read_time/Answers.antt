@@ -26,26 +26,23 @@ returns-in_err-station-clause-told c edit writes =
 
 pub returns-in_err-job-2-clause-told : goal.returns-in_err-job-2-clause-told
 returns-in_err-job-2-clause-told c edit writes =
-    let few = c.jobs-jobs.ensures.limits.few_jobs in
-    time-parts c.args.graph.now c.args.text.now c.in_ok-label.label.now c.in_ok-label.rest.now c.in_ok-job.job.now c.in_ok-job.time.now edit (λ e. c.from_residual-in_err-job-2.result ≡ Some e) c.in_ok-label.ensures c.in_ok-job.ensures (omega (arith, few)) writes (λ t n time valid named job_is last_is.
-    absurd (nothing-is n (c.in_err-job-2.ensures.told n valid.from_one (omega (arith, valid.job, c.jobs-jobs.ensures.count)) job_is)))
+    time-parts c.args.graph.now c.args.text.now c.in_ok-label.label.now c.in_ok-label.rest.now c.in_ok-job.job.now c.in_ok-job.time.now edit (λ e. c.from_residual-in_err-job-2.result ≡ Some e) c.in_ok-label.ensures c.in_ok-job.ensures (omega (arith, c.in_err-job-2.ensures.few)) writes (λ t n time valid named job_is last_is.
+    absurd (nothing-is n (c.in_err-job-2.ensures.told n valid.from_one valid.job job_is)))
 
 pub returns-in_err-time-clause-told : goal.returns-in_err-time-clause-told
 returns-in_err-time-clause-told c edit writes =
-    let few = c.jobs-jobs.ensures.limits.few_jobs in
-    time-parts c.args.graph.now c.args.text.now c.in_ok-label.label.now c.in_ok-label.rest.now c.in_ok-job.job.now c.in_ok-job.time.now edit (λ e. c.from_residual-in_err-time.result ≡ Some e) c.in_ok-label.ensures c.in_ok-job.ensures (omega (arith, few)) writes (λ t n time valid named job_is last_is.
+    time-parts c.args.graph.now c.args.text.now c.in_ok-label.label.now c.in_ok-label.rest.now c.in_ok-job.job.now c.in_ok-job.time.now edit (λ e. c.from_residual-in_err-time.result ≡ Some e) c.in_ok-label.ensures c.in_ok-job.ensures (omega (arith, c.in_ok-job-2.ensures.few)) writes (λ t n time valid named job_is last_is.
     absurd (nothing-is time (c.in_err-time.ensures.told time valid.short last_is)))
 
 pub returns-clause-told : goal.returns-clause-told
 returns-clause-told c edit writes =
     let g = c.args.graph.now in
-    let few = c.jobs-jobs.ensures.limits.few_jobs in
     let station = c.in_ok-station.station in
     let job = c.in_ok-job-2.job in
     let last = c.in_ok-time.time in
     let Same : Edit → Type 0 = λ e. Some (Time station job last) ≡ Some e in
-    time-parts g c.args.text.now c.in_ok-label.label.now c.in_ok-label.rest.now c.in_ok-job.job.now c.in_ok-job.time.now edit Same c.in_ok-label.ensures c.in_ok-job.ensures (omega (arith, few)) writes (λ t n time valid named job_is last_is.
+    time-parts g c.args.text.now c.in_ok-label.label.now c.in_ok-label.rest.now c.in_ok-job.job.now c.in_ok-job.time.now edit Same c.in_ok-label.ensures c.in_ok-job.ensures (omega (arith, c.in_ok-job-2.ensures.few)) writes (λ t n time valid named job_is last_is.
     let same_station = some-is station t (c.in_ok-station.ensures.found ∙ ap (machine_with g) named ∙ valid.machine) in
-    let same_job = some-is job n (c.in_ok-job-2.ensures.told n valid.from_one (omega (arith, valid.job, c.jobs-jobs.ensures.count)) job_is) in
+    let same_job = some-is job n (c.in_ok-job-2.ensures.told n valid.from_one valid.job job_is) in
     let same_time = some-is last time (c.in_ok-time.ensures.told time valid.short last_is) in
     ap (λ s. Some (Time s job last)) same_station ∙ ap (λ j. Some (Time t j last)) same_job ∙ ap (λ x. Some (Time t n x)) same_time)
