@@ -29,8 +29,22 @@ numbered_in p q t f same is exists =
 pub done_in : (p : Plant) (g : Parts) (x : Table) (t u v n : ℕ) → g ≡ graph p → t ≡ u → n ≡ done g x t v → n ≡ done (graph p) x u v
 done_in p g x t u v n is at count = count ∙ ap (λ (h : Parts). done h x t v) is ∙ ap (λ s. done (graph p) x s v) at
 
+-- what was counted, where parts are taken from others: the others are `all` of them, the taken are `gone`
+pub record AreCounted (m n all gone : ℕ) : Type 0 where
+  pub all_is : m ≡ all
+  pub gone_is : n ≡ gone
+  pub order : n ≤ m
+
 pub solves_in : (p : Plant) (d : Dates) → d.graph ≡ graph p → IsLeastTable d → Solves (graph p) (date_in d.rows)
 solves_in p d is table = subst (λ (g : Parts). Solves g (date_in d.rows)) is table.least.solves
+
+-- at two stations, where parts come to the second from the first
+pub counted_in : (p : Plant) (d : Dates) (s t u w v m n : ℕ) → d.graph ≡ graph p → IsLeastTable d → s ≡ t → u ≡ w → m ≡ done d.graph (date_in d.rows) s v → n ≡ done d.graph (date_in d.rows) u v → (Solves (graph p) (date_in d.rows) → done (graph p) (date_in d.rows) w v ≤ done (graph p) (date_in d.rows) t v) → AreCounted m n (done (graph p) (date_in d.rows) t v) (done (graph p) (date_in d.rows) w v)
+counted_in p d s t u w v m n is table first second all gone flow =
+    let all_is = done_in p d.graph (date_in d.rows) s t v m is first all in
+    let gone_is = done_in p d.graph (date_in d.rows) u w v n is second gone in
+    let order = flow (solves_in p d is table) in
+    record { all_is = all_is; gone_is = gone_is; order = omega arith }
 
 -- the travel of a stage, as it is read in a list of the stages
 pub travel-read : (p : Plant) (i : ℕ) (stages : List Stage) (s : Stage) → i < length p.stages → stages ≡ p.stages → (get_or stages i s).travel ≡ (stage_at p i).travel

@@ -2,7 +2,7 @@
 //! numbers are those of the plant, which contracts see.
 ghost use Rattle.std.specs.Prelude.{◌≡◌, ◌+◌, ◌<◌, length};
 ghost use Rattle.event_graph.specs.Table.{date_in};
-ghost use Rattle.line_stats.specs.Counts.{done, arrived, in_process, in_move, in_stock, backlog};
+ghost use Rattle.line_stats.specs.Counts.{IsStageOf, done, arrived, in_process, in_move, in_stock, backlog};
 ghost use Rattle.plant_model.specs.Graph.{graph};
 ghost use Rattle.plant_model.specs.Line.{release, last_machine, deliver, receiver, starting};
 ghost use Rattle.plant_model.specs.Sound.{IsSound};
@@ -30,10 +30,7 @@ pub fn in_process(numbers: &LineNumbers, table: &Table, stage: u32, at: Date) ->
 /// How many parts of a stage have ended their travel by a date.
 #[tactic(auto, using(crate::proofs::PlantTables::exists_in, crate::proofs::Rising::lists_keep_order))]
 fn arrived(plant: &Plant, numbers: &LineNumbers, table: &Table, stage: u32, at: Date) -> u32
-    requires sound { IsSound plant.now }
-    requires numbers { numbers.now ≡ plant.now }
-    requires of_plant { table.now.graph ≡ graph plant.now }
-    requires exists { stage < length plant.now.stages }
+    requires { IsStageOf plant.now numbers.now table.now stage }
     ensures { result ≡ arrived plant.now (date_in table.now.rows) stage at }
 {
     match at.checked_sub(plant.stages.as_slice()[stage as usize].travel) {
@@ -47,10 +44,7 @@ fn arrived(plant: &Plant, numbers: &LineNumbers, table: &Table, stage: u32, at: 
 /// It takes no memory, and halves the dates of the machine.
 #[tactic(auto, using(crate::proofs::PlantTables::exists_in, crate::proofs::Rising::lists_keep_order))]
 pub fn in_move(plant: &Plant, numbers: &LineNumbers, table: &Table, stage: u32, at: Date) -> u32
-    requires sound { IsSound plant.now }
-    requires numbers { numbers.now ≡ plant.now }
-    requires of_plant { table.now.graph ≡ graph plant.now }
-    requires exists { stage < length plant.now.stages }
+    requires { IsStageOf plant.now numbers.now table.now stage }
     ensures count { result ≡ in_move plant.now (date_in table.now.rows) stage at }
     ensures balance { let x = date_in table.now.rows in
         result + arrived plant.now x stage at ≡ done (graph plant.now) x (last_machine plant.now stage) at }
@@ -64,10 +58,7 @@ pub fn in_move(plant: &Plant, numbers: &LineNumbers, table: &Table, stage: u32, 
 /// It takes no memory, and halves the dates of the two stations.
 #[tactic(auto, using(crate::proofs::PlantTables::exists_in, crate::proofs::Rising::lists_keep_order))]
 pub fn in_stock(plant: &Plant, numbers: &LineNumbers, table: &Table, stage: u32, at: Date) -> u32
-    requires sound { IsSound plant.now }
-    requires numbers { numbers.now ≡ plant.now }
-    requires of_plant { table.now.graph ≡ graph plant.now }
-    requires exists { stage < length plant.now.stages }
+    requires { IsStageOf plant.now numbers.now table.now stage }
     ensures count { result ≡ in_stock plant.now (date_in table.now.rows) stage at }
     ensures balance { let x = date_in table.now.rows in
         let stocked = starting plant.now stage + arrived plant.now x stage at in

@@ -1,12 +1,10 @@
 //! The most parts that a stage ever has.
 ghost use Rattle.std.specs.List.Sorted.{IsNonDecreasing};
-ghost use Rattle.std.specs.Prelude.{◌≡◌, ◌+◌, ◌<◌, ◌≤◌, ℕ, length, IfSome};
+ghost use Rattle.std.specs.Prelude.{◌≡◌, ◌+◌, ◌≤◌, ℕ, length, IfSome};
 ghost use Rattle.event_graph.specs.Table.{date_in};
 ghost use Rattle.line_stats.specs.Between.{between};
-ghost use Rattle.line_stats.specs.Counts.{standing, peak};
+ghost use Rattle.line_stats.specs.Counts.{IsStageOf, standing, peak};
 ghost use Rattle.plant_model.specs.Bound.{bound};
-ghost use Rattle.plant_model.specs.Graph.{graph};
-ghost use Rattle.plant_model.specs.Sound.{IsSound};
 
 use crate::logs::{dates_until, dates_until_from};
 use line_base::{Date, MAX_CARDS, MAX_DEMANDS};
@@ -37,10 +35,7 @@ fn most_between(entered: &[Date], left: &[Date], start: usize) -> u32
 ///
 /// It takes no memory, and one pass over the dates of the stage's release and of the station that takes its parts.
 pub fn peak(plant: &Plant, numbers: &LineNumbers, table: &Table, stage: u32) -> u32
-    requires sound { IsSound plant.now }
-    requires numbers { numbers.now ≡ plant.now }
-    requires of_plant { table.now.graph ≡ graph plant.now }
-    requires exists { stage < length plant.now.stages }
+    requires { IsStageOf plant.now numbers.now table.now stage }
     ensures peak { result ≡ peak plant.now (date_in table.now.rows) stage }
     ensures covers { (v : ℕ) → standing plant.now (date_in table.now.rows) stage v ≤ result }
     ensures bounded { IfSome (bound plant.now stage) (λ number. result ≤ number) }

@@ -28,24 +28,18 @@ pub dates-taken-requires : goal.dates-taken-requires
 dates-taken-requires c =
     exists_in c.args.plant.now c.args.table.now.graph c.receiver.result c.requires.of_plant (takes (goal.at.dates-taken-requires c).After-receiver).1
 
-pub most_between-requires-clause-entered_in_order : goal.most_between-requires-clause-entered_in_order
-most_between-requires-clause-entered_in_order c =
-    let from = released (goal.at.most_between-requires-clause-entered_in_order c).After-release in
-    row-in_order c.args.plant.now c.args.table.now c.release.result _ c.requires.of_plant c.dates-released.ensures.least from.1 c.dates-released.ensures.dates
-
-pub most_between-requires-clause-left_in_order : goal.most_between-requires-clause-left_in_order
-most_between-requires-clause-left_in_order c =
-    let to = takes (goal.at.most_between-requires-clause-left_in_order c).After-receiver in
-    row-in_order c.args.plant.now c.args.table.now c.receiver.result _ c.requires.of_plant c.dates-taken.ensures.least to.1 c.dates-taken.ensures.dates
-
-pub most_between-requires-clause-few : goal.most_between-requires-clause-few
-most_between-requires-clause-few c =
-    let from = released (goal.at.most_between-requires-clause-few c).After-release in
-    row-short c.args.plant.now c.args.table.now c.release.result _ c.requires.of_plant c.dates-released.ensures.least from.1 c.dates-released.ensures.dates
-
-pub most_between-requires-clause-small : goal.most_between-requires-clause-small
-most_between-requires-clause-small c =
-    omega (arith, starting-small c.args.plant.now c.args.stage c.requires.sound c.requires.exists, c.starting.ensures)
+pub most_between-requires : goal.most_between-requires
+most_between-requires c =
+    let p = c.args.plant.now in
+    let d = c.args.table.now in
+    let from = released (goal.at.most_between-requires c).After-release in
+    let to = takes (goal.at.most_between-requires c).After-receiver in
+    record {
+      entered_in_order = row-in_order p d c.release.result _ c.requires.of_plant c.dates-released.ensures.least from.1 c.dates-released.ensures.dates;
+      left_in_order = row-in_order p d c.receiver.result _ c.requires.of_plant c.dates-taken.ensures.least to.1 c.dates-taken.ensures.dates;
+      few = row-short p d c.release.result _ c.requires.of_plant c.dates-released.ensures.least from.1 c.dates-released.ensures.dates;
+      small = omega (arith, starting-small p c.args.stage c.requires.sound c.requires.exists, c.starting.ensures);
+    }
 
 solves : (c : After-most_between) → Solves (graph c.args.plant.now) (date_in c.args.table.now.rows)
 solves c = solves_in c.args.plant.now c.args.table.now c.requires.of_plant c.dates-released.ensures.least
