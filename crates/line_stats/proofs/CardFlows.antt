@@ -14,8 +14,8 @@ use Rattle.plant_model.specs.declared.plant.Plant.{Plant}
 use Rattle.plant_model.specs.Line.{no_stage, stage_at, release, deliver, next, receiver, stock_under, starting, line_cards, feeds, is_first, path_stock}
 use Rattle.plant_model.specs.Graph.{card_row, line_card_row, rows, graph}
 use Rattle.plant_model.specs.Sound.{IsSound}
-use Rattle.plant_model.proofs.Soundness.{FeedsLater, FeedsLater-from}
-use Rattle.plant_model.proofs.SoundPlants.{PassesAll-sound, path_stock-has_cards, starting-has_cards}
+use Rattle.plant_model.proofs.Soundness.{FeedsLater, IsSound-FeedsLater}
+use Rattle.plant_model.proofs.SoundPlants.{path_stock-has_cards, starting-has_cards}
 use Rattle.plant_model.proofs.Paths.{path_stock-step}
 use Rattle.event_graph.specs.Table.{Table}
 use Rattle.event_graph.specs.Solves.{Solves}
@@ -40,7 +40,7 @@ in_line_card p cards i is below first =
     in_policy p (line_card_row p i) (rw (policy_rows-conwip p cards is) (Contains-map-filter (line_card_row p) (is_first p) (length p.stages) i below first))
 
 tree : (p : Plant) → IsSound p → FeedsLater p
-tree p sound = FeedsLater-from p (PassesAll-sound p sound).feeds_later
+tree p sound = IsSound-FeedsLater sound
 
 module _ (p : Plant) (x : Table) (v : ℕ) (sound : IsSound p) (solves : Solves (graph p) x) where
   by_now : ℕ → ℕ

@@ -23,7 +23,7 @@ use Rattle.plant_draft.specs.declared.draft.DraftTimes.TheVariants.{Column, Fixe
 use Rattle.plant_draft.specs.declared.draft.DraftPlant.{DraftPlant}
 use Rattle.plant_draft.specs.Draft.{DraftStage}
 use Rattle.plant_file.specs.Finish.{times_with, machine_with, stage_with, loop_with, plant_with, plant_or_first, finished}
-use Rattle.plant_file.specs.Counts.{machine_counts, stage_counts, stations_in, stays_within, table_within}
+use Rattle.plant_file.specs.Counts.{machine_counts, stage_counts, stays_within, table_within}
 use Rattle.plant_file.proofs.PlantParts.{each_from-map, list_any-map}
 
 -- 1. Of lists.
@@ -63,7 +63,7 @@ stage-made t (s ∷ ss) (suc i) = stage-made t ss i
 count-made : (t : Option JobTimes) (stages : List DraftStage) → length (map (stage_with t) stages) ≡ length stages
 count-made t stages = length-map stages (stage_with t)
 
-stations-made : (t : Option JobTimes) (stages : List DraftStage) → stations_of (map (stage_with t) stages) ≡ stations_in stages
+stations-made : (t : Option JobTimes) (stages : List DraftStage) → stations_of (map (stage_with t) stages) ≡ stations_of stages
 stations-made t [] = refl
 stations-made t (s ∷ ss) =
     rw (

@@ -1,11 +1,12 @@
 -- For the proofs of this crate: how many job times a draft has, and whether that many are allowed.
-use Rattle.std.specs.Prelude.{ℕ, ◌+◌, ◌*◌, Bool, ◌&&◌, nat_le, if◌then◌else◌, List, length, sum_by, Option, None, Some}
+use Rattle.std.specs.Prelude.{ℕ, ◌+◌, ◌*◌, Bool, ◌&&◌, nat_le, if◌then◌else◌, List, length, Option, None, Some}
 use Rattle.line_base.specs.Limits.{most_stations, most_demands, most_dates}
 use Rattle.line_base.specs.declared.times.Times.{Times}
 use Rattle.line_base.specs.declared.times.Times.TheVariants.{Fixed, Each}
 use Rattle.demand_feed.specs.JobTimes.{JobTimes}
 use Rattle.plant_model.specs.declared.error.PlantError.{PlantError}
 use Rattle.plant_model.specs.declared.place.FileTable.TheVariants.{InMachine}
+use Rattle.plant_model.specs.Line.{stations_of}
 use Rattle.plant_model.specs.Refusals.{each, times_count}
 use Rattle.plant_draft.specs.Draft.{DraftMachine, DraftStage}
 use Rattle.plant_file.specs.Finish.{times_with}
@@ -23,15 +24,11 @@ machine_counts jobs table i j m = times_count jobs (InMachine i j) (times_with t
 abbrev pub stage_counts : ℕ → Option JobTimes → ℕ → DraftStage → List PlantError
 stage_counts jobs table i s = each (machine_counts jobs table i) s.machines
 
--- how many stations the stages of a draft have: each a release and its machines
-abbrev pub stations_in : List DraftStage → ℕ
-stations_in stages = sum_by (λ s. 1 + length s.machines) stages
-
 -- a plant of so many jobs and these stages has no more stations, jobs and dates than is allowed
 abbrev pub stays_within : ℕ → List DraftStage → Bool
 stays_within jobs stages =
-    nat_le (1 + stations_in stages + 1) most_stations
-    && (nat_le jobs most_demands && nat_le ((1 + stations_in stages + 1) * jobs) most_dates)
+    nat_le (1 + stations_of stages + 1) most_stations
+    && (nat_le jobs most_demands && nat_le ((1 + stations_of stages + 1) * jobs) most_dates)
 
 -- the table, if the plant stays within its limits
 abbrev pub table_within : Bool → Option JobTimes → Option JobTimes

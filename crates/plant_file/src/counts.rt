@@ -1,11 +1,12 @@
 //! How many job times the machines of a draft have. It tells whether a plant is refused before any of them is copied.
-ghost use Rattle.std.specs.Prelude.{◌≡◌, ◌*◌, ◌^◌, ◌≤◌, length, option_map};
-ghost use Rattle.plant_file.specs.Counts.{list_length, machine_counts, stage_counts, stations_in, stays_within, table_within};
+ghost use Rattle.std.specs.Prelude.{◌≡◌, length, option_map};
+ghost use Rattle.plant_file.specs.Counts.{list_length, machine_counts, stage_counts, stays_within, table_within};
 ghost use Rattle.plant_file.specs.Finish.{dates_with, times_with};
 ghost use Rattle.plant_model.specs.Refusals.{AnswersFirst, each, times_count};
 
 use demand_feed::Columns;
 use line_base::{Date, MAX_DEMANDS, MAX_STATIONS, MAX_TABLE};
+use plant_check::count_stations;
 use plant_draft::{DraftDemands, DraftMachine, DraftStage, DraftTimes};
 use plant_model::{FileTable, PlantError, table_place};
 use std::alloc::Global;
@@ -118,16 +119,4 @@ fn stays_within(jobs: usize, stages: &[DraftStage]) -> bool
     stations <= u128::from(MAX_STATIONS)
         && jobs <= u128::from(MAX_DEMANDS)
         && stations * jobs <= u128::from(MAX_TABLE)
-}
-
-/// How many stations these stages have: each a release and its machines.
-fn count_stations(stages: &[DraftStage]) -> u128
-    ensures count { result ≡ stations_in stages.now }
-    ensures small { result ≤ length stages.now * 2 ^ 64 }
-{
-    let mut count = 0;
-    for stage in stages {
-        count += 1 + stage.machines.len() as u128;
-    }
-    count
 }

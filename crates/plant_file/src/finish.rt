@@ -13,6 +13,7 @@ ghost use Rattle.plant_model.specs.Sound.{IsSound};
 use crate::counts::{check_counts, count_demands, table_within};
 use demand_feed::{Columns, FeedError, read_dates, read_times};
 use line_base::{Date, Items, Times};
+use plant_check::check_whole;
 use plant_draft::{
     Draft, DraftDemands, DraftLoop, DraftMachine, DraftPlant, DraftStage, DraftTimes,
 };
@@ -42,7 +43,7 @@ pub fn finish_draft(
     check_counts(alloc, jobs, draft.stages.as_slice(), &times)?;
     let times = table_within(jobs, draft.stages.as_slice(), times);
     let plant = plant_with(alloc, draft, dates, times)?;
-    plant.check_whole(alloc)?;
+    check_whole(alloc, &plant)?;
     Ok(plant)
 }
 

@@ -13,6 +13,14 @@ pub append-nil_right : {X : Type 0} (xs ys : List X) → xs ++ ys ≡ [] → ys 
 append-nil_right [] ys h = h
 append-nil_right (x ∷ xs) ys h = cc
 
+-- five lists that are empty together
+pub five-empty : {X : Type 0} (a b c d e : List X) → a ++ (b ++ (c ++ (d ++ e))) ≡ [] → (a ≡ []) × (b ≡ []) × (c ≡ []) × (d ≡ []) × (e ≡ [])
+five-empty [] [] [] [] e h = (refl, refl, refl, refl, h)
+five-empty [] [] [] (x ∷ d) e h = cc
+five-empty [] [] (x ∷ c) d e h = cc
+five-empty [] (x ∷ b) c d e h = cc
+five-empty (x ∷ a) b c d e h = cc
+
 -- six lists without an element
 pub record AreNil {X : Type 0} (a b c d e f : List X) : Type 0 where
   pub first : a ≡ []
@@ -24,18 +32,8 @@ pub record AreNil {X : Type 0} (a b c d e f : List X) : Type 0 where
 
 pub AreNil-append : {X : Type 0} (a b c d e f : List X) → a ++ (b ++ (c ++ (d ++ (e ++ f)))) ≡ [] → AreNil a b c d e f
 AreNil-append a b c d e f h =
-    let h_2 = append-nil_right a (b ++ (c ++ (d ++ (e ++ f)))) h in
-    let h_3 = append-nil_right b (c ++ (d ++ (e ++ f))) h_2 in
-    let h_4 = append-nil_right c (d ++ (e ++ f)) h_3 in
-    let h_5 = append-nil_right d (e ++ f) h_4 in
-    record {
-      first = append-nil_left a _ h;
-      second = append-nil_left b _ h_2;
-      third = append-nil_left c _ h_3;
-      fourth = append-nil_left d _ h_4;
-      fifth = append-nil_left e _ h_5;
-      sixth = append-nil_right e f h_5;
-    }
+    let q = five-empty a b c d (e ++ f) h in
+    record { first = q.0; second = q.1; third = q.2; fourth = q.3; fifth = append-nil_left e f q.4; sixth = append-nil_right e f q.4 }
 
 -- what is not refused has not passed the test
 pub refuse_if-none : (test : Bool) (e : PlantError) → refuse_if test e ≡ [] → test ≡ false

@@ -12,17 +12,15 @@ use Rattle.plant_model.specs.declared.plant.Plant.{Plant}
 use Rattle.plant_model.specs.declared.place.FileTable.TheVariants.{InStage, InMachine, InLoop}
 use Rattle.plant_model.specs.Place.{key_of}
 use Rattle.plant_model.specs.Line.{stock_under, starting, no_stage, no_machine, stage_at, machine_at, station_count, line_cards, is_first, is_downstream, path_stock, stock_between}
-use Rattle.plant_model.specs.Refusals.{too_few, above, larger, refusals, parts_refusals, whole_refusals, each, empty, out_of_range, top_out_of_range, stage_out_of_range, loop_out_of_range, machine_out_of_range, times_out_of_range, cards_out_of_range, element_above, all_feeds_not_later, second_finals, times_counts, stage_times_count, machine_times_count, times_count, demand_order, falling_date, too_few_cards, too_few_under, too_few_in_line, too_few_in_stage, too_few_in_loop, loops_not_downstream, not_downstream, is_loop, too_large}
+use Rattle.plant_model.specs.Refusals.{too_few, above, larger, refusals, parts_refusals, whole_refusals, each, empty, out_of_range, top_out_of_range, stage_out_of_range, loop_out_of_range, machine_out_of_range, times_out_of_range, cards_out_of_range, element_above, times_counts, stage_times_count, machine_times_count, times_count, demand_order, falling_date, too_few_cards, too_few_under, too_few_in_line, too_few_in_stage, too_few_in_loop, loops_not_downstream, not_downstream, is_loop, too_large}
 use Rattle.plant_model.specs.Sound.{IsSound}
 pub use Rattle.plant_model.specs.Sound.{HasSoundSizes, IsSoundStage, AreSoundTimes, IsSoundMachine, IsSoundLoop}
-use Rattle.plant_model.proofs.Soundness.{FeedsLater-from, last-from}
-use Rattle.plant_model.proofs.NoRefusals.{AreNil, AreNil-append, append-nil_left, append-nil_right, refuse_if-none, above-none, larger-none, each-none}
+use Rattle.plant_model.proofs.Soundness.{Parts, IsSound-Parts, FeedsLater-from, last-from}
+use Rattle.plant_model.proofs.NoRefusals.{AreNil, AreNil-append, append-nil_left, append-nil_right, five-empty, refuse_if-none, above-none, larger-none, each-none}
 
--- no class refuses the plant
+-- no class refuses the plant: none of the parts, and none of the whole
 pub record PassesAll (p : Plant) : Type 0 where
-  pub in_range : out_of_range p ≡ []
-  pub feeds_later : all_feeds_not_later p ≡ []
-  pub one_final : second_finals p ≡ []
+  pub parts : Parts p
   pub times_counted : times_counts p ≡ []
   pub in_order : demand_order p ≡ []
   pub enough_cards : too_few_cards p ≡ []
@@ -30,24 +28,17 @@ pub record PassesAll (p : Plant) : Type 0 where
   pub small : too_large p ≡ []
 
 pub PassesAll-sound : (p : Plant) → IsSound p → PassesAll p
-unfolding refusals parts_refusals whole_refusals
+unfolding refusals whole_refusals
 PassesAll-sound p sound =
-    let parts = append-nil_left (parts_refusals p) (whole_refusals p) sound.nothing in
     let whole = append-nil_right (parts_refusals p) (whole_refusals p) sound.nothing in
-    let parts = append-nil_right _ _ (append-nil_right _ _ parts) in
-    let feeds = append-nil_right _ _ parts in
-    let whole_2 = append-nil_right _ _ whole in
-    let whole_3 = append-nil_right _ _ whole_2 in
-    let whole_4 = append-nil_right _ _ whole_3 in
+    let q = five-empty (times_counts p) (demand_order p) (too_few_cards p) (loops_not_downstream p) (too_large p) whole in
     record {
-      in_range = append-nil_left _ _ parts;
-      feeds_later = append-nil_left _ _ feeds;
-      one_final = append-nil_right _ _ feeds;
-      times_counted = append-nil_left _ _ whole;
-      in_order = append-nil_left _ _ whole_2;
-      enough_cards = append-nil_left _ _ whole_3;
-      loops_downstream = append-nil_left _ _ whole_4;
-      small = append-nil_right _ _ whole_4;
+      parts = IsSound-Parts sound;
+      times_counted = q.0;
+      in_order = q.1;
+      enough_cards = q.2;
+      loops_downstream = q.3;
+      small = q.4;
     }
 
 -- no number at the top of a plant is out of its range
@@ -80,7 +71,7 @@ stage_in_range-from i s none = AreNil-append _ _ _ _ _ _ none
 
 stage-in_range : (p : Plant) (i : ℕ) → PassesAll p → i < length p.stages → IsStageInRange i (stage_at p i)
 stage-in_range p i passes below =
-    let stages = append-nil_left (each stage_out_of_range p.stages) _ (append-nil_right (top_out_of_range p) _ passes.in_range) in
+    let stages = append-nil_left (each stage_out_of_range p.stages) _ (append-nil_right (top_out_of_range p) _ passes.parts.in_range) in
     stage_in_range-from i (stage_at p i) (each-none stage_out_of_range p.stages i no_stage below stages)
 
 -- what isn't refused as empty has an element
@@ -105,7 +96,7 @@ ordered dates k below h =
 pub HasSoundSizes-sound : (p : Plant) → IsSound p → HasSoundSizes p
 HasSoundSizes-sound p sound =
     let passes = PassesAll-sound p sound in
-    let top = top-in_range p passes.in_range in
+    let top = top-in_range p passes.parts.in_range in
     let small =
     AreNil-append
     (larger (codes "stages") MAX_STAGES (length p.stages))
@@ -144,7 +135,7 @@ pub IsSoundStage-sound : (p : Plant) (i : ℕ) → IsSound p → i < length p.st
 IsSoundStage-sound p i sound below =
     let passes = PassesAll-sound p sound in
     let s = stage_at p i in
-    let tree = FeedsLater-from p passes.feeds_later in
+    let tree = FeedsLater-from p passes.parts.later in
     let range = stage-in_range p i passes below in
     record {
       few_cards = above-none _ MAX_CARDS s.cards range.second;
@@ -153,7 +144,7 @@ IsSoundStage-sound p i sound below =
       short_card_time = above-none _ MAX_TIME s.card_time range.first;
       some_machine = empty-none _ s.machines range.third;
       feeds_later = λ j is. (tree.later i j below is, tree.exists i j below is);
-      last_is_final = λ is. last-from p i passes.one_final below is;
+      last_is_final = λ is. last-from p i passes.parts.one_final below is;
       stock_has_cards = λ is. enough p i below (append-nil_left (too_few_under p p.policy) _ passes.enough_cards) is;
     }
 
@@ -191,7 +182,7 @@ pub IsSoundLoop-sound : (p : Plant) (k : ℕ) (d : CardLoop) → IsSound p → k
 IsSoundLoop-sound p k d sound below =
     let passes = PassesAll-sound p sound in
     let l = get_or p.loops k d in
-    let loops = append-nil_right (each stage_out_of_range p.stages) _ (append-nil_right (top_out_of_range p) _ passes.in_range) in
+    let loops = append-nil_right (each stage_out_of_range p.stages) _ (append-nil_right (top_out_of_range p) _ passes.parts.in_range) in
     let range = each-none loop_out_of_range p.loops k d below loops in
     let time = above (key_of (InLoop k) (codes "card_time")) MAX_TIME l.card_time in
     let is = not-false (is_loop p l) (refuse_if-none _ _ (each-none (not_downstream p) p.loops k d below passes.loops_downstream)) in

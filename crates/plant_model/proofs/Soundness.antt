@@ -7,15 +7,7 @@ use Rattle.plant_model.specs.declared.plant.Plant.{Plant}
 use Rattle.plant_model.specs.Line.{stage_at, no_stage, next}
 use Rattle.plant_model.specs.Refusals.{bad_names, names_twice, out_of_range, feeds_not_later, all_feeds_not_later, second_final, second_finals, parts_refusals, whole_refusals, refusals}
 use Rattle.plant_model.specs.Sound.{IsSound}
-use Rattle.plant_model.proofs.NoRefusals.{append-nil_left, refuse_if-none, each-none}
-
--- five lists that are empty together
-five-empty : {X : Type 0} (a b c d e : List X) → a ++ (b ++ (c ++ (d ++ e))) ≡ [] → (a ≡ []) × (b ≡ []) × (c ≡ []) × (d ≡ []) × (e ≡ [])
-five-empty [] [] [] [] e h = (refl, refl, refl, refl, h)
-five-empty [] [] [] (x ∷ d) e h = cc
-five-empty [] [] (x ∷ c) d e h = cc
-five-empty [] (x ∷ b) c d e h = cc
-five-empty (x ∷ a) b c d e h = cc
+use Rattle.plant_model.proofs.NoRefusals.{append-nil_left, five-empty, refuse_if-none, each-none}
 
 -- a stage feeds later stages alone
 pub record FeedsLater (p : Plant) : Type 0 where

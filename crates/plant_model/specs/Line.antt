@@ -6,6 +6,7 @@ use Rattle.std.specs.List.{range_with_len, list_any}
 use Rattle.line_base.specs.declared.times.Times.TheVariants.{Fixed}
 use Rattle.plant_model.specs.declared.plant.Policy.{Policy}
 use Rattle.plant_model.specs.declared.plant.Policy.TheVariants.{Kanban, Conwip, BaseStock, Extended}
+use Rattle.plant_model.specs.declared.plant.Stage.{Stage as StageOf}
 use Rattle.plant_model.specs.Stages.{Machine, Stage, one_server}
 use Rattle.plant_model.specs.declared.plant.CardLoop.{CardLoop}
 use Rattle.plant_model.specs.declared.plant.Plant.{Plant}
@@ -42,8 +43,8 @@ stage_numbers p = range_with_len 0 (length p.stages)
 abbrev pub machine_numbers : Plant → ℕ → List ℕ
 machine_numbers p i = range_with_len 0 (length (stage_at p i).machines)
 
--- how many stations stages have: each a release and its machines
-abbrev pub stations_of : List Stage → ℕ
+-- how many stations stages have, whatever stands in place of their job times: each a release and its machines
+abbrev pub stations_of : {T : Type 0} → List (StageOf T) → ℕ
 stations_of stages = sum_by (λ s. 1 + length s.machines) stages
 
 -- the station of the release of stage i: the feed comes first, then the stations of the stages before

@@ -26,7 +26,7 @@ struct PathRow {
 
 /// The paths of a plant whose stages feed later ones. Contracts see it as the plant. Its looks take no memory.
 #[derive(Drop)]
-pub(crate) struct PathTable<'a> {
+pub struct PathTable<'a> {
     plant: &'a Plant,
     rows: Vec<PathRow>,
     fed: Vec<bool>,
@@ -45,7 +45,7 @@ impl<'a> Model for PathTable<'a> {
 
 impl<'a> PathTable<'a> {
     /// The paths of a plant's stages.
-    pub(crate) fn of(alloc: Global, plant: &'a Plant) -> Result<Self, AllocError>
+    pub fn of(alloc: Global, plant: &'a Plant) -> Result<Self, AllocError>
         requires { all_feeds_not_later plant.now ≡ [] }
         ensures { IfOk result (λ table. table ≡ plant.now) }
     {
@@ -55,14 +55,14 @@ impl<'a> PathTable<'a> {
     }
 
     /// The plant.
-    pub(crate) fn plant(&self) -> &Plant
+    pub fn plant(&self) -> &Plant
         ensures { result.now ≡ self.now }
     {
         self.plant
     }
 
     /// Whether no stage feeds stage `i`.
-    pub(crate) fn is_first(&self, i: usize) -> bool
+    pub fn is_first(&self, i: usize) -> bool
         requires { i < length self.now.stages }
         ensures { result ≡ is_first self.now i }
     {
@@ -70,7 +70,7 @@ impl<'a> PathTable<'a> {
     }
 
     /// The starting stock on the path of stage `i`.
-    pub(crate) fn stock(&self, i: usize) -> u64
+    pub fn stock(&self, i: usize) -> u64
         requires { i < length self.now.stages }
         ensures { result ≡ path_stock self.now i }
     {
@@ -78,7 +78,7 @@ impl<'a> PathTable<'a> {
     }
 
     /// The starting stock of the stages from `from` to `to` on the path of `from`; `None` exactly where `to` isn't on it.
-    pub(crate) fn stock_up_to(&self, from: usize, to: usize) -> Option<u64>
+    pub fn stock_up_to(&self, from: usize, to: usize) -> Option<u64>
         requires { from < length self.now.stages }
         ensures { result ≡ stock_down_to self.now from to }
     {

@@ -2,6 +2,7 @@
 use crate::tests::got::got;
 use crate::tests::same::same;
 use line_base::{Date, Items, Name, Times};
+use plant_check::check;
 use plant_model::{CardLoop, Machine, Plant, PlantError, Policy, Stage};
 use sample_plants::two_stages;
 use std::alloc::{AllocError, Global};
@@ -134,7 +135,7 @@ fn line_of(alloc: Global, error: &PlantError) -> Result<String, AllocError> {
 /// The line of the refusal of these parts, or `sound`.
 fn said_of(rt: &impl Abort, alloc: Global, parts: &Parts) -> String {
     let plant = plant_of(rt, alloc, parts);
-    let checked = plant.check(alloc);
+    let checked = check(alloc, &plant);
     drop(plant);
     match checked {
         Ok(()) => got(rt, String::from_str(alloc, "sound")),
