@@ -382,23 +382,21 @@ meeting_goes_on live old now next a inv listed same meets =
 
 -- ---- totals
 
+-- what the stations of all crews have of something together is the sum over the stations of the graph
+total : (f : WorkStation → ℕ) (crews : List WorkCrew) → AreCrews crews → sum_by (λ (crew : WorkCrew). sum_by f crew.team.stations) crews ≡ sum_by (λ t. f (station_of (graph_of crews) (teams_of crews) t)) (range_with_len 0 (stations (graph_of crews)))
+total f crews are =
+    let g = graph_of crews in
+    sym (sum_by-map (λ (team : WorkTeam). sum_by f team.stations) (λ (c : WorkCrew). c.team) crews)
+    ∙ sym (sum-among g (begun_of crews) (teams_of crews) (ranked crews are).limits.some_station (crews_are_teams crews are) f)
+    ∙ sum_by-map f (station_of g (teams_of crews)) (range_with_len 0 (stations g))
+
 pub dates-total : (crews : List WorkCrew) → AreCrews crews → sum_by (λ (crew : WorkCrew). dates_made crew.team) crews ≡ fired (state_among (graph_of crews) (teams_of crews))
 unfolding state_among
 dates-total crews are =
     let g = graph_of crews in
-    let R = range_with_len 0 (stations g) in
-    let station = station_of g (teams_of crews) in
-    sym (sum_by-map dates_made (λ (c : WorkCrew). c.team) crews)
-    ∙ sym (sum-among g (begun_of crews) (teams_of crews) (ranked crews are).limits.some_station (crews_are_teams crews are) dates_of)
-    ∙ sum_by-map dates_of station R
-    ∙ sym (sum_by-map length (λ t. (station t).log.dates) R)
+    total dates_of crews are ∙ sym (sum_by-map length (λ t. (station_of g (teams_of crews) t).log.dates) (range_with_len 0 (stations g)))
 
 pub turns-total : (crews : List WorkCrew) → AreCrews crews → sum_by (λ (crew : WorkCrew). turns_made crew.team) crews ≡ sum (turns_among (graph_of crews) (teams_of crews))
 turns-total crews are =
     let g = graph_of crews in
-    let R = range_with_len 0 (stations g) in
-    let station = station_of g (teams_of crews) in
-    sym (sum_by-map turns_made (λ (c : WorkCrew). c.team) crews)
-    ∙ sym (sum-among g (begun_of crews) (teams_of crews) (ranked crews are).limits.some_station (crews_are_teams crews are) turns_of)
-    ∙ sum_by-map turns_of station R
-    ∙ sym (sum_by-map (λ (n : ℕ). n) (λ t. turns_of (station t)) R)
+    total turns_of crews are ∙ sym (sum_by-map (λ (n : ℕ). n) (λ t. turns_of (station_of g (teams_of crews) t)) (range_with_len 0 (stations g)))

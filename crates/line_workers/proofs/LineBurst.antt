@@ -150,13 +150,9 @@ module _ (old new : List WorkCrew) (made : ℕ) (rest : AreAtRest old made) (b :
 
   -- the new line, seen with what the old one was made for
   abbrev seen : WorkLine
-  seen = record {
-    live = live_of old;
+  seen = record (line_of old made) {
     state = state_among (graph_of old) (teams_of new);
     turns = turns_among (graph_of old) (teams_of new);
-    workers = length old;
-    room = room_of old;
-    made = made;
   }
 
   are : AreCrews old

@@ -22,7 +22,7 @@ use Rattle.worker_crew.specs.Work.{dates_of, turns_of, HasWorked, IsSameShelf, T
 use Rattle.worker_crew.specs.Meeting.{OutletMet, InletMet}
 use Rattle.line_workers.specs.Meeting.{AreStill, MeetsOn}
 use Rattle.worker_crew.proofs.Share.{first-le, next-above, worker-below}
-use Rattle.worker_crew.proofs.Places.{in-stands, out-stands}
+use Rattle.worker_crew.proofs.Places.{StandsIn, in-stands, out-stands}
 use Rattle.worker_crew.proofs.Working.{idle, idle_shelf, idle_team, then_team}
 
 abbrev no_team : WorkTeam
@@ -177,6 +177,29 @@ module _ (g : Parts) (old new : List WorkTeam) (t w j : ℕ) (team : WorkTeam) (
       (λ apart. ap look (station-else u there apart))
       (cases_eq u t)
 
+  -- where station t has changed one end alone, that of arc a, the ends of another arc stay
+  end-else : {X : Type 0} (ends : WorkStation → List X) (d x : X) (lists : Parts → ℕ → List ℕ) (side : ℕ → ℕ) (a b : ℕ) → side a ≡ t → ends after ≡ set (ends (member (team_at old w).stations j)) (place_in (lists g (side a)) a) x → StandsIn (lists g (side a)) a → StandsIn (lists g (side b)) b → side b < stations g → b ≢ a → get_or (ends (station_of g new (side b))) (place_in (lists g (side b)) b) d ≡ get_or (ends (station_of g old (side b))) (place_in (lists g (side b)) b) d
+  end-else {X} ends d x lists side a b at_t changed stands_a stands_b there differ =
+      let p = place_in (lists g (side b)) b in
+      let k = place_in (lists g (side a)) a in
+      ⊎_elim
+      (λ here.
+      let differs : p ≢ k =
+      λ e.
+      differ (
+      sym stands_b.at
+      ∙ ap (λ u. get_or (lists g u) p 0) (here ∙ sym at_t)
+      ∙ ap (λ q. get_or (lists g (side a)) q 0) e
+      ∙ stands_a.at) in
+      ap (λ u. get_or (ends (station_of g new u)) p d) here
+      ∙ ap (λ (s : WorkStation). get_or (ends s) p d) station-seen
+      ∙ ap (λ l. get_or l p d) changed
+      ∙ get_or-set_other (ends (member (team_at old w).stations j)) k p x d differs
+      ∙ ap (λ (s : WorkStation). get_or (ends s) p d) (sym station-was)
+      ∙ ap (λ u. get_or (ends (station_of g old u)) p d) (sym here))
+      (λ apart. ap (λ (s : WorkStation). get_or (ends s) p d) (station-else (side b) there apart))
+      (cases_eq (side b) t)
+
   still-seen : AreStill g old new
   still-seen = record {
     logs = kept-of (λ s. s.log) seen.log;
@@ -325,55 +348,27 @@ module _ (g : Parts) (begun : State) (old : List WorkTeam) (sound : IsGraph g) (
 
     outlet-else : (b : ℕ) → b < arc_count g → b ≢ a → outlet_on g new b ≡ outlet_on g old b
     outlet-else b b_listed differ =
-        let u = (arc g b).from in
-        let p = place_in (outs g u) b in
         let there = sound.starts_exist b b_listed in
-        ap (λ outlets. outlet_at outlets p) (outlets-last u there)
-        ∙ ⊎_elim
-        (λ is_f.
-        let out_a = out-stands g a listed in
-        let out_b = out-stands g b b_listed in
-        let differs : p ≢ k =
-        λ e.
-        differ (
-        sym out_b.at
-        ∙ ap (λ x. get_or (outs g x) p 0) is_f
-        ∙ ap (λ x. get_or (outs g f) x 0) e
-        ∙ out_a.at) in
-        let outlets = (member (team_at old v).stations i).outlets in
-        ap (λ x. outlet_at (station_of g mid x).outlets p) is_f
-        ∙ ap (λ (x : WorkStation). outlet_at x.outlets p) (station-seen g old mid f v i first s puts ∙ out_met.outlet)
-        ∙ get_or-set_other outlets k p (outlet_at s.outlets k) (outlet.Local 0) differs
-        ∙ ap (λ x. outlet_at (station_of g old x).outlets p) (sym is_f))
-        (λ other. ap (λ (x : WorkStation). outlet_at x.outlets p) (station-else g old mid f v i first s puts u there other))
-        (cases_eq u f)
+        ap (λ outlets. outlet_at outlets (place_in (outs g (arc g b).from) b)) (outlets-last (arc g b).from there)
+        ∙ end-else g old mid f v i first s puts (λ x. x.outlets) (outlet.Local 0) (outlet_at s.outlets k) outs (λ n. (arc g n).from) a b refl
+        (ap (λ (x : WorkStation). x.outlets) out_met.outlet)
+        (out-stands g a listed)
+        (out-stands g b b_listed)
+        there
+        differ
 
     input-else : (b : ℕ) → b < arc_count g → b ≢ a → input_on g new b ≡ input_on g old b
     input-else b b_listed differ =
-        let u = (arc g b).to in
-        let p = place_in (ins g u) b in
         let there = sound.ends_exist b b_listed in
         let none : Input = record { inlet = inlet.Local 0; hand = None } in
-        ⊎_elim
-        (λ is_t.
-        let in_a = in-stands g a listed in
-        let in_b = in-stands g b b_listed in
-        let differs : p ≢ l =
-        λ e.
-        differ (
-        sym in_b.at
-        ∙ ap (λ x. get_or (ins g x) p 0) is_t
-        ∙ ap (λ x. get_or (ins g t) x 0) e
-        ∙ in_a.at) in
-        let inputs = (member (team_at old w).stations j).inputs in
-        ap (λ x. input_at (station_of g new x).inputs p) is_t
-        ∙ ap (λ (x : WorkStation). input_at x.inputs p) (station-seen g mid new t w j last r takes ∙ in_met.inlet)
-        ∙ get_or-set_other inputs l p (record (input_at inputs l) { inlet = (input_at r.inputs l).inlet }) none differs
-        ∙ ap (λ x. input_at (station_of g old x).inputs p) (sym is_t))
-        (λ other.
-        ap (λ (x : WorkStation). input_at x.inputs p) (station-else g mid new t w j last r takes u there other)
-        ∙ ap (λ inputs. input_at inputs p) (inputs-first u there))
-        (cases_eq u t)
+        let met : Input = record (input_at (member (team_at old w).stations j).inputs l) { inlet = (input_at r.inputs l).inlet } in
+        end-else g mid new t w j last r takes (λ x. x.inputs) none met ins (λ n. (arc g n).to) a b refl
+        (ap (λ (x : WorkStation). x.inputs) in_met.inlet ∙ ap (λ (u : WorkTeam). set (member u.stations j).inputs l met) (sym team-to))
+        (in-stands g a listed)
+        (in-stands g b b_listed)
+        there
+        differ
+        ∙ ap (λ inputs. input_at inputs (place_in (ins g (arc g b).to) b)) (inputs-first (arc g b).to there)
 
     pub meets_on : AreMet (outlet_at (member first.stations ((arc g a).from - first_of (length old) (stations g) (worker_at g old (arc g a).from))).outlets (place_in (outs g (arc g a).from) a)) (input_at (member last.stations ((arc g a).to - first_of (length old) (stations g) (worker_at g old (arc g a).to))).inputs (place_in (ins g (arc g a).to) a)).inlet → MeetsOn g old (set (set old (worker_at g old (arc g a).from) first) (worker_at g old (arc g a).to) last) a
     meets_on met = record {

@@ -26,49 +26,19 @@ use live_check::Live;
 use std::thread::Threads;
 use worker_crew::{Crew, Gate};
 
-/// The two ends of a ring meet, where the crew that puts comes before the one that takes.
-fn meet_up(crews: &mut [Crew], link: &Link)
-    requires order { link.now.from.worker < link.now.to.worker }
-    requires ring { IsRing crews.old link.now }
-    ensures { HaveMet link.now crews.old crews.new }
-{
-    let (from, to) = (&link.from, &link.to);
-    let (low, high) = crews.split_at_mut(to.worker);
-    low[from.worker].meet(
-        from.number,
-        link.output,
-        &mut high[0],
-        to.number,
-        link.input,
-    );
-}
-
-/// The two ends of a ring meet, where the crew that takes comes before the one that puts.
-fn meet_down(crews: &mut [Crew], link: &Link)
-    requires order { link.now.to.worker < link.now.from.worker }
-    requires ring { IsRing crews.old link.now }
-    ensures { HaveMet link.now crews.old crews.new }
-{
-    let (from, to) = (&link.from, &link.to);
-    let (low, high) = crews.split_at_mut(from.worker);
-    high[0].meet(
-        from.number,
-        link.output,
-        &mut low[to.worker],
-        to.number,
-        link.input,
-    );
-}
-
 /// The two ends of a ring between two workers meet.
 fn meet_over(crews: &mut [Crew], link: &Link)
     requires { IsRing crews.old link.now }
     ensures { HaveMet link.now crews.old crews.new }
 {
-    if link.from.worker < link.to.worker {
-        meet_up(crews, link);
+    let (from, to) = (&link.from, &link.to);
+    let (output, input) = (link.output, link.input);
+    if from.worker < to.worker {
+        let (low, high) = crews.split_at_mut(to.worker);
+        low[from.worker].meet(from.number, output, &mut high[0], to.number, input);
     } else {
-        meet_down(crews, link);
+        let (low, high) = crews.split_at_mut(from.worker);
+        high[0].meet(from.number, output, &mut low[to.worker], to.number, input);
     }
 }
 
@@ -106,26 +76,6 @@ pub(crate) fn meet_all(crews: &mut [Crew], live: &Live)
     for a in 0..live.graph().arcs().len() as u32 {
         meet_on(crews, live, a);
     }
-}
-
-/// Lets each crew work for a burst, at once or in turn, and then the ends of every queue meet. Answers how often the crew
-/// that waited most looked for the others, where they worked at once.
-pub(crate) fn work_and_meet<R: Threads + Sync, G: Gate>(
-    rt: &R,
-    crews: &mut [Crew],
-    live: &Live,
-    gate: &G,
-    at_once: bool,
-) -> Option<u64>
-    requires crews { AreCrews crews.old }
-    requires few { length crews.old ≤ 16 }
-    requires made_for { live.now ≡ live_of crews.old }
-    requires turns { All (λ crew. TurnsBelow (2 ^ 38) crew.team) crews.old }
-    ensures { CrewsBurst crews.old crews.new }
-{
-    let looks = work_all(rt, crews, live, gate, at_once);
-    meet_all(crews, live);
-    looks
 }
 
 /// How many dates the stations of all crews have made together.
@@ -177,7 +127,8 @@ pub(crate) fn burst_of<R: Threads + Sync, G: Gate>(
     let fired = dates_of(crews);
     let steps = turns_of(crews);
     let at_once = threading.begins_threads(crews.len());
-    let looks = work_and_meet(rt, crews, live, gate, at_once);
+    let looks = work_all(rt, crews, live, gate, at_once);
+    meet_all(crews, live);
     let fired_since = dates_of(crews) - fired;
     let steps_since = turns_of(crews) - steps;
     threading.note(looks, fired_since);

@@ -1,5 +1,5 @@
 ghost use Rattle.std.specs.Prelude.{◌≡◌, ◌<◌, ◌≤◌, ◌^◌, ◌↔◌, IsTrue, length};
-ghost use Rattle.event_graph.specs.Network.{stations, arc_count, arc, ins, outs};
+ghost use Rattle.event_graph.specs.Network.{stations, arc_count};
 ghost use Rattle.line_workers.specs.Link.{seat_of, link_of, IsInside};
 ghost use Rattle.worker_crew.specs.Teams.{place_in};
 
@@ -22,10 +22,9 @@ pub(crate) struct Link {
     pub(crate) input: u32,
 }
 
-/// Where a number stands in a list that has it.
+/// Where a number stands in a list; behind its end where the list doesn't have it.
 fn place_in(list: &[u32], number: u32) -> u32
-    requires there { place_in list.now number < length list.now }
-    requires short { length list.now < 2 ^ 32 }
+    requires { length list.now < 2 ^ 32 }
     ensures { result ≡ place_in list.now number }
 {
     let mut place = 0;
@@ -53,22 +52,6 @@ fn seat_of(workers: u32, live: &Live, t: u32) -> Seat
     }
 }
 
-/// Where arc `a` stands among those out of its station.
-fn output_of(live: &Live, a: u32) -> u32
-    requires { a < arc_count live.now.graph }
-    ensures { result ≡ place_in (outs live.now.graph (arc live.now.graph a).from) a }
-{
-    place_in(live.graph().outs(arc_at(live, a).from), a)
-}
-
-/// Where arc `a` stands among those into its station.
-fn input_of(live: &Live, a: u32) -> u32
-    requires { a < arc_count live.now.graph }
-    ensures { result ≡ place_in (ins live.now.graph (arc live.now.graph a).to) a }
-{
-    place_in(live.graph().ins(arc_at(live, a).to), a)
-}
-
 /// Whether one worker has both stations of arc `a`.
 pub(crate) fn is_inside(workers: u32, live: &Live, a: u32) -> bool
     requires few { workers ≤ 16 }
@@ -90,8 +73,8 @@ pub(crate) fn link_of(workers: u32, live: &Live, a: u32) -> Link
     let arc = arc_at(live, a);
     Link {
         from: seat_of(workers, live, arc.from),
-        output: output_of(live, a),
+        output: place_in(live.graph().outs(arc.from), a),
         to: seat_of(workers, live, arc.to),
-        input: input_of(live, a),
+        input: place_in(live.graph().ins(arc.to), a),
     }
 }

@@ -1,4 +1,4 @@
-ghost use Rattle.std.specs.Prelude.{◌≡◌, ℕ, ◌<◌, ◌≤◌, length, All};
+ghost use Rattle.std.specs.Prelude.{◌≡◌, ℕ, ◌<◌, ◌≤◌, ◌↔◌, length, All, IsSome, IsTrue};
 ghost use Rattle.worker_crew.specs.Crews.{crew_at, CrewWorked, IsReadyFor, MayGoOn, HasGoneOn};
 
 use crate::pace::{Pace, PacedGate, Waits};
@@ -72,8 +72,9 @@ pub(crate) fn work_all<R: Threads + Sync, G: Gate>(
 ) -> Option<u64>
     requires some { 1 ≤ length crews.old }
     requires ready { All (IsReadyFor live.now) crews.old }
-    ensures { (w : ℕ) → w < length crews.old →
+    ensures worked { (w : ℕ) → w < length crews.old →
         CrewWorked (crew_at crews.old w) (crew_at crews.new w) }
+    ensures looks { IsSome result ↔ IsTrue at_once }
 {
     if at_once {
         return Some(work_at_once(rt, crews, live, gate));

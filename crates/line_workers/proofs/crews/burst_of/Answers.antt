@@ -1,22 +1,75 @@
+use Rattle.std.proofs.Common.{◌<◌, length, ap, ◌∙◌, sym, subst, arith}
+use Rattle.std.proofs.lemmas.List.{get_or_default}
+use Rattle.line_base.specs.declared.event.Parts.{Parts}
+use Rattle.live_check.specs.Order.{LiveGraph}
+use Rattle.worker_crew.specs.Crew.{WorkCrew, teams_of}
+use Rattle.worker_crew.specs.Crews.{no_crew}
+use Rattle.worker_crew.specs.Teams.{AreAllMet}
+use Rattle.line_workers.specs.Burst.{CrewsBurst}
+use Rattle.line_workers.specs.Meeting.{AreStill}
+use Rattle.line_workers.proofs.AllBurst.{are-mid, same-mid, crews_burst}
 use Rattle.line_workers.proofs.LineBurst.{fired-since, turns-since, turns-below}
+use Rattle.line_workers.proofs.crews.burst_of.Given.{Over}
+use Rattle.line_workers.proofs.crews.burst_of.Goals.{After-meet_all}
 use Rattle.line_workers.proofs.crews.burst_of.Goals as goal
+
+pub work_all-looks-requires-clause-ready : goal.work_all-looks-requires-clause-ready
+work_all-looks-requires-clause-ready g c =
+    λ κs h k d low. record {
+      made_for =
+          c.requires.made_for
+          ∙ sym (c.requires.crews.lives k low)
+          ∙ ap (λ (w : WorkCrew). w.live) (get_or_default c.args.crews.now k no_crew d low);
+      turns = c.requires.turns k d low;
+    }
+
+pub meet_all-requires-clause-crews : goal.meet_all-requires-clause-crews
+meet_all-requires-clause-crews g c =
+    are-mid c.args.crews.now c.work_all-looks.new.crews c.requires.crews c.work_all-looks.auto.crews c.work_all-looks.ensures.worked
+
+pub meet_all-requires-clause-made_for : goal.meet_all-requires-clause-made_for
+meet_all-requires-clause-made_for g c =
+    let first : 0 < length c.args.crews.now = omega (arith, c.requires.crews.some) in
+    c.requires.made_for
+    ∙ sym (ap (λ (w : WorkCrew). w.live) ((same-mid c.args.crews.now c.work_all-looks.new.crews c.requires.crews c.work_all-looks.auto.crews c.work_all-looks.ensures.worked).each 0 first).frame)
+
+-- the crews have made a burst
+burst : (g : Over) (c : After-meet_all g) → CrewsBurst c.args.crews.now c.meet_all.new.crews
+burst g c =
+    let old = c.args.crews.now in
+    let mid = c.work_all-looks.new.crews in
+    let new = c.meet_all.new.crews in
+    let m = c.meet_all.ensures in
+    let graph = ap (λ (l : LiveGraph). l.graph) c.requires.made_for in
+    crews_burst old mid c.requires.crews c.work_all-looks.auto.crews c.work_all-looks.ensures.worked new m.same m.worked
+    (subst (λ (h : Parts). AreStill h (teams_of mid) (teams_of new)) graph m.still)
+    (subst (λ (h : Parts). AreAllMet h (teams_of new)) graph m.met)
+
+pub dates_of-requires-clause-crews : goal.dates_of-requires-clause-crews
+dates_of-requires-clause-crews g c = (burst g (goal.at.dates_of-requires-clause-crews g c).After-meet_all).whole
 
 pub overflow_sub-fired_since : goal.overflow_sub-fired_since
 overflow_sub-fired_since g c =
-    (fired-since c.args.crews.now c.work_and_meet-looks.new.crews c.requires.crews c.work_and_meet-looks.ensures c.dates_of-fired.result c.dates_of.result c.dates_of-fired.ensures c.dates_of.ensures).0
+    (fired-since c.args.crews.now c.meet_all.new.crews c.requires.crews (burst g (goal.at.overflow_sub-fired_since g c).After-meet_all) c.dates_of-fired.result c.dates_of.result c.dates_of-fired.ensures c.dates_of.ensures).0
+
+pub turns_of-requires-clause-crews : goal.turns_of-requires-clause-crews
+turns_of-requires-clause-crews g c = (burst g (goal.at.turns_of-requires-clause-crews g c).After-meet_all).whole
 
 pub turns_of-requires-clause-turns : goal.turns_of-requires-clause-turns
 turns_of-requires-clause-turns g c =
-    turns-below c.args.crews.now c.work_and_meet-looks.new.crews c.requires.crews c.work_and_meet-looks.ensures c.requires.turns
+    turns-below c.args.crews.now c.meet_all.new.crews c.requires.crews (burst g (goal.at.turns_of-requires-clause-turns g c).After-meet_all) c.requires.turns
 
 pub overflow_sub-steps_since : goal.overflow_sub-steps_since
 overflow_sub-steps_since g c =
-    (turns-since c.args.crews.now c.work_and_meet-looks.new.crews c.requires.crews c.work_and_meet-looks.ensures c.turns_of-steps.result c.turns_of.result c.turns_of-steps.ensures c.turns_of.ensures).0
+    (turns-since c.args.crews.now c.meet_all.new.crews c.requires.crews (burst g (goal.at.overflow_sub-steps_since g c).After-meet_all) c.turns_of-steps.result c.turns_of.result c.turns_of-steps.ensures c.turns_of.ensures).0
+
+pub returns-clause-burst : goal.returns-clause-burst
+returns-clause-burst g c = burst g (goal.at.returns-clause-burst g c).After-meet_all
 
 pub returns-clause-fired : goal.returns-clause-fired
 returns-clause-fired g c =
-    (fired-since c.args.crews.now c.work_and_meet-looks.new.crews c.requires.crews c.work_and_meet-looks.ensures c.dates_of-fired.result c.dates_of.result c.dates_of-fired.ensures c.dates_of.ensures).1
+    (fired-since c.args.crews.now c.meet_all.new.crews c.requires.crews (burst g (goal.at.returns-clause-fired g c).After-meet_all) c.dates_of-fired.result c.dates_of.result c.dates_of-fired.ensures c.dates_of.ensures).1
 
 pub returns-clause-steps : goal.returns-clause-steps
 returns-clause-steps g c =
-    (turns-since c.args.crews.now c.work_and_meet-looks.new.crews c.requires.crews c.work_and_meet-looks.ensures c.turns_of-steps.result c.turns_of.result c.turns_of-steps.ensures c.turns_of.ensures).1
+    (turns-since c.args.crews.now c.meet_all.new.crews c.requires.crews (burst g (goal.at.returns-clause-steps g c).After-meet_all) c.turns_of-steps.result c.turns_of.result c.turns_of-steps.ensures c.turns_of.ensures).1
