@@ -1,9 +1,19 @@
 ghost use Rattle.std.specs.Prelude.{◌≡◌, []};
 
 use crate::tests::same::same;
+use line_base::Date;
 use room_ring::{Full, RoomPut, RoomTake, meet, room_ring};
+use std::process::Abort;
 use std::test::Fail;
 use std::thread;
+
+/// Asserts that a ring gives these tokens in order, and then none.
+fn gives(rt: &impl Abort, take: &mut RoomTake, dates: &[Date]) {
+    for date in dates {
+        same(rt, take.take(), Some(*date));
+    }
+    same(rt, take.take(), None);
+}
 
 #[test]
 fn a_full_ring_refuses_until_a_token_is_taken(rt: HostRuntime) -> Result<(), Fail> {
@@ -13,9 +23,7 @@ fn a_full_ring_refuses_until_a_token_is_taken(rt: HostRuntime) -> Result<(), Fai
     same(&rt, put.put(7), Err(Full));
     same(&rt, take.take(), Some(0));
     same(&rt, put.put(7), Ok(()));
-    for date in [Some(5), Some(7), None] {
-        same(&rt, take.take(), date);
-    }
+    gives(&rt, &mut take, &[5, 7]);
     same(&rt, put.space(), 0);
     same(&rt, put.look(), 2);
     drop(put);
@@ -32,9 +40,7 @@ fn a_token_taken_is_room_for_another_after_a_meeting(rt: HostRuntime) -> Result<
     meet(&mut put, &mut take);
     same(&rt, put.put(9), Ok(()));
     meet(&mut put, &mut take);
-    for date in [Some(4), Some(9), None] {
-        same(&rt, take.take(), date);
-    }
+    gives(&rt, &mut take, &[4, 9]);
     drop(put);
     drop(take);
     Ok(())
