@@ -1,9 +1,31 @@
+ghost use Rattle.std.specs.Prelude.{◌<◌};
+ghost use Rattle.event_graph.specs.Network.{stations};
+ghost use Rattle.line_calls.specs.OneShelf.{IsLine};
+
 use crate::tests::one_shelf::{fresh_line, fresh_shelf, hand_at, step_at};
 use crate::tests::same::same;
-use live_check::rank;
+use live_check::{Live, rank};
 use sample_plants::{live_pair, live_stages, plain, two_stations};
-use station_step::Stepped;
+use station_step::{Station, Stepped};
+use std::process::Abort;
 use std::test::Fail;
+use token_shelf::Shelf;
+
+/// Asserts what the next step of station `t` of a line comes to.
+fn steps(
+    rt: &impl Abort,
+    live: &Live,
+    shelf: &mut Shelf,
+    line: &mut Vec<Station>,
+    t: u32,
+    stepped: Stepped,
+)
+    requires is_line { IsLine live.now.graph shelf.old line.old.items }
+    requires exists { t < stations live.now.graph }
+    ensures { IsLine live.now.graph shelf.new line.new.items }
+{
+    same(rt, step_at(live, shelf, line, t), stepped);
+}
 
 // The release `cut` waits for the card of arc 9; the feed fires once for each of the three demands.
 #[test]
@@ -12,14 +34,11 @@ fn a_step_fires_or_names_the_first_arc_without_a_token(rt: HostRuntime) -> Resul
     assert!(rt; live.graph().stations() == 6);
     let mut shelf = fresh_shelf(rt.alloc(), live.graph())?;
     let mut line = fresh_line(rt.alloc(), live, &shelf).expect(&rt, "memory");
-    let cut = step_at(live, &mut shelf, &mut line, 1);
-    let first = step_at(live, &mut shelf, &mut line, 0);
-    let second = step_at(live, &mut shelf, &mut line, 0);
-    let third = step_at(live, &mut shelf, &mut line, 0);
-    let fourth = step_at(live, &mut shelf, &mut line, 0);
-    same(&rt, cut, Stepped::Blocked(9));
-    same(&rt, [first, second, third], [Stepped::Fired; 3]);
-    same(&rt, fourth, Stepped::Done);
+    steps(&rt, live, &mut shelf, &mut line, 1, Stepped::Blocked(9));
+    steps(&rt, live, &mut shelf, &mut line, 0, Stepped::Fired);
+    steps(&rt, live, &mut shelf, &mut line, 0, Stepped::Fired);
+    steps(&rt, live, &mut shelf, &mut line, 0, Stepped::Fired);
+    steps(&rt, live, &mut shelf, &mut line, 0, Stepped::Done);
     drop(line);
     drop(shelf);
     Ok(())
@@ -32,11 +51,10 @@ fn dates_come_out_of_two_stations_with_their_delays(rt: HostRuntime) -> Result<(
     assert!(rt; live.graph().stations() == 2);
     let mut shelf = fresh_shelf(rt.alloc(), live.graph())?;
     let mut line = fresh_line(rt.alloc(), live, &shelf).expect(&rt, "memory");
-    let feed = step_at(live, &mut shelf, &mut line, 0);
-    let a = step_at(live, &mut shelf, &mut line, 1);
-    let feed_again = step_at(live, &mut shelf, &mut line, 0);
-    let a_again = step_at(live, &mut shelf, &mut line, 1);
-    same(&rt, [feed, a, feed_again, a_again], [Stepped::Fired; 4]);
+    steps(&rt, live, &mut shelf, &mut line, 0, Stepped::Fired);
+    steps(&rt, live, &mut shelf, &mut line, 1, Stepped::Fired);
+    steps(&rt, live, &mut shelf, &mut line, 0, Stepped::Fired);
+    steps(&rt, live, &mut shelf, &mut line, 1, Stepped::Fired);
     same(&rt, line[1].log(), [4, 9].as_slice());
     drop(line);
     drop(shelf);
@@ -52,9 +70,8 @@ fn a_blocked_station_keeps_the_tokens_that_it_took(rt: HostRuntime) -> Result<()
     let mut shelf = fresh_shelf(rt.alloc(), live.graph()).expect(&rt, "memory");
     let mut line = fresh_line(rt.alloc(), &live, &shelf).expect(&rt, "memory");
     let before = hand_at(&live, &shelf, &line, 1, 1);
-    let a = step_at(&live, &mut shelf, &mut line, 1);
+    steps(&rt, &live, &mut shelf, &mut line, 1, Stepped::Blocked(0));
     same(&rt, before, None);
-    same(&rt, a, Stepped::Blocked(0));
     same(&rt, hand_at(&live, &shelf, &line, 1, 0), None);
     same(&rt, hand_at(&live, &shelf, &line, 1, 1), Some(0));
     drop(line);

@@ -64,6 +64,16 @@ fn dates_at(sheet: &Sheet, t: u32) -> [Date; 3]
     [sheet.date(t, 1), sheet.date(t, 2), sheet.date(t, 3)]
 }
 
+/// The dates of the six stations where no edit moves one.
+const DATES: [[Date; 3]; 6] = [
+    [0, 2, 4],
+    [0, 5, 10],
+    [3, 8, 13],
+    [0, 5, 10],
+    [5, 10, 15],
+    [0, 5, 10],
+];
+
 /// Asserts the dates of all six stations.
 fn has_dates(rt: &impl Abort, sheet: &Sheet, dates: [[Date; 3]; 6])
     requires stations { stations sheet.now.live.graph ≡ 6 }
@@ -102,18 +112,9 @@ fn a_longer_time_moves_the_dates_that_follow(rt: HostRuntime) -> Result<(), Fail
 fn a_later_demand_moves_the_feed(rt: HostRuntime) -> Result<(), Fail> {
     let sheet = settled(&rt, rt.alloc(), b"\ndemand 3 9")?;
     same(&rt, sheet.demand(3), 9);
-    has_dates(
-        &rt,
-        &sheet,
-        [
-            [0, 2, 9],
-            [0, 5, 10],
-            [3, 8, 13],
-            [0, 5, 10],
-            [5, 10, 15],
-            [0, 5, 10],
-        ],
-    );
+    let mut dates = DATES;
+    dates[0] = [0, 2, 9];
+    has_dates(&rt, &sheet, dates);
     drop(sheet);
     Ok(())
 }
@@ -121,18 +122,7 @@ fn a_later_demand_moves_the_feed(rt: HostRuntime) -> Result<(), Fail> {
 #[test]
 fn an_edit_that_says_what_holds_changes_nothing(rt: HostRuntime) -> Result<(), Fail> {
     let sheet = settled(&rt, rt.alloc(), b"time cut.saw 1 3")?;
-    has_dates(
-        &rt,
-        &sheet,
-        [
-            [0, 2, 4],
-            [0, 5, 10],
-            [3, 8, 13],
-            [0, 5, 10],
-            [5, 10, 15],
-            [0, 5, 10],
-        ],
-    );
+    has_dates(&rt, &sheet, DATES);
     same(&rt, sheet.evaluations(), 1);
     drop(sheet);
     let unedited = settled(&rt, rt.alloc(), b"")?;

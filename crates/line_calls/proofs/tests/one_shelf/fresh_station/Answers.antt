@@ -10,7 +10,8 @@ use Rattle.station_step.specs.Ends.{IsUntaken, IsUnfilled, HasRingRoom}
 use Rattle.station_step.specs.Station.{WorkStation, outlet_at, new_station}
 use Rattle.station_step.specs.Kept.{IsKept, IsFresh}
 use Rattle.line_calls.specs.OneShelf.{IsFreshShelf, IsLocal, local_inlets, local_outlets}
-use Rattle.line_calls.proofs.OneShelf.{untaken-local, unfilled-local, ring_room-local, made-is, made-local, made-fresh}
+use Rattle.line_calls.proofs.OneShelf.{untaken-local, unfilled-local, ring_room-local, made_station, made-is, made-local, made-fresh}
+use Rattle.line_calls.proofs.tests.one_shelf.fresh_station.Goals.{In_ok-station}
 use Rattle.line_calls.proofs.tests.one_shelf.fresh_station.Goals as goal
 
 pub new-requires-2-clause-untaken : goal.new-requires-2-clause-untaken
@@ -26,25 +27,22 @@ new-requires-2-clause-ring_room c k low =
     subst (λ (l : List Outlet). HasRingRoom (jobs c.args.live.now.graph - length c.in_ok-log.log.dates) (outlet_at l k)) (sym c.in_ok-outlets.ensures)
     (ring_room-local c.outs.result.now (jobs c.args.live.now.graph - length c.in_ok-log.log.dates) k)
 
+-- the station that was made has local ends
+made : (c : In_ok-station) → c.in_ok-station.station ≡ made_station c.args.live.now.graph c.args.t c.in_ok-log.log
+made c =
+    let g = c.args.live.now.graph in
+    let t = c.args.t in
+    made-is g t c.in_ok-inlets.inlets.items c.in_ok-outlets.outlets.items c.in_ok-log.log c.ins.result.now c.outs.result.now c.in_ok-station.station c.in_ok-station.ensures.made c.in_ok-inlets.ensures c.in_ok-outlets.ensures
+    (c.ins.ensures.arcs ∙ ap (λ (h : Parts). ins h t) c.graph-graph.ensures.graph)
+    (c.outs.ensures.arcs ∙ ap (λ (h : Parts). outs h t) c.graph-graph.ensures.graph)
+
 pub returns-clause-is_local : goal.returns-clause-is_local
 returns-clause-is_local c =
     let g = c.args.live.now.graph in
-    let t = c.args.t in
-    let log = c.in_ok-log.log in
-    let made =
-    made-is g t c.in_ok-inlets.inlets.items c.in_ok-outlets.outlets.items log c.ins.result.now c.outs.result.now c.in_ok-station.station c.in_ok-station.ensures.made c.in_ok-inlets.ensures c.in_ok-outlets.ensures
-    (c.ins.ensures.arcs ∙ ap (λ (h : Parts). ins h t) c.graph-graph.ensures.graph)
-    (c.outs.ensures.arcs ∙ ap (λ (h : Parts). outs h t) c.graph-graph.ensures.graph) in
-    subst (IsLocal g t) (sym made) (made-local g t log)
+    subst (IsLocal g c.args.t) (sym (made c)) (made-local g c.args.t c.in_ok-log.log)
 
 pub returns-clause-kept : goal.returns-clause-kept
 returns-clause-kept c shelf fresh =
-    let g = c.args.live.now.graph in
-    let t = c.args.t in
-    let log = c.in_ok-log.log in
-    let made =
-    made-is g t c.in_ok-inlets.inlets.items c.in_ok-outlets.outlets.items log c.ins.result.now c.outs.result.now c.in_ok-station.station c.in_ok-station.ensures.made c.in_ok-inlets.ensures c.in_ok-outlets.ensures
-    (c.ins.ensures.arcs ∙ ap (λ (h : Parts). ins h t) c.graph-graph.ensures.graph)
-    (c.outs.ensures.arcs ∙ ap (λ (h : Parts). outs h t) c.graph-graph.ensures.graph) in
+    let empty = ap (λ (l : RoomyLog). l.dates) c.in_ok-log.ensures in
     c.in_ok-station.ensures.kept shelf
-    (subst (IsFresh shelf) (sym made) (made-fresh g t log shelf (ap (λ (l : RoomyLog). l.dates) c.in_ok-log.ensures) fresh))
+    (subst (IsFresh shelf) (sym (made c)) (made-fresh c.args.live.now.graph c.args.t c.in_ok-log.log shelf empty fresh))
