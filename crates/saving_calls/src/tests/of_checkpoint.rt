@@ -70,20 +70,6 @@ fn with_piece(alloc: Global, text: &str, pieces: (&str, &str)) -> Result<String,
     Ok(format!(in alloc; "{front}{new}{back}")?)
 }
 
-/// Asserts the answer to a text of the two stages in which one piece is another.
-fn answers(
-    rt: &impl Abort,
-    alloc: Global,
-    text: &str,
-    pieces: (&str, &str),
-    wanted: Result<u64, CheckpointError>,
-) -> Result<(), Fail> {
-    let live = live_stages(alloc)?;
-    let text = with_piece(alloc, text, pieces)?;
-    answers_to(rt, alloc, live, text.as_str(), wanted);
-    Ok(())
-}
-
 /// Asserts that each front of a text is refused with the line that it cuts.
 fn each_front_is_refused(rt: &impl Abort, alloc: Global, live: &Live, text: &[u8]) {
     let mut number: u64 = 1;
@@ -172,18 +158,12 @@ fn start_in_format_1(alloc: Global) -> Result<String, Fail> {
 }
 
 #[test]
-fn a_finished_state_is_written(rt: HostRuntime) -> Result<(), Fail> {
+fn a_start_and_a_finished_state_are_written(rt: HostRuntime) -> Result<(), Fail> {
     let live = live_stages(rt.alloc())?;
-    let text = text_of_run(rt.alloc(), live)?;
-    same(&rt, text.as_slice(), FINISHED.as_bytes());
-    Ok(())
-}
-
-#[test]
-fn a_start_is_written(rt: HostRuntime) -> Result<(), Fail> {
-    let live = live_stages(rt.alloc())?;
-    let text = text_of_start(rt.alloc(), live)?;
-    same(&rt, text.as_slice(), START.as_bytes());
+    let start = text_of_start(rt.alloc(), live)?;
+    same(&rt, start.as_slice(), START.as_bytes());
+    let finished = text_of_run(rt.alloc(), live)?;
+    same(&rt, finished.as_slice(), FINISHED.as_bytes());
     Ok(())
 }
 
@@ -213,46 +193,46 @@ fn a_state_that_is_read_knows_its_firings(rt: HostRuntime) -> Result<(), Fail> {
     Ok(())
 }
 
-#[test]
-fn a_date_that_no_firings_reach_is_refused(rt: HostRuntime) -> Result<(), Fail> {
-    let late = CheckpointError::Date {
-        station: 2,
-        job: 1,
-        have: 4,
-        need: 3,
-    };
-    let pieces = ("station cut.saw 1 3", "station cut.saw 1 4");
-    answers(&rt, rt.alloc(), FIVE_FIRINGS, pieces, Err(late))
+/// Asserts the words of the refusal of a text of the two stages in which one piece is another.
+fn is_refused_as(
+    rt: &impl Abort,
+    alloc: Global,
+    text: &str,
+    pieces: (&str, &str),
+    words: &str,
+) -> Result<(), Fail> {
+    let live = live_stages(alloc)?;
+    let text = with_piece(alloc, text, pieces)?;
+    match answer(rt, alloc, live, text.as_bytes()) {
+        Ok(_) => Err("nothing is refused".into()),
+        Err(refusal) => {
+            let told = format!(in alloc; "{refusal}")?;
+            same(rt, told.as_str(), words);
+            Ok(())
+        }
+    }
 }
 
 #[test]
-fn a_place_that_no_firings_reach_is_refused(rt: HostRuntime) -> Result<(), Fail> {
-    let few = CheckpointError::Marking {
-        arc: 4,
-        have: 0,
-        need: 1,
-    };
-    let pieces = ("place 4 1 0", "place 4 0");
-    answers(&rt, rt.alloc(), FIVE_FIRINGS, pieces, Err(few))?;
-    let early = CheckpointError::PlaceDate {
-        arc: 1,
-        token: 1,
-        have: 2,
-        need: 3,
-    };
-    let pieces = ("place 1 1 3", "place 1 1 2");
-    answers(&rt, rt.alloc(), FIVE_FIRINGS, pieces, Err(early))
-}
-
-#[test]
-fn a_log_with_more_dates_than_jobs_is_refused(rt: HostRuntime) -> Result<(), Fail> {
-    let many = CheckpointError::Count {
-        station: 0,
-        have: 4,
-        limit: 3,
-    };
-    let pieces = ("station feed 1 0", "station feed 4 0 2 4 4");
-    answers(&rt, rt.alloc(), FIVE_FIRINGS, pieces, Err(many))
+fn dates_places_and_logs_that_no_firings_reach_are_refused(rt: HostRuntime) -> Result<(), Fail> {
+    let refused = [
+        ("feed 1 0", "feed 4 0 2 4 4", "station 0 has 4 dates of 3"),
+        ("place 4 1 0", "place 4 0", "arc 4 has 0 tokens, needs 1"),
+        (
+            "cut.saw 1 3",
+            "cut.saw 1 4",
+            "job 1 of station 2 has date 4, needs 3",
+        ),
+        (
+            "place 1 1 3",
+            "place 1 1 2",
+            "token 1 of arc 1 has date 2, needs 3",
+        ),
+    ];
+    for (old, new, words) in refused {
+        is_refused_as(&rt, rt.alloc(), FIVE_FIRINGS, (old, new), words)?;
+    }
+    Ok(())
 }
 
 /// Asserts that a line of the finished state is refused where one piece is another.
@@ -262,63 +242,58 @@ fn is_refused(
     pieces: (&str, &str),
     number: u64,
 ) -> Result<(), Fail> {
-    answers(rt, alloc, FINISHED, pieces, line(number))
-}
-
-/// Asserts that the line of the feed is refused where its end is this.
-fn feed_is_refused(rt: &impl Abort, alloc: Global, new: &str) -> Result<(), Fail> {
-    is_refused(rt, alloc, ("feed 3 0 2 2", new), 3)
-}
-
-#[test]
-fn words_that_are_no_difference_are_refused(rt: HostRuntime) -> Result<(), Fail> {
-    feed_is_refused(&rt, rt.alloc(), "feed 3 0 2 -0")?;
-    feed_is_refused(&rt, rt.alloc(), "feed 3 0 2 +2")?;
-    feed_is_refused(&rt, rt.alloc(), "feed 3 0 2 02")?;
-    feed_is_refused(&rt, rt.alloc(), "feed 3 0  2 2")
+    let live = live_stages(alloc)?;
+    let text = with_piece(alloc, FINISHED, pieces)?;
+    answers_to(rt, alloc, live, text.as_str(), line(number));
+    Ok(())
 }
 
 #[test]
-fn lines_of_another_length_are_refused(rt: HostRuntime) -> Result<(), Fail> {
-    feed_is_refused(&rt, rt.alloc(), "feed 3 0 2")?;
-    feed_is_refused(&rt, rt.alloc(), "feed 3 0 2 2 2")?;
-    feed_is_refused(&rt, rt.alloc(), "feed 99999999999999999999 0 2 2")?;
-    feed_is_refused(&rt, rt.alloc(), "feeds 3 0 2 2")
-}
-
-#[test]
-fn dates_below_0_or_above_the_latest_are_refused(rt: HostRuntime) -> Result<(), Fail> {
-    feed_is_refused(&rt, rt.alloc(), "feed 3 0 2 -3")?;
-    feed_is_refused(&rt, rt.alloc(), "feed 3 0 2 1000000000000000001")?;
-    feed_is_refused(&rt, rt.alloc(), "feed 3 0 2 999999999999999999")
-}
-
-#[test]
-fn other_lines_are_refused_by_their_number(rt: HostRuntime) -> Result<(), Fail> {
-    is_refused(&rt, rt.alloc(), ("delays 0", "delays 1 3 4"), 2)?;
-    is_refused(&rt, rt.alloc(), ("place 3 1 13", "place 4 1 13"), 12)?;
-    is_refused(&rt, rt.alloc(), ("end\n", "end"), 20)?;
-    is_refused(&rt, rt.alloc(), ("end\n", "end\n\n"), 21)
-}
-
-/// Asserts the refusal of the last date of the feed, which is this, where its line ends so.
-fn last_date_is_refused(rt: &impl Abort, alloc: Global, new: &str, have: u64) -> Result<(), Fail> {
-    let error = CheckpointError::Date {
-        station: 0,
-        job: 3,
-        have,
-        need: 4,
-    };
-    answers(rt, alloc, FINISHED, ("feed 3 0 2 2", new), Err(error))
+fn lines_of_another_form_are_refused_by_their_number(rt: HostRuntime) -> Result<(), Fail> {
+    let feed = "feed 3 0 2 2";
+    let lines = [
+        // Words that are no difference.
+        (feed, "feed 3 0 2 -0", 3),
+        (feed, "feed 3 0 2 +2", 3),
+        (feed, "feed 3 0 2 02", 3),
+        (feed, "feed 3 0  2 2", 3),
+        // Lines of another length.
+        (feed, "feed 3 0 2", 3),
+        (feed, "feed 3 0 2 2 2", 3),
+        (feed, "feed 99999999999999999999 0 2 2", 3),
+        (feed, "feeds 3 0 2 2", 3),
+        // Dates below 0 or above the latest.
+        (feed, "feed 3 0 2 -3", 3),
+        (feed, "feed 3 0 2 1000000000000000001", 3),
+        (feed, "feed 3 0 2 999999999999999999", 3),
+        // Other lines.
+        ("delays 0", "delays 1 3 4", 2),
+        ("place 3 1 13", "place 4 1 13", 12),
+        ("end\n", "end", 20),
+        ("end\n", "end\n\n", 21),
+    ];
+    for (old, new, number) in lines {
+        is_refused(&rt, rt.alloc(), (old, new), number)?;
+    }
+    Ok(())
 }
 
 #[test]
 fn a_date_may_be_as_late_as_a_number_and_earlier_than_the_one_before(
     rt: HostRuntime,
 ) -> Result<(), Fail> {
-    let latest = 1_000_000_000_000_000_000;
-    last_date_is_refused(&rt, rt.alloc(), "feed 3 0 2 999999999999999998", latest)?;
-    last_date_is_refused(&rt, rt.alloc(), "feed 3 0 2 -2", 0)
+    // What stands at the end of the feed's line in the place of "2 2".
+    let refused = [
+        ("2 -2", "job 3 of station 0 has date 0, needs 4"),
+        (
+            "2 999999999999999998",
+            "job 3 of station 0 has date 1000000000000000000, needs 4",
+        ),
+    ];
+    for (end, words) in refused {
+        is_refused_as(&rt, rt.alloc(), FINISHED, ("2 2", end), words)?;
+    }
+    Ok(())
 }
 
 #[test]
