@@ -95,26 +95,30 @@ fn fires<R: Abort + Threads + Sync>(rt: &R, live: &Live, line: &mut Line, times:
     same(rt, burst, Burst { fired, steps });
 }
 
+/// Asserts that the next bursts of a line fire so often, one after the other.
+fn fires_in_bursts<R: Abort + Threads + Sync>(rt: &R, live: &Live, mut line: Line, bursts: &[u64])
+    requires { live.now ≡ line.live }
+{
+    for times in bursts {
+        fires(rt, live, &mut line, *times);
+    }
+    drop(line);
+}
+
 // Sixteen sweeps of six stations are 96 steps; of forty jobs eight are left for the third burst.
 #[test]
 fn one_worker_fires_with_every_step(rt: HostRuntime) -> Result<(), Fail> {
     let live = live_forty_jobs(rt.alloc())?;
-    let mut line = new_line(rt.alloc(), live, 1)?;
-    fires(&rt, live, &mut line, 96);
-    fires(&rt, live, &mut line, 96);
-    fires(&rt, live, &mut line, 48);
-    fires(&rt, live, &mut line, 0);
-    drop(line);
+    let line = new_line(rt.alloc(), live, 1)?;
+    fires_in_bursts(&rt, live, line, &[96, 96, 48, 0]);
     Ok(())
 }
 
 #[test]
 fn three_jobs_are_one_burst_of_one_worker(rt: HostRuntime) -> Result<(), Fail> {
     let live = live_stages(rt.alloc())?;
-    let mut line = new_line(rt.alloc(), live, 1)?;
-    fires(&rt, live, &mut line, 18);
-    fires(&rt, live, &mut line, 0);
-    drop(line);
+    let line = new_line(rt.alloc(), live, 1)?;
+    fires_in_bursts(&rt, live, line, &[18, 0]);
     Ok(())
 }
 
@@ -188,24 +192,17 @@ fn closes_with(rt: &impl Abort, live: &Live, line: Line, t: u32, dates: &[Date])
     drop(state);
 }
 
-/// Asserts the dates of the second station where its token comes back to it this much later.
-fn keeps_back<R: Abort + Threads + Sync>(
-    rt: &R,
-    alloc: Global,
-    delay: u64,
-    dates: &[Date],
-) -> Result<(), Fail> {
-    let live = live_pair(alloc, delay)?;
-    same(rt, live.graph().stations(), 2);
-    let line = worked_line(rt, alloc, live, 2, &FreeGate)?;
-    closes_with(rt, live, line, 1, dates);
-    Ok(())
-}
-
+// The token of the second station comes back to it 2 later, and at once.
 #[test]
 fn two_workers_keep_tokens_back_by_the_delays(rt: HostRuntime) -> Result<(), Fail> {
-    keeps_back(&rt, rt.alloc(), 2, &[4, 9])?;
-    keeps_back(&rt, rt.alloc(), 0, &[4, 7])
+    let cases: [(u64, [Date; 2]); 2] = [(2, [4, 9]), (0, [4, 7])];
+    for (delay, dates) in cases {
+        let live = live_pair(rt.alloc(), delay)?;
+        same(&rt, live.graph().stations(), 2);
+        let line = worked_line(&rt, rt.alloc(), live, 2, &FreeGate)?;
+        closes_with(&rt, live, line, 1, &dates);
+    }
+    Ok(())
 }
 
 /// The start of a graph, of whose stations the feed has fired.
