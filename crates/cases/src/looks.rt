@@ -32,14 +32,10 @@ fn plant_of(alloc: Global, bytes: &[u8]) -> Result<Plant, Reason>
 /// The arcs of a plant's graph in order, a line each: its number, the stations at its start and its end, its tokens, whether
 /// it is worked, and its delay.
 pub fn arcs_of(alloc: Global, bytes: &[u8]) -> Result<Vec<u8>, Reason> {
-    match graph_for(alloc, bytes) {
-        Ok(graph) => {
-            let lines = arc_lines(alloc, &graph);
-            drop(graph);
-            lines
-        }
-        Err(reason) => Err(reason),
-    }
+    let graph = graph_for(alloc, bytes)?;
+    let lines = arc_lines(alloc, &graph);
+    drop(graph);
+    lines
 }
 
 /// The graph of the plant of a plant file. What its contract says is let go here.
@@ -76,14 +72,10 @@ fn kind_of(arc: Arc) -> &'static str {
 
 /// The card circuits of a plant in order, a line each: whose cards they are, their number, and the arcs.
 pub fn circuits_of(alloc: Global, bytes: &[u8]) -> Result<Vec<u8>, Reason> {
-    match plant_of(alloc, bytes) {
-        Ok(plant) => {
-            let lines = circuit_lines(alloc, &plant);
-            drop(plant);
-            lines
-        }
-        Err(reason) => Err(reason),
-    }
+    let plant = plant_of(alloc, bytes)?;
+    let lines = circuit_lines(alloc, &plant);
+    drop(plant);
+    lines
 }
 
 /// The lines of the card circuits of a plant.

@@ -56,6 +56,16 @@ struct Left {
     slots: Slots,
 }
 
+/// What each step of a case runs on.
+#[derive(Drop)]
+struct Bench<'a, R, S> {
+    rt: &'a R,
+    alloc: Global,
+    /// The folder of the case files.
+    folder: &'a mut S,
+    told: &'a mut Told,
+}
+
 /// What is told of a case.
 pub fn run_case<R: Threads + Wait + Sync, S: Store>(
     rt: &R,
@@ -71,106 +81,273 @@ pub fn run_case<R: Threads + Wait + Sync, S: Store>(
         text: Vec::new(alloc),
         runs: 0,
     };
-    let ran = run_steps(rt, alloc, &case.steps, &mut found, folder, &mut told);
+    let mut bench = Bench {
+        rt,
+        alloc,
+        folder,
+        told: &mut told,
+    };
+    let ran = bench.run_steps(&case.steps, &mut found);
     drop(found);
     ran?;
     Ok(told)
 }
 
-/// Runs the steps of a case in order.
-fn run_steps<R: Threads + Wait + Sync, S: Store>(
-    rt: &R,
-    alloc: Global,
-    steps: &[Step],
-    found: &mut Found,
-    folder: &mut S,
-    told: &mut Told,
-) -> Result<(), BadLine> {
-    for step in steps {
-        if let Err(reason) = run_step(rt, alloc, step, found, folder, told) {
-            return Err(BadLine {
-                line: step.line,
-                reason,
-            });
+impl<'a, R: Threads + Wait + Sync, S: Store> Bench<'a, R, S> {
+    /// Runs the steps of a case in order.
+    fn run_steps(&mut self, steps: &[Step], found: &mut Found) -> Result<(), BadLine> {
+        for step in steps {
+            if let Err(reason) = self.run_step(step, found) {
+                return Err(BadLine {
+                    line: step.line,
+                    reason,
+                });
+            }
+        }
+        Ok(())
+    }
+
+    /// Runs a step.
+    fn run_step(&mut self, step: &Step, found: &mut Found) -> Result<(), Reason> {
+        match &step.act {
+            Act::Change(change) => apply(self.alloc, change, &mut found.files, self.folder),
+            Act::Run(run) => self.run_commands(run, step.line, found),
         }
     }
-    Ok(())
-}
 
-/// Runs a step.
-fn run_step<R: Threads + Wait + Sync, S: Store>(
-    rt: &R,
-    alloc: Global,
-    step: &Step,
-    found: &mut Found,
-    folder: &mut S,
-    told: &mut Told,
-) -> Result<(), Reason> {
-    match &step.act {
-        Act::Change(change) => apply(alloc, change, &mut found.files, folder),
-        Act::Run(run) => run_commands(rt, alloc, run, step.line, found, folder, told),
+    /// Runs commands one after the other over what each finds.
+    fn run_commands(&mut self, run: &Run, line: u64, found: &mut Found) -> Result<(), Reason> {
+        for words in run.commands.iter() {
+            let attempt = attempt_of(run, line, words, found);
+            for row in run.rows.iter() {
+                self.run_row(&attempt, row)?;
+            }
+            for variants in run.variants.iter() {
+                self.run_variants(&attempt, variants)?;
+            }
+            if run.want.status.is_some() {
+                let left = self.run_command(run, &attempt)?;
+                leave(found, left)?;
+            }
+        }
+        Ok(())
+    }
+
+    /// Runs a command over each variant of a file.
+    fn run_variants(&mut self, attempt: &Attempt, variants: &Variants) -> Result<(), Reason> {
+        let file = variants.file.as_str();
+        let whole = held(attempt.files, file)?;
+        for number in 0..variants.kind.count(whole.len()) {
+            if !self.run_variant(attempt, variants, whole, number)? {
+                add_variant(self.alloc, self.told, file, number)?;
+            }
+        }
+        Ok(())
+    }
+
+    /// Runs a command over the variant of this number of a file that holds these bytes, and tells what came where it is
+    /// no answer. Answers whether it is one.
+    fn run_variant(
+        &mut self,
+        attempt: &Attempt,
+        variants: &Variants,
+        whole: &[u8],
+        number: usize,
+    ) -> Result<bool, Reason> {
+        let variant = variants.kind.variant(self.alloc, whole, number)?;
+        let files = files_with(attempt.files, &variants.file, variant)?;
+        let answers = self.answers(attempt, &files);
+        drop(files);
+        answers
+    }
+
+    /// Runs a command over these files, and tells what came where it is no answer. Answers whether it is one.
+    fn answers(&mut self, attempt: &Attempt, files: &Files) -> Result<bool, Reason> {
+        let attempt = Attempt { files, ..*attempt };
+        let came = call(self.rt, self.alloc, &attempt)?;
+        self.told.runs = self.told.runs.saturating_add(1);
+        let fits = is_answer(came.status, &came.written) && came.changed.is_empty();
+        let judged = self.judged(&attempt, &came, fits);
+        drop(came);
+        judged
+    }
+
+    /// Tells what came of an attempt where it doesn't fit. Answers whether it fits.
+    fn judged(&mut self, attempt: &Attempt, came: &Came, fits: bool) -> Result<bool, Reason> {
+        if !fits {
+            add_came(self.alloc, self.told, attempt.line, attempt.words, came)?;
+        }
+        Ok(fits)
+    }
+
+    /// Tries a command, and then with each fault in turn. Answers what it leaves.
+    fn run_command(&mut self, run: &Run, attempt: &Attempt) -> Result<Option<Left>, Reason> {
+        let came = self.tried(attempt)?;
+        match self.fail_in_turn(run, attempt, &came.written) {
+            Ok(()) => Ok(came.left),
+            Err(reason) => {
+                drop(came);
+                Err(reason)
+            }
+        }
+    }
+
+    /// Runs a command over the files of a row of a table.
+    fn run_row(&mut self, attempt: &Attempt, numbered: &NumberedRow) -> Result<(), Reason> {
+        let changes = numbered.row.changes.as_slice();
+        let files = changed_files(self.alloc, attempt.files, changes, self.folder)?;
+        let checked = self.check_row(attempt, numbered, &files);
+        drop(files);
+        checked
+    }
+
+    /// Runs a command over these files, which are those of a row of a table.
+    fn check_row(
+        &mut self,
+        attempt: &Attempt,
+        numbered: &NumberedRow,
+        files: &Files,
+    ) -> Result<(), Reason> {
+        let want = &numbered.row.want;
+        self.check_attempt(&Attempt {
+            line: numbered.line,
+            files,
+            crash: None,
+            status: want.status.unwrap_or(0),
+            output: &want.output,
+            after: &want.after,
+            ..*attempt
+        })
+    }
+
+    /// Makes the calls of the store and of the disk fail in turn, and the first put, where a run is to have it so.
+    /// Without a fault all of this was written.
+    fn fail_in_turn(&mut self, run: &Run, attempt: &Attempt, whole: &[u8]) -> Result<(), Reason> {
+        if let Some(calls) = run.each_disk_fault {
+            self.fail_disk(attempt, calls)?;
+        }
+        if let Some(names) = &run.each_fault {
+            self.fail_store(attempt, names)?;
+            let nothing = Output::Whole(Vec::new(self.alloc));
+            self.fail_put(attempt, 0, nothing)?;
+            let front = Output::Front(5, whole.to_vec(self.alloc)?);
+            self.fail_put(attempt, 5, front)?;
+        }
+        Ok(())
+    }
+
+    /// Makes each call of the store fail in turn, which are of these files, then one more.
+    fn fail_store(&mut self, attempt: &Attempt, names: &[String]) -> Result<(), Reason> {
+        let mut store = 1u32;
+        for name in names {
+            let line = format!(in self.alloc; "store: {name}\n")?;
+            self.try_stopping(attempt, Failing::Store(store), 5, line.into_bytes())?;
+            store = store.saturating_add(1);
+        }
+        self.try_failing(attempt, Failing::Store(store))
+    }
+
+    /// Makes each call of the disk fail in turn, then one more.
+    fn fail_disk(&mut self, attempt: &Attempt, calls: u32) -> Result<(), Reason> {
+        for disk in 1..=calls {
+            let line = b"disk\n".to_vec(self.alloc)?;
+            self.try_stopping(attempt, Failing::Disk(disk), 12, line)?;
+        }
+        self.try_failing(attempt, Failing::Disk(calls.saturating_add(1)))
+    }
+
+    /// Makes the first put fail, which keeps so many bytes, after which this was written.
+    fn fail_put(&mut self, attempt: &Attempt, keep: u32, output: Output) -> Result<(), Reason> {
+        let failed = Attempt {
+            status: 6,
+            output: &output,
+            ..*attempt
+        };
+        let tried = self.try_failing(&failed, Failing::Put { keep });
+        drop(output);
+        tried
+    }
+
+    /// Makes a call fail where the command is to stop with this status and this output, and to change no file.
+    fn try_stopping(
+        &mut self,
+        attempt: &Attempt,
+        failing: Failing,
+        status: u8,
+        written: Vec<u8>,
+    ) -> Result<(), Reason> {
+        let output = Output::Whole(written);
+        let stopped = Attempt {
+            status,
+            output: &output,
+            after: &attempt.after[..0],
+            ..*attempt
+        };
+        let tried = self.try_failing(&stopped, failing);
+        drop(output);
+        tried
+    }
+
+    /// Makes a call fail. No command below finds what this one leaves.
+    fn try_failing(&mut self, attempt: &Attempt, failing: Failing) -> Result<(), Reason> {
+        self.check_attempt(&Attempt {
+            faults: failing.among(attempt.faults),
+            crash: None,
+            ..*attempt
+        })
+    }
+
+    /// Tries a command, and lets go what comes of it; it is told where it isn't wanted.
+    fn check_attempt(&mut self, attempt: &Attempt) -> Result<(), Reason> {
+        drop(self.tried(attempt)?);
+        Ok(())
+    }
+
+    /// What comes of an attempt; it is told where it isn't wanted.
+    fn tried(&mut self, attempt: &Attempt) -> Result<Came, Reason> {
+        let came = call(self.rt, self.alloc, attempt)?;
+        match self.is_wanted(attempt, &came) {
+            Ok(_) => Ok(came),
+            Err(reason) => {
+                drop(came);
+                Err(reason)
+            }
+        }
+    }
+
+    /// Whether what came of an attempt is what is wanted; it is told where it isn't.
+    fn is_wanted(&mut self, attempt: &Attempt, came: &Came) -> Result<bool, Reason> {
+        let fits = attempt.status == came.status
+            && has_output(self.alloc, &came.written, attempt.output, self.folder)?
+            && came.changed.is_empty();
+        self.judged(attempt, came, fits)
     }
 }
 
-/// Runs commands one after the other over what each finds.
-fn run_commands<R: Threads + Wait + Sync, S: Store>(
-    rt: &R,
-    alloc: Global,
-    run: &Run,
-    line: u64,
-    found: &mut Found,
-    folder: &mut S,
-    told: &mut Told,
-) -> Result<(), Reason> {
-    for words in run.commands.iter() {
-        let attempt = attempt_of(run, line, words, found);
-        for row in run.rows.iter() {
-            run_row(rt, alloc, &attempt, row, folder, told)?;
-        }
-        for variants in run.variants.iter() {
-            run_variants(rt, alloc, &attempt, variants, told)?;
-        }
-        if run.want.status.is_some() {
-            let left = run_command(rt, alloc, run, &attempt, folder, told)?;
-            leave(found, left)?;
-        }
-    }
-    Ok(())
+/// A call that fails.
+#[derive(Clone, Copy)]
+enum Failing {
+    /// The call of the store of this number.
+    Store(u32),
+    /// The call of the disk of this number.
+    Disk(u32),
+    /// The first put, which keeps so many bytes of its piece.
+    Put { keep: u32 },
 }
 
-/// Runs a command over each variant of a file.
-fn run_variants<R: Threads + Wait + Sync>(
-    rt: &R,
-    alloc: Global,
-    attempt: &Attempt,
-    variants: &Variants,
-    told: &mut Told,
-) -> Result<(), Reason> {
-    let whole = held(attempt.files, variants.file.as_str())?;
-    for number in 0..variants.kind.count(whole.len()) {
-        if !run_variant(rt, alloc, attempt, variants, whole, number, told)? {
-            add_variant(alloc, told, variants.file.as_str(), number)?;
+impl Failing {
+    /// These faults, with this one among them.
+    fn among(self, faults: Faults) -> Faults {
+        match self {
+            Failing::Store(store) => Faults { store, ..faults },
+            Failing::Disk(disk) => Faults { disk, ..faults },
+            Failing::Put { keep } => Faults {
+                put: 1,
+                keep,
+                ..faults
+            },
         }
     }
-    Ok(())
-}
-
-/// Runs a command over the variant of this number of a file that holds these bytes, and tells what came where it is no
-/// answer. Answers whether it is one.
-fn run_variant<R: Threads + Wait + Sync>(
-    rt: &R,
-    alloc: Global,
-    attempt: &Attempt,
-    variants: &Variants,
-    whole: &[u8],
-    number: usize,
-    told: &mut Told,
-) -> Result<bool, Reason> {
-    let variant = variants.kind.variant(alloc, whole, number)?;
-    let files = files_with(attempt.files, &variants.file, variant)?;
-    let answers = answers(rt, alloc, attempt, &files, told);
-    drop(files);
-    answers
 }
 
 /// A value, where what was done with it ended well; where not, it is let go here.
@@ -191,37 +368,6 @@ fn files_with(files: &Files, name: &String, bytes: Vec<u8>) -> Result<Files, Rea
     where_well(changed, ended)
 }
 
-/// Runs a command over these files, and tells what came where it is no answer. Answers whether it is one.
-fn answers<R: Threads + Wait + Sync>(
-    rt: &R,
-    alloc: Global,
-    attempt: &Attempt,
-    files: &Files,
-    told: &mut Told,
-) -> Result<bool, Reason> {
-    let attempt = Attempt { files, ..*attempt };
-    let came = call(rt, alloc, &attempt)?;
-    told.runs = told.runs.saturating_add(1);
-    let fits = is_answer(came.status, &came.written) && came.changed.is_empty();
-    let judged = judged(alloc, &attempt, &came, fits, told);
-    drop(came);
-    judged
-}
-
-/// Tells what came of an attempt where it doesn't fit. Answers whether it fits.
-fn judged(
-    alloc: Global,
-    attempt: &Attempt,
-    came: &Came,
-    fits: bool,
-    told: &mut Told,
-) -> Result<bool, Reason> {
-    if !fits {
-        add_came(alloc, told, attempt.line, attempt.words, came)?;
-    }
-    Ok(fits)
-}
-
 /// The attempt at a command of a run.
 fn attempt_of<'a>(run: &'a Run, line: u64, words: &'a [String], found: &'a Found) -> Attempt<'a> {
     Attempt {
@@ -234,25 +380,6 @@ fn attempt_of<'a>(run: &'a Run, line: u64, words: &'a [String], found: &'a Found
         status: run.want.status.unwrap_or(0),
         output: &run.want.output,
         after: &run.want.after,
-    }
-}
-
-/// Tries a command, and then with each fault in turn. Answers what it leaves.
-fn run_command<R: Threads + Wait + Sync, S: Store>(
-    rt: &R,
-    alloc: Global,
-    run: &Run,
-    attempt: &Attempt,
-    folder: &mut S,
-    told: &mut Told,
-) -> Result<Option<Left>, Reason> {
-    let came = tried(rt, alloc, attempt, folder, told)?;
-    match fail_in_turn(rt, alloc, run, attempt, &came.written, folder, told) {
-        Ok(()) => Ok(came.left),
-        Err(reason) => {
-            drop(came);
-            Err(reason)
-        }
     }
 }
 
@@ -273,44 +400,6 @@ fn put_all(files: &mut Files, others: &Files) -> Result<(), Reason> {
         put_copy(files, name, bytes)?;
     }
     Ok(())
-}
-
-/// Runs a command over the files of a row of a table.
-fn run_row<R: Threads + Wait + Sync, S: Store>(
-    rt: &R,
-    alloc: Global,
-    attempt: &Attempt,
-    numbered: &NumberedRow,
-    folder: &mut S,
-    told: &mut Told,
-) -> Result<(), Reason> {
-    let files = changed_files(alloc, attempt.files, &numbered.row.changes, folder)?;
-    let checked = check_row(rt, alloc, attempt, numbered, &files, folder, told);
-    drop(files);
-    checked
-}
-
-/// Runs a command over these files, which are those of a row of a table.
-fn check_row<R: Threads + Wait + Sync, S: Store>(
-    rt: &R,
-    alloc: Global,
-    attempt: &Attempt,
-    numbered: &NumberedRow,
-    files: &Files,
-    folder: &mut S,
-    told: &mut Told,
-) -> Result<(), Reason> {
-    let want = &numbered.row.want;
-    let of_row = Attempt {
-        line: numbered.line,
-        files,
-        crash: None,
-        status: want.status.unwrap_or(0),
-        output: &want.output,
-        after: &want.after,
-        ..*attempt
-    };
-    check_attempt(rt, alloc, &of_row, folder, told)
 }
 
 /// The files with these changes.
@@ -336,214 +425,6 @@ fn apply_all<S: Store>(
         apply(alloc, change, files, folder)?;
     }
     Ok(())
-}
-
-/// Makes the calls of the store and of the disk fail in turn, and the first put, where a run is to have it so. Without a
-/// fault all of this was written.
-fn fail_in_turn<R: Threads + Wait + Sync, S: Store>(
-    rt: &R,
-    alloc: Global,
-    run: &Run,
-    attempt: &Attempt,
-    whole: &[u8],
-    folder: &mut S,
-    told: &mut Told,
-) -> Result<(), Reason> {
-    if let Some(calls) = run.each_disk_fault {
-        fail_disk(rt, alloc, attempt, calls, folder, told)?;
-    }
-    if let Some(names) = &run.each_fault {
-        fail_store(rt, alloc, attempt, names, folder, told)?;
-        let nothing = Output::Whole(Vec::new(alloc));
-        fail_put(rt, alloc, attempt, 0, nothing, folder, told)?;
-        let front = Output::Front(5, whole.to_vec(alloc)?);
-        fail_put(rt, alloc, attempt, 5, front, folder, told)?;
-    }
-    Ok(())
-}
-
-/// Makes each call of the store fail in turn, which are of these files, then one more.
-fn fail_store<R: Threads + Wait + Sync, S: Store>(
-    rt: &R,
-    alloc: Global,
-    attempt: &Attempt,
-    names: &[String],
-    folder: &mut S,
-    told: &mut Told,
-) -> Result<(), Reason> {
-    let mut store = 1u32;
-    for name in names {
-        fail_call(rt, alloc, attempt, name.as_str(), store, folder, told)?;
-        store = store.saturating_add(1);
-    }
-    let faults = Faults {
-        store,
-        ..attempt.faults
-    };
-    try_failing(rt, alloc, attempt, faults, folder, told)
-}
-
-/// Makes this call of the store fail, which is of this file.
-fn fail_call<R: Threads + Wait + Sync, S: Store>(
-    rt: &R,
-    alloc: Global,
-    attempt: &Attempt,
-    file: &str,
-    store: u32,
-    folder: &mut S,
-    told: &mut Told,
-) -> Result<(), Reason> {
-    let faults = Faults {
-        store,
-        ..attempt.faults
-    };
-    let line = format!(in alloc; "store: {file}\n")?;
-    let output = Output::Whole(line.into_bytes());
-    try_stopping(rt, alloc, attempt, faults, 5, output, folder, told)
-}
-
-/// Makes each call of the disk fail in turn, then one more.
-fn fail_disk<R: Threads + Wait + Sync, S: Store>(
-    rt: &R,
-    alloc: Global,
-    attempt: &Attempt,
-    calls: u32,
-    folder: &mut S,
-    told: &mut Told,
-) -> Result<(), Reason> {
-    for disk in 1..=calls {
-        fail_disk_call(rt, alloc, attempt, disk, folder, told)?;
-    }
-    let faults = Faults {
-        disk: calls.saturating_add(1),
-        ..attempt.faults
-    };
-    try_failing(rt, alloc, attempt, faults, folder, told)
-}
-
-/// Makes this call of the disk fail.
-fn fail_disk_call<R: Threads + Wait + Sync, S: Store>(
-    rt: &R,
-    alloc: Global,
-    attempt: &Attempt,
-    disk: u32,
-    folder: &mut S,
-    told: &mut Told,
-) -> Result<(), Reason> {
-    let faults = Faults {
-        disk,
-        ..attempt.faults
-    };
-    let output = Output::Whole(b"disk\n".to_vec(alloc)?);
-    try_stopping(rt, alloc, attempt, faults, 12, output, folder, told)
-}
-
-/// Tries a command with these faults, where it is to stop with this status and this output, and to change no file.
-fn try_stopping<R: Threads + Wait + Sync, S: Store>(
-    rt: &R,
-    alloc: Global,
-    attempt: &Attempt,
-    faults: Faults,
-    status: u8,
-    output: Output,
-    folder: &mut S,
-    told: &mut Told,
-) -> Result<(), Reason> {
-    let stopped = Attempt {
-        status,
-        output: &output,
-        after: &attempt.after[..0],
-        ..*attempt
-    };
-    let tried = try_failing(rt, alloc, &stopped, faults, folder, told);
-    drop(output);
-    tried
-}
-
-/// Tries a command with these faults. No command below finds what it leaves.
-fn try_failing<R: Threads + Wait + Sync, S: Store>(
-    rt: &R,
-    alloc: Global,
-    attempt: &Attempt,
-    faults: Faults,
-    folder: &mut S,
-    told: &mut Told,
-) -> Result<(), Reason> {
-    let failing = Attempt {
-        faults,
-        crash: None,
-        ..*attempt
-    };
-    check_attempt(rt, alloc, &failing, folder, told)
-}
-
-/// Makes the first put fail, after which this was written.
-fn fail_put<R: Threads + Wait + Sync, S: Store>(
-    rt: &R,
-    alloc: Global,
-    attempt: &Attempt,
-    keep: u32,
-    output: Output,
-    folder: &mut S,
-    told: &mut Told,
-) -> Result<(), Reason> {
-    let faults = Faults {
-        put: 1,
-        keep,
-        ..attempt.faults
-    };
-    let failed = Attempt {
-        status: 6,
-        output: &output,
-        ..*attempt
-    };
-    let tried = try_failing(rt, alloc, &failed, faults, folder, told);
-    drop(output);
-    tried
-}
-
-/// Tries a command, and lets go what comes of it; it is told where it isn't wanted.
-fn check_attempt<R: Threads + Wait + Sync, S: Store>(
-    rt: &R,
-    alloc: Global,
-    attempt: &Attempt,
-    folder: &mut S,
-    told: &mut Told,
-) -> Result<(), Reason> {
-    drop(tried(rt, alloc, attempt, folder, told)?);
-    Ok(())
-}
-
-/// What comes of an attempt; it is told where it isn't wanted.
-fn tried<R: Threads + Wait + Sync, S: Store>(
-    rt: &R,
-    alloc: Global,
-    attempt: &Attempt,
-    folder: &mut S,
-    told: &mut Told,
-) -> Result<Came, Reason> {
-    let came = call(rt, alloc, attempt)?;
-    match is_wanted(alloc, attempt, &came, folder, told) {
-        Ok(_) => Ok(came),
-        Err(reason) => {
-            drop(came);
-            Err(reason)
-        }
-    }
-}
-
-/// Whether what came of an attempt is what is wanted; it is told where it isn't.
-fn is_wanted<S: Store>(
-    alloc: Global,
-    attempt: &Attempt,
-    came: &Came,
-    folder: &mut S,
-    told: &mut Told,
-) -> Result<bool, Reason> {
-    let fits = attempt.status == came.status
-        && has_output(alloc, &came.written, attempt.output, folder)?
-        && came.changed.is_empty();
-    judged(alloc, attempt, came, fits, told)
 }
 
 /// Runs a command: a look, or the top call.
