@@ -5,7 +5,7 @@ use Rattle.std.proofs.Math.ListN.{get_or-map}
 use Rattle.std.proofs.lemmas.Bool.{le-ltb}
 use Rattle.std.proofs.lemmas.List.{length-map, map-id}
 use Rattle.std.proofs.lemmas.List.Elements.{All-contains}
-use Rattle.line_base.specs.declared.limits.TheConstants.{MAX_STAGES, MAX_STATIONS, MAX_DEMANDS, MAX_TABLE, MAX_LOOPS, MAX_OBSERVE, MAX_OBSERVE_DATE, MAX_CARDS, MAX_TIME, MAX_DEMAND_DATE}
+use Rattle.line_base.specs.declared.limits.TheConstants.{MAX_STAGES, MAX_STATIONS, MAX_DEMANDS, MAX_TABLE, MAX_LOOPS, MAX_OBSERVE, MAX_CARDS}
 use Rattle.plant_model.specs.declared.error.PlantError.{PlantError}
 use Rattle.plant_model.specs.declared.plant.Policy.{Policy}
 use Rattle.plant_model.specs.declared.plant.Policy.TheVariants.{Kanban, Conwip, BaseStock, Extended}
@@ -15,11 +15,11 @@ use Rattle.plant_model.specs.declared.plant.Plant.{Plant}
 use Rattle.plant_model.specs.declared.place.FileTable.TheVariants.{InStage, InLoop}
 use Rattle.plant_model.specs.Place.{key_of}
 use Rattle.plant_model.specs.Line.{no_stage, stage_at, stage_numbers, station_count, stock_under, starting, feeds, is_first, first_stages, path, up_to, is_downstream, path_stock, stock_between}
-use Rattle.plant_model.specs.Refusals.{refuse_if, each_from, each, bad_name, bad_names, stage_name_twice, names_twice, machine_name_twice, above, empty, element_above, cards_out_of_range, top_out_of_range, stage_out_of_range, machine_out_of_range, out_of_range, feeds_not_later, all_feeds_not_later, second_final, second_finals, stage_times_count, times_counts, demand_order, too_few, too_few_in_line, too_few_in_stage, too_few_under, is_loop, too_few_in_loop, too_few_cards, not_downstream, loops_not_downstream, larger, too_large, parts_refusals, whole_refusals, refusals}
+use Rattle.plant_model.specs.Refusals.{refuse_if, each_from, each, bad_name, bad_names, stage_name_twice, names_twice, machine_name_twice, above, empty, cards_out_of_range, top_out_of_range, stage_out_of_range, out_of_range, feeds_not_later, all_feeds_not_later, second_final, second_finals, stage_times_count, times_counts, demand_order, too_few, too_few_in_line, too_few_in_stage, too_few_under, is_loop, too_few_in_loop, too_few_cards, not_downstream, loops_not_downstream, larger, too_large, parts_refusals, whole_refusals, refusals}
 use Rattle.plant_model.specs.Sound.{IsSound}
-use Rattle.plant_model.proofs.NoRefusals.{append-nil_left, append-nil_right, AreNil-append, above-none}
-use Rattle.plant_model.proofs.Soundness.{Parts, Parts-from}
-use Rattle.plant_model.proofs.SoundPlants.{PassesAll, PassesAll-sound, stage_in_range-from}
+use Rattle.plant_model.proofs.NoRefusals.{append-nil_left, append-nil_right, above-none}
+use Rattle.plant_model.proofs.Soundness.{Parts}
+use Rattle.plant_model.proofs.SoundPlants.{PassesAll, PassesAll-sound, top-in_range, stage_in_range-from}
 use Rattle.event_graph.specs.Firing.{greatest}
 use Rattle.event_graph.proofs.Greatest.{le-greatest}
 use Rattle.line_graph.specs.MoreCards.{no_loop}
@@ -106,12 +106,11 @@ empty-kept place f [] none = none
 empty-kept place f (s ∷ stages) none = refl
 
 module _ (p : Plant) (c : ℕ) (sound : IsSound p) where
-  parts : Parts p
-  unfolding refusals
-  parts = Parts-from p (append-nil_left (parts_refusals p) (whole_refusals p) sound.nothing)
-
   passes : PassesAll p
   passes = PassesAll-sound p sound
+
+  parts : Parts p
+  parts = passes.parts
 
   bad_names-sized : bad_names (sized p c) ≡ []
   unfolding sized
@@ -126,16 +125,7 @@ module _ (p : Plant) (c : ℕ) (sound : IsSound p) where
   out_of_range-sized : c ≤ MAX_CARDS → out_of_range (sized p c) ≡ []
   unfolding sized
   out_of_range-sized few =
-      let top =
-      AreNil-append
-      (above (codes "card_time") MAX_TIME p.card_time)
-      (cards_out_of_range p.policy)
-      (empty (codes "demands") p.demands)
-      (each (element_above (codes "demands") MAX_DEMAND_DATE) p.demands)
-      (each (element_above (codes "observe") MAX_OBSERVE_DATE) p.observe)
-      (empty (codes "stage") p.stages)
-      (append-nil_left (top_out_of_range p) _ parts.in_range)
-      in
+      let top = top-in_range p parts.in_range in
       let rest = append-nil_right (top_out_of_range p) _ parts.in_range in
       let f = stage_with p.policy c in
       let stages = each_from-kept stage_out_of_range stage_out_of_range f 0 p.stages (λ i s none. stage-in_range p.policy c i s few none) (append-nil_left (each stage_out_of_range p.stages) _ rest) in
