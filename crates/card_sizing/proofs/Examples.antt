@@ -4,6 +4,7 @@ use Rattle.line_base.specs.declared.times.Times.TheVariants.{Fixed}
 use Rattle.plant_model.specs.declared.plant.Policy.{Policy}
 use Rattle.plant_model.specs.declared.plant.Policy.TheVariants.{Kanban, Conwip, BaseStock, Extended}
 use Rattle.plant_model.specs.Stages.{Stage, one_server}
+use Rattle.plant_model.specs.Line.{no_stage}
 use Rattle.plant_model.specs.declared.plant.CardLoop.{CardLoop}
 use Rattle.plant_model.specs.declared.plant.Plant.{Plant}
 use Rattle.event_graph.specs.Firing.{greatest}
@@ -14,15 +15,8 @@ use Rattle.card_sizing.specs.Serving.{wait_of}
 -- a stage with one machine
 abbrev stage : List ℕ → Option ℕ → ℕ → ℕ → ℕ → Stage
 stage name to cards stock time =
-    record {
-      name = name;
-      feeds = to;
-      cards = cards;
-      stock = stock;
-      travel = 0;
-      card_time = 0;
-      machines = one_server (codes "m") (Fixed time) ∷ [];
-    }
+    let machines = one_server (codes "m") (Fixed time) ∷ [] in
+    record no_stage { name = name; feeds = to; cards = cards; stock = stock; machines = machines }
 
 -- `left` and `right` feed `top`, with these cards and this stock at each
 abbrev assembly : Policy → ℕ → ℕ → ℕ → ℕ → ℕ → ℕ → List CardLoop → Plant
