@@ -6,14 +6,13 @@ ghost use Rattle.plant_model.specs.Graph.{arcs_of, demand_row, base_stock_rows};
 ghost use Rattle.plant_model.specs.Sound.{IsSound};
 
 use line_base::Arc;
-use plant_model::{FEED, Layout, Plant, Policy};
+use plant_model::{FEED, Layout, Plant};
 use std::alloc::{AllocError, Global};
 
 /// The arcs of the demands, one a stage in order: from the feed to the stage's release, without a token (Dallery and
 /// Liberopoulos 2000).
 pub fn arcs(alloc: Global, plant: &Plant) -> Result<Vec<Arc>, AllocError>
     requires sound { IsSound plant.now }
-    requires policy { plant.now.policy ≡ Policy.BaseStock }
     ensures { IfOk result (λ arcs. arcs.items ≡ arcs_of (base_stock_rows plant.now)) }
 {
     let layout = Layout::of(alloc, plant)?;
@@ -25,7 +24,7 @@ pub fn arcs(alloc: Global, plant: &Plant) -> Result<Vec<Arc>, AllocError>
 }
 
 /// The arc on which a stage is told of demands.
-fn demand_arc(layout: &Layout, stage: u32) -> Arc
+pub fn demand_arc(layout: &Layout, stage: u32) -> Arc
     requires { stage < length layout.now.stages }
     ensures { result ≡ (demand_row layout.now stage).arc }
 {
