@@ -6,33 +6,32 @@ ghost use Rattle.plant_model.specs.Graph.{arcs_of, card_row, kanban_rows};
 ghost use Rattle.plant_model.specs.Sound.{IsSound};
 
 use line_base::Arc;
-use plant_model::{Layout, Plant, Policy};
+use plant_model::{Layout, Plant};
 use std::alloc::{AllocError, Global};
 
 /// The arcs of the cards, one a stage in order: from the station that takes the stage's parts to the stage's release. They
 /// hold no token, since all cards lie with the starting stock (Dallery and Liberopoulos 2000).
 pub fn arcs(alloc: Global, plant: &Plant) -> Result<Vec<Arc>, AllocError>
     requires sound { IsSound plant.now }
-    requires policy { plant.now.policy ≡ Policy.Kanban }
     ensures { IfOk result (λ arcs. arcs.items ≡ arcs_of (kanban_rows plant.now)) }
 {
     let layout = Layout::of(alloc, plant)?;
     let mut arcs = Vec::with_capacity(alloc, layout.stages() as usize)?;
     for stage in 0..layout.stages() {
-        arcs.push(card_arc(&layout, stage))?;
+        arcs.push(card_arc(&layout, stage, 0))?;
     }
     Ok(arcs)
 }
 
-/// The arc of the cards of a stage.
-fn card_arc(layout: &Layout, stage: u32) -> Arc
+/// The arc of the cards of a stage, of which so many are free at the start.
+pub fn card_arc(layout: &Layout, stage: u32, free: u32) -> Arc
     requires { stage < length layout.now.stages }
-    ensures { result ≡ (card_row layout.now 0 stage).arc }
+    ensures { result ≡ (card_row layout.now free stage).arc }
 {
     Arc {
         from: layout.receiver(stage),
         to: layout.release(stage),
-        tokens: 0,
+        tokens: free,
         worked: false,
     }
 }

@@ -17,12 +17,12 @@ stage_is c =
     let read = rw stages at c.stage-item.is in
     (below, read ∙ get_or_default c.args.plant.now.stages c.loop-number.number c.stage-item.result no_stage below)
 
-pub card_arc-requires-clause-cards : goal.card_arc-requires-clause-cards
-card_arc-requires-clause-cards c =
-    let h = stage_is (goal.at.card_arc-requires-clause-cards c).After-push in
+pub overflow_sub-free : goal.overflow_sub-free
+overflow_sub-free c =
+    let h = stage_is (goal.at.overflow_sub-free c).After-push in
     let p = c.args.plant.now in
     let least = starting-has_cards p c.loop-number.number c.requires.sound c.requires.policy h.0 in
-    rw (c.in_ok-layout.ensures, h.1) least
+    rw (c.starting.ensures, c.in_ok-layout.ensures, h.1) least
 
 pub loop-number-preserved : goal.loop-number-preserved
 loop-number-preserved c =
@@ -30,7 +30,7 @@ loop-number-preserved c =
     let p = c.args.plant.now in
     let i = c.loop-number.number in
     let demand = rw c.in_ok-layout.ensures at c.demand_arc.ensures in
-    let card = rw (c.in_ok-layout.ensures, h.1) at c.card_arc.ensures in
+    let card = rw (c.starting.ensures, c.in_ok-layout.ensures, h.1) at c.card_arc.ensures in
     let pushed = c.in_ok-push-2.ensures.items ∙ ap (λ arcs. arcs ++ c.card_arc.result ∷ []) c.in_ok-push.ensures.items in
     let joined = append_assoc c.loop-number.arcs.items (c.demand_arc.result ∷ []) (c.card_arc.result ∷ []) in
     let both = ap (λ a. a ∷ c.card_arc.result ∷ []) demand ∙ ap (λ a. (demand_row p i).arc ∷ a ∷ []) card in
