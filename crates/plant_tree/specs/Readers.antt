@@ -2,7 +2,7 @@
 use Rattle.std.specs.Prelude.{ℕ, ℤ, pos, negsuc, Bool, true, false, ◌&&◌, nat_le, if◌then◌else◌, List, [], ◌∷◌, map, is_some, codes}
 use Rattle.std.specs.List.{list_all}
 use Rattle.std.specs.Option.{option_map_or}
-use Rattle.toml.specs.Data.{Data, string, integer, array, table, Items, no_items, item, Members, no_members, get}
+use Rattle.toml.specs.Data.{Data, string, integer, array, table, Items, no_items, item, Members, no_members, get, as_str, as_integer, as_table}
 
 -- the list has an element
 abbrev pub is_filled : {X : Type 0} → List X → Bool
@@ -25,16 +25,13 @@ members_in (table ms) = ms
 members_in _ = no_members
 
 abbrev pub is_table : Data → Bool
-is_table (table ms) = true
-is_table _ = false
+is_table d = is_some (as_table d)
 
 abbrev pub is_text : Data → Bool
-is_text (string s) = true
-is_text _ = false
+is_text d = is_some (as_str d)
 
 abbrev pub is_number : Data → Bool
-is_number (integer z) = true
-is_number _ = false
+is_number d = is_some (as_integer d)
 
 -- the value is a list whose elements all pass
 abbrev pub is_list_of : (Data → Bool) → Data → Bool

@@ -27,157 +27,116 @@ use toml::Value;
 pub fn check_tree(alloc: Global, class: Class, top: &Value) -> Result<(), PlantError>
     ensures { AnswersFirst result (walk class (view top.now)) }
 {
-    check_table(alloc, class, FileTable::Top, top, &top_keys(top))?;
-    check_stages(alloc, class, has_stage_cards(top), tables_at(top, "stage"))?;
-    check_loops(alloc, class, tables_at(top, "loop"))
+    let search = Search { alloc, class };
+    search.check_table(FileTable::Top, top, &top_keys(top))?;
+    search.check_stages(has_stage_cards(top), tables_at(top, "stage"))?;
+    search.check_loops(tables_at(top, "loop"))
 }
 
-/// The first refusal of the class in the stages.
-fn check_stages(
+/// The search for the first refusal of a class, whose place is written in this memory.
+#[derive(Drop)]
+struct Search {
     alloc: Global,
     class: Class,
-    with_cards: bool,
-    stages: &[Value],
-) -> Result<(), PlantError>
-    ensures { AnswersFirst result (each (λ i s. stage_refusals class with_cards i (view s)) stages.now) }
-{
-    for (i, stage) in stages.iter().enumerate() {
-        check_stage(alloc, class, with_cards, i, stage)?;
+}
+
+impl Search {
+    /// The first refusal of the class in the stages.
+    fn check_stages(&self, with_cards: bool, stages: &[Value]) -> Result<(), PlantError>
+        ensures { AnswersFirst result
+            (each (λ i s. stage_refusals self.now.class with_cards i (view s)) stages.now) }
+    {
+        for (i, stage) in stages.iter().enumerate() {
+            self.check_stage(with_cards, i, stage)?;
+        }
+        Ok(())
     }
-    Ok(())
-}
 
-/// The first refusal of the class in stage `i`: in its keys, then in its machines.
-fn check_stage(
-    alloc: Global,
-    class: Class,
-    with_cards: bool,
-    i: usize,
-    stage: &Value,
-) -> Result<(), PlantError>
-    ensures { AnswersFirst result (stage_refusals class with_cards i (view stage.now)) }
-{
-    check_table(
-        alloc,
-        class,
-        FileTable::InStage(i),
-        stage,
-        &stage_keys(with_cards),
-    )?;
-    check_machines(alloc, class, i, tables_at(stage, "machine"))
-}
-
-/// The first refusal of the class in the machines of stage `i`.
-fn check_machines(
-    alloc: Global,
-    class: Class,
-    i: usize,
-    machines: &[Value],
-) -> Result<(), PlantError>
-    ensures { AnswersFirst result (each (λ j m. machine_refusals class i j (view m)) machines.now) }
-{
-    for (j, machine) in machines.iter().enumerate() {
-        check_table(
-            alloc,
-            class,
-            FileTable::InMachine(i, j),
-            machine,
-            &machine_keys(machine),
-        )?;
+    /// The first refusal of the class in stage `i`: in its keys, then in its machines.
+    fn check_stage(&self, with_cards: bool, i: usize, stage: &Value) -> Result<(), PlantError>
+        ensures { AnswersFirst result (stage_refusals self.now.class with_cards i (view stage.now)) }
+    {
+        self.check_table(FileTable::InStage(i), stage, &stage_keys(with_cards))?;
+        self.check_machines(i, tables_at(stage, "machine"))
     }
-    Ok(())
-}
 
-/// The first refusal of the class in the loops.
-fn check_loops(alloc: Global, class: Class, loops: &[Value]) -> Result<(), PlantError>
-    ensures { AnswersFirst result (each (λ k l. loop_refusals class k (view l)) loops.now) }
-{
-    for (k, card_loop) in loops.iter().enumerate() {
-        check_table(alloc, class, FileTable::InLoop(k), card_loop, &loop_keys())?;
+    /// The first refusal of the class in the machines of stage `i`.
+    fn check_machines(&self, i: usize, machines: &[Value]) -> Result<(), PlantError>
+        ensures { AnswersFirst result (each (λ j m. machine_refusals self.now.class i j (view m)) machines.now) }
+    {
+        for (j, machine) in machines.iter().enumerate() {
+            self.check_table(FileTable::InMachine(i, j), machine, &machine_keys(machine))?;
+        }
+        Ok(())
     }
-    Ok(())
-}
 
-/// The first refusal of the class in a table with these keys.
-#[tactic(auto, using(crate::proofs::KeyLists::keys_refusals_map))]
-fn check_table(
-    alloc: Global,
-    class: Class,
-    table: FileTable,
-    value: &Value,
-    keys: &[Key],
-) -> Result<(), PlantError>
-    ensures { AnswersFirst result (table_refusals class table (view value.now) (keys_of keys.now)) }
-{
-    match class {
-        Class::UnknownKeys => check_known(alloc, table, value, keys),
-        Class::MissingKeys | Class::WrongTypes | Class::BadNames | Class::OutOfRanges => {
-            check_keys(alloc, class, table, value, keys)
+    /// The first refusal of the class in the loops.
+    fn check_loops(&self, loops: &[Value]) -> Result<(), PlantError>
+        ensures { AnswersFirst result (each (λ k l. loop_refusals self.now.class k (view l)) loops.now) }
+    {
+        for (k, card_loop) in loops.iter().enumerate() {
+            self.check_table(FileTable::InLoop(k), card_loop, &loop_keys())?;
+        }
+        Ok(())
+    }
+
+    /// The first refusal of the class in a table with these keys.
+    #[tactic(auto, using(crate::proofs::KeyLists::keys_refusals_map))]
+    fn check_table(&self, table: FileTable, value: &Value, keys: &[Key]) -> Result<(), PlantError>
+        ensures { AnswersFirst result (table_refusals self.now.class table (view value.now) (keys_of keys.now)) }
+    {
+        match self.class {
+            Class::UnknownKeys => check_known(self.alloc, table, value, keys),
+            Class::MissingKeys | Class::WrongTypes | Class::BadNames | Class::OutOfRanges => {
+                self.check_keys(table, value, keys)
+            }
         }
     }
-}
 
-/// The first refusal of the class among these keys of a table.
-fn check_keys(
-    alloc: Global,
-    class: Class,
-    table: FileTable,
-    value: &Value,
-    keys: &[Key],
-) -> Result<(), PlantError>
-    ensures { AnswersFirst result
-        (each (λ _ k. key_refusals class table (view value.now) (key_seen k)) keys.now) }
-{
-    for key in keys {
-        check_key(alloc, class, table, value, key)?;
+    /// The first refusal of the class among these keys of a table.
+    fn check_keys(&self, table: FileTable, value: &Value, keys: &[Key]) -> Result<(), PlantError>
+        ensures { AnswersFirst result
+            (each (λ _ k. key_refusals self.now.class table (view value.now) (key_seen k)) keys.now) }
+    {
+        for key in keys {
+            self.check_key(table, value, key)?;
+        }
+        Ok(())
     }
-    Ok(())
-}
 
-/// The refusal of the class at a key of a table.
-fn check_key(
-    alloc: Global,
-    class: Class,
-    table: FileTable,
-    value: &Value,
-    key: &Key,
-) -> Result<(), PlantError>
-    ensures { AnswersFirst result (key_refusals class table (view value.now) (key_seen key.now)) }
-{
-    match value_at(value, key.name) {
-        Some(found) => check_value(alloc, class, table, key, found),
-        None => check_absence(alloc, class, table, key),
+    /// The refusal of the class at a key of a table.
+    fn check_key(&self, table: FileTable, value: &Value, key: &Key) -> Result<(), PlantError>
+        ensures { AnswersFirst result (key_refusals self.now.class table (view value.now) (key_seen key.now)) }
+    {
+        match value_at(value, key.name) {
+            Some(found) => self.check_value(table, key, found),
+            None => self.check_absence(table, key),
+        }
     }
-}
 
-/// The refusal of the class of a key that isn't there.
-fn check_absence(alloc: Global, class: Class, table: FileTable, key: &Key) -> Result<(), PlantError>
-    ensures { AnswersFirst result
-        (absence_refusals class key.now.required (key_of table key.now.name.now)) }
-{
-    if class != Class::MissingKeys || !key.required {
-        return Ok(());
+    /// The refusal of the class of a key that isn't there.
+    fn check_absence(&self, table: FileTable, key: &Key) -> Result<(), PlantError>
+        ensures { AnswersFirst result
+            (absence_refusals self.now.class key.now.required (key_of table key.now.name.now)) }
+    {
+        if self.class != Class::MissingKeys || !key.required {
+            return Ok(());
+        }
+        let place = key_place(self.alloc, table, key.name)?;
+        Err(PlantError::Missing { place })
     }
-    let place = key_place(alloc, table, key.name)?;
-    Err(PlantError::Missing { place })
-}
 
-/// The first refusal of the class of what stands at a key.
-fn check_value(
-    alloc: Global,
-    class: Class,
-    table: FileTable,
-    key: &Key,
-    value: &Value,
-) -> Result<(), PlantError>
-    ensures { AnswersFirst result
-        (value_refusals class key.now.kind (key_of table key.now.name.now) (view value.now)) }
-{
-    match class {
-        Class::UnknownKeys | Class::MissingKeys => Ok(()),
-        Class::WrongTypes => check_type(alloc, table, key, value),
-        Class::BadNames => check_name(alloc, table, key, value),
-        Class::OutOfRanges => check_range(alloc, table, key, value),
+    /// The first refusal of the class of what stands at a key.
+    fn check_value(&self, table: FileTable, key: &Key, value: &Value) -> Result<(), PlantError>
+        ensures { AnswersFirst result
+            (value_refusals self.now.class key.now.kind (key_of table key.now.name.now) (view value.now)) }
+    {
+        match self.class {
+            Class::UnknownKeys | Class::MissingKeys => Ok(()),
+            Class::WrongTypes => check_type(self.alloc, table, key, value),
+            Class::BadNames => check_name(self.alloc, table, key, value),
+            Class::OutOfRanges => check_range(self.alloc, table, key, value),
+        }
     }
 }
 

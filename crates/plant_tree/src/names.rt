@@ -47,6 +47,18 @@ impl<'a> Names<'a> {
         Ok(is_new)
     }
 
+    /// Adds the name that a table has to those before, or refuses it where it is among them.
+    fn add_name(&mut self, alloc: Global, table: FileTable, name: &'a str) -> Result<(), PlantError>
+        ensures first { AnswersFirst result (name_twice table self.old name.now) }
+        ensures added { OnOk result (self.new ≡ self.old ++ name.now ∷ []) }
+    {
+        if self.add(name)? {
+            return Ok(());
+        }
+        let place = key_place(alloc, table, "name")?;
+        Err(PlantError::NameTwice { place })
+    }
+
     /// The number of a name; none where it isn't among these. It takes no memory.
     #[tactic(auto, using(crate::proofs::NameLists::position_texts))]
     pub fn number_of(&self, name: &str) -> Option<usize>
@@ -106,7 +118,7 @@ fn add_stage<'a>(
     ensures first { AnswersFirst result (stage_name_twice names.old i (view stage.now)) }
     ensures added { OnOk result (names.new ≡ names.old ++ name_in (view stage.now) ∷ []) }
 {
-    add_name(alloc, names, FileTable::InStage(i), text_at(stage, "name"))?;
+    names.add_name(alloc, FileTable::InStage(i), text_at(stage, "name"))?;
     check_machine_names(alloc, i, tables_at(stage, "machine"))
 }
 
@@ -117,29 +129,7 @@ fn check_machine_names(alloc: Global, i: usize, machines: &[Value]) -> Result<()
 {
     let mut names = Names::new(alloc);
     for (j, machine) in machines.iter().enumerate() {
-        add_name(
-            alloc,
-            &mut names,
-            FileTable::InMachine(i, j),
-            text_at(machine, "name"),
-        )?;
+        names.add_name(alloc, FileTable::InMachine(i, j), text_at(machine, "name"))?;
     }
     Ok(())
-}
-
-/// Adds the name that a table has to those before, or refuses it where it is among them.
-fn add_name<'a>(
-    alloc: Global,
-    names: &mut Names<'a>,
-    table: FileTable,
-    name: &'a str,
-) -> Result<(), PlantError>
-    ensures first { AnswersFirst result (name_twice table names.old name.now) }
-    ensures added { OnOk result (names.new ≡ names.old ++ name.now ∷ []) }
-{
-    if names.add(name)? {
-        return Ok(());
-    }
-    let place = key_place(alloc, table, "name")?;
-    Err(PlantError::NameTwice { place })
 }
