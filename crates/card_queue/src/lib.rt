@@ -52,3 +52,13 @@ pub fn meet(put: &mut Put, take: &mut Take)
 {
     take.consumer.slots_beside(&mut put.producer);
 }
+
+/// Each end, and each plain queue, may move to another thread, on its own.
+fn queues_may_move(put: Put, take: Take, plain: Plain) {
+    moved(put);
+    moved(take);
+    moved(plain);
+}
+
+/// Takes only what may move to another thread.
+fn moved<T: Send + Drop>(_queue: T) {}
