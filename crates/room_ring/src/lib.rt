@@ -5,6 +5,7 @@
 ghost use Rattle.std.specs.Prelude.{◌≡◌, ◌+◌, ◌<◌, ◌≤◌, [], length, IfOk};
 ghost use Rattle.room_ring.specs.Ends.{IsRoomRing, IsInOrder, IsWithinRoom, IsAllKnown, IsAllSpace};
 ghost use Rattle.room_ring.specs.Put.{room_tokens, room_space};
+ghost use Rattle.room_ring.specs.Ring.{most_room};
 ghost use Rattle.room_ring.specs.Take.{room_known, TakeLooks};
 ghost use Rattle.room_ring.specs.View.{note_of, joined, MayNote, MayBeTold};
 
@@ -33,7 +34,7 @@ pub fn room_ring(
     room: u32,
 ) -> Result<(RoomPut, RoomTake), AllocError>
     requires some_room { 1 ≤ room }
-    requires most_room { room ≤ 20000 }
+    requires most_room { room ≤ most_room }
     requires fits { length initial.now ≤ room }
     ensures ring { IfOk result (λ ends. IsRoomRing ends.0 ends.1) }
     ensures room { IfOk result (λ ends. ends.0.ring.room ≡ room) }
@@ -55,7 +56,7 @@ pub fn room_ring(
 /// Makes a ring that has put nothing.
 fn empty_ring(alloc: Global, room: u32) -> Result<(RoomPut, RoomTake), AllocError>
     requires some_room { 1 ≤ room }
-    requires most_room { room ≤ 20000 }
+    requires most_room { room ≤ most_room }
     ensures ring { IfOk result (λ ends. IsRoomRing ends.0 ends.1) }
     ensures room { IfOk result (λ ends. ends.0.ring.room ≡ room) }
     ensures initial { IfOk result (λ ends. ends.0.initial ≡ []) }
