@@ -3,6 +3,7 @@ mod of_big_plant;
 mod of_card_sizing;
 mod of_cycle_time;
 mod of_station_step;
+mod of_token_shelf;
 mod of_what_if;
 mod one_shelf;
 mod same;

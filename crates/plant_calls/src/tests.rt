@@ -1,5 +1,6 @@
 mod got;
 mod of_circuit_sums;
+mod of_demand_feed;
 mod of_event_graph;
 mod of_line_core;
 mod of_line_report;

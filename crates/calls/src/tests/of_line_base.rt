@@ -1,7 +1,7 @@
 use crate::tests::same::same;
 use line_base::{
-    Items, Label, Log, Logs, Name, NameError, Times, digits, is_checkpoint_name, is_file_name,
-    number_of,
+    Items, Label, Log, Logs, Name, NameError, Text, Times, digits, is_checkpoint_name,
+    is_file_name, number_of,
 };
 use std::test::Fail;
 
@@ -93,6 +93,14 @@ fn files_and_checkpoints_have_other_names(rt: HostRuntime) {
 fn a_label_keeps_its_text(rt: HostRuntime) -> Result<(), Fail> {
     let label = Label::of(rt.alloc(), b"cut.saw")?;
     same(&rt, label.text(), b"cut.saw".as_slice());
+    Ok(())
+}
+
+#[test]
+fn a_text_is_the_text_that_it_copies(rt: HostRuntime) -> Result<(), Fail> {
+    let text = Text::of(rt.alloc(), "cut.saw")?;
+    same(&rt, text.as_str(), "cut.saw");
+    drop(text);
     Ok(())
 }
 
