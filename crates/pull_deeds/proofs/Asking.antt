@@ -32,7 +32,7 @@ use Rattle.pull_words.specs.ScheduleRefusals.{reply_of}
 use Rattle.pull_words.specs.declared.reply.Reply.{Reply}
 use Rattle.pull_words.specs.declared.reply.Reply.TheVariants.{CardsFound, CycleFound, NoMemory}
 use Rattle.what_if.specs.Edited.{Inputs, inputs_of}
-use Rattle.what_if.specs.Edits.{ComesTo}
+use Rattle.what_if.specs.Edits.{Stopped, ComesTo}
 use Rattle.what_if.specs.Page.{Page}
 use Rattle.what_if.specs.Settled.{IsSolved, KeepsDates, KeepsInputs}
 use Rattle.what_if.specs.Sheet.{IsBegun}
@@ -136,7 +136,7 @@ first_least live rows (Err none) begins least = tt
 -- edits, from the sheet as it begins
 module _ (live : LiveGraph) (edits : List ℕ) (begun : Page) (begins : IsBegun live begun.first begun) where
   -- what the lines come to, they come to from the graph
-  comes_of_graph : (end : Result Inputs ℕ) → ComesTo live.graph (lines_of edits) 1 begun.inputs end → ComesTo live.graph (lines_of edits) 1 (inputs_of live.graph) end
+  comes_of_graph : (end : Result Inputs Stopped) → ComesTo live.graph (lines_of edits) 1 begun.inputs end → ComesTo live.graph (lines_of edits) 1 (inputs_of live.graph) end
   comes_of_graph end comes = subst (λ (inputs : Inputs). ComesTo live.graph (lines_of edits) 1 inputs end) begins.inputs_are comes
 
   -- the sheet that was settled after them
@@ -149,9 +149,13 @@ module _ (live : LiveGraph) (edits : List ℕ) (begun : Page) (begins : IsBegun 
     solved = solved;
   }
 
-  pub line_refused : (refused : RefusedLine) (reply : Reply) → ComesTo live.graph (lines_of edits) 1 begun.inputs (Err refused.line) → reply ≡ edits_reply refused → IsRefusedLine live.graph edits (said reply)
-  line_refused refused reply comes is =
-      record { line = refused.line; refused = comes_of_graph (Err refused.line) comes; says = ap said is }
+  pub line_refused : (refused : RefusedLine) (left : Inputs) (reply : Reply) → ComesTo live.graph (lines_of edits) 1 begun.inputs (Err (record { line = refused.line; left = left })) → reply ≡ edits_reply refused → IsRefusedLine live.graph edits (said reply)
+  line_refused refused left reply comes is = record {
+    line = refused.line;
+    left = left;
+    refused = comes_of_graph (Err (record { line = refused.line; left = left })) comes;
+    says = ap said is;
+  }
 
 -- edits of the graph of a plant
 module _ (p : Plant) (g : Parts) (edits : List ℕ) (same : g ≡ graph p) where

@@ -30,7 +30,7 @@ use Rattle.pull_words.specs.Refusals.{cycle_reply, sizing_reply}
 use Rattle.pull_words.specs.ScheduleRefusals.{reply_of}
 use Rattle.pull_words.specs.declared.reply.Reply.{Reply}
 use Rattle.pull_words.specs.declared.reply.Reply.TheVariants.{CardsFound, Checked, CycleFound, NotEdited}
-use Rattle.what_if.specs.Edited.{inputs_of}
+use Rattle.what_if.specs.Edited.{Inputs, inputs_of}
 use Rattle.what_if.specs.Edits.{ComesTo}
 use Rattle.what_if.specs.Page.{Page}
 use Rattle.what_if.specs.Settled.{IsSolved}
@@ -111,10 +111,11 @@ abbrev pub IsChange : Plant → List ℕ → Result Output Reply → Type 0
 IsChange p edits (Ok (Changed page)) = IsPageOf (graph p) edits page
 IsChange p edits other = ⊥
 
--- the first line that can't be followed
+-- the first line that can't be followed, and what the lines before it leave
 pub record IsRefusedLine (g : Parts) (edits : List ℕ) (answer : Result Output Reply) : Type 0 where
   pub line : ℕ
-  pub refused : ComesTo g (lines_of edits) 1 (inputs_of g) (Err line)
+  pub left : Inputs
+  pub refused : ComesTo g (lines_of edits) 1 (inputs_of g) (Err (record { line = line; left = left }))
   pub says : answer ≡ Err (NotEdited line)
 
 -- `whatif`

@@ -91,15 +91,21 @@ pub record IsRefused (g : Parts) (text : List ℕ) (inputs : Inputs) : Type 0 wh
   pub not_empty : text ≢ []
   pub no_edit : (edit : Edit) → Writes g text edit → ¬ MayFollow inputs edit
 
+-- where following lines stopped: the number of the line that was refused, and what the lines before it leave
+pub record Stopped : Type 0 where
+  pub line : ℕ
+  pub left : Inputs
+
 -- what following lines in order comes to, where the first of them has number n: the job times and demand dates that they
--- leave, or the number of the first line that is refused
-pub data ComesTo (g : Parts) : List (List ℕ) → ℕ → Inputs → Result Inputs ℕ → Type 0 where
+-- leave, or the first line that is refused and what those before it leave
+pub data ComesTo (g : Parts) : List (List ℕ) → ℕ → Inputs → Result Inputs Stopped → Type 0 where
   ends : (n : ℕ) (inputs : Inputs) → ComesTo g [] n inputs (Ok inputs)
   follows : (line : List ℕ) (lines : List (List ℕ)) (n : ℕ) (inputs next : Inputs)
-      (end : Result Inputs ℕ) → LeadsTo g (strip_carriage_return line) inputs next
+      (end : Result Inputs Stopped) → LeadsTo g (strip_carriage_return line) inputs next
       → ComesTo g lines (n + 1) next end → ComesTo g (line ∷ lines) n inputs end
   refuses : (line : List ℕ) (lines : List (List ℕ)) (n : ℕ) (inputs : Inputs)
-      → IsRefused g (strip_carriage_return line) inputs → ComesTo g (line ∷ lines) n inputs (Err n)
+      → IsRefused g (strip_carriage_return line) inputs
+      → ComesTo g (line ∷ lines) n inputs (Err (record { line = n; left = inputs }))
 
 -- a word, a space, and the rest of a text
 pub record IsSplit (text word rest : List ℕ) : Type 0 where

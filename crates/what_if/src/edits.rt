@@ -97,8 +97,8 @@ pub fn follow_edits(sheet: &mut Sheet, live: &Live, edits: &[u8]) -> Result<(), 
     requires made_for { live.now ≡ sheet.old.live }
     ensures followed { OnOk result
         (ComesTo live.now.graph (lines_of edits.now) 1 sheet.old.inputs (Ok sheet.new.inputs)) }
-    ensures refused { IfErr result
-        (λ at. ComesTo live.now.graph (lines_of edits.now) 1 sheet.old.inputs (Err at.line)) }
+    ensures refused { IfErr result (λ at. ComesTo live.now.graph (lines_of edits.now) 1 sheet.old.inputs
+        (Err (record { line = at.line; left = sheet.new.inputs }))) }
     ensures dates { KeepsDates sheet.old sheet.new }
     ensures marks { mark_count sheet.new ≤ mark_count sheet.old + length (lines_of edits.now) }
 {

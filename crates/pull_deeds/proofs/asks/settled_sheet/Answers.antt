@@ -4,7 +4,7 @@ use Rattle.pull_deeds.proofs.asks.settled_sheet.Goals as goal
 
 pub returns-in-Err-clause-refused : goal.returns-in-Err-clause-refused
 returns-in-Err-clause-refused c =
-    inl (line_refused c.args.live.now c.args.edits.now c.in_ok-sheet.sheet c.in_ok-sheet.ensures.begun c.in-Err.refused c.from.result c.in-Err.ensures.refused c.from.ensures)
+    inl (line_refused c.args.live.now c.args.edits.now c.in_ok-sheet.sheet c.in_ok-sheet.ensures.begun c.in-Err.refused c.follow_edits.new.sheet.inputs c.from.result c.in-Err.ensures.refused c.from.ensures)
 
 pub returns-in-Ok-clause-settled : goal.returns-in-Ok-clause-settled
 returns-in-Ok-clause-settled c =

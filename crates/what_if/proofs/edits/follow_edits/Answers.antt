@@ -4,6 +4,7 @@ use Rattle.std.specs.Str.Lines.{strip_carriage_return}
 use Rattle.std.proofs.lemmas.List.{length-drop}
 use Rattle.line_core.specs.Schedule.{lines_of}
 use Rattle.what_if.specs.Edits.{LeadsTo, IsRefused, ComesTo}
+use Rattle.what_if.specs.Page.{Page}
 use Rattle.what_if.proofs.Lines.{line-within, lines-more, comes-more, comes-last, comes-refused}
 use Rattle.what_if.proofs.edits.follow_edits.Goals as goal
 
@@ -17,8 +18,11 @@ returns-then-not-follow_line-clause-refused c =
     let end = c.end_before-end.result in
     let text = c.without_return-text.ensures ∙ ap strip_carriage_return c.front.ensures in
     let refused = subst (λ line. IsRefused g line c.loop-rest.sheet.inputs) text c.if-not-follow_line.ensures.refused in
-    c.loop-rest.invariant.comes (Err c.loop-rest.line) (
-    comes-refused rest end c.end_before-end.ensures g c.loop-rest.line c.loop-rest.sheet.inputs (omega (arith, c.end_before-end.ensures, line-within rest)) refused)
+    let n = c.loop-rest.line in
+    let stops = c.loop-rest.invariant.comes (Err (record { line = n; left = c.loop-rest.sheet.inputs })) (
+        comes-refused rest end c.end_before-end.ensures g n c.loop-rest.sheet.inputs (omega (arith, c.end_before-end.ensures, line-within rest)) refused) in
+    subst (λ (page : Page). ComesTo g (lines_of c.args.edits.now) 1 c.args.sheet.now.inputs (Err (record { line = n; left = page.inputs })))
+    (sym c.if-not-follow_line.ensures.unchanged) stops
 
 pub returns-then-end-rest-clause-followed : goal.returns-then-end-rest-clause-followed
 returns-then-end-rest-clause-followed c =
