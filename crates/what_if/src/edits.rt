@@ -12,6 +12,7 @@ use crate::edit::Edit;
 use crate::reader::read_edit;
 use crate::sheet::Sheet;
 use crate::words::{behind, end_before, front};
+use line_base::Date;
 use live_check::Live;
 use thiserror::Error;
 
@@ -32,7 +33,7 @@ fn without_return(line: &[u8]) -> &[u8]
 
 /// Whether this demand date of job `n` is neither before the present one of the job before nor after that of the job
 /// after.
-fn fits_between(sheet: &Sheet, n: u32, date: u64) -> bool
+fn fits_between(sheet: &Sheet, n: u32, date: Date) -> bool
     requires from_one { 1 ≤ n }
     requires job { n ≤ jobs sheet.now.live.graph }
     ensures { IsTrue result ↔ FitsBetween sheet.now.inputs.demands n date }

@@ -13,6 +13,5 @@ mod sheet;
 mod slots;
 mod words;
 
-pub use edit::Edit;
 pub use edits::{RefusedLine, follow_edits};
 pub use sheet::Sheet;
