@@ -1,3 +1,4 @@
+mod counting_gate;
 mod got;
 mod held_gate;
 mod kept;
@@ -5,4 +6,5 @@ mod of_line_runs;
 mod of_line_workers;
 mod of_pull_cli;
 mod of_standing_line;
+mod pair_gate;
 mod same;

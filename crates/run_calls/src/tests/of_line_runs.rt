@@ -10,43 +10,16 @@ use line_core::{State, Table};
 use line_disk::MemDisk;
 use line_io::{Files, MemStore, Store, StoreError};
 use line_runs::{
-    Outcome, ResumeError, resume, resume_slots, run_to_end, run_until, run_with_slots, save_state,
+    Outcome, ResumeError, resume, resume_slots, run_until, run_with_slots, save_state,
 };
-use line_workers::{FreeGate, Gate};
+use line_workers::FreeGate;
 use live_check::Live;
 use sample_plants::{FIVE_FIRINGS, START, live_forty_jobs, live_stages};
 use slot_store::{MAX_ROOM, SlotError, Slots};
 use std::alloc::Global;
 use std::process::Abort;
-use std::sync::atomic::{AtomicU64, Ordering};
 use std::test::Fail;
 use std::thread::Threads;
-
-/// A gate that counts the steps of all workers.
-#[derive(Drop)]
-struct CountingGate {
-    steps: AtomicU64,
-}
-
-impl CountingGate {
-    /// No step was counted yet.
-    fn new() -> CountingGate {
-        CountingGate {
-            steps: AtomicU64::new(0),
-        }
-    }
-
-    /// How many steps were counted.
-    fn steps(&self) -> u64 {
-        self.steps.load(Ordering::SeqCst)
-    }
-}
-
-impl Gate for CountingGate {
-    fn pass(&self, _worker: u32, _station: u32) {
-        self.steps.fetch_add(1, Ordering::SeqCst);
-    }
-}
 
 /// The state of a run that stops after so many firings. It fails where all are made first.
 fn stopped<R: Threads + Sync>(
@@ -108,31 +81,19 @@ fn finished<R: Threads + Sync>(
     }
 }
 
-/// The table of a whole run by one worker, through a gate.
-fn whole<R: Threads + Sync, G: Gate>(
-    rt: &R,
-    alloc: Global,
-    live: &Live,
-    gate: &G,
-) -> Result<&'static Table, Fail> {
-    let line = new_line(alloc, live, 1)?;
-    Ok(kept(alloc, run_to_end(rt, live, line, gate))?)
-}
-
-/// The table of a run by so many workers that goes on from a text, through a gate, or the refusal of the text. It fails where
-/// the text is long.
-fn resumed<R: Threads + Sync, G: Gate>(
+/// The table of a run by so many workers that goes on from a text, or the refusal of the text. It fails where the text
+/// is long.
+fn resumed<R: Threads + Sync>(
     rt: &R,
     alloc: Global,
     live: &Live,
     text: &[u8],
     workers: u32,
-    gate: &G,
 ) -> Result<Result<&'static Table, CheckpointError>, Fail> {
     if text.len() >= 1 << 31 || workers < 1 || workers > 16 {
         return Err("the text is long, or there is no such number of workers".into());
     }
-    match resume(rt, alloc, live, text, workers, gate) {
+    match resume(rt, alloc, live, text, workers, &FreeGate) {
         Ok(table) => Ok(Ok(kept(alloc, table)?)),
         Err(error) => Ok(Err(error)),
     }
@@ -169,12 +130,6 @@ fn has_forty_dates(rt: &impl Abort, table: &Table) {
     same(rt, dates_of(rt, table, 4).last(), Some(&200));
 }
 
-/// Asserts that a run through a gate that counts comes to the dates of forty demands by so many steps.
-fn comes_in_steps(rt: &impl Abort, table: &Table, gate: &CountingGate, steps: u64) {
-    has_forty_dates(rt, table);
-    same(rt, gate.steps(), steps);
-}
-
 /// Asserts that a run of the two stages that goes on from a text comes to all dates.
 fn comes_to_all_dates<R: Abort + Threads + Sync>(
     rt: &R,
@@ -182,7 +137,7 @@ fn comes_to_all_dates<R: Abort + Threads + Sync>(
     live: &Live,
     text: &[u8],
 ) -> Result<(), Fail> {
-    let table = resumed(rt, alloc, live, text, 2, &FreeGate)??;
+    let table = resumed(rt, alloc, live, text, 2)??;
     has_all_dates(rt, table);
     Ok(())
 }
@@ -214,29 +169,8 @@ fn two_workers_stop_soon_and_three_go_on(rt: HostRuntime) -> Result<(), Fail> {
     let live = live_forty_jobs(rt.alloc())?;
     let seventh = saved(&rt, rt.alloc(), live, 2, 7)?;
     assert!(rt; 7 <= seventh.fired && seventh.fired < 103);
-    let table = resumed(&rt, rt.alloc(), live, &seventh.text, 3, &FreeGate)??;
+    let table = resumed(&rt, rt.alloc(), live, &seventh.text, 3)??;
     has_forty_dates(&rt, table);
-    Ok(())
-}
-
-#[test]
-fn a_whole_run_makes_a_step_for_each_firing(rt: HostRuntime) -> Result<(), Fail> {
-    let live = live_forty_jobs(rt.alloc())?;
-    let gate = CountingGate::new();
-    let table = whole(&rt, rt.alloc(), live, &gate)?;
-    comes_in_steps(&rt, table, &gate, 240);
-    Ok(())
-}
-
-// Sixteen sweeps of six stations are 96 firings, of 240; who begins anew makes all of them.
-#[test]
-fn a_run_goes_on_from_where_it_stopped(rt: HostRuntime) -> Result<(), Fail> {
-    let live = live_forty_jobs(rt.alloc())?;
-    let first = saved(&rt, rt.alloc(), live, 1, 96)?;
-    same(&rt, first.fired, 96);
-    let rest = CountingGate::new();
-    let table = resumed(&rt, rt.alloc(), live, &first.text, 1, &rest)??;
-    comes_in_steps(&rt, table, &rest, 144);
     Ok(())
 }
 
@@ -244,7 +178,7 @@ fn a_run_goes_on_from_where_it_stopped(rt: HostRuntime) -> Result<(), Fail> {
 fn a_text_without_its_last_line_is_refused(rt: HostRuntime) -> Result<(), Fail> {
     let live = live_stages(rt.alloc())?;
     let cut = FIVE_FIRINGS.strip_suffix("end\n").ok_or("no end")?;
-    let refused = resumed(&rt, rt.alloc(), live, cut.as_bytes(), 1, &FreeGate)?.err();
+    let refused = resumed(&rt, rt.alloc(), live, cut.as_bytes(), 1)?.err();
     same(&rt, refused, Some(CheckpointError::Line { number: 19 }));
     Ok(())
 }

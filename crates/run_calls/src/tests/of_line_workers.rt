@@ -6,13 +6,11 @@ use crate::tests::got::got;
 use crate::tests::same::same;
 use line_base::Date;
 use line_core::State;
-use line_workers::{Burst, Crew, FreeGate, Gate, Line};
+use line_workers::{Burst, Crew, FreeGate, Line};
 use live_check::Live;
 use sample_plants::{live_forty_jobs, live_pair, live_stages};
 use std::alloc::Global;
-use std::hint;
 use std::process::Abort;
-use std::sync::atomic::{AtomicU64, Ordering};
 use std::test::Fail;
 use std::thread::Threads;
 
@@ -26,12 +24,11 @@ pub fn new_line(alloc: Global, live: &Live, workers: u32) -> Result<Line, Fail>
 }
 
 /// A line of so many workers, after as many bursts as it takes, or eighteen.
-fn worked_line<R: Threads + Sync, G: Gate>(
+fn worked_line<R: Threads + Sync>(
     rt: &R,
     alloc: Global,
     live: &Live,
     workers: u32,
-    gate: &G,
 ) -> Result<Line, Fail>
     requires some { 1 ≤ workers }
     requires few { workers ≤ 16 }
@@ -42,7 +39,7 @@ fn worked_line<R: Threads + Sync, G: Gate>(
         if line.finished() {
             break;
         }
-        line.burst(rt, live, gate);
+        line.burst(rt, live, &FreeGate);
     }
     Ok(line)
 }
@@ -122,62 +119,11 @@ fn three_jobs_are_one_burst_of_one_worker(rt: HostRuntime) -> Result<(), Fail> {
     Ok(())
 }
 
-/// How often a worker looks whether the other has come to the gate.
-const LOOKS: u64 = 200_000_000;
-
-/// A gate at which each of two workers waits at its first step until the other has come to its own.
-#[derive(Drop)]
-struct PairGate {
-    passes: [AtomicU64; 2],
-    missed: AtomicU64,
-}
-
-impl PairGate {
-    fn new() -> PairGate {
-        PairGate {
-            passes: [AtomicU64::new(0), AtomicU64::new(0)],
-            missed: AtomicU64::new(0),
-        }
-    }
-
-    fn has_come(&self, worker: u32) -> bool {
-        self.passes[worker as usize % 2].load(Ordering::SeqCst) > 0
-    }
-}
-
-impl Gate for PairGate {
-    fn pass(&self, worker: u32, _station: u32) {
-        self.passes[worker as usize % 2].fetch_add(1, Ordering::SeqCst);
-        if self.missed.load(Ordering::SeqCst) > 0 {
-            return;
-        }
-        for _look in 0..LOOKS {
-            if self.has_come(1 - worker % 2) {
-                return;
-            }
-            hint::spin_loop();
-        }
-        self.missed.store(1, Ordering::SeqCst);
-    }
-}
-
-// Where one thread ran both workers, the first to come to the gate would look in vain for the other.
-#[test]
-fn two_workers_are_at_work_at_once(rt: HostRuntime) -> Result<(), Fail> {
-    let live = live_stages(rt.alloc())?;
-    let gate = PairGate::new();
-    let line = worked_line(&rt, rt.alloc(), live, 2, &gate)?;
-    assert!(rt; gate.has_come(0) && gate.has_come(1));
-    same(&rt, gate.missed.load(Ordering::SeqCst), 0);
-    closes_with_all_dates(&rt, live, line);
-    Ok(())
-}
-
 #[test]
 fn a_thousand_runs_come_to_the_same_dates(rt: HostRuntime) -> Result<(), Fail> {
     let live = live_stages(rt.alloc())?;
     for run in 0..1000 {
-        let line = worked_line(&rt, rt.alloc(), live, 2 + run % 15, &FreeGate)?;
+        let line = worked_line(&rt, rt.alloc(), live, 2 + run % 15)?;
         closes_with_all_dates(&rt, live, line);
     }
     Ok(())
@@ -199,7 +145,7 @@ fn two_workers_keep_tokens_back_by_the_delays(rt: HostRuntime) -> Result<(), Fai
     for (delay, dates) in cases {
         let live = live_pair(rt.alloc(), delay)?;
         same(&rt, live.graph().stations(), 2);
-        let line = worked_line(&rt, rt.alloc(), live, 2, &FreeGate)?;
+        let line = worked_line(&rt, rt.alloc(), live, 2)?;
         closes_with(&rt, live, line, 1, &dates);
     }
     Ok(())
