@@ -17,6 +17,21 @@ pub struct Case {
     pub steps: Vec<Step>,
 }
 
+impl Case {
+    /// Errs where its last step is no command.
+    fn check_end(&self) -> Result<(), Reason> {
+        match self.steps.last() {
+            Some(
+                Step {
+                    act: Act::Run(_),
+                    ..
+                },
+            ) => Ok(()),
+            _ => Err(Reason::NoLastCommand),
+        }
+    }
+}
+
 /// A step of a case.
 #[derive(Drop)]
 pub struct Step {
@@ -43,6 +58,14 @@ impl Act {
             Act::Run(run) => run.text(),
         }
     }
+
+    /// Why no case can have it, if none can.
+    fn refusal(&self) -> Option<Reason> {
+        match self {
+            Act::Change(_) => None,
+            Act::Run(run) => run.refusal(),
+        }
+    }
 }
 
 /// Commands, and what is wanted of each.
@@ -64,8 +87,10 @@ pub struct Run {
     pub rows: Vec<NumberedRow>,
     /// The files of each of whose variants there is a run.
     pub variants: Vec<Variants>,
-    /// Where a line of text goes.
-    block: Block,
+    /// Whether a line says what is to be written.
+    says_output: bool,
+    /// Where a line of text goes; nowhere where no text has begun.
+    block: Option<Block>,
 }
 
 /// A row of a table, and the number of its line.
@@ -142,7 +167,8 @@ impl Run {
             crash: None,
             rows: Vec::new(alloc),
             variants: Vec::new(alloc),
-            block: Block::Output,
+            says_output: false,
+            block: None,
         }
     }
 
@@ -151,9 +177,31 @@ impl Run {
         self.want.status.is_none() && self.rows.is_empty() && self.variants.is_empty()
     }
 
+    /// Whether a status is lacking: what is written, each call failing in turn and a crash are looked at in the run that
+    /// is to end with it alone, and what files hold in runs over variants too.
+    fn lacks_status(&self) -> bool {
+        self.want.status.is_none()
+            && (self.says_output
+                || self.each_fault.is_some()
+                || self.each_disk_fault.is_some()
+                || self.crash.is_some()
+                || (self.variants.is_empty() && !self.want.after.is_empty()))
+    }
+
+    /// Why no case can have it, if none can.
+    fn refusal(&self) -> Option<Reason> {
+        if self.wants_nothing() {
+            Some(Reason::NothingWanted)
+        } else if self.lacks_status() {
+            Some(Reason::NoStatus)
+        } else {
+            None
+        }
+    }
+
     /// The text that has begun, if one has.
     fn text(&mut self) -> Option<&mut Vec<u8>> {
-        match self.block {
+        match self.block? {
             Block::Output => self.want.output.text(),
             Block::After => self.want.after.last_mut()?.bytes.as_mut(),
         }
@@ -170,11 +218,12 @@ impl Run {
             OfRun::Status(status) => self.want.status = Some(status),
             OfRun::Output(output) => {
                 self.want.output = output;
-                self.block = Block::Output;
+                self.says_output = true;
+                self.block = Some(Block::Output);
             }
             OfRun::After(after) => {
                 self.want.after.push(after)?;
-                self.block = Block::After;
+                self.block = Some(Block::After);
             }
             OfRun::Row(row) => self.rows.push(NumberedRow { line, row })?,
         }
@@ -186,6 +235,8 @@ impl Run {
 #[derive(Drop)]
 struct Builder {
     alloc: Global,
+    /// The number of the line that is followed, or of the first line of a step that is refused.
+    line: u64,
     cases: Vec<Case>,
     /// The step that the last lines have begun, if they have begun one.
     open: Option<Step>,
@@ -195,52 +246,52 @@ struct Builder {
 pub fn cases_of(alloc: Global, text: &str) -> Result<Vec<Case>, BadLine> {
     let mut builder = Builder {
         alloc,
+        line: 0,
         cases: Vec::new(alloc),
         open: None,
     };
     let followed = builder.follow_all(text);
-    let Builder { cases, open, .. } = builder;
+    let Builder {
+        line,
+        cases,
+        open,
+        ..
+    } = builder;
     drop(open);
     match followed {
         Ok(()) => Ok(cases),
-        Err(bad) => {
+        Err(reason) => {
             drop(cases);
-            Err(bad)
+            Err(BadLine { line, reason })
         }
     }
 }
 
 impl Builder {
     /// Follows the lines of a file.
-    fn follow_all(&mut self, text: &str) -> Result<(), BadLine> {
-        let mut line = 0u64;
-        for text in text.lines() {
-            line = line.saturating_add(1);
-            if let Err(reason) = self.follow(line, text) {
-                return Err(BadLine { line, reason });
-            }
+    fn follow_all(&mut self, text: &str) -> Result<(), Reason> {
+        for line in text.lines() {
+            self.line = self.line.saturating_add(1);
+            self.follow(line)?;
         }
-        match self.close() {
-            Ok(()) => Ok(()),
-            Err(reason) => Err(BadLine { line, reason }),
-        }
+        self.close_case()
     }
 
     /// Follows a line.
-    fn follow(&mut self, line: u64, text: &str) -> Result<(), Reason> {
-        match directive_of(self.alloc, text)? {
-            Some(directive) => self.take(line, directive),
+    fn follow(&mut self, line: &str) -> Result<(), Reason> {
+        match directive_of(self.alloc, line)? {
+            Some(directive) => self.take(directive),
             None => Ok(()),
         }
     }
 
     /// Does what a line says.
-    fn take(&mut self, line: u64, directive: Directive) -> Result<(), Reason> {
+    fn take(&mut self, directive: Directive) -> Result<(), Reason> {
         match directive {
             Directive::Case(title) => self.begin_case(title),
             Directive::Like(title) => self.begin_like(title.as_str()),
-            Directive::File(change) => self.begin(line, Act::Change(change)),
-            Directive::Command(words) => self.add_command(line, words),
+            Directive::File(change) => self.begin(Act::Change(change)),
+            Directive::Command(words) => self.add_command(words),
             Directive::Text(text) => {
                 let mut lines = text.into_bytes();
                 lines.push(b'\n')?;
@@ -250,12 +301,13 @@ impl Builder {
                 let row = row_of(self.alloc, row.as_str())?;
                 self.add_text(&row.lines)
             }
-            Directive::OfRun(said) => self.state(line, said),
+            Directive::OfRun(said) => self.state(said),
         }
     }
 
     /// Does what a line says of the run that has begun.
-    fn state(&mut self, line: u64, said: OfRun) -> Result<(), Reason> {
+    fn state(&mut self, said: OfRun) -> Result<(), Reason> {
+        let line = self.line;
         match &mut self.open {
             Some(
                 Step {
@@ -278,8 +330,29 @@ impl Builder {
         }
     }
 
-    /// Adds a step to the last case.
+    /// Ends the case that has begun, if one has: with a command, since what a file becomes behind the last one nothing shows.
+    fn close_case(&mut self) -> Result<(), Reason> {
+        self.close()?;
+        match self.cases.last() {
+            Some(case) => case.check_end(),
+            None => Ok(()),
+        }
+    }
+
+    /// Adds a step to the last case, or says why no case can have it.
     fn add(&mut self, step: Step) -> Result<(), Reason> {
+        match step.act.refusal() {
+            Some(reason) => {
+                self.line = step.line;
+                drop(step);
+                Err(reason)
+            }
+            None => self.add_to_last(step),
+        }
+    }
+
+    /// Adds a step to the last case.
+    fn add_to_last(&mut self, step: Step) -> Result<(), Reason> {
         match self.cases.last_mut() {
             Some(case) => {
                 case.steps.push(step)?;
@@ -293,7 +366,8 @@ impl Builder {
     }
 
     /// Begins this, and ends what had begun.
-    fn begin(&mut self, line: u64, act: Act) -> Result<(), Reason> {
+    fn begin(&mut self, act: Act) -> Result<(), Reason> {
+        let line = self.line;
         match self.open.replace(Step { line, act }) {
             Some(step) => self.add(step),
             None => Ok(()),
@@ -302,7 +376,7 @@ impl Builder {
 
     /// Begins a case.
     fn begin_case(&mut self, title: String) -> Result<(), Reason> {
-        self.close()?;
+        self.close_case()?;
         let steps = Vec::new(self.alloc);
         self.cases.push(Case { title, steps })?;
         Ok(())
@@ -332,7 +406,7 @@ impl Builder {
     }
 
     /// Adds a command to the run of commands that stand one below the other, or begins a run.
-    fn add_command(&mut self, line: u64, words: Vec<String>) -> Result<(), Reason> {
+    fn add_command(&mut self, words: Vec<String>) -> Result<(), Reason> {
         if let Some(
             Step {
                 act: Act::Run(run),
@@ -347,7 +421,7 @@ impl Builder {
         }
         let mut commands = Vec::new(self.alloc);
         commands.push(words)?;
-        self.begin(line, Act::Run(Run::new(self.alloc, commands)))
+        self.begin(Act::Run(Run::new(self.alloc, commands)))
     }
 
     /// Adds lines to the text that has begun.

@@ -18,6 +18,12 @@ pub enum Reason {
     NoCommand,
     /// It adds to a text, and none stands before it.
     NoText,
+    /// Nothing is wanted of the command that stands there: no status, no row and no variant.
+    NothingWanted,
+    /// Of the command that stands there something is wanted that only a run to a status shows, and no status is.
+    NoStatus,
+    /// A case ends there, and not with a command.
+    NoLastCommand,
     /// The store, or the folder of the case files, has no such file.
     NoSuchFile,
     /// The file doesn't have the text that is to be found in it.
@@ -43,6 +49,9 @@ impl Reason {
             Reason::NoSuchCase => "no earlier case has this title",
             Reason::NoCommand => "no command stands before it",
             Reason::NoText => "no text stands before it",
+            Reason::NothingWanted => "nothing is wanted of the command",
+            Reason::NoStatus => "no status is wanted of the command",
+            Reason::NoLastCommand => "a case ends here without a command",
             Reason::NoSuchFile => "there is no such file",
             Reason::NoSuchText => "the file has no such text",
             Reason::NoPlant => "the plant is refused, or names other files",
