@@ -1,4 +1,5 @@
--- What the meeting of the two ends of a ring does to the two teams: it makes known what was put, and changes nothing else.
+-- What the meeting of the two ends of a ring does to the two teams: it makes known what was put, and changes nothing
+-- else.
 use Rattle.std.specs.Prelude.{◌≡◌, ℕ, slice_set}
 use Rattle.station_step.specs.Ends.{unseen_inlet, unseen_outlet}
 use Rattle.station_step.specs.Input.{input_at}

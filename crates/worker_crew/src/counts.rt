@@ -1,5 +1,5 @@
 ghost use Rattle.std.specs.List.{Any};
-ghost use Rattle.std.specs.Prelude.{◌≡◌, ◌<◌, ◌≤◌, ◌^◌, ℕ, length, sum_by, IsTrue, ◌↔◌};
+ghost use Rattle.std.specs.Prelude.{◌≡◌, ◌*◌, ◌<◌, ◌≤◌, ◌^◌, ℕ, length, sum_by, IsTrue, ◌↔◌};
 ghost use Rattle.line_base.specs.declared.limits.TheConstants.{MAX_STATIONS, MAX_DEMANDS};
 ghost use Rattle.worker_crew.specs.Team.{member};
 ghost use Rattle.worker_crew.specs.Work.{dates_of, turns_of};
@@ -12,7 +12,7 @@ pub(crate) fn dates_made(stations: &Vec<Station>) -> u64
     requires few { (i : ℕ) → i < length stations.now.items →
         dates_of (member stations.now.items i) ≤ MAX_DEMANDS }
     ensures dates { result ≡ sum_by dates_of stations.now.items }
-    ensures few { result ≤ 20_000_000 }
+    ensures few { result ≤ MAX_STATIONS * MAX_DEMANDS }
 {
     let mut dates = 0;
     for i in 0..stations.len() {

@@ -1,7 +1,8 @@
 ghost use Rattle.std.specs.List.{Any};
-ghost use Rattle.std.specs.Prelude.{◌≡◌, ◌+◌, ◌<◌, ◌≤◌, ◌^◌, ◌++◌, ℕ, length, map, slice_index, if◌then◌else◌, IsTrue, ◌↔◌, IfOk, OnOk};
+ghost use Rattle.std.specs.Prelude.{◌≡◌, ◌+◌, ◌*◌, ◌<◌, ◌≤◌, ◌^◌, ◌++◌, ℕ, length, map, slice_index, if◌then◌else◌, IsTrue, ◌↔◌, IfOk, OnOk};
 ghost use Rattle.event_graph.specs.Network.{jobs, stations};
 ghost use Rattle.event_graph.specs.Reached.{Reached};
+ghost use Rattle.line_base.specs.declared.limits.TheConstants.{MAX_STATIONS, MAX_DEMANDS};
 ghost use Rattle.station_step.specs.Ends.{AreEnds, AreMet};
 ghost use Rattle.station_step.specs.Input.{input_at};
 ghost use Rattle.station_step.specs.Station.{outlet_at};
@@ -219,7 +220,7 @@ impl Crew {
     /// How many dates the stations of the crew have made together.
     pub fn dates(&self) -> u64
         ensures dates { result ≡ dates_made self.now.team }
-        ensures few { result ≤ 20_000_000 }
+        ensures few { result ≤ MAX_STATIONS * MAX_DEMANDS }
         ensures crew { IsCrew self.now }
     {
         dates_made(&self.team.stations)
@@ -296,7 +297,8 @@ impl Crew {
         give_logs(self.team.stations, logs);
     }
 
-    /// Copies the logs of the crew's stations behind those of a list, each with room for a date of each job.
+    /// Copies the logs of the crew's stations behind those of a list, each with room for a date of each job. Where
+    /// memory runs out, some of them may stand there.
     pub fn copy_logs(&self, alloc: Global, logs: &mut Logs) -> Result<(), AllocError>
         requires { length logs.old.logs + length self.now.team.stations ≤ logs.old.room }
         ensures { OnOk result (logs.new ≡

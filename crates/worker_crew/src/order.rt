@@ -1,4 +1,4 @@
-ghost use Rattle.std.specs.Prelude.{◌≡◌, ◌+◌, ◌-◌, ◌<◌, ◌≤◌, ◌^◌, IfOk, SomeIff};
+ghost use Rattle.std.specs.Prelude.{◌+◌, ◌-◌, ◌<◌, ◌≤◌, ◌^◌, IfOk, SomeIff};
 ghost use Rattle.event_graph.specs.Network.{stations};
 ghost use Rattle.worker_crew.specs.Crew.{IsOrder};
 
