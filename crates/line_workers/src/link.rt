@@ -27,14 +27,9 @@ fn place_in(list: &[u32], number: u32) -> u32
     requires { length list.now < 2 ^ 32 }
     ensures { result ≡ place_in list.now number }
 {
-    let mut place = 0;
-    for x in list {
-        if *x == number {
-            break;
-        }
-        place += 1;
-    }
-    place
+    list.iter()
+        .position(|x| *x == number)
+        .unwrap_or(list.len()) as u32
 }
 
 /// Where station `t` stands.
