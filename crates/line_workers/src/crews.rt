@@ -1,20 +1,14 @@
-ghost use Rattle.std.specs.Prelude.{◌≡◌, ◌≢◌, ℕ, ◌+◌, ◌-◌, ◌<◌, ◌≤◌, ◌^◌, length, slice_set, sum, All, IsTrue, ◌↔◌};
-ghost use Rattle.event_graph.specs.Network.{stations, arc_count, arc, ins, outs};
+ghost use Rattle.std.specs.Prelude.{◌≡◌, ◌+◌, ◌<◌, ◌≤◌, ◌^◌, length, sum, All, IsTrue, ◌↔◌};
+ghost use Rattle.event_graph.specs.Network.{arc_count};
 ghost use Rattle.line_core.specs.Consistent.{fired, IsFinished};
 ghost use Rattle.line_workers.specs.Burst.{CrewsBurst};
 ghost use Rattle.line_workers.specs.Gather.{Gathers};
 ghost use Rattle.line_workers.specs.Line.{turns_among};
 ghost use Rattle.line_workers.specs.Link.{IsRing, HaveMet};
 ghost use Rattle.line_workers.specs.Meeting.{AreStill, MeetsOn};
-ghost use Rattle.live_check.specs.Order.{LiveGraph};
-ghost use Rattle.station_step.specs.Ends.{AreEnds};
-ghost use Rattle.station_step.specs.Input.{input_at};
-ghost use Rattle.station_step.specs.Station.{outlet_at};
-ghost use Rattle.worker_crew.specs.Crew.{WorkCrew, teams_of};
-ghost use Rattle.worker_crew.specs.Crews.{crew_at, live_of, graph_of, AreCrews, AreSameCrews};
-ghost use Rattle.worker_crew.specs.Share.{worker_of, first_of};
-ghost use Rattle.worker_crew.specs.Team.{member};
-ghost use Rattle.worker_crew.specs.Teams.{place_in, state_among, AreAllMet};
+ghost use Rattle.worker_crew.specs.Crew.{teams_of};
+ghost use Rattle.worker_crew.specs.Crews.{live_of, graph_of, AreCrews, AreSameCrews};
+ghost use Rattle.worker_crew.specs.Teams.{state_among, AreAllMet};
 ghost use Rattle.worker_crew.specs.Work.{TurnsBelow, TeamsWorked};
 
 use crate::clearing::clear_crews;
