@@ -97,7 +97,9 @@ impl Line {
         ensures stands { IfOk result (Stands live.now (start live.now.graph) workers) }
     {
         let state = State::start(alloc, live)?;
-        Line::of(alloc, live, &state, workers, None)
+        let line = Line::of(alloc, live, &state, workers, None);
+        drop(state);
+        line
     }
 
     /// The line of `prepare`, in which the room of a ring between two workers is bounded: each such ring has room for
@@ -118,7 +120,9 @@ impl Line {
             (StandsIn (Some room) live.now (start live.now.graph) workers) }
     {
         let state = State::start(alloc, live)?;
-        Line::of(alloc, live, &state, workers, Some(room))
+        let line = Line::of(alloc, live, &state, workers, Some(room));
+        drop(state);
+        line
     }
 
     /// The line that goes on from a state, of which it keeps copies. Where memory runs out, the state is handed back
@@ -132,7 +136,10 @@ impl Line {
         ensures handed_back { IfErr result (λ back. back ≡ state) }
     {
         match Line::of(alloc, live, &state, workers, None) {
-            Ok(line) => Ok(line),
+            Ok(line) => {
+                drop(state);
+                Ok(line)
+            }
             Err(_) => Err(state),
         }
     }

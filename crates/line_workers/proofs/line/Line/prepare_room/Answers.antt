@@ -1,6 +1,6 @@
 use Rattle.crew_laying.proofs.StateRoom.{start_fits}
 use Rattle.line_workers.proofs.line.Line.prepare_room.Goals as goal
 
-pub of-requires-clause-fits : goal.of-requires-clause-fits
-of-requires-clause-fits c =
+pub of-line-requires-clause-fits : goal.of-line-requires-clause-fits
+of-line-requires-clause-fits c =
     start_fits c.args.live.now.graph c.in_ok-state.state c.args.room c.in_ok-state.ensures.start c.requires.some_room c.requires.most_room
