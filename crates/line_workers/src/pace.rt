@@ -98,8 +98,8 @@ impl<'a> Pace<'a> {
         }
     }
 
-    /// The crew is about to let a station make a step. Where a sweep begins with it, looks for a while whether every crew
-    /// has begun as many sweeps as this one.
+    /// The crew is about to let a station make a step. Where a sweep begins with it, looks for a while whether every
+    /// crew has begun as many sweeps as this one.
     fn step(&self, station: u32) {
         if !self.begins_at(station) {
             return;
@@ -109,8 +109,8 @@ impl<'a> Pace<'a> {
         self.waits.begun.fetch_add(1, Ordering::SeqCst);
     }
 
-    /// Counts the sweeps that the crew leaves out, since its stations are done. The others then look for it no more. Tells
-    /// how often it has looked for them.
+    /// Counts the sweeps that the crew leaves out, since its stations are done. The others then look for it no more.
+    /// Tells how often it has looked for them.
     pub(crate) fn leave(&self) {
         let left = u64::from(SWEEPS).saturating_sub(self.sweeps.load(Ordering::SeqCst));
         self.waits.begun.fetch_add(left, Ordering::SeqCst);

@@ -1,5 +1,5 @@
-/// How many bursts go in turn after the first burst by threads that did not pay. After each further one they are twice as
-/// many.
+/// How many bursts go in turn after the first burst by threads that did not pay. After each further one they are twice
+/// as many.
 const FIRST_PAUSE: u32 = 256;
 
 /// How many they are at most.
@@ -7,14 +7,15 @@ const LONGEST_PAUSE: u32 = 1024;
 
 /// How many firings a burst by threads makes at the least for each look of the crew that waited most, where it pays.
 ///
-/// One look takes about half as long as one firing. So the crew then waits for a thirtieth of the time at the most in which
-/// one thread would make the firings. To fetch what another processor has written takes time too, which nothing counts.
+/// One look takes about half as long as one firing. So the crew then waits for a thirtieth of the time at the most in
+/// which one thread would make the firings. To fetch what another processor has written takes time too, which nothing
+/// counts.
 const FIRINGS_FOR_A_LOOK: u64 = 16;
 
 /// Whether the next burst of a line goes by threads.
 ///
-/// To begin a thread takes as long as a thousand firings, and one that begins late lets the others wait. So a line goes by
-/// threads as long as that pays; where it did not, some bursts go in turn on one thread before it tries again. What a
+/// To begin a thread takes as long as a thousand firings, and one that begins late lets the others wait. So a line goes
+/// by threads as long as that pays; where it did not, some bursts go in turn on one thread before it tries again. What a
 /// burst comes to is the same.
 #[derive(Drop)]
 pub(crate) struct Threading {
@@ -42,8 +43,8 @@ impl Threading {
         false
     }
 
-    /// Notes what came of a burst: how often the crew that waited most looked for the others, where it went by threads, and
-    /// how many firings were made.
+    /// Notes what came of a burst: how often the crew that waited most looked for the others, where it went by threads,
+    /// and how many firings were made.
     pub(crate) fn note(&mut self, looks: Option<u64>, fired: u64) {
         match looks {
             None => {}

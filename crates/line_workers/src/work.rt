@@ -1,4 +1,4 @@
-ghost use Rattle.std.specs.Prelude.{◌≡◌, ℕ, ◌<◌, ◌≤◌, ◌↔◌, length, All, IsSome, IsTrue};
+ghost use Rattle.std.specs.Prelude.{ℕ, ◌<◌, ◌≤◌, ◌↔◌, length, All, IsSome, IsTrue};
 ghost use Rattle.worker_crew.specs.Crews.{crew_at, CrewWorked, IsReadyFor, MayGoOn, HasGoneOn};
 
 use crate::pace::{Pace, PacedGate, Waits};
@@ -29,7 +29,8 @@ fn work_in_turn<G: Gate>(crews: &mut [Crew], live: &Live, gate: &G)
     }
 }
 
-/// Lets each crew work for a burst, one crew a thread. Answers how often the crew that waited most looked for the others.
+/// Lets each crew work for a burst, one crew a thread. Answers how often the crew that waited most looked for the
+/// others.
 fn work_at_once<R: Threads + Sync, G: Gate>(
     rt: &R,
     crews: &mut [Crew],
