@@ -1,4 +1,4 @@
-ghost use Rattle.std.specs.Prelude.{◌≡◌, ◌↔◌, IsTrue};
+ghost use Rattle.std.specs.Prelude.{◌↔◌, IsTrue};
 ghost use Rattle.line_workers.specs.Gather.{IsCrewAfter};
 ghost use Rattle.standing_line.specs.Sweeping.{IsCrewFor, MaySweep};
 ghost use Rattle.worker_crew.specs.Crew.{IsCrew};
