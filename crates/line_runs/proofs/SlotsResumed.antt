@@ -1,5 +1,5 @@
 -- What is answered to what the slots of a disk hold.
-use Rattle.std.proofs.Common.{◌≡◌, ℕ, Bool, IsTrue, List, Option, None, Some, Ok, Err, refl}
+use Rattle.std.proofs.Common.{◌≡◌, ℕ, Bool, IsTrue, List, Option, None, Some, Ok, Err, refl, arith}
 use Rattle.line_base.specs.declared.event.Parts.{Parts}
 use Rattle.line_core.specs.Run.{Dates}
 use Rattle.checkpoint.specs.declared.error.CheckpointError.{CheckpointError}
@@ -8,9 +8,10 @@ use Rattle.line_disk.specs.DiskView.{Image}
 use Rattle.slot_store.specs.declared.error.SlotError.{SlotError}
 use Rattle.slot_store.specs.declared.error.SlotError.TheVariants as Slot
 use Rattle.slot_store.specs.Layout.{content}
+use Rattle.line_runs.specs.declared.error.ResumeError.{ResumeError}
 use Rattle.line_runs.specs.declared.error.ResumeError.TheVariants.{DiskFault, NoMemory}
 use Rattle.line_runs.specs.Resume.{Resumes}
-use Rattle.line_runs.specs.ResumeSlots.{of_slot_error, of_checkpoint_error, AnswersSaved, ResumesSlots}
+use Rattle.line_runs.specs.ResumeSlots.{ComesOfLoad, of_checkpoint_error, AnswersSaved, ResumesSlots}
 
 -- a fault of the disk may be answered to anything, and want of memory too
 faults_anywhere : (g : Parts) (saved : Option (List ℕ)) → AnswersSaved g saved (Err DiskFault)
@@ -22,11 +23,18 @@ no_memory_anywhere g None = tt
 no_memory_anywhere g (Some bytes) = tt
 
 -- the slots were not read
-pub not_loaded : (tells : Bool) (image : Image) (room : ℕ) (g : Parts) (error : SlotError) → (error ≡ Slot.NoneSaved → IsTrue tells → content image room ≡ None) → ResumesSlots tells image room g (Err (of_slot_error error))
-not_loaded tells image room g Slot.NoneSaved none = record { saved = None; told = none refl; answers = tt }
-not_loaded tells image room g Slot.DiskFault none = record { saved = content image room; told = λ told. refl; answers = faults_anywhere g (content image room) }
-not_loaded tells image room g Slot.NoMemory none = record { saved = content image room; told = λ told. refl; answers = no_memory_anywhere g (content image room) }
-not_loaded tells image room g (Slot.TooLong have) none = record { saved = content image room; told = λ told. refl; answers = no_memory_anywhere g (content image room) }
+pub not_loaded : (tells : Bool) (image : Image) (room : ℕ) (g : Parts) (refusal : SlotError) (error : ResumeError) → ComesOfLoad refusal error → (refusal ≡ Slot.NoneSaved → IsTrue tells → content image room ≡ None) → ResumesSlots tells image room g (Err error)
+not_loaded tells image room g Slot.NoneSaved error is none = rw is (record { saved = None; told = none refl; answers = tt })
+not_loaded tells image room g Slot.DiskFault error is none = rw is (record { saved = content image room; told = λ told. refl; answers = faults_anywhere g (content image room) })
+not_loaded tells image room g Slot.NoMemory error is none = rw is (record { saved = content image room; told = λ told. refl; answers = no_memory_anywhere g (content image room) })
+not_loaded tells image room g (Slot.TooLong have) error is none = absurd is
+
+-- a fault is told only where the load met one
+pub load_fault : (refusal : SlotError) (error : ResumeError) → ComesOfLoad refusal error → error ≡ DiskFault → refusal ≡ Slot.DiskFault
+load_fault Slot.NoneSaved error is fault = absurd (grind (arith, is, fault))
+load_fault Slot.DiskFault error is fault = refl
+load_fault Slot.NoMemory error is fault = absurd (grind (arith, is, fault))
+load_fault (Slot.TooLong have) error is fault = absurd is
 
 -- the bytes that were read are no checkpoint
 pub not_resumed : (tells : Bool) (image : Image) (room : ℕ) (g : Parts) (bytes : List ℕ) (error : CheckpointError) → (IsTrue tells → content image room ≡ Some bytes) → Resumes g bytes (Err error) → ResumesSlots tells image room g (Err (of_checkpoint_error error))

@@ -12,12 +12,12 @@ use Rattle.line_runs.specs.declared.error.ResumeError.{ResumeError}
 use Rattle.line_runs.specs.declared.error.ResumeError.TheVariants.{NothingSaved, Checkpoint, DiskFault, NoMemory}
 use Rattle.line_runs.specs.Resume.{Resumes}
 
--- what the refusal of the slots becomes; a load never finds the content too long
-abbrev pub of_slot_error : SlotError → ResumeError
-of_slot_error Slot.NoneSaved = NothingSaved
-of_slot_error Slot.DiskFault = DiskFault
-of_slot_error Slot.NoMemory = NoMemory
-of_slot_error (Slot.TooLong have) = NoMemory
+-- what the refusal of a load comes to; a load never finds the content too long
+abbrev pub ComesOfLoad : SlotError → ResumeError → Type 0
+ComesOfLoad Slot.NoneSaved error = error ≡ NothingSaved
+ComesOfLoad Slot.DiskFault error = error ≡ DiskFault
+ComesOfLoad Slot.NoMemory error = error ≡ NoMemory
+ComesOfLoad (Slot.TooLong have) error = ⊥
 
 -- what the refusal of a text becomes
 abbrev pub of_checkpoint_error : CheckpointError → ResumeError

@@ -1,8 +1,7 @@
 ghost use Rattle.std.specs.Prelude.{◌≡◌};
-ghost use Rattle.line_runs.specs.ResumeSlots.{of_slot_error, of_checkpoint_error};
+ghost use Rattle.line_runs.specs.ResumeSlots.{of_checkpoint_error};
 
 use checkpoint::CheckpointError;
-use slot_store::SlotError;
 use thiserror::Error;
 
 /// Why a run doesn't go on from what the slots of a disk hold.
@@ -23,47 +22,17 @@ pub enum ResumeError {
     NoMemory,
 }
 
-impl From<SlotError> for ResumeError {
-    ghost from_gives = { λ refusal error. error ≡ of_slot_error refusal };
-
-    fn from(refusal: SlotError) -> Self {
-        match refusal {
-            SlotError::NoneSaved => ResumeError::NothingSaved,
-            SlotError::DiskFault => ResumeError::DiskFault,
-            SlotError::NoMemory | SlotError::TooLong { have: _ } => ResumeError::NoMemory,
-        }
-    }
-}
-
 impl From<CheckpointError> for ResumeError {
     ghost from_gives = { λ refusal error. error ≡ of_checkpoint_error refusal };
 
     fn from(refusal: CheckpointError) -> Self {
         match refusal {
             CheckpointError::NoMemory => ResumeError::NoMemory,
-            CheckpointError::Line { number: _ }
-            | CheckpointError::Count {
-                station: _,
-                have: _,
-                limit: _,
-            }
-            | CheckpointError::Marking {
-                arc: _,
-                have: _,
-                need: _,
-            }
-            | CheckpointError::Date {
-                station: _,
-                job: _,
-                have: _,
-                need: _,
-            }
-            | CheckpointError::PlaceDate {
-                arc: _,
-                token: _,
-                have: _,
-                need: _,
-            } => { ResumeError::Checkpoint(refusal) }
+            CheckpointError::Line { .. }
+            | CheckpointError::Count { .. }
+            | CheckpointError::Marking { .. }
+            | CheckpointError::Date { .. }
+            | CheckpointError::PlaceDate { .. } => ResumeError::Checkpoint(refusal),
         }
     }
 }

@@ -1,8 +1,9 @@
-ghost use Rattle.std.specs.Prelude.{◌≡◌, ◌≤◌, IsTrue, IfOk, OnErr, IsErrOf};
+ghost use Rattle.std.specs.Prelude.{◌≡◌, ℕ, ◌≤◌, IsTrue, IsErrOf};
 ghost use Rattle.line_disk.specs.DiskView.{Stays};
 ghost use Rattle.line_io.specs.Faults.{Rose};
-ghost use Rattle.line_runs.specs.ResumeSlots.{ResumesSlots};
+ghost use Rattle.line_runs.specs.ResumeSlots.{ComesOfLoad, ResumesSlots};
 ghost use Rattle.slot_store.specs.Crash.{bytes_now};
+ghost use Rattle.slot_store.specs.declared.error.SlotError.TheVariants.{TooLong};
 
 use crate::error::ResumeError;
 use crate::resuming::resume;
@@ -10,9 +11,22 @@ use line_core::Table;
 use line_disk::Disk;
 use line_workers::Gate;
 use live_check::Live;
-use slot_store::{MAX_ROOM, Slots};
+use slot_store::{MAX_ROOM, SlotError, Slots};
 use std::alloc::Global;
 use std::thread::Threads;
+
+/// Why no run goes on where the slots gave nothing. A load never finds a content too long.
+fn not_loaded(refusal: SlotError) -> ResumeError
+    requires { (have : ℕ) → ¬ (refusal ≡ TooLong have) }
+    ensures { ComesOfLoad refusal result }
+{
+    match refusal {
+        SlotError::NoneSaved => ResumeError::NothingSaved,
+        SlotError::DiskFault => ResumeError::DiskFault,
+        SlotError::NoMemory => ResumeError::NoMemory,
+        SlotError::TooLong { .. } => unreachable!(),
+    }
+}
 
 /// Goes on from what the two slots of a disk hold, with so many workers, until every station has
 /// fired once for each job. The table is the least solution of the graph. The disk is as before.
@@ -33,6 +47,8 @@ pub fn resume_slots<R: Threads + Sync, G: Gate, D: Disk>(
         → Rose (D.shown disk.old).faults (D.shown disk.new).faults }
     ensures faults_stay_or_rise { (D.shown disk.old).faults ≤ (D.shown disk.new).faults }
 {
-    let text = Slots::new(disk, MAX_ROOM).load(alloc)?;
-    Ok(resume(rt, alloc, live, text.as_slice(), workers, gate)?)
+    match Slots::new(disk, MAX_ROOM).load(alloc) {
+        Ok(text) => Ok(resume(rt, alloc, live, text.as_slice(), workers, gate)?),
+        Err(refusal) => Err(not_loaded(refusal)),
+    }
 }
