@@ -1,4 +1,4 @@
-ghost use Rattle.std.specs.Prelude.{◌≡◌, ◌^◌, ◌<◌, ◌≤◌, length, IfOk, IfErr};
+ghost use Rattle.std.specs.Prelude.{◌^◌, ◌<◌, ◌≤◌, length, IfOk, IfErr};
 ghost use Rattle.checkpoint.specs.Answers.{Tells};
 ghost use Rattle.line_runs.specs.Resume.{StandsFor, FailsOnlyFor, Resumes};
 ghost use Rattle.line_workers.specs.Line.{IsLine};
@@ -31,7 +31,10 @@ pub fn line_of_text(
     let state = read_state(alloc, live, bytes)?;
     match Line::from_state(alloc, live, state, workers) {
         Ok(line) => Ok(line),
-        Err(_) => Err(CheckpointError::NoMemory),
+        Err(state) => {
+            drop(state);
+            Err(CheckpointError::NoMemory)
+        }
     }
 }
 
