@@ -1,5 +1,4 @@
 ghost use Rattle.std.specs.Prelude.{◌≡◌};
-ghost use Rattle.line_core.specs.Run.{IsLeastTable};
 ghost use Rattle.line_runs.specs.Bursts.{IsBurst, IsDone};
 ghost use Rattle.line_runs.specs.Table.{ComesToLeast};
 
