@@ -1,6 +1,6 @@
 ghost use Rattle.std.specs.Prelude.{◌≡◌, ◌<◌, map, All, IfOk};
 ghost use Rattle.event_graph.specs.Network.{stations, label};
-ghost use Rattle.line_graph.specs.DeadLabels.{AreDead};
+ghost use Rattle.line_graph.specs.DeadLabels.{AreAlong, AreDead};
 ghost use Rattle.live_check.specs.DeadCircuit.{IsDeadCircuit};
 
 use crate::circuit::circuit_stations;
@@ -8,11 +8,12 @@ use event_graph::Graph;
 use line_base::{Items, Label};
 use std::alloc::{AllocError, Global};
 
-/// The labels of the stations along a circuit without a token, in the order of its arcs, from the station with the least
+/// The labels of the stations along this circuit without a token, in the order of its arcs, from the station with the least
 /// number on.
 pub fn dead_labels(alloc: Global, graph: &Graph, arcs: &[u32]) -> Result<Items<Label>, AllocError>
     requires { IsDeadCircuit graph.now arcs.now }
-    ensures { IfOk result (AreDead graph.now) }
+    ensures dead { IfOk result (AreDead graph.now) }
+    ensures along { IfOk result (AreAlong graph.now arcs.now) }
 {
     let stations = circuit_stations(alloc, graph, arcs)?;
     labels_of(alloc, graph, stations.as_slice())
