@@ -9,7 +9,7 @@ use std::alloc::{AllocError, Global};
 
 /// The arcs of a circuit: those on which parts go on in the stages from `first` to `last` on the path of `first`, and then
 /// the arc of the cards.
-pub fn around(
+pub(crate) fn around(
     alloc: Global,
     layout: &Layout,
     first: u32,

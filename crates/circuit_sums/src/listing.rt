@@ -30,11 +30,7 @@ pub fn card_circuits(
 }
 
 /// The card circuits of a plant whose graph has so many arcs, the last of which are those of the loops.
-pub fn list_circuits(
-    alloc: Global,
-    plant: &Plant,
-    arcs: usize,
-) -> Result<Vec<CardCircuit>, AllocError>
+fn list_circuits(alloc: Global, plant: &Plant, arcs: usize) -> Result<Vec<CardCircuit>, AllocError>
     requires sound { IsSound plant.now }
     requires loops { length plant.now.loops ≤ arcs }
     requires few { arcs ≤ MAX_ARCS }

@@ -7,7 +7,11 @@ use plant_model::{CardLoop, Plant, Policy, Stage};
 use std::alloc::{AllocError, Global};
 
 /// The delays of the policy's arcs, of which there are so many: those of cards on their way back.
-pub fn policy_delays(alloc: Global, plant: &Plant, arcs: usize) -> Result<Vec<u64>, AllocError>
+pub(crate) fn policy_delays(
+    alloc: Global,
+    plant: &Plant,
+    arcs: usize,
+) -> Result<Vec<u64>, AllocError>
     requires { arcs ≡ length (policy_rows plant.now) }
     ensures { IfOk result (λ delays. delays.items ≡ delays_of (policy_rows plant.now)) }
 {
@@ -46,7 +50,7 @@ fn demand_and_card_times(alloc: Global, stages: &[Stage]) -> Result<Vec<u64>, Al
 }
 
 /// How long the cards of each loop move back.
-pub fn loop_delays(alloc: Global, loops: &[CardLoop]) -> Result<Vec<u64>, AllocError>
+pub(crate) fn loop_delays(alloc: Global, loops: &[CardLoop]) -> Result<Vec<u64>, AllocError>
     ensures { IfOk result (λ times. times.items ≡ map (λ l. l.card_time) loops.now) }
 {
     loops

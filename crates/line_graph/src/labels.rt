@@ -8,7 +8,7 @@ use plant_model::{Plant, Stage};
 use std::alloc::{AllocError, Global};
 
 /// The labels of the stations: `feed`, then each stage's, then `deliver`.
-pub fn station_labels(alloc: Global, plant: &Plant) -> Result<Vec<Label>, AllocError>
+pub(crate) fn station_labels(alloc: Global, plant: &Plant) -> Result<Vec<Label>, AllocError>
     ensures all { IfOk result (λ all. all.items ≡ labels plant.now) }
     ensures rule { IfOk result (λ all. AreLabels all.items) }
 {

@@ -13,7 +13,6 @@ mod times;
 pub use circuit::circuit_stations;
 pub use dead::dead_labels;
 pub use graph::graph_of;
-pub use labels::station_labels;
 pub use laws::{
     extended_is_base_stock, extended_is_kanban, more_cards_never_later, plants_keep_lists_in_order,
 };

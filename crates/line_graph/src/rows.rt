@@ -11,9 +11,9 @@ use std::alloc::{AllocError, Global};
 
 /// Arcs in their order, and the delay of each, in the plant's unit.
 #[derive(Drop)]
-pub struct Rows {
-    pub arcs: Vec<Arc>,
-    pub delays: Vec<u64>,
+pub(crate) struct Rows {
+    pub(crate) arcs: Vec<Arc>,
+    pub(crate) delays: Vec<u64>,
 }
 
 impl Rows {
@@ -39,7 +39,7 @@ impl Rows {
 }
 
 /// The rows of the graph: those of the stages in order, the demands of the delivery, those of the policy, those of the loops.
-pub fn line_rows(alloc: Global, plant: &Plant) -> Result<Rows, AllocError>
+pub(crate) fn line_rows(alloc: Global, plant: &Plant) -> Result<Rows, AllocError>
     requires { IsSound plant.now }
     ensures arcs { IfOk result (λ all. all.arcs.items ≡ arcs_of (rows plant.now)) }
     ensures delays { IfOk result (λ all. all.delays.items ≡ delays_of (rows plant.now)) }

@@ -6,7 +6,7 @@ use plant_model::{Plant, Stage};
 use std::alloc::{AllocError, Global};
 
 /// The job times of the stations: none for the feed and the delivery, between them each stage's.
-pub fn station_times(alloc: Global, plant: &Plant) -> Result<Vec<Times>, AllocError>
+pub(crate) fn station_times(alloc: Global, plant: &Plant) -> Result<Vec<Times>, AllocError>
     ensures { IfOk result (λ all. all.items ≡ times plant.now) }
 {
     let mut all = Vec::new(alloc);
