@@ -1,9 +1,8 @@
 -- Dates that are read beside the tokens that are left on an arc.
-use Rattle.std.proofs.Common.{◌≡◌, ℕ, ◌+◌, ◌<◌, ◌≤◌, eqb, List, [], ◌∷◌, ◌++◌, length, map, replicate, drop, get_or, inl, inr, refl, sym, ap, ◌∙◌, arith, subst}
+use Rattle.std.proofs.Common.{◌≡◌, ℕ, ◌+◌, ◌<◌, ◌≤◌, eqb, List, [], ◌∷◌, ◌++◌, length, map, replicate, drop, get_or, min, refl, sym, ap, ◌∙◌, arith, subst}
 use Rattle.std.proofs.Math.ListN.{get_or-map}
-use Rattle.std.proofs.lemmas.Bool.{cases_lt}
 use Rattle.std.specs.Prelude.{Option, None, Some, not, All, codes}
-use Rattle.std.proofs.lemmas.List.{get_or-drop, drop-drop, drop_all, length-append, length-replicate, length-map}
+use Rattle.std.proofs.lemmas.List.{get_or-drop, drop-drop, drop_min, length-append, length-replicate, length-map}
 use Rattle.line_core.specs.declared.error.StateError.{StateError}
 use Rattle.line_core.specs.declared.error.StateError.TheVariants.{PlaceDate}
 use Rattle.line_base.specs.declared.event.Arc.{Arc}
@@ -81,20 +80,16 @@ left_within g logs a x made late read graph there a_log given is small k d low =
     let early = subst (All IsGiven) (sym same) all k d low in
     omega (arith, early, small)
 
-pub left_is : (g : Parts) (logs : RoomyLogs) (a : ℕ) (x : Arc) (taken all cut : ℕ) (made result : List ℕ) (late : ℕ) → x ≡ arc g a → taken ≡ length (log_at logs x.to).dates → made ≡ (log_at logs x.from).dates → late ≡ delay g a → all ≡ x.tokens + length made → (taken ≤ all → cut ≡ taken) → (all ≤ taken → cut ≡ all) → result ≡ drop cut (tokens_of x.tokens made late) → result ≡ tokens_left g (dates_of logs) a
+pub left_is : (g : Parts) (logs : RoomyLogs) (a : ℕ) (x : Arc) (taken all cut : ℕ) (made result : List ℕ) (late : ℕ) → x ≡ arc g a → taken ≡ length (log_at logs x.to).dates → made ≡ (log_at logs x.from).dates → late ≡ delay g a → all ≡ x.tokens + length made → cut ≡ min taken all → result ≡ drop cut (tokens_of x.tokens made late) → result ≡ tokens_left g (dates_of logs) a
 unfolding all_tokens
-left_is g logs a x taken all cut made result late read takes makes lates alls each no_more is =
+left_is g logs a x taken all cut made result late read takes makes lates alls cuts is =
     let held = tokens_of x.tokens made late in
     let long : length held ≡ all =
     omega (arith, alls, length-append (replicate x.tokens 0) (map (λ date. date + late) made), length-replicate {A = ℕ} x.tokens 0, length-map made (λ date. date + late))
     in
-    let whole : drop cut held ≡ drop taken held =
-    elim (cases_lt taken all) [
-      | inl low ↦ ap (λ n. drop n held) (each (omega (arith, low)))
-      | inr past ↦ ap (λ n. drop n held) (no_more past) ∙ drop_all all held (omega (arith, long)) ∙ sym (drop_all taken held (omega (arith, long, past)))
-    ]
-    in
-    is ∙ whole
+    is
+    ∙ ap (λ n. drop n held) (cuts ∙ ap (min taken) (sym long))
+    ∙ drop_min taken held
     ∙ ap (λ n. drop n held) (takes ∙ ap length (list_of logs x.to) ∙ ap (λ (y : Arc). length (list_at (dates_of logs) y.to)) read)
     ∙ ap (λ l. drop (length (list_at (dates_of logs) (arc g a).to)) (tokens_of x.tokens l late)) (makes ∙ list_of logs x.from)
     ∙ ap (λ m. drop (length (list_at (dates_of logs) (arc g a).to)) (tokens_of x.tokens (list_at (dates_of logs) x.from) m)) lates

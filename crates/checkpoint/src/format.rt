@@ -2,7 +2,7 @@ ghost use Rattle.std.specs.Prelude.{◌≡◌};
 ghost use Rattle.checkpoint.specs.Reading.{head_count};
 
 /// The two formats of a checkpoint.
-#[derive(Clone, Copy, Debug, PartialEq, Eq)]
+#[derive(Clone, Copy)]
 pub enum Format {
     /// Format 1: each date as it is. It says nothing of the delays of arcs, and is read alone.
     Dates,

@@ -14,7 +14,7 @@ use line_base::{Date, Log, number_of};
 use std::alloc::Global;
 
 /// Why a line was not read.
-#[derive(Clone, Copy, Debug, PartialEq, Eq)]
+#[derive(Clone, Copy)]
 pub enum Stop {
     /// It is not of the form.
     Form,

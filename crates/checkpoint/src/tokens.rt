@@ -1,5 +1,5 @@
 //! The tokens of a line, beside those that the logs leave on the arc.
-ghost use Rattle.std.specs.Prelude.{◌≡◌, ◌^◌, ◌<◌, ◌≤◌, ◌+◌, ◌++◌, ◌==◌, not, drop, length, slice_index, true, IfOk};
+ghost use Rattle.std.specs.Prelude.{◌≡◌, ◌^◌, ◌<◌, ◌+◌, ◌++◌, ◌==◌, not, drop, length, slice_index, true, IfOk};
 ghost use Rattle.checkpoint.specs.Reading.{Compares, ComparesLine, or_first, TellsDates, TellsPassing, TellsLine};
 ghost use Rattle.checkpoint.specs.Text.{AreGiven, place_words};
 ghost use Rattle.event_graph.specs.Network.{stations, arc_count};
@@ -15,15 +15,6 @@ use event_graph::Graph;
 use line_base::{Date, Logs};
 use line_core::{StateError, Tokens};
 
-/// The lesser of how many tokens were taken and how many there were.
-fn taken_of(taken: usize, all: usize) -> usize
-    ensures within { result ≤ all }
-    ensures each { taken ≤ all → result ≡ taken }
-    ensures no_more { all ≤ taken → result ≡ all }
-{
-    if taken < all { taken } else { all }
-}
-
 /// The tokens that the logs leave on arc `a`.
 fn tokens_left<'a>(graph: &Graph, logs: &'a Logs, a: u32) -> Tokens<'a>
     requires a_log_each { length logs.now.logs ≡ stations graph.now }
@@ -36,7 +27,7 @@ fn tokens_left<'a>(graph: &Graph, logs: &'a Logs, a: u32) -> Tokens<'a>
     let made = logs.get(arc.from).dates();
     let initial = arc.tokens as usize;
     let all = initial + made.len();
-    Tokens::left(taken_of(taken, all), initial, made, graph.delay(a))
+    Tokens::left(taken.min(all), initial, made, graph.delay(a))
 }
 
 /// The date of the next token, and 0 where there is none.

@@ -16,7 +16,7 @@ returns c =
     let g = c.args.graph.now in
     let a = c.args.a in
     let read = ap (λ arcs. get_or arcs a (record { from = 0; to = 0; tokens = 0; worked = false })) c.arcs.ensures.arcs in
-    left_is g c.args.logs.now a _ _ _ c.taken_of.result c.dates-made.result.now c.left.result c.delay.result read
+    left_is g c.args.logs.now a _ _ _ c.min.result c.dates-made.result.now c.left.result c.delay.result read
     (ap length (c.dates-taken.ensures ∙ ap (λ (l : RoomyLog). l.dates) c.get.ensures))
     (c.dates-made.ensures ∙ ap (λ (l : RoomyLog). l.dates) c.get-2.ensures)
-    c.delay.ensures.delay refl c.taken_of.ensures.each c.taken_of.ensures.no_more c.left.ensures
+    c.delay.ensures.delay refl c.min.ensures c.left.ensures
