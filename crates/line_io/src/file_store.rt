@@ -71,6 +71,7 @@ fn read_to_limit<R: Read>(
     ensures took_them { IfOk result (λ v. taken.new ≡ length v.items) }
     ensures too_long { IsErrOf result StoreError.TooLong ↔ (limit < taken.new) }
     ensures cause { IsErrOf result StoreError.Failed → Rose faults.old faults.new }
+    ensures stays { OnOk result (faults.new ≡ faults.old) }
     ensures faults_stay_or_rise { faults.old ≤ faults.new }
 {
     let mut bytes = Vec::new(alloc);

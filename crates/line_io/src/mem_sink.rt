@@ -75,6 +75,7 @@ impl Sink for MemSink {
         ensures appended { OnOk result (PutsAll (sink_view self.old) (sink_view self.new) piece.now) }
         ensures front { OnErr result (PutsFront (sink_view self.old) (sink_view self.new) piece.now) }
         ensures cause { OnErr result (Rose (sink_view self.old).faults (sink_view self.new).faults) }
+        ensures faults_stay { OnOk result ((sink_view self.new).faults ≡ (sink_view self.old).faults) }
         ensures faults_stay_or_rise { (sink_view self.old).faults ≤ (sink_view self.new).faults }
     {
         let is_due = self.plan.next();

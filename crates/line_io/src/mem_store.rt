@@ -2,7 +2,7 @@ ghost use Rattle.std.specs.Bool.{OnTrue, OnFalse};
 ghost use Rattle.std.specs.Prelude.{◌≡◌, ◌≢◌, ◌+◌, ◌≤◌, ◌<◌, ◌↔◌, ◌⊎◌, List, ℕ, Some, None, length, IfOk, OnOk, OnErr, IsErr, IsErrOf, option_map, true};
 ghost use Rattle.line_io.specs.Calls.{none_asked};
 ghost use Rattle.line_io.specs.Contents.{SameFiles, OthersStay, IsTorn};
-ghost use Rattle.line_io.specs.Faults.{Rose, NeverFall};
+ghost use Rattle.line_io.specs.Faults.{Rose, NeverFall, SameFaults};
 ghost use Rattle.line_io.specs.Held.{contents, times_noted, NotesOnce};
 ghost use Rattle.line_io.specs.Left.{left_by};
 
@@ -204,6 +204,8 @@ impl Store for MemStore {
         ensures cause { IsErrOf result StoreError.Failed
             → Rose ((store_view self.old).read_faults name.now) ((store_view self.new).read_faults name.now) }
         ensures files_stay { store_files self.new ≡ store_files self.old }
+        ensures read_faults_stay { OnOk result
+            (SameFaults (store_view self.old).read_faults (store_view self.new).read_faults) }
         ensures read_faults_stay_or_rise { NeverFall (store_view self.old).read_faults
             (store_view self.new).read_faults }
         ensures write_faults_stay { failed_writes self.new ≡ failed_writes self.old }
@@ -241,6 +243,8 @@ impl Store for MemStore {
             → Rose ((store_view self.old).write_faults name.now) ((store_view self.new).write_faults name.now) }
         ensures taken_stays { (store_view self.new).taken ≡ (store_view self.old).taken }
         ensures read_faults_stay { failed_reads self.new ≡ failed_reads self.old }
+        ensures write_faults_stay { OnOk result
+            (SameFaults (store_view self.old).write_faults (store_view self.new).write_faults) }
         ensures write_faults_stay_or_rise { NeverFall (store_view self.old).write_faults
             (store_view self.new).write_faults }
     {

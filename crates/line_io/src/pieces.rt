@@ -1,4 +1,4 @@
-ghost use Rattle.std.specs.Prelude.{◌≤◌, OnOk, OnErr};
+ghost use Rattle.std.specs.Prelude.{◌≡◌, ◌≤◌, OnOk, OnErr};
 ghost use Rattle.line_io.specs.Faults.{Rose};
 ghost use Rattle.line_io.specs.SinkView.{PutsAll, PutsFront};
 
@@ -10,6 +10,7 @@ pub fn put_all<K: Sink>(sink: &mut K, bytes: &[u8]) -> Result<(), Failed>
     ensures appended { OnOk result (PutsAll (K.shown sink.old) (K.shown sink.new) bytes.now) }
     ensures front { OnErr result (PutsFront (K.shown sink.old) (K.shown sink.new) bytes.now) }
     ensures cause { OnErr result (Rose (K.shown sink.old).faults (K.shown sink.new).faults) }
+    ensures faults_stay { OnOk result ((K.shown sink.new).faults ≡ (K.shown sink.old).faults) }
     ensures faults_stay_or_rise { (K.shown sink.old).faults ≤ (K.shown sink.new).faults }
 {
     for piece in bytes.chunks(MAX_PIECE) {

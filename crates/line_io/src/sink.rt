@@ -1,4 +1,4 @@
-ghost use Rattle.std.specs.Prelude.{◌<◌, ◌≤◌, length, OnOk, OnErr};
+ghost use Rattle.std.specs.Prelude.{◌≡◌, ◌<◌, ◌≤◌, length, OnOk, OnErr};
 ghost use Rattle.line_io.specs.Faults.{Rose};
 ghost use Rattle.line_io.specs.SinkView.{SinkView, PutsAll, PutsFront};
 
@@ -25,5 +25,6 @@ pub trait Sink {
         ensures appended { OnOk result (PutsAll (shown self.old) (shown self.new) piece.now) }
         ensures front { OnErr result (PutsFront (shown self.old) (shown self.new) piece.now) }
         ensures cause { OnErr result (Rose (shown self.old).faults (shown self.new).faults) }
+        ensures faults_stay { OnOk result ((shown self.new).faults ≡ (shown self.old).faults) }
         ensures faults_stay_or_rise { (shown self.old).faults ≤ (shown self.new).faults };
 }

@@ -1,7 +1,7 @@
 ghost use Rattle.std.specs.Prelude.{◌≡◌, ◌<◌, ◌≤◌, ◌↔◌, Bool, Some, length, IsTrue, IfOk, OnOk, IsErrOf};
 ghost use Rattle.line_io.specs.Calls.{after_read, after_write};
 ghost use Rattle.line_io.specs.Contents.{SameFiles, OthersStay, IsTorn, IsLongerThan};
-ghost use Rattle.line_io.specs.Faults.{Rose, NeverFall};
+ghost use Rattle.line_io.specs.Faults.{Rose, NeverFall, SameFaults};
 ghost use Rattle.line_io.specs.StoreView.{StoreView};
 ghost use Rattle.line_io.specs.declared.store.StoreError.{StoreError};
 
@@ -51,6 +51,10 @@ pub trait Store {
         ensures cause { IsErrOf result StoreError.Failed
             → Rose ((shown self.old).read_faults name.now) ((shown self.new).read_faults name.now) }
         ensures files_stay { SameFiles tells (shown self.old).files (shown self.new).files }
+        ensures read_faults_stay { OnOk result
+            (SameFaults (shown self.old).read_faults (shown self.new).read_faults) }
+        ensures write_faults_stay { OnOk result
+            (SameFaults (shown self.old).write_faults (shown self.new).write_faults) }
         ensures read_faults_stay_or_rise { NeverFall (shown self.old).read_faults (shown self.new).read_faults }
         ensures write_faults_stay_or_rise { NeverFall (shown self.old).write_faults (shown self.new).write_faults };
 
@@ -69,6 +73,10 @@ pub trait Store {
         ensures cause { IsErrOf result StoreError.Failed
             → Rose ((shown self.old).write_faults name.now) ((shown self.new).write_faults name.now) }
         ensures taken_stays { (shown self.new).taken ≡ (shown self.old).taken }
+        ensures read_faults_stay { OnOk result
+            (SameFaults (shown self.old).read_faults (shown self.new).read_faults) }
+        ensures write_faults_stay { OnOk result
+            (SameFaults (shown self.old).write_faults (shown self.new).write_faults) }
         ensures read_faults_stay_or_rise { NeverFall (shown self.old).read_faults (shown self.new).read_faults }
         ensures write_faults_stay_or_rise { NeverFall (shown self.old).write_faults (shown self.new).write_faults };
 }

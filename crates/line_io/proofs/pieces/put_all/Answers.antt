@@ -1,4 +1,4 @@
-use Rattle.std.proofs.Common.{rules, ◌≡◌, ℕ, List, ◌++◌, ap, ◌∙◌, append_assoc, arith}
+use Rattle.std.proofs.Common.{rules, ◌≡◌, ℕ, List, ◌++◌, ap, ◌∙◌, append_assoc}
 use Rattle.std.proofs.lemmas.Result.{err_from_is_err_and}
 use Rattle.std.specs.Slice.Iter.{chunks_rest}
 use Rattle.line_io.proofs.WrittenLemmas.{puts_all_after, puts_front_after, puts_front_longer}
@@ -17,7 +17,7 @@ loop-piece-preserved g c =
     record {
       size = search rules;
       done = (old.done.0 ++ piece, piece_moves _ _ _ _ _ old.done.1 step.1.0, puts_all_after _ _ _ _ _ old.done.2 c.in_ok-put.ensures.appended);
-      faults = omega arith;
+      no_fault = c.in_ok-put.ensures.faults_stay ∙ old.no_fault;
     }
 
 pub returns-in_err-put-clause-front : goal.returns-in_err-put-clause-front
