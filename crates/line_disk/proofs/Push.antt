@@ -1,5 +1,5 @@
 -- One more call of a disk in memory.
-use Rattle.std.proofs.Common.{◌≡◌, ◌↔◌, ℕ, zero, suc, Bool, true, false, not, List, [], ◌∷◌, ◌++◌, length, take, refl, sym, ◌∙◌, ap, arith, Result, Ok, Err, OnOk, OnErr, IsErrOf, IsTrue}
+use Rattle.std.proofs.Common.{◌≡◌, ◌↔◌, ℕ, zero, suc, Bool, true, false, not, List, [], ◌∷◌, ◌++◌, length, take, refl, sym, ◌∙◌, ap, arith, Result, Ok, Err, is_ok, OnOk, OnErr, IsErrOf, IsTrue}
 use Rattle.std.proofs.lemmas.Bool.{false≢true}
 use Rattle.std.proofs.lemmas.List.{take_all}
 use Rattle.line_disk.specs.DiskView.{Image, Held, Torn, awaiting, bytes_at}
@@ -30,6 +30,12 @@ was_done failed (Err e) is = tt
 pub was_failed : (failed : Bool) (r : Result (Unit {0}) DiskError) → (IsTrue failed ↔ IsErrOf r Failed) → IsErrOf r Failed → not failed ≡ false
 was_failed true r is err = refl
 was_failed false r is err = absurd (false≢true (is.1 err))
+
+pub was_told : (failed : Bool) (r : Result (Unit {0}) DiskError) → (IsTrue failed ↔ IsErrOf r Failed) → ¬ (IsErrOf r NoMemory) → not failed ≡ is_ok r
+was_told true r is memory = sym (ap is_ok (is.0 refl))
+was_told false (Ok x) is memory = refl
+was_told false (Err Failed) is memory = absurd (false≢true (is.1 refl))
+was_told false (Err NoMemory) is memory = absurd (memory refl)
 
 pub on_ok : {A B : Type 0} (r : Result (Unit {0}) DiskError) → OnOk r A → (A → B) → OnOk r B
 on_ok (Ok x) a f = f a

@@ -55,6 +55,7 @@ pub trait Disk {
         ensures time { IsTrue tells → Passes (shown self.old) (shown self.new) }
         ensures cause { IsErrOf result DiskError.Failed
             → Rose (shown self.old).faults (shown self.new).faults }
+        ensures faults_stay { OnOk result ((shown self.new).faults ≡ (shown self.old).faults) }
         ensures faults_stay_or_rise { (shown self.old).faults ≤ (shown self.new).faults };
 
     /// Writes bytes from an address on. Until a sync succeeds, a crash may leave any bytes there. After `Failed` a read
@@ -70,6 +71,7 @@ pub trait Disk {
         ensures time { IsTrue tells → Passes (shown self.old) (shown self.new) }
         ensures cause { IsErrOf result DiskError.Failed
             → Rose (shown self.old).faults (shown self.new).faults }
+        ensures faults_stay { OnOk result ((shown self.new).faults ≡ (shown self.old).faults) }
         ensures faults_stay_or_rise { (shown self.old).faults ≤ (shown self.new).faults };
 
     /// Makes all that was written stand. From then on a crash leaves what a read gives.
@@ -81,5 +83,6 @@ pub trait Disk {
         ensures time { IsTrue tells → Passes (shown self.old) (shown self.new) }
         ensures cause { IsErrOf result DiskError.Failed
             → Rose (shown self.old).faults (shown self.new).faults }
+        ensures faults_stay { OnOk result ((shown self.new).faults ≡ (shown self.old).faults) }
         ensures faults_stay_or_rise { (shown self.old).faults ≤ (shown self.new).faults };
 }

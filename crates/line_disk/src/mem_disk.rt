@@ -1,4 +1,4 @@
-ghost use Rattle.std.specs.Prelude.{◌≡◌, ◌+◌, ◌-◌, ◌^◌, ◌≤◌, ◌↔◌, ◌++◌, [], length, map, min, IsTrue, IfOk, OnOk, OnErr, IsErrOf};
+ghost use Rattle.std.specs.Prelude.{◌≡◌, ◌+◌, ◌-◌, ◌^◌, ◌≤◌, ◌↔◌, ◌++◌, [], length, map, min, is_ok, IsTrue, IfOk, OnOk, OnErr, IsErrOf};
 ghost use Rattle.line_disk.specs.Memory.{span_of, left_by, spans_left};
 ghost use Rattle.line_io.specs.Faults.{Rose};
 
@@ -9,8 +9,8 @@ use crate::patch::{
 };
 use std::alloc::{AllocError, Global};
 
-/// A disk in memory, zeros at first. It keeps each call, so it can tell what a crash during one may leave. Calls whose
-/// numbers, from 1, are on a list fail.
+/// A disk in memory, zeros at first. It keeps each call but those that found no memory, so it can tell what a crash
+/// during one may leave. Calls whose numbers among these, from 1, are on a list fail.
 #[derive(Drop)]
 pub struct MemDisk {
     alloc: Global,
@@ -40,7 +40,7 @@ impl MemDisk {
         }
     }
 
-    /// How many calls the disk got, those that failed too. It takes no memory.
+    /// How many calls the disk got, those that failed too, but not those that found no memory. It takes no memory.
     pub fn calls(&self) -> u32
         ensures { result ≡ min (length self.now.calls.items) (2 ^ 32 - 1) }
     {
@@ -134,6 +134,7 @@ fn answer(faults: &mut u64, failed: bool) -> Result<(), DiskError>
     ensures failed { IsTrue failed ↔ IsErrOf result DiskError.Failed }
     ensures never_no_memory { ¬ (IsErrOf result DiskError.NoMemory) }
     ensures cause { IsErrOf result DiskError.Failed → Rose faults.old faults.new }
+    ensures stays { OnOk result (faults.new ≡ faults.old) }
     ensures faults_stay_or_rise { faults.old ≤ faults.new }
 {
     if failed {
@@ -146,7 +147,7 @@ fn answer(faults: &mut u64, failed: bool) -> Result<(), DiskError>
 impl Disk for MemDisk {
     ghost use Rattle.std.specs.Prelude.{true, IsErr};
     ghost use Rattle.line_disk.specs.DiskView.{Passes, Torn, held_now, written, synced, bytes_at};
-    ghost use Rattle.line_disk.specs.MemDisk.{mem_view, IsDue};
+    ghost use Rattle.line_disk.specs.MemDisk.{mem_view, IsDue, Counts, CountsWrite, CountsNone};
 
     ghost tells = { true };
 
@@ -157,12 +158,16 @@ impl Disk for MemDisk {
         ensures due { IsDue self.old → IsErr result }
         ensures refused { IsErrOf result DiskError.Failed → IsDue self.old }
         ensures failing_stays { self.new.failing.items ≡ self.old.failing.items }
+        ensures counted { ¬ (IsErrOf result DiskError.NoMemory)
+            → Counts self.old self.new DiskCall.Read }
+        ensures not_counted { IsErrOf result DiskError.NoMemory → CountsNone self.old self.new }
         ensures count { IfOk result (λ v. length v.items ≡ len) }
         ensures bytes { IfOk result
             (λ v. v.items ≡ bytes_at (held_now (mem_view self.old)).bytes at len) }
         ensures stays { held_now (mem_view self.new) ≡ held_now (mem_view self.old) }
         ensures time { Passes (mem_view self.old) (mem_view self.new) }
         ensures cause { IsErrOf result DiskError.Failed → Rose self.old.faults self.new.faults }
+        ensures faults_stay { OnOk result (self.new.faults ≡ self.old.faults) }
         ensures faults_stay_or_rise { self.old.faults ≤ self.new.faults }
     {
         let failed = self.is_due();
@@ -177,6 +182,9 @@ impl Disk for MemDisk {
         ensures due { IsDue self.old → IsErr result }
         ensures refused { IsErrOf result DiskError.Failed → IsDue self.old }
         ensures failing_stays { self.new.failing.items ≡ self.old.failing.items }
+        ensures counted { ¬ (IsErrOf result DiskError.NoMemory)
+            → CountsWrite self.old self.new at bytes.now (is_ok result) }
+        ensures not_counted { IsErrOf result DiskError.NoMemory → CountsNone self.old self.new }
         ensures written { OnOk result (held_now (mem_view self.new)
             ≡ written (held_now (mem_view self.old)) at bytes.now) }
         ensures torn { IsErrOf result DiskError.Failed
@@ -186,6 +194,7 @@ impl Disk for MemDisk {
             → held_now (mem_view self.new) ≡ held_now (mem_view self.old) }
         ensures time { Passes (mem_view self.old) (mem_view self.new) }
         ensures cause { IsErrOf result DiskError.Failed → Rose self.old.faults self.new.faults }
+        ensures faults_stay { OnOk result (self.new.faults ≡ self.old.faults) }
         ensures faults_stay_or_rise { self.old.faults ≤ self.new.faults }
     {
         let failed = self.is_due();
@@ -204,11 +213,15 @@ impl Disk for MemDisk {
         ensures due { IsDue self.old → IsErr result }
         ensures refused { IsErrOf result DiskError.Failed → IsDue self.old }
         ensures failing_stays { self.new.failing.items ≡ self.old.failing.items }
+        ensures counted { ¬ (IsErrOf result DiskError.NoMemory)
+            → Counts self.old self.new (DiskCall.Sync (is_ok result)) }
+        ensures not_counted { IsErrOf result DiskError.NoMemory → CountsNone self.old self.new }
         ensures synced { OnOk result
             (held_now (mem_view self.new) ≡ synced (held_now (mem_view self.old))) }
         ensures stays { OnErr result (held_now (mem_view self.new) ≡ held_now (mem_view self.old)) }
         ensures time { Passes (mem_view self.old) (mem_view self.new) }
         ensures cause { IsErrOf result DiskError.Failed → Rose self.old.faults self.new.faults }
+        ensures faults_stay { OnOk result (self.new.faults ≡ self.old.faults) }
         ensures faults_stay_or_rise { self.old.faults ≤ self.new.faults }
     {
         let failed = self.is_due();
