@@ -3,3 +3,4 @@ pub mod Examples
 pub mod Reading
 pub mod ResumeWords
 pub mod Standing
+pub mod Texts

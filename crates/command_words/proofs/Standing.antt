@@ -6,7 +6,7 @@ use Rattle.std.proofs.lemmas.Bool.{and_parts, or_parts, true≢false}
 use Rattle.line_base.specs.Limits.{most_workers}
 use Rattle.command_words.specs.Numbers.{number_in, most_firings, most_ring_room}
 use Rattle.command_words.specs.Options.{Given, none_given, once, checkpoint_in, takes_no_value, with_flag, with_value, options_after, value_after, has_stand}
-use Rattle.command_words.specs.Settings.{Way, Asked, whole, stopped, saving, from_slots, bounded, standing, way_by, way_of, asked_by, asked}
+use Rattle.command_words.specs.Settings.{Way, Asked, standing, way_by, way_of, asked_by, asked}
 use Rattle.command_words.specs.Words.{IsStill, command_of}
 use Rattle.command_words.specs.declared.command.Command.{Command}
 use Rattle.command_words.specs.declared.command.Command.TheVariants.{RunStand}

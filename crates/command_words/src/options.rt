@@ -1,4 +1,5 @@
-ghost use Rattle.std.specs.Prelude.{◌≡◌, codes, option_map, IfSome, Some};
+ghost use Rattle.std.specs.Prelude.{◌≡◌, codes, option_map, IfSome, Some, string_bytes};
+ghost use Rattle.std.specs.List.{list_any};
 ghost use Rattle.std.specs.Str.{bytes_eq};
 ghost use Rattle.command_words.specs.Options.{seen, none_given, once, with_flag, with_value, options_after, takes_no_value, has_stand, texts};
 ghost use Rattle.command_words.specs.Ranges.{AreInRange};
@@ -53,13 +54,18 @@ fn takes_no_value(name: &str) -> bool
 }
 
 /// Whether one of the words after the program's name is `--stand`. Where none is, they don't ask for standing workers.
+#[tactic(auto, using(crate::proofs::Texts::list_any_texts))]
 pub fn has_stand(words: &[String]) -> bool
     ensures { result ≡ has_stand (texts words.now) }
 {
-    match first_word(words) {
-        None => false,
-        Some((word, words)) => is_stand(word) || has_stand(words),
-    }
+    any_is_stand(words)
+}
+
+/// Whether one of these words is `--stand`.
+fn any_is_stand(words: &[String]) -> bool
+    ensures { result ≡ list_any (λ word. bytes_eq (string_bytes word) (codes "--stand")) words.now }
+{
+    words.iter().any(|word| is_stand(word.as_str()))
 }
 
 /// Whether a word is `--stand`.
@@ -132,7 +138,8 @@ fn once<T: Copy>(before: Option<T>, value: Option<T>) -> Option<T>
     }
 }
 
-/// The options that words add to those that are given.
+/// The options that words add to those that are given. No option is taken twice, so it is at most eight calls deep, however
+/// many words there are.
 #[tactic(auto, unfolding(crate::specs::Options::options_after))]
 fn options_after<'a>(given: Options<'a>, words: &'a [String]) -> Option<Options<'a>>
     requires range { AreInRange given }
