@@ -1,4 +1,3 @@
 pub mod Answers
-pub mod Crew
 pub mod Output
 pub mod Saving

@@ -12,7 +12,6 @@ ghost use Rattle.line_runs.specs.Store.{text_of};
 ghost use Rattle.line_runs.specs.Table.{ComesToLeast};
 ghost use Rattle.plant_model.specs.Graph.{graph};
 ghost use Rattle.pull_deeds.specs.Answers.{IsReport, IsResumed, IsSummary};
-ghost use Rattle.pull_deeds.specs.Crew.{IsCrewed};
 ghost use Rattle.pull_deeds.specs.Saving.{ComesOfWrite, RunsUntil, SavesText};
 ghost use Rattle.pull_steps.specs.Deeds.{DoesOnStore};
 ghost use Rattle.pull_steps.specs.LivePlant.{IsLivePlant};
@@ -84,7 +83,8 @@ pub fn run<R: Threads + Sync, G: Gate>(
     workers: u32,
     gate: &G,
 ) -> Result<Output, Reply>
-    requires crewed { IsCrewed line workers }
+    requires plant { IsLivePlant line }
+    requires workers { AreWorkers workers }
     ensures { IsReport line.plant result ⊎ (result ≡ Err Reply.NoMemory) }
 {
     let table = table_of(rt, alloc, &line.live, workers, gate);
@@ -116,7 +116,8 @@ pub fn run_with_room<R: Threads + Sync, G: Gate>(
     room: u32,
     gate: &G,
 ) -> Result<Output, Reply>
-    requires crewed { IsCrewed line workers }
+    requires plant { IsLivePlant line }
+    requires workers { AreWorkers workers }
     requires room { IsRingRoom room }
     ensures { IsReport line.plant result ⊎ (result ≡ Err Reply.NoMemory) }
 {
@@ -150,7 +151,8 @@ pub fn run_standing<R: Threads + Wait + Sync, G: Gate>(
     workers: u32,
     gate: &G,
 ) -> Result<Output, Reply>
-    requires crewed { IsCrewed line workers }
+    requires plant { IsLivePlant line }
+    requires workers { AreWorkers workers }
     ensures { IsReport line.plant result ⊎ (result ≡ Err Reply.NoMemory) }
 {
     let table = standing_table_of(rt, alloc, &line.live, workers, gate);
@@ -183,7 +185,8 @@ pub fn run_until<R: Threads + Sync, G: Gate, S: Store>(
     gate: &G,
     store: &mut S,
 ) -> Result<Output, Reply>
-    requires crewed { IsCrewed line workers }
+    requires plant { IsLivePlant line }
+    requires workers { AreWorkers workers }
     ensures { DoesOnStore (store_over S.tells (S.shown store.old) (S.shown store.new))
         (RunsUntil line.plant stop.after stop.save) result }
 {
@@ -269,7 +272,8 @@ pub fn resume<R: Threads + Sync, G: Gate>(
     workers: u32,
     gate: &G,
 ) -> Result<Output, Reply>
-    requires crewed { IsCrewed line workers }
+    requires plant { IsLivePlant line }
+    requires workers { AreWorkers workers }
     requires short { length bytes.now ≤ most_checkpoint_bytes }
     ensures { IsResumed line.plant bytes.now result ⊎ (result ≡ Err Reply.NoMemory) }
 {

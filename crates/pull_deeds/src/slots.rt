@@ -1,7 +1,7 @@
 //! Runs of a live plant with the two slots of a disk.
 ghost use Rattle.std.specs.Prelude.{◌≡◌, ℕ, ◌≤◌};
+ghost use Rattle.command_words.specs.Ranges.{AreWorkers};
 ghost use Rattle.event_graph.specs.State.{start};
-ghost use Rattle.pull_deeds.specs.Crew.{IsCrewed};
 ghost use Rattle.pull_deeds.specs.Saving.{NamesStationOf, IsResumeReply};
 ghost use Rattle.pull_deeds.specs.Saving.{RunsWithSlots, ResumesSlots, ComesOfSave};
 ghost use Rattle.pull_steps.specs.Deeds.{disk_over, DoesOnDisk};
@@ -31,7 +31,8 @@ pub fn run_with_slots<R: Threads + Sync, G: Gate, D: Disk>(
     gate: &G,
     disk: &mut D,
 ) -> Result<Output, Reply>
-    requires crewed { IsCrewed line workers }
+    requires plant { IsLivePlant line }
+    requires workers { AreWorkers workers }
     requires every { 1 ≤ every }
     ensures { DoesOnDisk (disk_over D.tells (D.shown disk.old) (D.shown disk.new))
         (RunsWithSlots line.plant every) result }
@@ -93,7 +94,8 @@ pub fn resume_slots<R: Threads + Sync, G: Gate, D: Disk>(
     gate: &G,
     disk: &mut D,
 ) -> Result<Output, Reply>
-    requires crewed { IsCrewed line workers }
+    requires plant { IsLivePlant line }
+    requires workers { AreWorkers workers }
     ensures { DoesOnDisk (disk_over D.tells (D.shown disk.old) (D.shown disk.new))
         (ResumesSlots line.plant) result }
 {

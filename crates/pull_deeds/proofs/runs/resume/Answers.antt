@@ -13,5 +13,5 @@ pub returns-in-Err : goal.returns-in-Err
 returns-in-Err g c =
     let live = c.args.line.live in
     let reply = c.checkpoint_reply-reply.result in
-    refuses c.args.line.plant live.graph c.args.bytes.now c.in-Err.error reply c.requires.crewed.0.graph c.in-Err.ensures
+    refuses c.args.line.plant live.graph c.args.bytes.now c.in-Err.error reply c.requires.plant.graph c.in-Err.ensures
     (subst (λ (h : Parts). (reply ≡ NoMemory) ⊎ (reply ≡ checkpoint_reply h c.in-Err.error)) c.graph.ensures.graph c.checkpoint_reply-reply.ensures)

@@ -21,7 +21,7 @@ returns-in-Ok g c =
     let old = g.D.Disk.shown c.args.disk.now in
     let new = g.D.Disk.shown c.resume_slots.new.disk in
     let loaded : Loaded g.D.Disk.tells old new = record { stays = c.resume_slots.ensures.stays; faults = c.resume_slots.ensures.faults_stay_or_rise } in
-    slots_report g.D.Disk.tells old new c.args.line.plant loaded c.args.line.live.graph c.requires.crewed.0.graph c.in-Ok.table c.report_of.result c.in-Ok.ensures.resumes c.report_of.ensures
+    slots_report g.D.Disk.tells old new c.args.line.plant loaded c.args.line.live.graph c.requires.plant.graph c.in-Ok.table c.report_of.result c.in-Ok.ensures.resumes c.report_of.ensures
 
 pub returns-in-Err : goal.returns-in-Err
 returns-in-Err g c =
@@ -29,6 +29,6 @@ returns-in-Err g c =
     let new = g.D.Disk.shown c.resume_slots.new.disk in
     let loaded : Loaded g.D.Disk.tells old new = record { stays = c.resume_slots.ensures.stays; faults = c.resume_slots.ensures.faults_stay_or_rise } in
     let reply = c.resume_reply-reply.result in
-    slots_reply g.D.Disk.tells old new c.args.line.plant loaded c.args.line.live.graph c.requires.crewed.0.graph c.in-Err.error reply c.in-Err.ensures.resumes
+    slots_reply g.D.Disk.tells old new c.args.line.plant loaded c.args.line.live.graph c.requires.plant.graph c.in-Err.error reply c.in-Err.ensures.resumes
     (λ is. c.in-Err.ensures.disk_fault (ap (λ (error : ResumeError). Err error) is))
     (subst (λ (h : Parts). IsResumeReply h c.in-Err.error reply) c.graph.ensures.graph c.resume_reply-reply.ensures)
