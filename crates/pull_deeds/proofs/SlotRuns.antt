@@ -1,5 +1,5 @@
 -- A run of a plant with the slots of a disk.
-use Rattle.std.proofs.Common.{◌≡◌, ◌⊎◌, ℕ, ◌+◌, ◌*◌, ◌≤◌, Bool, [], IsTrue, refl, ap, sym, subst, inl, inr, arith}
+use Rattle.std.proofs.Common.{◌≡◌, ◌⊎◌, ℕ, ◌+◌, ◌*◌, ◌≤◌, Bool, [], IsTrue, Option, None, refl, ap, sym, ◌∙◌, subst, inl, inr, arith}
 use Rattle.std.specs.Prelude.{Result, Err, IfErr}
 use Rattle.event_graph.specs.Network.{stations}
 use Rattle.event_graph.specs.State.{State, start}
@@ -8,19 +8,22 @@ use Rattle.line_base.specs.Limits.{most_checkpoint_bytes}
 use Rattle.line_core.specs.Consistent.{fired}
 use Rattle.line_disk.specs.DiskView.{DiskView, LeavesOnly, held_now}
 use Rattle.line_io.specs.Faults.{Rose}
-use Rattle.line_runs.proofs.Saving.{leaves_at_first}
-use Rattle.line_runs.specs.Saves.{IsOldOrState, IsLateState}
+use Rattle.line_runs.proofs.Saving.{leaves_at_first, saves_live}
+use Rattle.line_runs.proofs.Stopping.{burst_live}
+use Rattle.line_runs.specs.Saves.{SavesWhenDue, begins, passes, saves, HoldsLast, IsOldOrState, IsLateState}
 use Rattle.line_runs.specs.Stop.{all_firings}
+use Rattle.line_workers.specs.Line.{WorkLine}
+use Rattle.live_check.specs.Order.{LiveGraph}
 use Rattle.plant_model.specs.declared.plant.Plant.{Plant}
 use Rattle.plant_model.specs.Graph.{graph}
 use Rattle.pull_words.specs.declared.reply.Reply.{Reply}
 use Rattle.pull_words.specs.declared.reply.Reply.TheVariants.{Disk, NoMemory}
-use Rattle.pull_steps.specs.Deeds.{disk_over, HasCause, DoesOnDisk}
+use Rattle.pull_steps.specs.Deeds.{DiskOver, disk_over, HasCause, DoesOnDisk}
 use Rattle.pull_steps.specs.Outside.{StoreOver}
 use Rattle.pull_deeds.proofs.Deeds.{no_memory_caused, uses_disk}
 use Rattle.pull_deeds.proofs.Stops.{fired_at_start, reported_caused}
 use Rattle.pull_deeds.specs.Answers.{IsReport}
-use Rattle.pull_deeds.specs.Saving.{Saves, RunsWithSlots, ComesOfSave}
+use Rattle.pull_deeds.specs.Saving.{SavesOnTheWay, Saves, RunsWithSlots, ComesOfSave}
 use Rattle.pull_deeds.specs.declared.output.Output.{Output}
 use Rattle.slot_store.specs.declared.error.SlotError.{SlotError}
 use Rattle.slot_store.specs.declared.error.SlotError.TheVariants as slot_error
@@ -42,6 +45,22 @@ pub kept_of : {tells : Bool} {old new : DiskView} (p : Plant) (g : Parts) → g 
 kept_of {tells} {old} {new} p g same any_moment faults =
     subst (Kept tells old new) same (record { any_moment = any_moment; faults = faults })
 
+-- where n is at least all firings none is due
+none_due : (n : ℕ) (first : WorkLine) (saved : Option WorkLine) (last : WorkLine) → all_firings first.live.graph ≤ n → SavesWhenDue n first saved last → saved ≡ None
+none_due n first saved last many begins = refl
+none_due n first saved last many (passes old l new before burst not_due) = none_due n first old l many before
+none_due n first saved last many (saves old l new before burst due) =
+    let same : all_firings new.live.graph ≡ all_firings first.live.graph =
+    ap (λ (v : LiveGraph). all_firings v.graph) (burst_live l new burst ∙ saves_live n first old l before) in
+    absurd (omega (arith, many, due.since, due.not_all, same))
+
+-- and the disk is as before
+untouched_of : (p : Plant) (n : ℕ) (disk : DiskOver) → SavesOnTheWay p n disk → IsTrue disk.tells → all_firings (graph p) ≤ n → disk.new ≡ disk.old
+untouched_of p n disk on told many =
+    let few : all_firings on.first.live.graph ≤ n = subst (λ (g : Parts). all_firings g ≤ n) (sym on.made_for) many in
+    let finishes = on.saves.finishes in
+    subst (HoldsLast most_checkpoint_bytes disk.old disk.new) (none_due n on.first on.saves.saved finishes.last few finishes.saves) (on.saves.holds told)
+
 module _ (tells : Bool) (old new : DiskView) (p : Plant) (n : ℕ) (kept : Kept tells old new (graph p)) where
   run_does : (answer : Result Output Reply) → ((store : StoreOver) → IfErr answer (HasCause store (disk_over tells old new) [])) → Saves p n (disk_over tells old new) answer ⊎ ((answer ≡ Err Disk) ⊎ (answer ≡ Err NoMemory)) → DoesOnDisk (disk_over tells old new) (RunsWithSlots p n) answer
   run_does answer caused comes =
@@ -60,14 +79,15 @@ module _ (tells : Bool) (old new : DiskView) (p : Plant) (n : ℕ) (kept : Kept 
   run_fails slot_error.NoneSaved reply rose comes = absurd comes
   run_fails (slot_error.TooLong have) reply rose comes = absurd comes
 
-  run_comes : (answer : Result Output Reply) → (IsTrue tells → n + 16 * stations (graph p) ≤ all_firings (graph p) → IsLateState (graph p) n most_checkpoint_bytes (held_now new)) → IsReport p answer ⊎ (answer ≡ Err NoMemory) → Saves p n (disk_over tells old new) answer ⊎ ((answer ≡ Err Disk) ⊎ (answer ≡ Err NoMemory))
-  run_comes answer late (inl report) = inl (record { report = report; late = late })
-  run_comes answer late (inr none) = inr (inr none)
+  run_comes : (answer : Result Output Reply) → SavesOnTheWay p n (disk_over tells old new) → (IsTrue tells → n + 16 * stations (graph p) ≤ all_firings (graph p) → IsLateState (graph p) n most_checkpoint_bytes (held_now new)) → IsReport p answer ⊎ (answer ≡ Err NoMemory) → Saves p n (disk_over tells old new) answer ⊎ ((answer ≡ Err Disk) ⊎ (answer ≡ Err NoMemory))
+  run_comes answer on late (inl report) =
+      inl (record { report = report; saves = on; untouched = untouched_of p n (disk_over tells old new) on; late = late })
+  run_comes answer on late (inr none) = inr (inr none)
 
   -- the run came to its end
-  pub run_saves : (answer : Result Output Reply) → (IsTrue tells → n + 16 * stations (graph p) ≤ all_firings (graph p) → IsLateState (graph p) n most_checkpoint_bytes (held_now new)) → IsReport p answer ⊎ (answer ≡ Err NoMemory) → DoesOnDisk (disk_over tells old new) (RunsWithSlots p n) answer
-  run_saves answer late is =
-      run_does answer (λ store. reported_caused store (disk_over tells old new) p answer is) (run_comes answer late is)
+  pub run_saves : (answer : Result Output Reply) → SavesOnTheWay p n (disk_over tells old new) → (IsTrue tells → n + 16 * stations (graph p) ≤ all_firings (graph p) → IsLateState (graph p) n most_checkpoint_bytes (held_now new)) → IsReport p answer ⊎ (answer ≡ Err NoMemory) → DoesOnDisk (disk_over tells old new) (RunsWithSlots p n) answer
+  run_saves answer on late is =
+      run_does answer (λ store. reported_caused store (disk_over tells old new) p answer is) (run_comes answer on late is)
 
 -- the state that is saved last, of a run from the start
 pub late_of : (tells : Bool) (new : DiskView) (p : Plant) (g : Parts) (n : ℕ) (begun : State) → g ≡ graph p → begun ≡ start g → (IsTrue tells → fired begun + n + 16 * stations g ≤ all_firings g → IsLateState g n most_checkpoint_bytes (held_now new)) → IsTrue tells → n + 16 * stations (graph p) ≤ all_firings (graph p) → IsLateState (graph p) n most_checkpoint_bytes (held_now new)

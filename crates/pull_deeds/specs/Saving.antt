@@ -4,10 +4,11 @@ use Rattle.std.specs.Prelude.{◌≡◌, ◌⊎◌, ℕ, ◌+◌, ◌*◌, ◌�
 use Rattle.checkpoint.specs.declared.format.Format.TheVariants.{Differences}
 use Rattle.checkpoint.specs.Text.{text}
 use Rattle.event_graph.specs.Network.{stations}
-use Rattle.event_graph.specs.State.{State}
+use Rattle.event_graph.specs.State.{State, start}
 use Rattle.line_base.specs.declared.event.Parts.{Parts}
 use Rattle.line_base.specs.Limits.{most_checkpoint_bytes}
 use Rattle.line_core.specs.Consistent.{fired}
+use Rattle.line_core.specs.Run.{Dates}
 use Rattle.line_disk.specs.DiskView.{LeavesOnly, Stays, held_now}
 use Rattle.line_io.specs.Calls.{Asked, none_asked}
 use Rattle.line_io.specs.declared.store.StoreError.{StoreError}
@@ -15,8 +16,9 @@ use Rattle.line_io.specs.declared.store.StoreError.TheVariants as store_error
 use Rattle.line_runs.specs.Headline.{MayBeResumed}
 use Rattle.line_runs.specs.declared.error.ResumeError.{ResumeError}
 use Rattle.line_runs.specs.declared.error.ResumeError.TheVariants as resume_error
-use Rattle.line_runs.specs.Saves.{IsOldOrState, IsLateState}
+use Rattle.line_runs.specs.Saves.{HasSaved, IsOldOrState, IsLateState}
 use Rattle.line_runs.specs.Stop.{all_firings, IsShort, IsStopAt}
+use Rattle.line_workers.specs.Line.{WorkLine}
 use Rattle.plant_model.specs.declared.plant.Plant.{Plant}
 use Rattle.plant_model.specs.Graph.{graph}
 use Rattle.pull_words.specs.CheckpointRefusals.{checkpoint_reply, NamesStation}
@@ -73,14 +75,26 @@ pub record RunsUntil (p : Plant) (n : ℕ) (file : List ℕ) (asked : Asked) (di
   pub untouched : disk.new ≡ disk.old
   pub comes : Stops p n file asked answer ⊎ (Ends p n asked answer ⊎ AsksNothing asked answer)
 
--- the report, and the state that was saved last has few firings less than all; or the disk failed, or there was no memory
+-- from the start of the plant's graph on, a save was due at each burst's end at which n firings were made since the save
+-- before or the start, and not all; the disk holds the state of the last of them, and is as before where there was none
+pub record SavesOnTheWay (p : Plant) (n : ℕ) (disk : DiskOver) : Type 0 where
+  pub first : WorkLine
+  pub begun : first.state ≡ start (graph p)
+  pub made_for : first.live.graph ≡ graph p
+  pub table : Dates
+  pub saves : HasSaved disk.tells most_checkpoint_bytes n first disk.old disk.new table
+
+-- the report, with saves on the way; so the disk is as before where n is at least all firings, and where n is less than
+-- these by 16 for each station or more, the state that was saved last has few firings less than all
 pub record Saves (p : Plant) (n : ℕ) (disk : DiskOver) (answer : Result Output Reply) : Type 0 where
   pub report : IsReport p answer
+  pub saves : SavesOnTheWay p n disk
+  pub untouched : IsTrue disk.tells → all_firings (graph p) ≤ n → disk.new ≡ disk.old
   pub late : IsTrue disk.tells → n + 16 * stations (graph p) ≤ all_firings (graph p)
       → IsLateState (graph p) n most_checkpoint_bytes (held_now disk.new)
 
 -- `run --every N --slots`: at any moment the slots hold what a crash could have left before, or the text of a state of the
--- plant from which it may be resumed
+-- plant from which it may be resumed; the run comes to its end, or the disk failed, or there was no memory
 pub record RunsWithSlots (p : Plant) (n : ℕ) (asked : Asked) (disk : DiskOver)
     (answer : Result Output Reply) : Type 0 where
   pub nothing : asked ≡ none_asked

@@ -1,10 +1,14 @@
-use Rattle.std.proofs.Common.{ap, subst}
+use Rattle.std.proofs.Common.{◌∙◌, sym, ap, subst}
 use Rattle.std.specs.Prelude.{Err}
+use Rattle.event_graph.specs.State.{start}
 use Rattle.line_base.specs.declared.event.Parts.{Parts}
 use Rattle.line_base.specs.Limits.{most_checkpoint_bytes}
 use Rattle.line_runs.specs.Saves.{HasTooLongState}
+use Rattle.live_check.specs.Order.{LiveGraph}
 use Rattle.pull_deeds.proofs.Checkpoints.{never_too_long}
 use Rattle.pull_deeds.proofs.SlotRuns.{kept_of, run_fails, run_saves, late_of}
+use Rattle.pull_deeds.specs.Saving.{SavesOnTheWay}
+use Rattle.pull_steps.specs.Deeds.{disk_over}
 use Rattle.slot_store.specs.declared.error.SlotError.{SlotError}
 use Rattle.pull_deeds.proofs.slots.run_saving.Goals as goal
 
@@ -22,7 +26,14 @@ returns-in-Ok g c =
     let same = c.requires.plant.graph in
     let new = g.D.Disk.shown c.run_with_slots.new.disk in
     let kept = kept_of line.plant line.live.graph same c.run_with_slots.ensures.any_moment c.run_with_slots.ensures.faults_stay_or_rise in
-    run_saves g.D.Disk.tells (g.D.Disk.shown c.args.disk.now) new line.plant c.args.every kept c.report_of.result
+    let on : SavesOnTheWay line.plant c.args.every (disk_over g.D.Disk.tells (g.D.Disk.shown c.args.disk.now) new) = record {
+      first = c.args.work;
+      begun = c.requires.begun ∙ ap start same;
+      made_for = ap (λ (v : LiveGraph). v.graph) (sym c.requires.made_for) ∙ same;
+      table = c.in-Ok.table;
+      saves = c.in-Ok.ensures.saves;
+    } in
+    run_saves g.D.Disk.tells (g.D.Disk.shown c.args.disk.now) new line.plant c.args.every kept c.report_of.result on
     (late_of g.D.Disk.tells new line.plant line.live.graph c.args.every c.args.work.state same c.requires.begun c.in-Ok.ensures.late)
     c.report_of.ensures
 
