@@ -27,9 +27,7 @@ fn place_in(list: &[u32], number: u32) -> u32
     requires { length list.now < 2 ^ 32 }
     ensures { result ≡ place_in list.now number }
 {
-    list.iter()
-        .position(|x| *x == number)
-        .unwrap_or(list.len()) as u32
+    list.iter().position(|x| *x == number).unwrap_or(list.len()) as u32
 }
 
 /// Where station `t` stands.

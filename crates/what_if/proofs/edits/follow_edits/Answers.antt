@@ -20,7 +20,7 @@ returns-then-not-follow_line-clause-refused c =
     let refused = subst (λ line. IsRefused g line c.loop-rest.sheet.inputs) text c.if-not-follow_line.ensures.refused in
     let n = c.loop-rest.line in
     let stops = c.loop-rest.invariant.comes (Err (record { line = n; left = c.loop-rest.sheet.inputs })) (
-        comes-refused rest end c.end_before-end.ensures g n c.loop-rest.sheet.inputs (omega (arith, c.end_before-end.ensures, line-within rest)) refused) in
+    comes-refused rest end c.end_before-end.ensures g n c.loop-rest.sheet.inputs (omega (arith, c.end_before-end.ensures, line-within rest)) refused) in
     subst (λ (page : Page). ComesTo g (lines_of c.args.edits.now) 1 c.args.sheet.now.inputs (Err (record { line = n; left = page.inputs })))
     (sym c.if-not-follow_line.ensures.unchanged) stops
 
