@@ -177,8 +177,8 @@ impl Run {
         self.want.status.is_none() && self.rows.is_empty() && self.variants.is_empty()
     }
 
-    /// Whether a status is lacking: what is written, each call failing in turn and a crash are looked at in the run that
-    /// is to end with it alone, and what files hold in runs over variants too.
+    /// Whether a status is lacking: what is written, each call failing in turn and a crash are looked at in the run
+    /// that is to end with it alone, and what files hold in runs over variants too.
     fn lacks_status(&self) -> bool {
         self.want.status.is_none()
             && (self.says_output
@@ -330,7 +330,8 @@ impl Builder {
         }
     }
 
-    /// Ends the case that has begun, if one has: with a command, since what a file becomes behind the last one nothing shows.
+    /// Ends the case that has begun, if one has: with a command, since nothing shows what a file becomes behind the
+    /// last one.
     fn close_case(&mut self) -> Result<(), Reason> {
         self.close()?;
         match self.cases.last() {

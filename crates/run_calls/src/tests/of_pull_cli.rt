@@ -83,8 +83,8 @@ fn store_of(alloc: Global, name: &str, text: &str) -> Result<MemStore, AllocErro
     Ok(MemStore::new(alloc, files, Vec::new(alloc)))
 }
 
-/// A store with the plant file `a.toml` of the two stages, by the line of its policy, the dates of its demands, and what
-/// else is said of each stage.
+/// A store with the plant file `a.toml` of the two stages, by the line of its policy, the dates of its demands, and
+/// what else is said of each stage.
 fn stages_store(
     rt: &impl Abort,
     alloc: Global,
