@@ -19,6 +19,14 @@ STARTS = (0, 167_772_176)
 SCHEDULE = b"feed\ndeliver\nweld\ncut\ncut.saw\nweld.torch\n" * 3
 
 
+def is_hint(status, error):
+    """Whether standard error has what it should: a line that begins with the status, exactly where that isn't 0. A process
+    that a signal ended has none."""
+    if status <= 0 or status == CRASHED:
+        return error == b""
+    return error.startswith(b"pull: status %d, " % status) and error.count(b"\n") == 1
+
+
 def program():
     """The words that start the program."""
     if "PULL" not in os.environ:
@@ -137,7 +145,7 @@ class Folder:
                 env["HOSTILE"] = order
         done = subprocess.run(started + words, cwd=self.path, env=env, stdout=subprocess.PIPE,
                               stderr=subprocess.PIPE, timeout=timeout)
-        if done.stderr:
+        if not is_hint(done.returncode, done.stderr):
             return done.returncode, b"STDERR " + done.stderr + done.stdout
         return done.returncode, done.stdout
 

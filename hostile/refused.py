@@ -11,7 +11,7 @@ status 9 may come without its line. `calls` tries every command with call 1, 2, 
 errors, then short, then as the last thing that the program does, with half of a write done or with none. A failing call
 gives 5, 6 or 12, or nothing changes; a short one changes nothing; and after the last one, `resume --slots` gives the report
 of the undisturbed run or `nothing saved`. In every case no file changes but the one that the command writes, and the
-checkpoint of a stop is as before, or a front of the whole. Prints a line a command; each run that comes to anything else is
+checkpoint of a stop is as before, or the new one whole. Prints a line a command; each run that comes to anything else is
 a line that begins with WRONG, and the status is then 1."""
 import os
 import sys
@@ -69,17 +69,22 @@ class Trial:
         return status == 12 and out == b"disk\n" and "--slots" in self.command.words
 
     def keeps_files(self, status, files):
-        """Whether no file changed but the one that is written, and that one as it may be."""
+        """Whether no file changed but the one that is written, and that one as it may be: the old one or the new one, whole,
+        since it is renamed. A run that is gone may leave the file beside it."""
         written = self.command.writes
+        beside = f"{written}.new"
         for name in set(files) | set(self.before):
-            if name != written and files.get(name) != self.before.get(name):
+            if name == beside and status == CRASHED:
+                if not is_prefix(files[name], self.after[written]):
+                    return False
+            elif name != written and files.get(name) != self.before.get(name):
                 return False
         if written is None or written == SLOTS:
             return True
         held = files.get(written)
         if held == self.before.get(written):
             return True
-        return status in (0, 5, 6, CRASHED) and is_prefix(held, self.after[written])
+        return status in (0, 5, 6, CRASHED) and held == self.after[written]
 
     def resumes(self):
         """Whether the slots give the report, or hold nothing where they held nothing before."""

@@ -11,7 +11,7 @@ import subprocess
 import sys
 import threading
 
-from machine import EXAMPLES, SLOTS, Folder, program
+from machine import EXAMPLES, SLOTS, Folder, is_hint, program
 
 NOBODY = 65_534
 WAITS = "waits for the other end"
@@ -116,11 +116,13 @@ CASES = [
     ("edits that are a ring of links", ring("x"), "whatif two-stage.toml x", fault("x")),
     ("a checkpoint to write that is a folder", folder("x.ckpt"), STOP, fault("x.ckpt")),
     ("a checkpoint to write that is the full device", link("x.ckpt", "/dev/full"), STOP, fault("x.ckpt")),
-    ("a checkpoint to write that is the null device", link("x.ckpt", "/dev/null"), STOP, (0, b"stopped 96\n")),
+    # it can't be synced
+    ("a checkpoint to write that is the null device", link("x.ckpt", "/dev/null"), STOP, fault("x.ckpt")),
     ("a checkpoint to write that is a ring of links", ring("x.ckpt"), STOP, fault("x.ckpt")),
     ("a checkpoint to write that is a link to nothing", link("x.ckpt", "z"), STOP, (0, b"stopped 96\n")),
     ("a checkpoint to write that is a pipe which nobody reads", pipe("x.ckpt"), STOP, WAITS),
-    ("a checkpoint to write without permission", closed_to_all("x.ckpt", 0o444), STOP, fault("x.ckpt")),
+    # another file takes its place, which asks for a folder that may be written
+    ("a checkpoint to write without permission", closed_to_all("x.ckpt", 0o444), STOP, (0, b"stopped 96\n")),
     ("a checkpoint to write in a folder that is shut", folder_shut, STOP, fault("x.ckpt")),
     ("a checkpoint to read that is a folder", folder("x.ckpt"), RESUME, fault("x.ckpt")),
     ("a checkpoint to read that is zeros without end", link("x.ckpt", "/dev/zero"), RESUME, too_long("x.ckpt")),
@@ -176,10 +178,10 @@ def answer(made_in, words, user=None):
     """What the words come to: the status and the output, or WAITS."""
     try:
         done = subprocess.run(program() + words.split(), cwd=made_in.path, stdout=subprocess.PIPE,
-                              stderr=subprocess.STDOUT, timeout=SECONDS, user=user)
+                              stderr=subprocess.PIPE, timeout=SECONDS, user=user)
     except subprocess.TimeoutExpired:
         return WAITS
-    return done.returncode, done.stdout
+    return done.returncode, done.stdout if is_hint(done.returncode, done.stderr) else done.stdout + done.stderr
 
 
 def status_with(made_in, words, output):

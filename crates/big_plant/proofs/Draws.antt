@@ -3,7 +3,7 @@ use Rattle.std.proofs.Common.{◌≡◌, ℕ, zero, suc, ◌+◌, ◌*◌, ◌/�
 use Rattle.std.proofs.Math.Nat.{mod-add-mod, mod-lt}
 use Rattle.big_plant.specs.Generator.{multiplier, increment, next_state, state_after, draw, draw_below}
 
--- two steps that each keep the lowest 64 bits come to the next state
+-- two steps that each keep the lowest 64 bits give the next state
 pub next_state-wraps : (s : ℕ) → (s * multiplier % 2 ^ 64 + increment) % 2 ^ 64 ≡ state_after 1 s
 unfolding state_after next_state
 next_state-wraps s = mod-add-mod (s * multiplier) (2 ^ 64) increment

@@ -12,7 +12,7 @@ increment = 1_442_695_040_888_963_407
 unfoldable pub next_state : ℕ → ℕ
 next_state s = (s * multiplier + increment) % 2 ^ 64
 
--- the state that state s comes to with n draws
+-- the state after n draws from state s
 unfoldable pub state_after : ℕ → ℕ → ℕ
 state_after zero s = s
 state_after (suc n) s = next_state (state_after n s)

@@ -20,7 +20,7 @@ const DEMANDS: u32 = 2_000;
 
 /// The big plant of a seed: twelve stages of three machines under extended kanban, two lines of four stages that meet in
 /// stage `s9`, and 2,000 demands. Its numbers are drawn from the seed, so that a seed has one plant. It is sound, and its graph
-/// is live, since each stage has a card more than stock at least. The only error is want of memory.
+/// is live, since each stage has a card more than stock at least. The only error is out of memory.
 pub fn big_plant(alloc: Global, seed: u64) -> Result<Plant, AllocError>
     ensures plant { IfOk result (λ plant. plant ≡ big_plant seed) }
     ensures sound { IfOk result IsSound }

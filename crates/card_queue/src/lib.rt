@@ -18,7 +18,7 @@ use std::alloc::{AllocError, Global};
 pub use take::Take;
 
 /// Makes a queue that has put the initial tokens, taken none and knows all of them. `put` may be called `room` times on
-/// it. Fails only for want of memory.
+/// it. Fails only where memory runs out.
 pub fn queue(alloc: Global, initial: &[Date], room: u32) -> Result<(Put, Take), AllocError>
     requires { length initial.now + room < 2 ^ 32 }
     ensures ends { IfOk result (λ ends. IsQueue ends.0 ends.1) }

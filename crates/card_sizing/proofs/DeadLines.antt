@@ -1,5 +1,5 @@
 -- What a refusal of `rank` shows of the graph that it was given.
-use Rattle.std.proofs.Common.{◌≡◌, ℕ, List, sym, subst}
+use Rattle.std.proofs.Common.{ℕ, List, sym, subst}
 use Rattle.line_base.specs.declared.event.Parts.{Parts}
 use Rattle.live_check.specs.declared.live.NotLive.{NotLive}
 use Rattle.live_check.specs.declared.live.NotLive.TheVariants.{Dead, NoMemory}

@@ -9,7 +9,8 @@ use Rattle.plant_model.specs.declared.plant.CardLoop.{CardLoop}
 use Rattle.plant_model.specs.declared.plant.Plant.{Plant}
 use Rattle.event_graph.specs.Firing.{greatest}
 use Rattle.event_graph.specs.Table.{Table, date_in}
-use Rattle.card_sizing.specs.Sized.{has_single_count, sized, lowest}
+use Rattle.card_sizing.specs.Sized.{has_single_count, sized, lowest, highest}
+use Rattle.card_sizing.specs.Counted.{has_stage_counts, counted}
 use Rattle.card_sizing.specs.Serving.{wait_of}
 
 -- a stage with one machine
@@ -64,6 +65,20 @@ conwip_lowest : lowest (assembly (Conwip 9) 0 1 0 3 0 4 []) ≡ 7
 unfolding lowest greatest
 conwip_lowest = refl
 
+-- the highest counts: the most stock, and one for each of three jobs; else the most cards
+extended_highest : highest (assembly Extended 9 1 9 2 9 4 []) ≡ 7
+unfolding highest greatest
+extended_highest = refl
+
+kanban_highest : highest (assembly Kanban 1 7 2 7 3 7 []) ≡ 10000
+unfolding highest
+kanban_highest = refl
+
+-- each stage gets its own count
+each_counted : counted (assembly Extended 1 1 4 2 3 0 one_loop) (4 ∷ 5 ∷ 6 ∷ []) ≡ assembly Extended 4 1 5 2 6 0 one_loop
+unfolding counted
+each_counted = refl
+
 -- which plants have a single count
 single_counts : has_single_count (assembly Kanban 1 0 1 0 1 0 []) ≡ true
 single_counts = refl
@@ -76,6 +91,13 @@ looped_extended = refl
 
 base_stock : has_single_count (assembly BaseStock 0 1 0 1 0 1 []) ≡ false
 base_stock = refl
+
+-- which plants have a count for each stage
+stage_counts : has_stage_counts (assembly Kanban 1 0 1 0 1 0 []) ≡ true
+stage_counts = refl
+
+line_count : has_stage_counts (assembly (Conwip 9) 1 0 1 0 1 0 []) ≡ false
+line_count = refl
 
 -- a feed at 0 2 4, six stations before the delivery, and deliveries at 0 5 10
 abbrev dates : Table

@@ -1,7 +1,12 @@
 pub mod SizedStages
 pub mod SizedSound
+pub mod ReachedDates
 pub mod Serving
 pub mod DeadLines
 pub mod Searches
+pub mod CountedPlants
+pub mod StageSearches
+pub mod CoveredCards
+pub mod HighestCounts
 pub mod Most
 mod Examples

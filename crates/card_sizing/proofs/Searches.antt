@@ -1,5 +1,6 @@
 -- The steps of the search for the least count, and its ends.
-use Rattle.std.proofs.Common.{◌≡◌, ℕ, ◌+◌, ◌-◌, ◌<◌, ◌≤◌, true, List, length, refl, subst, arith}
+use Rattle.std.proofs.Common.{◌≡◌, ℕ, zero, suc, ◌+◌, ◌-◌, ◌^◌, ◌<◌, ◌≤◌, true, length, refl, subst, arith}
+use Rattle.std.proofs.Math.Nat.{pow-succ'}
 use Rattle.std.proofs.lemmas.List.Elements.{All-filter, filter_passes}
 use Rattle.line_base.specs.declared.limits.TheConstants.{MAX_CARDS}
 use Rattle.plant_model.specs.declared.plant.Policy.{Policy}
@@ -11,18 +12,16 @@ use Rattle.plant_model.specs.Sound.{IsSound}
 use Rattle.plant_model.proofs.SoundPlants.{IsSoundStage-sound, HasSoundSizes-sound, path_stock-has_cards}
 use Rattle.event_graph.proofs.Greatest.{greatest-le}
 use Rattle.event_graph.specs.Live.{IsLive}
-use Rattle.line_core.proofs.Existence.{has_least}
 use Rattle.line_base.proofs.RangeLists.{All-range}
-use Rattle.line_graph.proofs.Inputs.{IsGraph-graph}
 use Rattle.card_sizing.specs.declared.sizing.Below.{Below}
 use Rattle.card_sizing.specs.declared.sizing.Below.TheVariants.{Lowest, Job, Dead}
 use Rattle.card_sizing.specs.Sized.{has_single_count, sized, lowest_under, lowest}
 use Rattle.card_sizing.specs.Serving.{Serves, IsLateWith}
 use Rattle.line_graph.specs.DeadLabels.{AreDead}
 use Rattle.card_sizing.specs.Sizing.{NoneServesBelow, IsBelow, IsSearch}
-use Rattle.card_sizing.specs.Trying.{FailsBy}
+use Rattle.card_sizing.specs.Trying.{FailsBy, HasTriesLeft}
 use Rattle.card_sizing.proofs.SizedSound.{sound_sized}
-use Rattle.card_sizing.proofs.Serving.{serves_more, dead_not_live}
+use Rattle.card_sizing.proofs.Serving.{serves_more, dead_not_live, late_not_in_time}
 
 -- the lowest count is within the limit
 pub lowest_within : (p : Plant) → IsSound p → lowest p ≤ MAX_CARDS
@@ -44,26 +43,19 @@ lowest_within p sound = by_policy p.policy refl
         greatest-le (λ i. (stage_at p i).stock) (stage_numbers p) MAX_CARDS (All-range (λ i. (stage_at p i).stock ≤ MAX_CARDS) (length p.stages) (λ i below. (IsSoundStage-sound p i sound below).little_stock))
 
 module _ (p : Plant) (sound : IsSound p) (single : has_single_count p ≡ true) (may : ℕ) where
-  -- a count with which a job is late doesn't serve
-  late_not_serves : (c job wait : ℕ) → IsLateWith p may c job wait → Serves p may c → ⊥
-  late_not_serves c job wait late serves =
-      let sound_c = sound_sized p c sound single serves.enough serves.within in
-      let x = has_least (graph (sized p c)) (IsGraph-graph (sized p c) sound_c) serves.live in
-      let first = late.waits x.0 x.1 in
-      omega (arith, first.waits, first.longer, serves.waits x.0 x.1 job first.from_one first.exists)
-
   -- what doesn't serve has none below that serves
   none_below : (c : ℕ) → c ≤ MAX_CARDS → (Serves p may c → ⊥) → NoneServesBelow p may (c + 1)
   none_below c few not d below serves = not (serves_more p sound single may d c serves (omega arith) few)
 
   -- a count that fails doesn't serve
-  fails_not_serves : (c : ℕ) (why : Below) → FailsBy p may c why → Serves p may c → ⊥
+  fails_not_serves : (c : ℕ) (why : Below) → FailsBy (sized p c) may why → Serves p may c → ⊥
   fails_not_serves c Lowest fails serves = fails
-  fails_not_serves c (Job job wait) fails serves = late_not_serves c job wait fails serves
-  fails_not_serves c (Dead labels) fails serves = dead_not_live (graph (sized p c)) labels fails serves.live
+  fails_not_serves c (Job job wait) fails serves =
+      late_not_in_time (sized p c) may job wait (sound_sized p c sound single serves.enough serves.within) fails serves.in_time
+  fails_not_serves c (Dead labels) fails serves = dead_not_live (graph (sized p c)) labels fails serves.in_time.live
 
   -- and tells why one more can't be one less
-  is_below : (c : ℕ) (why : Below) → lowest p ≤ c → FailsBy p may c why → IsBelow p may (c + 1) why
+  is_below : (c : ℕ) (why : Below) → lowest p ≤ c → FailsBy (sized p c) may why → IsBelow p may (c + 1) why
   is_below c Lowest enough fails = absurd fails
   is_below c (Job job wait) enough late =
       let same : c ≡ c + 1 - 1 = omega arith in
@@ -73,7 +65,7 @@ module _ (p : Plant) (sound : IsSound p) (single : has_single_count p ≡ true) 
       (omega arith, subst (λ (d : ℕ). AreDead (graph (sized p d)) labels) same dead)
 
   -- one step further, where `middle` doesn't serve
-  pub search_past : (low high middle : ℕ) (below why : Below) → IsSearch p may low high below → low ≤ middle → middle < high → FailsBy p may middle why → IsSearch p may (middle + 1) high why
+  pub search_past : (low high middle : ℕ) (below why : Below) → IsSearch p may low high below → low ≤ middle → middle < high → FailsBy (sized p middle) may why → IsSearch p may (middle + 1) high why
   search_past low high middle below why search after before fails = record {
     ordered = omega arith;
     enough = omega (arith, search.enough);
@@ -82,8 +74,20 @@ module _ (p : Plant) (sound : IsSound p) (single : has_single_count p ≡ true) 
     serves = search.serves;
   }
 
--- where the line is live, a count fails by a job alone
-pub fails_by_job : (p : Plant) (may c : ℕ) (why : Below) → FailsBy p may c why → IsLive (graph (sized p c)) → (job : ℕ) × (wait : ℕ) × (why ≡ Job job wait)
-fails_by_job p may c Lowest fails live = absurd fails
-fails_by_job p may c (Job job wait) fails live = (job, wait, refl)
-fails_by_job p may c (Dead labels) fails live = absurd (dead_not_live (graph (sized p c)) labels fails live)
+-- where the line is live, it fails by a job alone
+pub fails_by_job : (p : Plant) (may : ℕ) (why : Below) → FailsBy p may why → IsLive (graph p) → (job : ℕ) × (wait : ℕ) × (why ≡ Job job wait)
+fails_by_job p may Lowest fails live = absurd fails
+fails_by_job p may (Job job wait) fails live = (job, wait, refl)
+fails_by_job p may (Dead labels) fails live = absurd (dead_not_live (graph p) labels fails live)
+
+-- ---- tries
+
+-- one try more, after which at most half of the range is left
+pub try_taken : (most tries range rest : ℕ) → HasTriesLeft most tries range → 1 ≤ range → rest + rest ≤ range → HasTriesLeft most (tries + 1) rest
+try_taken most tries range rest has some half = by_left has.left has.all has.halved
+  where
+    by_left : (left : ℕ) → tries + left ≡ most → range < 2 ^ left → HasTriesLeft most (tries + 1) rest
+    by_left zero all small = let one : 2 ^ 0 ≡ 1 = refl in absurd (omega arith)
+    by_left (suc left) all small =
+        let twice = pow-succ' 2 left in
+        record { left = left; all = omega arith; halved = omega (arith, twice) }

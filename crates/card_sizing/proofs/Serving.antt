@@ -1,5 +1,5 @@
--- A count above one that serves serves, and what a table of dates says of a count.
-use Rattle.std.proofs.Common.{◌≡◌, ℕ, List, ◌+◌, ◌-◌, ◌<◌, ◌≤◌, true, length, refl, sym, ap, ◌∙◌, subst, arith}
+-- More cards keep a line in time, so a count above one that serves serves; and what the run of a plant's graph says of its line.
+use Rattle.std.proofs.Common.{◌≡◌, ℕ, List, ◌-◌, ◌<◌, ◌≤◌, true, length, get_or, refl, sym, ap, ◌∙◌, subst, arith}
 use Rattle.line_base.specs.declared.limits.TheConstants.{MAX_CARDS}
 use Rattle.line_base.specs.declared.event.Parts.{Parts}
 use Rattle.plant_model.specs.declared.plant.Plant.{Plant}
@@ -7,66 +7,70 @@ use Rattle.plant_model.specs.Line.{deliver}
 use Rattle.plant_model.specs.Graph.{labels, graph}
 use Rattle.plant_model.specs.Sound.{IsSound}
 use Rattle.event_graph.specs.Network.{stations, jobs, demand}
-use Rattle.event_graph.specs.Table.{Table, date_in}
-use Rattle.event_graph.specs.Least.{IsLeast}
 use Rattle.event_graph.specs.Live.{IsLive}
 use Rattle.event_graph.proofs.GreatestTerms.{greatest_of_terms}
-use Rattle.line_core.specs.Run.{Dates, IsLeastTable}
 use Rattle.line_core.proofs.Existence.{has_least}
-use Rattle.line_graph.proofs.CardlessPlants.{deliver-same}
+use Rattle.line_graph.specs.DeadLabels.{AreDead}
+use Rattle.line_graph.specs.MoreCards.{HasMoreCards}
+use Rattle.line_graph.proofs.CardlessPlants.{deliver-same, demands-same}
 use Rattle.line_graph.proofs.Sizes.{stations-graph}
 use Rattle.line_graph.proofs.Inputs.{IsGraph-graph}
 use Rattle.line_graph.proofs.MoreCards.{cards_never_later}
 use Rattle.card_sizing.specs.Sized.{has_single_count, sized, lowest}
-use Rattle.card_sizing.specs.Serving.{wait_of, wait_until, NoneWaitsLonger, IsFirstLate, Serves, IsLateWith}
+use Rattle.card_sizing.specs.Serving.{wait_until, NoneIsLateIn, IsFirstLateIn, IsInTime, IsLate}
 use Rattle.card_sizing.specs.Laws.{MoreCardsServe}
-use Rattle.line_graph.specs.DeadLabels.{AreDead}
-use Rattle.card_sizing.proofs.SizedStages.{differ-sized, more-sized, most-sized}
+use Rattle.card_sizing.proofs.SizedStages.{more-sized, most-sized}
 use Rattle.card_sizing.proofs.SizedSound.{sound_sized}
 
--- ---- the graph of a sized plant
+-- ---- the graph of a plant
 
 jobs-graph : (p : Plant) → jobs (graph p) ≡ length p.demands
 unfolding graph
 jobs-graph p = refl
 
-demand-graph : (p : Plant) (c n : ℕ) → demand (graph (sized p c)) n ≡ demand (graph p) n
-unfolding graph demand sized
-demand-graph p c n = refl
+demand-graph : (p q : Plant) (n : ℕ) → p.demands ≡ q.demands → demand (graph p) n ≡ demand (graph q) n
+unfolding graph demand
+demand-graph p q n same = ap (λ (dates : List ℕ). get_or dates (n - 1) 0) same
 
-pub jobs-sized : (p : Plant) (c : ℕ) → jobs (graph (sized p c)) ≡ length p.demands
-unfolding sized
-jobs-sized p c = jobs-graph (sized p c)
-
-stations-sized : (p : Plant) (c : ℕ) → stations (graph (sized p c)) ≡ deliver p + 1
-stations-sized p c =
-    stations-graph (sized p c) ∙ ap (λ (n : ℕ). n + 1) (sym (deliver-same p (sized p c) (differ-sized p c)))
+delivery : (p : Plant) → stations (graph p) - 1 ≡ deliver p
+delivery p = let all = stations-graph p in omega arith
 
 -- ---- monotone
 
--- each count above one that serves serves: no date is later, and the demands are the same
+-- more cards keep the line in time: no date is later, and the demands are the same
+pub in_time_more : (few many : Plant) (may : ℕ) → HasMoreCards few many → IsSound few → IsSound many → IsInTime few may → IsInTime many may
+in_time_more few many may more sound_few sound_many in_time =
+    let g = graph few in
+    let h = graph many in
+    let never = cards_never_later few many more sound_few in_time.live in
+    let x = has_least g (IsGraph-graph few sound_few) in_time.live in
+    let deliver_same = deliver-same few many more.differ in
+    let same = demands-same few many more.differ in
+    let same_jobs = ap (λ (dates : List ℕ). length dates) same in
+    record {
+      live = never.live;
+      waits = λ y least n one within.
+          let some = stations-graph few in
+          let some_many = stations-graph many in
+          let last : deliver few < stations g = omega arith in
+          let job : n ≤ jobs g = omega (arith, jobs-graph few) in
+          let earlier = never.dates x.0 y x.1 least (deliver few) n last one job in
+          let there = ap (λ (t : ℕ). y t n) deliver_same in
+          let demanded = x.2.feed (omega arith) n one job in
+          let demanded_many = (greatest_of_terms h y (IsGraph-graph many sound_many) least).feed (omega arith) n one (omega (arith, jobs-graph many)) in
+          omega (arith, earlier, there, demanded, demanded_many, demand-graph few many n same, in_time.waits x.0 x.1 n one (omega arith));
+    }
+
+-- each count above one that serves serves
 pub serves_more : (p : Plant) → IsSound p → has_single_count p ≡ true → MoreCardsServe p
 serves_more p sound single may c d serves more few =
-    let g = graph (sized p c) in
-    let h = graph (sized p d) in
     let enough : lowest p ≤ d = omega (arith, serves.enough) in
     let sound_few = sound_sized p c sound single serves.enough serves.within in
     let sound_many = sound_sized p d sound single enough few in
-    let never = cards_never_later (sized p c) (sized p d) (more-sized p c d single more) sound_few serves.live in
-    let x = has_least g (IsGraph-graph (sized p c) sound_few) serves.live in
     record {
       enough = enough;
       within = few;
-      live = never.live;
-      waits = λ y least n one within.
-          let some = stations-sized p c in
-          let some_many = stations-sized p d in
-          let last : deliver p < stations g = omega arith in
-          let job : n ≤ jobs g = omega (arith, jobs-sized p c) in
-          let earlier = never.dates x.0 y x.1 least (deliver p) n last one job in
-          let demanded = x.2.feed (omega arith) n one job in
-          let demanded_many = (greatest_of_terms h y (IsGraph-graph (sized p d) sound_many) least).feed (omega arith) n one (omega (arith, jobs-sized p d)) in
-          omega (arith, earlier, demanded, demanded_many, demand-graph p c n, demand-graph p d n, serves.waits x.0 x.1 n one within);
+      in_time = in_time_more (sized p c) (sized p d) may (more-sized p c d single more) sound_few sound_many serves.in_time;
     }
 
 -- a live plant is live with the most cards
@@ -77,50 +81,38 @@ most_live p sound single live = (cards_never_later p (sized p MAX_CARDS) (most-s
 pub dead_not_live : (g : Parts) (labels : List (List ℕ)) → AreDead g labels → IsLive g → ⊥
 dead_not_live g labels dead live = omega (arith, live dead.arcs dead.dead.circuit, dead.dead.empty)
 
--- ---- a table of the dates of a sized plant
+-- a line with a late job isn't in time
+pub late_not_in_time : (p : Plant) (may job long : ℕ) → IsSound p → IsLate p may job long → IsInTime p may → ⊥
+late_not_in_time p may job long sound late in_time =
+    let x = has_least (graph p) (IsGraph-graph p sound) in_time.live in
+    let first = late.waits x.0 x.1 in
+    omega (arith, first.waits, first.longer, in_time.waits x.0 x.1 job first.from_one first.exists)
 
-module _ (p : Plant) (c may : ℕ) (d : Dates) (is : d.graph ≡ graph (sized p c)) (table : IsLeastTable d) where
-  least_rows : IsLeast (graph (sized p c)) (date_in d.rows)
-  least_rows = subst (λ (g : Parts). IsLeast g (date_in d.rows)) is table.least
+-- ---- the run of a plant's graph
 
-  count : jobs d.graph ≡ length p.demands
-  count = ap jobs is ∙ jobs-sized p c
+module _ (p : Plant) (may : ℕ) (g : Parts) (is : g ≡ graph p) where
+  pub in_time_from : IsLive g → NoneIsLateIn g may → IsInTime p may
+  in_time_from live none =
+      let same_none = subst (λ (h : Parts). NoneIsLateIn h may) is none in
+      record {
+        live = subst IsLive is live;
+        waits = λ x least n one within.
+            rw (ap (λ (t : ℕ). wait_until x t n) (sym (delivery p))) (same_none x least n one (omega (arith, jobs-graph p)));
+      }
 
-  delivery : stations d.graph - 1 ≡ deliver p
-  delivery = let all = ap stations is ∙ stations-sized p c in omega arith
-
-  -- the wait of a job in each least solution is that of the table
-  wait-table : (x : Table) → IsLeast (graph (sized p c)) x → (n : ℕ) → 1 ≤ n → n ≤ length p.demands → wait_of p x n ≡ wait_until (date_in d.rows) (stations d.graph - 1) n
-  wait-table x least n one within =
-      let g = graph (sized p c) in
-      let y = date_in d.rows in
-      let all = stations-sized p c in
-      let job : n ≤ jobs g = omega (arith, jobs-sized p c) in
-      let late = least.least y least_rows.solves (deliver p) n (omega arith) one job in
-      let late_back = least_rows.least x least.solves (deliver p) n (omega arith) one job in
-      let early = least.least y least_rows.solves 0 n (omega arith) one job in
-      let early_back = least_rows.least x least.solves 0 n (omega arith) one job in
-      let same : wait_of p x n ≡ wait_until y (deliver p) n = omega arith in
-      same ∙ sym (ap (λ (t : ℕ). wait_until y t n) delivery)
-
-  pub serves_from : IsLive (graph (sized p c)) → lowest p ≤ c → c ≤ MAX_CARDS → NoneWaitsLonger (wait_until (date_in d.rows) (stations d.graph - 1)) (jobs d.graph) may → Serves p may c
-  serves_from live enough few none = record {
-    enough = enough;
-    within = few;
-    live = live;
-    waits = λ x least n one within. rw (wait-table x least n one within) (none n one (omega (arith, count)));
-  }
-
-  pub late_from : IsLive (graph (sized p c)) → (job long : ℕ) → IsFirstLate (wait_until (date_in d.rows) (stations d.graph - 1)) (jobs d.graph) may job long → IsLateWith p may c job long
-  late_from live job long late = record {
-    live = live;
-    waits = λ x least.
-        let inside : job ≤ length p.demands = omega (arith, count, late.exists) in
-        record {
-          from_one = late.from_one;
-          exists = inside;
-          waits = wait-table x least job late.from_one inside ∙ late.waits;
-          longer = late.longer;
-          first = λ n one before. rw (wait-table x least n one (omega arith)) (late.first n one before);
-        };
-  }
+  pub late_from : IsLive g → (job long : ℕ) → IsFirstLateIn g may job long → IsLate p may job long
+  late_from live job long late =
+      let same_late = subst (λ (h : Parts). IsFirstLateIn h may job long) is late in
+      record {
+        live = subst IsLive is live;
+        waits = λ x least.
+            let here = same_late x least in
+            let at = λ (n : ℕ). ap (λ (t : ℕ). wait_until x t n) (sym (delivery p)) in
+            record {
+              from_one = here.from_one;
+              exists = omega (arith, here.exists, jobs-graph p);
+              waits = at job ∙ here.waits;
+              longer = here.longer;
+              first = λ n one before. rw (at n) (here.first n one before);
+            };
+      }

@@ -192,7 +192,7 @@ module _ (p : Plant) (c : ℕ) (sound : IsSound p) where
   stock_under-kept BaseStock s t other same = same
   stock_under-kept Extended s t other same = same
 
-  starting-sized : (p.policy ≡ Kanban → ⊥) → (i : ℕ) → starting (sized p c) i ≡ starting p i
+  pub starting-sized : (p.policy ≡ Kanban → ⊥) → (i : ℕ) → starting (sized p c) i ≡ starting p i
   starting-sized other i =
       rw (policy-sized p c) (stock_under-kept p.policy (stage_at (sized p c) i) (stage_at p i) other (stock-sized i))
 
@@ -203,7 +203,7 @@ module _ (p : Plant) (c : ℕ) (sound : IsSound p) where
   path_stock-sized other a =
       ap (sum_by (starting (sized p c))) (path-sized a) ∙ (λ j. sum_by (λ (i : ℕ). starting-sized other i j) (path p a))
 
-  stock_between-sized : (p.policy ≡ Kanban → ⊥) → (a b : ℕ) → stock_between (sized p c) a b ≡ stock_between p a b
+  pub stock_between-sized : (p.policy ≡ Kanban → ⊥) → (a b : ℕ) → stock_between (sized p c) a b ≡ stock_between p a b
   stock_between-sized other a b =
       ap (λ (is : List ℕ). sum_by (starting (sized p c)) (up_to b is)) (path-sized a) ∙ (λ j. sum_by (λ (i : ℕ). starting-sized other i j) (up_to b (path p a)))
 
@@ -227,7 +227,7 @@ module _ (p : Plant) (c : ℕ) (sound : IsSound p) where
       let here = All-contains (λ k. path_stock p k ≤ greatest (path_stock p) (first_stages p)) (first_stages p) i all among in
       omega (arith, low, here)
 
-  stock-lowest : p.policy ≡ Extended → lowest p ≤ c → (i : ℕ) → i < length p.stages → (stage_at p i).stock ≤ c
+  pub stock-lowest : p.policy ≡ Extended → lowest p ≤ c → (i : ℕ) → i < length p.stages → (stage_at p i).stock ≤ c
   unfolding lowest
   stock-lowest is enough i below =
       let stock = λ (k : ℕ). (stage_at p k).stock in

@@ -37,7 +37,7 @@ sized-without p c =
 pub differ-sized : (p : Plant) (c : ℕ) → DifferInCards p (sized p c)
 differ-sized p c = record { alike = sym (sized-without p c) }
 
-differ-counts : (p : Plant) (c d : ℕ) → DifferInCards (sized p c) (sized p d)
+pub differ-counts : (p : Plant) (c d : ℕ) → DifferInCards (sized p c) (sized p d)
 differ-counts p c d = record { alike = sized-without p c ∙ sym (sized-without p d) }
 
 pub length-sized : (p : Plant) (c : ℕ) → length (sized p c).stages ≡ length p.stages

@@ -3,3 +3,5 @@ pub mod Serving
 pub mod Laws
 pub mod Trying
 pub mod Sizing
+pub mod Counted
+pub mod Each

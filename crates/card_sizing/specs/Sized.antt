@@ -1,6 +1,7 @@
 -- A plant with one count of cards: at each stage under kanban and extended kanban, for the line under CONWIP.
 -- Source: Dallery and Liberopoulos 2000, for what a stage's cards and its stock are.
-use Rattle.std.specs.Prelude.{ℕ, Bool, true, false, ◌==◌, map, length}
+use Rattle.std.specs.Prelude.{ℕ, ◌+◌, min, Bool, true, false, ◌==◌, map, length}
+use Rattle.line_base.specs.Limits.{most_cards}
 use Rattle.event_graph.specs.Firing.{greatest}
 use Rattle.plant_model.specs.declared.plant.Policy.{Policy}
 use Rattle.plant_model.specs.declared.plant.Policy.TheVariants.{Kanban, Conwip, BaseStock, Extended}
@@ -61,3 +62,14 @@ lowest_under Extended p = most_stock p
 
 unfoldable pub lowest : Plant → ℕ
 lowest p = lowest_under p.policy p
+
+-- a count from which on no card more changes a date: under extended kanban one for each part of the most stock and one for each
+-- job; at most, and else, the most cards
+abbrev pub highest_under : Policy → Plant → ℕ
+highest_under Kanban p = most_cards
+highest_under (Conwip _) p = most_cards
+highest_under BaseStock p = most_cards
+highest_under Extended p = min most_cards (most_stock p + length p.demands)
+
+unfoldable pub highest : Plant → ℕ
+highest p = highest_under p.policy p

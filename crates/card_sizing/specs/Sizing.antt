@@ -1,5 +1,5 @@
 -- What the search for the least count answers.
-use Rattle.std.specs.Prelude.{◌≡◌, ⊤, ℕ, ◌-◌, ◌<◌, ◌≤◌, true, false}
+use Rattle.std.specs.Prelude.{◌≡◌, ⊤, ℕ, ◌+◌, ◌-◌, ◌^◌, ◌<◌, ◌≤◌, true, false}
 use Rattle.line_base.specs.Limits.{most_cards}
 use Rattle.plant_model.specs.declared.plant.Plant.{Plant}
 use Rattle.plant_model.specs.Graph.{graph}
@@ -7,7 +7,7 @@ use Rattle.card_sizing.specs.declared.sizing.Below.{Below}
 use Rattle.card_sizing.specs.declared.sizing.Below.TheVariants.{Lowest, Job, Dead}
 use Rattle.card_sizing.specs.declared.sizing.SizingError.{SizingError}
 use Rattle.card_sizing.specs.declared.sizing.SizingError.TheVariants.{NoSingleCount, NoCount, NoMemory}
-use Rattle.card_sizing.specs.Sized.{has_single_count, sized, lowest}
+use Rattle.card_sizing.specs.Sized.{has_single_count, sized, lowest, highest}
 use Rattle.card_sizing.specs.Serving.{Serves, IsLateWith}
 use Rattle.line_graph.specs.DeadLabels.{AreDead}
 
@@ -28,6 +28,11 @@ abbrev pub IsSizingRefusal : Plant → ℕ → SizingError → Type 0
 IsSizingRefusal p may NoSingleCount = has_single_count p ≡ false
 IsSizingRefusal p may (NoCount job wait) = (has_single_count p ≡ true) × IsLateWith p may most_cards job wait
 IsSizingRefusal p may NoMemory = ⊤
+
+-- so many tries are what halving the counts from the lowest to the highest takes: where they are fewer than 2 ^ k, at most k, and
+-- the first
+abbrev pub HalvesCounts : Plant → ℕ → Type 0
+HalvesCounts p tries = (k : ℕ) → highest p - lowest p < 2 ^ k → tries ≤ 1 + k
 
 -- how far the search has come: no count below `low` serves, and `below` tells why of the one before it; `high` serves
 pub record IsSearch (p : Plant) (may low high : ℕ) (below : Below) : Type 0 where

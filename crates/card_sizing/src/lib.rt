@@ -1,6 +1,7 @@
 //! The least number of cards with which no job waits longer than it may.
 #![tactic(auto)]
 
+mod each;
 mod laws;
 mod lowest;
 mod sized;
@@ -8,5 +9,8 @@ mod sizing;
 mod trying;
 mod waits;
 
+pub use each::{EachSizing, StageSizing, least_each};
 pub use laws::{more_cards_serve, sized_plants_are_sound};
+pub use lowest::{has_single_count, lowest_count};
+pub use sized::sized_plant;
 pub use sizing::{Below, Sizing, SizingError, least_cards};

@@ -1,7 +1,8 @@
-//! A copy of a plant with another count of cards.
-ghost use Rattle.std.specs.Prelude.{◌≡◌, ◌≤◌, map, IfOk};
+//! A copy of a plant with another count of cards, or with a count for each stage.
+ghost use Rattle.std.specs.Prelude.{◌≡◌, map, length, IfOk};
+ghost use Rattle.card_sizing.specs.Counted.{stage_counted, counted};
 ghost use Rattle.card_sizing.specs.Sized.{policy_with, cards_under, stage_with, sized};
-ghost use Rattle.plant_model.specs.declared.plant.Plant.{Plant};
+ghost use Rattle.plant_model.specs.Line.{stage_numbers};
 
 use line_base::Items;
 use plant_model::{CardLoop, Machine, Plant, Policy, Stage};
@@ -54,24 +55,50 @@ fn copy_of_stages(
 {
     let mut copy = Vec::with_capacity(alloc, stages.len())?;
     for stage in stages {
-        copy.push_reserved(copy_of_stage(alloc, policy, stage, count)?);
+        let cards = cards_under(policy, count, stage.cards);
+        copy.push_reserved(copy_of_stage(alloc, stage, cards)?);
     }
     Ok(Items::from_vec(copy))
 }
 
-/// A copy of a stage.
-fn copy_of_stage(
-    alloc: Global,
-    policy: Policy,
-    stage: &Stage,
-    count: u32,
-) -> Result<Stage, AllocError>
-    ensures { IfOk result (λ copy. copy ≡ stage_with policy count stage.now) }
+/// A copy of the plant with a count of cards for each stage, under kanban and extended kanban.
+#[tactic(auto, unfolding(crate::specs::Counted::counted))]
+pub fn counted_plant(alloc: Global, plant: &Plant, counts: &[u32]) -> Result<Plant, AllocError>
+    requires { length counts.now ≡ length plant.now.stages }
+    ensures { IfOk result (λ copy. copy ≡ counted plant.now counts.now) }
+{
+    Ok(Plant {
+        policy: plant.policy,
+        loops: copy_of_loops(alloc, plant.loops.as_slice())?,
+        card_time: plant.card_time,
+        demands: plant.demands.copy(alloc)?,
+        observe: plant.observe.copy(alloc)?,
+        stages: counted_stages(alloc, plant, counts)?,
+    })
+}
+
+/// A copy of the stages, each with its count of cards.
+fn counted_stages(alloc: Global, plant: &Plant, counts: &[u32]) -> Result<Items<Stage>, AllocError>
+    requires { length counts.now ≡ length plant.now.stages }
+    ensures { IfOk result
+        (λ copy. copy ≡ map (stage_counted plant.now counts.now) (stage_numbers plant.now)) }
+{
+    let stages = plant.stages.as_slice();
+    let mut copy = Vec::with_capacity(alloc, stages.len())?;
+    for (i, stage) in stages.iter().enumerate() {
+        copy.push_reserved(copy_of_stage(alloc, stage, counts[i])?);
+    }
+    Ok(Items::from_vec(copy))
+}
+
+/// A copy of a stage with this count of cards.
+fn copy_of_stage(alloc: Global, stage: &Stage, cards: u32) -> Result<Stage, AllocError>
+    ensures { IfOk result (λ copy. copy ≡ record stage.now { cards = cards }) }
 {
     Ok(Stage {
         name: stage.name.copy(alloc)?,
         feeds: stage.feeds,
-        cards: cards_under(policy, count, stage.cards),
+        cards,
         stock: stage.stock,
         travel: stage.travel,
         card_time: stage.card_time,

@@ -1,42 +1,29 @@
-//! One count of cards tried.
-ghost use Rattle.std.specs.Prelude.{◌≡◌, ◌-◌, ◌≤◌, true, IfOk, MatchOption};
-ghost use Rattle.card_sizing.specs.Serving.{wait_until, NoneWaitsLonger, IsFirstLate};
+//! One plant tried.
+ghost use Rattle.std.specs.Prelude.{◌≡◌, ◌+◌, ◌≤◌, ◌<◌, true, IfOk, MatchOption};
+ghost use Rattle.card_sizing.specs.Serving.{NoneIsLateIn, IsFirstLateIn};
 ghost use Rattle.card_sizing.specs.Sized.{has_single_count, sized, lowest};
 ghost use Rattle.card_sizing.specs.Trying.{Tells, ShowsItsCircuit, NamesItsCircuit};
-ghost use Rattle.event_graph.specs.Network.{stations, jobs};
-ghost use Rattle.event_graph.specs.Table.{date_in};
 ghost use Rattle.line_base.specs.Limits.{most_cards};
-ghost use Rattle.line_core.specs.Run.{IsLeastTable};
-ghost use Rattle.plant_model.specs.Graph.{graph};
 ghost use Rattle.plant_model.specs.Sound.{IsSound};
 
 use crate::sized::sized_plant;
 use crate::sizing::Below;
 use crate::waits::{LateJob, first_late};
-use event_graph::Graph;
 use line_base::{Items, Label};
-use line_core::{Table, run};
+use line_core::State;
 use line_graph::{dead_labels, graph_of};
 use live_check::{Live, NotLive, rank};
 use plant_model::Plant;
 use std::alloc::{AllocError, Global};
 
-/// Why a count of cards doesn't serve, where no job may wait longer than `may`; `None` where it serves. It takes the time of a
-/// run.
-pub fn try_count(
-    alloc: Global,
-    plant: &Plant,
-    may: u64,
-    count: u32,
-) -> Result<Option<Below>, AllocError>
-    requires sound { IsSound plant.now }
-    requires single { has_single_count plant.now ≡ true }
-    requires enough { lowest plant.now ≤ count }
-    requires few { count ≤ most_cards }
-    ensures { IfOk result (Tells plant.now may count) }
+/// Why a plant's line isn't in time, where no job may wait longer than `may`; `None` where it is. It takes the time of a run, up
+/// to the first job that waits longer.
+pub fn try_plant(alloc: Global, plant: &Plant, may: u64) -> Result<Option<Below>, AllocError>
+    requires { IsSound plant.now }
+    ensures { IfOk result (Tells plant.now may) }
 {
-    match rank(alloc, sized_graph(alloc, plant, count)?) {
-        Ok(live) => match late_of(finished_table(alloc, live)?, may) {
+    match rank(alloc, graph_of(alloc, plant)?) {
+        Ok(live) => match late_of(alloc, live, may)? {
             Some(LateJob { job, wait }) => Ok(Some(Below::Job { job, wait })),
             None => Ok(None),
         },
@@ -47,47 +34,48 @@ pub fn try_count(
     }
 }
 
-/// The graph of the plant with a count of cards.
-fn sized_graph(alloc: Global, plant: &Plant, count: u32) -> Result<Graph, AllocError>
-    requires { IsSound (sized plant.now count) }
-    ensures { IfOk result (λ g. g ≡ graph (sized plant.now count)) }
+/// Why a count of cards doesn't serve, where no job may wait longer than `may`; `None` where it serves. It counts as a try.
+pub fn try_count(
+    alloc: Global,
+    plant: &Plant,
+    may: u64,
+    count: u32,
+    tries: &mut u32,
+) -> Result<Option<Below>, AllocError>
+    requires sound { IsSound plant.now }
+    requires single { has_single_count plant.now ≡ true }
+    requires enough { lowest plant.now ≤ count }
+    requires few { count ≤ most_cards }
+    requires few_tries { tries.old < 1_000 }
+    ensures told { IfOk result (Tells (sized plant.now count) may) }
+    ensures counted { tries.new ≡ tries.old + 1 }
 {
+    *tries += 1;
     let sized = sized_plant(alloc, plant, count)?;
-    let graph = graph_of(alloc, &sized);
+    let told = try_plant(alloc, &sized, may);
     drop(sized);
-    graph
+    told
 }
 
-/// The dates of a whole run of a live graph.
-fn finished_table(alloc: Global, live: Live) -> Result<Table, AllocError>
-    ensures graph { IfOk result (λ table. table.graph ≡ live.graph) }
-    ensures least { IfOk result IsLeastTable }
+/// The first job of a live line that waits longer than `may`.
+fn late_of(alloc: Global, live: Live, may: u64) -> Result<Option<LateJob>, AllocError>
+    ensures { IfOk result (λ found. MatchOption found
+        (NoneIsLateIn live.graph may)
+        (λ late. IsFirstLateIn live.graph may late.job late.wait)) }
 {
-    let table = table_of(alloc, &live);
+    let late = late_in(alloc, &live, may);
     drop(live);
-    table
-}
-
-/// The dates of a whole run of a live graph that is kept.
-fn table_of(alloc: Global, live: &Live) -> Result<Table, AllocError>
-    ensures graph { IfOk result (λ table. table.graph ≡ live.now.graph) }
-    ensures least { IfOk result IsLeastTable }
-{
-    let state = run(alloc, live)?;
-    Ok(state.into_table(live))
-}
-
-/// The first job of a run that waits longer than `may`.
-fn late_of(table: Table, may: u64) -> Option<LateJob>
-    ensures { let wait = wait_until (date_in table.rows) (stations table.graph - 1) in
-        let count = jobs table.graph in
-        MatchOption result
-        (NoneWaitsLonger wait count may)
-        (λ late. IsFirstLate wait count may late.job late.wait) }
-{
-    let late = first_late(&table, may);
-    drop(table);
     late
+}
+
+/// The first job of a live line, which is kept, that waits longer than `may`.
+fn late_in(alloc: Global, live: &Live, may: u64) -> Result<Option<LateJob>, AllocError>
+    ensures { IfOk result (λ found. MatchOption found
+        (NoneIsLateIn live.now.graph may)
+        (λ late. IsFirstLateIn live.now.graph may late.job late.wait)) }
+{
+    let mut state = State::start(alloc, live)?;
+    Ok(first_late(&mut state, live, may))
 }
 
 /// The labels along the circuit without a token of a graph that isn't live.

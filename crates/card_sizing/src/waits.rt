@@ -1,10 +1,14 @@
-//! How long jobs wait for their delivery.
-ghost use Rattle.std.specs.Prelude.{◌≡◌, ◌-◌, MatchOption};
-ghost use Rattle.card_sizing.specs.Serving.{wait_until, NoneWaitsLonger, IsFirstLate};
+//! How long jobs wait for their delivery, job by job, up to the first that waits longer than it may.
+ghost use Rattle.std.specs.Prelude.{◌≡◌, ◌+◌, ◌-◌, ◌<◌, MatchOption, IfSome};
+ghost use Rattle.card_sizing.specs.Serving.{wait_until, NoneIsLateIn, IsFirstLateIn};
+ghost use Rattle.event_graph.specs.Least.{IsLeast};
 ghost use Rattle.event_graph.specs.Network.{stations, jobs};
-ghost use Rattle.event_graph.specs.Table.{date_in};
+ghost use Rattle.event_graph.specs.Table.{Table};
+ghost use Rattle.line_core.specs.Round.{IsInRound, HasFired};
+ghost use Rattle.line_core.specs.Run.{IsReached};
 
-use line_core::Table;
+use line_core::State;
+use live_check::Live;
 use plant_model::FEED;
 
 /// A job, and how long it waits for its delivery, in the plant's unit.
@@ -14,20 +18,68 @@ pub struct LateJob {
     pub wait: u64,
 }
 
-/// The first job that waits longer than `may` until the last station is done with it.
-pub fn first_late(table: &Table, may: u64) -> Option<LateJob>
-    ensures { let wait = wait_until (date_in table.now.rows) (stations table.now.graph - 1) in
-        let count = jobs table.now.graph in
-        MatchOption result
-        (NoneWaitsLonger wait count may)
-        (λ late. IsFirstLate wait count may late.job late.wait) }
+/// Fires the station at a rank, where those below it have fired once more than the others.
+fn fire_at(state: &mut State, live: &Live, done: u32, rank: u32)
+    requires made_for { live.now.graph ≡ state.old.graph }
+    requires rank { rank < stations state.old.graph }
+    requires more { done < jobs state.old.graph }
+    requires round { IsInRound live.now.ranks state.old done rank }
+    requires reached { IsReached state.old }
+    ensures graph { state.new.graph ≡ state.old.graph }
+    ensures reached { IsReached state.new }
+    ensures round { IsInRound live.now.ranks state.new done (rank + 1) }
 {
-    let delivered = table.dates(table.stations() - 1);
-    let demanded = table.dates(FEED);
-    for (place, date) in delivered.iter().enumerate() {
-        let wait = date.saturating_sub(demanded[place]);
+    match state.fire(live, live.station_at(rank)) {
+        Ok(()) => (),
+        Err(_) => unreachable!(),
+    }
+}
+
+/// Fires each station once, in the order of the ranks.
+fn fire_each(state: &mut State, live: &Live, done: u32)
+    requires made_for { live.now.graph ≡ state.old.graph }
+    requires more { done < jobs state.old.graph }
+    requires fired { HasFired state.old done }
+    requires reached { IsReached state.old }
+    ensures graph { state.new.graph ≡ state.old.graph }
+    ensures reached { IsReached state.new }
+    ensures fired { HasFired state.new (done + 1) }
+{
+    for rank in 0..live.graph().stations() {
+        fire_at(state, live, done, rank);
+    }
+}
+
+/// How long the job waits that every station made last.
+fn last_wait(state: &State, live: &Live, done: u32) -> u64
+    requires made_for { live.now.graph ≡ state.now.graph }
+    requires more { done < jobs state.now.graph }
+    requires fired { HasFired state.now (done + 1) }
+    requires reached { IsReached state.now }
+    ensures { (x : Table) → IsLeast live.now.graph x →
+        wait_until x (stations live.now.graph - 1) (done + 1) ≡ result }
+{
+    let delivered = state.log(live.graph().stations() - 1);
+    let demanded = state.log(FEED);
+    delivered[done as usize].saturating_sub(demanded[done as usize])
+}
+
+/// The first job that waits longer than `may` until the last station is done with it. The line runs from its start, job by job,
+/// and no further than to that job.
+pub fn first_late(state: &mut State, live: &Live, may: u64) -> Option<LateJob>
+    requires made_for { live.now.graph ≡ state.old.graph }
+    requires none_fired { HasFired state.old 0 }
+    requires reached { IsReached state.old }
+    ensures first { MatchOption result
+        (NoneIsLateIn live.now.graph may)
+        (λ late. IsFirstLateIn live.now.graph may late.job late.wait) }
+    ensures stops { IfSome result (λ late. HasFired state.new late.job) }
+{
+    for done in 0..live.graph().jobs() {
+        fire_each(state, live, done);
+        let wait = last_wait(state, live, done);
         if wait > may {
-            let job = place as u32 + 1;
+            let job = done + 1;
             return Some(LateJob { job, wait });
         }
     }

@@ -1,5 +1,5 @@
 //! Whether what came of a command is what is wanted.
-use case_files::{After, DateRow, Output, Reason, read_file, split_around};
+use case_format::{After, DateRow, Output, Reason, read_file, split_around};
 use line_io::{Files, Store};
 use std::alloc::Global;
 

@@ -3,7 +3,7 @@ ghost use Rattle.std.specs.Prelude.{◌<◌, IfOk};
 ghost use Rattle.event_graph.specs.Network.{arc_count};
 ghost use Rattle.plant_model.specs.Sound.{IsSound};
 
-use case_files::Reason;
+use case_format::Reason;
 use circuit_sums::{CardCircuit, CircuitKind, card_circuits};
 use event_graph::{Arc, Graph};
 use line_base::Items;
@@ -60,7 +60,7 @@ fn arc_lines(alloc: Global, graph: &Graph) -> Result<Vec<u8>, Reason> {
 fn write_arc(text: &mut String, graph: &Graph, a: u32) -> Result<(), AllocError>
     requires { a < arc_count graph.now }
 {
-    let arc = graph.arcs()[a as usize];
+    let arc = graph.arc(a);
     write!(text, "{a} {} {} {}", arc.from, arc.to, arc.tokens)?;
     write!(text, " {} {}\n", kind_of(arc), graph.delay(a))
 }

@@ -6,7 +6,7 @@ mod looks;
 mod runner;
 mod told;
 
-use case_files::{BadLine, Case, Reason, cases_of, read_file};
+use case_format::{BadLine, Case, Reason, cases_of, read_file};
 use line_io::{FileStore, Sink, StdSink, Store, put_all};
 use runner::run_case;
 use std::alloc::{AllocError, Global};
@@ -18,7 +18,7 @@ use told::Told;
 /// The file that names the case files in order, one a line.
 const LIST: &str = "CASES.txt";
 
-/// The status where a case comes to what isn't wanted.
+/// The status where a case does what isn't wanted.
 const FAILED: u8 = 1;
 
 /// The status where the case files can't be followed.
@@ -27,7 +27,7 @@ const BROKEN: u8 = 2;
 fn main(rt: HostRuntime) -> ExitCode {
     let alloc = rt.alloc();
     let mut folder = FileStore::new(&rt);
-    let mut sink = StdSink::new(&rt);
+    let mut sink = StdSink::new(rt.stdout());
     match run_all(&rt, alloc, &mut folder, &mut sink) {
         Ok(true) => ExitCode::SUCCESS,
         Ok(false) => FAILED.into(),
@@ -35,7 +35,7 @@ fn main(rt: HostRuntime) -> ExitCode {
     }
 }
 
-/// Runs the cases of all case files. Answers whether each came to what is wanted.
+/// Runs the cases of all case files. Answers whether each did what is wanted.
 fn run_all<R: Threads + Wait + Sync, S: Store, K: Sink>(
     rt: &R,
     alloc: Global,
@@ -139,7 +139,7 @@ fn report_told<K: Sink>(mut line: String, told: &Told, sink: &mut K) -> Result<b
     Ok(well)
 }
 
-/// Writes whether a case came to what is wanted, and how many runs over variants there were, where there were any.
+/// Writes whether a case did what is wanted, and how many runs over variants there were, where there were any.
 fn write_outcome(line: &mut String, well: bool, runs: u64) -> Result<(), AllocError> {
     if !well {
         line.push_str(" FAILED\n")

@@ -2,7 +2,7 @@
 use crate::compare::{has_files, has_output};
 use crate::looks::{arcs_of, circuits_of};
 use crate::told::{Told, add_came, add_changed, add_variant};
-use case_files::{
+use case_format::{
     Act, After, BadLine, Case, Change, Crash, Faults, NumberedRow, Output, Reason, Run, Slots,
     Step, Variants, apply, held, is_answer, put, put_copy,
 };
@@ -256,7 +256,7 @@ impl<'a, R: Threads + Wait + Sync, S: Store> Bench<'a, R, S> {
         self.try_failing(attempt, Failing::Disk(calls.saturating_add(1)))
     }
 
-    /// Makes the first put fail, which keeps so many bytes, after which this was written.
+    /// Makes the first put fail, which keeps this many bytes, after which this was written.
     fn fail_put(&mut self, attempt: &Attempt, keep: u32, output: Output) -> Result<(), Reason> {
         let failed = Attempt {
             status: 6,
@@ -331,7 +331,7 @@ enum Failing {
     Store(u32),
     /// The call of the disk of this number.
     Disk(u32),
-    /// The first put, which keeps so many bytes of its piece.
+    /// The first put, which keeps this many bytes of its piece.
     Put { keep: u32 },
 }
 

@@ -1,4 +1,4 @@
-//! What is told of a command that comes to something that isn't wanted.
+//! What is said of a command that does something that isn't wanted.
 use crate::runner::Came;
 use line_io::Files;
 use std::alloc::{AllocError, Global};

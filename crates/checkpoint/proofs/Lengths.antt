@@ -26,7 +26,7 @@ use Rattle.checkpoint.specs.declared.format.Format.{Format}
 use Rattle.checkpoint.specs.declared.format.Format.TheVariants.{Dates, Differences}
 use Rattle.checkpoint.specs.Text.{dates_text, delayed_arcs, two_words, delay_words, delays_line, head_lines, station_words, place_words, station_lines, place_lines, lines, filled}
 use Rattle.checkpoint.specs.Length.{HasFewArcs, HasShortLabels, FitsLimit}
-use Rattle.checkpoint.proofs.Filling.{filled-lines}
+use Rattle.checkpoint.proofs.FilledTexts.{filled-lines}
 use Rattle.checkpoint.proofs.WordLengths.{IsEarly, log_text-le, left_text-le, dated_lines-le, sum_of_sizes}
 
 -- ---- the first lines

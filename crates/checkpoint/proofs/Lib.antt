@@ -1,6 +1,6 @@
 mod Examples
-pub mod Writing
-pub mod Filling
+pub mod WrittenTexts
+pub mod FilledTexts
 pub mod WordBytes
 pub mod ReadDates
 pub mod Unique

@@ -27,7 +27,7 @@ use Rattle.checkpoint.specs.Text.{lines, head_lines, station_lines, place_lines,
 use Rattle.checkpoint.specs.Text.{Fixed}
 use Rattle.checkpoint.specs.Reading.{dated}
 use Rattle.checkpoint.specs.Answers.{IsRefused, Tells, IsStateOrNoMemory}
-use Rattle.checkpoint.proofs.Filling.{dated-station_lines, dated-place_lines}
+use Rattle.checkpoint.proofs.FilledTexts.{dated-station_lines, dated-place_lines}
 use Rattle.checkpoint.proofs.ReadDates.{IsGiven}
 use Rattle.checkpoint.proofs.Unique.{HasShortLists, filled-unique, short_lists}
 use Rattle.checkpoint.proofs.ReadLines.{length-lines, dated-append, one_format, text_begins_well}

@@ -17,8 +17,8 @@ use Rattle.checkpoint.specs.declared.log.Stop.TheVariants.{Form, Memory}
 use Rattle.checkpoint.specs.Answers.{stopped_at, Tells}
 use Rattle.checkpoint.specs.FirstBadLine.{BeginsWell, IsFirstBadLine}
 use Rattle.checkpoint.specs.Reading.{Reading, HasRead, head_count, dated}
-use Rattle.checkpoint.proofs.Writing.{length-station_lines, station_line_at, length-place_lines, place_line_at}
-use Rattle.checkpoint.proofs.Filling.{filled-append}
+use Rattle.checkpoint.proofs.WrittenTexts.{length-station_lines, station_line_at, length-place_lines, place_line_at}
+use Rattle.checkpoint.proofs.FilledTexts.{filled-append}
 use Rattle.checkpoint.proofs.ReadDates.{IsGiven}
 use Rattle.checkpoint.proofs.Unique.{filled-unique, short_lists, given_at}
 

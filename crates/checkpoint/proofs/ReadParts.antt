@@ -1,4 +1,4 @@
--- The lines of stations and arcs, read one after the other, and what they come to.
+-- The lines of stations and arcs, read one after the other, and what they say.
 use Rattle.std.proofs.Common.{◌≡◌, ℕ, zero, suc, ◌+◌, ◌<◌, ◌≤◌, ltb, List, [], ◌∷◌, ◌++◌, length, map, take, refl, sym, ap, ◌∙◌, subst, arith, append_assoc, append-nil}
 use Rattle.std.specs.Prelude.{Option, None, Some, All}
 use Rattle.std.proofs.lemmas.List.{length_push, map_push, get_or_push, get_or_append_left, take_all}
@@ -14,7 +14,7 @@ use Rattle.line_core.specs.Marked.{RefusesMarked, RefusesTokensAlone}
 use Rattle.line_core.proofs.FirstRefusals.{first-front, first-none}
 use Rattle.line_core.proofs.MarkedLogs.{each_below-same}
 use Rattle.line_core.proofs.PartsLemmas.{few_from, given_is_consistent}
-use Rattle.line_core.proofs.Unwinding.{state_of-logs}
+use Rattle.line_core.proofs.LastFirings.{state_of-logs}
 use Rattle.checkpoint.specs.declared.format.Format.{Format}
 use Rattle.checkpoint.specs.Text.{station_words, place_words, AreGiven}
 use Rattle.checkpoint.specs.Answers.{IsReadOf, IsRefused}

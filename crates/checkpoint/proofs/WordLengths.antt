@@ -49,7 +49,7 @@ zeros_words-le format (suc n) dates early =
     let rest = replicate n 0 ++ dates in
     omega (arith, length-append (date_word format 0 0) (date_words format 0 rest), zero_word-le format, zeros_words-le format n dates (All-tail IsEarly 0 rest early))
 
--- and where so many dates are gone from the front, no more
+-- and where this many dates are gone from the front, no more
 left_words-le : (format : Format) (gone n : ℕ) (dates : List ℕ) → All IsEarly (drop gone (replicate n 0 ++ dates)) → length (date_words format 0 (drop gone (replicate n 0 ++ dates))) ≤ 2 * n + 18 * length dates
 left_words-le format zero n dates early = zeros_words-le format n dates early
 left_words-le format (suc gone) zero dates early =

@@ -55,7 +55,7 @@ TellsDate format last before read left =
     → before ≡ codes " " ++ (date_word format last date ++ after) → (read ≡ Some date)
     × (left ≡ after)
 
--- so many dates
+-- this many dates
 abbrev pub TellsDates : Format → ℕ → List ℕ → Bool → List ℕ → Type 0
 TellsDates format count before read left =
     (dates after : List ℕ) → AreGivenDates dates → length dates ≡ count → EndsWord after

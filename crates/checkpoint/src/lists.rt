@@ -59,7 +59,7 @@ fn read_station(
     read_log(reader, alloc, format, graph.jobs())
 }
 
-/// Notes a log with so many dates, where these are more than there are jobs and nothing is noted yet.
+/// Notes a log with this many dates, where these are more than there are jobs and nothing is noted yet.
 fn note_log(noted: &mut Option<StateError>, graph: &Graph, station: u32, have: u32)
     ensures { noted.new ≡ or_first noted.old
         (refuse_if (nat_lt (jobs graph.now) have) (Core.Count station have (jobs graph.now))) }

@@ -34,7 +34,7 @@ impl Stop {
     }
 }
 
-/// Reads how many dates follow, where so many may stand in what is left.
+/// Reads how many dates follow, where this many may stand in what is left.
 pub fn read_count(reader: &mut Reader) -> Option<u32>
     requires { length reader.old.rest < 2 ^ 32 }
     ensures read { IfSome result (λ count. reader.old.rest ≡ decimal count ++ reader.new.rest) }
@@ -76,7 +76,7 @@ fn keep_date(log: &mut Log, number: u32, room: u32, date: Date)
     }
 }
 
-/// Reads so many dates. An empty log keeps the first ones, as many as it has room for.
+/// Reads this many dates. An empty log keeps the first ones, as many as it has room for.
 fn read_dates(reader: &mut Reader, log: &mut Log, format: Format, count: u32, room: u32) -> bool
     requires empty { log.old.dates ≡ [] }
     requires room { room ≤ log.old.room }

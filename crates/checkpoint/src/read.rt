@@ -138,7 +138,7 @@ fn read_said(
 /// The state whose text these bytes are: fewer than 2^32 bytes, in format 2, or in format 1 where no arc of the graph has
 /// a delay. The state can go on firing: it takes the room of all later firings.
 ///
-/// Every other answer but want of memory is the first thing that is wrong with the bytes. The first line that is not of
+/// Every other answer but out of memory is the first thing that is wrong with the bytes. The first line that is not of
 /// the form is refused; where each line is of it, the logs and places that they say are refused as `State::of_parts`
 /// refuses them.
 pub fn read_state(alloc: Global, live: &Live, bytes: &[u8]) -> Result<State, CheckpointError>

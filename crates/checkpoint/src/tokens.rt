@@ -22,7 +22,7 @@ fn tokens_left<'a>(graph: &Graph, logs: &'a Logs, a: u32) -> Tokens<'a>
     requires arc { a < arc_count graph.now }
     ensures { result ≡ tokens_left graph.now (dates_of logs.now) a }
 {
-    let arc = graph.arcs()[a as usize];
+    let arc = graph.arc(a);
     let taken = logs.get(arc.to).dates().len();
     let made = logs.get(arc.from).dates();
     let initial = arc.tokens as usize;
@@ -54,7 +54,7 @@ fn note_token(noted: &mut Option<StateError>, a: u32, k: u32, have: Date, need: 
     }
 }
 
-/// Reads so many dates, each beside the token that is left in its place, and notes the first that is unlike it.
+/// Reads this many dates, each beside the token that is left in its place, and notes the first that is unlike it.
 fn compare_dates(
     reader: &mut Reader,
     format: Format,

@@ -70,7 +70,7 @@ conwip-at p cards i is below first =
     let read = get_or-map (line_card_row p) firsts k 0 no_row found.0 ∙ ap (line_card_row p) found.1 in
     policy_row-at p k (line_card_row p i) (rw rows (omega (arith, found.0, length-map firsts (line_card_row p)))) (rw rows read)
 
--- so many cards are on the arc back that the starting stock leaves, which has a card each
+-- this many cards are on the arc back that the starting stock leaves, which has a card each
 closed : (p : Plant) (t : ℕ) (arcs : List ℕ) (u c stock free number : ℕ) → IsLine (graph p) t arcs u stock → HasArc p c u t free → stock + free ≡ number → IsCircuit (graph p) (arcs ++ c ∷ []) × (tokens_on (graph p) (arcs ++ c ∷ []) ≡ number)
 closed p t arcs u c stock free number line has sum = let closed = IsLine-close p t arcs u c stock free line has in (closed.0, closed.1 ∙ sum)
 

@@ -20,7 +20,7 @@ pub record IsRowAt (p : Plant) (a : ℕ) (r : Row) : Type 0 where
   pub inside : a < length (rows p)
   pub there : get_or (rows p) a no_row ≡ r
 
--- arc a of the plant's graph goes from one station to another, and has so many tokens
+-- arc a of the plant's graph goes from one station to another, and has this many tokens
 pub record HasArc (p : Plant) (a from to tokens : ℕ) : Type 0 where
   pub inside : a < arc_count (graph p)
   pub from_is : (arc (graph p) a).from ≡ from

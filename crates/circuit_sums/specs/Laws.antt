@@ -12,7 +12,7 @@ use Rattle.plant_model.specs.ArcNumbers.{onward_arcs, onward_arcs_between}
 use Rattle.circuit_sums.specs.Circuits.{circuits}
 use Rattle.plant_model.specs.Bound.{bound}
 
--- the arcs lead from station t to station u, through stations of ascending numbers, with so many tokens at the start
+-- the arcs lead from station t to station u, through stations of ascending numbers, with this many tokens at the start
 pub record LeadsOn (g : Parts) (t : ℕ) (arcs : List ℕ) (u tokens : ℕ) : Type 0 where
   pub walk : IsWalk g t arcs u
   pub stock : tokens_on g arcs ≡ tokens

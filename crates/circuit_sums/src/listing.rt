@@ -29,7 +29,7 @@ pub fn card_circuits(
     Ok(Items::from_vec(list))
 }
 
-/// The card circuits of a plant whose graph has so many arcs, the last of which are those of the loops.
+/// The card circuits of a plant whose graph has this many arcs, the last of which are those of the loops.
 fn list_circuits(alloc: Global, plant: &Plant, arcs: usize) -> Result<Vec<CardCircuit>, AllocError>
     requires sound { IsSound plant.now }
     requires loops { length plant.now.loops ≤ arcs }

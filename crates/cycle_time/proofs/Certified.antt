@@ -24,7 +24,7 @@ use Rattle.cycle_time.specs.Dates.{NoneIsNegative, HoldsBack}
 use Rattle.cycle_time.specs.Ratio.{IsRatio, IsWithout, Holds}
 use Rattle.cycle_time.specs.Search.{gains, losses, AreFinal}
 use Rattle.cycle_time.proofs.Dates.{bounds_dates, circuit_holds}
-use Rattle.cycle_time.proofs.Telescoping.{telescopes, no_greater}
+use Rattle.cycle_time.proofs.WalkWeights.{telescopes, no_greater}
 use Rattle.cycle_time.proofs.Weighed.{gain-ratio, loss-ratio, gains-cons, losses-cons, gains-ratio, losses-ratio, gains-arcs, losses-arcs}
 
 -- ---- no circuit

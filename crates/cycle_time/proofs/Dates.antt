@@ -26,7 +26,7 @@ use Rattle.cycle_time.specs.Weight.{potential}
 use Rattle.cycle_time.specs.Certificate.{IsCertificate, NoneVaries}
 use Rattle.cycle_time.specs.Dates.{most_tokens, NoneIsNegative, latest, BoundsDates, HoldsBack}
 use Rattle.event_graph.proofs.Walks.{walk_take, walk_drop}
-use Rattle.cycle_time.proofs.Telescoping.{time_along-cons, tokens_on-cons}
+use Rattle.cycle_time.proofs.WalkWeights.{time_along-cons, tokens_on-cons}
 
 -- where the times of a station are no list, it takes as long for each job
 time_at-same : (times : Times) (n : ℕ) → (IsList times → ⊥) → time_at times n ≡ time_at times 1

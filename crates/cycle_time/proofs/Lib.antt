@@ -1,8 +1,8 @@
-pub mod Telescoping
+pub mod WalkWeights
 pub mod Dates
 pub mod Circuits
 pub mod Weighed
-pub mod Growing
+pub mod GreaterPotentials
 pub mod Trails
 pub mod Offers
 pub mod Passes

@@ -11,7 +11,7 @@ use Rattle.cycle_time.specs.declared.tree.Sweep.{Sweep}
 use Rattle.cycle_time.specs.declared.tree.Sweep.TheVariants.{Up, Down}
 use Rattle.cycle_time.specs.declared.weights.Weighing.{Weighing}
 use Rattle.cycle_time.specs.Search.{gain, loss, most_gain, step_of, Potentials, IsGrown, IsRaisedAt, IsRest, IsRaised, HasRisen, IsWithin}
-use Rattle.cycle_time.proofs.Growing.{grown_more, raised_up}
+use Rattle.cycle_time.proofs.GreaterPotentials.{grown_more, raised_up}
 
 -- the stations of the first steps were looked at; last is the last of them that got more than it had
 pub record IsPassed (g : Parts) (w : Weighing) (sweep : Sweep) (old new : Potentials) (step : ℕ) (last : Option ℕ) : Type 0 where

@@ -1,4 +1,4 @@
--- Passes one after the other: after k of them no walk of at most k arcs comes to more than the potentials.
+-- Passes one after the other: after k of them no walk of at most k arcs sums to more than the potentials.
 use Rattle.std.proofs.Common.{◌≡◌, ℕ, ◌+◌, ◌*◌, ◌<◌, ◌≤◌, List, [], ◌∷◌, length, get_or, sym, ap, subst, arith}
 use Rattle.std.proofs.lemmas.List.Elements.{All-weaker}
 use Rattle.line_base.specs.declared.event.Parts.{Parts}

@@ -166,7 +166,7 @@ trail_heavy g w p path left start at grown h seen =
       exist = All-reverse (λ b. b < arc_count g) rest (All-drop (λ b. b < arc_count g) k path exist);
     }
 
--- at a station without an entry, the trail is a short walk that comes to what its end has
+-- at a station without an entry, the trail is a short walk that sums to what its end has
 pub trail_reaches : (g : Parts) (w : Weighing) (p : Potentials) (path left : List ℕ) (start at : ℕ) → IsGraph g → IsGrown g w p → IsTrail g p path left start at → get_or left at 0 ≡ stations g → arc_count g ≤ get_or p.entries at 0 → IsSoonReached g w p start
 trail_reaches g w p path left start at graph grown h fresh free =
     record {

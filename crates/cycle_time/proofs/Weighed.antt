@@ -11,7 +11,7 @@ use Rattle.event_graph.proofs.Sizes.{work-small, delay-small, tokens-small}
 use Rattle.cycle_time.specs.declared.weights.Weighing.{Weighing}
 use Rattle.cycle_time.specs.declared.weights.Weighing.TheVariants.{PerArc, AtRatio}
 use Rattle.cycle_time.specs.Search.{gain, loss, gains, losses, most_gain, IsModest}
-use Rattle.cycle_time.proofs.Telescoping.{time_along-cons, tokens_on-cons}
+use Rattle.cycle_time.proofs.WalkWeights.{time_along-cons, tokens_on-cons}
 
 pub gain-small : (g : Parts) (w : Weighing) → IsModest w → IsWithinLimits g → (a : ℕ) → gain g w a ≤ most_gain
 unfolding gain

@@ -63,7 +63,7 @@ pub record Potentials : Type 0 where
 abbrev pub AreEntries : Parts → List ℕ → List ℕ → Type 0
 AreEntries g entries arcs = All (λ a. slice_index entries (arc g a).to ≡ a) arcs
 
--- some walk that ends at station t comes to what is gained
+-- some walk that ends at station t sums to what is gained
 pub record IsReached (g : Parts) (w : Weighing) (t potential : ℕ) : Type 0 where
   pub start : ℕ
   pub walk : List ℕ
@@ -114,7 +114,7 @@ IsBestOffer g w potentials t offer =
     ((offer.potential ≡ slice_index potentials t) × IsSettled g w potentials t)
     ⊎ IsBest g w potentials t offer.entry offer.potential
 
--- the step of a pass over so many stations at which station t stands
+-- the step of a pass over this many stations at which station t stands
 abbrev pub step_of : Sweep → ℕ → ℕ → ℕ
 step_of Up stations t = t
 step_of Down stations t = stations - 1 - t
@@ -161,7 +161,7 @@ pub record IsHeavy (g : Parts) (w : Weighing) (arcs : List ℕ) : Type 0 where
   pub few : length arcs ≤ stations g
   pub exist : All (λ a. a < arc_count g) arcs
 
--- a walk with fewer arcs than there are stations comes to what station t has
+-- a walk with fewer arcs than there are stations sums to what station t has
 pub record IsSoonReached (g : Parts) (w : Weighing) (p : Potentials) (t : ℕ) : Type 0 where
   pub start : ℕ
   pub walk : List ℕ
@@ -174,7 +174,7 @@ abbrev pub Enter : Parts → Potentials → Type 0
 Enter g p =
     (t : ℕ) → t < stations g → slice_index p.entries t < arc_count g → (arc g (slice_index p.entries t)).to ≡ t
 
--- walks of at most n arcs come to no more than the potentials of their ends
+-- walks of at most n arcs sum to no more than the potentials of their ends
 abbrev pub CoversWalks : Parts → Weighing → Potentials → ℕ → Type 0
 CoversWalks g w p n =
     (s t : ℕ) (arcs : List ℕ) → IsWalk g s arcs t → t < stations g → length arcs ≤ n →

@@ -60,7 +60,7 @@ pub fn is_circuit(graph: &Graph, arcs: &[u32]) -> bool
     let Some(first) = arcs.first() else {
         return false;
     };
-    let start = graph.arcs()[*first as usize].from;
+    let start = graph.arc(*first).from;
     lead_back(graph, arcs, start) && leave_distinct(graph, arcs)
 }
 
@@ -84,7 +84,7 @@ pub fn time_on(graph: &Graph, a: u32) -> u64
     ensures time { result ≡ work graph.now a 1 + delay graph.now a }
     ensures small { result ≤ 2_000_000_000 }
 {
-    let arc = graph.arcs()[a as usize];
+    let arc = graph.arc(a);
     let delay = graph.delay(a);
     if arc.worked {
         graph.time(arc.to, 1) + delay

@@ -25,7 +25,7 @@ pub enum Sweep {
 }
 
 impl Sweep {
-    /// The station at a step of a pass over so many stations.
+    /// The station at a step of a pass over this many stations.
     fn station(self, step: u32, stations: u32) -> u32
         requires { step < stations }
         ensures exists { result < stations }
@@ -62,7 +62,7 @@ fn better_of(graph: &Graph, weights: &Weights, potentials: &[u128], a: u32, befo
     requires small_before { before.potential ≤ 2 * 10 ^ 24 }
     ensures { IsBetter graph.now weights.now.weighing potentials.now a before result }
 {
-    let from = graph.arcs()[a as usize].from;
+    let from = graph.arc(a).from;
     let loss = u128::from(weights.loss(a));
     let sum = potentials[from as usize] + u128::from(weights.gain(a));
     if sum > before.potential + loss {

@@ -15,7 +15,7 @@ use Rattle.csv.specs.declared.parser.State.TheVariants as st
 use Rattle.std.proofs.lemmas.List.FromFn.{length-enumerate_from}
 use Rattle.std.proofs.lemmas.List.Sums.{count_by-le-length, length-filter}
 use Rattle.std.proofs.Math.Seq.{drop-append_seam, take-append_seam}
-use Rattle.demand_feed.proofs.Reading.{length-strip_bom}
+use Rattle.demand_feed.proofs.ReadRecords.{length-strip_bom}
 use Rattle.demand_feed.specs.Records.{Record, records_of}
 use Rattle.demand_feed.specs.Rows.{HoldsRows, Placed, Held, field_in, first_bad, is_header, jobs, lacks_number, number_at, numbers_of, rows_of, unless_bad}
 use Rattle.demand_feed.specs.Field.{decimal_up_to, is_decimal, number_in, without_blanks}

@@ -1,5 +1,5 @@
 pub mod Reached
-pub mod Reading
+pub mod ReadRecords
 pub mod Decimals
 pub mod RowLemmas
 pub mod Taken

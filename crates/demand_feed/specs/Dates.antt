@@ -5,9 +5,9 @@ use Rattle.line_base.specs.Limits.{last_demand}
 use Rattle.demand_feed.specs.Records.{records_of}
 use Rattle.demand_feed.specs.Rows.{Held, rows_of}
 
--- the used column of a demand file: the first
-abbrev pub date_column : List ℕ
-date_column = 1 ∷ []
+-- the one used column of a demand file, as the list of its used columns; columns count from 1
+abbrev pub date_columns : ℕ → List ℕ
+date_columns column = column ∷ []
 
 -- the rows joined, which have one date each; a file without a date is refused with the number 0
 abbrev pub joined_dates : Held (List (List ℕ)) → Held (List ℕ)
@@ -15,6 +15,6 @@ joined_dates (Ok []) = Err 0
 joined_dates (Ok (row ∷ rows)) = Ok (concat (row ∷ rows))
 joined_dates (Err place) = Err place
 
--- the dates of a demand file in its order, or the number of its first bad record
-abbrev pub dates_of : List ℕ → Held (List ℕ)
-dates_of file = joined_dates (rows_of date_column last_demand (records_of file))
+-- the dates in this column of a demand file, in its order, or the number of its first bad record
+abbrev pub dates_of : ℕ → List ℕ → Held (List ℕ)
+dates_of column file = joined_dates (rows_of (date_columns column) last_demand (records_of file))

@@ -21,12 +21,12 @@ numbers_in table column = map (number_for table.columns column) table.rows
 abbrev pub field_of : JobTimes → ℕ → ℕ → ℕ
 field_of table job column = slice_index (numbers_in table column) (job - 1)
 
--- numbers that stand row after row, as so many rows of this width
+-- numbers that stand row after row, as this many rows of this width
 unfoldable pub cut_rows : ℕ → ℕ → List ℕ → List (List ℕ)
 cut_rows width zero numbers = []
 cut_rows width (suc count) numbers = take width numbers ∷ cut_rows width count (drop width numbers)
 
--- the table of so many jobs whose times stand row after row
+-- the table of this many jobs whose times stand row after row
 abbrev pub job_times : List ℕ → ℕ → List ℕ → JobTimes
 job_times columns jobs times = record { columns = columns; rows = cut_rows (length columns) jobs times }
 

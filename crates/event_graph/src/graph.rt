@@ -121,6 +121,19 @@ impl Graph {
         self.out_of.of(t)
     }
 
+    /// Arc number `a`, whose two stations exist.
+    pub fn arc(&self, a: u32) -> Arc
+        requires { a < arc_count self.now }
+        ensures arc { result ≡ arc self.now a }
+        ensures starts { result.from < stations self.now }
+        ensures ends { result.to < stations self.now }
+        ensures tokens { result.tokens ≤ 10_000 }
+        ensures graph { IsGraph self.now }
+        ensures limits { IsWithinLimits self.now }
+    {
+        self.parts.arcs.as_slice()[a as usize]
+    }
+
     /// How many tokens arc `a` holds at the start.
     pub fn tokens(&self, a: u32) -> u32
         requires { a < arc_count self.now }

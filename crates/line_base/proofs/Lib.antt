@@ -1,2 +1,3 @@
+pub mod SendProofs
 pub mod Numbers
 pub mod RangeLists

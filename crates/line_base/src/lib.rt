@@ -10,6 +10,7 @@ mod name;
 mod number;
 mod text;
 mod times;
+mod transcript;
 
 pub use event::{Arc, Parts};
 pub use items::Items;
@@ -23,3 +24,4 @@ pub use name::{Label, Name, NameError, is_checkpoint_name, is_file_name, is_name
 pub use number::{digits, number_of};
 pub use text::Text;
 pub use times::{Date, Times};
+pub use transcript::Transcript;

@@ -21,7 +21,7 @@ impl Model for Log {
 }
 
 impl Log {
-    /// An empty log with room for so many dates.
+    /// An empty log with room for this many dates.
     pub fn new(alloc: Global, room: u32) -> Result<Self, AllocError>
         ensures { IfOk result (λ log. log ≡ record { dates = []; room = room }) }
     {
@@ -65,7 +65,7 @@ impl Model for Logs {
 }
 
 impl Logs {
-    /// An empty list with room for so many logs.
+    /// An empty list with room for this many logs.
     pub fn new(alloc: Global, room: u32) -> Result<Self, AllocError>
         ensures { IfOk result (λ list. list ≡ record { logs = []; room = room }) }
     {

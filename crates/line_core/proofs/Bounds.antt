@@ -25,7 +25,7 @@ fired-after g s t there =
     let date = new_date g s t in
     omega (arith, sum_by-set length s.logs t (dates ++ date ∷ []) [] there, length-append dates (date ∷ []))
 
--- the latest date after so many firings
+-- the latest date after this many firings
 abbrev pub latest_after : ℕ → ℕ
 latest_after firings = MAX_DEMAND_DATE + firings * (2 * MAX_TIME)
 

@@ -7,10 +7,10 @@ pub mod DeadStations
 pub mod Order
 pub mod Progress
 pub mod Existence
-pub mod Unwinding
+pub mod LastFirings
 pub mod Runs
 pub mod Searches
-pub mod Following
+pub mod FollowedLines
 pub mod RoundLemmas
 pub mod FirstRefusals
 pub mod PartsLemmas

@@ -21,7 +21,7 @@ use Rattle.line_core.specs.Run.{Run, run_of}
 use Rattle.line_core.specs.Parts.{AreParts, run_with, list_at, refuse_if, long_log, long_logs, wrong_count, wrong_marking, wrong_markings, wrong_date, wrong_dates_at, wrong_dates, wrong_token, wrong_tokens_on, wrong_tokens, state_refusals, first, IsReachedExactly}
 use Rattle.line_core.proofs.ArcTokens.{length-all_tokens, token_date-next}
 use Rattle.line_core.proofs.Consistency.{reached_is_consistent}
-use Rattle.line_core.proofs.Unwinding.{state_of-logs, consistent_is_reached}
+use Rattle.line_core.proofs.LastFirings.{state_of-logs, consistent_is_reached}
 use Rattle.line_core.proofs.FirstRefusals.{first-none, none-append, append-none_left, append-none_right, refuse_if-none, refuse_if-first, test-none, each_none, none_each}
 
 abbrev Lists : Type 0
@@ -221,7 +221,7 @@ module _ (l : LiveGraph) (ranked : IsRanked l) (logs places : RoomyLogs) (parts 
 
   pub reached : state_refusals l.graph (dates_of logs) (dates_of places) ≡ [] → Reached l.graph (run_with l.graph (dates_of logs) (dates_of places)).state
   reached none =
-      consistent_is_reached l.graph l.places ranked.limits.some_station ranked.sound ranked.upward.upward _ (consistent none)
+      consistent_is_reached l.graph l.ranks ranked.limits.some_station ranked.sound ranked.upward.upward _ (consistent none)
 
   pub run-with : state_refusals l.graph (dates_of logs) (dates_of places) ≡ [] → run_with l.graph (dates_of logs) (dates_of places) ≡ run_of l.graph logs
   run-with none =

@@ -51,7 +51,7 @@ undone_or_finished g s (suc n) =
     (undone_or_finished g s n) in
     ⊎_elim here below (cases_lt (length (log s n)) (jobs g))
 
--- from a reached state with so many firings left a finished one is reached
+-- from a reached state with this many firings left a finished one is reached
 done_is_finished : (g : Parts) (s : State) → IsConsistent g s → ((u : ℕ) → u < stations g → jobs g ≤ length (log s u)) → IsFinished g s
 done_is_finished g s c done t there = omega (arith, done t there, c.few_dates t there)
 

@@ -24,8 +24,8 @@ one_at_a_place g places up t u t_there u_there same =
     apart)
     (cases_order t u)
 
--- the station at the place that the round has come to can fire
-pub can_fire_next : (g : Parts) (places : List ℕ) (s : State) (done at t : ℕ) → IsRanked (record { graph = g; places = places }) → IsReached (record { graph = g; state = s }) → IsInRound places (record { graph = g; state = s }) done at → done < jobs g → t < stations g → get_or places t 0 ≡ at → CanFire g s t
+-- the station at the rank that the round has reached can fire
+pub can_fire_next : (g : Parts) (places : List ℕ) (s : State) (done at t : ℕ) → IsRanked (record { graph = g; ranks = places }) → IsReached (record { graph = g; state = s }) → IsInRound places (record { graph = g; state = s }) done at → done < jobs g → t < stations g → get_or places t 0 ≡ at → CanFire g s t
 can_fire_next g places s done at t ranked reached round more there here =
     let c = reached_is_consistent g s reached.reached in
     let mine : length (log s t) ≡ done = round.behind t there (omega (arith, here)) in
@@ -50,8 +50,8 @@ can_fire_next g places s done at t ranked reached round more there here =
     (cases_lt (get_or places from 0) at) in
     record { exists = there; more = omega (arith, mine, more); tokens = has_token }
 
--- after its firing the round has come to the next place
-pub round_goes_on : (g : Parts) (places : List ℕ) (s : State) (done at t : ℕ) → IsRanked (record { graph = g; places = places }) → IsReached (record { graph = g; state = s }) → IsInRound places (record { graph = g; state = s }) done at → t < stations g → get_or places t 0 ≡ at → IsInRound places (record { graph = g; state = after g s t }) done (at + 1)
+-- after its firing the round has reached the next rank
+pub round_goes_on : (g : Parts) (places : List ℕ) (s : State) (done at t : ℕ) → IsRanked (record { graph = g; ranks = places }) → IsReached (record { graph = g; state = s }) → IsInRound places (record { graph = g; state = s }) done at → t < stations g → get_or places t 0 ≡ at → IsInRound places (record { graph = g; state = after g s t }) done (at + 1)
 round_goes_on g places s done at t ranked reached round there here =
     let c = reached_is_consistent g s reached.reached in
     let gain = log-after g s t (omega (arith, c.a_log_each, there)) in

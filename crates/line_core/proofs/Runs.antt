@@ -25,7 +25,7 @@ use Rattle.line_core.proofs.Bounds.{fired-le, reached_is_within}
 use Rattle.line_core.proofs.Circuits.{circuit_keeps_number}
 use Rattle.line_core.proofs.Solution.{finished_is_least}
 use Rattle.event_graph.proofs.GreatestTerms.{greatest_of_terms}
-use Rattle.line_core.proofs.Unwinding.{state_of-logs, place-state_of}
+use Rattle.line_core.proofs.LastFirings.{state_of-logs, place-state_of}
 
 -- the state of a run's logs
 abbrev pub state_in : Parts → RoomyLogs → State

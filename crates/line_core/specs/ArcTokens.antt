@@ -5,7 +5,7 @@ use Rattle.line_base.specs.Roomy.{RoomyLogs, log_at}
 use Rattle.event_graph.specs.Network.{stations, jobs}
 use Rattle.event_graph.specs.Circuit.{IsCircuit, tokens_on}
 
--- so many tokens of date 0, then one for each date, later by the delay
+-- this many tokens of date 0, then one for each date, later by the delay
 abbrev pub tokens_of : ℕ → List ℕ → ℕ → List ℕ
 tokens_of initial dates delay = replicate initial 0 ++ map (λ date. date + delay) dates
 

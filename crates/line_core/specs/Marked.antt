@@ -17,16 +17,16 @@ wrong_counts g logs marking = each_below (arc_count g) (wrong_marked g logs mark
 unfoldable pub marked_refusals : Parts → List (List ℕ) → List ℕ → List StateError
 marked_refusals g logs marking = long_logs g logs ++ (wrong_counts g logs marking ++ wrong_dates g logs)
 
--- these places have so many tokens
+-- these places have this many tokens
 abbrev pub HaveCounts : List (List ℕ) → List ℕ → Type 0
 HaveCounts places marking = map (λ tokens. length tokens) places ≡ marking
 
--- whatever the dates of so many tokens are, this is the first thing that is wrong
+-- whatever the dates of this many tokens are, this is the first thing that is wrong
 abbrev pub RefusesMarked : Parts → List (List ℕ) → List ℕ → StateError → Type 0
 RefusesMarked g logs marking refusal =
     (places : List (List ℕ)) → HaveCounts places marking → state_refusal g logs places ≡ Some refusal
 
--- whatever the dates of so many tokens are, nothing but they can be wrong
+-- whatever the dates of this many tokens are, nothing but they can be wrong
 abbrev pub RefusesTokensAlone : Parts → List (List ℕ) → List ℕ → Type 0
 RefusesTokensAlone g logs marking =
     (places : List (List ℕ)) → HaveCounts places marking

@@ -56,7 +56,7 @@ abbrev pub tokens_needed : Parts → List (List ℕ) → ℕ → ℤ
 tokens_needed g logs a =
     pos ((arc g a).tokens + length (list_at logs (arc g a).from)) -ℤ pos (length (list_at logs (arc g a).to))
 
--- 2, of arc a: with so many tokens its place has another number than it needs
+-- 2, of arc a: with this many tokens its place has another number than it needs
 unfoldable pub wrong_count : Parts → List (List ℕ) → ℕ → ℕ → List StateError
 wrong_count g logs a have =
     refuse_if
@@ -120,7 +120,7 @@ IsReachedExactly g logs places =
 abbrev pub AnswersFirst : Result ⊤ StateError → List StateError → Type 0
 AnswersFirst r refusals = MatchResult r (λ _. refusals ≡ []) (λ refusal. first refusals ≡ Some refusal)
 
--- the error is the first refusal; want of memory is free
+-- the error is the first refusal; when memory runs out is free
 abbrev pub IsStateRefusal : Parts → List (List ℕ) → List (List ℕ) → StateError → Type 0
 IsStateRefusal g logs places (Count t have limit) = state_refusal g logs places ≡ Some (Count t have limit)
 IsStateRefusal g logs places (Marking a have need) = state_refusal g logs places ≡ Some (Marking a have need)

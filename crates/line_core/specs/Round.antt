@@ -9,6 +9,6 @@ pub record IsInRound (places : List ℕ) (r : Run) (done place : ℕ) : Type 0 w
   pub ahead : (t : ℕ) → t < stations r.graph → slice_index places t < place → length (log r.state t) ≡ done + 1
   pub behind : (t : ℕ) → t < stations r.graph → place ≤ slice_index places t → length (log r.state t) ≡ done
 
--- each station has fired so many times
+-- each station has fired this many times
 abbrev pub HasFired : Run → ℕ → Type 0
 HasFired r times = (t : ℕ) → t < stations r.graph → length (log r.state t) ≡ times

@@ -1,4 +1,4 @@
--- What a schedule comes to: the firings that its lines name, one after the other, from the start.
+-- What a schedule gives: the firings that its lines name, one after the other, from the start.
 use Rattle.std.specs.Prelude.{◌≡◌, ℕ, ◌+◌, ◌==◌, if◌then◌else◌, Bool, List, [], ◌∷◌, Option, None, Some, Result, Ok, Err, length, find, ⊤}
 use Rattle.std.specs.List.{slice_split, range_with_len}
 use Rattle.std.specs.Str.{bytes_eq}
@@ -71,7 +71,7 @@ ended r = end_at r.state (first_unfinished r.graph r.state)
 abbrev pub follow : Parts → List ℕ → Result State ReplayError
 follow g schedule = follow_lines g (lines_of schedule) 1 (start g)
 
--- the error is the refusal of the schedule; want of memory is free
+-- the error is the refusal of the schedule; when memory runs out is free
 abbrev pub IsRefusal : Parts → List ℕ → ReplayError → Type 0
 IsRefusal g schedule (NoStation n) = follow g schedule ≡ Err (NoStation n)
 IsRefusal g schedule (Done n t) = follow g schedule ≡ Err (Done n t)

@@ -8,16 +8,8 @@ ghost use Rattle.line_core.specs.Consistent.{state_of, all_tokens};
 ghost use Rattle.line_core.specs.Refusals.{first_empty, first_unfinished};
 ghost use Rattle.line_core.specs.Run.{IsRunWithRoom};
 
-use event_graph::{Arc, Graph};
+use event_graph::Graph;
 use line_base::{Date, Logs};
-
-/// Arc number `a`.
-pub fn arc_at(graph: &Graph, a: u32) -> Arc
-    requires { a < arc_count graph.now }
-    ensures { result ≡ arc graph.now a }
-{
-    graph.arcs()[a as usize]
-}
 
 /// How many dates station `t` has made.
 pub fn count_at(logs: &Logs, graph: &Graph, t: u32) -> usize
@@ -35,7 +27,7 @@ pub fn tokens_on(logs: &Logs, graph: &Graph, a: u32) -> usize
     requires arc { a < arc_count graph.now }
     ensures { result ≡ length (place (state_of graph.now (dates_of logs.now)) a) }
 {
-    let arc = arc_at(graph, a);
+    let arc = graph.arc(a);
     let put = arc.tokens as usize + count_at(logs, graph, arc.from);
     put - count_at(logs, graph, arc.to)
 }
@@ -78,7 +70,7 @@ fn token(logs: &Logs, graph: &Graph, a: u32, k: usize) -> Date
     ensures date { result ≡ slice_index (all_tokens graph.now (dates_of logs.now) a) k }
     ensures small { result ≤ 2_002_000_000_000_000 }
 {
-    let arc = arc_at(graph, a);
+    let arc = graph.arc(a);
     let initial = arc.tokens as usize;
     if k < initial {
         return 0;
@@ -95,7 +87,7 @@ fn asked_date(logs: &Logs, graph: &Graph, a: u32, k: usize) -> Date
     ensures { result ≡
         work graph.now a (k + 1) + slice_index (all_tokens graph.now (dates_of logs.now) a) k }
 {
-    let arc = arc_at(graph, a);
+    let arc = graph.arc(a);
     let date = token(logs, graph, a, k);
     if arc.worked {
         graph.time(arc.to, k as u32 + 1) + date

@@ -28,7 +28,7 @@ pub enum ReplayError {
     /// This line names a station that can't fire, since this input arc, the first such, has no token.
     #[error("line {line}: the station waits for a token of arc {arc}")]
     Empty { line: u64, arc: u32 },
-    /// Every line was followed, and this station, the first such, has fired only so many times.
+    /// Every line was followed, and this station, the first such, has fired only this many times.
     #[error("station {station} made {have}")]
     Unfinished { station: u32, have: u64 },
     /// Memory ran out.

@@ -4,6 +4,7 @@
 mod dates;
 mod error;
 mod laws;
+mod lines;
 mod logs;
 mod parts;
 mod rounds;
@@ -17,6 +18,7 @@ pub use laws::{
     circuits_keep_their_number, dates_stay_early, dead_stations_stay_idle,
     finished_states_are_least, live_graphs_have_a_least_solution, reached_states_are_consistent,
 };
+pub use lines::{behind, end_before, prefix, without_return};
 pub use logs::log_with;
 pub use rounds::run;
 pub use schedule::replay;

@@ -22,18 +22,6 @@ fn dates_at(lists: &Logs, k: u32) -> &[Date]
     lists.get(k).dates()
 }
 
-/// Arc number `a`, whose stations exist.
-fn arc_at(graph: &Graph, a: u32) -> Arc
-    requires { a < arc_count graph.now }
-    ensures arc { result ≡ arc graph.now a }
-    ensures starts { result.from < stations graph.now }
-    ensures ends { result.to < stations graph.now }
-    ensures tokens { result.tokens ≤ 10_000 }
-    ensures few_jobs { jobs graph.now ≤ 20_000 }
-{
-    graph.arcs()[a as usize]
-}
-
 /// Refuses a log that is longer than there are jobs.
 fn check_log(graph: &Graph, logs: &Logs, station: u32) -> Result<(), StateError>
     requires { station < length logs.now.logs }
@@ -63,7 +51,7 @@ fn check_logs(graph: &Graph, logs: &Logs) -> Result<(), StateError>
     Ok(())
 }
 
-/// Refuses so many tokens in the place of an arc, where the logs leave another number there.
+/// Refuses this many tokens in the place of an arc, where the logs leave another number there.
 fn check_count(graph: &Graph, logs: &Logs, arc: u32, have: usize) -> Result<(), StateError>
     requires a_log_each { length logs.now.logs ≡ stations graph.now }
     requires few { long_logs graph.now (dates_of logs.now) ≡ [] }
@@ -71,7 +59,7 @@ fn check_count(graph: &Graph, logs: &Logs, arc: u32, have: usize) -> Result<(), 
     requires small { have < 2 ^ 62 }
     ensures { AnswersFirst result (wrong_count graph.now (dates_of logs.now) arc have) }
 {
-    let ends = arc_at(graph, arc);
+    let ends = graph.arc(arc);
     let put = ends.tokens as usize + dates_at(logs, ends.from).len();
     let taken = dates_at(logs, ends.to).len();
     if have + taken != put {
@@ -157,7 +145,7 @@ fn token_date(graph: &Graph, logs: &Logs, a: u32, n: u32) -> Date
     ensures date { result ≡ token_date graph.now (date_in (dates_of logs.now)) a n }
     ensures early { result ≤ LATEST_GIVEN + 1_000_000_000 }
 {
-    let arc = arc_at(graph, a);
+    let arc = graph.arc(a);
     if n <= arc.tokens {
         return 0;
     }
@@ -172,7 +160,7 @@ fn term_of(graph: &Graph, logs: &Logs, a: u32, n: u32) -> Date
     requires job { n ≤ jobs graph.now }
     ensures { result ≡ term graph.now (date_in (dates_of logs.now)) a n }
 {
-    let arc = arc_at(graph, a);
+    let arc = graph.arc(a);
     let date = token_date(graph, logs, a, n);
     if arc.worked {
         graph.time(arc.to, n) + date
@@ -266,7 +254,7 @@ fn check_tokens_on(graph: &Graph, logs: &Logs, places: &Places, arc: u32) -> Res
     ensures { AnswersFirst result
         (wrong_tokens_on graph.now (dates_of logs.now) (dates_of places.now) arc) }
 {
-    let taken = dates_at(logs, arc_at(graph, arc).to).len() as u32;
+    let taken = dates_at(logs, graph.arc(arc).to).len() as u32;
     let dates = dates_at(places, arc);
     for token in 0..dates.len() as u32 {
         let have = dates[token as usize];
@@ -323,7 +311,7 @@ pub fn check_marked(graph: &Graph, logs: &Logs, marking: &Marking) -> Result<(),
     check_dates(graph, logs)
 }
 
-/// The same logs, each with room for so many dates.
+/// The same logs, each with room for this many dates.
 pub fn with_room(alloc: Global, logs: &Logs, room: u32) -> Result<Logs, AllocError>
     requires few { All (λ dates. length dates ≤ room) (dates_of logs.now) }
     requires number { length logs.now.logs < 2 ^ 32 }

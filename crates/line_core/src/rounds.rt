@@ -13,11 +13,11 @@ fn fire_at(state: &mut State, live: &Live, done: u32, place: u32)
     requires made_for { live.now.graph ≡ state.old.graph }
     requires place { place < stations state.old.graph }
     requires more { done < jobs state.old.graph }
-    requires round { IsInRound live.now.places state.old done place }
+    requires round { IsInRound live.now.ranks state.old done place }
     requires reached { IsReached state.old }
     ensures graph { state.new.graph ≡ state.old.graph }
     ensures reached { IsReached state.new }
-    ensures round { IsInRound live.now.places state.new done (place + 1) }
+    ensures round { IsInRound live.now.ranks state.new done (place + 1) }
 {
     state.fire_ready(live, live.station_at(place));
 }

@@ -1,12 +1,11 @@
-ghost use Rattle.std.specs.List.{position_or_len};
-ghost use Rattle.std.specs.Prelude.{◌≡◌, ◌==◌, ◌<◌, ◌≤◌, length, drop, Ok, Err, IfOk, IfErr, IfSome, OnOk};
-ghost use Rattle.std.specs.Str.Lines.{strip_carriage_return};
+ghost use Rattle.std.specs.Prelude.{◌≡◌, ◌<◌, Ok, Err, IfOk, IfErr, IfSome, OnOk};
 ghost use Rattle.event_graph.specs.Network.{stations};
 ghost use Rattle.line_core.specs.Consistent.{IsFinished};
 ghost use Rattle.line_core.specs.Run.{IsReached};
 ghost use Rattle.line_core.specs.Schedule.{station_with, LineGives, LinesGive, ended, follow, IsRefusal};
 
 use crate::error::{FireError, ReplayError};
+use crate::lines::{behind, end_before, prefix, without_return};
 use crate::state::State;
 use event_graph::Graph;
 use live_check::Live;
@@ -23,30 +22,6 @@ fn station_with(graph: &Graph, text: &[u8]) -> Option<u32>
         }
     }
     None
-}
-
-/// Where the first line feed of a text stands, or else the length of the text.
-fn line_end(text: &[u8]) -> usize
-    ensures { result ≡ position_or_len (λ byte. byte == 10) text.now }
-{
-    text.iter()
-        .position(|byte| *byte == b'\n')
-        .unwrap_or(text.len())
-}
-
-/// What stands behind the first bytes of a text.
-fn behind(text: &[u8], count: usize) -> &[u8]
-    requires { count ≤ length text.now }
-    ensures { result.now ≡ drop count text.now }
-{
-    &text[count..]
-}
-
-/// A line without the carriage return that may stand at its end.
-fn without_return(line: &[u8]) -> &[u8]
-    ensures { result.now ≡ strip_carriage_return line.now }
-{
-    line.strip_suffix(b"\r").unwrap_or(line)
 }
 
 /// Follows one line of a schedule: fires the station with this label, or passes over an empty line.
@@ -79,8 +54,8 @@ fn follow_lines(state: &mut State, live: &Live, schedule: &[u8]) -> Result<(), R
     let mut rest = schedule;
     let mut line = 1;
     loop {
-        let end = line_end(rest);
-        let text = without_return(&rest[..end]);
+        let end = end_before(rest, b'\n');
+        let text = without_return(prefix(rest, end));
         follow_line(state, live, line, text)?;
         if end == rest.len() {
             return Ok(());

@@ -11,7 +11,7 @@ ghost use Rattle.line_core.specs.Parts.{LATEST_GIVEN, AreParts, run_with, IsStat
 ghost use Rattle.line_core.specs.Refusals.{Refuses, first_unfinished};
 ghost use Rattle.line_core.specs.Run.{run_of, begun, fired_at, IsReached, IsLeastTable, IsRunWithRoom};
 
-use crate::dates::{arc_at, count_at, first_empty, first_unfinished, next_date, tokens_on};
+use crate::dates::{count_at, first_empty, first_unfinished, next_date, tokens_on};
 use crate::error::{FireError, StateError};
 use crate::parts::{check_marked, check_parts, with_room};
 use crate::table::Table;
@@ -152,7 +152,7 @@ impl State {
         ensures reached { IsReached self.now }
     {
         let graph = live.graph();
-        let arc = arc_at(graph, a);
+        let arc = graph.arc(a);
         let taken = count_at(&self.logs, graph, arc.to);
         let dates = self.logs.get(arc.from).dates();
         Tokens::left(taken, arc.tokens as usize, dates, graph.delay(a))
@@ -204,7 +204,7 @@ impl State {
 
     /// The state with these logs and these places, which can go on firing: it takes the room of all later firings.
     ///
-    /// Every other answer but want of memory is the first thing that is wrong with the parts. A log with more dates than
+    /// Every other answer but out of memory is the first thing that is wrong with the parts. A log with more dates than
     /// there are jobs is refused, else a place with another number of tokens than the logs leave there, else a date that
     /// isn't the one of its equation over the logs, else a token that isn't the one that the logs leave there.
     pub fn of_parts(
@@ -226,7 +226,7 @@ impl State {
         Ok(State::of_reached(alloc, live, logs))
     }
 
-    /// The state with these logs, which have the room of all later firings, and with so many tokens in each place. It takes
+    /// The state with these logs, which have the room of all later firings, and with this many tokens in each place. It takes
     /// no memory.
     ///
     /// Its refusals are those of `of_parts` but the last, for the dates of the tokens aren't given. After Ok nothing but these

@@ -1,3 +1,5 @@
 pub mod Moments
 pub mod Push
+pub mod RawModel
+pub mod RawRuns
 pub mod Replay

@@ -1,5 +1,5 @@
 -- From one call of a disk to the next, for callers that say what a crash leaves.
-use Rattle.std.proofs.Common.{◌≡◌, ◌⊎◌, inl, inr, ⊎_elim, ℕ, ◌<◌, ◌≤◌, refl, ◌∙◌, subst, arith, Result, Ok, Err, OnOk, OnErr}
+use Rattle.std.proofs.Common.{◌≡◌, ◌⊎◌, inl, inr, ⊎_elim, ℕ, ◌+◌, ◌<◌, ◌≤◌, refl, ◌∙◌, subst, arith, Result, Ok, Err, OnOk, OnErr}
 use Rattle.std.proofs.lemmas.Bool.{cases_lt}
 use Rattle.line_disk.specs.DiskView.{Image, Held, MayLeave, DiskView, held_now, Passes, LeftSince, LeavesOnly, Stays, synced}
 use Rattle.line_disk.specs.declared.disk.DiskError.{DiskError}
@@ -20,14 +20,18 @@ pub leaves_by : (a b : DiskView) (P : Image → Type 0) → Passes a b → ((ima
 leaves_by a b P passes first last = record {
   later = passes.later;
   past = passes.past;
-  each = λ image left. ⊎_elim
-      (λ (early : LeftSince a a.moment image).
-      let at : early.at ≡ a.moment = (let s = early.since in let u = early.until in omega arith) in
-      first image (subst (λ k. MayLeave (a.held k) image) at early.left))
-      (λ after.
-      let at : left.at ≡ b.moment = (let u = left.until in let s = passes.soon in omega arith) in
-      last image (subst (λ k. MayLeave (b.held k) image) at left.left))
-      (split_moments a b a.moment image passes.past left);
+  each = λ image left. ⊎_elim (first image) (last image) (passes.during left.at left.since left.until image left.left);
+}
+
+-- a call that takes one moment, or none
+pub passes_by_one : (a b : DiskView) → a.moment ≤ b.moment → b.moment ≤ a.moment + 1 → ((k : ℕ) → k ≤ a.moment → b.held k ≡ a.held k) → Passes a b
+passes_by_one a b later soon past = record {
+  later = later;
+  past = past;
+  during = λ k since until image left. ⊎_elim
+      (λ (after : a.moment < k). inr (let at : k ≡ b.moment = omega arith in subst (λ m. MayLeave (b.held m) image) at left))
+      (λ (before : k ≤ a.moment). inl (let at : k ≡ a.moment = omega arith in left_in _ _ image (past a.moment (omega arith)) (subst (λ m. MayLeave (b.held m) image) at left)))
+      (cases_lt a.moment k);
 }
 
 -- what P says of the moments up to the second and from there on it says of all

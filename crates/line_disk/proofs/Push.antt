@@ -1,8 +1,8 @@
 -- One more call of a disk in memory.
-use Rattle.std.proofs.Common.{◌≡◌, ◌↔◌, ℕ, zero, suc, Bool, true, false, not, List, [], ◌∷◌, ◌++◌, length, take, refl, sym, ◌∙◌, ap, arith, Result, Ok, Err, is_ok, OnOk, OnErr, IsErrOf, IsTrue}
+use Rattle.std.proofs.Common.{◌≡◌, ◌⊎◌, inl, inr, ◌||◌, ◌↔◌, ℕ, zero, suc, Bool, true, false, not, List, [], ◌∷◌, ◌++◌, length, take, refl, sym, ◌∙◌, ap, arith, Result, Ok, Err, is_ok, OnOk, OnErr, IsErrOf, IsTrue}
 use Rattle.std.proofs.lemmas.Bool.{false≢true}
 use Rattle.std.proofs.lemmas.List.{take_all}
-use Rattle.line_disk.specs.DiskView.{Image, Held, Torn, awaiting, bytes_at}
+use Rattle.line_disk.specs.DiskView.{Image, Held, Torn, IsAsBefore, IsPendingWithin, is_within, awaiting, bytes_at}
 use Rattle.line_disk.specs.Memory.{after_call, held_after}
 use Rattle.line_disk.specs.declared.disk.DiskError.{DiskError}
 use Rattle.line_disk.specs.declared.disk.DiskError.TheVariants.{Failed, NoMemory}
@@ -46,8 +46,18 @@ on_err (Ok x) f n = tt
 on_err (Err Failed) f n = f refl
 on_err (Err NoMemory) f n = n refl
 
+or_true : (b : Bool) → (b || true) ≡ true
+or_true true = refl
+or_true false = refl
+
+or_false : (b : Bool) → (b || false) ≡ b
+or_false true = refl
+or_false false = refl
+
+-- one address of a write that failed
+torn_at : (held new : Held) (at n i : ℕ) (within : Bool) → is_within at n i ≡ within → new ≡ record held { pending = awaiting held.pending at n } → IsAsBefore held new i ⊎ IsPendingWithin new at n i
+torn_at held new at n i true inside is = inr (record { within = inside; pending = ap (λ (h : Held). h.pending i) is ∙ ap (λ b. held.pending i || b) inside ∙ or_true (held.pending i) })
+torn_at held new at n i false out is = inl (record { byte = ap (λ (h : Held). h.bytes i) is; pending = ap (λ (h : Held). h.pending i) is ∙ ap (λ b. held.pending i || b) out ∙ or_false (held.pending i) })
+
 pub torn_by : (held new : Held) (at : ℕ) (bytes : List ℕ) → new ≡ record held { pending = awaiting held.pending at (length bytes) } → Torn held new at (length bytes)
-torn_by held new at bytes is = record {
-  bytes = λ i out. ap (λ (h : Held). h.bytes i) is;
-  pending = λ i. ap (λ (h : Held). h.pending i) is;
-}
+torn_by held new at bytes is = record { each = λ i. torn_at held new at (length bytes) i (is_within at (length bytes) i) refl is }

@@ -1,5 +1,7 @@
 -- What a disk shows to contracts, and what a crash may leave of it, for callers of `Disk`.
-use Rattle.std.specs.Prelude.{◌≡◌, ℕ, zero, suc, ◌+◌, ◌-◌, ◌≤◌, nat_le, nat_lt, List, [], ◌∷◌, length, slice_index, Bool, false, ◌&&◌, ◌||◌, if◌then◌else◌}
+use Rattle.std.specs.Prelude.{◌≡◌, ◌⊎◌, ℕ, zero, suc, ◌+◌, ◌-◌, ◌≤◌, nat_le, nat_lt, List, [], ◌∷◌, length, slice_index, Bool, true, false, Vec, Result, Ok, Err, ◌&&◌, ◌||◌, if◌then◌else◌}
+use Rattle.std.specs.declared.alloc.Global.{Global}
+use Rattle.line_disk.specs.declared.disk.DiskError.{DiskError}
 
 -- the byte at each address
 abbrev pub Image : Type 0
@@ -39,37 +41,61 @@ written held at bytes = record {
   pending = awaiting held.pending at (length bytes);
 }
 
--- After a write of n bytes that failed: any bytes there, for reads and for a crash, and the rest as before.
+-- an address is as it was
+pub record IsAsBefore (old new : Held) (i : ℕ) : Type 0 where
+  pub byte : new.bytes i ≡ old.bytes i
+  pub pending : new.pending i ≡ old.pending i
+
+-- an address is one of n from that one on, and a write is pending there
+pub record IsPendingWithin (new : Held) (at n i : ℕ) : Type 0 where
+  pub within : is_within at n i ≡ true
+  pub pending : new.pending i ≡ true
+
+-- After a write of n bytes that failed: each address is as before, or it is one of the n and a write is pending there.
 pub record Torn (old new : Held) (at n : ℕ) : Type 0 where
-  pub bytes : (i : ℕ) → is_within at n i ≡ false → new.bytes i ≡ old.bytes i
-  pub pending : (i : ℕ) → new.pending i ≡ awaiting old.pending at n i
+  pub each : (i : ℕ) → IsAsBefore old new i ⊎ IsPendingWithin new at n i
 
 -- after a sync that succeeded a crash leaves what a read gives
 abbrev pub synced : Held → Held
 synced held = record { bytes = held.bytes; pending = λ _. false }
 
--- the bytes from an address on, so many
+-- as many bytes as are asked for, from an address on
 unfoldable pub bytes_at : Image → ℕ → ℕ → List ℕ
 bytes_at image at zero = []
 bytes_at image at (suc n) = image at ∷ bytes_at image (suc at) n
 
--- What a disk shows: the moment, as a number that never falls, what it holds at that and at each earlier moment, and how
--- often a call has failed.
+-- a read: its address, its number of bytes, and the bytes that were answered, or why none were
+pub record DiskRead : Type 0 where
+  pub at : ℕ
+  pub len : ℕ
+  pub answer : Result (List ℕ) DiskError
+
+abbrev pub bytes_of : Result (Vec ℕ Global) DiskError → Result (List ℕ) DiskError
+bytes_of (Ok v) = Ok v.items
+bytes_of (Err error) = Err error
+
+abbrev pub disk_read : ℕ → ℕ → Result (Vec ℕ Global) DiskError → DiskRead
+disk_read at len answer = record { at = at; len = len; answer = bytes_of answer }
+
+-- What a disk shows: the moment, as a number that never falls, what it holds at that and at each earlier moment, how often a
+-- call has failed, and every read with its answer, the oldest first.
 pub record DiskView : Type 0 where
   pub moment : ℕ
   pub held : ℕ → Held
   pub faults : ℕ
+  pub reads : List DiskRead
 
 -- what it holds now
 abbrev pub held_now : DiskView → Held
 held_now disk = disk.held disk.moment
 
--- A call takes the clock one moment on, or leaves it. What was held at the moments before stays told. A crash
--- during the call leaves what it may leave at the moment before the call or at the one after it.
+-- A call takes the clock on, or leaves it. What the disk held at the moments before stays the same. A crash during the call
+-- leaves what it may leave at the moment before the call or at the one after it.
 pub record Passes (old new : DiskView) : Type 0 where
   pub later : old.moment ≤ new.moment
-  pub soon : new.moment ≤ old.moment + 1
   pub past : (k : ℕ) → k ≤ old.moment → new.held k ≡ old.held k
+  pub during : (k : ℕ) → old.moment ≤ k → k ≤ new.moment → (image : Image) → MayLeave (new.held k) image
+      → MayLeave (held_now old) image ⊎ MayLeave (held_now new) image
 
 -- a crash at the moment t or at a later one might have left this image
 pub record LeftSince (disk : DiskView) (t : ℕ) (image : Image) : Type 0 where

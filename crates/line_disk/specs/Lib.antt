@@ -1,3 +1,7 @@
 pub mod DiskView
 pub mod Memory
 pub mod MemDisk
+pub mod RawFile
+pub mod HostFile
+pub mod Reads
+pub mod Limits

@@ -2,6 +2,7 @@
 use Rattle.std.specs.Prelude.{◌≡◌, ℕ, ◌+◌, Bool, List, [], ◌∷◌, ◌++◌, length, take, drop, Contains}
 use Rattle.line_disk.specs.DiskView.{Image, Held, DiskView}
 use Rattle.line_disk.specs.Memory.{image_from, held_after, first_held, left_by, settled_count, in_effect}
+use Rattle.line_disk.specs.Reads.{reads_of}
 use Rattle.line_disk.specs.declared.patch.Patch.{Patch}
 use Rattle.line_disk.specs.declared.patch.DiskCall.{DiskCall}
 use Rattle.line_disk.specs.declared.patch.DiskCall.TheVariants as call
@@ -13,6 +14,7 @@ mem_view disk = record {
   moment = length disk.calls.items;
   held = λ k. held_after (first_held disk.first.items) (take k disk.calls.items);
   faults = disk.faults;
+  reads = reads_of disk.reads;
 }
 
 -- the next call is on the list of those that fail

@@ -1,7 +1,7 @@
-ghost use Rattle.std.specs.Prelude.{◌≡◌, ◌+◌, ◌≤◌, ℕ, Bool, length, IsTrue, IfOk, OnOk, OnErr, IsErrOf};
-ghost use Rattle.line_disk.specs.DiskView.{DiskView, Passes, Torn, held_now, written, synced, bytes_at};
+ghost use Rattle.std.specs.Prelude.{◌≡◌, ◌+◌, ◌≤◌, ◌++◌, ◌∷◌, [], ℕ, Bool, length, IsTrue, IfOk, OnOk, OnErr, IsErrOf};
+ghost use Rattle.line_disk.specs.DiskView.{DiskView, Passes, Torn, disk_read, held_now, written, synced, bytes_at};
 ghost use Rattle.line_disk.specs.declared.disk.DiskError.{DiskError};
-ghost use Rattle.line_io.specs.Faults.{Rose};
+ghost use Rattle.line_io.specs.Faults.{Rose, RoseByOne};
 
 use std::alloc::{AllocError, AllocFailed, Global};
 use thiserror::Error;
@@ -42,12 +42,13 @@ pub trait Disk {
     /// Whether what the disk holds is told. Over a real file it isn't, and clauses on contents then say nothing.
     ghost tells: { Bool };
 
-    /// What the disk holds now and held at each moment before, and how often calls have failed.
+    /// What the disk holds now and held at each moment before, how often calls have failed, and every read with its answer.
     ghost shown: { Self → DiskView };
 
-    /// So many bytes from an address on. A byte that was never written is 0.
+    /// As many bytes as are asked for, from an address on. A byte that was never written is 0.
     fn read(&mut self, alloc: Global, at: u64, len: u32) -> Result<Vec<u8>, DiskError>
         requires inside { at + len ≤ DISK_END }
+        ensures recorded { (shown self.new).reads ≡ (shown self.old).reads ++ disk_read at len result ∷ [] }
         ensures count { IfOk result (λ v. length v.items ≡ len) }
         ensures bytes { IfOk result
             (λ v. IsTrue tells → v.items ≡ bytes_at (held_now (shown self.old)).bytes at len) }
@@ -55,6 +56,10 @@ pub trait Disk {
         ensures time { IsTrue tells → Passes (shown self.old) (shown self.new) }
         ensures cause { IsErrOf result DiskError.Failed
             → Rose (shown self.old).faults (shown self.new).faults }
+        ensures once { IsErrOf result DiskError.Failed
+            → RoseByOne (shown self.old).faults (shown self.new).faults }
+        ensures memory_is_no_fault { IsErrOf result DiskError.NoMemory
+            → (shown self.new).faults ≡ (shown self.old).faults }
         ensures faults_stay { OnOk result ((shown self.new).faults ≡ (shown self.old).faults) }
         ensures faults_stay_or_rise { (shown self.old).faults ≤ (shown self.new).faults };
 
@@ -62,6 +67,7 @@ pub trait Disk {
     /// may give any bytes there too.
     fn write_at(&mut self, at: u64, bytes: &[u8]) -> Result<(), DiskError>
         requires inside { at + length bytes.now ≤ DISK_END }
+        ensures reads_stay { (shown self.new).reads ≡ (shown self.old).reads }
         ensures written { OnOk result (IsTrue tells
             → held_now (shown self.new) ≡ written (held_now (shown self.old)) at bytes.now) }
         ensures torn { IsErrOf result DiskError.Failed → IsTrue tells
@@ -71,11 +77,16 @@ pub trait Disk {
         ensures time { IsTrue tells → Passes (shown self.old) (shown self.new) }
         ensures cause { IsErrOf result DiskError.Failed
             → Rose (shown self.old).faults (shown self.new).faults }
+        ensures once { IsErrOf result DiskError.Failed
+            → RoseByOne (shown self.old).faults (shown self.new).faults }
+        ensures memory_is_no_fault { IsErrOf result DiskError.NoMemory
+            → (shown self.new).faults ≡ (shown self.old).faults }
         ensures faults_stay { OnOk result ((shown self.new).faults ≡ (shown self.old).faults) }
         ensures faults_stay_or_rise { (shown self.old).faults ≤ (shown self.new).faults };
 
     /// Makes all that was written stand. From then on a crash leaves what a read gives.
     fn sync(&mut self) -> Result<(), DiskError>
+        ensures reads_stay { (shown self.new).reads ≡ (shown self.old).reads }
         ensures synced { OnOk result (IsTrue tells
             → held_now (shown self.new) ≡ synced (held_now (shown self.old))) }
         ensures stays { OnErr result
@@ -83,6 +94,10 @@ pub trait Disk {
         ensures time { IsTrue tells → Passes (shown self.old) (shown self.new) }
         ensures cause { IsErrOf result DiskError.Failed
             → Rose (shown self.old).faults (shown self.new).faults }
+        ensures once { IsErrOf result DiskError.Failed
+            → RoseByOne (shown self.old).faults (shown self.new).faults }
+        ensures memory_is_no_fault { IsErrOf result DiskError.NoMemory
+            → (shown self.new).faults ≡ (shown self.old).faults }
         ensures faults_stay { OnOk result ((shown self.new).faults ≡ (shown self.old).faults) }
         ensures faults_stay_or_rise { (shown self.old).faults ≤ (shown self.new).faults };
 }

@@ -3,9 +3,18 @@
 
 mod disk;
 mod file_disk;
+mod limits;
 mod mem_disk;
+mod opening;
 mod patch;
+mod raw_calls;
+mod raw_file;
+mod reads;
 
 pub use disk::{DISK_END, Disk, DiskError};
 pub use file_disk::FileDisk;
+pub use limits::disk_ends_as_defined;
 pub use mem_disk::MemDisk;
+pub use opening::Opening;
+pub use raw_calls::RawCalls;
+pub use raw_file::{HostFile, RawFile};

@@ -1,12 +1,13 @@
 ghost use Rattle.std.specs.Prelude.{◌≡◌, ◌+◌, ◌-◌, ◌^◌, ◌≤◌, ◌↔◌, ◌++◌, [], length, map, min, is_ok, IsTrue, IfOk, OnOk, OnErr, IsErrOf};
 ghost use Rattle.line_disk.specs.Memory.{span_of, left_by, spans_left};
-ghost use Rattle.line_io.specs.Faults.{Rose};
+ghost use Rattle.line_io.specs.Faults.{Rose, RoseByOne};
 
 use crate::disk::{DISK_END, Disk, DiskError};
 use crate::patch::{
     Copied, DiskCall, Patch, byte_after, byte_of, copy_patches, copy_writes, in_effect,
     settled_count,
 };
+use crate::reads::ReadLog;
 use std::alloc::{AllocError, Global};
 
 /// A disk in memory, zeros at first. It keeps each call but those that found no memory, so it can tell what a crash
@@ -18,11 +19,13 @@ pub struct MemDisk {
     calls: Vec<DiskCall>,
     failing: Vec<u32>,
     faults: u64,
+    reads: ReadLog,
 }
 
 impl MemDisk {
-    ghost use Rattle.line_disk.specs.DiskView.{MayLeave, bytes_at, held_now};
-    ghost use Rattle.line_disk.specs.MemDisk.{mem_view, IsDue, held_during, crash_image};
+    ghost use Rattle.std.specs.Prelude.{IsErr};
+    ghost use Rattle.line_disk.specs.DiskView.{MayLeave, Passes, bytes_at, held_now};
+    ghost use Rattle.line_disk.specs.MemDisk.{mem_view, IsDue, Counts, CountsNone, held_during, crash_image};
 
     /// A disk of zeros. The calls whose numbers, from 1, are in `failing` fail. It takes no memory.
     pub fn new(alloc: Global, failing: Vec<u32>) -> MemDisk
@@ -30,6 +33,7 @@ impl MemDisk {
         ensures no_call { result.calls.items ≡ [] }
         ensures failing { result.failing.items ≡ failing.items }
         ensures no_fault { result.faults ≡ 0 }
+        ensures no_read { (mem_view result).reads ≡ [] }
     {
         MemDisk {
             alloc,
@@ -37,6 +41,7 @@ impl MemDisk {
             calls: Vec::new(alloc),
             failing,
             faults: 0,
+            reads: ReadLog::new(),
         }
     }
 
@@ -68,6 +73,7 @@ impl MemDisk {
             calls: Vec::new(self.alloc),
             failing: Vec::new(self.alloc),
             faults: 0,
+            reads: ReadLog::new(),
         })
     }
 
@@ -90,6 +96,34 @@ impl MemDisk {
             let first = byte_of(&self.first, at + i);
             bytes.push(byte_after(first, &self.calls, at + i))?;
         }
+        Ok(bytes)
+    }
+
+    /// What a read answers, which isn't noted.
+    fn answer_read(&mut self, alloc: Global, at: u64, len: u32) -> Result<Vec<u8>, DiskError>
+        requires inside { at + len ≤ DISK_END }
+        ensures reads_stay { (mem_view self.new).reads ≡ (mem_view self.old).reads }
+        ensures due { IsDue self.old → IsErr result }
+        ensures refused { IsErrOf result DiskError.Failed → IsDue self.old }
+        ensures failing_stays { self.new.failing.items ≡ self.old.failing.items }
+        ensures counted { ¬ (IsErrOf result DiskError.NoMemory)
+            → Counts self.old self.new DiskCall.Read }
+        ensures not_counted { IsErrOf result DiskError.NoMemory → CountsNone self.old self.new }
+        ensures count { IfOk result (λ v. length v.items ≡ len) }
+        ensures bytes { IfOk result
+            (λ v. v.items ≡ bytes_at (held_now (mem_view self.old)).bytes at len) }
+        ensures stays { held_now (mem_view self.new) ≡ held_now (mem_view self.old) }
+        ensures time { Passes (mem_view self.old) (mem_view self.new) }
+        ensures cause { IsErrOf result DiskError.Failed → Rose self.old.faults self.new.faults }
+        ensures once { IsErrOf result DiskError.Failed → RoseByOne self.old.faults self.new.faults }
+        ensures memory_is_no_fault { IsErrOf result DiskError.NoMemory → self.new.faults ≡ self.old.faults }
+        ensures faults_stay { OnOk result (self.new.faults ≡ self.old.faults) }
+        ensures faults_stay_or_rise { self.old.faults ≤ self.new.faults }
+    {
+        let failed = self.is_due();
+        let bytes = self.bytes_at(alloc, at, len)?;
+        self.calls.push(DiskCall::Read)?;
+        answer(&mut self.faults, failed)?;
         Ok(bytes)
     }
 }
@@ -134,6 +168,7 @@ fn answer(faults: &mut u64, failed: bool) -> Result<(), DiskError>
     ensures failed { IsTrue failed ↔ IsErrOf result DiskError.Failed }
     ensures never_no_memory { ¬ (IsErrOf result DiskError.NoMemory) }
     ensures cause { IsErrOf result DiskError.Failed → Rose faults.old faults.new }
+    ensures once { IsErrOf result DiskError.Failed → RoseByOne faults.old faults.new }
     ensures stays { OnOk result (faults.new ≡ faults.old) }
     ensures faults_stay_or_rise { faults.old ≤ faults.new }
 {
@@ -145,8 +180,8 @@ fn answer(faults: &mut u64, failed: bool) -> Result<(), DiskError>
 }
 
 impl Disk for MemDisk {
-    ghost use Rattle.std.specs.Prelude.{true, IsErr};
-    ghost use Rattle.line_disk.specs.DiskView.{Passes, Torn, held_now, written, synced, bytes_at};
+    ghost use Rattle.std.specs.Prelude.{true, IsErr, ◌∷◌};
+    ghost use Rattle.line_disk.specs.DiskView.{Passes, Torn, disk_read, held_now, written, synced, bytes_at};
     ghost use Rattle.line_disk.specs.MemDisk.{mem_view, IsDue, Counts, CountsWrite, CountsNone};
 
     ghost tells = { true };
@@ -155,6 +190,7 @@ impl Disk for MemDisk {
 
     fn read(&mut self, alloc: Global, at: u64, len: u32) -> Result<Vec<u8>, DiskError>
         requires inside { at + len ≤ DISK_END }
+        ensures recorded { (mem_view self.new).reads ≡ (mem_view self.old).reads ++ disk_read at len result ∷ [] }
         ensures due { IsDue self.old → IsErr result }
         ensures refused { IsErrOf result DiskError.Failed → IsDue self.old }
         ensures failing_stays { self.new.failing.items ≡ self.old.failing.items }
@@ -167,18 +203,18 @@ impl Disk for MemDisk {
         ensures stays { held_now (mem_view self.new) ≡ held_now (mem_view self.old) }
         ensures time { Passes (mem_view self.old) (mem_view self.new) }
         ensures cause { IsErrOf result DiskError.Failed → Rose self.old.faults self.new.faults }
+        ensures once { IsErrOf result DiskError.Failed → RoseByOne self.old.faults self.new.faults }
+        ensures memory_is_no_fault { IsErrOf result DiskError.NoMemory → self.new.faults ≡ self.old.faults }
         ensures faults_stay { OnOk result (self.new.faults ≡ self.old.faults) }
         ensures faults_stay_or_rise { self.old.faults ≤ self.new.faults }
     {
-        let failed = self.is_due();
-        let bytes = self.bytes_at(alloc, at, len)?;
-        self.calls.push(DiskCall::Read)?;
-        answer(&mut self.faults, failed)?;
-        Ok(bytes)
+        let answer = self.answer_read(alloc, at, len);
+        self.reads.note(at, len, answer)
     }
 
     fn write_at(&mut self, at: u64, bytes: &[u8]) -> Result<(), DiskError>
         requires inside { at + length bytes.now ≤ DISK_END }
+        ensures reads_stay { (mem_view self.new).reads ≡ (mem_view self.old).reads }
         ensures due { IsDue self.old → IsErr result }
         ensures refused { IsErrOf result DiskError.Failed → IsDue self.old }
         ensures failing_stays { self.new.failing.items ≡ self.old.failing.items }
@@ -194,6 +230,8 @@ impl Disk for MemDisk {
             → held_now (mem_view self.new) ≡ held_now (mem_view self.old) }
         ensures time { Passes (mem_view self.old) (mem_view self.new) }
         ensures cause { IsErrOf result DiskError.Failed → Rose self.old.faults self.new.faults }
+        ensures once { IsErrOf result DiskError.Failed → RoseByOne self.old.faults self.new.faults }
+        ensures memory_is_no_fault { IsErrOf result DiskError.NoMemory → self.new.faults ≡ self.old.faults }
         ensures faults_stay { OnOk result (self.new.faults ≡ self.old.faults) }
         ensures faults_stay_or_rise { self.old.faults ≤ self.new.faults }
     {
@@ -210,6 +248,7 @@ impl Disk for MemDisk {
     }
 
     fn sync(&mut self) -> Result<(), DiskError>
+        ensures reads_stay { (mem_view self.new).reads ≡ (mem_view self.old).reads }
         ensures due { IsDue self.old → IsErr result }
         ensures refused { IsErrOf result DiskError.Failed → IsDue self.old }
         ensures failing_stays { self.new.failing.items ≡ self.old.failing.items }
@@ -221,6 +260,8 @@ impl Disk for MemDisk {
         ensures stays { OnErr result (held_now (mem_view self.new) ≡ held_now (mem_view self.old)) }
         ensures time { Passes (mem_view self.old) (mem_view self.new) }
         ensures cause { IsErrOf result DiskError.Failed → Rose self.old.faults self.new.faults }
+        ensures once { IsErrOf result DiskError.Failed → RoseByOne self.old.faults self.new.faults }
+        ensures memory_is_no_fault { IsErrOf result DiskError.NoMemory → self.new.faults ≡ self.old.faults }
         ensures faults_stay { OnOk result (self.new.faults ≡ self.old.faults) }
         ensures faults_stay_or_rise { self.old.faults ≤ self.new.faults }
     {

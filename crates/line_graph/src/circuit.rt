@@ -27,7 +27,7 @@ fn stations_along(alloc: Global, graph: &Graph, arcs: &[u32]) -> Result<Vec<u32>
 {
     let mut stations = Vec::with_capacity(alloc, arcs.len())?;
     for a in arcs {
-        stations.push(graph.arcs()[*a as usize].from)?;
+        stations.push(graph.arc(*a).from)?;
     }
     Ok(stations)
 }

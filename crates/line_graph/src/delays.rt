@@ -6,7 +6,7 @@ ghost use Rattle.plant_model.specs.Graph.{delays_of, policy_rows};
 use plant_model::{CardLoop, Plant, Policy, Stage};
 use std::alloc::{AllocError, Global};
 
-/// The delays of the policy's arcs, of which there are so many: those of cards on their way back.
+/// The delays of the policy's arcs, of which there are this many: those of cards on their way back.
 pub(crate) fn policy_delays(
     alloc: Global,
     plant: &Plant,
@@ -23,7 +23,7 @@ pub(crate) fn policy_delays(
     }
 }
 
-/// The same delay so many times.
+/// The same delay this many times.
 fn repeated(alloc: Global, delay: u64, count: usize) -> Result<Vec<u64>, AllocError>
     ensures { IfOk result (λ delays. delays.items ≡ replicate count delay) }
 {

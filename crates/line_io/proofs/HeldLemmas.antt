@@ -1,5 +1,5 @@
 -- What a store in memory keeps, after one more name or one more file.
-use Rattle.std.proofs.Common.{◌≡◌, ◌≢◌, ℕ, ◌+◌, ◌≤◌, List, [], ◌∷◌, ◌++◌, false, cond, Vec, String, string_bytes, refl, arith}
+use Rattle.std.proofs.Common.{◌≡◌, ◌≢◌, ℕ, ◌+◌, ◌≤◌, List, [], ◌∷◌, ◌++◌, Bool, true, false, cond, Vec, String, string_bytes, refl, arith}
 use Rattle.std.specs.declared.alloc.Global.{Global}
 use Rattle.std.specs.Str.{bytes_eq}
 use Rattle.std.proofs.lemmas.List.Sums.{sum_by_push}
@@ -29,3 +29,12 @@ times_noted_push_other old new text pushed name apart =
 pub times_noted_push_rises : (old new : Vec (String Global) Global) (text : String Global) → new.items ≡ old.items ++ text ∷ [] → (name : List ℕ) → times_noted old name ≤ times_noted new name
 times_noted_push_rises old new text pushed name =
     omega (arith, times_noted_step old new text pushed name)
+
+-- and each rises by one at most
+at_most_one : (b : Bool) → cond b 1 0 ≤ 1
+at_most_one true = omega arith
+at_most_one false = omega arith
+
+pub times_noted_push_by_one : (old new : Vec (String Global) Global) (text : String Global) → new.items ≡ old.items ++ text ∷ [] → (name : List ℕ) → times_noted new name ≤ times_noted old name + 1
+times_noted_push_by_one old new text pushed name =
+    omega (arith, times_noted_step old new text pushed name, at_most_one (bytes_eq name (string_bytes text)))

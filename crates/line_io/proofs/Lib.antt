@@ -1,4 +1,5 @@
 pub mod Digits
 pub mod HeldLemmas
 pub mod OutgoingLemmas
+pub mod RawOutLemmas
 pub mod WrittenLemmas

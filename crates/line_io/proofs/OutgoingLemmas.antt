@@ -1,7 +1,7 @@
 -- Bytes that are given to a sink and the buffer before it, one part after another.
 use Rattle.std.proofs.Common.{◌≡◌, ◌≤◌, ℕ, List, [], ◌++◌, Bool, true, false, Result, Ok, Err, OnOk, OnErr, is_err, refl, sym, ap, ◌∙◌, append_assoc, append-nil, arith}
 use Rattle.std.proofs.lemmas.Bool.{false≢true}
-use Rattle.line_io.specs.SinkView.{SinkView, PutsAll, PutsFront, WritesText}
+use Rattle.line_io.specs.SinkView.{SinkView, PutsAll, PutsPrefix, WritesText}
 use Rattle.line_io.specs.Faults.{Rose}
 use Rattle.line_io.specs.Outgoing.{Stream, Pushed}
 use Rattle.line_io.proofs.WrittenLemmas.{puts_none, puts_all_after}
@@ -78,7 +78,7 @@ pushed_dropped sink pending later = record {
 }
 
 -- a front of what waits is sent, and the sink answers
-pub pushed_sent : {T E : Type 0} (old new : SinkView) (pending front rest : List ℕ) (r : Result T E) → pending ≡ front ++ rest → OnOk r (PutsAll old new front) → OnErr r (PutsFront old new front) → OnErr r (Rose old.faults new.faults) → old.faults ≤ new.faults → Pushed (record { sink = old; pending = pending; failed = false }) (record { sink = new; pending = rest; failed = is_err r }) []
+pub pushed_sent : {T E : Type 0} (old new : SinkView) (pending front rest : List ℕ) (r : Result T E) → pending ≡ front ++ rest → OnOk r (PutsAll old new front) → OnErr r (PutsPrefix old new front) → OnErr r (Rose old.faults new.faults) → old.faults ≤ new.faults → Pushed (record { sink = old; pending = pending; failed = false }) (record { sink = new; pending = rest; failed = is_err r }) []
 pushed_sent old new pending front rest (Ok x) split all some cause later = record {
   sent = front;
   rest = rest;
@@ -128,7 +128,7 @@ put_on_ok {text = text} new (Ok x) none well p q =
 put_on_ok new (Err e) none well p q = tt
 
 -- at `Err` a front of it
-pub front_on_err : {T E : Type 0} {a b : Stream} {text : List ℕ} (new : SinkView) (r : Result T E) → a.pending ≡ [] → a.failed ≡ false → Pushed a b text → Pushed b (record { sink = new; pending = []; failed = is_err r }) [] → OnErr r (PutsFront a.sink new text)
+pub front_on_err : {T E : Type 0} {a b : Stream} {text : List ℕ} (new : SinkView) (r : Result T E) → a.pending ≡ [] → a.failed ≡ false → Pushed a b text → Pushed b (record { sink = new; pending = []; failed = is_err r }) [] → OnErr r (PutsPrefix a.sink new text)
 front_on_err new (Ok x) none well p q = tt
 front_on_err {text = text} new (Err e) none well p q =
     let end = pushed_then_none p q in

@@ -1,4 +1,4 @@
--- Appends one after another, and fronts of them. What was written stands here as a list, as `PutsAll` and `PutsFront` read it.
+-- Appends one after another, and fronts of them. What was written stands here as a list, as `PutsAll` and `PutsPrefix` read it.
 use Rattle.std.proofs.Common.{◌≡◌, ℕ, List, [], ◌++◌, take, drop, sym, ap, append_assoc, append-nil}
 use Rattle.std.proofs.lemmas.List.{take-append-drop}
 
@@ -6,11 +6,11 @@ use Rattle.std.proofs.lemmas.List.{take-append-drop}
 abbrev pub Appends : List ℕ → List ℕ → List ℕ → Type 0
 Appends old new bytes = new ≡ old ++ bytes
 
-abbrev pub AppendsFront : List ℕ → List ℕ → List ℕ → Type 0
-AppendsFront old new bytes = (front rest : List ℕ) × (bytes ≡ front ++ rest) × Appends old new front
+abbrev pub AppendsPrefix : List ℕ → List ℕ → List ℕ → Type 0
+AppendsPrefix old new bytes = (front rest : List ℕ) × (bytes ≡ front ++ rest) × Appends old new front
 
 -- the first n bytes are a front of them
-pub puts_front_of_take : (old new bytes : List ℕ) (n : ℕ) → Appends old new (take n bytes) → AppendsFront old new bytes
+pub puts_front_of_take : (old new bytes : List ℕ) (n : ℕ) → Appends old new (take n bytes) → AppendsPrefix old new bytes
 puts_front_of_take old new bytes n puts =
     (take n bytes, drop n bytes, sym (take-append-drop n bytes), puts)
 
@@ -24,11 +24,11 @@ puts_all_after old between new xs ys first next =
     rw (next, first) (append_assoc old xs ys)
 
 -- an append, and then a front of the next
-pub puts_front_after : (old between new xs ys : List ℕ) → Appends old between xs → AppendsFront between new ys → AppendsFront old new (xs ++ ys)
+pub puts_front_after : (old between new xs ys : List ℕ) → Appends old between xs → AppendsPrefix between new ys → AppendsPrefix old new (xs ++ ys)
 puts_front_after old between new xs ys first next =
     (xs ++ next.0, next.1, rw append_assoc (ap (λ rest. xs ++ rest) next.2), puts_all_after old between new xs next.0 first next.3)
 
 -- a front of some bytes is a front of more
-pub puts_front_longer : (old new xs ys : List ℕ) → AppendsFront old new xs → AppendsFront old new (xs ++ ys)
+pub puts_front_longer : (old new xs ys : List ℕ) → AppendsPrefix old new xs → AppendsPrefix old new (xs ++ ys)
 puts_front_longer old new xs ys front =
     (front.0, front.1 ++ ys, rw (← append_assoc) (ap (λ bytes. bytes ++ ys) front.2), front.3)

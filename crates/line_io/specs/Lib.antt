@@ -8,5 +8,6 @@ pub mod Left
 pub mod Machine
 pub mod Memory
 pub mod Outgoing
+pub mod RawOut
 pub mod SinkView
 pub mod StoreView

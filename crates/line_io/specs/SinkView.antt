@@ -12,17 +12,23 @@ pub record IsBlank (v : SinkView) : Type 0 where
   pub nothing_written : v.written ≡ []
   pub no_fault : v.faults ≡ 0
 
--- these bytes were appended
-abbrev pub PutsAll : SinkView → SinkView → List ℕ → Type 0
-PutsAll old new bytes = new.written ≡ old.written ++ bytes
+-- these bytes were appended to what was written, or some prefix of them
+abbrev pub Appends : List ℕ → List ℕ → List ℕ → Type 0
+Appends old new bytes = new ≡ old ++ bytes
 
--- some front of these bytes was appended
-abbrev pub PutsFront : SinkView → SinkView → List ℕ → Type 0
-PutsFront old new bytes = (front rest : List ℕ) × (bytes ≡ front ++ rest) × PutsAll old new front
+abbrev pub AppendsPrefix : List ℕ → List ℕ → List ℕ → Type 0
+AppendsPrefix old new bytes = (prefix rest : List ℕ) × (bytes ≡ prefix ++ rest) × Appends old new prefix
+
+-- the same of a sink
+abbrev pub PutsAll : SinkView → SinkView → List ℕ → Type 0
+PutsAll old new bytes = Appends old.written new.written bytes
+
+abbrev pub PutsPrefix : SinkView → SinkView → List ℕ → Type 0
+PutsPrefix old new bytes = AppendsPrefix old.written new.written bytes
 
 -- a text was written to a sink: all of it, or a front of it where the sink failed, and then its count of faults rose
 pub record WritesText {T E : Type 0} (old new : SinkView) (text : List ℕ) (result : Result T E) : Type 0 where
   pub written : OnOk result (PutsAll old new text)
-  pub front : OnErr result (PutsFront old new text)
+  pub front : OnErr result (PutsPrefix old new text)
   pub cause : OnErr result (Rose old.faults new.faults)
   pub faults_stay_or_rise : old.faults ≤ new.faults

@@ -4,8 +4,8 @@ ghost use Rattle.line_io.specs.Calls.{none_asked, after_read, after_write};
 ghost use Rattle.line_io.specs.Noted.{asked_of};
 
 use crate::store::StoreError;
+use line_base::Transcript;
 use std::marker::Model;
-use transcript::Transcript;
 
 /// Names to a transcript what contracts see of a read. No value of it is made.
 #[derive(Drop)]
@@ -60,7 +60,7 @@ impl Calls {
         ensures same { result ≡ answer }
         ensures noted { asked_of self.new ≡ after_read (asked_of self.old) name.now result }
     {
-        self.reads = Transcript::told(&(&self.reads, name.as_bytes(), &answer));
+        self.reads = Transcript::of(&(&self.reads, name.as_bytes(), &answer));
         answer
     }
 
@@ -74,7 +74,7 @@ impl Calls {
         ensures same { result ≡ answer }
         ensures noted { asked_of self.new ≡ after_write (asked_of self.old) name.now bytes.now result }
     {
-        self.writes = Transcript::told(&(&self.writes, name.as_bytes(), bytes, &answer));
+        self.writes = Transcript::of(&(&self.writes, name.as_bytes(), bytes, &answer));
         answer
     }
 }

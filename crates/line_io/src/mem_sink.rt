@@ -61,9 +61,9 @@ impl MemSink {
 impl Sink for MemSink {
     ghost use Rattle.std.specs.Prelude.{◌<◌, ◌↔◌, ◌⊎◌, IsErr, OnOk, OnErr};
     ghost use Rattle.line_io.specs.FailPlans.{IsDue, Counts};
-    ghost use Rattle.line_io.specs.Faults.{Rose};
+    ghost use Rattle.line_io.specs.Faults.{Rose, RoseByOne};
     ghost use Rattle.line_io.specs.Memory.{sink_view, sink_plan, room_left, kept_of, IsMadeAlike};
-    ghost use Rattle.line_io.specs.SinkView.{PutsAll, PutsFront};
+    ghost use Rattle.line_io.specs.SinkView.{PutsAll, PutsPrefix};
 
     ghost shown = { sink_view };
 
@@ -73,8 +73,9 @@ impl Sink for MemSink {
         ensures counted { Counts (sink_plan self.old) (sink_plan self.new) }
         ensures made_alike { IsMadeAlike self.old self.new }
         ensures appended { OnOk result (PutsAll (sink_view self.old) (sink_view self.new) piece.now) }
-        ensures front { OnErr result (PutsFront (sink_view self.old) (sink_view self.new) piece.now) }
+        ensures front { OnErr result (PutsPrefix (sink_view self.old) (sink_view self.new) piece.now) }
         ensures cause { OnErr result (Rose (sink_view self.old).faults (sink_view self.new).faults) }
+        ensures once { OnErr result (RoseByOne (sink_view self.old).faults (sink_view self.new).faults) }
         ensures faults_stay { OnOk result ((sink_view self.new).faults ≡ (sink_view self.old).faults) }
         ensures faults_stay_or_rise { (sink_view self.old).faults ≤ (sink_view self.new).faults }
     {

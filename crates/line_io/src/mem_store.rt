@@ -1,8 +1,8 @@
 ghost use Rattle.std.specs.Bool.{OnTrue, OnFalse};
-ghost use Rattle.std.specs.Prelude.{◌≡◌, ◌≢◌, ◌+◌, ◌≤◌, ◌<◌, ◌↔◌, ◌⊎◌, List, ℕ, Some, None, length, IfOk, OnOk, OnErr, IsErr, IsErrOf, option_map, true};
+ghost use Rattle.std.specs.Prelude.{◌≡◌, ◌≢◌, ◌+◌, ◌≤◌, ◌<◌, ◌↔◌, ◌⊎◌, List, ℕ, Some, None, length, string_bytes, vec_len, vec_capacity, IfOk, OnOk, OnErr, IsErr, IsErrOf, option_map, true};
 ghost use Rattle.line_io.specs.Calls.{none_asked};
 ghost use Rattle.line_io.specs.Contents.{SameFiles, OthersStay, IsTorn};
-ghost use Rattle.line_io.specs.Faults.{Rose, NeverFall, SameFaults};
+ghost use Rattle.line_io.specs.Faults.{Rose, NeverFall, RiseByOneAtMost, SameFaults};
 ghost use Rattle.line_io.specs.Held.{contents, times_noted, NotesOnce};
 ghost use Rattle.line_io.specs.Left.{left_by};
 
@@ -40,14 +40,25 @@ fn set_file(alloc: Global, files: &mut Files, name: &str, bytes: &[u8]) -> Resul
     Ok(())
 }
 
-/// Notes a fault at this name.
-fn note(alloc: Global, faults: &mut Vec<String>, name: &str) -> Result<(), AllocError>
-    ensures noted { OnOk result (NotesOnce faults.old faults.new name.now) }
-    ensures stays_or_rises { NeverFall (times_noted faults.old) (times_noted faults.new) }
-    ensures no_memory { OnErr result (faults.new.items ≡ faults.old.items) }
+/// Makes room for one more fault, and gives the name that is to be noted.
+fn prepare(alloc: Global, faults: &mut Vec<String>, name: &str) -> Result<String, AllocError>
+    ensures name { IfOk result (λ text. string_bytes text ≡ name.now) }
+    ensures room { OnOk result (vec_len faults.new < vec_capacity faults.new) }
+    ensures counts { SameFaults (times_noted faults.old) (times_noted faults.new) }
 {
-    faults.push(String::from_str(alloc, name)?)?;
-    Ok(())
+    let text = String::from_str(alloc, name)?;
+    faults.reserve(1)?;
+    Ok(text)
+}
+
+/// Notes a fault at this name, for which there is room.
+fn note(faults: &mut Vec<String>, text: String)
+    requires { vec_len faults.old < vec_capacity faults.old }
+    ensures noted { NotesOnce faults.old faults.new (string_bytes text) }
+    ensures stays_or_rises { NeverFall (times_noted faults.old) (times_noted faults.new) }
+    ensures rises_by_one { RiseByOneAtMost (times_noted faults.old) (times_noted faults.new) }
+{
+    faults.push_reserved(text);
 }
 
 impl MemStore {
@@ -116,6 +127,7 @@ fn copy_to_limit(
     ensures within_limit { IfOk result (λ v. length v.items ≤ limit) }
     ensures too_long { IsErrOf result StoreError.TooLong ↔ (limit < taken.new) }
     ensures longer { IsErrOf result StoreError.TooLong → limit < length bytes.now }
+    ensures one_more_at_most { taken.new ≤ limit + 1 }
     ensures never_failed { ¬ (IsErrOf result StoreError.Failed) }
 {
     let len = bytes.len() as u64;
@@ -134,8 +146,12 @@ fn refuse(alloc: Global, faults: &mut Vec<String>, name: &str) -> Result<Vec<u8>
     ensures cause { IsErrOf result StoreError.Failed
         → Rose (times_noted faults.old name.now) (times_noted faults.new name.now) }
     ensures stays_or_rises { NeverFall (times_noted faults.old) (times_noted faults.new) }
+    ensures rises_by_one { RiseByOneAtMost (times_noted faults.old) (times_noted faults.new) }
+    ensures memory_is_no_fault { IsErrOf result StoreError.NoMemory
+        → SameFaults (times_noted faults.old) (times_noted faults.new) }
 {
-    note(alloc, faults, name)?;
+    let text = prepare(alloc, faults, name)?;
+    note(faults, text);
     Err(StoreError::Failed)
 }
 
@@ -170,12 +186,18 @@ fn break_off(
     ensures cause { IsErrOf result StoreError.Failed
         → Rose (times_noted faults.old name.now) (times_noted faults.new name.now) }
     ensures stays_or_rises { NeverFall (times_noted faults.old) (times_noted faults.new) }
+    ensures rises_by_one { RiseByOneAtMost (times_noted faults.old) (times_noted faults.new) }
+    ensures memory_is_no_fault { IsErrOf result StoreError.NoMemory
+        → SameFaults (times_noted faults.old) (times_noted faults.new) }
 {
-    note(alloc, faults, name)?;
-    if let Some(keep) = keep {
-        let front = &bytes[..bytes.len().min(keep as usize)];
-        set_file(alloc, files, name, front)?;
-    }
+    let text = prepare(alloc, faults, name)?;
+    let Some(keep) = keep else {
+        note(faults, text);
+        return Err(StoreError::Failed);
+    };
+    let front = &bytes[..bytes.len().min(keep as usize)];
+    set_file(alloc, files, name, front)?;
+    note(faults, text);
     Err(StoreError::Failed)
 }
 
@@ -200,6 +222,8 @@ impl Store for MemStore {
         ensures within_limit { IfOk result (λ v. length v.items ≤ limit) }
         ensures took_them { IfOk result (λ v. (store_view self.new).taken ≡ length v.items) }
         ensures too_long { IsErrOf result StoreError.TooLong ↔ (limit < (store_view self.new).taken) }
+        ensures one_more_at_most { (store_view self.new).taken ≤ limit + 1 }
+        ensures fault_takes_none { IsErrOf result StoreError.Failed → (store_view self.new).taken ≡ 0 }
         ensures longer { IsErrOf result StoreError.TooLong → IsLongerThan limit ((store_view self.old).files name.now) }
         ensures cause { IsErrOf result StoreError.Failed
             → Rose ((store_view self.old).read_faults name.now) ((store_view self.new).read_faults name.now) }
@@ -209,6 +233,10 @@ impl Store for MemStore {
         ensures read_faults_stay_or_rise { NeverFall (store_view self.old).read_faults
             (store_view self.new).read_faults }
         ensures write_faults_stay { failed_writes self.new ≡ failed_writes self.old }
+        ensures read_faults_rise_by_one { RiseByOneAtMost (store_view self.old).read_faults
+            (store_view self.new).read_faults }
+        ensures memory_is_no_read_fault { IsErrOf result StoreError.NoMemory
+            → SameFaults (store_view self.old).read_faults (store_view self.new).read_faults }
     {
         self.taken = 0;
         let is_due = self.plan.next();
@@ -247,6 +275,10 @@ impl Store for MemStore {
             (SameFaults (store_view self.old).write_faults (store_view self.new).write_faults) }
         ensures write_faults_stay_or_rise { NeverFall (store_view self.old).write_faults
             (store_view self.new).write_faults }
+        ensures write_faults_rise_by_one { RiseByOneAtMost (store_view self.old).write_faults
+            (store_view self.new).write_faults }
+        ensures memory_is_no_write_fault { IsErrOf result StoreError.NoMemory
+            → SameFaults (store_view self.old).write_faults (store_view self.new).write_faults }
     {
         if self.plan.next() {
             let answer = break_off(

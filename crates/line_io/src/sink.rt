@@ -1,6 +1,6 @@
 ghost use Rattle.std.specs.Prelude.{◌≡◌, ◌<◌, ◌≤◌, length, OnOk, OnErr};
-ghost use Rattle.line_io.specs.Faults.{Rose};
-ghost use Rattle.line_io.specs.SinkView.{SinkView, PutsAll, PutsFront};
+ghost use Rattle.line_io.specs.Faults.{Rose, RoseByOne};
+ghost use Rattle.line_io.specs.SinkView.{SinkView, PutsAll, PutsPrefix};
 
 use thiserror::Error;
 
@@ -14,17 +14,17 @@ pub struct Failed;
 
 /// Where bytes go that are printed, one piece after another.
 pub trait Sink {
-    /// What was written, and how many pieces were refused. Over standard output what was written is the pieces that were
-    /// accepted, since nothing tells what the machine did with one that it refused.
+    /// What was written, and how many pieces were refused. Over standard output what was written is what the machine took.
     ghost shown: { Self → SinkView };
 
-    /// Appends a piece of 1 to 4,096 bytes, or after `Failed` a front of it. It takes no memory.
+    /// Appends a piece of 1 to 4,096 bytes, or after `Failed` a prefix of it. It takes no memory.
     fn put(&mut self, piece: &[u8]) -> Result<(), Failed>
         requires some { 0 < length piece.now }
         requires short { length piece.now ≤ MAX_PIECE }
         ensures appended { OnOk result (PutsAll (shown self.old) (shown self.new) piece.now) }
-        ensures front { OnErr result (PutsFront (shown self.old) (shown self.new) piece.now) }
+        ensures front { OnErr result (PutsPrefix (shown self.old) (shown self.new) piece.now) }
         ensures cause { OnErr result (Rose (shown self.old).faults (shown self.new).faults) }
+        ensures once { OnErr result (RoseByOne (shown self.old).faults (shown self.new).faults) }
         ensures faults_stay { OnOk result ((shown self.new).faults ≡ (shown self.old).faults) }
         ensures faults_stay_or_rise { (shown self.old).faults ≤ (shown self.new).faults };
 }

@@ -1,7 +1,7 @@
-ghost use Rattle.std.specs.Prelude.{◌≡◌, ◌<◌, ◌≤◌, ◌↔◌, Bool, Some, length, IsTrue, IfOk, OnOk, IsErrOf};
+ghost use Rattle.std.specs.Prelude.{◌≡◌, ◌<◌, ◌≤◌, ◌↔◌, ◌+◌, Bool, Some, length, IsTrue, IfOk, OnOk, IsErrOf};
 ghost use Rattle.line_io.specs.Calls.{after_read, after_write};
 ghost use Rattle.line_io.specs.Contents.{SameFiles, OthersStay, IsTorn, IsLongerThan};
-ghost use Rattle.line_io.specs.Faults.{Rose, NeverFall, SameFaults};
+ghost use Rattle.line_io.specs.Faults.{Rose, NeverFall, RiseByOneAtMost, SameFaults};
 ghost use Rattle.line_io.specs.StoreView.{StoreView};
 ghost use Rattle.line_io.specs.declared.store.StoreError.{StoreError};
 
@@ -46,6 +46,7 @@ pub trait Store {
         ensures within_limit { IfOk result (λ v. length v.items ≤ limit) }
         ensures took_them { IfOk result (λ v. (shown self.new).taken ≡ length v.items) }
         ensures too_long { IsErrOf result StoreError.TooLong ↔ (limit < (shown self.new).taken) }
+        ensures one_more_at_most { (shown self.new).taken ≤ limit + 1 }
         ensures longer { IsErrOf result StoreError.TooLong → IsTrue tells
             → IsLongerThan limit ((shown self.old).files name.now) }
         ensures cause { IsErrOf result StoreError.Failed
@@ -56,9 +57,15 @@ pub trait Store {
         ensures write_faults_stay { OnOk result
             (SameFaults (shown self.old).write_faults (shown self.new).write_faults) }
         ensures read_faults_stay_or_rise { NeverFall (shown self.old).read_faults (shown self.new).read_faults }
-        ensures write_faults_stay_or_rise { NeverFall (shown self.old).write_faults (shown self.new).write_faults };
+        ensures write_faults_stay_or_rise { NeverFall (shown self.old).write_faults (shown self.new).write_faults }
+        ensures read_faults_rise_by_one { RiseByOneAtMost (shown self.old).read_faults (shown self.new).read_faults }
+        ensures write_faults_rise_by_one { RiseByOneAtMost (shown self.old).write_faults (shown self.new).write_faults }
+        ensures memory_is_no_read_fault { IsErrOf result StoreError.NoMemory
+            → SameFaults (shown self.old).read_faults (shown self.new).read_faults }
+        ensures memory_is_no_write_fault { IsErrOf result StoreError.NoMemory
+            → SameFaults (shown self.old).write_faults (shown self.new).write_faults };
 
-    /// Gives a file these bytes, whether it was there or not. After `Failed` it may hold a front of
+    /// Gives a file these bytes, whether it was there or not. After `Failed` it may hold a prefix of
     /// them.
     fn write(&mut self, name: &str, bytes: &[u8]) -> Result<(), StoreError>
         ensures told { (shown self.new).asked
@@ -78,5 +85,11 @@ pub trait Store {
         ensures write_faults_stay { OnOk result
             (SameFaults (shown self.old).write_faults (shown self.new).write_faults) }
         ensures read_faults_stay_or_rise { NeverFall (shown self.old).read_faults (shown self.new).read_faults }
-        ensures write_faults_stay_or_rise { NeverFall (shown self.old).write_faults (shown self.new).write_faults };
+        ensures write_faults_stay_or_rise { NeverFall (shown self.old).write_faults (shown self.new).write_faults }
+        ensures read_faults_rise_by_one { RiseByOneAtMost (shown self.old).read_faults (shown self.new).read_faults }
+        ensures write_faults_rise_by_one { RiseByOneAtMost (shown self.old).write_faults (shown self.new).write_faults }
+        ensures memory_is_no_read_fault { IsErrOf result StoreError.NoMemory
+            → SameFaults (shown self.old).read_faults (shown self.new).read_faults }
+        ensures memory_is_no_write_fault { IsErrOf result StoreError.NoMemory
+            → SameFaults (shown self.old).write_faults (shown self.new).write_faults };
 }

@@ -13,7 +13,7 @@ use Rattle.line_core.proofs.Bounds.{fired-le}
 use Rattle.line_core.proofs.Consistency.{reached_is_consistent}
 use Rattle.line_workers.specs.Line.{WorkLine, IsLine}
 use Rattle.line_runs.specs.Bursts.{IsBurst, IsDone}
-use Rattle.line_runs.specs.Stop.{all_firings}
+use Rattle.line_runs.specs.AllFirings.{all_firings}
 
 -- where no list has more than n members, and all together have as many as that allows, each has n
 all_full : (n : ℕ) (xs : List (List ℕ)) → All (λ x. length x ≤ n) xs → length xs * n ≤ sum_by length xs → (t : ℕ) → t < length xs → length (get_or xs t []) ≡ n

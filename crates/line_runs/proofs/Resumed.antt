@@ -8,7 +8,7 @@ use Rattle.line_core.specs.Run.{Run, IsReached}
 use Rattle.checkpoint.specs.declared.format.Format.TheVariants.{Differences}
 use Rattle.checkpoint.specs.Text.{text}
 use Rattle.line_runs.specs.Resume.{IsCheckpoint}
-use Rattle.line_runs.specs.Stop.{all_firings}
+use Rattle.line_runs.specs.AllFirings.{all_firings}
 use Rattle.line_runs.specs.Headline.{ResumesToLeast, MayBeResumed}
 
 -- the text of a reached state is a checkpoint

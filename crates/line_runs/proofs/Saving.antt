@@ -14,7 +14,7 @@ use Rattle.slot_store.specs.Layout.{content}
 use Rattle.slot_store.specs.Crash.{CouldLeave, IsOldOrNew}
 use Rattle.line_workers.specs.Line.{WorkLine, IsLine, run_in}
 use Rattle.line_runs.specs.Bursts.{IsBurst, IsDone}
-use Rattle.line_runs.specs.Stop.{all_firings}
+use Rattle.line_runs.specs.AllFirings.{all_firings}
 use Rattle.line_runs.specs.Headline.{MayBeResumed}
 use Rattle.line_runs.specs.Store.{IsOver}
 use Rattle.line_runs.specs.Saves.{counted_from, IsDue, SavesWhenDue, begins, passes, saves, HoldsLast, IsSavedState, IsOldOrState, IsLateState, HasTooLongState, SavesIfDue}

@@ -11,7 +11,7 @@ use Rattle.slot_store.specs.Layout.{content}
 use Rattle.line_runs.specs.declared.error.ResumeError.{ResumeError}
 use Rattle.line_runs.specs.declared.error.ResumeError.TheVariants.{DiskFault, NoMemory}
 use Rattle.line_runs.specs.Resume.{Resumes}
-use Rattle.line_runs.specs.ResumeSlots.{ComesOfLoad, of_checkpoint_error, AnswersSaved, ResumesSlots}
+use Rattle.line_runs.specs.ResumeSlots.{AnswersLoad, of_checkpoint_error, AnswersSaved, ResumesSlots}
 
 -- a fault of the disk may be answered to anything, and want of memory too
 faults_anywhere : (g : Parts) (saved : Option (List ℕ)) → AnswersSaved g saved (Err DiskFault)
@@ -23,14 +23,14 @@ no_memory_anywhere g None = tt
 no_memory_anywhere g (Some bytes) = tt
 
 -- the slots were not read
-pub not_loaded : (tells : Bool) (image : Image) (room : ℕ) (g : Parts) (refusal : SlotError) (error : ResumeError) → ComesOfLoad refusal error → (refusal ≡ Slot.NoneSaved → IsTrue tells → content image room ≡ None) → ResumesSlots tells image room g (Err error)
+pub not_loaded : (tells : Bool) (image : Image) (room : ℕ) (g : Parts) (refusal : SlotError) (error : ResumeError) → AnswersLoad refusal error → (refusal ≡ Slot.NoneSaved → IsTrue tells → content image room ≡ None) → ResumesSlots tells image room g (Err error)
 not_loaded tells image room g Slot.NoneSaved error is none = rw is (record { saved = None; told = none refl; answers = tt })
 not_loaded tells image room g Slot.DiskFault error is none = rw is (record { saved = content image room; told = λ told. refl; answers = faults_anywhere g (content image room) })
 not_loaded tells image room g Slot.NoMemory error is none = rw is (record { saved = content image room; told = λ told. refl; answers = no_memory_anywhere g (content image room) })
 not_loaded tells image room g (Slot.TooLong have) error is none = absurd is
 
 -- a fault is told only where the load met one
-pub load_fault : (refusal : SlotError) (error : ResumeError) → ComesOfLoad refusal error → error ≡ DiskFault → refusal ≡ Slot.DiskFault
+pub load_fault : (refusal : SlotError) (error : ResumeError) → AnswersLoad refusal error → error ≡ DiskFault → refusal ≡ Slot.DiskFault
 load_fault Slot.NoneSaved error is fault = absurd (grind (arith, is, fault))
 load_fault Slot.DiskFault error is fault = refl
 load_fault Slot.NoMemory error is fault = absurd (grind (arith, is, fault))

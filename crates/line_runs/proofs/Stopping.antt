@@ -5,7 +5,8 @@ use Rattle.live_check.specs.Order.{LiveGraph}
 use Rattle.line_core.specs.Consistent.{fired}
 use Rattle.line_workers.specs.Line.{WorkLine, IsLine}
 use Rattle.line_runs.specs.Bursts.{IsBurst, IsDone, BurstsBelow, none, more}
-use Rattle.line_runs.specs.Stop.{all_firings, IsShort, IsStopAt}
+use Rattle.line_runs.specs.AllFirings.{all_firings}
+use Rattle.line_runs.specs.Stop.{IsShort, IsStopAt}
 use Rattle.line_runs.proofs.Firings.{undone_is_below, done_is_all}
 
 pub burst_live : (old new : WorkLine) → IsBurst old new → new.live ≡ old.live

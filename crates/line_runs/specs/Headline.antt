@@ -14,9 +14,9 @@ use Rattle.checkpoint.specs.declared.error.CheckpointError.{CheckpointError}
 use Rattle.checkpoint.specs.declared.error.CheckpointError.TheVariants.{NoMemory}
 use Rattle.checkpoint.specs.declared.format.Format.TheVariants.{Differences}
 use Rattle.checkpoint.specs.Text.{text}
-use Rattle.line_runs.specs.Table.{ComesToLeast}
+use Rattle.line_runs.specs.Table.{IsLeastOf}
 use Rattle.line_runs.specs.Resume.{Resumes}
-use Rattle.line_runs.specs.Stop.{all_firings}
+use Rattle.line_runs.specs.AllFirings.{all_firings}
 use Rattle.line_runs.specs.declared.stop.Outcome.{Outcome}
 use Rattle.line_runs.specs.declared.stop.Outcome.TheVariants.{Finished, Stopped}
 
@@ -24,7 +24,7 @@ use Rattle.line_runs.specs.declared.stop.Outcome.TheVariants.{Finished, Stopped}
 abbrev pub ResumesToLeast : Parts → State → Type 0
 ResumesToLeast g s =
     (answer : Result Dates CheckpointError) → Resumes g (text Differences g s) answer →
-    MatchResult answer (ComesToLeast g) (λ error. error ≡ NoMemory)
+    MatchResult answer (IsLeastOf g) (λ error. error ≡ NoMemory)
 
 -- a state in which a run may stop
 pub record MayBeResumed (g : Parts) (s : State) : Type 0 where
@@ -35,5 +35,5 @@ pub record MayBeResumed (g : Parts) (s : State) : Type 0 where
 
 -- how every run ends
 abbrev pub EndsWell : Parts → Outcome → Type 0
-EndsWell g (Finished d) = ComesToLeast g d
+EndsWell g (Finished d) = IsLeastOf g d
 EndsWell g (Stopped r) = (r.graph ≡ g) × MayBeResumed g r.state

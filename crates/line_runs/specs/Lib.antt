@@ -1,3 +1,4 @@
+pub mod AllFirings
 pub mod Table
 pub mod Bursts
 pub mod Stop
@@ -6,3 +7,4 @@ pub mod Headline
 pub mod Store
 pub mod Saves
 pub mod ResumeSlots
+pub mod StandsFor

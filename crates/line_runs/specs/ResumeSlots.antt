@@ -13,11 +13,11 @@ use Rattle.line_runs.specs.declared.error.ResumeError.TheVariants.{NothingSaved,
 use Rattle.line_runs.specs.Resume.{Resumes}
 
 -- what the refusal of a load comes to; a load never finds the content too long
-abbrev pub ComesOfLoad : SlotError → ResumeError → Type 0
-ComesOfLoad Slot.NoneSaved error = error ≡ NothingSaved
-ComesOfLoad Slot.DiskFault error = error ≡ DiskFault
-ComesOfLoad Slot.NoMemory error = error ≡ NoMemory
-ComesOfLoad (Slot.TooLong have) error = ⊥
+abbrev pub AnswersLoad : SlotError → ResumeError → Type 0
+AnswersLoad Slot.NoneSaved error = error ≡ NothingSaved
+AnswersLoad Slot.DiskFault error = error ≡ DiskFault
+AnswersLoad Slot.NoMemory error = error ≡ NoMemory
+AnswersLoad (Slot.TooLong have) error = ⊥
 
 -- what the refusal of a text becomes
 abbrev pub of_checkpoint_error : CheckpointError → ResumeError

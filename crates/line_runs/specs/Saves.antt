@@ -13,7 +13,7 @@ use Rattle.line_disk.specs.DiskView.{Image, DiskView, Held, held_now}
 use Rattle.slot_store.specs.Layout.{content}
 use Rattle.slot_store.specs.Crash.{CouldLeave, IsSaved}
 use Rattle.line_runs.specs.Bursts.{IsBurst, IsDone}
-use Rattle.line_runs.specs.Stop.{all_firings}
+use Rattle.line_runs.specs.AllFirings.{all_firings}
 use Rattle.line_runs.specs.Headline.{MayBeResumed}
 use Rattle.line_runs.specs.Store.{IsOver}
 

@@ -1,17 +1,14 @@
 -- Where a run ends that is told to stop.
 use Rattle.std.specs.Prelude.{◌≡◌, ℕ, ◌+◌, ◌*◌, ◌<◌, ◌≤◌, ◌⊎◌}
 use Rattle.line_base.specs.declared.event.Parts.{Parts}
-use Rattle.event_graph.specs.Network.{stations, jobs}
+use Rattle.event_graph.specs.Network.{stations}
 use Rattle.line_core.specs.Consistent.{fired}
 use Rattle.line_core.specs.Run.{Run, Dates}
 use Rattle.line_workers.specs.Line.{WorkLine, run_in}
+use Rattle.line_runs.specs.AllFirings.{all_firings}
 use Rattle.line_runs.specs.Bursts.{BurstsBelow, IsDone}
 use Rattle.line_runs.specs.declared.stop.Outcome.{Outcome}
 use Rattle.line_runs.specs.declared.stop.Outcome.TheVariants.{Finished, Stopped}
-
--- how many firings there are in all: one for each station and job
-abbrev pub all_firings : Parts → ℕ
-all_firings g = stations g * jobs g
 
 -- bursts, before each of which fewer than n firings were made, lead to a line that has made all:
 -- these are its dates

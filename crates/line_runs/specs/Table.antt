@@ -6,7 +6,7 @@ use Rattle.event_graph.specs.Least.{IsLeast}
 use Rattle.line_core.specs.Run.{Dates, IsLeastTable}
 
 -- the table is of this graph, and is the least solution of its equations
-pub record ComesToLeast (g : Parts) (d : Dates) : Type 0 where
+pub record IsLeastOf (g : Parts) (d : Dates) : Type 0 where
   pub graph_is : d.graph ≡ g
   pub least : IsLeast g (date_in d.rows)
   pub whole : IsLeastTable d

@@ -1,6 +1,7 @@
 ghost use Rattle.std.specs.Prelude.{◌^◌, ◌<◌, ◌≤◌, length, IfOk, IfErr};
 ghost use Rattle.checkpoint.specs.Answers.{Tells};
-ghost use Rattle.line_runs.specs.Resume.{StandsFor, FailsOnlyFor, Resumes};
+ghost use Rattle.line_runs.specs.Resume.{FailsOnlyFor, Resumes};
+ghost use Rattle.line_runs.specs.StandsFor.{StandsFor};
 ghost use Rattle.line_workers.specs.Line.{IsLine};
 
 use crate::run::run_to_end;

@@ -1,6 +1,6 @@
 ghost use Rattle.std.specs.Prelude.{◌≡◌};
 ghost use Rattle.line_runs.specs.Bursts.{IsBurst, IsDone};
-ghost use Rattle.line_runs.specs.Table.{ComesToLeast};
+ghost use Rattle.line_runs.specs.Table.{IsLeastOf};
 
 use line_core::Table;
 use line_workers::{Gate, Line};
@@ -22,7 +22,7 @@ pub(crate) fn burst_on<R: Threads + Sync, G: Gate>(rt: &R, live: &Live, line: &m
 pub(crate) fn table_of(live: &Live, line: Line) -> Table
     requires made_for { live.now ≡ line.live }
     requires done { IsDone line }
-    ensures table { ComesToLeast live.now.graph result }
+    ensures table { IsLeastOf live.now.graph result }
     ensures dates { result.rows ≡ line.state.logs }
 {
     line.close(live).into_table(live)
@@ -33,7 +33,7 @@ pub(crate) fn table_of(live: &Live, line: Line) -> Table
 /// their threads do. It takes no memory.
 pub fn run_to_end<R: Threads + Sync, G: Gate>(rt: &R, live: &Live, line: Line, gate: &G) -> Table
     requires { live.now ≡ line.live }
-    ensures { ComesToLeast live.now.graph result }
+    ensures { IsLeastOf live.now.graph result }
 {
     let mut line = line;
     while !line.finished() {
@@ -52,7 +52,7 @@ pub fn run_standing<R: Threads + Wait + Sync, G: Gate>(
     gate: &G,
 ) -> Table
     requires { live.now ≡ line.live }
-    ensures { ComesToLeast live.now.graph result }
+    ensures { IsLeastOf live.now.graph result }
 {
     let line = stand(rt, line, live, gate);
     table_of(live, line)

@@ -5,9 +5,9 @@ ghost use Rattle.line_disk.specs.DiskView.{LeavesOnly, held_now};
 ghost use Rattle.line_io.specs.Faults.{Rose};
 ghost use Rattle.line_runs.specs.Saves.{IsDue, SavesIfDue, HasSaved, IsLateState};
 ghost use Rattle.line_runs.specs.Saves.{IsOldOrState, HasTooLongState};
-ghost use Rattle.line_runs.specs.Stop.{all_firings};
+ghost use Rattle.line_runs.specs.AllFirings.{all_firings};
 ghost use Rattle.line_runs.specs.Store.{text_of, IsOver};
-ghost use Rattle.line_runs.specs.Table.{ComesToLeast};
+ghost use Rattle.line_runs.specs.Table.{IsLeastOf};
 ghost use Rattle.line_workers.specs.Line.{IsLine, run_in};
 ghost use Rattle.slot_store.specs.Crash.{IsOldOrNew, IsSaved};
 ghost use Rattle.slot_store.specs.declared.error.SlotError.TheVariants.{TooLong};
@@ -130,7 +130,7 @@ pub fn run_with_slots<R: Threads + Sync, G: Gate, D: Disk>(
 ) -> Result<Table, SlotError>
     requires made_for { live.now ≡ line.live }
     requires some { 1 ≤ every }
-    ensures table { IfOk result (ComesToLeast live.now.graph) }
+    ensures table { IfOk result (IsLeastOf live.now.graph) }
 
     // The state was saved whenever that was due, and last of all when few firings were left.
     ensures saves { IfOk result

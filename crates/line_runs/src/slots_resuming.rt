@@ -1,7 +1,7 @@
 ghost use Rattle.std.specs.Prelude.{◌≡◌, ℕ, ◌≤◌, IsTrue, IsErrOf};
 ghost use Rattle.line_disk.specs.DiskView.{Stays};
 ghost use Rattle.line_io.specs.Faults.{Rose};
-ghost use Rattle.line_runs.specs.ResumeSlots.{ComesOfLoad, ResumesSlots};
+ghost use Rattle.line_runs.specs.ResumeSlots.{AnswersLoad, ResumesSlots};
 ghost use Rattle.slot_store.specs.Crash.{bytes_now};
 ghost use Rattle.slot_store.specs.declared.error.SlotError.TheVariants.{TooLong};
 
@@ -18,7 +18,7 @@ use std::thread::Threads;
 /// Why no run goes on where the slots gave nothing. A load never finds a content too long.
 fn not_loaded(refusal: SlotError) -> ResumeError
     requires { (have : ℕ) → ¬ (refusal ≡ TooLong have) }
-    ensures { ComesOfLoad refusal result }
+    ensures { AnswersLoad refusal result }
 {
     match refusal {
         SlotError::NoneSaved => ResumeError::NothingSaved,

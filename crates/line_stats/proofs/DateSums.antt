@@ -3,7 +3,7 @@ use Rattle.std.proofs.Common.{◌≡◌, ℕ, zero, suc, ◌+◌, ◌*◌, ◌<�
 use Rattle.std.specs.List.{sum_by, range_with_len}
 use Rattle.std.proofs.lemmas.List.FromFn.{fill_by_all, length-range_with_len}
 use Rattle.std.proofs.lemmas.List.Sums.{sum_by_push, sum_by-cons, sum-map, sum_by-le}
-use Rattle.line_stats.proofs.Counting.{range-last}
+use Rattle.line_stats.proofs.CountsOfDates.{range-last}
 use Rattle.line_stats.proofs.SameCounts.{All-numbers}
 
 -- one number more

@@ -17,7 +17,7 @@ use Rattle.line_base.proofs.RangeLists.{Contains-head}
 use Rattle.line_graph.proofs.Inputs.{in_feed, in_stages, in_machines}
 use Rattle.line_graph.proofs.SolvesRows.{asked, Meets, Meets-solves}
 use Rattle.line_stats.specs.Counts.{count_until, done, arrived}
-use Rattle.line_stats.proofs.Counting.{until-shift}
+use Rattle.line_stats.proofs.CountsOfDates.{until-shift}
 
 -- what a row asks of a job that takes no token of the start
 asked-late : (ts : List Times) (x : Table) (a : Arc) (late n : ℕ) → a.tokens < n → x a.from (n - a.tokens) + late ≤ asked ts x a late n

@@ -1,6 +1,6 @@
-pub mod Counting
+pub mod CountsOfDates
 pub mod DateLists
-pub mod Rising
+pub mod RisingDates
 pub mod Flows
 pub mod PlantTables
 pub mod StationRows

@@ -16,7 +16,7 @@ use Rattle.event_graph.specs.Solves.{Solves}
 use Rattle.line_core.specs.Run.{Dates, IsLeastTable}
 use Rattle.line_graph.proofs.Sizes.{stations-graph}
 use Rattle.line_stats.specs.Counts.{count_until, done, arrived}
-use Rattle.line_stats.proofs.Counting.{until-le, until-moved, until-none}
+use Rattle.line_stats.proofs.CountsOfDates.{until-le, until-moved, until-none}
 
 pub exists_in : (p : Plant) (g : Parts) (t : ℕ) → g ≡ graph p → t < station_count p → t < stations g
 exists_in p g t is below = let e = ap (λ (h : Parts). stations h) is in omega (arith, stations-graph p)
@@ -38,7 +38,7 @@ pub record AreCounted (m n all gone : ℕ) : Type 0 where
 pub solves_in : (p : Plant) (d : Dates) → d.graph ≡ graph p → IsLeastTable d → Solves (graph p) (date_in d.rows)
 solves_in p d is table = subst (λ (g : Parts). Solves g (date_in d.rows)) is table.least.solves
 
--- at two stations, where parts come to the second from the first
+-- at two stations, where parts go from the first to the second
 pub counted_in : (p : Plant) (d : Dates) (s t u w v m n : ℕ) → d.graph ≡ graph p → IsLeastTable d → s ≡ t → u ≡ w → m ≡ done d.graph (date_in d.rows) s v → n ≡ done d.graph (date_in d.rows) u v → (Solves (graph p) (date_in d.rows) → done (graph p) (date_in d.rows) w v ≤ done (graph p) (date_in d.rows) t v) → AreCounted m n (done (graph p) (date_in d.rows) t v) (done (graph p) (date_in d.rows) w v)
 counted_in p d s t u w v m n is table first second all gone flow =
     let all_is = done_in p d.graph (date_in d.rows) s t v m is first all in

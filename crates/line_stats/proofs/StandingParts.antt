@@ -17,7 +17,7 @@ use Rattle.event_graph.proofs.Greatest.{le-greatest, greatest-le}
 use Rattle.line_graph.proofs.Sizes.{stations-graph}
 use Rattle.plant_model.specs.Bound.{bound}
 use Rattle.line_stats.specs.Counts.{job_numbers, count_until, done, in_process, in_move, in_stock, standing, last_date, peak}
-use Rattle.line_stats.proofs.Counting.{until-all}
+use Rattle.line_stats.proofs.CountsOfDates.{until-all}
 use Rattle.line_stats.proofs.Flows.{process-flow, move-flow, stock-flow}
 use Rattle.line_stats.proofs.CardFlows.{held-back}
 

@@ -8,7 +8,7 @@ use Rattle.event_graph.specs.Table.{date_in}
 use Rattle.line_core.specs.Run.{Dates, IsLeastTable}
 use Rattle.line_stats.specs.Counts.{done}
 use Rattle.line_stats.specs.Between.{dates_until}
-use Rattle.line_stats.proofs.Rising.{lists_keep_order, row-rises, count-row}
+use Rattle.line_stats.proofs.RisingDates.{lists_keep_order, row-rises, count-row}
 use Rattle.line_stats.proofs.PlantTables.{exists_in, done_in}
 
 module _ (p : Plant) (d : Dates) (t : ℕ) (row : List ℕ) (of_plant : d.graph ≡ graph p) (table : IsLeastTable d) (exists : t < station_count p) (read : row ≡ get_or d.rows t []) where

@@ -15,7 +15,7 @@ use plant_model::{FEED, LineNumbers, Plant};
 /// How many parts are on the machines of a stage at a date: released, and not done by its last machine.
 ///
 /// It takes no memory, and halves the dates of the two stations.
-#[tactic(auto, using(crate::proofs::PlantTables::exists_in, crate::proofs::Rising::lists_keep_order))]
+#[tactic(auto, using(crate::proofs::PlantTables::exists_in, crate::proofs::RisingDates::lists_keep_order))]
 pub fn in_process(numbers: &LineNumbers, table: &Table, stage: u32, at: Date) -> u32
     requires sound { IsSound numbers.now }
     requires of_plant { table.now.graph ≡ graph numbers.now }
@@ -28,7 +28,7 @@ pub fn in_process(numbers: &LineNumbers, table: &Table, stage: u32, at: Date) ->
 }
 
 /// How many parts of a stage have ended their travel by a date.
-#[tactic(auto, using(crate::proofs::PlantTables::exists_in, crate::proofs::Rising::lists_keep_order))]
+#[tactic(auto, using(crate::proofs::PlantTables::exists_in, crate::proofs::RisingDates::lists_keep_order))]
 fn arrived(plant: &Plant, numbers: &LineNumbers, table: &Table, stage: u32, at: Date) -> u32
     requires { IsStageOf plant.now numbers.now table.now stage }
     ensures { result ≡ arrived plant.now (date_in table.now.rows) stage at }
@@ -42,7 +42,7 @@ fn arrived(plant: &Plant, numbers: &LineNumbers, table: &Table, stage: u32, at: 
 /// How many parts of a stage are on their travel at a date: done by its last machine, and not arrived.
 ///
 /// It takes no memory, and halves the dates of the machine.
-#[tactic(auto, using(crate::proofs::PlantTables::exists_in, crate::proofs::Rising::lists_keep_order))]
+#[tactic(auto, using(crate::proofs::PlantTables::exists_in, crate::proofs::RisingDates::lists_keep_order))]
 pub fn in_move(plant: &Plant, numbers: &LineNumbers, table: &Table, stage: u32, at: Date) -> u32
     requires { IsStageOf plant.now numbers.now table.now stage }
     ensures count { result ≡ in_move plant.now (date_in table.now.rows) stage at }
@@ -56,7 +56,7 @@ pub fn in_move(plant: &Plant, numbers: &LineNumbers, table: &Table, stage: u32, 
 /// that the next release, or the delivery, has taken.
 ///
 /// It takes no memory, and halves the dates of the two stations.
-#[tactic(auto, using(crate::proofs::PlantTables::exists_in, crate::proofs::Rising::lists_keep_order))]
+#[tactic(auto, using(crate::proofs::PlantTables::exists_in, crate::proofs::RisingDates::lists_keep_order))]
 pub fn in_stock(plant: &Plant, numbers: &LineNumbers, table: &Table, stage: u32, at: Date) -> u32
     requires { IsStageOf plant.now numbers.now table.now stage }
     ensures count { result ≡ in_stock plant.now (date_in table.now.rows) stage at }
@@ -71,7 +71,7 @@ pub fn in_stock(plant: &Plant, numbers: &LineNumbers, table: &Table, stage: u32,
 /// How many demands are not delivered at a date.
 ///
 /// It takes no memory, and halves the dates of the feed and of the delivery.
-#[tactic(auto, using(crate::proofs::PlantTables::exists_in, crate::proofs::Rising::lists_keep_order))]
+#[tactic(auto, using(crate::proofs::PlantTables::exists_in, crate::proofs::RisingDates::lists_keep_order))]
 pub fn backlog(numbers: &LineNumbers, table: &Table, at: Date) -> u32
     requires sound { IsSound numbers.now }
     requires of_plant { table.now.graph ≡ graph numbers.now }

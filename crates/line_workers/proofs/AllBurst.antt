@@ -1,4 +1,4 @@
--- A burst of all crews: what each did, and then the meeting.
+-- A burst of all workers: what each did, and then the meeting.
 use Rattle.std.proofs.Common.{◌≡◌, ℕ, ◌+◌, ◌-◌, ◌<◌, ◌≤◌, List, [], ◌∷◌, take, min, length, refl, ap, ◌∙◌, sym, subst, arith}
 use Rattle.line_base.specs.declared.event.Parts.{Parts}
 use Rattle.line_base.specs.Roomy.{RoomyLog}
@@ -6,28 +6,28 @@ use Rattle.event_graph.specs.Network.{stations, jobs, arc_count}
 use Rattle.card_queue.specs.Plain.{PlainQueue}
 use Rattle.station_step.specs.Station.{WorkStation}
 use Rattle.station_step.specs.Step.{IsReady}
-use Rattle.worker_crew.specs.Share.{worker_of, first_of}
-use Rattle.worker_crew.specs.Team.{WorkTeam, member}
-use Rattle.worker_crew.specs.Teams.{team_at, station_of, shelf_of, IsJoined, AreAllMet}
-use Rattle.worker_crew.specs.Crew.{WorkCrew, teams_of}
-use Rattle.worker_crew.specs.Work.{dates_of, turns_of, HasWorked, HasBurst, HasBurstAlone, IsAlone, AllDone, TeamWorked, TeamsWorked}
+use Rattle.line_worker.specs.Share.{worker_of, first_of}
+use Rattle.line_worker.specs.Team.{WorkTeam, member}
+use Rattle.line_worker.specs.Teams.{team_at, station_of, shelf_of, IsJoined, AreAllMet}
+use Rattle.line_worker.specs.Worker.{LineWorker, teams_of}
+use Rattle.line_worker.specs.Work.{dates_of, turns_of, HasWorked, HasBurst, HasBurstAlone, IsAlone, AllDone, TeamWorked, TeamsWorked}
 use Rattle.line_workers.specs.Meeting.{AreStill}
-use Rattle.worker_crew.specs.Crews.{crew_at, graph_of, begun_of, AreCrews, AreSameCrews, CrewWorked}
-use Rattle.line_workers.specs.Burst.{AllMade, EachMade, CrewsBurst}
-use Rattle.worker_crew.proofs.CrewTeams.{count-teams, team_at-crews}
-use Rattle.line_workers.proofs.AllCrews.{graph-same, worker_there, seat_there, seated, of_seat, crews-same, then_same}
+use Rattle.line_worker.specs.Workers.{worker_at, graph_of, begun_of, AreWorkers, AreSameWorkers, HasDoneBurst}
+use Rattle.line_workers.specs.Burst.{AllMade, EachMade, WorkersBurst}
+use Rattle.line_worker.proofs.WorkerTeams.{count-teams, team_at-workers}
+use Rattle.line_workers.proofs.AllWorkers.{graph-same, worker_there, seat_there, seated, of_seat, workers-same, then_same}
 
--- the team of the only crew
-single : (crews : List WorkCrew) → length crews ≡ 1 → teams_of crews ≡ (crew_at crews 0).team ∷ []
+-- the team of the only worker
+single : (workers : List LineWorker) → length workers ≡ 1 → teams_of workers ≡ (worker_at workers 0).team ∷ []
 single [] one = absurd (omega (arith, one))
 single (c ∷ []) one = refl
-single (c ∷ d ∷ crews) one = absurd (omega (arith, one))
+single (c ∷ d ∷ workers) one = absurd (omega (arith, one))
 
-module _ (old mid : List WorkCrew) (are : AreCrews old) (count : length mid ≡ length old) (each : (w : ℕ) → w < length old → CrewWorked (crew_at old w) (crew_at mid w)) where
+module _ (old mid : List LineWorker) (are : AreWorkers old) (count : length mid ≡ length old) (each : (w : ℕ) → w < length old → HasDoneBurst (worker_at old w) (worker_at mid w)) where
   abbrev g : Parts
   g = graph_of old
 
-  pub same-mid : AreSameCrews old mid
+  pub same-mid : AreSameWorkers old mid
   same-mid = record { count = count; each = λ w low. (each w low).same }
 
   pub worked-mid : TeamsWorked (teams_of old) (teams_of mid)
@@ -36,12 +36,12 @@ module _ (old mid : List WorkCrew) (are : AreCrews old) (count : length mid ≡ 
     each = λ w low.
         let w_old : w < length old = omega (arith, low, count-teams old) in
         let w_mid : w < length mid = omega (arith, w_old, count) in
-        subst (λ (t : WorkTeam). TeamWorked t (team_at (teams_of mid) w)) (sym (team_at-crews old w w_old)) (
-        subst (TeamWorked (crew_at old w).team) (sym (team_at-crews mid w w_mid)) (each w w_old).burst.worked);
+        subst (λ (t : WorkTeam). TeamWorked t (team_at (teams_of mid) w)) (sym (team_at-workers old w w_old)) (
+        subst (TeamWorked (worker_at old w).team) (sym (team_at-workers mid w w_mid)) (each w w_old).burst.worked);
   }
 
-  pub are-mid : AreCrews mid
-  are-mid = crews-same old are mid same-mid worked-mid
+  pub are-mid : AreWorkers mid
+  are-mid = workers-same old are mid same-mid worked-mid
 
   -- the station with number t, before and after
   module _ (t : ℕ) (there : t < stations (graph_of old)) where
@@ -54,47 +54,47 @@ module _ (old mid : List WorkCrew) (are : AreCrews old) (count : length mid ≡ 
     w_there : w < length old
     w_there = worker_there old are t there
 
-    i_there : i < length (crew_at old w).team.stations
+    i_there : i < length (worker_at old w).team.stations
     i_there = (seat_there old are t there).number
 
-    at_old : member (crew_at old w).team.stations i ≡ station_of g (teams_of old) t
+    at_old : member (worker_at old w).team.stations i ≡ station_of g (teams_of old) t
     at_old = seated old are t there
 
-    at_mid : member (crew_at mid w).team.stations i ≡ station_of g (teams_of mid) t
+    at_mid : member (worker_at mid w).team.stations i ≡ station_of g (teams_of mid) t
     at_mid =
         sym (
         ap (λ n. member (team_at (teams_of mid) (worker_of n (stations g) t)).stations (t - first_of n (stations g) (worker_of n (stations g) t))) (count-teams mid ∙ count)
-        ∙ ap (λ (u : WorkTeam). member u.stations i) (team_at-crews mid w (omega (arith, w_there, count))))
+        ∙ ap (λ (u : WorkTeam). member u.stations i) (team_at-workers mid w (omega (arith, w_there, count))))
 
-    shelf_old : (crew_at old w).team.shelf ≡ shelf_of g (teams_of old) t
+    shelf_old : (worker_at old w).team.shelf ≡ shelf_of g (teams_of old) t
     shelf_old =
         sym (
         ap (λ n. (team_at (teams_of old) (worker_of n (stations g) t)).shelf) (count-teams old)
-        ∙ ap (λ (u : WorkTeam). u.shelf) (team_at-crews old w w_there))
+        ∙ ap (λ (u : WorkTeam). u.shelf) (team_at-workers old w w_there))
 
-    burst : HasBurst (crew_at old w).target (crew_at old w).team (crew_at mid w).team
+    burst : HasBurst (worker_at old w).target (worker_at old w).team (worker_at mid w).team
     burst = (each w w_there).burst
 
-    pub target-is : (crew_at old (worker_of (length old) (stations (graph_of old)) t)).target ≡ jobs (graph_of old)
+    pub target-is : (worker_at old (worker_of (length old) (stations (graph_of old)) t)).target ≡ jobs (graph_of old)
     target-is = (are.each w w_there).target ∙ ap jobs (graph-same old are w w_there)
 
     worked-t : HasWorked (station_of g (teams_of old) t) (station_of g (teams_of mid) t)
     worked-t =
         subst (λ (s : WorkStation). HasWorked s (station_of g (teams_of mid) t)) at_old (
-        subst (HasWorked (member (crew_at old w).team.stations i)) at_mid (burst.worked.each i i_there))
+        subst (HasWorked (member (worker_at old w).team.stations i)) at_mid (burst.worked.each i i_there))
 
     few-t : turns_of (station_of g (teams_of mid) t) ≤ turns_of (station_of g (teams_of old) t) + 16
     few-t = omega (arith, burst.few i i_there, ap turns_of at_old, ap turns_of at_mid)
 
     fired-t : IsReady (shelf_of g (teams_of old) t) (station_of g (teams_of old) t) → dates_of (station_of g (teams_of old) t) < dates_of (station_of g (teams_of mid) t)
     fired-t ready =
-        let here : IsReady (crew_at old w).team.shelf (member (crew_at old w).team.stations i) =
-        subst (λ (shelf : List PlainQueue). IsReady shelf (member (crew_at old w).team.stations i)) (sym shelf_old) (
+        let here : IsReady (worker_at old w).team.shelf (member (worker_at old w).team.stations i) =
+        subst (λ (shelf : List PlainQueue). IsReady shelf (member (worker_at old w).team.stations i)) (sym shelf_old) (
         subst (IsReady (shelf_of g (teams_of old) t)) (sym at_old) ready) in
         omega (arith, burst.fired i i_there here, ap dates_of at_old, ap dates_of at_mid)
 
-  -- all stations of a crew are stations of the graph
-  made-in : (f : ℕ → ℕ) → ((t : ℕ) → t < stations g → dates_of (station_of g (teams_of old) t) ≡ f t) → (v i : ℕ) → v < length old → i < length (crew_at old v).team.stations → dates_of (member (crew_at old v).team.stations i) ≡ f (first_of (length old) (stations g) v + i)
+  -- all stations of a worker are stations of the graph
+  made-in : (f : ℕ → ℕ) → ((t : ℕ) → t < stations g → dates_of (station_of g (teams_of old) t) ≡ f t) → (v i : ℕ) → v < length old → i < length (worker_at old v).team.stations → dates_of (member (worker_at old v).team.stations i) ≡ f (first_of (length old) (stations g) v + i)
   made-in f made v i low low_i =
       let of = of_seat old are v i low low_i in
       ap dates_of (sym of.1) ∙ made (first_of (length old) (stations g) v + i) of.0
@@ -103,34 +103,34 @@ module _ (old mid : List WorkCrew) (are : AreCrews old) (count : length mid ≡ 
   idle-t all t there =
       let v = worker_of (length old) (stations g) t in
       let v_there = worker_there old are t there in
-      let done : AllDone (crew_at old v).target (crew_at old v).team =
+      let done : AllDone (worker_at old v).target (worker_at old v).team =
       λ k low. made-in (λ u. jobs g) all v k v_there low ∙ sym (target-is t there) in
       sym (ap turns_of (at_mid t there))
       ∙ (each v v_there).burst.idle done (t - first_of (length old) (stations g) v) (seat_there old are t there).number
       ∙ ap turns_of (at_old t there)
 
-  -- one crew
+  -- one worker
   module _ (one : length old ≡ 1) (times : ℕ) (le : times ≤ jobs (graph_of old)) (made : EachMade (graph_of old) (teams_of old) times) where
     zero_there : 0 < length old
     zero_there = omega (arith, one)
 
-    abbrev c : WorkCrew
-    c = crew_at old 0
+    abbrev c : LineWorker
+    c = worker_at old 0
 
-    alone : IsAlone (crew_at old 0) times
+    alone : IsAlone (worker_at old 0) times
     alone =
         let joined_old : (a : ℕ) → a < arc_count g → IsJoined g (begun_of old) (teams_of old) a = are.joined in
-        let teams_one : teams_of old ≡ (crew_at old 0).team ∷ [] = single old one in
+        let teams_one : teams_of old ≡ (worker_at old 0).team ∷ [] = single old one in
         record {
-          one = are.workers 0 zero_there ∙ one;
+          one = are.worker_count 0 zero_there ∙ one;
           joined = subst (λ (ts : List WorkTeam). (a : ℕ) → a < arc_count g → IsJoined g (begun_of old) ts a) teams_one joined_old;
           fired = λ k low. made-in (λ u. times) made 0 k zero_there low;
         }
 
-    target-zero : (crew_at old 0).target ≡ jobs (graph_of old)
+    target-zero : (worker_at old 0).target ≡ jobs (graph_of old)
     target-zero = (are.each 0 zero_there).target
 
-    burst-alone : HasBurstAlone times (crew_at old 0) (crew_at mid 0)
+    burst-alone : HasBurstAlone times (worker_at old 0) (worker_at mid 0)
     burst-alone = (each 0 zero_there).alone times alone (omega (arith, le, target-zero))
 
     seat-zero : (t : ℕ) → t < stations g → worker_of (length old) (stations g) t ≡ 0
@@ -141,10 +141,10 @@ module _ (old mid : List WorkCrew) (are : AreCrews old) (count : length mid ≡ 
         let k = t - first_of (length old) (stations g) (worker_of (length old) (stations g) t) in
         let low = (seat_there old are t there).number in
         let zero = seat-zero t there in
-        let count_same : length (crew_at mid 0).team.stations ≡ length (crew_at old 0).team.stations = (each 0 zero_there).burst.worked.count in
-        let within : k < length (crew_at mid 0).team.stations = omega (arith, low, ap (λ v. length (crew_at old v).team.stations) zero, count_same) in
+        let count_same : length (worker_at mid 0).team.stations ≡ length (worker_at old 0).team.stations = (each 0 zero_there).burst.worked.count in
+        let within : k < length (worker_at mid 0).team.stations = omega (arith, low, ap (λ v. length (worker_at old v).team.stations) zero, count_same) in
         sym (ap dates_of (at_mid t there))
-        ∙ ap (λ v. dates_of (member (crew_at mid v).team.stations k)) zero
+        ∙ ap (λ v. dates_of (member (worker_at mid v).team.stations k)) zero
         ∙ burst-alone.alone.fired k within
         ∙ ap (min (times + 16)) target-zero
 
@@ -153,24 +153,24 @@ module _ (old mid : List WorkCrew) (are : AreCrews old) (count : length mid ≡ 
         let k = t - first_of (length old) (stations g) (worker_of (length old) (stations g) t) in
         let low = (seat_there old are t there).number in
         let zero = seat-zero t there in
-        let within : k < length (crew_at old 0).team.stations = omega (arith, low, ap (λ v. length (crew_at old v).team.stations) zero) in
-        let m : turns_of (station_of g (teams_of mid) t) ≡ turns_of (member (crew_at mid 0).team.stations k) =
-        sym (ap turns_of (at_mid t there)) ∙ ap (λ v. turns_of (member (crew_at mid v).team.stations k)) zero in
-        let o : turns_of (station_of g (teams_of old) t) ≡ turns_of (member (crew_at old 0).team.stations k) =
-        sym (ap turns_of (at_old t there)) ∙ ap (λ v. turns_of (member (crew_at old v).team.stations k)) zero in
+        let within : k < length (worker_at old 0).team.stations = omega (arith, low, ap (λ v. length (worker_at old v).team.stations) zero) in
+        let m : turns_of (station_of g (teams_of mid) t) ≡ turns_of (member (worker_at mid 0).team.stations k) =
+        sym (ap turns_of (at_mid t there)) ∙ ap (λ v. turns_of (member (worker_at mid v).team.stations k)) zero in
+        let o : turns_of (station_of g (teams_of old) t) ≡ turns_of (member (worker_at old 0).team.stations k) =
+        sym (ap turns_of (at_old t there)) ∙ ap (λ v. turns_of (member (worker_at old v).team.stations k)) zero in
         ap (λ n. n + times) m
         ∙ burst-alone.turns k within
-        ∙ ap (λ n. n + min (times + 16) (crew_at old 0).target) (sym o)
+        ∙ ap (λ n. n + min (times + 16) (worker_at old 0).target) (sym o)
         ∙ ap (λ n. turns_of (station_of g (teams_of old) t) + min (times + 16) n) target-zero
 
   -- and then all queues meet
-  pub crews_burst : (new : List WorkCrew) → AreSameCrews mid new → TeamsWorked (teams_of mid) (teams_of new) → AreStill (graph_of old) (teams_of mid) (teams_of new) → AreAllMet (graph_of old) (teams_of new) → CrewsBurst old new
-  crews_burst new same worked still met =
+  pub workers_burst : (new : List LineWorker) → AreSameWorkers mid new → TeamsWorked (teams_of mid) (teams_of new) → AreStill (graph_of old) (teams_of mid) (teams_of new) → AreAllMet (graph_of old) (teams_of new) → WorkersBurst old new
+  workers_burst new same worked still met =
       let old_teams = teams_of old in
       let mid_teams = teams_of mid in
       let new_teams = teams_of new in
       record {
-        whole = crews-same mid are-mid new same worked;
+        whole = workers-same mid are-mid new same worked;
         same = then_same old mid new same-mid same;
         met = met;
         each = λ t there.

@@ -1,7 +1,7 @@
 pub mod Meeting
 pub mod Splitting
 pub mod Totals
-pub mod AllCrews
+pub mod AllWorkers
 pub mod AllBurst
 pub mod LineBurst
 pub mod Lines

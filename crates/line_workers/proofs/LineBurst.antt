@@ -17,17 +17,17 @@ use Rattle.line_core.proofs.Consistency.{reached_is_consistent}
 use Rattle.line_core.proofs.Bounds.{fired-le}
 use Rattle.line_core.proofs.Runs.{is_reached}
 use Rattle.station_step.specs.Ends.{HasSpace}
-use Rattle.worker_crew.specs.Team.{WorkTeam, member}
-use Rattle.worker_crew.specs.Share.{worker_of, first_of}
-use Rattle.worker_crew.specs.Teams.{station_of, outlet_on, AreOfRoom, AreTeams, AreAllMet, state_among}
-use Rattle.worker_crew.specs.Crew.{WorkCrew, teams_of}
-use Rattle.worker_crew.specs.Work.{dates_of, turns_of, TurnsBelow}
-use Rattle.worker_crew.specs.Crews.{crew_at, no_crew, live_of, graph_of, begun_of, room_of, AreCrews}
-use Rattle.line_workers.specs.Burst.{AllMade, EachMade, CrewsBurst}
+use Rattle.line_worker.specs.Team.{WorkTeam, member}
+use Rattle.line_worker.specs.Share.{worker_of, first_of}
+use Rattle.line_worker.specs.Teams.{station_of, outlet_on, AreOfRoom, AreTeams, AreAllMet, state_among}
+use Rattle.line_worker.specs.Worker.{LineWorker, teams_of}
+use Rattle.line_worker.specs.Work.{dates_of, turns_of, TurnsBelow}
+use Rattle.line_worker.specs.Workers.{worker_at, no_worker, live_of, graph_of, begun_of, room_of, AreWorkers}
+use Rattle.line_workers.specs.Burst.{AllMade, EachMade, WorkersBurst}
 use Rattle.line_workers.specs.Line.{WorkLine, turns_among, line_of, run_in, KeepsPace, AreAtRest, IsLine, IsWithinRooms, LogsGrow}
-use Rattle.line_workers.proofs.AllCrews.{ranked, crews_are_teams, seat_there, seated, of_seat}
-use Rattle.worker_crew.proofs.Standing.{log-among, stands_for_reached, can_fire_is_ready}
-use Rattle.worker_crew.proofs.Spacing.{spaces, free-spaces, few-spaces, first_can_fire}
+use Rattle.line_workers.proofs.AllWorkers.{ranked, workers_are_teams, seat_there, seated, of_seat}
+use Rattle.line_worker.proofs.Standing.{log-among, stands_for_reached, can_fire_is_ready}
+use Rattle.line_worker.proofs.Spacing.{spaces, free-spaces, few-spaces, first_can_fire}
 use Rattle.line_workers.proofs.Lines.{within_rooms}
 
 -- ---- totals over the numbers below n
@@ -85,16 +85,16 @@ pub record LineBurst (old new : WorkLine) (f s : ℕ) : Type 0 where
   pub ready : old.room ≡ None → (t : ℕ) → CanFire old.live.graph old.state t → length (log old.state t) < length (log new.state t)
   pub idle : (f ≡ 0) ↔ IsFinished old.live.graph old.state
   pub rest : IsFinished old.live.graph old.state → s ≡ 0
-  pub alone : (times : ℕ) → old.workers ≡ 1 → HasFired (run_in old) times → HasFired (run_in new) (min (times + 16) (jobs old.live.graph))
-  pub alone_steps : (times : ℕ) → old.workers ≡ 1 → HasFired (run_in old) times → s ≡ f
+  pub alone : (times : ℕ) → old.worker_count ≡ 1 → HasFired (run_in old) times → HasFired (run_in new) (min (times + 16) (jobs old.live.graph))
+  pub alone_steps : (times : ℕ) → old.worker_count ≡ 1 → HasFired (run_in old) times → s ≡ f
 
 -- ---- the counts never fall
 
-module _ (old new : List WorkCrew) (are_old : AreCrews old) (b : CrewsBurst old new) where
+module _ (old new : List LineWorker) (are_old : AreWorkers old) (b : WorkersBurst old new) where
   pub same-live : live_of new ≡ live_of old
   same-live =
       let first : 0 < length old = omega (arith, are_old.some) in
-      ap (λ (c : WorkCrew). c.live) (b.same.each 0 first).frame
+      ap (λ (c : LineWorker). c.live) (b.same.each 0 first).frame
 
   pub dates-grow : (t : ℕ) → t < stations (graph_of old) → dates_of (station_of (graph_of old) (teams_of old) t) ≤ dates_of (station_of (graph_of old) (teams_of new) t)
   dates-grow t there =
@@ -126,10 +126,10 @@ module _ (old new : List WorkCrew) (are_old : AreCrews old) (b : CrewsBurst old 
       )
 
   -- few turns are few still
-  pub turns-below : All (λ (crew : WorkCrew). TurnsBelow (2 ^ 38) crew.team) old → All (λ (crew : WorkCrew). TurnsBelow (2 ^ 40) crew.team) new
+  pub turns-below : All (λ (worker : LineWorker). TurnsBelow (2 ^ 38) worker.team) old → All (λ (worker : LineWorker). TurnsBelow (2 ^ 40) worker.team) new
   turns-below low k d within i low_i =
-      let at : crew_at new k ≡ get_or new k d = get_or_default new k no_crew d within in
-      let i_there : i < length (crew_at new k).team.stations = omega (arith, low_i, ap (λ (c : WorkCrew). length c.team.stations) at) in
+      let at : worker_at new k ≡ get_or new k d = get_or_default new k no_worker d within in
+      let i_there : i < length (worker_at new k).team.stations = omega (arith, low_i, ap (λ (c : LineWorker). length c.team.stations) at) in
       let seat = of_seat new b.whole k i within i_there in
       let t = first_of (length new) (stations (graph_of new)) k + i in
       let g_same = ap (λ (l : LiveGraph). l.graph) same-live in
@@ -137,14 +137,14 @@ module _ (old new : List WorkCrew) (are_old : AreCrews old) (b : CrewsBurst old 
       let is : turns_of (station_of (graph_of old) (teams_of new) t) ≡ turns_of (member (get_or new k d).team.stations i) =
       ap (λ (h : Parts). turns_of (station_of h (teams_of new) t)) (sym g_same)
       ∙ ap turns_of seat.1
-      ∙ ap (λ (c : WorkCrew). turns_of (member c.team.stations i)) at in
+      ∙ ap (λ (c : LineWorker). turns_of (member c.team.stations i)) at in
       let w = worker_of (length old) (stations (graph_of old)) t in
       let was = ap turns_of (seated old are_old t there) in
       let stands = seat_there old are_old t there in
-      let before = low w no_crew stands.worker (t - first_of (length old) (stations (graph_of old)) w) stands.number in
+      let before = low w no_worker stands.worker_number (t - first_of (length old) (stations (graph_of old)) w) stands.number in
       omega (arith, is, was, before, (b.each t there).few)
 
-module _ (old new : List WorkCrew) (made : ℕ) (rest : AreAtRest old made) (b : CrewsBurst old new) (f s : ℕ) where
+module _ (old new : List LineWorker) (made : ℕ) (rest : AreAtRest old made) (b : WorkersBurst old new) (f s : ℕ) where
   abbrev g : Parts
   g = graph_of old
 
@@ -155,7 +155,7 @@ module _ (old new : List WorkCrew) (made : ℕ) (rest : AreAtRest old made) (b :
     turns = turns_among (graph_of old) (teams_of new);
   }
 
-  are : AreCrews old
+  are : AreWorkers old
   are = rest.whole
 
   first : 0 < length old
@@ -168,33 +168,33 @@ module _ (old new : List WorkCrew) (made : ℕ) (rest : AreAtRest old made) (b :
   some = ranks.limits.some_station
 
   teams_old : AreTeams g (begun_of old) (teams_of old)
-  teams_old = crews_are_teams old are
+  teams_old = workers_are_teams old are
 
   live_same : live_of new ≡ live_of old
-  live_same = ap (λ (c : WorkCrew). c.live) (b.same.each 0 first).frame
+  live_same = ap (λ (c : LineWorker). c.live) (b.same.each 0 first).frame
 
   begun_same : begun_of new ≡ begun_of old
-  begun_same = ap (λ (c : WorkCrew). c.begun) (b.same.each 0 first).frame
+  begun_same = ap (λ (c : LineWorker). c.begun) (b.same.each 0 first).frame
 
   teams_new : AreTeams g (begun_of old) (teams_of new)
   teams_new =
       subst (λ begun. AreTeams g begun (teams_of new)) begun_same (
-      subst (λ (l : LiveGraph). AreTeams l.graph (begun_of new) (teams_of new)) live_same (crews_are_teams new b.whole))
+      subst (λ (l : LiveGraph). AreTeams l.graph (begun_of new) (teams_of new)) live_same (workers_are_teams new b.whole))
 
   pub line-seen : line_of new made ≡ seen
   line-seen =
-      ap (λ (l : LiveGraph). record { live = l; state = state_among l.graph (teams_of new); turns = turns_among l.graph (teams_of new); workers = length new; room = room_of new; made = made }) live_same
-      ∙ ap (λ n. record seen { workers = n; room = room_of new }) b.same.count
-      ∙ ap (λ (r : Option ℕ). record seen { room = r }) (ap (λ (c : WorkCrew). c.room) (b.same.each 0 first).frame)
+      ap (λ (l : LiveGraph). record { live = l; state = state_among l.graph (teams_of new); turns = turns_among l.graph (teams_of new); worker_count = length new; room = room_of new; made = made }) live_same
+      ∙ ap (λ n. record seen { worker_count = n; room = room_of new }) b.same.count
+      ∙ ap (λ (r : Option ℕ). record seen { room = r }) (ap (λ (c : LineWorker). c.room) (b.same.each 0 first).frame)
 
   begun_reached : Reached g (begun_of old)
   begun_reached = (are.each 0 first).reached
 
   reached_old : Reached g (state_among g (teams_of old))
-  reached_old = stands_for_reached g (begun_of old) (teams_of old) ranks.sound some teams_old rest.met (live_of old).places ranks begun_reached
+  reached_old = stands_for_reached g (begun_of old) (teams_of old) ranks.sound some teams_old rest.met (live_of old).ranks ranks begun_reached
 
   reached_new : Reached g (state_among g (teams_of new))
-  reached_new = stands_for_reached g (begun_of old) (teams_of new) ranks.sound some teams_new b.met (live_of old).places ranks begun_reached
+  reached_new = stands_for_reached g (begun_of old) (teams_of new) ranks.sound some teams_new b.met (live_of old).ranks ranks begun_reached
 
   old-log : (t : ℕ) → t < stations g → log (state_among g (teams_of old)) t ≡ (station_of g (teams_of old) t).log.dates
   old-log = log-among g (begun_of old) (teams_of old) ranks.sound some teams_old
@@ -246,7 +246,7 @@ module _ (old new : List WorkCrew) (made : ℕ) (rest : AreAtRest old made) (b :
     none-finished none t there =
         ⊎_elim
         (λ undone.
-        let next = first_can_fire g (state_among g (teams_of old)) (live_of old).places ranks.sound ranks.upward.upward old_is t there undone in
+        let next = first_can_fire g (state_among g (teams_of old)) (live_of old).ranks ranks.sound ranks.upward.upward old_is t there undone in
         absurd (omega (
           arith,
           none,
@@ -322,7 +322,7 @@ module _ (old new : List WorkCrew) (made : ℕ) (rest : AreAtRest old made) (b :
           omega (arith, dates_is, turns_is, le, ge, total-plus U' D (stations g), total-plus U D' (stations g));
     }
 
-    -- the crews are at rest again
+    -- the workers are at rest again
     pub at_rest_again : AreAtRest new made
     at_rest_again = record {
       whole = b.whole;
@@ -337,32 +337,32 @@ module _ (old new : List WorkCrew) (made : ℕ) (rest : AreAtRest old made) (b :
 -- ---- the line in its struct
 
 -- no station of a line at rest has made many turns
-pub turns-low : (crews : List WorkCrew) (made : ℕ) → AreAtRest crews made → All (λ (crew : WorkCrew). TurnsBelow (2 ^ 38) crew.team) crews
-turns-low crews made rest k d within i low_i =
+pub turns-low : (workers : List LineWorker) (made : ℕ) → AreAtRest workers made → All (λ (worker : LineWorker). TurnsBelow (2 ^ 38) worker.team) workers
+turns-low workers made rest k d within i low_i =
     let are = rest.whole in
-    let g = graph_of crews in
-    let ranks = ranked crews are in
-    let at : crew_at crews k ≡ get_or crews k d = get_or_default crews k no_crew d within in
-    let i_there : i < length (crew_at crews k).team.stations = omega (arith, low_i, ap (λ (c : WorkCrew). length c.team.stations) at) in
-    let seat = of_seat crews are k i within i_there in
-    let t = first_of (length crews) (stations g) k + i in
-    let U : ℕ → ℕ = λ u. turns_of (station_of g (teams_of crews) u) in
-    let turn : get_or (turns_among g (teams_of crews)) t 0 ≡ U t = get_or-map-range_with_len U 0 (stations g) t t 0 seat.0 (zero-add t) in
-    let is : U t ≡ turns_of (member (get_or crews k d).team.stations i) =
-    ap turns_of seat.1 ∙ ap (λ (c : WorkCrew). turns_of (member c.team.stations i)) at in
-    let first : 0 < length crews = omega (arith, within) in
-    let reached = stands_for_reached g (begun_of crews) (teams_of crews) ranks.sound ranks.limits.some_station (crews_are_teams crews are) rest.met (live_of crews).places ranks (are.each 0 first).reached in
-    let few = fired-le g (state_among g (teams_of crews)) (reached_is_consistent g (state_among g (teams_of crews)) reached) in
+    let g = graph_of workers in
+    let ranks = ranked workers are in
+    let at : worker_at workers k ≡ get_or workers k d = get_or_default workers k no_worker d within in
+    let i_there : i < length (worker_at workers k).team.stations = omega (arith, low_i, ap (λ (c : LineWorker). length c.team.stations) at) in
+    let seat = of_seat workers are k i within i_there in
+    let t = first_of (length workers) (stations g) k + i in
+    let U : ℕ → ℕ = λ u. turns_of (station_of g (teams_of workers) u) in
+    let turn : get_or (turns_among g (teams_of workers)) t 0 ≡ U t = get_or-map-range_with_len U 0 (stations g) t t 0 seat.0 (zero-add t) in
+    let is : U t ≡ turns_of (member (get_or workers k d).team.stations i) =
+    ap turns_of seat.1 ∙ ap (λ (c : LineWorker). turns_of (member c.team.stations i)) at in
+    let first : 0 < length workers = omega (arith, within) in
+    let reached = stands_for_reached g (begun_of workers) (teams_of workers) ranks.sound ranks.limits.some_station (workers_are_teams workers are) rest.met (live_of workers).ranks ranks (are.each 0 first).reached in
+    let few = fired-le g (state_among g (teams_of workers)) (reached_is_consistent g (state_among g (teams_of workers)) reached) in
     omega (arith, sym turn, is, rest.pace.1 t 0 (omega (arith, seat.0, length-map-range_with_len U 0 (stations g))), few, ranks.limits.small_table)
 
 -- the line after a burst, as its fields show it
-pub line_after : (items lent new after : List WorkCrew) (made f s : ℕ) (old : WorkLine) → lent ≡ items → after ≡ new → line_of items made ≡ old → AreAtRest items made → CrewsBurst lent new → fired (state_among (graph_of lent) (teams_of new)) ≡ fired (state_among (graph_of lent) (teams_of lent)) + f → sum (turns_among (graph_of lent) (teams_of new)) ≡ sum (turns_among (graph_of lent) (teams_of lent)) + s → LineBurst old (line_of after made) f s × AreAtRest after made
+pub line_after : (items lent new after : List LineWorker) (made f s : ℕ) (old : WorkLine) → lent ≡ items → after ≡ new → line_of items made ≡ old → AreAtRest items made → WorkersBurst lent new → fired (state_among (graph_of lent) (teams_of new)) ≡ fired (state_among (graph_of lent) (teams_of lent)) + f → sum (turns_among (graph_of lent) (teams_of new)) ≡ sum (turns_among (graph_of lent) (teams_of lent)) + s → LineBurst old (line_of after made) f s × AreAtRest after made
 line_after items lent new after made f s old is_items is_new view rest burst fired_is steps_is =
-    let b : CrewsBurst items new = subst (λ (l : List WorkCrew). CrewsBurst l new) is_items burst in
-    let f_is = subst (λ (l : List WorkCrew). fired (state_among (graph_of l) (teams_of new)) ≡ fired (state_among (graph_of l) (teams_of l)) + f) is_items fired_is in
-    let s_is = subst (λ (l : List WorkCrew). sum (turns_among (graph_of l) (teams_of new)) ≡ sum (turns_among (graph_of l) (teams_of l)) + s) is_items steps_is in (
+    let b : WorkersBurst items new = subst (λ (l : List LineWorker). WorkersBurst l new) is_items burst in
+    let f_is = subst (λ (l : List LineWorker). fired (state_among (graph_of l) (teams_of new)) ≡ fired (state_among (graph_of l) (teams_of l)) + f) is_items fired_is in
+    let s_is = subst (λ (l : List LineWorker). sum (turns_among (graph_of l) (teams_of new)) ≡ sum (turns_among (graph_of l) (teams_of l)) + s) is_items steps_is in (
       subst (λ (o : WorkLine). LineBurst o (line_of after made) f s) view (
-          subst (λ (l : List WorkCrew). LineBurst (line_of items made) (line_of l made) f s) (sym is_new) (
+          subst (λ (l : List LineWorker). LineBurst (line_of items made) (line_of l made) f s) (sym is_new) (
           burst_of_line items new made rest b f s f_is s_is)),
-      subst (λ (l : List WorkCrew). AreAtRest l made) (sym is_new) (at_rest_again items new made rest b f s f_is s_is),
+      subst (λ (l : List LineWorker). AreAtRest l made) (sym is_new) (at_rest_again items new made rest b f s f_is s_is),
     )

@@ -15,15 +15,15 @@ use Rattle.station_step.specs.declared.input.Input.{Input}
 use Rattle.station_step.specs.Ends.{AreMet}
 use Rattle.station_step.specs.Input.{input_at}
 use Rattle.station_step.specs.Station.{WorkStation, bare_station, outlet_at}
-use Rattle.worker_crew.specs.Share.{worker_of, first_of}
-use Rattle.worker_crew.specs.Team.{WorkTeam, member, no_station}
-use Rattle.worker_crew.specs.Teams.{team_at, worker_at, station_of, shelf_of, place_in, input_on, outlet_on, AreTeams, IsQueueMet}
-use Rattle.worker_crew.specs.Work.{dates_of, turns_of, HasWorked, IsSameShelf, TeamWorked, TeamsWorked}
-use Rattle.worker_crew.specs.Meeting.{OutletMet, InletMet}
+use Rattle.line_worker.specs.Share.{worker_of, first_of}
+use Rattle.line_worker.specs.Team.{WorkTeam, member, no_station}
+use Rattle.line_worker.specs.Teams.{team_at, owner_of, station_of, shelf_of, place_in, input_on, outlet_on, AreTeams, IsQueueMet}
+use Rattle.line_worker.specs.Work.{dates_of, turns_of, HasWorked, IsSameShelf, TeamWorked, TeamsWorked}
+use Rattle.line_worker.specs.Meeting.{OutletMet, InletMet}
 use Rattle.line_workers.specs.Meeting.{AreStill, MeetsOn}
-use Rattle.worker_crew.proofs.Share.{first-le, next-above, worker-below}
-use Rattle.worker_crew.proofs.Places.{StandsIn, in-stands, out-stands}
-use Rattle.worker_crew.proofs.Working.{idle, idle_shelf, idle_team, then_team}
+use Rattle.line_worker.proofs.Share.{first-le, next-above, worker_number-below}
+use Rattle.line_worker.proofs.Places.{StandsIn, in-stands, out-stands}
+use Rattle.line_worker.proofs.Working.{idle, idle_shelf, idle_team, then_team}
 
 abbrev no_team : WorkTeam
 no_team = record { stations = []; shelf = [] }
@@ -53,7 +53,7 @@ record HasSeen (g : Parts) (old new : List WorkTeam) (t w j : ℕ) (team : WorkT
   sizes : (v : ℕ) → v < length old →
       first_of (length old) (stations g) v + length (team_at old v).stations ≡ first_of (length old) (stations g) (v + 1)
   there : t < stations g
-  worker : worker_at g old t ≡ w
+  worker_number : owner_of g old t ≡ w
   number : t - first_of (length old) (stations g) w ≡ j
   new_is : new ≡ set old w team
   only : team ≡ record { stations = set (team_at old w).stations j after; shelf = (team_at old w).shelf }
@@ -63,12 +63,12 @@ record HasSeen (g : Parts) (old new : List WorkTeam) (t w j : ℕ) (team : WorkT
 
 module _ (g : Parts) (old new : List WorkTeam) (t w j : ℕ) (team : WorkTeam) (after : WorkStation) (seen : HasSeen g old new t w j team after) where
   w_there : w < length old
-  w_there = omega (arith, worker-below (length old) (stations g) seen.teams seen.some t seen.there, seen.worker)
+  w_there = omega (arith, worker_number-below (length old) (stations g) seen.teams seen.some t seen.there, seen.worker_number)
 
   j_there : j < length (team_at old w).stations
   j_there =
       let First : ℕ → ℕ = first_of (length old) (stations g) in
-      omega (arith, seen.number, seen.sizes w w_there, ap First seen.worker, ap (λ v. First (v + 1)) seen.worker, first-le (length old) (stations g) seen.teams seen.some t, next-above (length old) (stations g) seen.teams seen.some t)
+      omega (arith, seen.number, seen.sizes w w_there, ap First seen.worker_number, ap (λ v. First (v + 1)) seen.worker_number, first-le (length old) (stations g) seen.teams seen.some t, next-above (length old) (stations g) seen.teams seen.some t)
 
   count : length new ≡ length old
   count = ap (λ (l : List WorkTeam). length l) seen.new_is ∙ length-set old w team
@@ -130,37 +130,37 @@ module _ (g : Parts) (old new : List WorkTeam) (t w j : ℕ) (team : WorkTeam) (
       ap (λ v. (team_at new v).shelf) same
       ∙ ap (λ (v : WorkTeam). v.shelf) (team-here ∙ seen.only)
       ∙ ap (λ v. (team_at old v).shelf) (sym same))
-      (λ apart. ap (λ (v : WorkTeam). v.shelf) (team-other (worker_at g old u) apart))
-      (cases_eq (worker_at g old u) w)
+      (λ apart. ap (λ (v : WorkTeam). v.shelf) (team-other (owner_of g old u) apart))
+      (cases_eq (owner_of g old u) w)
 
   -- station u of the new teams, by its number in its team
-  station-at : (u : ℕ) → station_of g new u ≡ member (team_at new (worker_at g old u)).stations (u - first_of (length old) (stations g) (worker_at g old u))
+  station-at : (u : ℕ) → station_of g new u ≡ member (team_at new (owner_of g old u)).stations (u - first_of (length old) (stations g) (owner_of g old u))
   station-at u = ap (λ n. member (team_at new (worker_of n (stations g) u)).stations (u - first_of n (stations g) (worker_of n (stations g) u))) count
 
   station-seen : station_of g new t ≡ after
   station-seen =
       station-at t
-      ∙ ap (λ v. member (team_at new v).stations (t - first_of (length old) (stations g) v)) seen.worker
+      ∙ ap (λ v. member (team_at new v).stations (t - first_of (length old) (stations g) v)) seen.worker_number
       ∙ ap (λ i. member (team_at new w).stations i) seen.number
       ∙ ap (λ (u : WorkTeam). member u.stations j) team-here
       ∙ member-here
 
   station-was : station_of g old t ≡ member (team_at old w).stations j
   station-was =
-      ap (λ v. member (team_at old v).stations (t - first_of (length old) (stations g) v)) seen.worker
+      ap (λ v. member (team_at old v).stations (t - first_of (length old) (stations g) v)) seen.worker_number
       ∙ ap (λ i. member (team_at old w).stations i) seen.number
 
   station-else : (u : ℕ) → u < stations g → u ≢ t → station_of g new u ≡ station_of g old u
   station-else u there apart =
       let First : ℕ → ℕ = first_of (length old) (stations g) in
-      let v = worker_at g old u in
+      let v = owner_of g old u in
       let i = u - First v in
       station-at u
       ∙ ⊎_elim
       (λ same.
       let differs : i ≢ j =
       λ e.
-      apart (omega (arith, e, seen.number, ap First same, ap First seen.worker, first-le (length old) (stations g) seen.teams seen.some u, first-le (length old) (stations g) seen.teams seen.some t)) in
+      apart (omega (arith, e, seen.number, ap First same, ap First seen.worker_number, first-le (length old) (stations g) seen.teams seen.some u, first-le (length old) (stations g) seen.teams seen.some t)) in
       ap (λ x. member (team_at new x).stations i) same
       ∙ ap (λ (x : WorkTeam). member x.stations i) team-here
       ∙ member-other i differs
@@ -208,7 +208,7 @@ module _ (g : Parts) (old new : List WorkTeam) (t w j : ℕ) (team : WorkTeam) (
 
 -- ---- the two stations of an arc, one after the other
 
-module _ (g : Parts) (begun : State) (old : List WorkTeam) (sound : IsGraph g) (some : 1 ≤ stations g) (are : AreTeams g begun old) (a : ℕ) (listed : a < arc_count g) (apart : worker_at g old (arc g a).from ≢ worker_at g old (arc g a).to) (first last : WorkTeam) where
+module _ (g : Parts) (begun : State) (old : List WorkTeam) (sound : IsGraph g) (some : 1 ≤ stations g) (are : AreTeams g begun old) (a : ℕ) (listed : a < arc_count g) (apart : owner_of g old (arc g a).from ≢ owner_of g old (arc g a).to) (first last : WorkTeam) where
   abbrev f : ℕ
   f = (arc g a).from
 
@@ -216,16 +216,16 @@ module _ (g : Parts) (begun : State) (old : List WorkTeam) (sound : IsGraph g) (
   t = (arc g a).to
 
   abbrev v : ℕ
-  v = worker_at g old (arc g a).from
+  v = owner_of g old (arc g a).from
 
   abbrev w : ℕ
-  w = worker_at g old (arc g a).to
+  w = owner_of g old (arc g a).to
 
   abbrev i : ℕ
-  i = (arc g a).from - first_of (length old) (stations g) (worker_at g old (arc g a).from)
+  i = (arc g a).from - first_of (length old) (stations g) (owner_of g old (arc g a).from)
 
   abbrev j : ℕ
-  j = (arc g a).to - first_of (length old) (stations g) (worker_at g old (arc g a).to)
+  j = (arc g a).to - first_of (length old) (stations g) (owner_of g old (arc g a).to)
 
   abbrev k : ℕ
   k = place_in (outs g (arc g a).from) a
@@ -234,16 +234,16 @@ module _ (g : Parts) (begun : State) (old : List WorkTeam) (sound : IsGraph g) (
   l = place_in (ins g (arc g a).to) a
 
   abbrev mid : List WorkTeam
-  mid = set old (worker_at g old (arc g a).from) first
+  mid = set old (owner_of g old (arc g a).from) first
 
   abbrev new : List WorkTeam
-  new = set (set old (worker_at g old (arc g a).from) first) (worker_at g old (arc g a).to) last
+  new = set (set old (owner_of g old (arc g a).from) first) (owner_of g old (arc g a).to) last
 
   abbrev s : WorkStation
-  s = member first.stations ((arc g a).from - first_of (length old) (stations g) (worker_at g old (arc g a).from))
+  s = member first.stations ((arc g a).from - first_of (length old) (stations g) (owner_of g old (arc g a).from))
 
   abbrev r : WorkStation
-  r = member last.stations ((arc g a).to - first_of (length old) (stations g) (worker_at g old (arc g a).to))
+  r = member last.stations ((arc g a).to - first_of (length old) (stations g) (owner_of g old (arc g a).to))
 
   f_there : f < stations g
   f_there = sound.starts_exist a listed
@@ -252,9 +252,9 @@ module _ (g : Parts) (begun : State) (old : List WorkTeam) (sound : IsGraph g) (
   t_there = sound.ends_exist a listed
 
   two : f ≢ t
-  two same = apart (ap (worker_at g old) same)
+  two same = apart (ap (owner_of g old) same)
 
-  module _ (out_met : OutletMet ((arc g a).from - first_of (length old) (stations g) (worker_at g old (arc g a).from)) (place_in (outs g (arc g a).from) a) (team_at old (worker_at g old (arc g a).from)) first) (in_met : InletMet ((arc g a).to - first_of (length old) (stations g) (worker_at g old (arc g a).to)) (place_in (ins g (arc g a).to) a) (team_at old (worker_at g old (arc g a).to)) last) where
+  module _ (out_met : OutletMet ((arc g a).from - first_of (length old) (stations g) (owner_of g old (arc g a).from)) (place_in (outs g (arc g a).from) a) (team_at old (owner_of g old (arc g a).from)) first) (in_met : InletMet ((arc g a).to - first_of (length old) (stations g) (owner_of g old (arc g a).to)) (place_in (ins g (arc g a).to) a) (team_at old (owner_of g old (arc g a).to)) last) where
     -- the station that puts
     puts : HasSeen g old mid f v i first s
     puts = record {
@@ -262,7 +262,7 @@ module _ (g : Parts) (begun : State) (old : List WorkTeam) (sound : IsGraph g) (
       teams = are.some;
       sizes = are.sizes;
       there = f_there;
-      worker = refl;
+      worker_number = refl;
       number = refl;
       new_is = refl;
       only = out_met.only;
@@ -295,7 +295,7 @@ module _ (g : Parts) (begun : State) (old : List WorkTeam) (sound : IsGraph g) (
       teams = omega (arith, are.some, mid-count);
       sizes = mid-sizes;
       there = t_there;
-      worker = ap (λ n. worker_of n (stations g) t) mid-count;
+      worker_number = ap (λ n. worker_of n (stations g) t) mid-count;
       number = ap (λ n. t - first_of n (stations g) w) mid-count;
       new_is = refl;
       only =
@@ -370,7 +370,7 @@ module _ (g : Parts) (begun : State) (old : List WorkTeam) (sound : IsGraph g) (
         differ
         ∙ ap (λ inputs. input_at inputs (place_in (ins g (arc g b).to) b)) (inputs-first (arc g b).to there)
 
-    pub meets_on : AreMet (outlet_at (member first.stations ((arc g a).from - first_of (length old) (stations g) (worker_at g old (arc g a).from))).outlets (place_in (outs g (arc g a).from) a)) (input_at (member last.stations ((arc g a).to - first_of (length old) (stations g) (worker_at g old (arc g a).to))).inputs (place_in (ins g (arc g a).to) a)).inlet → MeetsOn g old (set (set old (worker_at g old (arc g a).from) first) (worker_at g old (arc g a).to) last) a
+    pub meets_on : AreMet (outlet_at (member first.stations ((arc g a).from - first_of (length old) (stations g) (owner_of g old (arc g a).from))).outlets (place_in (outs g (arc g a).from) a)) (input_at (member last.stations ((arc g a).to - first_of (length old) (stations g) (owner_of g old (arc g a).to))).inputs (place_in (ins g (arc g a).to) a)).inlet → MeetsOn g old (set (set old (owner_of g old (arc g a).from) first) (owner_of g old (arc g a).to) last) a
     meets_on met = record {
       worked = worked;
       still = still;

@@ -8,10 +8,10 @@ use Rattle.line_base.specs.declared.event.Parts.{Parts}
 use Rattle.event_graph.specs.Network.{stations}
 use Rattle.event_graph.specs.State.{State}
 use Rattle.station_step.specs.Station.{WorkStation}
-use Rattle.worker_crew.specs.Share.{first_of}
-use Rattle.worker_crew.specs.Team.{WorkTeam, member, no_station}
-use Rattle.worker_crew.specs.Teams.{team_at, worker_at, station_of, AreTeams}
-use Rattle.worker_crew.proofs.Share.{worker_is, first-zero, first-all}
+use Rattle.line_worker.specs.Share.{first_of}
+use Rattle.line_worker.specs.Team.{WorkTeam, member, no_station}
+use Rattle.line_worker.specs.Teams.{team_at, owner_of, station_of, AreTeams}
+use Rattle.line_worker.proofs.Share.{worker_is, first-zero, first-all}
 
 -- ---- sums
 
@@ -53,7 +53,7 @@ module _ (g : Parts) (begun : State) (teams : List WorkTeam) (some : 1 ≤ stati
   pub of_worker : (w i : ℕ) → w < length teams → i < length (team_at teams w).stations → station_of g teams (first_of (length teams) (stations g) w + i) ≡ member (team_at teams w).stations i
   of_worker w i low low_i =
       let t = first w + i in
-      let at : worker_at g teams t ≡ w = worker_is (length teams) (stations g) are.some some w t (omega arith) (omega (arith, are.sizes w low, low_i)) in
+      let at : owner_of g teams t ≡ w = worker_is (length teams) (stations g) are.some some w t (omega arith) (omega (arith, are.sizes w low, low_i)) in
       let number : t - first w ≡ i = omega arith in
       ap (λ v. member (team_at teams v).stations (t - first v)) at
       ∙ ap (member (team_at teams w).stations) number

@@ -1,13 +1,13 @@
--- What a burst of all crews comes to.
+-- What a burst of all workers comes to.
 use Rattle.std.specs.Prelude.{◌≡◌, ℕ, ◌+◌, ◌<◌, ◌≤◌, List, take, min, length}
 use Rattle.line_base.specs.declared.event.Parts.{Parts}
 use Rattle.event_graph.specs.Network.{stations, jobs}
 use Rattle.station_step.specs.Step.{IsReady}
-use Rattle.worker_crew.specs.Team.{WorkTeam}
-use Rattle.worker_crew.specs.Teams.{station_of, shelf_of, AreAllMet}
-use Rattle.worker_crew.specs.Crew.{WorkCrew, teams_of}
-use Rattle.worker_crew.specs.Work.{dates_of, turns_of}
-use Rattle.worker_crew.specs.Crews.{graph_of, AreCrews, AreSameCrews}
+use Rattle.line_worker.specs.Team.{WorkTeam}
+use Rattle.line_worker.specs.Teams.{station_of, shelf_of, AreAllMet}
+use Rattle.line_worker.specs.Worker.{LineWorker, teams_of}
+use Rattle.line_worker.specs.Work.{dates_of, turns_of}
+use Rattle.line_worker.specs.Workers.{graph_of, AreWorkers, AreSameWorkers}
 
 -- what became of station t of the teams
 pub record StationBurst (g : Parts) (old new : List WorkTeam) (t : ℕ) : Type 0 where
@@ -33,10 +33,10 @@ TurnsAsDates g old new = (t : ℕ) → t < stations g →
     turns_of (station_of g new t) + dates_of (station_of g old t) ≡
     turns_of (station_of g old t) + dates_of (station_of g new t)
 
--- all crews have worked and every queue was met
-pub record CrewsBurst (old new : List WorkCrew) : Type 0 where
-  pub whole : AreCrews new
-  pub same : AreSameCrews old new
+-- all workers have worked and every queue was met
+pub record WorkersBurst (old new : List LineWorker) : Type 0 where
+  pub whole : AreWorkers new
+  pub same : AreSameWorkers old new
   pub met : AreAllMet (graph_of old) (teams_of new)
   pub each : (t : ℕ) → t < stations (graph_of old) → StationBurst (graph_of old) (teams_of old) (teams_of new) t
   pub idle : AllMade (graph_of old) (teams_of old) → (t : ℕ) → t < stations (graph_of old) →

@@ -6,12 +6,12 @@ use Rattle.line_base.specs.declared.event.Parts.{Parts}
 use Rattle.line_base.specs.Roomy.{RoomyLog, RoomyLogs}
 use Rattle.event_graph.specs.Network.{stations, jobs}
 use Rattle.station_step.specs.Station.{WorkStation}
-use Rattle.worker_crew.specs.Share.{first_of}
-use Rattle.worker_crew.specs.Team.{WorkTeam}
-use Rattle.worker_crew.specs.Teams.{station_of}
-use Rattle.worker_crew.specs.Crew.{WorkCrew, teams_of}
-use Rattle.worker_crew.specs.Crews.{graph_of}
-use Rattle.worker_crew.specs.Logs.{log_of, copy_of}
+use Rattle.line_worker.specs.Share.{first_of}
+use Rattle.line_worker.specs.Team.{WorkTeam}
+use Rattle.line_worker.specs.Teams.{station_of}
+use Rattle.line_worker.specs.Worker.{LineWorker, teams_of}
+use Rattle.line_worker.specs.Workers.{graph_of}
+use Rattle.line_worker.specs.Logs.{log_of, copy_of}
 
 -- what this gives of each of the first so many stations
 abbrev pub first_logs : (WorkStation → RoomyLog) → Parts → List WorkTeam → ℕ → List RoomyLog
@@ -25,8 +25,8 @@ logs_among g teams = first_logs log_of g teams (stations g)
 abbrev pub copies_among : Parts → List WorkTeam → List RoomyLog
 copies_among g teams = first_logs (copy_of (jobs g)) g teams (stations g)
 
--- these are what this gives of the stations of the first so many crews, with room for those of all
-pub record AreGiven (of : WorkStation → RoomyLog) (crews : List WorkCrew) (count : ℕ) (given : RoomyLogs) : Type 0 where
+-- these are what this gives of the stations of the first so many workers, with room for those of all
+pub record AreGiven (of : WorkStation → RoomyLog) (workers : List LineWorker) (count : ℕ) (given : RoomyLogs) : Type 0 where
   pub logs : given.logs ≡
-      first_logs of (graph_of crews) (teams_of crews) (first_of (length crews) (stations (graph_of crews)) count)
-  pub room : stations (graph_of crews) ≤ given.room
+      first_logs of (graph_of workers) (teams_of workers) (first_of (length workers) (stations (graph_of workers)) count)
+  pub room : stations (graph_of workers) ≤ given.room

@@ -4,12 +4,12 @@ use Rattle.event_graph.specs.State.{State}
 use Rattle.event_graph.specs.Reached.{Reached}
 use Rattle.live_check.specs.Order.{IsRanked, LiveGraph}
 use Rattle.line_core.specs.Consistent.{state_of}
-use Rattle.worker_crew.specs.Grown.{HasGrown}
-use Rattle.worker_crew.specs.Teams.{state_among}
-use Rattle.worker_crew.specs.Crew.{WorkCrew, teams_of}
-use Rattle.worker_crew.specs.Crews.{graph_of, AreCrews}
+use Rattle.line_worker.specs.Grown.{HasGrown}
+use Rattle.line_worker.specs.Teams.{state_among}
+use Rattle.line_worker.specs.Worker.{LineWorker, teams_of}
+use Rattle.line_worker.specs.Workers.{graph_of, AreWorkers}
 use Rattle.line_workers.specs.Line.{LogsGrow}
-use Rattle.line_workers.specs.Gather.{IsCrewAfter, AreCrewsAfter}
+use Rattle.line_workers.specs.Gather.{IsWorkerAfter, AreWorkersAfter}
 
 -- logs that have grown from a reached state of a live graph are those of a reached state
 abbrev pub GrownIsReached : Type 0
@@ -17,17 +17,17 @@ GrownIsReached =
     (live : LiveGraph) (begun : State) (logs : List (List ℕ)) → IsRanked live → Reached live.graph begun →
     HasGrown live.graph begun logs → Reached live.graph (state_of live.graph logs)
 
--- the crews of a line are its crews still after any sweeps
-abbrev pub SweptCrewsAreCrews : Type 0
-SweptCrewsAreCrews = (old new : List WorkCrew) → AreCrews old → AreCrewsAfter old new → AreCrews new
+-- the workers of a line are its workers still after any sweeps
+abbrev pub SweptWorkersAreWorkers : Type 0
+SweptWorkersAreWorkers = (old new : List LineWorker) → AreWorkers old → AreWorkersAfter old new → AreWorkers new
 
 -- each log of theirs has the dates that it had, and maybe more behind them
 abbrev pub SweepsLetLogsGrow : Type 0
 SweepsLetLogsGrow =
-    (old new : List WorkCrew) → AreCrews old → AreCrewsAfter old new →
+    (old new : List LineWorker) → AreWorkers old → AreWorkersAfter old new →
     LogsGrow (graph_of old) (state_among (graph_of old) (teams_of old)) (state_among (graph_of old) (teams_of new))
 
 -- what comes of sweeps after sweeps is what comes of sweeps
 abbrev pub SweepsFollowSweeps : Type 0
 SweepsFollowSweeps =
-    (crew later last : WorkCrew) → IsCrewAfter crew later → IsCrewAfter later last → IsCrewAfter crew last
+    (worker later last : LineWorker) → IsWorkerAfter worker later → IsWorkerAfter later last → IsWorkerAfter worker last

@@ -7,19 +7,19 @@ use Rattle.event_graph.specs.State.{State, log, place}
 use Rattle.live_check.specs.Order.{LiveGraph, IsRanked}
 use Rattle.line_core.specs.Consistent.{fired}
 use Rattle.line_core.specs.Run.{Run, IsReached}
-use Rattle.worker_crew.specs.Share.{worker_of}
-use Rattle.worker_crew.specs.Team.{WorkTeam}
-use Rattle.worker_crew.specs.Teams.{station_of, state_among, AreAllMet}
-use Rattle.worker_crew.specs.Crew.{WorkCrew, teams_of}
-use Rattle.worker_crew.specs.Work.{turns_of}
-use Rattle.worker_crew.specs.Crews.{live_of, graph_of, room_of, AreCrews}
+use Rattle.line_worker.specs.Share.{worker_of}
+use Rattle.line_worker.specs.Team.{WorkTeam}
+use Rattle.line_worker.specs.Teams.{station_of, state_among, AreAllMet}
+use Rattle.line_worker.specs.Worker.{LineWorker, teams_of}
+use Rattle.line_worker.specs.Work.{turns_of}
+use Rattle.line_worker.specs.Workers.{live_of, graph_of, room_of, AreWorkers}
 
 -- what contracts see of a `Line`
 pub record WorkLine : Type 0 where
   pub live : LiveGraph  -- the graph that it was made for, and the places of its stations
   pub state : State  -- the state that it stands for
   pub turns : List ℕ  -- how many steps each station has made
-  pub workers : ℕ
+  pub worker_count : ℕ
   pub room : Option ℕ  -- how much room a ring has beyond the tokens with which its arc starts; none: without bound
   pub made : ℕ  -- how many firings had been made when the turns began to count
 
@@ -27,14 +27,14 @@ pub record WorkLine : Type 0 where
 abbrev pub turns_among : Parts → List WorkTeam → List ℕ
 turns_among g teams = map (λ t. turns_of (station_of g teams t)) (range_with_len 0 (stations g))
 
--- the line of these crews
-abbrev pub line_of : List WorkCrew → ℕ → WorkLine
-line_of crews made = record {
-  live = live_of crews;
-  state = state_among (graph_of crews) (teams_of crews);
-  turns = turns_among (graph_of crews) (teams_of crews);
-  workers = length crews;
-  room = room_of crews;
+-- the line of these workers
+abbrev pub line_of : List LineWorker → ℕ → WorkLine
+line_of workers made = record {
+  live = live_of workers;
+  state = state_among (graph_of workers) (teams_of workers);
+  turns = turns_among (graph_of workers) (teams_of workers);
+  worker_count = length workers;
+  room = room_of workers;
   made = made;
 }
 
@@ -50,18 +50,18 @@ firings_of l = fired l.state - l.made
 abbrev pub KeepsPace : WorkLine → Type 0
 KeepsPace l = (l.made ≤ fired l.state) × All (λ turns. turns ≤ 16 * firings_of l) l.turns
 
--- the crews of a line at rest: every queue was met
-pub record AreAtRest (crews : List WorkCrew) (made : ℕ) : Type 0 where
-  pub whole : AreCrews crews
-  pub few : length crews ≤ 16
-  pub met : AreAllMet (graph_of crews) (teams_of crews)
-  pub pace : KeepsPace (line_of crews made)
+-- the workers of a line at rest: every queue was met
+pub record AreAtRest (workers : List LineWorker) (made : ℕ) : Type 0 where
+  pub whole : AreWorkers workers
+  pub few : length workers ≤ 16
+  pub met : AreAllMet (graph_of workers) (teams_of workers)
+  pub pace : KeepsPace (line_of workers made)
 
 -- two workers have the stations of arc a
 abbrev pub IsBetween : WorkLine → ℕ → Type 0
 IsBetween l a =
-    worker_of l.workers (stations l.live.graph) (arc l.live.graph a).from ≢
-    worker_of l.workers (stations l.live.graph) (arc l.live.graph a).to
+    worker_of l.worker_count (stations l.live.graph) (arc l.live.graph a).from ≢
+    worker_of l.worker_count (stations l.live.graph) (arc l.live.graph a).to
 
 -- on an arc between two workers no more tokens wait than those with which it starts, the room and one in the hand
 abbrev pub IsWithinRooms : WorkLine → Type 0
@@ -80,14 +80,14 @@ abbrev pub LogsGrow : Parts → State → State → Type 0
 LogsGrow g old new = (t : ℕ) → t < stations g → take (length (log old t)) (log new t) ≡ log old t
 
 -- a new line of so many workers, with rings of this room, which stands for this state
-pub record StandsIn (room : Option ℕ) (live : LiveGraph) (state : State) (workers : ℕ) (l : WorkLine) : Type 0 where
+pub record StandsIn (room : Option ℕ) (live : LiveGraph) (state : State) (worker_count : ℕ) (l : WorkLine) : Type 0 where
   pub live_is : l.live ≡ live
   pub state_is : l.state ≡ state
-  pub workers_are : l.workers ≡ workers
+  pub workers_are : l.worker_count ≡ worker_count
   pub room_is : l.room ≡ room
   pub made_is : l.made ≡ fired state
   pub no_turns : All (λ turns. turns ≡ 0) l.turns
 
 -- a new line of so many workers, with rings whose room has no bound, which stands for this state
 abbrev pub Stands : LiveGraph → State → ℕ → WorkLine → Type 0
-Stands live state workers = StandsIn None live state workers
+Stands live state worker_count = StandsIn None live state worker_count

@@ -1,13 +1,13 @@
--- What the meeting of all crews on one thread does: every queue is met, and nothing else changes.
+-- What the meeting of all workers on one thread does: every queue is met, and nothing else changes.
 use Rattle.std.specs.Prelude.{◌≡◌, ◌≢◌, ℕ, ◌<◌, List}
 use Rattle.line_base.specs.declared.event.Parts.{Parts}
 use Rattle.event_graph.specs.Network.{stations, arc_count}
 use Rattle.live_check.specs.Order.{LiveGraph}
-use Rattle.worker_crew.specs.Team.{WorkTeam}
-use Rattle.worker_crew.specs.Teams.{station_of, IsMetOn}
-use Rattle.worker_crew.specs.Crew.{WorkCrew, teams_of}
-use Rattle.worker_crew.specs.Work.{TeamsWorked, turns_of}
-use Rattle.worker_crew.specs.Crews.{live_of, AreCrews, AreSameCrews}
+use Rattle.line_worker.specs.Team.{WorkTeam}
+use Rattle.line_worker.specs.Teams.{station_of, IsMetOn}
+use Rattle.line_worker.specs.Worker.{LineWorker, teams_of}
+use Rattle.line_worker.specs.Work.{TeamsWorked, turns_of}
+use Rattle.line_worker.specs.Workers.{live_of, AreWorkers, AreSameWorkers}
 
 -- no station made a date or a turn
 pub record AreStill (g : Parts) (old new : List WorkTeam) : Type 0 where
@@ -22,10 +22,10 @@ pub record MeetsOn (g : Parts) (old new : List WorkTeam) (a : ℕ) : Type 0 wher
   pub others : (b : ℕ) → b < arc_count g → b ≢ a → IsMetOn g old b → IsMetOn g new b
 
 -- the queues of the first so many arcs were met
-pub record IsMeeting (live : LiveGraph) (old now : List WorkCrew) (arcs : ℕ) : Type 0 where
-  pub whole : AreCrews now
+pub record IsMeeting (live : LiveGraph) (old now : List LineWorker) (arcs : ℕ) : Type 0 where
+  pub whole : AreWorkers now
   pub live_is : live ≡ live_of now
-  pub same : AreSameCrews old now
+  pub same : AreSameWorkers old now
   pub worked : TeamsWorked (teams_of old) (teams_of now)
   pub still : AreStill live.graph (teams_of old) (teams_of now)
   pub met : (b : ℕ) → b < arcs → IsMetOn live.graph (teams_of now) b

@@ -1,13 +1,13 @@
 ghost use Rattle.std.specs.Prelude.{◌≡◌, map};
-ghost use Rattle.worker_crew.specs.Cleared.{cleared_crew};
+ghost use Rattle.line_worker.specs.Cleared.{cleared_worker};
 
-use worker_crew::Crew;
+use line_worker::Worker;
 
-/// Counts the turns of the stations of all crews from 0 again. Nothing else changes.
-pub(crate) fn clear_crews(crews: &mut [Crew])
-    ensures { crews.new ≡ map cleared_crew crews.old }
+/// Counts the turns of the stations of all workers from 0 again. Nothing else changes.
+pub(crate) fn clear_workers(workers: &mut [Worker])
+    ensures { workers.new ≡ map cleared_worker workers.old }
 {
-    for k in 0..crews.len() {
-        crews[k].clear_turns();
+    for k in 0..workers.len() {
+        workers[k].clear_turns();
     }
 }

@@ -3,17 +3,17 @@
 
 mod clearing;
 mod closing;
-mod crews;
 mod laws;
 mod line;
 mod link;
 mod pace;
 mod threading;
 mod work;
+mod workers;
 
 pub use laws::{
     logs_that_grow_from_a_state_are_reached, sweeps_follow_sweeps, sweeps_let_logs_grow,
-    swept_crews_are_crews,
+    swept_workers_are_workers,
 };
 pub use line::{Burst, Line};
-pub use worker_crew::{Crew, FreeGate, Gate};
+pub use line_worker::{FreeGate, Gate, Worker};

@@ -1,5 +1,5 @@
 ghost use Rattle.std.specs.Prelude.{◌≡◌, ◌+◌, ◌*◌, ◌^◌, ◌<◌, ◌≤◌, ◌↔◌, ℕ, None, Some, length, sum, min, All, IsTrue, IfOk, IfErr};
-ghost use Rattle.crew_laying.specs.Making.{MayHold};
+ghost use Rattle.line_setup.specs.Making.{MayHold};
 ghost use Rattle.event_graph.specs.Firing.{CanFire};
 ghost use Rattle.event_graph.specs.Least.{IsLeast};
 ghost use Rattle.event_graph.specs.Network.{stations, jobs};
@@ -10,19 +10,19 @@ ghost use Rattle.line_core.specs.Round.{HasFired};
 ghost use Rattle.line_core.specs.Run.{IsReached};
 ghost use Rattle.line_workers.specs.Gather.{logs_in};
 ghost use Rattle.line_workers.specs.Line.{IsLine, Stands, StandsIn, LogsGrow, run_in, line_of};
-ghost use Rattle.worker_crew.specs.Crews.{live_of, room_of, AreCrews};
-ghost use Rattle.worker_crew.specs.Work.{TurnsBelow};
+ghost use Rattle.line_worker.specs.Workers.{live_of, room_of, AreWorkers};
+ghost use Rattle.line_worker.specs.Work.{TurnsBelow};
 
 use crate::closing::{copies_of, logs_of};
-use crate::crews::{all_done, burst_of, dates_of, gather_crews};
 use crate::threading::Threading;
-use crew_laying::{Start, crews_of};
+use crate::workers::{all_done, burst_of, dates_of, gather_workers};
 use line_core::State;
+use line_setup::{Start, workers_of};
+use line_worker::{Gate, Worker};
 use live_check::Live;
 use std::alloc::{AllocError, Global};
 use std::marker::Model;
 use std::thread::Threads;
-use worker_crew::{Crew, Gate};
 
 /// An event graph that several workers run at once, burst by burst. Between two bursts it stands for a state of the
 /// graph that firings reach: the log of each station, and on each arc the token in the hand that the arc fills, then
@@ -31,7 +31,7 @@ use worker_crew::{Crew, Gate};
 /// Each call that takes a `Live` takes the one that the line was made for.
 #[derive(Drop)]
 pub struct Line {
-    crews: Vec<Crew>,
+    workers: Vec<Worker>,
     // How many firings had been made when the turns of the stations began to count. Contracts alone read it.
     made: u64,
     // Whether the next burst goes by threads.
@@ -43,9 +43,9 @@ impl Model for Line {
 
     ghost Value = { WorkLine };
 
-    ghost view = { λ l. line_of l.crews.items l.made };
+    ghost view = { λ l. line_of l.workers.items l.made };
 
-    ghost invariant = { λ l. AreAtRest l.crews.items l.made };
+    ghost invariant = { λ l. AreAtRest l.workers.items l.made };
 }
 
 /// What came of a burst.
@@ -63,26 +63,26 @@ impl Line {
         alloc: Global,
         live: &Live,
         state: &State,
-        workers: u32,
+        worker_count: u32,
         room: Option<u32>,
     ) -> Result<Line, AllocError>
         requires made_for { live.now.graph ≡ state.now.graph }
-        requires some { 1 ≤ workers }
-        requires few { workers ≤ 16 }
+        requires some { 1 ≤ worker_count }
+        requires few { worker_count ≤ 16 }
         requires fits { MayHold room live.now.graph state.now.state }
         ensures line { IfOk result IsLine }
-        ensures stands { IfOk result (StandsIn room live.now state.now.state workers) }
+        ensures stands { IfOk result (StandsIn room live.now state.now.state worker_count) }
     {
         let made = state.fired();
         let start = Start {
             live,
             state,
-            workers,
+            worker_count,
             room,
         };
-        let crews = crews_of(alloc, &start)?;
+        let workers = workers_of(alloc, &start)?;
         Ok(Line {
-            crews,
+            workers,
             made,
             threading: Threading::new(),
         })
@@ -90,14 +90,14 @@ impl Line {
 
     /// The line at the start: no station has fired. Station `t` belongs to worker `t * workers / stations`, rounded
     /// down. It takes all memory of the run, and fails only for want of it.
-    pub fn prepare(alloc: Global, live: &Live, workers: u32) -> Result<Line, AllocError>
-        requires some { 1 ≤ workers }
-        requires few { workers ≤ 16 }
+    pub fn prepare(alloc: Global, live: &Live, worker_count: u32) -> Result<Line, AllocError>
+        requires some { 1 ≤ worker_count }
+        requires few { worker_count ≤ 16 }
         ensures line { IfOk result IsLine }
-        ensures stands { IfOk result (Stands live.now (start live.now.graph) workers) }
+        ensures stands { IfOk result (Stands live.now (start live.now.graph) worker_count) }
     {
         let state = State::start(alloc, live)?;
-        let line = Line::of(alloc, live, &state, workers, None);
+        let line = Line::of(alloc, live, &state, worker_count, None);
         drop(state);
         line
     }
@@ -108,34 +108,39 @@ impl Line {
     pub fn prepare_room(
         alloc: Global,
         live: &Live,
-        workers: u32,
+        worker_count: u32,
         room: u32,
     ) -> Result<Line, AllocError>
-        requires some { 1 ≤ workers }
-        requires few { workers ≤ 16 }
+        requires some { 1 ≤ worker_count }
+        requires few { worker_count ≤ 16 }
         requires some_room { 1 ≤ room }
         requires most_room { room ≤ 10_000 }
         ensures line { IfOk result IsLine }
         ensures stands { IfOk result
-            (StandsIn (Some room) live.now (start live.now.graph) workers) }
+            (StandsIn (Some room) live.now (start live.now.graph) worker_count) }
     {
         let state = State::start(alloc, live)?;
-        let line = Line::of(alloc, live, &state, workers, Some(room));
+        let line = Line::of(alloc, live, &state, worker_count, Some(room));
         drop(state);
         line
     }
 
     /// The line that goes on from a state, of which it keeps copies. Where memory runs out, the state is handed back
     /// unchanged.
-    pub fn from_state(alloc: Global, live: &Live, state: State, workers: u32) -> Result<Line, State>
+    pub fn from_state(
+        alloc: Global,
+        live: &Live,
+        state: State,
+        worker_count: u32,
+    ) -> Result<Line, State>
         requires made_for { live.now.graph ≡ state.graph }
-        requires some { 1 ≤ workers }
-        requires few { workers ≤ 16 }
+        requires some { 1 ≤ worker_count }
+        requires few { worker_count ≤ 16 }
         ensures line { IfOk result IsLine }
-        ensures stands { IfOk result (Stands live.now state.state workers) }
+        ensures stands { IfOk result (Stands live.now state.state worker_count) }
         ensures handed_back { IfErr result (λ back. back ≡ state) }
     {
-        match Line::of(alloc, live, &state, workers, None) {
+        match Line::of(alloc, live, &state, worker_count, None) {
             Ok(line) => {
                 drop(state);
                 Ok(line)
@@ -149,7 +154,7 @@ impl Line {
         ensures fired { result ≡ fired self.now.state }
         ensures line { IsLine self.now }
     {
-        dates_of(&self.crews)
+        dates_of(&self.workers)
     }
 
     /// Whether every station has fired once for each job.
@@ -157,7 +162,7 @@ impl Line {
         ensures finished { IsTrue result ↔ IsFinished self.now.live.graph self.now.state }
         ensures line { IsLine self.now }
     {
-        all_done(&self.crews)
+        all_done(&self.workers)
     }
 
     /// Lets each worker go over its stations 16 times, or fewer where all of them are done before, and then lets the
@@ -189,12 +194,12 @@ impl Line {
         ensures rest { IsFinished self.old.live.graph self.old.state → result.steps ≡ 0 }
 
         // One worker, where all stations have fired as often, fires each of them with every step.
-        ensures alone { (times : ℕ) → self.old.workers ≡ 1 → HasFired (run_in self.old) times →
+        ensures alone { (times : ℕ) → self.old.worker_count ≡ 1 → HasFired (run_in self.old) times →
             HasFired (run_in self.new) (min (times + 16) (jobs self.old.live.graph)) }
-        ensures alone_steps { (times : ℕ) → self.old.workers ≡ 1 →
+        ensures alone_steps { (times : ℕ) → self.old.worker_count ≡ 1 →
             HasFired (run_in self.old) times → result.steps ≡ result.fired }
     {
-        burst_of(rt, &mut self.crews, live, gate, &mut self.threading)
+        burst_of(rt, &mut self.workers, live, gate, &mut self.threading)
     }
 
     /// A copy of the state that the line stands for. It can go on firing by itself: it takes the room of all later
@@ -205,7 +210,7 @@ impl Line {
         ensures reached { IfOk result IsReached }
         ensures line { IsLine self.now }
     {
-        let logs = copies_of(alloc, live, &self.crews)?;
+        let logs = copies_of(alloc, live, &self.workers)?;
         Ok(State::of_reached(alloc, live, logs))
     }
 
@@ -217,34 +222,34 @@ impl Line {
         ensures least { IsFinished self.live.graph self.state →
             IsLeast self.live.graph (date_in result.state.logs) }
     {
-        let alloc = self.crews[0].alloc();
-        let logs = logs_of(self.crews);
+        let alloc = self.workers[0].alloc();
+        let logs = logs_of(self.workers);
         State::of_reached(alloc, live, logs)
     }
 
-    /// The crews of the line, in the order of the workers. It takes no memory.
-    pub fn crews(self) -> Vec<Crew>
-        ensures crews { AreCrews result.items }
+    /// The workers of the line, in the order of the workers. It takes no memory.
+    pub fn workers(self) -> Vec<Worker>
+        ensures workers { AreWorkers result.items }
         ensures line { line_of result.items self.made ≡ self }
-        ensures turns { All (λ crew. TurnsBelow (2 ^ 38) crew.team) result.items }
+        ensures turns { All (λ worker. TurnsBelow (2 ^ 38) worker.team) result.items }
     {
-        self.crews
+        self.workers
     }
 
-    /// The line of these crews, all those of one line, in order. The ends of every queue meet on this thread, and the
+    /// The line of these workers, all those of one line, in order. The ends of every queue meet on this thread, and the
     /// turns of the stations count from 0 again. It takes no memory.
-    pub fn gather(live: &Live, crews: Vec<Crew>) -> Line
-        requires crews { AreCrews crews.items }
-        requires made_for { live.now ≡ live_of crews.items }
+    pub fn gather(live: &Live, workers: Vec<Worker>) -> Line
+        requires workers { AreWorkers workers.items }
+        requires made_for { live.now ≡ live_of workers.items }
         ensures line { IsLine result }
-        ensures logs { result.state.logs ≡ logs_in crews.items }
-        ensures stands { StandsIn (room_of crews.items) live.now result.state
-            (length crews.items) result }
+        ensures logs { result.state.logs ≡ logs_in workers.items }
+        ensures stands { StandsIn (room_of workers.items) live.now result.state
+            (length workers.items) result }
     {
-        let mut crews = crews;
-        let made = gather_crews(&mut crews, live);
+        let mut workers = workers;
+        let made = gather_workers(&mut workers, live);
         Line {
-            crews,
+            workers,
             made,
             threading: Threading::new(),
         }

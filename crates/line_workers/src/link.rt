@@ -1,15 +1,15 @@
 ghost use Rattle.std.specs.Prelude.{◌≡◌, ◌<◌, ◌≤◌, ◌^◌, ◌↔◌, IsTrue, length};
 ghost use Rattle.event_graph.specs.Network.{stations, arc_count};
 ghost use Rattle.line_workers.specs.Link.{seat_of, link_of, IsInside};
-ghost use Rattle.worker_crew.specs.Teams.{place_in};
+ghost use Rattle.line_worker.specs.Teams.{place_in};
 
+use line_worker::{arc_at, first_of, worker_of};
 use live_check::Live;
-use worker_crew::{arc_at, first_of, worker_of};
 
 /// Where a station stands: its worker, and its number in the worker's team.
 #[derive(Clone, Copy)]
 pub(crate) struct Seat {
-    pub(crate) worker: usize,
+    pub(crate) worker_number: usize,
     pub(crate) number: u32,
 }
 
@@ -31,43 +31,43 @@ fn place_in(list: &[u32], number: u32) -> u32
 }
 
 /// Where station `t` stands.
-fn seat_of(workers: u32, live: &Live, t: u32) -> Seat
-    requires some { 1 ≤ workers }
-    requires few { workers ≤ 16 }
+fn seat_of(worker_count: u32, live: &Live, t: u32) -> Seat
+    requires some { 1 ≤ worker_count }
+    requires few { worker_count ≤ 16 }
     requires station { t < stations live.now.graph }
-    ensures { result ≡ seat_of live.now.graph workers t }
+    ensures { result ≡ seat_of live.now.graph worker_count t }
 {
     let stations = live.graph().stations();
-    let worker = worker_of(workers, stations, t);
+    let worker_number = worker_of(worker_count, stations, t);
     Seat {
-        worker: worker as usize,
-        number: t - first_of(workers, stations, worker),
+        worker_number: worker_number as usize,
+        number: t - first_of(worker_count, stations, worker_number),
     }
 }
 
 /// Whether one worker has both stations of arc `a`.
-pub(crate) fn is_inside(workers: u32, live: &Live, a: u32) -> bool
-    requires few { workers ≤ 16 }
+pub(crate) fn is_inside(worker_count: u32, live: &Live, a: u32) -> bool
+    requires few { worker_count ≤ 16 }
     requires arc { a < arc_count live.now.graph }
-    ensures { IsTrue result ↔ IsInside live.now.graph workers a }
+    ensures { IsTrue result ↔ IsInside live.now.graph worker_count a }
 {
     let stations = live.graph().stations();
     let arc = arc_at(live, a);
-    worker_of(workers, stations, arc.from) == worker_of(workers, stations, arc.to)
+    worker_of(worker_count, stations, arc.from) == worker_of(worker_count, stations, arc.to)
 }
 
 /// Where the two ends of arc `a` stand.
-pub(crate) fn link_of(workers: u32, live: &Live, a: u32) -> Link
-    requires some { 1 ≤ workers }
-    requires few { workers ≤ 16 }
+pub(crate) fn link_of(worker_count: u32, live: &Live, a: u32) -> Link
+    requires some { 1 ≤ worker_count }
+    requires few { worker_count ≤ 16 }
     requires arc { a < arc_count live.now.graph }
-    ensures { result ≡ link_of live.now.graph workers a }
+    ensures { result ≡ link_of live.now.graph worker_count a }
 {
     let arc = arc_at(live, a);
     Link {
-        from: seat_of(workers, live, arc.from),
+        from: seat_of(worker_count, live, arc.from),
         output: place_in(live.graph().outs(arc.from), a),
-        to: seat_of(workers, live, arc.to),
+        to: seat_of(worker_count, live, arc.to),
         input: place_in(live.graph().ins(arc.to), a),
     }
 }

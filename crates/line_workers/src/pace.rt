@@ -1,47 +1,47 @@
+use line_worker::{Gate, SWEEPS};
 use std::sync::atomic::{AtomicU64, Ordering};
 use std::{hint, thread};
-use worker_crew::{Gate, SWEEPS};
 
-/// How often a crew looks for the others before it lets another thread run.
+/// How often a worker looks for the others before it lets another thread run.
 const LOOKS: u32 = 100;
 
-/// How often a crew lets another thread run in a burst, at most. After that it waits for nobody.
+/// How often a worker lets another thread run in a burst, at most. After that it waits for nobody.
 const ROUNDS: u64 = 200;
 
 /// Stands for no station.
 const NO_STATION: u64 = u64::MAX;
 
-/// What the crews of a burst that keep pace tell each other.
+/// What the workers of a burst that keep pace tell each other.
 #[derive(Drop)]
 pub(crate) struct Waits {
-    crews: u64,
-    // How many sweeps all crews together have begun.
+    workers: u64,
+    // How many sweeps all workers together have begun.
     begun: AtomicU64,
-    // How often the crew that waited most looked for the others.
+    // How often the worker that waited most looked for the others.
     most_looks: AtomicU64,
 }
 
 impl Waits {
-    /// Of so many crews, none of which has begun a sweep.
-    pub(crate) fn new(crews: u64) -> Waits {
+    /// Of so many workers, none of which has begun a sweep.
+    pub(crate) fn new(workers: u64) -> Waits {
         Waits {
-            crews,
+            workers,
             begun: AtomicU64::new(0),
             most_looks: AtomicU64::new(0),
         }
     }
 
-    /// How often the crew that waited most looked for the others, of those that have left.
+    /// How often the worker that waited most looked for the others, of those that have left.
     pub(crate) fn most_looks(&self) -> u64 {
         self.most_looks.load(Ordering::SeqCst)
     }
 }
 
-/// How far a crew has come in a burst, where it keeps pace with the others.
+/// How far a worker has come in a burst, where it keeps pace with the others.
 #[derive(Drop)]
 pub(crate) struct Pace<'a> {
     waits: &'a Waits,
-    // How many sweeps the crew has begun.
+    // How many sweeps the worker has begun.
     sweeps: AtomicU64,
     // The station at which its sweeps begin, once it has made a step.
     first: AtomicU64,
@@ -52,7 +52,7 @@ pub(crate) struct Pace<'a> {
 }
 
 impl<'a> Pace<'a> {
-    /// The pace of a crew that has begun no sweep, one of those that tell each other by this.
+    /// The pace of a worker that has begun no sweep, one of those that tell each other by this.
     pub(crate) fn new(waits: &'a Waits) -> Pace<'a> {
         Pace {
             waits,
@@ -87,7 +87,7 @@ impl<'a> Pace<'a> {
         false
     }
 
-    /// Looks until so many sweeps have begun, as long as the crew may in a burst.
+    /// Looks until so many sweeps have begun, as long as the worker may in a burst.
     fn look_for(&self, sweeps: u64) {
         for round in self.rounds.load(Ordering::SeqCst)..ROUNDS {
             if self.have_begun(sweeps) {
@@ -98,18 +98,18 @@ impl<'a> Pace<'a> {
         }
     }
 
-    /// The crew is about to let a station make a step. Where a sweep begins with it, looks for a while whether every
-    /// crew has begun as many sweeps as this one.
+    /// The worker is about to let a station make a step. Where a sweep begins with it, looks for a while whether every
+    /// worker has begun as many sweeps as this one.
     fn step(&self, station: u32) {
         if !self.begins_at(station) {
             return;
         }
         let before = self.sweeps.fetch_add(1, Ordering::SeqCst);
-        self.look_for(before.saturating_mul(self.waits.crews));
+        self.look_for(before.saturating_mul(self.waits.workers));
         self.waits.begun.fetch_add(1, Ordering::SeqCst);
     }
 
-    /// Counts the sweeps that the crew leaves out, since its stations are done. The others then look for it no more.
+    /// Counts the sweeps that the worker leaves out, since its stations are done. The others then look for it no more.
     /// Tells how often it has looked for them.
     pub(crate) fn leave(&self) {
         let left = u64::from(SWEEPS).saturating_sub(self.sweeps.load(Ordering::SeqCst));
@@ -119,7 +119,7 @@ impl<'a> Pace<'a> {
     }
 }
 
-/// The gate of a crew that keeps pace, before the gate of its line.
+/// The gate of a worker that keeps pace, before the gate of its line.
 #[derive(Drop)]
 pub(crate) struct PacedGate<'a, G> {
     pub(crate) pace: &'a Pace<'a>,

@@ -5,9 +5,9 @@ const FIRST_PAUSE: u32 = 256;
 /// How many they are at most.
 const LONGEST_PAUSE: u32 = 1024;
 
-/// How many firings a burst by threads makes at the least for each look of the crew that waited most, where it pays.
+/// How many firings a burst by threads makes at the least for each look of the worker that waited most, where it pays.
 ///
-/// One look takes about half as long as one firing. So the crew then waits for a thirtieth of the time at the most in
+/// One look takes about half as long as one firing. So the worker then waits for a thirtieth of the time at the most in
 /// which one thread would make the firings. To fetch what another processor has written takes time too, which nothing
 /// counts.
 const FIRINGS_FOR_A_LOOK: u64 = 16;
@@ -34,16 +34,16 @@ impl Threading {
         }
     }
 
-    /// Whether the next burst, of so many crews, goes by threads. It is taken to be made then.
-    pub(crate) fn begins_threads(&mut self, crews: usize) -> bool {
+    /// Whether the next burst, of so many workers, goes by threads. It is taken to be made then.
+    pub(crate) fn begins_threads(&mut self, workers: usize) -> bool {
         if self.in_turn == 0 {
-            return crews > 1;
+            return workers > 1;
         }
         self.in_turn -= 1;
         false
     }
 
-    /// Notes what came of a burst: how often the crew that waited most looked for the others, where it went by threads,
+    /// Notes what came of a burst: how often the worker that waited most looked for the others, where it went by threads,
     /// and how many firings were made.
     pub(crate) fn note(&mut self, looks: Option<u64>, fired: u64) {
         match looks {

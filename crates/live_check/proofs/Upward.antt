@@ -11,21 +11,21 @@ use Rattle.event_graph.specs.Live.{IsLive}
 use Rattle.live_check.specs.Order.{IsUpward, StandsAt, IsOrdered}
 use Rattle.live_check.specs.Ranking.{Ranks, IsFalling, IsComplete, AllRanked, from_end}
 
--- along arcs without tokens each step is one place up at least
-climbs : (g : Parts) (places : List ℕ) → IsUpward g places → (t u : ℕ) (arcs : List ℕ) → IsWalk g t arcs u → tokens_on g arcs ≡ 0 → get_or places t 0 + length arcs ≤ get_or places u 0
-climbs g places up t u [] walk empty = omega (arith, ap (λ v. get_or places v 0) walk)
-climbs g places up t u (a ∷ arcs) walk empty =
+-- along arcs without tokens each step is one rank up at least
+climbs : (g : Parts) (ranks : List ℕ) → IsUpward g ranks → (t u : ℕ) (arcs : List ℕ) → IsWalk g t arcs u → tokens_on g arcs ≡ 0 → get_or ranks t 0 + length arcs ≤ get_or ranks u 0
+climbs g ranks up t u [] walk empty = omega (arith, ap (λ v. get_or ranks v 0) walk)
+climbs g ranks up t u (a ∷ arcs) walk empty =
     let whole = sum_by-cons (λ b. (arc g b).tokens) a arcs in
     let step = up.upward a walk.0 (omega (arith, whole, empty)) in
-    let rest = climbs g places up (arc g a).to u arcs walk.2 (omega (arith, whole, empty)) in
-    omega (arith, step, rest, ap (λ v. get_or places v 0) walk.1)
+    let rest = climbs g ranks up (arc g a).to u arcs walk.2 (omega (arith, whole, empty)) in
+    omega (arith, step, rest, ap (λ v. get_or ranks v 0) walk.1)
 
 -- so no circuit is without a token
-pub upward_live : (g : Parts) (places : List ℕ) → IsUpward g places → IsLive g
-upward_live g places up arcs circuit =
+pub upward_live : (g : Parts) (ranks : List ℕ) → IsUpward g ranks → IsLive g
+upward_live g ranks up arcs circuit =
     elim (cases_lt 0 (tokens_on g arcs)) [
       | inl some ↦ some
-      | inr none ↦ absurd (omega (arith, climbs g places up circuit.base circuit.base arcs circuit.closed (omega (arith, none)), circuit.some))
+      | inr none ↦ absurd (omega (arith, climbs g ranks up circuit.base circuit.base arcs circuit.closed (omega (arith, none)), circuit.some))
     ]
 
 rank_below : (g : Parts) (ranks : List ℕ) → length ranks ≡ stations g → AllRanked ranks → (t : ℕ) → t < stations g → get_or ranks t 0 < stations g
@@ -40,7 +40,7 @@ falling_upward g ranks order graph falling ranked =
     let long = falling.rank_for_each in
     record {
       place_for_each = length-map ranks (from_end T) ∙ long;
-      below = All-map (λ place. place < T) (from_end T) ranks (λ k d below. omega (arith, ranked k d below));
+      below = All-map (λ rank. rank < T) (from_end T) ranks (λ k d below. omega (arith, ranked k d below));
       distinct = λ i j d before within same.
           (let j_in : j < T = omega (arith, length-map ranks (from_end T)) in
           let i_in : i < T = omega arith in
@@ -68,16 +68,16 @@ pub falling_stands : (g : Parts) (ranks order : List ℕ) → IsFalling g ranks 
 falling_stands g ranks order falling ranked =
     let T = stations g in
     let n = all_in_order g ranks order falling ranked in
-    let turned : (place : ℕ) → place < T → get_or (reverse order) place 0 ≡ get_or order (T - 1 - place) 0 = λ place below. get_or-reverse order place 0 (omega (arith, n)) ∙ ap (λ m. get_or order (m - 1 - place) 0) n in
+    let turned : (rank : ℕ) → rank < T → get_or (reverse order) rank 0 ≡ get_or order (T - 1 - rank) 0 = λ rank below. get_or-reverse order rank 0 (omega (arith, n)) ∙ ap (λ m. get_or order (m - 1 - rank) 0) n in
     record {
       one_for_each = length-reverse order ∙ n;
-      exists = λ place below. omega (arith, turned place below, falling.in_order (T - 1 - place) (omega (arith, n)));
-      place = λ place below.
-          (let k = T - 1 - place in
+      exists = λ rank below. omega (arith, turned rank below, falling.in_order (T - 1 - rank) (omega (arith, n)));
+      rank = λ rank below.
+          (let k = T - 1 - rank in
           let t = get_or order k 0 in
           let in_order : k < length order = omega (arith, n) in
           let e = place_is g ranks falling.rank_for_each t (falling.in_order k in_order) in
-          ap (λ u. get_or (map (from_end T) ranks) u 0) (turned place below) ∙ (e ∙ omega (arith, falling.rank_at k in_order)));
+          ap (λ u. get_or (map (from_end T) ranks) u 0) (turned rank below) ∙ (e ∙ omega (arith, falling.rank_at k in_order)));
     }
 
 -- a complete ranking in which every station has a rank is an order

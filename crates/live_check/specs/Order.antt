@@ -7,37 +7,37 @@ use Rattle.event_graph.specs.Network.{IsGraph, stations, arc_count, arc}
 use Rattle.event_graph.specs.Limits.{IsWithinLimits}
 use Rattle.event_graph.specs.Live.{IsLive}
 
--- what contracts see of a `Live`: its graph, and the place of each station in the order
+-- what contracts see of a `Live`: its graph, and the rank of each station in the order
 pub record LiveGraph : Type 0 where
   pub graph : Parts
-  pub places : List ℕ
+  pub ranks : List ℕ
 
--- each station has a place of its own, and each arc without a token goes upwards
-pub record IsUpward (g : Parts) (places : List ℕ) : Type 0 where
-  pub place_for_each : length places ≡ stations g
-  pub below : All (λ place. place < stations g) places
-  pub distinct : AllPairs (λ place other. place ≢ other) places
+-- each station has a rank of its own, and each arc without a token goes upwards
+pub record IsUpward (g : Parts) (ranks : List ℕ) : Type 0 where
+  pub place_for_each : length ranks ≡ stations g
+  pub below : All (λ rank. rank < stations g) ranks
+  pub distinct : AllPairs (λ rank other. rank ≢ other) ranks
   pub upward : (a : ℕ) → a < arc_count g → (arc g a).tokens ≡ 0 →
-      slice_index places (arc g a).from < slice_index places (arc g a).to
+      slice_index ranks (arc g a).from < slice_index ranks (arc g a).to
 
 -- the stations have an order in which each arc without a token goes upwards
 abbrev pub HasOrder : Parts → Type 0
-HasOrder g = (places : List ℕ) × IsUpward g places
+HasOrder g = (ranks : List ℕ) × IsUpward g ranks
 
--- at each place stands a station that has this place
-pub record StandsAt (g : Parts) (places order : List ℕ) : Type 0 where
+-- at each rank stands a station that has this rank
+pub record StandsAt (g : Parts) (ranks order : List ℕ) : Type 0 where
   pub one_for_each : length order ≡ stations g
-  pub exists : (place : ℕ) → place < stations g → slice_index order place < stations g
-  pub place : (place : ℕ) → place < stations g → slice_index places (slice_index order place) ≡ place
+  pub exists : (rank : ℕ) → rank < stations g → slice_index order rank < stations g
+  pub rank : (rank : ℕ) → rank < stations g → slice_index ranks (slice_index order rank) ≡ rank
 
--- the graph is sound and live, and the places order its stations
+-- the graph is sound and live, and the ranks order its stations
 pub record IsRanked (l : LiveGraph) : Type 0 where
   pub sound : IsGraph l.graph
   pub limits : IsWithinLimits l.graph
   pub live : IsLive l.graph
-  pub upward : IsUpward l.graph l.places
+  pub upward : IsUpward l.graph l.ranks
 
--- the places order the stations of the graph, which is live, and the order has the station at each place
-pub record IsOrdered (g : Parts) (places order : List ℕ) : Type 0 where
-  pub ranked : IsRanked (record { graph = g; places = places })
-  pub stands : StandsAt g places order
+-- the ranks order the stations of the graph, which is live, and the order has the station at each rank
+pub record IsOrdered (g : Parts) (ranks order : List ℕ) : Type 0 where
+  pub ranked : IsRanked (record { graph = g; ranks = ranks })
+  pub stands : StandsAt g ranks order

@@ -36,7 +36,7 @@ is_open g ranks passed t a = is_free_from g t a && nat_le passed (slice_index ra
 unfoldable pub open_count : Parts → List ℕ → ℕ → ℕ → ℕ
 open_count g ranks passed t = count_by (is_open g ranks passed t) (range_with_len 0 (arc_count g))
 
--- the stations in the order have their places in it as ranks, the others none below the number of stations;
+-- the stations in the order have their ranks in it as ranks, the others none below the number of stations;
 -- each arc without a token out of a ranked station leads to one of lower rank
 pub record IsFalling (g : Parts) (ranks order : List ℕ) : Type 0 where
   pub rank_for_each : length ranks ≡ stations g
@@ -79,7 +79,7 @@ AllRanked ranks = All (λ rank. rank < length ranks) ranks
 abbrev pub IsUnranked : List ℕ → ℕ → Type 0
 IsUnranked ranks t = (t < length ranks) × (length ranks ≤ slice_index ranks t)
 
--- the place of a rank among n stations, counted from the other end
+-- the rank of a rank among n stations, counted from the other end
 abbrev pub from_end : ℕ → ℕ → ℕ
 from_end n rank = n - 1 - rank
 

@@ -25,7 +25,7 @@ fn arc_on(graph: &Graph, ranks: &[u32], t: u32) -> u32
     unreachable!()
 }
 
-/// The elements from place `start` on.
+/// The elements from rank `start` on.
 fn rest_of(alloc: Global, elements: &[u32], start: usize) -> Result<Vec<u32>, AllocError>
     requires { start ≤ length elements.now }
     ensures { IfOk result (λ rest. rest.items ≡ drop start elements.now) }
@@ -34,7 +34,7 @@ fn rest_of(alloc: Global, elements: &[u32], start: usize) -> Result<Vec<u32>, Al
 }
 
 /// A circuit without a token, in order along its arcs. It is found by a walk from a station without a rank that always
-/// takes the first arc without a token to another such station, until it comes to a station that it left before.
+/// takes the first arc without a token to another such station, until it reaches a station that it left before.
 pub fn dead_circuit(
     alloc: Global,
     graph: &Graph,

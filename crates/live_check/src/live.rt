@@ -13,11 +13,11 @@ use std::alloc::Global;
 use std::marker::Model;
 
 /// A live graph with an order of its stations, in which every arc without a token goes upwards. Contracts see the
-/// graph's parts and the place of each station.
+/// graph's parts and the rank of each station.
 #[derive(Drop)]
 pub struct Live {
     graph: Graph,
-    places: Vec<u32>,
+    ranks: Vec<u32>,
     order: Vec<u32>,
 }
 
@@ -26,9 +26,9 @@ impl Model for Live {
 
     ghost Value = { LiveGraph };
 
-    ghost view = { λ l. record { graph = l.graph; places = l.places.items } };
+    ghost view = { λ l. record { graph = l.graph; ranks = l.ranks.items } };
 
-    ghost invariant = { λ l. IsOrdered l.graph l.places.items l.order.items };
+    ghost invariant = { λ l. IsOrdered l.graph l.ranks.items l.order.items };
 }
 
 /// Why a graph has no order of its stations. Both hand the graph back.
@@ -48,10 +48,10 @@ impl Live {
         ensures kept { result.graph ≡ graph }
         ensures ranked { IsRanked result }
     {
-        let (places, order) = ranking.into_order();
+        let (ranks, order) = ranking.into_order();
         Live {
             graph,
-            places,
+            ranks,
             order,
         }
     }
@@ -64,24 +64,24 @@ impl Live {
         &self.graph
     }
 
-    /// The place of station `t`. Places are counted from 0, and each station has one of its own.
+    /// The rank of station `t`. Places are counted from 0, and each station has one of its own.
     pub fn place_of(&self, t: u32) -> u32
         requires { t < stations self.now.graph }
-        ensures place { result ≡ slice_index self.now.places t }
+        ensures rank { result ≡ slice_index self.now.ranks t }
         ensures below { result < stations self.now.graph }
         ensures ranked { IsRanked self.now }
     {
-        self.places[t as usize]
+        self.ranks[t as usize]
     }
 
-    /// The station at a place.
-    pub fn station_at(&self, place: u32) -> u32
-        requires { place < stations self.now.graph }
-        ensures place { slice_index self.now.places result ≡ place }
+    /// The station at a rank.
+    pub fn station_at(&self, rank: u32) -> u32
+        requires { rank < stations self.now.graph }
+        ensures rank { slice_index self.now.ranks result ≡ rank }
         ensures exists { result < stations self.now.graph }
         ensures ranked { IsRanked self.now }
     {
-        self.order[place as usize]
+        self.order[rank as usize]
     }
 }
 

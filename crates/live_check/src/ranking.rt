@@ -42,7 +42,7 @@ fn count_free(alloc: Global, graph: &Graph) -> Result<Vec<u32>, AllocError>
     Ok(counts)
 }
 
-/// Makes each rank the place that is as far from the other end.
+/// Makes each rank the rank that is as far from the other end.
 fn turn_round(ranks: &mut Vec<u32>)
     requires ranked { AllRanked ranks.old.items }
     requires few { length ranks.old.items < 2 ^ 32 }
@@ -174,16 +174,16 @@ impl Ranking {
         self.ranks.as_slice()
     }
 
-    /// The place of each station, counted from the other end than its rank, and the stations by place.
+    /// The rank of each station, counted from the other end than its rank, and the stations by rank.
     pub fn into_order(self) -> (Vec<u32>, Vec<u32>)
         requires { AllRanked self.ranks }
-        ensures places { result.0.items ≡ map (from_end (length self.ranks)) self.ranks }
+        ensures ranks { result.0.items ≡ map (from_end (length self.ranks)) self.ranks }
         ensures order { result.1.items ≡ reverse self.order }
     {
-        let mut places = self.ranks;
+        let mut ranks = self.ranks;
         let mut order = self.order;
-        turn_round(&mut places);
+        turn_round(&mut ranks);
         order.reverse();
-        (places, order)
+        (ranks, order)
     }
 }

@@ -5,7 +5,7 @@ use plant_model::{FileTable, PlantError, Stage, key_place, table_place};
 use std::alloc::Global;
 
 /// Whether each stage that feeds one feeds a later one, and then whether no stage but the last feeds none. The error is the
-/// first of the refusals 8 and 9 of `PlantError`; want of memory may come before any of them.
+/// first of the refusals 8 and 9 of `PlantError`; running out of memory may come before any of them.
 pub fn check_flow<T>(alloc: Global, stages: &[Stage<T>]) -> Result<(), PlantError>
     ensures { AnswersFirst result (feeds_not_later_in stages.now ++ second_finals_in stages.now) }
 {
@@ -23,7 +23,7 @@ fn check_feeds<T>(alloc: Global, stages: &[Stage<T>]) -> Result<(), PlantError>
     Ok(())
 }
 
-/// Whether stage `i` of so many feeds a later one, if it feeds one.
+/// Whether stage `i` of this many feeds a later one, if it feeds one.
 fn check_stage_feeds<T>(
     alloc: Global,
     count: usize,
@@ -53,7 +53,7 @@ fn check_finals<T>(alloc: Global, stages: &[Stage<T>]) -> Result<(), PlantError>
     Ok(())
 }
 
-/// Whether stage `i` of so many feeds one, if it isn't the last.
+/// Whether stage `i` of this many feeds one, if it isn't the last.
 fn check_stage_final<T>(
     alloc: Global,
     count: usize,

@@ -8,7 +8,7 @@ use Rattle.std.proofs.lemmas.List.FromFn.{length-range_with_len, get_or-range_wi
 use Rattle.std.proofs.lemmas.List.Kept.{IsStrictlyIncreasing-filter}
 use Rattle.line_base.specs.declared.limits.TheConstants.{MAX_COLUMN}
 use Rattle.plant_draft.specs.declared.draft.DraftPlant.{DraftPlant}
-use Rattle.plant_tree.specs.Readers.{is_filled}
+use Rattle.plant_keys.specs.Readers.{is_filled}
 use Rattle.plant_draft.specs.Draft.{columns_of, is_used}
 
 range-ascends : (a n : ℕ) → IsStrictlyIncreasing (range_with_len a n)

@@ -6,10 +6,10 @@ use Rattle.line_base.specs.Text.{is_between}
 use Rattle.line_base.specs.declared.limits.TheConstants.{MAX_COLUMN}
 use Rattle.toml.specs.Data.{Data}
 use Rattle.plant_draft.specs.declared.draft.DraftTimes.TheVariants.{Column, Fixed, Each}
-use Rattle.plant_tree.specs.Readers.{is_filled}
+use Rattle.plant_keys.specs.Readers.{is_filled}
 use Rattle.plant_draft.specs.Draft.{uses, is_used, columns_of}
-use Rattle.plant_tree.specs.Readers.{has, tables_at, stage_names}
-use Rattle.plant_tree.specs.Keys.{stage_has_column, has_column}
+use Rattle.plant_keys.specs.Readers.{has, tables_at, stage_names}
+use Rattle.plant_keys.specs.Keys.{stage_has_column, has_column}
 use Rattle.plant_draft.specs.Reading.{machine_of, stage_of, draft_of, times_file_of}
 use Rattle.plant_draft.proofs.SoundParts.{number_at-between}
 

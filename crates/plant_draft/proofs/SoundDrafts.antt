@@ -7,15 +7,15 @@ use Rattle.plant_model.specs.declared.place.FileTable.TheVariants.{Top, InStage}
 use Rattle.plant_model.specs.Refusals.{each_from, each, feeds_not_later_in, second_finals_in}
 use Rattle.plant_model.proofs.NoRefusals.{append-nil_left, append-nil_right, each-none}
 use Rattle.toml.specs.Data.{Data, get}
-use Rattle.plant_tree.specs.declared.keys.Class.{Class}
-use Rattle.plant_tree.specs.declared.keys.Class.TheVariants.{MissingKeys, BadNames, OutOfRanges}
-use Rattle.plant_tree.specs.declared.keys.Kind.TheVariants.{StageText}
+use Rattle.plant_keys.specs.declared.keys.Class.{Class}
+use Rattle.plant_keys.specs.declared.keys.Class.TheVariants.{MissingKeys, BadNames, OutOfRanges}
+use Rattle.plant_keys.specs.declared.keys.Kind.TheVariants.{StageText}
 use Rattle.plant_draft.specs.Draft.{IsSoundDraft, is_sound_stage, is_sound_machine, is_sound_loop}
-use Rattle.plant_tree.specs.Readers.{tables_at, text_at, stage_names}
-use Rattle.plant_tree.specs.Keys.{Key, optional, top_keys, stage_keys, has_stage_cards}
-use Rattle.plant_tree.specs.Walk.{walk, names_twice, key_refusals, table_refusals, stage_refusals}
-use Rattle.plant_draft.specs.Reading.{draft_of, stage_of, machine_of, loop_of}
-use Rattle.plant_draft.proofs.SoundParts.{count_at-sound, time_at-sound, numbers_at-up_to, policy_of-sound, machine_of-sound, loop_of-sound, list_all-made, tables_filled, filled-made, demands_sound, name_unreserved}
+use Rattle.plant_keys.specs.Readers.{tables_at, text_at, stage_names}
+use Rattle.plant_keys.specs.Keys.{Key, optional, top_keys, stage_keys, has_stage_cards}
+use Rattle.plant_keys.specs.Walk.{walk, names_twice, key_refusals, table_refusals, stage_refusals}
+use Rattle.plant_draft.specs.Reading.{column_at, draft_of, stage_of, machine_of, loop_of}
+use Rattle.plant_draft.proofs.SoundParts.{count_at-sound, column_at-sound, time_at-sound, numbers_at-up_to, policy_of-sound, machine_of-sound, loop_of-sound, list_all-made, tables_filled, filled-made, demands_sound, name_unreserved}
 use Rattle.plant_draft.proofs.ColumnUses.{times_file-columns}
 use Rattle.plant_draft.proofs.SoundNames.{names_twice-draft}
 
@@ -59,12 +59,12 @@ stages_of_walk class top h =
 pub sound_draft : (top : Data) → walk MissingKeys top ≡ [] → walk BadNames top ≡ [] → names_twice top ≡ [] → walk OutOfRanges top ≡ [] → feeds_not_later_in (draft_of top).stages ≡ [] → second_finals_in (draft_of top).stages ≡ [] → IsSoundDraft (draft_of top)
 sound_draft top missing bad twice out feeds finals =
     let demands = each-none (λ _ k. key_refusals OutOfRanges Top top k) (top_keys top) 2 no_key (omega arith) (top_of_walk OutOfRanges top out) in
-    let there = each-none (λ _ k. key_refusals MissingKeys Top top k) (top_keys top) 7 no_key (omega arith) (top_of_walk MissingKeys top missing) in
-    let some = each-none (λ _ k. key_refusals OutOfRanges Top top k) (top_keys top) 7 no_key (omega arith) (top_of_walk OutOfRanges top out) in
+    let there = each-none (λ _ k. key_refusals MissingKeys Top top k) (top_keys top) 8 no_key (omega arith) (top_of_walk MissingKeys top missing) in
+    let some = each-none (λ _ k. key_refusals OutOfRanges Top top k) (top_keys top) 8 no_key (omega arith) (top_of_walk OutOfRanges top out) in
     record {
       policy = policy_of-sound top;
       card_time = time_at-sound (codes "card_time") top;
-      demands = demands_sound (get (codes "demands") top) _ (text_at (codes "demands_file") top) demands;
+      demands = demands_sound (get (codes "demands") top) _ (text_at (codes "demands_file") top) (column_at (codes "demands_column") top) (column_at-sound (codes "demands_column") top) demands;
       observe = numbers_at-up_to MAX_OBSERVE_DATE (codes "observe") top;
       filled = filled-made (stage_of (stage_names top)) (tables_at (codes "stage") top) (tables_filled (get (codes "stage") top) _ _ there some);
       stages = stages_sound (stage_names top) (has_stage_cards top) 0 (tables_at (codes "stage") top) (stages_of_walk BadNames top bad) (stages_of_walk MissingKeys top missing) (stages_of_walk OutOfRanges top out);

@@ -10,10 +10,10 @@ use Rattle.plant_model.specs.Place.{key_of}
 use Rattle.plant_model.specs.Refusals.{each_from, each, refuse_if}
 use Rattle.toml.specs.Data.{Data}
 use Rattle.plant_model.specs.Refusals as model
-use Rattle.plant_tree.specs.Walk as tree
-use Rattle.plant_tree.specs.Readers.{name_in, tables_at, stage_names}
+use Rattle.plant_keys.specs.Walk as tree
+use Rattle.plant_keys.specs.Readers.{name_in, tables_at, stage_names}
 use Rattle.plant_draft.specs.Reading.{machine_of, stage_of, draft_of}
-use Rattle.plant_tree.proofs.KeyLists.{each_map}
+use Rattle.plant_keys.proofs.KeyLists.{each_map}
 
 nat_eq-sym : (x y : ℕ) → (x == y) ≡ (y == x)
 nat_eq-sym x y =

@@ -12,13 +12,13 @@ use Rattle.plant_model.proofs.NoRefusals.{append-nil_left}
 use Rattle.toml.specs.Data.{Data, integer, get}
 use Rattle.plant_draft.specs.declared.draft.DraftDemands.TheVariants.{Given, File}
 use Rattle.plant_draft.specs.declared.draft.DraftTimes.TheVariants.{Column, Fixed, Each}
-use Rattle.plant_tree.specs.declared.keys.Class.TheVariants.{MissingKeys, BadNames, OutOfRanges}
-use Rattle.plant_tree.specs.declared.keys.Kind.TheVariants.{StageName, Numbers, Tables}
-use Rattle.plant_tree.specs.Readers.{is_filled}
+use Rattle.plant_keys.specs.declared.keys.Class.TheVariants.{MissingKeys, BadNames, OutOfRanges}
+use Rattle.plant_keys.specs.declared.keys.Kind.TheVariants.{StageName, Numbers, Tables}
+use Rattle.plant_keys.specs.Readers.{is_filled}
 use Rattle.plant_draft.specs.Draft.{are_up_to, are_sound_times, is_sound_machine, is_sound_loop, is_sound_policy, are_sound_demands}
-use Rattle.plant_tree.specs.Readers.{number_in, number_of, number_at, numbers_at, elements_of, tables_of, text_of, has}
-use Rattle.plant_tree.specs.Walk.{out_unless, value_refusals, absence_refusals}
-use Rattle.plant_draft.specs.Reading.{machine_of, loop_of, policy_of, count_at, time_at}
+use Rattle.plant_keys.specs.Readers.{number_in, number_of, number_at, numbers_at, elements_of, tables_of, text_of, has}
+use Rattle.plant_keys.specs.Walk.{out_unless, value_refusals, absence_refusals}
+use Rattle.plant_draft.specs.Reading.{machine_of, loop_of, policy_of, count_at, time_at, column_at}
 
 if_holds : (P : ℕ → Bool) (b : Bool) (x d : ℕ) → (b ≡ true → P x ≡ true) → P d ≡ true → P (if b then x else d) ≡ true
 if_holds P true x d h hd = h refl
@@ -68,6 +68,10 @@ count_at-sound d key t hd = number_at-up_to 0 MAX_CARDS d key t hd
 pub time_at-sound : (key : List ℕ) (t : Data) → nat_le (time_at key t) MAX_TIME ≡ true
 time_at-sound key t = number_at-up_to 0 MAX_TIME 0 key t refl
 
+-- the column at a key is one of a csv file
+pub column_at-sound : (key : List ℕ) (t : Data) → is_between 1 MAX_COLUMN (column_at key t) ≡ true
+column_at-sound key t = number_at-between 1 MAX_COLUMN 1 key t refl
+
 policy_sound : (a b c : Bool) (cards : ℕ) → nat_le cards MAX_CARDS ≡ true → is_sound_policy (if a then Kanban else if b then Conwip cards else if c then BaseStock else Extended) ≡ true
 policy_sound true b c cards h = refl
 policy_sound false true c cards h = h
@@ -88,7 +92,7 @@ pub machine_of-sound : (m : Data) → is_sound_machine (machine_of m) ≡ true
 machine_of-sound m =
     and_from _ _ (count_at-sound 1 (codes "servers") m refl)
     (times_sound (has (codes "column") m) (has (codes "time") m) _ _ _
-    (number_at-between 1 MAX_COLUMN 1 (codes "column") m refl) (time_at-sound (codes "time") m)
+    (column_at-sound (codes "column") m) (time_at-sound (codes "time") m)
     (numbers_at-up_to MAX_TIME (codes "times") m))
 
 -- a loop of a tree
@@ -113,9 +117,9 @@ pub filled-made : {X Y : Type 0} (f : X → Y) (xs : List X) → is_filled xs �
 filled-made f xs h = is_filled-made f xs ∙ h
 
 -- the demands of a tree, where no list of dates is refused for its length
-pub demands_sound : (o : Option Data) (place file : List ℕ) → option_map_or (value_refusals OutOfRanges (Numbers MAX_DEMAND_DATE false) place) o [] ≡ [] → are_sound_demands (if is_some o then Given (option_map_or (λ v. map (number_of 0 MAX_DEMAND_DATE 0) (elements_of v)) o []) else File file) ≡ true
-demands_sound None place file out = refl
-demands_sound (Some v) place file out =
+pub demands_sound : (o : Option Data) (place file : List ℕ) (column : ℕ) → is_between 1 MAX_COLUMN column ≡ true → option_map_or (value_refusals OutOfRanges (Numbers MAX_DEMAND_DATE false) place) o [] ≡ [] → are_sound_demands (if is_some o then Given (option_map_or (λ v. map (number_of 0 MAX_DEMAND_DATE 0) (elements_of v)) o []) else File file column) ≡ true
+demands_sound None place file column within out = within
+demands_sound (Some v) place file column within out =
     and_from _ _
     (filled-made (number_of 0 MAX_DEMAND_DATE 0) (elements_of v) (unless-none (is_filled (elements_of v)) place (append-nil_left _ _ out)))
     (numbers_or MAX_DEMAND_DATE (Some v))

@@ -8,7 +8,7 @@ use Rattle.plant_model.specs.declared.plant.Policy.TheVariants.{Kanban, Conwip, 
 use Rattle.plant_model.specs.declared.plant.Machine.{Machine as MachineOf}
 use Rattle.plant_model.specs.declared.plant.Stage.{Stage as StageOf}
 use Rattle.plant_model.specs.Refusals.{is_reserved, names_twice_in, feeds_not_later_in, second_finals_in}
-use Rattle.plant_tree.specs.Readers.{is_filled}
+use Rattle.plant_keys.specs.Readers.{is_filled}
 use Rattle.plant_draft.specs.declared.draft.DraftDemands.{DraftDemands}
 use Rattle.plant_draft.specs.declared.draft.DraftDemands.TheVariants.{Given, File}
 use Rattle.plant_draft.specs.declared.draft.DraftTimes.{DraftTimes}
@@ -27,11 +27,20 @@ DraftStage = StageOf DraftTimes
 -- the name of the demand file, if the dates stand in one
 abbrev pub file_of : DraftDemands → Option (List ℕ)
 file_of (Given dates) = None
-file_of (File name) = Some name
+file_of (File name column) = Some name
+
+-- the column of the demand file in which the dates stand, and the first where they stand in no file
+abbrev pub date_column_of : DraftDemands → ℕ
+date_column_of (Given dates) = 1
+date_column_of (File name column) = column
 
 -- the name of the demand file, if there is one
 abbrev pub demands_file : DraftPlant → Option (List ℕ)
 demands_file d = file_of d.demands
+
+-- the column of the demand file in which the dates stand, and the first where there is no such file
+abbrev pub demands_column : DraftPlant → ℕ
+demands_column d = date_column_of d.demands
 
 -- the job times stand in this column
 abbrev pub uses : ℕ → DraftTimes → Bool
@@ -81,10 +90,10 @@ is_sound_policy (Conwip cards) = nat_le cards most_cards
 is_sound_policy BaseStock = true
 is_sound_policy Extended = true
 
--- dates that are given are at least one, within their limit
+-- dates that are given are at least one, within their limit; the column of those in a file is within its limits
 abbrev pub are_sound_demands : DraftDemands → Bool
 are_sound_demands (Given dates) = is_filled dates && are_up_to last_demand dates
-are_sound_demands (File name) = true
+are_sound_demands (File name column) = is_between 1 last_column column
 
 -- a draft in which nothing is wrong by itself
 pub record IsSoundDraft (d : DraftPlant) : Type 0 where

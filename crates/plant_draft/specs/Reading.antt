@@ -17,11 +17,11 @@ use Rattle.plant_draft.specs.declared.draft.DraftTimes.TheVariants.{Column, Fixe
 use Rattle.plant_draft.specs.Draft.{DraftMachine, DraftStage}
 use Rattle.plant_draft.specs.declared.draft.DraftLoop.{DraftLoop}
 use Rattle.plant_draft.specs.declared.draft.DraftPlant.{DraftPlant}
-use Rattle.plant_tree.specs.declared.keys.Class.TheVariants.{UnknownKeys, MissingKeys, WrongTypes, BadNames, OutOfRanges}
+use Rattle.plant_keys.specs.declared.keys.Class.TheVariants.{UnknownKeys, MissingKeys, WrongTypes, BadNames, OutOfRanges}
 use Rattle.plant_model.specs.Refusals.{feeds_not_later_in, second_finals_in}
-use Rattle.plant_tree.specs.Readers.{has, text_of, text_at, tables_at, number_at, numbers_at, name_in, stage_names}
-use Rattle.plant_tree.specs.Keys.{policy_word, has_column}
-use Rattle.plant_tree.specs.Walk.{walk, names_twice}
+use Rattle.plant_keys.specs.Readers.{has, text_of, text_at, tables_at, number_at, numbers_at, name_in, stage_names}
+use Rattle.plant_keys.specs.Keys.{policy_word, has_column}
+use Rattle.plant_keys.specs.Walk.{walk, names_twice}
 
 -- a number of cards, of stock or of servers, and a length of time, at a key
 abbrev pub count_at : ℕ → List ℕ → Data → ℕ
@@ -38,11 +38,15 @@ policy_of top =
     else if bytes_eq (policy_word top) (codes "base-stock") then BaseStock
     else Extended
 
+-- the number of a column at a key, and that of the first where the key is absent
+abbrev pub column_at : List ℕ → Data → ℕ
+column_at key d = number_at 1 last_column 1 key d
+
 -- where the demand dates stand
 abbrev pub demands_of : Data → DraftDemands
 demands_of top =
     if has (codes "demands") top then Given (numbers_at last_demand (codes "demands") top)
-    else File (text_at (codes "demands_file") top)
+    else File (text_at (codes "demands_file") top) (column_at (codes "demands_column") top)
 
 -- the times file, where a machine names a column of it
 abbrev pub times_file_of : Data → Option (List ℕ)
@@ -51,7 +55,7 @@ times_file_of top = if has_column top then Some (text_at (codes "times_file") to
 -- where the job times of a machine stand
 abbrev pub times_of : Data → DraftTimes
 times_of m =
-    if has (codes "column") m then Column (number_at 1 last_column 1 (codes "column") m)
+    if has (codes "column") m then Column (column_at (codes "column") m)
     else if has (codes "time") m then Fixed (time_at (codes "time") m)
     else Each (numbers_at longest_time (codes "times") m)
 
@@ -130,6 +134,6 @@ tree_reading top = draft_or_first (tree_refusals top) (draft_of top)
 unfoldable pub reading : List ℕ → Result DraftPlant PlantError
 reading bytes = option_map_or tree_reading (tree_of bytes) (Err NotToml)
 
--- the answer is the reading; want of memory may come instead
+-- the answer is the reading; running out of memory may come instead
 abbrev pub AnswersReading : Result DraftPlant PlantError → Result DraftPlant PlantError → Type 0
 AnswersReading r read = MatchResult r (λ draft. read ≡ Ok draft) (λ e. e ≢ NoMemory → read ≡ Err e)

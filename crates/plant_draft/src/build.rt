@@ -2,14 +2,14 @@
 ghost use Rattle.std.specs.Prelude.{◌≡◌, ◌≤◌, ◌++◌, [], ◌∷◌, map, position, bytes_eq, OnOk};
 ghost use Rattle.line_base.specs.declared.limits.TheConstants.{MAX_CARDS};
 ghost use Rattle.plant_draft.specs.Code.{Builds};
-ghost use Rattle.plant_draft.specs.Reading.{count_at, time_at, policy_of, demands_of, times_file_of, times_of, machine_of, feeds_of, stage_of, loop_of, draft_of};
-ghost use Rattle.plant_tree.specs.Readers.{number_in, number_of, number_at, numbers_at, text_at, name_in, stage_names};
+ghost use Rattle.plant_draft.specs.Reading.{count_at, time_at, column_at, policy_of, demands_of, times_file_of, times_of, machine_of, feeds_of, stage_of, loop_of, draft_of};
+ghost use Rattle.plant_keys.specs.Readers.{number_in, number_of, number_at, numbers_at, text_at, name_in, stage_names};
 ghost use Rattle.toml.specs.View.{view};
 
 use crate::draft::{DraftDemands, DraftLoop, DraftMachine, DraftPlant, DraftStage, DraftTimes};
 use line_base::{Items, MAX_CARDS, MAX_COLUMN, MAX_DEMAND_DATE, MAX_OBSERVE_DATE, MAX_TIME, Name};
+use plant_keys::{Names, elements_of, has, has_column, tables_at, text_at, text_of, value_at};
 use plant_model::{PlantError, Policy, Text};
-use plant_tree::{Names, elements_of, has, has_column, tables_at, text_at, text_of, value_at};
 use std::alloc::{AllocError, Global};
 use toml::Value;
 
@@ -61,6 +61,13 @@ fn time_at(table: &Value, key: &str) -> u64
     number_at(table, key, 0, MAX_TIME, 0)
 }
 
+/// The number of a column, 1 where the key is absent.
+fn column_at(table: &Value, key: &str) -> u32
+    ensures { result ≡ column_at key.now (view table.now) }
+{
+    number_at(table, key, 1, u64::from(MAX_COLUMN), 1) as u32
+}
+
 /// The numbers of the list at a key.
 fn numbers_at(alloc: Global, table: &Value, key: &str, most: u64) -> Result<Items<u64>, PlantError>
     ensures { Builds result (numbers_at most key.now (view table.now)) }
@@ -90,7 +97,7 @@ fn file_at(alloc: Global, table: &Value, key: &str) -> Result<Text, PlantError>
     Ok(Text::from_string(text))
 }
 
-/// The name of a stage or of a machine. A text that is no name has been refused before, so memory alone can be wanting.
+/// The name of a stage or of a machine. A text that is no name has been refused before, so only memory can run out.
 fn name_in(alloc: Global, table: &Value) -> Result<Name, PlantError>
     ensures { Builds result (name_in (view table.now)) }
 {
@@ -120,7 +127,11 @@ fn demands_of(alloc: Global, top: &Value) -> Result<DraftDemands, PlantError>
         let dates = numbers_at(alloc, top, "demands", MAX_DEMAND_DATE)?;
         return Ok(DraftDemands::Given(dates));
     }
-    Ok(DraftDemands::File(file_at(alloc, top, "demands_file")?))
+    let name = file_at(alloc, top, "demands_file")?;
+    Ok(DraftDemands::File {
+        name,
+        column: column_at(top, "demands_column"),
+    })
 }
 
 /// The times file, where a machine names a column of it.
@@ -138,8 +149,7 @@ fn times_of(alloc: Global, machine: &Value) -> Result<DraftTimes, PlantError>
     ensures { Builds result (times_of (view machine.now)) }
 {
     if has(machine, "column") {
-        let column = number_at(machine, "column", 1, u64::from(MAX_COLUMN), 1);
-        return Ok(DraftTimes::Column(column as u32));
+        return Ok(DraftTimes::Column(column_at(machine, "column")));
     }
     if has(machine, "time") {
         return Ok(DraftTimes::Fixed(time_at(machine, "time")));

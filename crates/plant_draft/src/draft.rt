@@ -1,7 +1,7 @@
 ghost use Rattle.std.specs.List.Sorted.{IsStrictlyIncreasing};
 ghost use Rattle.std.specs.Prelude.{◌≡◌, ◌≤◌, ◌↔◌, [], All, IsTrue, option_map};
 ghost use Rattle.line_base.specs.declared.limits.TheConstants.{MAX_COLUMN};
-ghost use Rattle.plant_draft.specs.Draft.{demands_file, columns_of, IsSoundDraft};
+ghost use Rattle.plant_draft.specs.Draft.{demands_file, demands_column, columns_of, IsSoundDraft};
 
 use line_base::{Date, Items};
 use plant_model::{Machine, Policy, Stage, Text};
@@ -12,8 +12,8 @@ use std::marker::Model;
 pub enum DraftDemands {
     /// In the plant file, that of job 1 first.
     Given(Items<Date>),
-    /// In the demand file of this name.
-    File(Text),
+    /// In the demand file of this name, in this column of it, counted from 1: the first where the key is absent.
+    File { name: Text, column: u32 },
 }
 
 /// Where the job times of a machine stand.
@@ -92,7 +92,19 @@ impl Draft {
     {
         match &self.plant.demands {
             DraftDemands::Given(_) => None,
-            DraftDemands::File(name) => Some(name.as_str()),
+            DraftDemands::File { name, column: _ } => Some(name.as_str()),
+        }
+    }
+
+    /// The column of the demand file in which the dates stand, counted from 1; 1 where they stand in the plant file. It
+    /// takes no memory.
+    pub fn demands_column(&self) -> u32
+        ensures column { result ≡ demands_column self.now }
+        ensures within { (1 ≤ result) × (result ≤ MAX_COLUMN) }
+    {
+        match &self.plant.demands {
+            DraftDemands::Given(_) => 1,
+            DraftDemands::File { name: _, column } => *column,
         }
     }
 

@@ -3,22 +3,22 @@ ghost use Rattle.plant_draft.specs.Code.{Builds};
 ghost use Rattle.plant_draft.specs.Draft.{IsSoundDraft};
 ghost use Rattle.plant_draft.specs.Reading.{AnswersReading, draft_of, draft_or_first, last_refusals, tree_of, tree_reading, reading};
 ghost use Rattle.plant_model.specs.declared.error.PlantError.TheVariants.{NoMemory, NotToml};
-ghost use Rattle.plant_tree.specs.Readers.{stage_names};
-ghost use Rattle.plant_tree.specs.Walk.{names_twice, walk};
-ghost use Rattle.plant_tree.specs.declared.keys.Class.TheVariants.{MissingKeys, BadNames};
+ghost use Rattle.plant_keys.specs.Readers.{stage_names};
+ghost use Rattle.plant_keys.specs.Walk.{names_twice, walk};
+ghost use Rattle.plant_keys.specs.declared.keys.Class.TheVariants.{MissingKeys, BadNames};
 ghost use Rattle.toml.specs.View.{view};
 
 use crate::build::draft_of;
 use crate::columns::columns_of;
 use crate::draft::{Draft, DraftPlant};
 use plant_check::check_flow;
+use plant_keys::{Class, Names, check_tree, names_of_stages};
 use plant_model::PlantError;
-use plant_tree::{Class, Names, check_tree, names_of_stages};
 use std::alloc::Global;
 use toml::Value;
 
 /// Reads the bytes of a plant file. The answer is what the file says, or the first of the refusals 1 to 9 of
-/// `PlantError`, each class tried over the whole file before the next. Want of memory may come before any of them.
+/// `PlantError`, each class tried over the whole file before the next. Running out of memory may come before any of them.
 #[tactic(auto, unfolding(crate::specs::Reading::reading))]
 pub fn read_plant(alloc: Global, bytes: &[u8]) -> Result<Draft, PlantError>
     ensures { AnswersReading result (reading bytes.now) }

@@ -25,7 +25,7 @@ use Rattle.plant_draft.specs.declared.draft.DraftTimes.TheVariants.{Column, Fixe
 use Rattle.plant_draft.specs.Draft.{DraftMachine, DraftStage}
 use Rattle.plant_draft.specs.declared.draft.DraftLoop.{DraftLoop}
 use Rattle.plant_draft.specs.declared.draft.DraftPlant.{DraftPlant}
-use Rattle.plant_tree.specs.Readers.{is_filled}
+use Rattle.plant_keys.specs.Readers.{is_filled}
 use Rattle.plant_draft.specs.Draft.{IsSoundDraft, file_of, demands_file, columns_of, is_used, uses, are_up_to, are_sound_times, is_sound_machine, is_sound_stage, is_sound_loop, is_sound_policy, are_sound_demands}
 use Rattle.plant_file.specs.Counts.{table_within}
 use Rattle.plant_file.specs.Finish.{HasColumn, HasColumns, IsWithinLimit, dates_with, times_with, machine_with, stage_with, loop_with, plant_with}
@@ -297,13 +297,13 @@ pub record AreDates (demands : DraftDemands) (dates : Option (List ℕ)) : Type 
 
 dates-filled : (demands : DraftDemands) (dates : Option (List ℕ)) → are_sound_demands demands ≡ true → AreDates demands dates → is_filled (dates_with demands dates) ≡ true
 dates-filled (Given ds) dates h are = (and-both (is_filled ds) _ h).0
-dates-filled (File name) None h are = let e = are.given in cc
-dates-filled (File name) (Some ds) h are = are.filled
+dates-filled (File name column) None h are = let e = are.given in cc
+dates-filled (File name column) (Some ds) h are = are.filled
 
 dates-none : (place : List ℕ) (demands : DraftDemands) (dates : Option (List ℕ)) → are_sound_demands demands ≡ true → AreDates demands dates → each (element_above place MAX_DEMAND_DATE) (dates_with demands dates) ≡ []
 dates-none place (Given ds) dates h are = numbers-none place MAX_DEMAND_DATE ds (and-both (is_filled ds) _ h).1
-dates-none place (File name) None h are = refl
-dates-none place (File name) (Some ds) h are =
+dates-none place (File name column) None h are = refl
+dates-none place (File name column) (Some ds) h are =
     each_from-none (element_above place MAX_DEMAND_DATE) (λ n. n ≤ MAX_DEMAND_DATE) 0 ds are.limit (λ i n low. above-none _ MAX_DEMAND_DATE n low)
 
 top-none : (d : DraftPlant) (dates : Option (List ℕ)) (table : Option JobTimes) → IsSoundDraft d → AreDates d.demands dates → top_out_of_range (plant_with d dates table) ≡ []

@@ -10,7 +10,7 @@ use Rattle.demand_feed.specs.Times.{times_of}
 use Rattle.plant_model.specs.declared.error.PlantError.{PlantError}
 use Rattle.plant_model.specs.declared.error.PlantError.TheVariants.{BadRecord, NoMemory}
 use Rattle.plant_draft.specs.declared.draft.DraftPlant.{DraftPlant}
-use Rattle.plant_draft.specs.Draft.{demands_file, columns_of}
+use Rattle.plant_draft.specs.Draft.{demands_file, demands_column, columns_of}
 use Rattle.plant_file.specs.Finish.{bad_record_in, held_in}
 
 -- the refusal of a file that gave this error
@@ -18,13 +18,14 @@ abbrev pub refusal_of : List ℕ → FeedError → PlantError
 refusal_of file (feed.BadRecord number) = BadRecord file number
 refusal_of file feed.NoMemory = NoMemory
 
--- these are the dates of the demand file's bytes, in which no record is bad, and there are none where no file is named
+-- these are the dates in the draft's column of the demand file's bytes, in which no record is bad, and there are none where
+-- no file is named
 pub record HoldsDates (d : DraftPlant) (bytes : Option (List ℕ)) (dates : Option (Vec ℕ Global)) : Type 0 where
   pub given : is_some dates ≡ is_some (demands_file d)
   pub some : IfSome dates (λ read. 0 < vec_len read)
   pub limit : IfSome dates (λ read. All (λ date. date ≤ last_demand) read.items)
-  pub held : option_map (λ (read : Vec ℕ Global). read.items) dates ≡ held_in dates_of bytes
-  pub good : bad_record_in dates_of (demands_file d) bytes ≡ []
+  pub held : option_map (λ (read : Vec ℕ Global). read.items) dates ≡ held_in (dates_of (demands_column d)) bytes
+  pub good : bad_record_in (dates_of (demands_column d)) (demands_file d) bytes ≡ []
 
 -- this is the table of the times file's bytes, in which no record is bad, and there is none where no column is used
 pub record HoldsTimes (d : DraftPlant) (bytes : Option (List ℕ)) (table : Option JobTimes) : Type 0 where

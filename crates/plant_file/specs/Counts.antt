@@ -24,7 +24,7 @@ machine_counts jobs table i j m = times_count jobs (InMachine i j) (times_with t
 abbrev pub stage_counts : ℕ → Option JobTimes → ℕ → DraftStage → List PlantError
 stage_counts jobs table i s = each (machine_counts jobs table i) s.machines
 
--- a plant of so many jobs and these stages has no more stations, jobs and dates than is allowed
+-- a plant of this many jobs and these stages has no more stations, jobs and dates than is allowed
 abbrev pub stays_within : ℕ → List DraftStage → Bool
 stays_within jobs stages =
     nat_le (1 + stations_of stages + 1) most_stations

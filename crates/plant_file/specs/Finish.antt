@@ -22,7 +22,7 @@ use Rattle.plant_draft.specs.declared.draft.DraftTimes.TheVariants.{Column, Fixe
 use Rattle.plant_draft.specs.Draft.{DraftMachine, DraftStage}
 use Rattle.plant_draft.specs.declared.draft.DraftLoop.{DraftLoop}
 use Rattle.plant_draft.specs.declared.draft.DraftPlant.{DraftPlant}
-use Rattle.plant_draft.specs.Draft.{demands_file, columns_of}
+use Rattle.plant_draft.specs.Draft.{demands_file, demands_column, columns_of}
 
 -- a column that a machine uses is one of the table's
 abbrev pub HasColumn : Option JobTimes → DraftTimes → Type 0
@@ -41,7 +41,7 @@ IsWithinLimit table = All (λ row. All (λ time. time ≤ longest_time) row) tab
 -- the dates that are given in the plant file, or those of the demand file
 abbrev pub dates_with : DraftDemands → Option (List ℕ) → List ℕ
 dates_with (Given dates) read = dates
-dates_with (File name) read = unwrap_or read []
+dates_with (File name column) read = unwrap_or read []
 
 -- the job times of a machine: one time, a list, or a column of the times file, and the time 0 where there is no table
 abbrev pub times_with : Option JobTimes → DraftTimes → Times
@@ -66,7 +66,7 @@ stage_with table s =
       machines = map (machine_with table) s.machines;
     }
 
--- a loop of a plant of so many stages; an end that names no stage gets the number after the last
+-- a loop of a plant of this many stages; an end that names no stage gets the number after the last
 abbrev pub loop_with : ℕ → DraftLoop → CardLoop
 loop_with count l =
     record {
@@ -113,11 +113,13 @@ held_in read bytes = option_and_then (λ bs. result_ok (read bs)) bytes
 -- 10: a record of the demand file, or then of the times file, can't be used
 abbrev pub bad_records : DraftPlant → Option (List ℕ) → Option (List ℕ) → List PlantError
 bad_records d demands times =
-    bad_record_in dates_of (demands_file d) demands ++ bad_record_in (times_of (columns_of d)) d.times_file times
+    bad_record_in (dates_of (demands_column d)) (demands_file d) demands
+    ++ bad_record_in (times_of (columns_of d)) d.times_file times
 
 -- the plant of a draft and of the bytes of its files
 abbrev pub plant_of_bytes : DraftPlant → Option (List ℕ) → Option (List ℕ) → Plant
-plant_of_bytes d demands times = plant_with d (held_in dates_of demands) (held_in (times_of (columns_of d)) times)
+plant_of_bytes d demands times =
+    plant_with d (held_in (dates_of (demands_column d)) demands) (held_in (times_of (columns_of d)) times)
 
 -- the plant of a draft and of the bytes of its files, or the first of the refusals 10 to 15
 abbrev pub completed : DraftPlant → Option (List ℕ) → Option (List ℕ) → Result Plant PlantError
@@ -126,6 +128,6 @@ completed d demands times =
     (bad_records d demands times ++ whole_refusals (plant_of_bytes d demands times))
     (plant_of_bytes d demands times)
 
--- the answer is this plant or refusal; want of memory may come instead
+-- the answer is this plant or refusal; running out of memory may come instead
 abbrev pub AnswersPlant : Result Plant PlantError → Result Plant PlantError → Type 0
 AnswersPlant r given = MatchResult r (λ p. given ≡ Ok p) (λ e. e ≢ NoMemory → given ≡ Err e)

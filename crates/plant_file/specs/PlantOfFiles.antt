@@ -1,4 +1,4 @@
--- The plant of files: what all files of a plant come to, from their bytes.
+-- The plant of files: what the bytes of all files of a plant say.
 use Rattle.std.specs.Prelude.{◌≡◌, ℕ, List, [], ◌∷◌, ◌++◌, Option, option_map, unwrap_or, Result, Ok, Err}
 use Rattle.std.specs.Option.{option_to_list}
 use Rattle.plant_model.specs.declared.error.PlantError.{PlantError}
@@ -20,7 +20,7 @@ bytes_at files name = unwrap_or (files name) []
 abbrev pub bytes_of : Contents → Option (List ℕ) → Option (List ℕ)
 bytes_of files name = option_map (bytes_at files) name
 
--- what the reading of a plant file comes to, with the files that it names
+-- what the reading of a plant file answers, with the files that it names
 abbrev pub plant_of_reading : Contents → Result DraftPlant PlantError → Result Plant PlantError
 plant_of_reading files (Ok d) = completed d (bytes_of files (demands_file d)) (bytes_of files d.times_file)
 plant_of_reading files (Err refusal) = Err refusal

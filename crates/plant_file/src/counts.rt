@@ -17,8 +17,8 @@ pub(crate) fn count_demands(demands: &DraftDemands, dates: &Option<Vec<Date>>) -
 {
     match (demands, dates) {
         (DraftDemands::Given(given), _) => given.len(),
-        (DraftDemands::File(_), Some(dates)) => dates.len(),
-        (DraftDemands::File(_), None) => 0,
+        (DraftDemands::File { .. }, Some(dates)) => dates.len(),
+        (DraftDemands::File { .. }, None) => 0,
     }
 }
 
@@ -94,7 +94,7 @@ fn list_length(times: &DraftTimes, table: &Option<Columns>) -> Option<u64>
     }
 }
 
-/// The table, where a plant of so many jobs and these stages stays within its limits. The columns of a plant that is
+/// The table, where a plant of this many jobs and these stages stays within its limits. The columns of a plant that is
 /// too large are left out: what is refused of it first doesn't depend on them.
 pub(crate) fn table_within(
     jobs: usize,
@@ -110,7 +110,7 @@ pub(crate) fn table_within(
     }
 }
 
-/// Whether a plant of so many jobs and these stages has no more stations, jobs and dates than is allowed.
+/// Whether a plant of this many jobs and these stages has no more stations, jobs and dates than is allowed.
 fn stays_within(jobs: usize, stages: &[DraftStage]) -> bool
     ensures { result ≡ stays_within jobs stages.now }
 {

@@ -3,7 +3,7 @@ ghost use Rattle.std.specs.Prelude.{◌≡◌, ◌≢◌, ◌≤◌, ◌<◌, []
 ghost use Rattle.demand_feed.specs.Dates.{dates_of};
 ghost use Rattle.demand_feed.specs.Times.{times_of};
 ghost use Rattle.line_base.specs.declared.limits.TheConstants.{MAX_CHECKPOINT_BYTES, MAX_DEMAND_DATE};
-ghost use Rattle.plant_draft.specs.Draft.{demands_file, columns_of};
+ghost use Rattle.plant_draft.specs.Draft.{demands_file, demands_column, columns_of};
 ghost use Rattle.plant_file.specs.Complete.{HoldsDates, HoldsTimes, refusal_of};
 ghost use Rattle.plant_file.specs.Finish.{AnswersPlant, HasColumn, HasColumns, IsWithinLimit, bad_record_in, bad_records, completed, dates_with, finished, loop_with, machine_with, plant_with, stage_with, times_with};
 ghost use Rattle.plant_file.specs.PlantOfFiles.{Contents, IsReadFrom, plant_of};
@@ -22,7 +22,7 @@ use std::alloc::{AllocError, Global};
 
 /// The plant of a draft, with the dates of its demand file and the times of its times file where it uses them. The error
 /// is the first of the refusals 11 to 15 of `PlantError`. A loop's end that names no stage becomes the number of stages,
-/// which class 14 refuses. Want of memory may come before any refusal. No column of the times is copied before the
+/// which class 14 refuses. Running out of memory may come before any refusal. No column of the times is copied before the
 /// number of records has been held against that of the dates, and both against their limits.
 pub fn finish_draft(
     alloc: Global,
@@ -100,13 +100,14 @@ fn dates_in(
     requires { is_some bytes ≡ is_some (demands_file draft.now) }
     ensures held { IfOk result (HoldsDates draft.now (option_copied bytes.entry)) }
     ensures refused { IfErr result (λ e. e ≢ PlantError.NoMemory
-        → bad_record_in dates_of (demands_file draft.now) (option_copied bytes.entry) ≡ e ∷ []) }
+        → bad_record_in (dates_of (demands_column draft.now)) (demands_file draft.now) (option_copied bytes.entry)
+        ≡ e ∷ []) }
 {
     let Some(bytes) = bytes else {
         return Ok(None);
     };
     let name = draft.demands_file().unwrap_or("");
-    match read_dates(alloc, bytes) {
+    match read_dates(alloc, bytes, draft.demands_column()) {
         Ok(dates) => Ok(Some(dates)),
         Err(error) => Err(refusal_of(alloc, name, error)),
     }
@@ -197,14 +198,14 @@ fn dates_with(alloc: Global, demands: DraftDemands, dates: Option<Vec<Date>>) ->
 {
     match demands {
         DraftDemands::Given(given) => given,
-        DraftDemands::File(_) => match dates {
+        DraftDemands::File { .. } => match dates {
             Some(dates) => Items::from_vec(dates),
             None => Items::from_vec(Vec::new(alloc)),
         },
     }
 }
 
-/// The loops of a plant of so many stages. An end that names no stage gets the number after the last.
+/// The loops of a plant of this many stages. An end that names no stage gets the number after the last.
 fn loops_with(alloc: Global, loops: &[DraftLoop], count: u32) -> Result<Items<CardLoop>, AllocError>
     ensures { IfOk result (λ made. made ≡ map (loop_with count) loops.now) }
 {
@@ -215,7 +216,7 @@ fn loops_with(alloc: Global, loops: &[DraftLoop], count: u32) -> Result<Items<Ca
     Ok(Items::from_vec(made))
 }
 
-/// A loop of a plant of so many stages.
+/// A loop of a plant of this many stages.
 fn loop_with(card_loop: &DraftLoop, count: u32) -> CardLoop
     ensures { result ≡ loop_with count card_loop.now }
 {

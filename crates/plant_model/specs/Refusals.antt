@@ -258,6 +258,6 @@ abbrev pub first : List PlantError → Option PlantError
 first [] = None
 first (refusal ∷ _) = Some refusal
 
--- the answer to a list of refusals: its first, or Ok where there is none; want of memory may come instead
+-- the answer to a list of refusals: its first, or Ok where there is none; running out of memory may come instead
 abbrev pub AnswersFirst : Result ⊤ PlantError → List PlantError → Type 0
 AnswersFirst r rs = MatchResult r (λ _. rs ≡ []) (λ e. e ≢ NoMemory → first rs ≡ Some e)

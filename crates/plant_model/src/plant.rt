@@ -9,7 +9,7 @@ use std::alloc::{AllocError, Global};
 pub enum Policy {
     /// Each stage has cards of its own, which come back as a part leaves the stage.
     Kanban,
-    /// The line has so many cards, which come back as a part is delivered.
+    /// The line has this many cards, which come back as a part is delivered.
     Conwip(u32),
     /// There are no cards: each demand is told to every stage at once.
     BaseStock,

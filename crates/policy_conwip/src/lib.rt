@@ -30,7 +30,7 @@ pub fn arcs(alloc: Global, plant: &Plant) -> Result<Vec<Arc>, AllocError>
     Ok(arcs)
 }
 
-/// The arc of the line's cards, of which there are so many, to a first stage.
+/// The arc of the line's cards, of which there are this many, to a first stage.
 fn line_card_arc(layout: &Layout, stage: u32, cards: u32) -> Arc
     requires stage { stage < length layout.now.stages }
     requires cards { cards ≡ line_cards layout.now.policy }

@@ -23,7 +23,7 @@ pub fn arcs(alloc: Global, plant: &Plant) -> Result<Vec<Arc>, AllocError>
     Ok(arcs)
 }
 
-/// The arc of the cards of a stage, of which so many are free at the start.
+/// The arc of the cards of a stage, of which this many are free at the start.
 pub fn card_arc(layout: &Layout, stage: u32, free: u32) -> Arc
     requires { stage < length layout.now.stages }
     ensures { result ≡ (card_row layout.now free stage).arc }

@@ -1,6 +1,9 @@
 //! The program `pull`: it hands the words of the command line to the top call and ends with its status.
 #![tactic(auto)]
 
+mod hints;
+
+use hints::hint;
 use line_disk::FileDisk;
 use line_io::{FileStore, StdSink};
 use line_workers::FreeGate;
@@ -22,6 +25,18 @@ fn words_of<R: Env + AllocGlobal>(rt: &R) -> io::Result<Vec<String>> {
     Ok(words.collect(rt.alloc())?)
 }
 
+/// The end with a status. Where it isn't 0, standard error gets a line: which status it is, and what to do next. Whether
+/// that can be written changes nothing.
+fn end<R: Eprint + AllocGlobal>(rt: &R, status: u8, words: &[String]) -> ExitCode {
+    if status != 0 {
+        let _ = match hint(rt.alloc(), status, words) {
+            Ok(line) => eprintln!(rt; "{line}"),
+            Err(_) => eprintln!(rt; "pull: status {status}, and out of memory"),
+        };
+    }
+    status.into()
+}
+
 fn main(rt: HostRuntime) -> ExitCode {
     // Where the program is started without standard input, output or error, the file that is opened
     // next gets its number. These get it first, and can only be read: a write to standard output
@@ -33,13 +48,13 @@ fn main(rt: HostRuntime) -> ExitCode {
     ];
     let words = match words_of(&rt) {
         Ok(words) => words,
-        Err(error) if error.kind() == io::ErrorKind::OutOfMemory => return NO_MEMORY.into(),
-        Err(_) => return NO_WORDS.into(),
+        Err(error) if error.kind() == io::ErrorKind::OutOfMemory => return end(&rt, NO_MEMORY, &[]),
+        Err(_) => return end(&rt, NO_WORDS, &[]),
     };
     let mut store = FileStore::new(&rt);
-    let mut sink = StdSink::new(&rt);
+    let mut sink = StdSink::new(rt.stdout());
     let mut disk = FileDisk::new(&rt);
-    pull(
+    let status = pull(
         &rt,
         rt.alloc(),
         words.as_slice(),
@@ -47,6 +62,6 @@ fn main(rt: HostRuntime) -> ExitCode {
         &mut sink,
         &FreeGate,
         &mut disk,
-    )
-    .into()
+    );
+    end(&rt, status, words.as_slice())
 }

@@ -1,46 +1,46 @@
--- What each command comes to, by what its steps made.
+-- What each command answers, by what its steps made.
 use Rattle.std.proofs.Common.{◌≡◌, Bool, [], refl, ap, sym, subst, inl, inr}
 use Rattle.std.specs.Prelude.{Option, Some, None, Result, Err}
-use Rattle.command_words.specs.declared.command.Command.{Command}
-use Rattle.command_words.specs.declared.command.WordsError.{WordsError}
-use Rattle.command_words.specs.declared.command.WordsError.TheVariants as words_error
+use Rattle.command_line.specs.declared.command.Command.{Command}
+use Rattle.command_line.specs.declared.command.WordsError.{WordsError}
+use Rattle.command_line.specs.declared.command.WordsError.TheVariants as words_error
 use Rattle.line_io.specs.Calls.{none_asked}
 use Rattle.line_disk.specs.DiskView.{DiskView}
 use Rattle.line_io.specs.StoreView.{StoreView}
-use Rattle.pull_words.specs.declared.reply.Reply.{Reply}
-use Rattle.pull_words.specs.declared.reply.Reply.TheVariants.{NoMemory}
-use Rattle.pull_steps.specs.Deeds.{DiskOver, disk_over, HasCause, Does}
-use Rattle.pull_steps.specs.Outside.{store_over}
-use Rattle.pull_deeds.specs.declared.output.Output.{Output}
-use Rattle.pull_deeds.proofs.Deeds.{does_also, does_nothing, stays_low}
-use Rattle.pull_cli.specs.Verdict.{OfCommand, OfWords, CommandDoes, IsWordsReply}
+use Rattle.refusals.specs.declared.refusal.Refusal.{Refusal}
+use Rattle.refusals.specs.declared.refusal.Refusal.TheVariants.{NoMemory}
+use Rattle.live_plant.specs.Actions.{DiskOver, disk_over, HasCause, Does}
+use Rattle.live_plant.specs.Outside.{store_over}
+use Rattle.answers.specs.declared.answer.Answer.{Answer}
+use Rattle.commands.proofs.Actions.{does_also, does_nothing, stays_low}
+use Rattle.pull_cli.specs.Verdict.{OfCommand, OfWords, CommandDoes, IsWordsRefusal}
 
 -- what a command does, the words do
-pub command_does : {tells : Bool} {old new : StoreView} {disk : DiskOver} {words : Option Command} {command : Command} {answer : Result Output Reply} → words ≡ Some command → CommandDoes (store_over tells old new) disk command answer → Does (store_over tells old new) disk (OfWords tells old.files words) answer
+pub command_does : {tells : Bool} {old new : StoreView} {disk : DiskOver} {words : Option Command} {command : Command} {answer : Result Answer Refusal} → words ≡ Some command → CommandDoes (store_over tells old new) disk command answer → Does (store_over tells old new) disk (OfWords tells old.files words) answer
 command_does {tells} {old} {new} {disk} {words} {command} {answer} is m =
     let did : Does (store_over tells old new) disk (OfWords tells old.files (Some command)) answer =
-    does_also (store_over tells old new) disk (OfCommand tells old.files command) (OfWords tells old.files (Some command)) answer (λ asked comes. inl comes) m in
+    does_also (store_over tells old new) disk (OfCommand tells old.files command) (OfWords tells old.files (Some command)) answer (λ asked answers. inl answers) m in
     subst (λ (w : Option Command). Does (store_over tells old new) disk (OfWords tells old.files w) answer) (sym is) did
 
 -- words that ask for nothing: no command, and a command for which there is no memory
-asks_nothing : (tells : Bool) (view : StoreView) (disk : DiskOver) (words : Option Command) (reply : Reply) → disk.new ≡ disk.old → OfWords tells view.files words none_asked disk (Err reply) → HasCause (store_over tells view view) disk [] reply → Does (store_over tells view view) disk (OfWords tells view.files words) (Err reply)
-asks_nothing tells view disk words reply same is caused =
-    does_nothing tells view disk (OfWords tells view.files words) (Err reply) (stays_low disk same) caused is
+asks_nothing : (tells : Bool) (view : StoreView) (disk : DiskOver) (words : Option Command) (refusal : Refusal) → disk.new ≡ disk.old → OfWords tells view.files words none_asked disk (Err refusal) → HasCause (store_over tells view view) disk [] refusal → Does (store_over tells view view) disk (OfWords tells view.files words) (Err refusal)
+asks_nothing tells view disk words refusal same is caused =
+    does_nothing tells view disk (OfWords tells view.files words) (Err refusal) (stays_low disk same) caused is
 
-pub no_command_does : {tells disk_tells : Bool} {view : StoreView} {disk : DiskView} (words : Option Command) {reply : Reply} → IsWordsReply words reply → Does {A = Output} (store_over tells view view) (disk_over disk_tells disk disk) (OfWords tells view.files words) (Err reply)
-no_command_does {tells} {disk_tells} {view} {disk} None {reply} is =
+pub no_command_does : {tells disk_tells : Bool} {view : StoreView} {disk : DiskView} (words : Option Command) {refusal : Refusal} → IsWordsRefusal words refusal → Does {A = Answer} (store_over tells view view) (disk_over disk_tells disk disk) (OfWords tells view.files words) (Err refusal)
+no_command_does {tells} {disk_tells} {view} {disk} None {refusal} is =
     let over = disk_over disk_tells disk disk in
-    asks_nothing tells view over None reply refl (refl, refl, ap (λ (r : Reply). Err r) is)
+    asks_nothing tells view over None refusal refl (refl, refl, ap (λ (r : Refusal). Err r) is)
     (subst (HasCause (store_over tells view view) over []) (sym is) tt)
-no_command_does {tells} {disk_tells} {view} {disk} (Some command) {reply} is =
+no_command_does {tells} {disk_tells} {view} {disk} (Some command) {refusal} is =
     let over = disk_over disk_tells disk disk in
-    asks_nothing tells view over (Some command) reply refl (inr (refl, refl, ap (λ (r : Reply). Err r) is))
+    asks_nothing tells view over (Some command) refusal refl (inr (refl, refl, ap (λ (r : Refusal). Err r) is))
     (subst (HasCause (store_over tells view view) over []) (sym is) tt)
 
 -- which of the two it is
-pub memory_comes : (words : Option Command) → (words ≡ None → ⊥) → IsWordsReply words NoMemory
-memory_comes None some = absurd (some refl)
-memory_comes (Some command) some = refl
+pub memory_answers : (words : Option Command) → (words ≡ None → ⊥) → IsWordsRefusal words NoMemory
+memory_answers None some = absurd (some refl)
+memory_answers (Some command) some = refl
 
 pub memory_is_no_usage : (e : WordsError) (r : Result Command WordsError) → e ≡ words_error.NoMemory → r ≡ Err e → r ≡ Err words_error.Usage → ⊥
 memory_is_no_usage e r memory is usage = cc

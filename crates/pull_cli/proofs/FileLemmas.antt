@@ -1,12 +1,12 @@
--- Which file a call has changed, by what it came to.
+-- Which file a call has changed, by what it answered.
 use Rattle.std.proofs.Common.{◌≡◌, ◌≢◌, ◌⊎◌, ℕ, List, [], ◌∷◌, ◌++◌, refl, ap, sym, ◌∙◌, subst, append-nil, inl, inr, ⊎_elim, arith}
 use Rattle.std.specs.Prelude.{Option, Some, None, Result, Ok, Err, IsTrue}
 use Rattle.checkpoint.specs.Text.{text}
 use Rattle.checkpoint.specs.declared.format.Format.TheVariants.{Differences}
-use Rattle.command_words.specs.Words.{command_of}
-use Rattle.command_words.specs.declared.command.Command.{Command}
-use Rattle.command_words.specs.declared.command.Command.TheVariants as command
-use Rattle.command_words.specs.declared.command.Stop.{Stop}
+use Rattle.command_line.specs.Words.{command_of}
+use Rattle.command_line.specs.declared.command.Command.{Command}
+use Rattle.command_line.specs.declared.command.Command.TheVariants as command
+use Rattle.command_line.specs.declared.command.Stop.{Stop}
 use Rattle.line_core.specs.Consistent.{fired}
 use Rattle.line_io.specs.Calls.{Read, Asked, write_of, none_asked}
 use Rattle.line_io.specs.Contents.{IsTorn}
@@ -15,17 +15,18 @@ use Rattle.line_io.specs.declared.store.StoreError.{StoreError}
 use Rattle.line_io.specs.declared.store.StoreError.TheVariants as store_error
 use Rattle.plant_model.specs.declared.plant.Plant.{Plant}
 use Rattle.plant_model.specs.Graph.{graph}
-use Rattle.pull_words.specs.Reply.{text_of}
-use Rattle.pull_words.specs.declared.reply.Reply.{Reply}
-use Rattle.pull_words.specs.declared.reply.Reply.TheVariants.{Stopped, StoreFault}
-use Rattle.pull_steps.specs.Deeds.{Deed, DiskOver, DoesOn, with_asked, LeavesFile, WritesOne, Changes}
-use Rattle.pull_steps.specs.Outside.{StoreOver, SinkOver}
-use Rattle.pull_steps.specs.PlantSteps.{OfPlantNamed}
-use Rattle.pull_deeds.specs.Saving.{ComesOfWrite, ResumesSlots, RunsUntil, RunsWithSlots, Stops}
-use Rattle.pull_deeds.specs.declared.output.Output.{Output}
-use Rattle.pull_cli.specs.Ends.{Ends, Finishes, WritesReply}
+use Rattle.answers.specs.Answer.{answer_bytes}
+use Rattle.refusals.specs.declared.refusal.Refusal.{Refusal}
+use Rattle.refusals.specs.declared.refusal.Refusal.TheVariants.{StoreFault}
+use Rattle.live_plant.specs.Actions.{Action, DiskOver, DoesOn, with_asked, LeavesFile, WritesOne, Changes}
+use Rattle.live_plant.specs.Outside.{StoreOver, SinkOver}
+use Rattle.live_plant.specs.PlantSteps.{OfPlantNamed}
+use Rattle.commands.specs.Saving.{AnswersWrite, ResumesSlots, RunsUntil, RunsWithSlots, Stops}
+use Rattle.answers.specs.declared.answer.Answer.{Answer}
+use Rattle.answers.specs.declared.answer.Answer.TheVariants.{Stopped}
+use Rattle.pull_cli.specs.Ends.{Ends, Finishes, Writes, WritesRefusal}
 use Rattle.pull_cli.specs.Files.{save_of, LeavesSaved, StaysOrSaves, FilesStay}
-use Rattle.pull_cli.specs.Headline.{IsPlantRead}
+use Rattle.pull_cli.specs.RunReports.{IsPlantRead}
 use Rattle.pull_cli.specs.Verdict.{OfCommand, OfWords}
 use Rattle.pull_cli.proofs.HeadlineLemmas.{plant_read}
 
@@ -36,15 +37,14 @@ unwritten asks after none = ap (λ (a : Asked). a.writes) none
 -- what the status says of a file, where the line of a stop was written, and where that of a failed write was
 abbrev pub SaysOfFile : SinkOver → ℕ → Option (List ℕ) → Option (List ℕ) → List ℕ → ℕ → Type 0
 SaysOfFile sink status old new bytes count =
-    LeavesSaved status old new bytes × (status ≡ 0 → PutsAll sink.old sink.new (text_of (Stopped count)))
+    LeavesSaved status old new bytes × (status ≡ 0 → PutsAll sink.old sink.new (answer_bytes (Stopped count)))
 
-stop_says : (sink : SinkOver) (status count : ℕ) (old new : Option (List ℕ)) (bytes : List ℕ) → WritesReply sink (Stopped count) status → new ≡ Some bytes → SaysOfFile sink status old new bytes count
-stop_says sink status count old new bytes (inl (inl all)) is = (inl (all.0, is), λ zero. all.1)
-stop_says sink status count old new bytes (inl (inr broke)) is =
+stop_says : (sink : SinkOver) (status count : ℕ) (old new : Option (List ℕ)) (bytes : List ℕ) → Writes sink (answer_bytes (Stopped count)) 0 status → new ≡ Some bytes → SaysOfFile sink status old new bytes count
+stop_says sink status count old new bytes (inl all) is = (inl (all.0, is), λ zero. all.1)
+stop_says sink status count old new bytes (inr broke) is =
     (inr (inr broke.0, inr (bytes, [], sym (append-nil bytes), is)), λ zero. absurd (omega (arith, broke.0, zero)))
-stop_says sink status count old new bytes (inr wanting) is = absurd (wanting.1 tt)
 
-fault_says : (sink : SinkOver) (status count : ℕ) (file : List ℕ) (old new : Option (List ℕ)) (bytes : List ℕ) → WritesReply sink (StoreFault file) status → IsTorn old new bytes → SaysOfFile sink status old new bytes count
+fault_says : (sink : SinkOver) (status count : ℕ) (file : List ℕ) (old new : Option (List ℕ)) (bytes : List ℕ) → WritesRefusal sink (StoreFault file) status → IsTorn old new bytes → SaysOfFile sink status old new bytes count
 fault_says sink status count file old new bytes (inl (inl all)) torn =
     let five : status ≡ 5 = all.0 in
     (inr (inl five, torn), λ zero. absurd (omega (arith, five, zero)))
@@ -58,8 +58,8 @@ no_other_status status old new bytes not_0 not_5 not_6 (inl done) = not_0 done.0
 no_other_status status old new bytes not_0 not_5 not_6 (inr (inl five, torn)) = not_5 five
 no_other_status status old new bytes not_0 not_5 not_6 (inr (inr six, torn)) = not_6 six
 
--- a call that came to this and ended with this status, which asked this of the store, and whose files are told
-module _ (store : StoreOver) (sink : SinkOver) (disk : DiskOver) (came : Result Output Reply) (status : ℕ) (ended : Finishes sink came status) (asks : Asked) (asked : store.new.asked ≡ with_asked store.old.asked asks) (changes : Changes store asks.writes) (told : IsTrue store.tells) where
+-- a call that answered this and ended with this status, which asked this of the store, and whose files are told
+module _ (store : StoreOver) (sink : SinkOver) (disk : DiskOver) (answer : Result Answer Refusal) (status : ℕ) (ended : Finishes sink answer status) (asks : Asked) (asked : store.new.asked ≡ with_asked store.old.asked asks) (changes : Changes store asks.writes) (known : IsTrue store.tells) where
   -- a run stopped, and wrote its state
   record StopsIn (c : Command) : Type 0 where
     pub name : List ℕ
@@ -69,33 +69,33 @@ module _ (store : StoreOver) (sink : SinkOver) (disk : DiskOver) (came : Result 
     pub plant : Plant
     pub read : IsPlantRead plant name store
     pub after : List Read
-    pub stops : Stops plant stop.after stop.save (record asks { reads = after }) came
+    pub stops : Stops plant stop.after stop.save (record asks { reads = after }) answer
 
   none_written : asks.writes ≡ [] → (q : List ℕ) → store.new.files q ≡ store.old.files q
-  none_written none = subst (Changes store) none changes told
+  none_written none = subst (Changes store) none changes known
 
-  -- a step, and then a deed that writes nothing
-  on_unwritten : (next : Plant → Deed Output) (between : Result Plant Reply) (after : List Read) → DoesOn next between (record asks { reads = after }) disk came → ((p : Plant) → next p (record asks { reads = after }) disk came → asks.writes ≡ []) → asks.writes ≡ []
+  -- a step, and then a action that writes nothing
+  on_unwritten : (next : Plant → Action Answer) (between : Result Plant Refusal) (after : List Read) → DoesOn next between (record asks { reads = after }) disk answer → ((p : Plant) → next p (record asks { reads = after }) disk answer → asks.writes ≡ []) → asks.writes ≡ []
   on_unwritten next (Ok p) after on go = go p on
-  on_unwritten next (Err reply) after on go = unwritten asks after on.0
+  on_unwritten next (Err refusal) after on go = unwritten asks after on.0
 
   -- a run that is told to stop
-  until_writes : (name : List ℕ) (workers : ℕ) (stop : Stop) (p : Plant) (after : List Read) → IsPlantRead p name store → RunsUntil p stop.after stop.save (record asks { reads = after }) disk came → (asks.writes ≡ []) ⊎ StopsIn (command.Run name workers (Some stop))
+  until_writes : (name : List ℕ) (workers : ℕ) (stop : Stop) (p : Plant) (after : List Read) → IsPlantRead p name store → RunsUntil p stop.after stop.save (record asks { reads = after }) disk answer → (asks.writes ≡ []) ⊎ StopsIn (command.Run name workers (Some stop))
   until_writes name workers stop p after read runs =
       ⊎_elim
       (λ stops. inr (record { name = name; workers = workers; stop = stop; is = refl; plant = p; read = read; after = after; stops = stops }))
       (λ whole. inl (⊎_elim (λ ended_first. unwritten asks after ended_first.nothing) (λ wanting. unwritten asks after wanting.0) whole))
-      runs.comes
+      runs.answers
 
-  stop_writes : (name : List ℕ) (workers : ℕ) (stop : Stop) (between : Result Plant Reply) (before after : List Read) → asks.reads ≡ before ++ after → OfPlantNamed store.tells store.old.files name before between → DoesOn (λ p. RunsUntil p stop.after stop.save) between (record asks { reads = after }) disk came → (asks.writes ≡ []) ⊎ StopsIn (command.Run name workers (Some stop))
+  stop_writes : (name : List ℕ) (workers : ℕ) (stop : Stop) (between : Result Plant Refusal) (before after : List Read) → asks.reads ≡ before ++ after → OfPlantNamed store.tells store.old.files name before between → DoesOn (λ p. RunsUntil p stop.after stop.save) between (record asks { reads = after }) disk answer → (asks.writes ≡ []) ⊎ StopsIn (command.Run name workers (Some stop))
   stop_writes name workers stop (Ok p) before after split first on =
       until_writes name workers stop p after (plant_read store asks asked name p before after split first) on
-  stop_writes name workers stop (Err reply) before after split first on = inl (unwritten asks after on.0)
+  stop_writes name workers stop (Err refusal) before after split first on = inl (unwritten asks after on.0)
 
   -- what each command wrote
-  writes_of : (c : Command) → OfCommand store.tells store.old.files c asks disk came → (asks.writes ≡ []) ⊎ StopsIn c
+  writes_of : (c : Command) → OfCommand store.tells store.old.files c asks disk answer → (asks.writes ≡ []) ⊎ StopsIn c
   writes_of (command.Run plant workers (Some stop)) does =
-      stop_writes plant workers stop does.between does.before does.after does.split does.comes does.does_on
+      stop_writes plant workers stop does.between does.before does.after does.split does.answers does.does_on
   writes_of (command.RunSlots plant every workers) does =
       inl (on_unwritten (λ p. RunsWithSlots p every) does.between does.after does.does_on (λ p on. unwritten asks does.after on.nothing))
   writes_of (command.ResumeSlots plant workers) does =
@@ -103,7 +103,7 @@ module _ (store : StoreOver) (sink : SinkOver) (disk : DiskOver) (came : Result 
   writes_of (command.Run plant workers None) does = inl does.unwritten
   writes_of other does = inl does.unwritten
 
-  writes_of_words : (c : Command) → OfWords store.tells store.old.files (Some c) asks disk came → (asks.writes ≡ []) ⊎ StopsIn c
+  writes_of_words : (c : Command) → OfWords store.tells store.old.files (Some c) asks disk answer → (asks.writes ≡ []) ⊎ StopsIn c
   writes_of_words c (inl does) = writes_of c does
   writes_of_words c (inr wanting) = inl (ap (λ (a : Asked). a.writes) wanting.0)
 
@@ -116,20 +116,20 @@ module _ (store : StoreOver) (sink : SinkOver) (disk : DiskOver) (came : Result 
       let one : asks.writes ≡ write_of s.stop.save bytes given ∷ [] = ap (λ (a : Asked). a.writes) s.stops.saved.writes in
       let wrote : WritesOne store (write_of s.stop.save bytes given) = subst (Changes store) one changes in
       let saves : save_of (Some c) ≡ Some s.stop.save = ap (λ (k : Command). save_of (Some k)) s.is in
-      wrote.others_stay told q (λ same. other (saves ∙ ap (λ (n : List ℕ). Some n) (sym same)))
+      wrote.others_stay known q (λ same. other (saves ∙ ap (λ (n : List ℕ). Some n) (sym same)))
 
-  others : (w : Option Command) → OfWords store.tells store.old.files w asks disk came → (q : List ℕ) → save_of w ≢ Some q → store.new.files q ≡ store.old.files q
+  others : (w : Option Command) → OfWords store.tells store.old.files w asks disk answer → (q : List ℕ) → save_of w ≢ Some q → store.new.files q ≡ store.old.files q
   others None of q other = none_written (ap (λ (a : Asked). a.writes) of.0) q
   others (Some c) of q other = others_of c (writes_of_words c of) q other
 
   -- and that one
-  left : (file bytes : List ℕ) (count : ℕ) (given : Result (Unit {0}) StoreError) → LeavesFile store.tells store.old.files store.new.files file bytes given → ComesOfWrite file count given came → (store.new.files file ≡ store.old.files file) ⊎ SaysOfFile sink status (store.old.files file) (store.new.files file) bytes count
-  left file bytes count (Ok done) leaves comes =
-      inr (stop_says sink status count (store.old.files file) (store.new.files file) bytes (subst (λ (r : Result Output Reply). Finishes sink r status) comes ended) (leaves told))
-  left file bytes count (Err store_error.Failed) leaves comes =
-      inr (fault_says sink status count file (store.old.files file) (store.new.files file) bytes (subst (λ (r : Result Output Reply). Finishes sink r status) comes ended) (leaves told))
-  left file bytes count (Err store_error.TooLong) leaves comes = absurd comes
-  left file bytes count (Err store_error.NoMemory) leaves comes = inl (leaves told)
+  left : (file bytes : List ℕ) (count : ℕ) (given : Result (Unit {0}) StoreError) → LeavesFile store.tells store.old.files store.new.files file bytes given → AnswersWrite file count given answer → (store.new.files file ≡ store.old.files file) ⊎ SaysOfFile sink status (store.old.files file) (store.new.files file) bytes count
+  left file bytes count (Ok done) leaves answers =
+      inr (stop_says sink status count (store.old.files file) (store.new.files file) bytes (subst (λ (r : Result Answer Refusal). Finishes sink r status) answers ended) (leaves known))
+  left file bytes count (Err store_error.Failed) leaves answers =
+      inr (fault_says sink status count file (store.old.files file) (store.new.files file) bytes (subst (λ (r : Result Answer Refusal). Finishes sink r status) answers ended) (leaves known))
+  left file bytes count (Err store_error.TooLong) leaves answers = absurd answers
+  left file bytes count (Err store_error.NoMemory) leaves answers = inl (leaves known)
 
   saved_in : (c : Command) (s : StopsIn c) → StaysOrSaves s.name s.stop store sink status
   saved_in c s =
@@ -147,7 +147,7 @@ module _ (store : StoreOver) (sink : SinkOver) (disk : DiskOver) (came : Result 
         leaves = says.0;
         says = says.1;
       }))
-      (left s.stop.save bytes (fired s.stops.state) given wrote.leaves s.stops.saved.comes)
+      (left s.stop.save bytes (fired s.stops.state) given wrote.leaves s.stops.saved.answers)
 
   saved_so : (name : List ℕ) (workers : ℕ) (stop : Stop) → (asks.writes ≡ []) ⊎ StopsIn (command.Run name workers (Some stop)) → StaysOrSaves name stop store sink status
   saved_so name workers stop (inl none) = inl (none_written none stop.save)
@@ -157,17 +157,17 @@ module _ (store : StoreOver) (sink : SinkOver) (disk : DiskOver) (came : Result 
       subst (λ (n : List ℕ). StaysOrSaves n stop store sink status) same_name
       (subst (λ (t : Stop). StaysOrSaves s.name t store sink status) same_stop (saved_in (command.Run name workers (Some stop)) s))
 
-  saved : (w : Option Command) → OfWords store.tells store.old.files w asks disk came → (name : List ℕ) (workers : ℕ) (stop : Stop) → w ≡ Some (command.Run name workers (Some stop)) → StaysOrSaves name stop store sink status
+  saved : (w : Option Command) → OfWords store.tells store.old.files w asks disk answer → (name : List ℕ) (workers : ℕ) (stop : Stop) → w ≡ Some (command.Run name workers (Some stop)) → StaysOrSaves name stop store sink status
   saved w of name workers stop is =
       saved_so name workers stop
-      (writes_of_words (command.Run name workers (Some stop)) (subst (λ (o : Option Command). OfWords store.tells store.old.files o asks disk came) is of))
+      (writes_of_words (command.Run name workers (Some stop)) (subst (λ (o : Option Command). OfWords store.tells store.old.files o asks disk answer) is of))
 
   stays : (name : List ℕ) (stop : Stop) → status ≢ 0 → status ≢ 5 → status ≢ 6 → StaysOrSaves name stop store sink status → store.new.files stop.save ≡ store.old.files stop.save
   stays name stop not_0 not_5 not_6 (inl same) = same
   stays name stop not_0 not_5 not_6 (inr s) =
       absurd (no_other_status status (store.old.files stop.save) (store.new.files stop.save) (text Differences (graph s.plant) s.state) not_0 not_5 not_6 s.leaves)
 
-  file_of : (w : Option Command) → OfWords store.tells store.old.files w asks disk came → (q : List ℕ) → save_of w ≡ Some q → status ≢ 0 → status ≢ 5 → status ≢ 6 → store.new.files q ≡ store.old.files q
+  file_of : (w : Option Command) → OfWords store.tells store.old.files w asks disk answer → (q : List ℕ) → save_of w ≡ Some q → status ≢ 0 → status ≢ 5 → status ≢ 6 → store.new.files q ≡ store.old.files q
   file_of (Some (command.Run name workers (Some stop))) of q is not_0 not_5 not_6 =
       let same : stop.save ≡ q = cc in
       subst (λ (f : List ℕ). store.new.files f ≡ store.old.files f) same
@@ -179,7 +179,7 @@ pub files_of : (words : List (List ℕ)) (store : StoreOver) (sink : SinkOver) (
 files_of words store sink disk status ends =
     let did = ends.does in
     record {
-      others_stay = λ told q other. others store sink disk ends.came status ends.finishes did.asks did.asked did.changes told (command_of words) did.comes q other;
-      file_stays = λ told q is not_0 not_5 not_6. file_of store sink disk ends.came status ends.finishes did.asks did.asked did.changes told (command_of words) did.comes q is not_0 not_5 not_6;
-      stays_or_saves = λ told name workers stop is. saved store sink disk ends.came status ends.finishes did.asks did.asked did.changes told (command_of words) did.comes name workers stop is;
+      others_stay = λ known q other. others store sink disk ends.answer status ends.finishes did.asks did.asked did.changes known (command_of words) did.answers q other;
+      file_stays = λ known q is not_0 not_5 not_6. file_of store sink disk ends.answer status ends.finishes did.asks did.asked did.changes known (command_of words) did.answers q is not_0 not_5 not_6;
+      stays_or_saves = λ known name workers stop is. saved store sink disk ends.answer status ends.finishes did.asks did.asked did.changes known (command_of words) did.answers name workers stop is;
     }

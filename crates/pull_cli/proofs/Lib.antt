@@ -3,5 +3,5 @@ pub mod Ended
 pub mod Ending
 pub mod FileLemmas
 pub mod HeadlineLemmas
-pub mod Refusals
-pub mod Tasks
+pub mod TaskSteps
+pub mod Writing

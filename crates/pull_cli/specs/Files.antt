@@ -2,10 +2,10 @@
 use Rattle.std.specs.Prelude.{◌≡◌, ◌≢◌, ◌⊎◌, ℕ, List, IsTrue, Option, Some, None}
 use Rattle.checkpoint.specs.Text.{text}
 use Rattle.checkpoint.specs.declared.format.Format.TheVariants.{Differences}
-use Rattle.command_words.specs.Words.{command_of}
-use Rattle.command_words.specs.declared.command.Command.{Command}
-use Rattle.command_words.specs.declared.command.Command.TheVariants as command
-use Rattle.command_words.specs.declared.command.Stop.{Stop}
+use Rattle.command_line.specs.Words.{command_of}
+use Rattle.command_line.specs.declared.command.Command.{Command}
+use Rattle.command_line.specs.declared.command.Command.TheVariants as command
+use Rattle.command_line.specs.declared.command.Stop.{Stop}
 use Rattle.event_graph.specs.State.{State}
 use Rattle.line_core.specs.Consistent.{fired}
 use Rattle.line_io.specs.Contents.{IsTorn}
@@ -14,10 +14,10 @@ use Rattle.line_runs.specs.Headline.{MayBeResumed}
 use Rattle.line_runs.specs.Stop.{IsStopAt}
 use Rattle.plant_model.specs.declared.plant.Plant.{Plant}
 use Rattle.plant_model.specs.Graph.{graph}
-use Rattle.pull_words.specs.Reply.{text_of}
-use Rattle.pull_words.specs.declared.reply.Reply.TheVariants.{Stopped}
-use Rattle.pull_steps.specs.Outside.{StoreOver, SinkOver}
-use Rattle.pull_cli.specs.Headline.{IsPlantRead}
+use Rattle.answers.specs.Answer.{answer_bytes}
+use Rattle.answers.specs.declared.answer.Answer.TheVariants.{Stopped}
+use Rattle.live_plant.specs.Outside.{StoreOver, SinkOver}
+use Rattle.pull_cli.specs.RunReports.{IsPlantRead}
 
 -- FILE, where the words ask to save in it
 abbrev pub save_of : Option Command → Option (List ℕ)
@@ -39,7 +39,7 @@ pub record StopsAndSaves (name : List ℕ) (stop : Stop) (store : StoreOver) (si
   pub count : IsStopAt (graph plant) stop.after 0 (fired state)
   pub leaves : LeavesSaved status (store.old.files stop.save) (store.new.files stop.save)
       (text Differences (graph plant) state)
-  pub says : status ≡ 0 → PutsAll sink.old sink.new (text_of (Stopped (fired state)))
+  pub says : status ≡ 0 → PutsAll sink.old sink.new (answer_bytes (Stopped (fired state)))
 
 -- FILE is as it was, or the run stopped
 abbrev pub StaysOrSaves : List ℕ → Stop → StoreOver → SinkOver → ℕ → Type 0

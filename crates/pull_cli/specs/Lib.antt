@@ -1,5 +1,5 @@
 pub mod Ends
 pub mod Files
-pub mod Headline
-pub mod Tasks
+pub mod RunReports
+pub mod StopsAndResumes
 pub mod Verdict

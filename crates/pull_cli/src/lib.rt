@@ -3,8 +3,8 @@
 //! and writes what it has to say to a sink.
 #![tactic(auto)]
 
-mod commands;
+mod tasks;
 mod top;
 
-pub use command_words::{Command, FileName, Stop, USAGE, WordsError, has_stand, read_words};
+pub use command_line::{Command, FileName, Stop, USAGE, WordsError, has_stand, read_words};
 pub use top::{pull, pull_still};

@@ -1,25 +1,25 @@
-ghost use Rattle.std.specs.Prelude.{◌≡◌, ◌++◌, false, Some, IfOk, IfErr, OnOk, OnErr};
-ghost use Rattle.command_words.specs.Options.{has_stand, texts};
-ghost use Rattle.command_words.specs.Ranges.{IsInRange};
-ghost use Rattle.command_words.specs.Usage.{as_line};
-ghost use Rattle.command_words.specs.Words.{command_of};
-ghost use Rattle.line_io.specs.Faults.{Rose};
-ghost use Rattle.line_io.specs.SinkView.{PutsAll, PutsFront};
-ghost use Rattle.pull_cli.specs.Ends.{Ends, Finishes, IsWrittenInParts, Writes, WritesReply};
+ghost use Rattle.std.specs.Prelude.{◌≡◌, false, Some, Ok, IfOk, IfErr};
+ghost use Rattle.command_line.specs.Options.{has_stand, texts};
+ghost use Rattle.command_line.specs.Ranges.{IsInRange};
+ghost use Rattle.command_line.specs.Words.{command_of};
+ghost use Rattle.pull_cli.specs.Ends.{Ends, Finishes, IsStatusAfter, IsWrittenInParts, Writes, WritesRefusal};
+ghost use Rattle.refusals.specs.Refusal.{status_of, text_of};
+ghost use Rattle.refusals.specs.declared.refusal.Refusal.TheVariants.{NoMemory};
 ghost use Rattle.pull_cli.specs.Files.{FilesStay};
-ghost use Rattle.pull_cli.specs.Headline.{Headline};
-ghost use Rattle.pull_cli.specs.Verdict.{CommandDoes, IsWordsReply, OfWords};
-ghost use Rattle.pull_steps.specs.Deeds.{disk_over, Does};
-ghost use Rattle.pull_steps.specs.Outside.{store_over, sink_over};
+ghost use Rattle.pull_cli.specs.RunReports.{RunReports};
+ghost use Rattle.pull_cli.specs.StopsAndResumes.{StopsAndResumes};
+ghost use Rattle.pull_cli.specs.Verdict.{CommandDoes, IsWordsRefusal, OfWords};
+ghost use Rattle.live_plant.specs.Actions.{disk_over, Does};
+ghost use Rattle.live_plant.specs.Outside.{store_over, sink_over};
 
-use crate::commands::{do_command, stand_plant};
-use command_words::{Command, WordsError, has_stand, read_words};
-use itoa::Buffer;
+use crate::tasks::{do_task, stand_plant};
+use answers::{Answer, Unwritten, put_line, put_text};
+use command_line::{Command, WordsError, has_stand, read_words};
+use commands::task_of;
 use line_disk::Disk;
-use line_io::{Failed, Sink, Store, put_all};
+use line_io::{Failed, Sink, Store};
 use line_workers::Gate;
-use pull_deeds::Output;
-use pull_words::{OUT_OF_MEMORY, Reply};
+use refusals::{OUT_OF_MEMORY, Refusal};
 use std::alloc::Global;
 use std::sync::Wait;
 use std::thread::Threads;
@@ -27,8 +27,9 @@ use std::thread::Threads;
 /// Does what the words after the program's name ask for, and answers the status that the program
 /// ends with. The words are read first, then the plant file and what it names, then the command's
 /// own file or the slots. Nothing but the line of a refusal is written before all of this is done
-/// and tried. Each status but 0 and 6 has written exactly its one line. No file changes but the
-/// one in which a run that is told to stop saves, and that one only with status 0, 5 or 6.
+/// and tried. Each status but 0 and 6 has written exactly its one line, behind the rows that were
+/// found where memory runs out in a curve. No file changes but the one in which a run that is told
+/// to stop saves, and that one only with status 0, 5 or 6.
 ///
 /// Where a word is `--stand` it may wait for standing workers, and owes no return. Where none is, it
 /// is `pull_still`.
@@ -45,7 +46,10 @@ pub fn pull<R: Threads + Wait + Sync, S: Store, K: Sink, G: Gate, D: Disk>(
         (store_over S.tells (S.shown store.old) (S.shown store.new))
         (sink_over (K.shown sink.old) (K.shown sink.new))
         (disk_over D.tells (D.shown disk.old) (D.shown disk.new)) result }
-    ensures headline { Headline (texts words.now)
+    ensures reports { RunReports (texts words.now)
+        (store_over S.tells (S.shown store.old) (S.shown store.new))
+        (sink_over (K.shown sink.old) (K.shown sink.new)) result }
+    ensures stops { StopsAndResumes (texts words.now)
         (store_over S.tells (S.shown store.old) (S.shown store.new))
         (sink_over (K.shown sink.old) (K.shown sink.new)) result }
     ensures files { FilesStay (texts words.now)
@@ -53,8 +57,8 @@ pub fn pull<R: Threads + Wait + Sync, S: Store, K: Sink, G: Gate, D: Disk>(
         (sink_over (K.shown sink.old) (K.shown sink.new)) result }
 {
     if has_stand(words) {
-        let outcome = outcome_of(rt, alloc, words, store, gate, disk);
-        write_outcome(alloc, outcome, sink)
+        let outcome = done_or_stood(rt, alloc, words, store, gate, disk);
+        write_outcome(rt, alloc, outcome, sink)
     } else {
         pull_still(rt, alloc, words, store, sink, gate, disk)
     }
@@ -75,159 +79,149 @@ pub fn pull_still<R: Threads + Sync, S: Store, K: Sink, G: Gate, D: Disk>(
         (store_over S.tells (S.shown store.old) (S.shown store.new))
         (sink_over (K.shown sink.old) (K.shown sink.new))
         (disk_over D.tells (D.shown disk.old) (D.shown disk.new)) result }
-    ensures headline { Headline (texts words.now)
+    ensures reports { RunReports (texts words.now)
+        (store_over S.tells (S.shown store.old) (S.shown store.new))
+        (sink_over (K.shown sink.old) (K.shown sink.new)) result }
+    ensures stops { StopsAndResumes (texts words.now)
         (store_over S.tells (S.shown store.old) (S.shown store.new))
         (sink_over (K.shown sink.old) (K.shown sink.new)) result }
     ensures files { FilesStay (texts words.now)
         (store_over S.tells (S.shown store.old) (S.shown store.new))
         (sink_over (K.shown sink.old) (K.shown sink.new)) result }
 {
-    let outcome = still_outcome_of(rt, alloc, words, store, gate, disk);
-    write_outcome(alloc, outcome, sink)
+    let outcome = result_of(rt, alloc, words, store, gate, disk);
+    write_outcome(rt, alloc, outcome, sink)
 }
 
-/// Writes what the words came to, and answers the status.
-fn write_outcome<K: Sink>(alloc: Global, outcome: Result<Output, Reply>, sink: &mut K) -> u8
+/// Writes what the words answer, and answers the status.
+fn write_outcome<R: Threads + Sync, K: Sink>(
+    rt: &R,
+    alloc: Global,
+    outcome: Result<Answer, Refusal>,
+    sink: &mut K,
+) -> u8
     ensures { Finishes (sink_over (K.shown sink.old) (K.shown sink.new)) outcome result }
 {
     match outcome {
-        Ok(output) => write_output(output, sink),
-        Err(reply) => {
-            let status = write_reply(alloc, &reply, sink);
-            drop(reply);
-            status
-        }
+        Ok(answer) => write_answer(rt, alloc, answer, sink),
+        Err(refusal) => write_refusal(alloc, &refusal, sink),
     }
 }
 
-/// Writes what writes itself, and answers the status, or 6 where the sink failed.
-fn write_output<K: Sink>(output: Output, sink: &mut K) -> u8
-    ensures { Finishes (sink_over (K.shown sink.old) (K.shown sink.new)) (Ok output) result }
+/// Writes what a command answers, and answers the status.
+fn write_answer<R: Threads + Sync, K: Sink>(
+    rt: &R,
+    alloc: Global,
+    answer: Answer,
+    sink: &mut K,
+) -> u8
+    ensures { Finishes (sink_over (K.shown sink.old) (K.shown sink.new)) (Ok answer) result }
 {
-    match output.write(sink) {
+    match answer.write(rt, alloc, sink) {
         Ok(()) => 0,
-        Err(Failed) => 6,
+        Err(Unwritten::Failed) => 6,
+        Err(Unwritten::NoMemory) => write_no_memory(sink),
     }
 }
 
-/// Writes a reply, and answers the status. What comes after a write of the checkpoint is written in
-/// parts and takes no memory, so that the status tells what became of its file.
-fn write_reply<K: Sink>(alloc: Global, reply: &Reply, sink: &mut K) -> u8
-    ensures { WritesReply (sink_over (K.shown sink.old) (K.shown sink.new)) reply.now result }
+/// Writes a refusal, and answers the status. What follows a write of the checkpoint is written in parts and takes no
+/// memory, so that the status says what became of its file.
+#[tactic(auto, using(crate::proofs::Writing::writes))]
+fn write_refusal<K: Sink>(alloc: Global, refusal: &Refusal, sink: &mut K) -> u8
+    ensures { WritesRefusal (sink_over (K.shown sink.old) (K.shown sink.new)) refusal.now result }
 {
-    match reply {
-        Reply::Stopped { fired } => {
-            let mut digits = Buffer::new();
-            let count = digits.format(*fired);
-            write_line(sink, reply.status(), b"stopped ", count.as_bytes())
+    match refusal {
+        Refusal::StoreFault { file } => {
+            let written = put_line(sink, b"store: ", file.as_str().as_bytes());
+            status_after(written, refusal.status())
         }
-        Reply::StoreFault { file } => {
-            write_line(sink, reply.status(), b"store: ", file.as_str().as_bytes())
-        }
-        _ => write_text(alloc, reply, sink),
+        _ => write_line(alloc, refusal, sink),
     }
 }
 
-/// Writes the text of a reply, or the line of want of memory where there is none for it, and
-/// answers the status.
-fn write_text<K: Sink>(alloc: Global, reply: &Reply, sink: &mut K) -> u8
-    requires { ¬ (IsWrittenInParts reply.now) }
-    ensures { WritesReply (sink_over (K.shown sink.old) (K.shown sink.new)) reply.now result }
+/// Writes the line of a refusal, or that of no memory where there is none for it, and answers the status.
+#[tactic(auto, using(crate::proofs::Writing::writes))]
+fn write_line<K: Sink>(alloc: Global, refusal: &Refusal, sink: &mut K) -> u8
+    requires { ¬ (IsWrittenInParts refusal.now) }
+    ensures { WritesRefusal (sink_over (K.shown sink.old) (K.shown sink.new)) refusal.now result }
 {
-    match reply.text(alloc) {
-        Ok(text) => write_all(sink, reply.status(), text.as_slice()),
-        Err(_) => write_all(sink, Reply::NoMemory.status(), OUT_OF_MEMORY.as_bytes()),
+    match refusal.text(alloc) {
+        Ok(line) => status_after(put_text(sink, line.as_slice()), refusal.status()),
+        Err(_) => write_no_memory(sink),
     }
 }
 
-/// Writes a line of these words and what they are of, and answers the status, or 6 where the sink
-/// failed. It takes no memory.
-fn write_line<K: Sink>(sink: &mut K, status: u8, words: &[u8], named: &[u8]) -> u8
-    ensures { Writes (sink_over (K.shown sink.old) (K.shown sink.new))
-        (as_line (words.now ++ named.now)) status result }
+/// Writes that there is no memory, and answers the status.
+#[tactic(auto, using(crate::proofs::Writing::writes))]
+fn write_no_memory<K: Sink>(sink: &mut K) -> u8
+    ensures { Writes (sink_over (K.shown sink.old) (K.shown sink.new)) (text_of NoMemory) (status_of NoMemory) result }
 {
-    match put_line(sink, words, named) {
+    let written = put_text(sink, OUT_OF_MEMORY.as_bytes());
+    status_after(written, Refusal::NoMemory.status())
+}
+
+/// The status after bytes were written to a sink: 6 where it failed.
+fn status_after(written: Result<(), Failed>, status: u8) -> u8
+    ensures { IsStatusAfter written status result }
+{
+    match written {
         Ok(()) => status,
         Err(Failed) => 6,
     }
 }
 
-/// Puts a line of these words and what they are of.
-fn put_line<K: Sink>(sink: &mut K, words: &[u8], named: &[u8]) -> Result<(), Failed>
-    ensures appended { OnOk result (PutsAll (K.shown sink.old) (K.shown sink.new)
-        (as_line (words.now ++ named.now))) }
-    ensures front { OnErr result (PutsFront (K.shown sink.old) (K.shown sink.new)
-        (as_line (words.now ++ named.now))) }
-    ensures cause { OnErr result (Rose (K.shown sink.old).faults (K.shown sink.new).faults) }
-{
-    put_all(sink, words)?;
-    put_all(sink, named)?;
-    put_all(sink, b"\n")
-}
-
-/// Writes a text, and answers the status, or 6 where the sink failed.
-fn write_all<K: Sink>(sink: &mut K, status: u8, text: &[u8]) -> u8
-    ensures { Writes (sink_over (K.shown sink.old) (K.shown sink.new)) text.now status result }
-{
-    match put_all(sink, text) {
-        Ok(()) => status,
-        Err(Failed) => 6,
-    }
-}
-
-/// What the words come to.
-fn outcome_of<R: Threads + Wait + Sync, S: Store, G: Gate, D: Disk>(
+/// What the words answer, by standing workers where they ask for them.
+fn done_or_stood<R: Threads + Wait + Sync, S: Store, G: Gate, D: Disk>(
     rt: &R,
     alloc: Global,
     words: &[String],
     store: &mut S,
     gate: &G,
     disk: &mut D,
-) -> Result<Output, Reply>
+) -> Result<Answer, Refusal>
     ensures { Does (store_over S.tells (S.shown store.old) (S.shown store.new))
         (disk_over D.tells (D.shown disk.old) (D.shown disk.new))
         (OfWords S.tells (S.shown store.old).files (command_of (texts words.now))) result }
 {
     match command_in(alloc, words) {
         Ok(command) => do_or_stand(rt, alloc, command, store, gate, disk),
-        Err(reply) => Err(reply),
+        Err(refusal) => Err(refusal),
     }
 }
 
-/// What words come to of which none is `--stand`.
-fn still_outcome_of<R: Threads + Sync, S: Store, G: Gate, D: Disk>(
+/// What the words answer, by bursts.
+fn result_of<R: Threads + Sync, S: Store, G: Gate, D: Disk>(
     rt: &R,
     alloc: Global,
     words: &[String],
     store: &mut S,
     gate: &G,
     disk: &mut D,
-) -> Result<Output, Reply>
-    requires still { has_stand (texts words.now) ≡ false }
+) -> Result<Answer, Refusal>
     ensures { Does (store_over S.tells (S.shown store.old) (S.shown store.new))
         (disk_over D.tells (D.shown disk.old) (D.shown disk.new))
         (OfWords S.tells (S.shown store.old).files (command_of (texts words.now))) result }
 {
     match command_in(alloc, words) {
-        Ok(command) => do_command(rt, alloc, command, store, gate, disk),
-        Err(reply) => Err(reply),
+        Ok(command) => do_task(rt, alloc, task_of(command), store, gate, disk),
+        Err(refusal) => Err(refusal),
     }
 }
 
-/// The command that the words are, or what they come to where there is none, or no memory for it.
-fn command_in(alloc: Global, words: &[String]) -> Result<Command, Reply>
+/// The command that the words are, or the refusal where there is none, or no memory for it.
+fn command_in(alloc: Global, words: &[String]) -> Result<Command, Refusal>
     ensures command { IfOk result (λ command. command_of (texts words.now) ≡ Some command) }
     ensures range { IfOk result IsInRange }
-    ensures none { IfErr result (IsWordsReply (command_of (texts words.now))) }
+    ensures none { IfErr result (IsWordsRefusal (command_of (texts words.now))) }
 {
     match read_words(alloc, words) {
         Ok(command) => Ok(command),
-        Err(WordsError::Usage) => Err(Reply::Usage),
-        Err(WordsError::NoMemory) => Err(Reply::NoMemory),
+        Err(WordsError::Usage) => Err(Refusal::Usage),
+        Err(WordsError::NoMemory) => Err(Refusal::NoMemory),
     }
 }
 
-/// What a command comes to, by standing workers where it asks for them.
+/// What a command answers, by standing workers where it asks for them.
 fn do_or_stand<R: Threads + Wait + Sync, S: Store, G: Gate, D: Disk>(
     rt: &R,
     alloc: Global,
@@ -235,7 +229,7 @@ fn do_or_stand<R: Threads + Wait + Sync, S: Store, G: Gate, D: Disk>(
     store: &mut S,
     gate: &G,
     disk: &mut D,
-) -> Result<Output, Reply>
+) -> Result<Answer, Refusal>
     requires { IsInRange command }
     ensures { CommandDoes (store_over S.tells (S.shown store.old) (S.shown store.new))
         (disk_over D.tells (D.shown disk.old) (D.shown disk.new)) command result }
@@ -244,6 +238,6 @@ fn do_or_stand<R: Threads + Wait + Sync, S: Store, G: Gate, D: Disk>(
         Command::RunStand { plant, workers } => {
             stand_plant(rt, alloc, store, plant.as_str(), workers, gate)
         }
-        command => do_command(rt, alloc, command, store, gate, disk),
+        command => do_task(rt, alloc, task_of(command), store, gate, disk),
     }
 }

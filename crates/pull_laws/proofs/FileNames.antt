@@ -9,17 +9,17 @@ use Rattle.plant_model.specs.declared.error.PlantError.TheVariants.{NotToml}
 use Rattle.plant_model.specs.declared.place.FileTable.TheVariants.{Top}
 use Rattle.plant_model.proofs.NoRefusals.{append-nil_left, append-nil_right, each-none, refuse_if-none}
 use Rattle.toml.specs.Data.{Data, get}
-use Rattle.plant_tree.specs.declared.keys.Class.TheVariants.{UnknownKeys, MissingKeys, WrongTypes, BadNames, OutOfRanges}
-use Rattle.plant_tree.specs.declared.keys.Kind.TheVariants.{StageText, FileName}
-use Rattle.plant_tree.specs.Keys.{Key, optional, top_keys, has_column}
-use Rattle.plant_tree.specs.Readers.{has, text_of, text_at}
+use Rattle.plant_keys.specs.declared.keys.Class.TheVariants.{UnknownKeys, MissingKeys, WrongTypes, BadNames, OutOfRanges}
+use Rattle.plant_keys.specs.declared.keys.Kind.TheVariants.{StageText, FileName}
+use Rattle.plant_keys.specs.Keys.{Key, optional, top_keys, has_column}
+use Rattle.plant_keys.specs.Readers.{has, text_of, text_at}
 use Rattle.plant_model.specs.Refusals.{feeds_not_later_in}
-use Rattle.plant_tree.specs.Walk.{walk, names_twice, key_refusals, table_refusals, value_refusals}
+use Rattle.plant_keys.specs.Walk.{walk, names_twice, key_refusals, table_refusals, value_refusals}
 use Rattle.plant_draft.specs.declared.draft.DraftDemands.TheVariants.{Given, File}
 use Rattle.plant_draft.specs.declared.draft.DraftPlant.{DraftPlant}
 use Rattle.plant_draft.specs.Draft.{file_of, demands_file, IsSoundDraft}
 use Rattle.plant_draft.proofs.SoundDrafts.{sound_draft}
-use Rattle.plant_draft.specs.Reading.{draft_of, tree_refusals, draft_or_first, tree_of, tree_reading, reading}
+use Rattle.plant_draft.specs.Reading.{column_at, draft_of, tree_refusals, draft_or_first, tree_of, tree_reading, reading}
 use Rattle.plant_file.specs.Finish.{completed}
 use Rattle.plant_file.specs.PlantOfFiles.{Contents, bytes_at, bytes_of, plant_of_reading, plant_of}
 
@@ -53,9 +53,9 @@ pub record NamesNoCheckpoint (d : DraftPlant) : Type 0 where
   pub demands : IfSome (demands_file d) IsPlain
   pub times : IfSome d.times_file IsPlain
 
-demands_plain : (given : Bool) (dates name : List ℕ) → IsPlain name → IfSome (file_of (if given then Given dates else File name)) IsPlain
-demands_plain true dates name plain = tt
-demands_plain false dates name plain = plain
+demands_plain : (given : Bool) (dates name : List ℕ) (column : ℕ) → IsPlain name → IfSome (file_of (if given then Given dates else File name column)) IsPlain
+demands_plain true dates name column plain = tt
+demands_plain false dates name column plain = plain
 
 times_plain : (used : Bool) (name : List ℕ) → IsPlain name → IfSome (if used then Some name else None) IsPlain
 times_plain true name plain = plain
@@ -74,10 +74,10 @@ bad_names top h =
 draft_names : (top : Data) → walk BadNames top ≡ [] → NamesNoCheckpoint (draft_of top)
 draft_names top h =
     let keys = top_of_walk top h in
-    let demands = each-none (λ _ k. key_refusals BadNames Top top k) (top_keys top) 3 no_key (omega arith) keys in
-    let times = each-none (λ _ k. key_refusals BadNames Top top k) (top_keys top) 8 no_key (omega arith) keys in
+    let demands = each-none (λ _ k. key_refusals BadNames Top top k) (top_keys top) 4 no_key (omega arith) keys in
+    let times = each-none (λ _ k. key_refusals BadNames Top top k) (top_keys top) 9 no_key (omega arith) keys in
     record {
-      demands = demands_plain (has (codes "demands") top) _ (text_at (codes "demands_file") top) (named_plain _ (get (codes "demands_file") top) demands);
+      demands = demands_plain (has (codes "demands") top) _ (text_at (codes "demands_file") top) (column_at (codes "demands_column") top) (named_plain _ (get (codes "demands_file") top) demands);
       times = times_plain (has_column top) (text_at (codes "times_file") top) (named_plain _ (get (codes "times_file") top) times);
     }
 

@@ -8,9 +8,9 @@ use Rattle.line_base.specs.Limits.{most_file_bytes, most_checkpoint_bytes}
 use Rattle.line_base.specs.Text.{is_checkpoint_name}
 use Rattle.checkpoint.specs.Text.{text}
 use Rattle.checkpoint.specs.declared.format.Format.TheVariants.{Differences}
-use Rattle.command_words.specs.declared.command.Command.{Command}
-use Rattle.command_words.specs.declared.command.Command.TheVariants.{Resume}
-use Rattle.command_words.specs.declared.command.Stop.{Stop}
+use Rattle.command_line.specs.declared.command.Command.{Command}
+use Rattle.command_line.specs.declared.command.Command.TheVariants.{Resume}
+use Rattle.command_line.specs.declared.command.Stop.{Stop}
 use Rattle.event_graph.specs.Live.{IsLive}
 use Rattle.line_graph.specs.DeadLabels.{AreDead}
 use Rattle.line_io.specs.Calls.{Read, Write, Asked}
@@ -18,44 +18,46 @@ use Rattle.plant_file.specs.PlantOfFiles.{plant_of}
 use Rattle.plant_model.specs.declared.error.PlantError.{PlantError}
 use Rattle.plant_model.specs.declared.plant.Plant.{Plant}
 use Rattle.plant_model.specs.Graph.{graph}
-use Rattle.pull_words.specs.Reply.{status_of, text_of}
-use Rattle.pull_words.specs.declared.reply.Reply.{Reply}
-use Rattle.pull_words.specs.declared.reply.Reply.TheVariants.{Dead, NoMemory, Refused, StoreFault}
-use Rattle.pull_steps.specs.Deeds.{HasCause, IsFailedWrite}
-use Rattle.pull_steps.specs.Outside.{limit_of, IsOfFile}
-use Rattle.pull_steps.specs.PlantSteps.{OfLivePlant, OfPlantNamed, IsLiveOrDead, IsOfPlant}
-use Rattle.pull_steps.specs.Steps.{GoesOn, LooksAt, Settles, Then}
-use Rattle.pull_steps.proofs.PlantsOfFiles.{then_leads, looked}
-use Rattle.pull_deeds.specs.Answers.{IsReport, IsResumed}
-use Rattle.pull_deeds.specs.Output.{output_bytes}
-use Rattle.pull_deeds.specs.declared.output.Output.{Output}
-use Rattle.pull_cli.specs.Ends.{Finishes, Writes, WritesReply}
-use Rattle.pull_cli.specs.Headline.{ResumesToReport}
+use Rattle.refusals.specs.Refusal.{status_of, text_of}
+use Rattle.refusals.specs.declared.refusal.Refusal.{Refusal}
+use Rattle.refusals.specs.declared.refusal.Refusal.TheVariants.{Dead, NoMemory, Refused, StoreFault}
+use Rattle.live_plant.specs.Actions.{HasCause, IsFailedWrite}
+use Rattle.live_plant.specs.Outside.{limit_of, IsOfFile}
+use Rattle.live_plant.specs.PlantSteps.{OfLivePlant, OfPlantNamed, IsLiveOrDead, IsOfPlant}
+use Rattle.live_plant.specs.Steps.{GoesOn, LooksAt, Settles, Then}
+use Rattle.live_plant.proofs.PlantsOfFiles.{then_leads, looked}
+use Rattle.commands.specs.Reports.{IsReport, IsResumed}
+use Rattle.event_graph.specs.Table.{date_in}
+use Rattle.line_report.specs.ReportText.{report}
+use Rattle.answers.specs.declared.answer.Answer.{Answer}
+use Rattle.pull_cli.specs.Ends.{Finishes, Writes, WritesRefusal}
+use Rattle.pull_cli.specs.StopsAndResumes.{ResumesToReport}
+use Rattle.pull_cli.proofs.Writing.{whole}
 use Rattle.pull_laws.specs.Resuming.{Call, files_before, HasFailedRead, HasStopped, IsResumedBy, EndsResumed, reported, unread, unwritten, no_memory}
 use Rattle.pull_cli.specs.Verdict.{OfWords}
 use Rattle.pull_laws.proofs.ResumeStops.{look_stops, plant_stops}
-use Rattle.command_words.proofs.ResumeWords.{names_files}
+use Rattle.command_line.proofs.ResumeWords.{names_files}
 use Rattle.pull_laws.proofs.Resuming.{one_plant, same_files, plant_plain, second_plant, second_reports}
 use Rattle.pull_laws.proofs.ShortFiles.{IsShort, IsShortPlant, short_bytes, plant_short, same_short}
 
--- the report, or a reply to a file that couldn't be read, or to want of memory
-abbrev pub ComesTo : Plant → Result Output Reply → Type 0
-ComesTo p (Ok output) = IsReport p (Ok output)
-ComesTo p (Err (StoreFault file)) = ⊤
-ComesTo p (Err NoMemory) = ⊤
-ComesTo p (Err other) = ⊥
+-- the report, or a refusal to a file that couldn't be read, or to no memory
+abbrev pub GivesReport : Plant → Result Answer Refusal → Type 0
+GivesReport p (Ok output) = IsReport p (Ok output)
+GivesReport p (Err (StoreFault file)) = ⊤
+GivesReport p (Err NoMemory) = ⊤
+GivesReport p (Err other) = ⊥
 
 -- a plant that was read is live
-live_settled : (q p : Plant) → IsLiveOrDead q (Ok p) ⊎ (◌≡◌ {A = Result Plant Reply} (Ok p) (Err NoMemory)) → IsLive (graph p)
+live_settled : (q p : Plant) → IsLiveOrDead q (Ok p) ⊎ (◌≡◌ {A = Result Plant Refusal} (Ok p) (Err NoMemory)) → IsLive (graph p)
 live_settled q p (inl live) = subst (λ (v : Plant). IsLive (graph v)) (sym live.0) live.1
 live_settled q p (inr none) = absurd (cc)
 
-no_plant : (p : Plant) (reply : Reply) → ◌≡◌ {A = Result Plant Reply} (Ok p) (Err reply) → ⊥
-no_plant p reply is = cc
+no_plant : (p : Plant) (refusal : Refusal) → ◌≡◌ {A = Result Plant Refusal} (Ok p) (Err refusal) → ⊥
+no_plant p refusal is = cc
 
-live_on : (between : Result Plant Reply) (after : List Read) (p : Plant) → GoesOn (λ q. Settles (IsLiveOrDead q)) between after (Ok p) → IsLive (graph p)
+live_on : (between : Result Plant Refusal) (after : List Read) (p : Plant) → GoesOn (λ q. Settles (IsLiveOrDead q)) between after (Ok p) → IsLive (graph p)
 live_on (Ok q) after p on = live_settled q p on.1
-live_on (Err reply) after p on = absurd (no_plant p reply on.1)
+live_on (Err refusal) after p on = absurd (no_plant p refusal on.1)
 
 live_of : (name : List ℕ) (reads : List Read) (p : Plant) → OfLivePlant name reads (Ok p) → IsLive (graph p)
 live_of name reads p steps = live_on steps.between steps.after p steps.goes_on
@@ -71,21 +73,21 @@ module _ (p : Plant) (live : IsLive (graph p)) (W : Result Plant PlantError) (is
   same_as : (q : Plant) → W ≡ Ok q → q ≡ p
   same_as q also = one_plant W q p also is
 
-  not_refused : (error : PlantError) → IsOfPlant W (Err (Refused error)) → ComesTo p (Err (Refused error))
+  not_refused : (error : PlantError) → IsOfPlant W (Err (Refused error)) → GivesReport p (Err (Refused error))
   not_refused error said = absurd (no_error W p error is said)
 
-  not_dead_plant : (labels : List (List ℕ)) → IsOfPlant W (Err (Dead labels)) → ComesTo p (Err (Dead labels))
+  not_dead_plant : (labels : List (List ℕ)) → IsOfPlant W (Err (Dead labels)) → GivesReport p (Err (Dead labels))
   not_dead_plant labels said =
       absurd (not_dead p labels live (subst (λ (q : Plant). AreDead (graph q) labels) (same_as said.0 said.1) said.2))
 
--- a report that comes, or want of memory
-report_comes : (p : Plant) (came : Result Output Reply) → IsReport p came → ComesTo p came
-report_comes p (Ok output) is = is
-report_comes p (Err reply) is = absurd is
+-- a report that comes, or no memory
+report_answers : (p : Plant) (answer : Result Answer Refusal) → IsReport p answer → GivesReport p answer
+report_answers p (Ok output) is = is
+report_answers p (Err refusal) is = absurd is.written
 
-settled_comes : (p : Plant) (bytes : List ℕ) (came : Result Output Reply) → ResumesToReport p bytes → IsResumed p bytes came ⊎ (came ≡ Err NoMemory) → ComesTo p came
-settled_comes p bytes came resumes (inl is) = report_comes p came (resumes came is)
-settled_comes p bytes came resumes (inr none) = subst (ComesTo p) (sym none) tt
+settled_answers : (p : Plant) (bytes : List ℕ) (answer : Result Answer Refusal) → ResumesToReport p bytes → IsResumed p bytes answer ⊎ (answer ≡ Err NoMemory) → GivesReport p answer
+settled_answers p bytes answer resumes (inl is) = report_answers p answer (resumes answer is)
+settled_answers p bytes answer resumes (inr none) = subst (GivesReport p) (sym none) tt
 
 -- what a checkpoint may have is the limit of its file
 few_bytes : (name bytes : List ℕ) → is_checkpoint_name name ≡ true → length bytes ≤ most_checkpoint_bytes → length bytes ≤ limit_of name
@@ -96,14 +98,14 @@ few_bytes name bytes checkpoint few =
 one_content : (o : Option (List ℕ)) (xs ys : List ℕ) → o ≡ Some xs → o ≡ Some ys → ys ≡ xs
 one_content o xs ys is also = cc
 
--- how a call ends by what it came to
+-- how a call ends by what it answered
 wrote : (p : Plant) (call : Call) (bytes : List ℕ) (good : ℕ) → (call.status ≡ good → EndsResumed p call) → Writes call.sink bytes good call.status → EndsResumed p call
 wrote p call bytes good ends (inl all) = ends all.0
 wrote p call bytes good ends (inr broke) = unwritten broke.0 broke.1
 
-wrote_reply : (p : Plant) (call : Call) (reply : Reply) → (call.status ≡ status_of reply → EndsResumed p call) → WritesReply call.sink reply call.status → EndsResumed p call
-wrote_reply p call reply ends (inl own) = wrote p call (text_of reply) (status_of reply) ends own
-wrote_reply p call reply ends (inr memory) = wrote p call (text_of NoMemory) (status_of NoMemory) (λ nine. no_memory nine) memory.2
+wrote_refusal : (p : Plant) (call : Call) (refusal : Refusal) → (call.status ≡ status_of refusal → EndsResumed p call) → WritesRefusal call.sink refusal call.status → EndsResumed p call
+wrote_refusal p call refusal ends (inl own) = wrote p call (text_of refusal) (status_of refusal) ends own
+wrote_refusal p call refusal ends (inr memory) = wrote p call (text_of NoMemory) (status_of NoMemory) (λ nine. no_memory nine) memory.2
 
 -- no write failed where there was none
 no_failed_write : (file : List ℕ) → Any (IsFailedWrite file) [] → ⊥
@@ -114,24 +116,24 @@ fault_of : (call : Call) (file : List ℕ) → HasCause call.store call.disk [] 
 fault_of call file (inl read) = read
 fault_of call file (inr written) = absurd (no_failed_write file written.0)
 
-by_reply : (p : Plant) (call : Call) (reply : Reply) → HasCause call.store call.disk [] reply → ComesTo p (Err reply) → WritesReply call.sink reply call.status → EndsResumed p call
-by_reply p call (StoreFault file) cause comes wrote_it =
-    wrote_reply p call (StoreFault file) (λ five. unread file five (fault_of call file cause)) wrote_it
-by_reply p call NoMemory cause comes wrote_it = wrote_reply p call NoMemory (λ nine. no_memory nine) wrote_it
-by_reply p call other cause comes wrote_it = absurd comes
+by_refusal : (p : Plant) (call : Call) (refusal : Refusal) → HasCause call.store call.disk [] refusal → GivesReport p (Err refusal) → WritesRefusal call.sink refusal call.status → EndsResumed p call
+by_refusal p call (StoreFault file) cause answers wrote_it =
+    wrote_refusal p call (StoreFault file) (λ five. unread file five (fault_of call file cause)) wrote_it
+by_refusal p call NoMemory cause answers wrote_it = wrote_refusal p call NoMemory (λ nine. no_memory nine) wrote_it
+by_refusal p call other cause answers wrote_it = absurd answers
 
 module _ (p : Plant) (name : List ℕ) (stop : Stop) (first second : Call) (stopped : HasStopped p name stop first) (resumed : IsResumedBy name stop first second) where
   abbrev Held : Read → Type 0
   Held = IsOfFile second.store
 
-  abbrev Comes : Result Output Reply → Type 0
-  Comes = ComesTo p
+  abbrev Reports : Result Answer Refusal → Type 0
+  Reports = GivesReport p
 
   abbrev bytes : List ℕ
   bytes = text Differences (graph p) stopped.saved.state
 
   saved_there : files_before second stop.save ≡ Some bytes
-  saved_there = resumed.over stop.save ∙ stopped.saved.saved stopped.calls.told
+  saved_there = resumed.over stop.save ∙ stopped.saved.saved stopped.calls.known
 
   -- it is no longer than a checkpoint may be
   saved_short : IsShort (files_before second) stop.save
@@ -148,7 +150,7 @@ module _ (p : Plant) (name : List ℕ) (stop : Stop) (first second : Call) (stop
       append_cancel_left first.store.old.asked.reads does.asks.reads (reads ++ stopped.read.more) (sym (ap (λ (a : Asked). a.reads) does.asked) ∙ stopped.read.asked)
       in
       let held = subst (All (IsOfFile first.store)) whole does.of_files in
-      plant_short first.store stopped.calls.told name reads p stopped.read.comes
+      plant_short first.store stopped.calls.known name reads p stopped.read.answers
       (subst (All (IsOfFile first.store)) (take-append_seam reads stopped.read.more) (All-take (IsOfFile first.store) (length reads) (reads ++ stopped.read.more) held))
 
   second_short : IsShortPlant (files_before second) name
@@ -156,58 +158,59 @@ module _ (p : Plant) (name : List ℕ) (stop : Stop) (first second : Call) (stop
       same_short (files_before second) (files_before first) (same_files p name stop first stopped second resumed) name (plant_plain p name stop first stopped second resumed) first_short
 
   -- the file is read
-  of_file : (reads : List Read) (came : Result Output Reply) → Then (LooksAt stop.save) (λ found. Settles (IsResumed p found)) reads came → All Held reads → Comes came
-  of_file reads came steps all =
-      then_leads (LooksAt stop.save) (λ found. Settles (IsResumed p found)) Held Comes reads came steps all
-      (λ reply before fits stops.
-      look_stops second.store resumed.calls.told (λ (r : Reply). Comes (Err r)) (λ file. tt) tt stop.save saved_short before reply stops fits)
+  of_file : (reads : List Read) (answer : Result Answer Refusal) → Then (LooksAt stop.save) (λ found. Settles (IsResumed p found)) reads answer → All Held reads → Reports answer
+  of_file reads answer steps all =
+      then_leads (LooksAt stop.save) (λ found. Settles (IsResumed p found)) Held Reports reads answer steps all
+      (λ refusal before fits stops.
+      look_stops second.store resumed.calls.known (λ (r : Refusal). Reports (Err r)) (λ file. tt) tt stop.save saved_short before refusal stops fits)
       (λ found before after fits rest looks on.
-      settled_comes p found came
-      (subst (ResumesToReport p) (one_content (files_before second stop.save) found bytes (looked second.store resumed.calls.told stop.save before found looks fits) saved_there) stopped.saved.resumes)
+      settled_answers p found answer
+      (subst (ResumesToReport p) (one_content (files_before second stop.save) found bytes (looked second.store resumed.calls.known stop.save before found looks fits) saved_there) stopped.saved.resumes)
       on.1)
 
   -- the plant is read, and then the file
-  of_plant : (reads : List Read) (came : Result Output Reply) → Then (OfPlantNamed second.store.tells (files_before second) name) (λ q. Then (LooksAt stop.save) (λ found. Settles (IsResumed q found))) reads came → All Held reads → Comes came
-  of_plant reads came steps all =
+  of_plant : (reads : List Read) (answer : Result Answer Refusal) → Then (OfPlantNamed second.store.tells (files_before second) name) (λ q. Then (LooksAt stop.save) (λ found. Settles (IsResumed q found))) reads answer → All Held reads → Reports answer
+  of_plant reads answer steps all =
       let W = plant_of name (files_before second) in
       let is : W ≡ Ok p = second_plant p name stop first stopped second resumed in
-      let live = live_of name stopped.read.reads p stopped.read.comes in
-      then_leads (OfPlantNamed second.store.tells (files_before second) name) (λ q. Then (LooksAt stop.save) (λ found. Settles (IsResumed q found))) Held Comes reads came steps all
-      (λ reply before fits stops.
-      plant_stops second.store resumed.calls.told (λ (r : Reply). IsOfPlant W (Err r) → Comes (Err r)) (λ file said. tt) (λ said. tt)
+      let live = live_of name stopped.read.reads p stopped.read.answers in
+      then_leads (OfPlantNamed second.store.tells (files_before second) name) (λ q. Then (LooksAt stop.save) (λ found. Settles (IsResumed q found))) Held Reports reads answer steps all
+      (λ refusal before fits stops.
+      plant_stops second.store resumed.calls.known (λ (r : Refusal). IsOfPlant W (Err r) → Reports (Err r)) (λ file said. tt) (λ said. tt)
       (not_refused p live W is) (not_dead_plant p live W is)
-      name second_short before reply stops.comes fits (stops.of_files resumed.calls.told))
+      name second_short before refusal stops.answers fits (stops.of_files resumed.calls.known))
       (λ q before after fits rest first_steps next.
-      of_file after came
-      (subst (λ (v : Plant). Then (LooksAt stop.save) (λ found. Settles (IsResumed v found)) after came) (same_as p live W is q (first_steps.of_files resumed.calls.told)) next)
+      of_file after answer
+      (subst (λ (v : Plant). Then (LooksAt stop.save) (λ found. Settles (IsResumed v found)) after answer) (same_as p live W is q (first_steps.of_files resumed.calls.known)) next)
       rest)
 
   -- how the call ends
-  of_came : (came : Result Output Reply) → Comes came → IfErr came (HasCause second.store second.disk []) → Finishes second.sink came second.status → EndsResumed p second
-  of_came (Ok output) comes cause wrote_it =
-      wrote p second (output_bytes output) 0 (λ zero. reported zero (second_reports p name stop first stopped second resumed zero)) wrote_it
-  of_came (Err reply) comes cause wrote_it = by_reply p second reply cause comes wrote_it
+  of_answer : (answer : Result Answer Refusal) → Reports answer → IfErr answer (HasCause second.store second.disk []) → Finishes second.sink answer second.status → EndsResumed p second
+  of_answer (Ok output) answers cause wrote_it =
+      let text = report p (date_in answers.rows) in
+      wrote p second text 0 (λ zero. reported zero (second_reports p name stop first stopped second resumed zero)) (whole second.sink text output second.status answers.written wrote_it)
+  of_answer (Err refusal) answers cause wrote_it = by_refusal p second refusal cause answers wrote_it
 
-  abbrev Resumes : Asked → Result Output Reply → Type 0
-  Resumes asks came = OfWords second.store.tells (files_before second) (Some (Resume name stop.save resumed.workers)) asks second.disk came
+  abbrev Resumes : Asked → Result Answer Refusal → Type 0
+  Resumes asks answer = OfWords second.store.tells (files_before second) (Some (Resume name stop.save resumed.workers)) asks second.disk answer
 
-  of_words : (asks : Asked) (came : Result Output Reply) → All Held asks.reads → Resumes asks came → Comes came
-  of_words asks came all (inl does) = of_plant asks.reads came does.comes all
-  of_words asks came all (inr wanting) = subst Comes (sym wanting.2) tt
+  of_words : (asks : Asked) (answer : Result Answer Refusal) → All Held asks.reads → Resumes asks answer → Reports answer
+  of_words asks answer all (inl does) = of_plant asks.reads answer does.answers all
+  of_words asks answer all (inr wanting) = subst Reports (sym wanting.2) tt
 
   -- it writes no file
-  unwritten_files : (asks : Asked) (came : Result Output Reply) → Resumes asks came → asks.writes ≡ []
-  unwritten_files asks came (inl does) = does.unwritten
-  unwritten_files asks came (inr wanting) = ap (λ (a : Asked). a.writes) wanting.0
+  unwritten_files : (asks : Asked) (answer : Result Answer Refusal) → Resumes asks answer → asks.writes ≡ []
+  unwritten_files asks answer (inl does) = does.unwritten
+  unwritten_files asks answer (inr wanting) = ap (λ (a : Asked). a.writes) wanting.0
 
   -- the call ends with the report, or for one of those causes
   pub ends_resumed : EndsResumed p second
   ends_resumed =
       let ends = resumed.calls.ends in
       let does = ends.does in
-      let resumes : Resumes does.asks ends.came =
-      subst (λ (o : Option Command). OfWords second.store.tells (files_before second) o does.asks second.disk ends.came) resumed.calls.asked does.comes
+      let resumes : Resumes does.asks ends.answer =
+      subst (λ (o : Option Command). OfWords second.store.tells (files_before second) o does.asks second.disk ends.answer) resumed.calls.asked does.answers
       in
-      of_came ends.came (of_words does.asks ends.came does.of_files resumes)
-      (subst (λ (ws : List Write). IfErr ends.came (HasCause second.store second.disk ws)) (unwritten_files does.asks ends.came resumes) does.caused)
+      of_answer ends.answer (of_words does.asks ends.answer does.of_files resumes)
+      (subst (λ (ws : List Write). IfErr ends.answer (HasCause second.store second.disk ws)) (unwritten_files does.asks ends.answer resumes) does.caused)
       ends.finishes

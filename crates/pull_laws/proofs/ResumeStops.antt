@@ -12,60 +12,60 @@ use Rattle.plant_draft.specs.declared.draft.DraftPlant.{DraftPlant}
 use Rattle.plant_file.specs.Finish.{completed}
 use Rattle.plant_model.specs.declared.error.PlantError.{PlantError}
 use Rattle.plant_model.specs.declared.plant.Plant.{Plant}
-use Rattle.pull_words.specs.declared.reply.Reply.{Reply}
-use Rattle.pull_words.specs.declared.reply.Reply.TheVariants.{Dead, NoMemory, Refused, StoreFault}
-use Rattle.pull_steps.specs.Outside.{StoreOver, Fits, IsOfFile}
-use Rattle.pull_steps.specs.PlantSteps.{or_refused, OfDraft, OfBytes, OfPlantFile, IsLiveOrDead, OfLivePlant}
-use Rattle.pull_steps.specs.Steps.{Step, Settles, Gives, ComesOfRead, LooksAt, LooksAtNamed, Then}
-use Rattle.pull_steps.proofs.PlantsOfFiles.{then_leads, looked}
+use Rattle.refusals.specs.declared.refusal.Refusal.{Refusal}
+use Rattle.refusals.specs.declared.refusal.Refusal.TheVariants.{Dead, NoMemory, Refused, StoreFault}
+use Rattle.live_plant.specs.Outside.{StoreOver, Fits, IsOfFile}
+use Rattle.live_plant.specs.PlantSteps.{or_refused, OfDraft, OfBytes, OfPlantFile, IsLiveOrDead, OfLivePlant}
+use Rattle.live_plant.specs.Steps.{Step, Settles, Gives, AnswersRead, LooksAt, LooksAtNamed, Then}
+use Rattle.live_plant.proofs.PlantsOfFiles.{then_leads, looked}
 use Rattle.pull_laws.proofs.ShortFiles.{IsShort, NamesShort, IsShortPlant, drafted, reading_at}
 
 -- reasons among which are those of a read
-module _ (store : StoreOver) (told : IsTrue store.tells) (Q : Reply → Type 0) (fault : (file : List ℕ) → Q (StoreFault file)) (memory : Q NoMemory) where
+module _ (store : StoreOver) (known : IsTrue store.tells) (Q : Refusal → Type 0) (fault : (file : List ℕ) → Q (StoreFault file)) (memory : Q NoMemory) where
   abbrev Held : Read → Type 0
   Held = IsOfFile store
 
-  -- it is a reason, where it is another reply that is one
-  stops_as : (reply other : Reply) → reply ≡ other → Q other → Q reply
-  stops_as reply other is stops = subst Q (sym is) stops
+  -- it is a reason, where it is another refusal that is one
+  stops_as : (refusal other : Refusal) → refusal ≡ other → Q other → Q refusal
+  stops_as refusal other is stops = subst Q (sym is) stops
 
   -- a step that ends a command for these reasons alone
   abbrev pub OnlyStops : {A : Type 0} → Step A → Type 0
-  OnlyStops step = (reads : List Read) (reply : Reply) → step reads (Err reply) → All Held reads → Q reply
+  OnlyStops step = (reads : List Read) (refusal : Refusal) → step reads (Err refusal) → All Held reads → Q refusal
 
   then_stops : {A B : Type 0} (first : Step A) (next : A → Step B) → OnlyStops first → ((x : A) (before : List Read) → first before (Ok x) → All Held before → OnlyStops (next x)) → OnlyStops (Then first next)
-  then_stops {A} {B} first next stop go reads reply both all =
-      then_leads first next Held (λ (answer : Result B Reply). IfErr answer Q) reads (Err reply) both all
+  then_stops {A} {B} first next stop go reads refusal both all =
+      then_leads first next Held (λ (answer : Result B Refusal). IfErr answer Q) reads (Err refusal) both all
       (λ r before held stops. stop before r stops held)
-      (λ x before after held rest comes on. go x before comes held after reply on rest)
+      (λ x before after held rest answers on. go x before answers held after refusal on rest)
 
-  settled_stops : {A : Type 0} (P : Result A Reply → Type 0) → ((reply : Reply) → P (Err reply) → Q reply) → (reply : Reply) → P (Err reply) ⊎ (◌≡◌ {A = Result A Reply} (Err reply) (Err NoMemory)) → Q reply
-  settled_stops P stops reply (inl is) = stops reply is
-  settled_stops P stops reply (inr wanting) = let same : reply ≡ NoMemory = cc in stops_as reply NoMemory same memory
+  settled_stops : {A : Type 0} (P : Result A Refusal → Type 0) → ((refusal : Refusal) → P (Err refusal) → Q refusal) → (refusal : Refusal) → P (Err refusal) ⊎ (◌≡◌ {A = Result A Refusal} (Err refusal) (Err NoMemory)) → Q refusal
+  settled_stops P stops refusal (inl is) = stops refusal is
+  settled_stops P stops refusal (inr wanting) = let same : refusal ≡ NoMemory = cc in stops_as refusal NoMemory same memory
 
-  settles_stops : {A : Type 0} (P : Result A Reply → Type 0) → ((reply : Reply) → P (Err reply) → Q reply) → OnlyStops (Settles P)
-  settles_stops {A} P stops reads reply settled all = settled_stops P stops reply settled.1
+  settles_stops : {A : Type 0} (P : Result A Refusal → Type 0) → ((refusal : Refusal) → P (Err refusal) → Q refusal) → OnlyStops (Settles P)
+  settles_stops {A} P stops reads refusal settled all = settled_stops P stops refusal settled.1
 
   -- the read of a file
-  fault_stops : (other : Reply) → Q other → (reply : Reply) → (◌≡◌ {A = Result (List ℕ) Reply} (Err reply) (Err other)) ⊎ (◌≡◌ {A = Result (List ℕ) Reply} (Err reply) (Err NoMemory)) → Q reply
-  fault_stops other stops reply (inl is) = let same : reply ≡ other = cc in stops_as reply other same stops
-  fault_stops other stops reply (inr wanting) = let same : reply ≡ NoMemory = cc in stops_as reply NoMemory same memory
+  fault_stops : (other : Refusal) → Q other → (refusal : Refusal) → (◌≡◌ {A = Result (List ℕ) Refusal} (Err refusal) (Err other)) ⊎ (◌≡◌ {A = Result (List ℕ) Refusal} (Err refusal) (Err NoMemory)) → Q refusal
+  fault_stops other stops refusal (inl is) = let same : refusal ≡ other = cc in stops_as refusal other same stops
+  fault_stops other stops refusal (inr wanting) = let same : refusal ≡ NoMemory = cc in stops_as refusal NoMemory same memory
 
-  read_stops : (name : List ℕ) (given : Result (List ℕ) StoreError) (reply : Reply) → IsShort store.old.files name → ComesOfRead name given (Err reply) → Fits store.tells store.old.files name given → Q reply
-  read_stops name (Ok bytes) reply short comes fits = absurd (cc)
-  read_stops name (Err store_error.Failed) reply short comes fits = fault_stops (StoreFault name) (fault name) reply comes
-  read_stops name (Err store_error.TooLong) reply short comes fits = absurd (short (fits told))
-  read_stops name (Err store_error.NoMemory) reply short comes fits =
-      let same : reply ≡ NoMemory = cc in stops_as reply NoMemory same memory
+  read_stops : (name : List ℕ) (given : Result (List ℕ) StoreError) (refusal : Refusal) → IsShort store.old.files name → AnswersRead name given (Err refusal) → Fits store.tells store.old.files name given → Q refusal
+  read_stops name (Ok bytes) refusal short answers fits = absurd (cc)
+  read_stops name (Err store_error.Failed) refusal short answers fits = fault_stops (StoreFault name) (fault name) refusal answers
+  read_stops name (Err store_error.TooLong) refusal short answers fits = absurd (short (fits known))
+  read_stops name (Err store_error.NoMemory) refusal short answers fits =
+      let same : refusal ≡ NoMemory = cc in stops_as refusal NoMemory same memory
 
   pub look_stops : (name : List ℕ) → IsShort store.old.files name → OnlyStops (LooksAt name)
-  look_stops name short reads reply looks all =
+  look_stops name short reads refusal looks all =
       let read : Read = record { name = name; answer = looks.given } in
-      read_stops name looks.given reply short looks.comes (All-head Held read [] (subst (All Held) looks.one all))
+      read_stops name looks.given refusal short looks.answers (All-head Held read [] (subst (All Held) looks.one all))
 
-  -- no reply where there is a value
-  no_value : {A : Type 0} (x : A) (reply : Reply) → ◌≡◌ {A = Result A Reply} (Err reply) (Ok x) → Q reply
-  no_value x reply is = absurd (cc)
+  -- no refusal where there is a value
+  no_value : {A : Type 0} (x : A) (refusal : Refusal) → ◌≡◌ {A = Result A Refusal} (Err refusal) (Ok x) → Q refusal
+  no_value x refusal is = absurd (cc)
 
   value_stops : {A : Type 0} (x : A) → OnlyStops {A = A} (Gives (Ok x))
   value_stops {A} x = settles_stops {A = A} (λ answer. answer ≡ Ok x) (no_value x)
@@ -77,11 +77,11 @@ module _ (store : StoreOver) (told : IsTrue store.tells) (Q : Reply → Type 0) 
       (λ bytes before looks held. value_stops {A = Option (List ℕ)} (Some bytes))
 
   -- and those of a plant
-  module _ (refusal : (error : PlantError) → Q (Refused error)) (dead : (labels : List (List ℕ)) → Q (Dead labels)) where
+  module _ (plant_refused : (error : PlantError) → Q (Refused error)) (dead : (labels : List (List ℕ)) → Q (Dead labels)) where
     -- a refusal of a plant
-    refused : {A : Type 0} (r : Result A PlantError) (reply : Reply) → Err reply ≡ or_refused r → Q reply
-    refused (Ok x) reply is = absurd (cc)
-    refused (Err error) reply is = let same : reply ≡ Refused error = cc in stops_as reply (Refused error) same (refusal error)
+    refused : {A : Type 0} (r : Result A PlantError) (refusal : Refusal) → Err refusal ≡ or_refused r → Q refusal
+    refused (Ok x) refusal is = absurd (cc)
+    refused (Err error) refusal is = let same : refusal ≡ Refused error = cc in stops_as refusal (Refused error) same (plant_refused error)
 
     gives_stops : {A : Type 0} (r : Result A PlantError) → OnlyStops {A = A} (Gives (or_refused r))
     gives_stops {A} r = settles_stops {A = A} (λ answer. answer ≡ or_refused r) (refused r)
@@ -102,9 +102,9 @@ module _ (store : StoreOver) (told : IsTrue store.tells) (Q : Reply → Type 0) 
         (λ bytes before looks held.
         then_stops {A = DraftPlant} {B = Plant} (OfBytes bytes) OfDraft (gives_stops (reading bytes))
         (λ d none drafts held_none.
-        draft_stops d (short.named d (reading_at store.old.files name bytes d (looked store told name before bytes looks held) (drafted (reading bytes) d drafts.1)))))
+        draft_stops d (short.named d (reading_at store.old.files name bytes d (looked store known name before bytes looks held) (drafted (reading bytes) d drafts.1)))))
 
-    dead_stops : (p : Plant) (reply : Reply) → IsLiveOrDead p (Err reply) → Q reply
+    dead_stops : (p : Plant) (refusal : Refusal) → IsLiveOrDead p (Err refusal) → Q refusal
     dead_stops p (Dead labels) is = dead labels
     dead_stops p other is = absurd is
 

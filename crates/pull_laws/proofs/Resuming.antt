@@ -4,9 +4,9 @@ use Rattle.std.specs.Prelude.{Option, Some, None, Result, Ok}
 use Rattle.std.proofs.lemmas.List.{append_cancel_left}
 use Rattle.checkpoint.specs.Text.{text}
 use Rattle.checkpoint.specs.declared.format.Format.TheVariants.{Differences}
-use Rattle.command_words.specs.declared.command.Command.{Command}
-use Rattle.command_words.specs.declared.command.Command.TheVariants.{Resume, Run}
-use Rattle.command_words.specs.declared.command.Stop.{Stop}
+use Rattle.command_line.specs.declared.command.Command.{Command}
+use Rattle.command_line.specs.declared.command.Command.TheVariants.{Resume, Run}
+use Rattle.command_line.specs.declared.command.Stop.{Stop}
 use Rattle.event_graph.specs.Table.{date_in}
 use Rattle.line_base.specs.Text.{is_checkpoint_name}
 use Rattle.line_io.specs.Calls.{Write, Asked, write_of}
@@ -19,12 +19,12 @@ use Rattle.plant_model.specs.Graph.{graph}
 use Rattle.plant_model.specs.Sound.{IsSound}
 use Rattle.plant_file.specs.PlantOfFiles.{bytes_at, plant_of}
 use Rattle.pull_laws.proofs.SoundFiles.{plant_of-sound}
-use Rattle.pull_steps.specs.Deeds.{Changes}
-use Rattle.pull_cli.specs.Headline.{run_of, stop_of, HasReported, RunEndsWell}
+use Rattle.live_plant.specs.Actions.{Changes}
+use Rattle.pull_cli.specs.RunReports.{run_of, HasReported, Reports}
 use Rattle.pull_laws.specs.Resuming.{Call, files_before, files_after, CallsFor, HasStopped, IsResumedBy, IsWholeRun, WroteTheSame}
 use Rattle.pull_laws.proofs.FileNames.{IsPlain, file_is_plain, reading_sound, same_plant}
-use Rattle.pull_cli.proofs.HeadlineLemmas.{headline_of}
-use Rattle.command_words.proofs.ResumeWords.{names_files}
+use Rattle.pull_cli.proofs.HeadlineLemmas.{reports_of}
+use Rattle.command_line.proofs.ResumeWords.{names_files}
 
 -- one answer
 pub one_plant : (r : Result Plant PlantError) (p q : Plant) → r ≡ Ok p → r ≡ Ok q → p ≡ q
@@ -37,13 +37,11 @@ no_checkpoint q name plain checkpoint same =
 
 -- a call for a command that runs a plant by workers and isn't told to stop, and ends with status 0, has written the report
 -- of the plant that the files are
-run_reports : (c : Command) (name : List ℕ) (p : Plant) (call : Call) → CallsFor c call → run_of c ≡ Some name → stop_of c ≡ None → call.status ≡ 0 → plant_of name (files_before call) ≡ Ok p → HasReported p call.sink
-run_reports c name p call calls runs whole zero plant =
-    let well : RunEndsWell name None call.store call.sink =
-    subst (λ (stop : Option Stop). RunEndsWell name stop call.store call.sink) whole
-    (headline_of call.words call.store call.sink call.disk call.status calls.ends c name calls.asked runs zero) in
-    subst (λ (q : Plant). HasReported q call.sink) (one_plant (plant_of name (files_before call)) well.plant p (well.read.of_files calls.told) plant)
-    well.well
+run_reports : (c : Command) (name : List ℕ) (p : Plant) (call : Call) → CallsFor c call → run_of c ≡ Some name → call.status ≡ 0 → plant_of name (files_before call) ≡ Ok p → HasReported p call.sink
+run_reports c name p call calls runs zero plant =
+    let well : Reports name call.store call.sink = reports_of call.words call.store call.sink call.disk call.status calls.ends c name calls.asked runs zero in
+    subst (λ (q : Plant). HasReported q call.sink) (one_plant (plant_of name (files_before call)) well.plant p (well.read.of_files calls.known) plant)
+    well.reported
 
 -- a call that has saved wrote one file, and every other is as it was
 module _ (p : Plant) (name : List ℕ) (stop : Stop) (first : Call) (stopped : HasStopped p name stop first) where
@@ -53,7 +51,7 @@ module _ (p : Plant) (name : List ℕ) (stop : Stop) (first : Call) (stopped : H
       let w : Write = write_of stop.save (text Differences (graph p) stopped.saved.state) (Ok tt) in
       let one : does.asks.writes ≡ w ∷ [] =
       append_cancel_left first.store.old.asked.writes does.asks.writes (w ∷ []) (sym (ap (λ (a : Asked). a.writes) does.asked) ∙ stopped.saved.asked) in
-      (subst (Changes first.store) one does.changes).others_stay stopped.calls.told q other
+      (subst (Changes first.store) one does.changes).others_stay stopped.calls.known q other
 
   module _ (second : Call) (resumed : IsResumedBy name stop first second) where
     -- so the second call finds the files of the plant as the first found them
@@ -67,16 +65,16 @@ module _ (p : Plant) (name : List ℕ) (stop : Stop) (first : Call) (stopped : H
 
     pub second_plant : plant_of name (files_before second) ≡ Ok p
     second_plant =
-        same_plant (files_before second) (files_before first) same_files name plant_plain ∙ stopped.read.of_files stopped.calls.told
+        same_plant (files_before second) (files_before first) same_files name plant_plain ∙ stopped.read.of_files stopped.calls.known
 
     pub second_reports : second.status ≡ 0 → HasReported p second.sink
-    second_reports zero = run_reports (Resume name stop.save resumed.workers) name p second resumed.calls refl refl zero second_plant
+    second_reports zero = run_reports (Resume name stop.save resumed.workers) name p second resumed.calls refl zero second_plant
 
     -- a run that isn't told to stop reports the same plant
     whole_reports : (whole : Call) → IsWholeRun name first whole → HasReported p whole.sink
     whole_reports whole run =
-        run_reports (Run name run.workers None) name p whole run.calls refl refl run.status
-        (same_plant (files_before whole) (files_before first) (λ q plain. run.over q) name plant_plain ∙ stopped.read.of_files stopped.calls.told)
+        run_reports (Run name run.workers None) name p whole run.calls refl run.status
+        (same_plant (files_before whole) (files_before first) (λ q plain. run.over q) name plant_plain ∙ stopped.read.of_files stopped.calls.known)
 
     -- and two reports of a plant are the same bytes
     same_bytes : IsSound p → (one other : Call) → HasReported p one.sink → HasReported p other.sink → WroteTheSame one other
@@ -86,5 +84,5 @@ module _ (p : Plant) (name : List ℕ) (stop : Stop) (first : Call) (stopped : H
     pub writes_the_same : second.status ≡ 0 → (whole : Call) → IsWholeRun name first whole → WroteTheSame second whole
     writes_the_same zero whole run =
         let files = files_before first in
-        let sound : IsSound p = plant_of-sound name files p (reading_sound (bytes_at files name)) (stopped.read.of_files stopped.calls.told) in
+        let sound : IsSound p = plant_of-sound name files p (reading_sound (bytes_at files name)) (stopped.read.of_files stopped.calls.known) in
         same_bytes sound second whole (second_reports zero) (whole_reports whole run)

@@ -14,12 +14,12 @@ use Rattle.plant_file.specs.Finish.{completed}
 use Rattle.plant_file.specs.PlantOfFiles.{bytes_at}
 use Rattle.plant_model.specs.declared.error.PlantError.{PlantError}
 use Rattle.plant_model.specs.declared.plant.Plant.{Plant}
-use Rattle.pull_words.specs.declared.reply.Reply.{Reply}
-use Rattle.pull_words.specs.declared.reply.Reply.TheVariants.{NoMemory}
-use Rattle.pull_steps.specs.Outside.{StoreOver, limit_of, Fits, IsOfFile}
-use Rattle.pull_steps.specs.PlantSteps.{or_refused, OfDraft, OfBytes, OfPlantFile, IsLiveOrDead, OfLivePlant}
-use Rattle.pull_steps.specs.Steps.{Settles, Gives, ComesOfRead, LooksAt, LooksAtNamed, Then}
-use Rattle.pull_steps.proofs.PlantsOfFiles.{then_leads, looked}
+use Rattle.refusals.specs.declared.refusal.Refusal.{Refusal}
+use Rattle.refusals.specs.declared.refusal.Refusal.TheVariants.{NoMemory}
+use Rattle.live_plant.specs.Outside.{StoreOver, limit_of, Fits, IsOfFile}
+use Rattle.live_plant.specs.PlantSteps.{or_refused, OfDraft, OfBytes, OfPlantFile, IsLiveOrDead, OfLivePlant}
+use Rattle.live_plant.specs.Steps.{Settles, Gives, AnswersRead, LooksAt, LooksAtNamed, Then}
+use Rattle.live_plant.proofs.PlantsOfFiles.{then_leads, looked}
 use Rattle.pull_laws.proofs.FileNames.{IsPlain, reading_names}
 
 -- the file is no longer than a file of its name may be
@@ -42,7 +42,7 @@ short_bytes files name bytes is few longer =
     let over = subst (IsLongerThan (limit_of name)) is longer in omega (arith, over, few)
 
 -- the draft that is answered is that of the bytes
-pub drafted : (r : Result DraftPlant PlantError) (d : DraftPlant) → (Ok d ≡ or_refused r) ⊎ (◌≡◌ {A = Result DraftPlant Reply} (Ok d) (Err NoMemory)) → r ≡ Ok d
+pub drafted : (r : Result DraftPlant PlantError) (d : DraftPlant) → (Ok d ≡ or_refused r) ⊎ (◌≡◌ {A = Result DraftPlant Refusal} (Ok d) (Err NoMemory)) → r ≡ Ok d
 drafted (Ok own) d (inl is) = cc
 drafted (Err error) d (inl is) = absurd (cc)
 drafted r d (inr none) = absurd (cc)
@@ -56,43 +56,43 @@ one_draft : (r : Result DraftPlant PlantError) (d e : DraftPlant) → r ≡ Ok d
 one_draft r d e is also = cc
 
 -- what holds holds where a value was answered
-where_ok : {A X : Type 0} (answer : Result A Reply) → X → OnOk answer X
+where_ok : {A X : Type 0} (answer : Result A Refusal) → X → OnOk answer X
 where_ok (Ok a) x = x
-where_ok (Err reply) x = tt
+where_ok (Err refusal) x = tt
 
-module _ (store : StoreOver) (told : IsTrue store.tells) where
+module _ (store : StoreOver) (known : IsTrue store.tells) where
   abbrev files : Contents
   files = store.old.files
 
   abbrev Held : Read → Type 0
   Held = IsOfFile store
 
-  given_short : (name : List ℕ) (given : Result (List ℕ) StoreError) (bytes : List ℕ) → ComesOfRead name given (Ok bytes) → Fits store.tells files name given → IsShort files name
-  given_short name (Ok own) bytes comes fits = short_bytes files name own (fits.1 told) fits.0
-  given_short name (Err store_error.Failed) bytes comes fits = ⊎_elim (λ is. absurd (cc)) (λ is. absurd (cc)) comes
-  given_short name (Err store_error.TooLong) bytes comes fits = ⊎_elim (λ is. absurd (cc)) (λ is. absurd (cc)) comes
-  given_short name (Err store_error.NoMemory) bytes comes fits = absurd (cc)
+  given_short : (name : List ℕ) (given : Result (List ℕ) StoreError) (bytes : List ℕ) → AnswersRead name given (Ok bytes) → Fits store.tells files name given → IsShort files name
+  given_short name (Ok own) bytes answers fits = short_bytes files name own (fits.1 known) fits.0
+  given_short name (Err store_error.Failed) bytes answers fits = ⊎_elim (λ is. absurd (cc)) (λ is. absurd (cc)) answers
+  given_short name (Err store_error.TooLong) bytes answers fits = ⊎_elim (λ is. absurd (cc)) (λ is. absurd (cc)) answers
+  given_short name (Err store_error.NoMemory) bytes answers fits = absurd (cc)
 
   look_short : (name : List ℕ) (reads : List Read) (bytes : List ℕ) → LooksAt name reads (Ok bytes) → All Held reads → IsShort files name
   look_short name reads bytes looks all =
       let read : Read = record { name = name; answer = looks.given } in
-      given_short name looks.given bytes looks.comes (All-head Held read [] (subst (All Held) looks.one all))
+      given_short name looks.given bytes looks.answers (All-head Held read [] (subst (All Held) looks.one all))
 
-  named_short : (name : Option (List ℕ)) (reads : List Read) (answer : Result (Option (List ℕ)) Reply) → LooksAtNamed name reads answer → All Held reads → OnOk answer (IfSome name (IsShort files))
+  named_short : (name : Option (List ℕ)) (reads : List Read) (answer : Result (Option (List ℕ)) Refusal) → LooksAtNamed name reads answer → All Held reads → OnOk answer (IfSome name (IsShort files))
   named_short None reads answer looks all = where_ok answer tt
   named_short (Some name) reads answer looks all =
-      then_leads (LooksAt name) (λ bytes. Gives (Ok (Some bytes))) Held (λ (a : Result (Option (List ℕ)) Reply). OnOk a (IsShort files name)) reads answer looks all
-      (λ reply before held stops. tt)
+      then_leads (LooksAt name) (λ bytes. Gives (Ok (Some bytes))) Held (λ (a : Result (Option (List ℕ)) Refusal). OnOk a (IsShort files name)) reads answer looks all
+      (λ refusal before held stops. tt)
       (λ bytes before after held rest first next. where_ok answer (look_short name before bytes first held))
 
   -- those that a draft names
-  draft_short : (d : DraftPlant) (reads : List Read) (answer : Result Plant Reply) → OfDraft d reads answer → All Held reads → OnOk answer (NamesShort files d)
+  draft_short : (d : DraftPlant) (reads : List Read) (answer : Result Plant Refusal) → OfDraft d reads answer → All Held reads → OnOk answer (NamesShort files d)
   draft_short d reads answer steps all =
-      then_leads (LooksAtNamed (demands_file d)) (λ demands. Then (LooksAtNamed d.times_file) (λ times. Gives (or_refused (completed d demands times)))) Held (λ (a : Result Plant Reply). OnOk a (NamesShort files d)) reads answer steps all
-      (λ reply before held stops. tt)
+      then_leads (LooksAtNamed (demands_file d)) (λ demands. Then (LooksAtNamed d.times_file) (λ times. Gives (or_refused (completed d demands times)))) Held (λ (a : Result Plant Refusal). OnOk a (NamesShort files d)) reads answer steps all
+      (λ refusal before held stops. tt)
       (λ demands before after held rest first next.
-      then_leads (LooksAtNamed d.times_file) (λ times. Gives (or_refused (completed d demands times))) Held (λ (a : Result Plant Reply). OnOk a (NamesShort files d)) after answer next rest
-      (λ reply later held_times stops. tt)
+      then_leads (LooksAtNamed d.times_file) (λ times. Gives (or_refused (completed d demands times))) Held (λ (a : Result Plant Refusal). OnOk a (NamesShort files d)) after answer next rest
+      (λ refusal later held_times stops. tt)
       (λ times later end held_times none second gives.
       where_ok answer (record {
         demands = named_short (demands_file d) before (Ok demands) first held;
@@ -100,30 +100,30 @@ module _ (store : StoreOver) (told : IsTrue store.tells) where
       })))
 
   -- and the plant file, with these
-  with_named : (name bytes : List ℕ) (d : DraftPlant) (answer : Result Plant Reply) → IsShort files name → reading (bytes_at files name) ≡ Ok d → OnOk answer (NamesShort files d) → OnOk answer (IsShortPlant files name)
+  with_named : (name bytes : List ℕ) (d : DraftPlant) (answer : Result Plant Refusal) → IsShort files name → reading (bytes_at files name) ≡ Ok d → OnOk answer (NamesShort files d) → OnOk answer (IsShortPlant files name)
   with_named name bytes d (Ok p) plant is named = record {
     plant = plant;
     named = λ e also. subst (NamesShort files) (one_draft (reading (bytes_at files name)) d e is also) named;
   }
-  with_named name bytes d (Err reply) plant is named = tt
+  with_named name bytes d (Err refusal) plant is named = tt
 
-  file_short : (name : List ℕ) (reads : List Read) (answer : Result Plant Reply) → OfPlantFile name reads answer → All Held reads → OnOk answer (IsShortPlant files name)
+  file_short : (name : List ℕ) (reads : List Read) (answer : Result Plant Refusal) → OfPlantFile name reads answer → All Held reads → OnOk answer (IsShortPlant files name)
   file_short name reads answer steps all =
-      then_leads (LooksAt name) (λ bytes. Then (OfBytes bytes) OfDraft) Held (λ (a : Result Plant Reply). OnOk a (IsShortPlant files name)) reads answer steps all
-      (λ reply before held stops. tt)
+      then_leads (LooksAt name) (λ bytes. Then (OfBytes bytes) OfDraft) Held (λ (a : Result Plant Refusal). OnOk a (IsShortPlant files name)) reads answer steps all
+      (λ refusal before held stops. tt)
       (λ bytes before after held rest first next.
-      then_leads (OfBytes bytes) OfDraft Held (λ (a : Result Plant Reply). OnOk a (IsShortPlant files name)) after answer next rest
-      (λ reply begun held_none stops. tt)
+      then_leads (OfBytes bytes) OfDraft Held (λ (a : Result Plant Refusal). OnOk a (IsShortPlant files name)) after answer next rest
+      (λ refusal begun held_none stops. tt)
       (λ d begun later held_none held_later drafts last.
       with_named name bytes d answer (look_short name before bytes first held)
-      (reading_at files name bytes d (looked store told name before bytes first held) (drafted (reading bytes) d drafts.1))
+      (reading_at files name bytes d (looked store known name before bytes first held) (drafted (reading bytes) d drafts.1))
       (draft_short d later answer last held_later)))
 
   -- the files of a live plant that was read
   pub plant_short : (name : List ℕ) (reads : List Read) (p : Plant) → OfLivePlant name reads (Ok p) → All Held reads → IsShortPlant files name
   plant_short name reads p steps all =
-      then_leads (OfPlantFile name) (λ q. Settles (IsLiveOrDead q)) Held (λ (a : Result Plant Reply). OnOk a (IsShortPlant files name)) reads (Ok p) steps all
-      (λ reply before held stops. tt)
+      then_leads (OfPlantFile name) (λ q. Settles (IsLiveOrDead q)) Held (λ (a : Result Plant Refusal). OnOk a (IsShortPlant files name)) reads (Ok p) steps all
+      (λ refusal before held stops. tt)
       (λ q before after held rest first next. file_short name before (Ok q) first held)
 
 module _ (a b : Contents) (agree : (q : List ℕ) → IsPlain q → a q ≡ b q) where

@@ -5,7 +5,7 @@ use Rattle.std.specs.List.{AllByRecursion, concat}
 use Rattle.std.specs.Result.{result_ok}
 use Rattle.std.proofs.lemmas.List.Elements.{All-cons, All-nil}
 use Rattle.line_base.specs.declared.limits.TheConstants.{MAX_TIME, MAX_DEMAND_DATE}
-use Rattle.demand_feed.specs.Dates.{date_column, joined_dates, dates_of}
+use Rattle.demand_feed.specs.Dates.{date_columns, joined_dates, dates_of}
 use Rattle.demand_feed.specs.Records.{records_of}
 use Rattle.demand_feed.specs.Rows.{Held, rows_of}
 use Rattle.demand_feed.specs.Times.{under_columns, times_of}
@@ -15,11 +15,11 @@ use Rattle.plant_model.specs.declared.plant.Plant.{Plant}
 use Rattle.plant_model.specs.Refusals.{parts_refusals, whole_refusals, refusals}
 use Rattle.plant_model.specs.Sound.{IsSound}
 use Rattle.plant_model.proofs.NoRefusals.{append-nil_left, append-nil_right}
-use Rattle.plant_tree.specs.Readers.{is_filled}
+use Rattle.plant_keys.specs.Readers.{is_filled}
 use Rattle.plant_draft.specs.declared.draft.DraftDemands.{DraftDemands}
 use Rattle.plant_draft.specs.declared.draft.DraftDemands.TheVariants.{Given, File}
 use Rattle.plant_draft.specs.declared.draft.DraftPlant.{DraftPlant}
-use Rattle.plant_draft.specs.Draft.{IsSoundDraft, file_of, demands_file, columns_of}
+use Rattle.plant_draft.specs.Draft.{IsSoundDraft, file_of, date_column_of, demands_file, demands_column, columns_of}
 use Rattle.plant_draft.specs.Reading.{reading}
 use Rattle.plant_file.specs.Finish.{IsWithinLimit, bad_record, bad_record_in, bad_records, held_in, plant_of_bytes, plant_or_first, completed}
 use Rattle.plant_file.specs.PlantOfFiles.{Contents, bytes_at, bytes_of, plant_of_reading, plant_of}
@@ -40,26 +40,27 @@ joined_good (Ok (row ∷ rows)) good ds is =
     (filled_from (concat (row ∷ rows)) (omega (arith, size)), All-concat-rows 1 MAX_DEMAND_DATE (row ∷ rows) all)
 joined_good (Err place) good ds is = absurd (cc)
 
-dates_good : (bytes ds : List ℕ) → dates_of bytes ≡ Ok ds → (is_filled ds ≡ true) × All (λ date. date ≤ MAX_DEMAND_DATE) ds
-dates_good bytes ds is =
-    joined_good (rows_of date_column MAX_DEMAND_DATE (records_of bytes))
-    (λ rows told. (rows_of-rows date_column MAX_DEMAND_DATE (records_of bytes) rows told).0) ds is
+dates_good : (column : ℕ) (bytes ds : List ℕ) → dates_of column bytes ≡ Ok ds → (is_filled ds ≡ true) × All (λ date. date ≤ MAX_DEMAND_DATE) ds
+dates_good column bytes ds is =
+    joined_good (rows_of (date_columns column) MAX_DEMAND_DATE (records_of bytes))
+    (λ rows known. (rows_of-rows (date_columns column) MAX_DEMAND_DATE (records_of bytes) rows known).0) ds is
 
 -- what is held where no record is bad
 is_held : {A : Type 0} (file : List ℕ) (held : Held A) → bad_record file held ≡ [] → is_some (result_ok held) ≡ true
 is_held file (Ok a) none = refl
 is_held file (Err number) none = absurd (cc)
 
-of_file : (file bytes : List ℕ) (held : Held (List ℕ)) → dates_of bytes ≡ held → bad_record file held ≡ [] → AreDates (File file) (result_ok held)
-of_file file bytes (Ok ds) is none =
-    let good = dates_good bytes ds is in
+of_file : (file : List ℕ) (column : ℕ) (bytes : List ℕ) (held : Held (List ℕ)) → dates_of column bytes ≡ held → bad_record file held ≡ [] → AreDates (File file column) (result_ok held)
+of_file file column bytes (Ok ds) is none =
+    let good = dates_good column bytes ds is in
     record { given = refl; filled = good.0; limit = good.1 }
-of_file file bytes (Err number) is none = absurd (cc)
+of_file file column bytes (Err number) is none = absurd (cc)
 
 -- the dates of a draft, where no record of its demand file is bad
-dates_are : (files : Contents) (demands : DraftDemands) → bad_record_in dates_of (file_of demands) (bytes_of files (file_of demands)) ≡ [] → AreDates demands (held_in dates_of (bytes_of files (file_of demands)))
+dates_are : (files : Contents) (demands : DraftDemands) → bad_record_in (dates_of (date_column_of demands)) (file_of demands) (bytes_of files (file_of demands)) ≡ [] → AreDates demands (held_in (dates_of (date_column_of demands)) (bytes_of files (file_of demands)))
 dates_are files (Given dates) none = record { given = refl; filled = tt; limit = tt }
-dates_are files (File name) none = of_file name (bytes_at files name) (dates_of (bytes_at files name)) refl none
+dates_are files (File name column) none =
+    of_file name column (bytes_at files name) (dates_of column (bytes_at files name)) refl none
 
 -- the times of a times file in which no record is bad
 rows_within : (width most : ℕ) (rows : List (List ℕ)) → AllByRecursion (IsRow width most) rows → All (λ row. All (λ time. time ≤ most) row) rows
@@ -75,7 +76,7 @@ times_are : (columns : List ℕ) (bytes : Option (List ℕ)) → IfSome (held_in
 times_are columns None = tt
 times_are columns (Some bytes) =
     times_within columns (rows_of columns MAX_TIME (records_of bytes))
-    (λ rows told. rows_within (length columns) MAX_TIME rows (rows_of-rows columns MAX_TIME (records_of bytes) rows told).0)
+    (λ rows known. rows_within (length columns) MAX_TIME rows (rows_of-rows columns MAX_TIME (records_of bytes) rows known).0)
 
 -- so nothing is refused of the plant of a sound draft, where nothing is refused of its files and of the whole
 whole_sound : (p : Plant) → parts_refusals p ≡ [] → whole_refusals p ≡ [] → IsSound p
@@ -93,8 +94,8 @@ completed_sound files d sound p is =
     let made = plant_of_bytes d demands times in
     answered (bad_records d demands times ++ whole_refusals made) made p
     (λ none. whole_sound made
-    (parts-none d (held_in dates_of demands) (held_in (times_of (columns_of d)) times) sound
-    (dates_are files d.demands (append-nil_left (bad_record_in dates_of (demands_file d) demands) _ (append-nil_left (bad_records d demands times) _ none)))
+    (parts-none d (held_in (dates_of (demands_column d)) demands) (held_in (times_of (columns_of d)) times) sound
+    (dates_are files d.demands (append-nil_left (bad_record_in (dates_of (demands_column d)) (demands_file d) demands) _ (append-nil_left (bad_records d demands times) _ none)))
     (times_are (columns_of d) times))
     (append-nil_right (bad_records d demands times) _ none))
     is

@@ -1,18 +1,19 @@
 -- The law on two calls: a run that stopped and saved, and the call that resumes it. The second writes the report of the
 -- same plant, which every run of the plant writes that never stops.
 use Rattle.std.specs.Prelude.{◌≡◌, ℕ, List, IsTrue, Some, None}
-use Rattle.command_words.specs.Words.{command_of}
-use Rattle.command_words.specs.declared.command.Command.{Command}
-use Rattle.command_words.specs.declared.command.Command.TheVariants.{Resume, Run}
-use Rattle.command_words.specs.declared.command.Stop.{Stop}
+use Rattle.command_line.specs.Words.{command_of}
+use Rattle.command_line.specs.declared.command.Command.{Command}
+use Rattle.command_line.specs.declared.command.Command.TheVariants.{Resume, Run}
+use Rattle.command_line.specs.declared.command.Stop.{Stop}
 use Rattle.line_io.specs.Contents.{Contents}
 use Rattle.line_io.specs.Faults.{Rose}
 use Rattle.line_io.specs.SinkView.{PutsAll}
 use Rattle.plant_model.specs.declared.plant.Plant.{Plant}
-use Rattle.pull_steps.specs.Deeds.{DiskOver}
-use Rattle.pull_steps.specs.Outside.{StoreOver, SinkOver}
+use Rattle.live_plant.specs.Actions.{DiskOver}
+use Rattle.live_plant.specs.Outside.{StoreOver, SinkOver}
 use Rattle.pull_cli.specs.Ends.{Ends}
-use Rattle.pull_cli.specs.Headline.{IsPlantRead, HasReported, HasSaved}
+use Rattle.pull_cli.specs.RunReports.{IsPlantRead, HasReported}
+use Rattle.pull_cli.specs.StopsAndResumes.{HasSaved}
 
 -- a call of `pull`: its words, its store, sink and disk, and the status that it ended with
 pub record Call : Type 0 where
@@ -32,7 +33,7 @@ files_after call = call.store.new.files
 -- a call for this command, over a store that tells its files; it has ended as every call of `pull` does
 pub record CallsFor (command : Command) (call : Call) : Type 0 where
   pub asked : command_of call.words ≡ Some command
-  pub told : IsTrue call.store.tells
+  pub known : IsTrue call.store.tells
   pub ends : Ends call.words call.store call.sink call.disk call.status
 
 -- a run of the plant file that was told to stop has ended with status 0 and has saved a state of this plant

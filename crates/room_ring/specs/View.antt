@@ -27,11 +27,11 @@ first_putter room = blank Putter room
 abbrev pub first_taker : ℕ → View
 first_taker room = blank Taker room
 
--- a note of these tokens, of which so many were taken
+-- a note of these tokens, of which this many were taken
 abbrev pub note : List ℕ → ℕ → View
 note tokens count = record (blank Note 0) { list = tokens; count = count }
 
--- how many of so many tokens in its list a seat of this role took
+-- how many of this many tokens in its list a seat of this role took
 abbrev pub took : Role → ℕ → ℕ
 took Putter count = 0
 took Taker count = count

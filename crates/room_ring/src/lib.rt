@@ -27,7 +27,7 @@ use words::{HEAD, LeaveNote, LoadHead, LoadTail, Open, TAIL, Tell, Words};
 
 /// Makes a ring in which `room` tokens may wait at once. It has put the initial tokens and taken
 /// none, its take knows all of them, and its space is the room less their number. Fails only for
-/// want of memory. No other call takes any.
+/// running out of memory. No other call takes any.
 pub fn room_ring(
     alloc: Global,
     initial: &[Date],

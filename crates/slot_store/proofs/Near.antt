@@ -1,7 +1,8 @@
 -- What a disk holds while writes stay within one range, and what a crash leaves then.
-use Rattle.std.proofs.Common.{◌≡◌, ℕ, ◌+◌, ◌-◌, ◌<◌, ◌≤◌, Bool, true, false, List, length, get_or, refl, sym, ◌∙◌, ap, subst, arith, cond, ◌||◌}
+use Rattle.std.proofs.Common.{◌≡◌, ⊎_elim, ℕ, ◌+◌, ◌-◌, ◌<◌, ◌≤◌, Bool, true, false, List, length, get_or, refl, sym, ◌∙◌, ap, subst, arith, cond, ◌||◌}
+use Rattle.std.proofs.lemmas.Bool.{true≢false}
 use Rattle.std.proofs.lemmas.Bool.Decides.{nat_tests}
-use Rattle.line_disk.specs.DiskView.{Image, Held, MayLeave, is_within, patched, awaiting, written, synced, Torn}
+use Rattle.line_disk.specs.DiskView.{Image, Held, MayLeave, is_within, patched, awaiting, written, synced, Torn, IsAsBefore, IsPendingWithin}
 use Rattle.line_disk.proofs.Replay.{patched-out}
 use Rattle.slot_store.specs.Crash.{IsSettled}
 use Rattle.slot_store.specs.Within.{IsNear, IsSameBut}
@@ -48,10 +49,17 @@ near_written at n base held low bytes begins ends near = record {
   settled = λ i out. awaiting-out held.pending low (length bytes) i (near.settled i out) (out_narrow at n low (length bytes) i begins ends out);
 }
 
+-- outside of the range a write that failed left each address as it was
+torn_out : (held new : Held) (low m i : ℕ) → Torn held new low m → is_within low m i ≡ false → IsAsBefore held new i
+torn_out held new low m i torn out = ⊎_elim
+    (λ (same : IsAsBefore held new i). same)
+    (λ (waits : IsPendingWithin new low m i). absurd (true≢false (sym waits.within ∙ out)))
+    (torn.each i)
+
 pub near_torn : (at n : ℕ) (base : Image) (held new : Held) (low m : ℕ) → at ≤ low → low + m ≤ at + n → IsNear at n base held → Torn held new low m → IsNear at n base new
 near_torn at n base held new low m begins ends near torn = record {
-  bytes = λ i out. torn.bytes i (out_narrow at n low m i begins ends out) ∙ near.bytes i out;
-  settled = λ i out. torn.pending i ∙ awaiting-out held.pending low m i (near.settled i out) (out_narrow at n low m i begins ends out);
+  bytes = λ i out. (torn_out held new low m i torn (out_narrow at n low m i begins ends out)).byte ∙ near.bytes i out;
+  settled = λ i out. (torn_out held new low m i torn (out_narrow at n low m i begins ends out)).pending ∙ near.settled i out;
 }
 
 pub near_same : (at n : ℕ) (base : Image) (held new : Held) → new ≡ held → IsNear at n base held → IsNear at n base new

@@ -42,7 +42,7 @@ pub record IsTarget (image : Image) (room : ℕ) (target : Target) : Type 0 wher
 abbrev pub TellsGate : Image → ℕ → Target → Type 0
 TellsGate image room target = target.gate_is_open ≡ (image (start_of room target.slot) == 1)
 
--- the target's gate is closed
+-- the target's gate is not open
 abbrev pub IsClosed : Image → ℕ → Target → Type 0
 IsClosed image room target = image (start_of room target.slot) ≢ 1
 

@@ -4,7 +4,7 @@ use Rattle.line_disk.specs.declared.disk.DiskError.TheVariants as disk
 use Rattle.slot_store.specs.declared.error.SlotError.{SlotError}
 use Rattle.slot_store.specs.declared.error.SlotError.TheVariants.{DiskFault, NoMemory}
 
--- a failed call of the disk is a fault, and want of memory is handed on
+-- a failed call of the disk is a fault, and out of memory stays so
 abbrev pub error_of : DiskError → SlotError
 error_of disk.Failed = DiskFault
 error_of disk.NoMemory = NoMemory

@@ -2,3 +2,4 @@ pub mod Crash
 pub mod Errors
 pub mod Layout
 pub mod Within
+pub mod Limits

@@ -3,10 +3,12 @@
 
 mod error;
 mod header;
+mod limits;
 mod saving;
 mod slots;
 mod target;
 
 pub use error::SlotError;
 pub use header::MAX_ROOM;
+pub use limits::slots_have_room_as_defined;
 pub use slots::Slots;

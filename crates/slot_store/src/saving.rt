@@ -40,6 +40,8 @@ pub fn close_gate<D: Disk>(disk: &mut D, room: u64, target: Target) -> Result<()
     ensures ready { OnOk result (IsTrue D.tells → IsReady (D.shown disk.new) room target) }
     ensures closed { OnOk result
         (IsTrue D.tells → IsClosed (bytes_now (D.shown disk.new)) room target) }
+    ensures closed_by_zero { OnOk result (IsTrue target.gate_is_open → IsTrue D.tells
+        → bytes_now (D.shown disk.new) (start_of room target.slot) ≡ 0) }
     ensures cause { IsErrOf result DiskError.Failed
         → Rose (D.shown disk.old).faults (D.shown disk.new).faults }
     ensures faults_stay_or_rise { (D.shown disk.old).faults ≤ (D.shown disk.new).faults }

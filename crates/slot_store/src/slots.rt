@@ -26,7 +26,7 @@ impl<'a, D: Disk> Slots<'a, D> {
     ghost use Rattle.slot_store.specs.Layout.{content};
     ghost use Rattle.slot_store.specs.declared.error.SlotError.TheVariants.{TooLong};
 
-    /// The slots of this disk, each with room for so many bytes of content: 1 to 167,772,160. It takes no memory, and
+    /// The slots of this disk, each with this room for its content: 1 to 167,772,160 bytes. It takes no memory, and
     /// the disk is untouched.
     pub fn new(disk: &'a mut D, room: u64) -> Slots<'a, D>
         requires some { 1 ≤ room }

@@ -14,7 +14,7 @@ pub stays : (l : WorkLine) → IsLine l → GoesOn l l
 stays l is = record {
   line = is;
   live = refl;
-  workers = refl;
+  worker_count = refl;
   room = refl;
   logs = λ t there. take_all (length (log l.state t)) (log l.state t) (omega arith);
 }
@@ -29,7 +29,7 @@ pub goes_on_more : (first now next : WorkLine) → GoesOn first now → GoesOn n
 goes_on_more first now next before after = record {
   line = after.line;
   live = after.live ∙ before.live;
-  workers = after.workers ∙ before.workers;
+  worker_count = after.worker_count ∙ before.worker_count;
   room = after.room ∙ before.room;
   logs = λ t there.
       let same : stations now.live.graph ≡ stations first.live.graph = ap (λ (v : LiveGraph). stations v.graph) before.live in

@@ -1,4 +1,4 @@
--- What callers see of a line that is run to its end: nothing of crews, threads or bursts.
+-- What callers see of a line that is run to its end: nothing of workers, threads or bursts.
 use Rattle.std.specs.Prelude.{◌≡◌}
 use Rattle.line_workers.specs.Line.{WorkLine, IsLine, LogsGrow}
 
@@ -7,6 +7,6 @@ use Rattle.line_workers.specs.Line.{WorkLine, IsLine, LogsGrow}
 pub record GoesOn (old new : WorkLine) : Type 0 where
   pub line : IsLine new
   pub live : new.live ≡ old.live
-  pub workers : new.workers ≡ old.workers
+  pub worker_count : new.worker_count ≡ old.worker_count
   pub room : new.room ≡ old.room
   pub logs : LogsGrow old.live.graph old.state new.state

@@ -9,13 +9,13 @@ use live_check::Live;
 use std::sync::Wait;
 use std::thread::Threads;
 
-/// Lets the crews of a line sweep side by side, and gathers them.
+/// Lets the workers of a line sweep side by side, and gathers them.
 fn sweep_and_gather<R: Threads + Wait, G: Gate>(rt: &R, line: Line, live: &Live, gate: &G) -> Line
     requires { live.now ≡ line.live }
     ensures { GoesOn line result }
 {
-    let crews = sweep_apart(rt, line.crews(), live, gate);
-    Line::gather(live, crews)
+    let workers = sweep_apart(rt, line.workers(), live, gate);
+    Line::gather(live, workers)
 }
 
 /// Runs a line to its end with workers that stay in their threads: each goes over its stations again

@@ -1,33 +1,33 @@
 ghost use Rattle.std.specs.Prelude.{◌↔◌, IsTrue};
-ghost use Rattle.line_workers.specs.Gather.{IsCrewAfter};
-ghost use Rattle.standing_line.specs.Sweeping.{IsCrewFor, MaySweep};
-ghost use Rattle.worker_crew.specs.Crew.{IsCrew};
+ghost use Rattle.line_workers.specs.Gather.{IsWorkerAfter};
+ghost use Rattle.standing_line.specs.Sweeping.{IsWorkerFor, MaySweep};
+ghost use Rattle.line_worker.specs.Worker.{IsWorker};
 
-use line_workers::{Crew, Gate};
+use line_workers::{Gate, Worker};
 use live_check::Live;
 use std::snapshot::Snapshot;
 use std::sync::atomic::{AtomicBool, Ordering};
 use std::thread;
 use std::thread::Promise;
 
-/// With as many turns of a station its crew ends, to be gathered.
+/// With as many turns of a station its worker ends, to be gathered.
 const MAX_TURNS: u64 = 1 << 39;
 
-/// What the thread of a crew gives back: that very crew, after some sweeps.
+/// What the thread of a worker gives back: that very worker, after some sweeps.
 #[derive(Drop)]
-pub(crate) struct AfterSweeps(pub(crate) Snapshot<Crew>);
+pub(crate) struct AfterSweeps(pub(crate) Snapshot<Worker>);
 
-impl Promise<Crew> for AfterSweeps {
-    ghost kept_by = { λ promise crew. IsCrewAfter promise.0.value crew };
+impl Promise<Worker> for AfterSweeps {
+    ghost kept_by = { λ promise worker. IsWorkerAfter promise.0.value worker };
 }
 
-/// Whether a crew may make another sweep: not all of its stations are done, and none has made as
+/// Whether a worker may make another sweep: not all of its stations are done, and none has made as
 /// many turns as it may.
-fn may_sweep(crew: &Crew) -> bool
-    ensures may { IsTrue result ↔ MaySweep crew.now }
-    ensures crew { IsCrew crew.now }
+fn may_sweep(worker: &Worker) -> bool
+    ensures may { IsTrue result ↔ MaySweep worker.now }
+    ensures worker { IsWorker worker.now }
 {
-    !crew.done() && crew.turns() < MAX_TURNS
+    !worker.done() && worker.turns() < MAX_TURNS
 }
 
 /// Lets another thread run after a sweep in which nothing was fired. With more workers than processors one that has
@@ -38,15 +38,15 @@ fn rest(fired: u64) {
     }
 }
 
-/// Lets a crew sweep until it is done, the stop word is set, or a station has made as many turns as
-/// it may. An idle sweep is followed by another: the crew never parks, but lets another thread run.
-pub(crate) fn sweep_on<G: Gate>(crew: Crew, live: &Live, gate: &G, stop: &AtomicBool) -> Crew
-    requires { IsCrewFor live.now crew }
-    ensures { IsCrewAfter crew result }
+/// Lets a worker sweep until it is done, the stop word is set, or a station has made as many turns as
+/// it may. An idle sweep is followed by another: the worker never parks, but lets another thread run.
+pub(crate) fn sweep_on<G: Gate>(worker: Worker, live: &Live, gate: &G, stop: &AtomicBool) -> Worker
+    requires { IsWorkerFor live.now worker }
+    ensures { IsWorkerAfter worker result }
 {
-    let mut crew = crew;
-    while !stop.load(Ordering::SeqCst) && may_sweep(&crew) {
-        rest(crew.sweep(live, gate));
+    let mut worker = worker;
+    while !stop.load(Ordering::SeqCst) && may_sweep(&worker) {
+        rest(worker.sweep(live, gate));
     }
-    crew
+    worker
 }

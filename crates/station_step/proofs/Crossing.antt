@@ -3,17 +3,12 @@
 use denote.Param.Send.{IsSend, sendable, view_send}
 use denote.Param.SendFields.{as_row_send, declared_send}
 use Rattle.std.proofs.Crossing.{crosses, Vec-send}
-use Rattle.line_base.specs.contracts.log.Log as Log
-use Rattle.line_base.specs.contracts.log.Log.TheInside as LogInside
 use Rattle.station_step.specs.contracts.noted.NotedInput as NotedInput
 use Rattle.station_step.specs.contracts.noted.NotedOutlet as NotedOutlet
 use Rattle.station_step.specs.contracts.station.Station as Station
 use Rattle.station_step.specs.contracts.station.Station.TheInside as StationInside
 use Rattle.station_step.proofs.noted.NotedInput.TheSendSync as InputSent
 use Rattle.station_step.proofs.noted.NotedOutlet.TheSendSync as OutletSent
-
-log_send : IsSend Log.the_row
-log_send = view_send LogInside.the_row _ _ _ _ (declared_send LogInside.the_type (search crosses, tt))
 
 station_fields : IsSend StationInside.the_row
 station_fields =
@@ -30,14 +25,17 @@ station_fields =
               (
                 search sendable,
                 (
-                  log_send,
+                  search sendable,
                   (
                     search sendable,
                     (
                       search sendable,
                       (
                         search crosses,
-                        tt,
+                        (
+                          search crosses,
+                          tt,
+                        ),
                       ),
                     ),
                   ),

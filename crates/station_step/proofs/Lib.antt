@@ -7,4 +7,5 @@ pub mod Filling
 pub mod Noting
 pub mod Dates
 pub mod Keeping
+pub mod Posts
 pub mod Crossing

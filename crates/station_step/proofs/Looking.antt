@@ -11,8 +11,8 @@ use Rattle.line_base.specs.declared.event.Parts.{Parts}
 use Rattle.card_queue.specs.Plain.{PlainQueue}
 use Rattle.station_step.specs.declared.ends.Outlet.{Outlet}
 use Rattle.station_step.specs.declared.ends.Outlet.TheVariants as outlet
-use Rattle.station_step.specs.Ends.{outlet_added, bare_outlet, unseen_outlet, HasRingRoom, HasShelfRoom, is_bounded, HasSpace, HasNoSpace, HasLooked}
-use Rattle.token_shelf.specs.Shelf.{OnlyTakes}
+use Rattle.station_step.specs.Ends.{outlet_added, bare_outlet, unseen_outlet, HasRingRoom, HasShelfRoom, is_bounded, is_ring, HasSpace, HasNoSpace, HasLooked}
+use Rattle.local_queues.specs.Shelf.{OnlyTakes}
 use Rattle.station_step.specs.Station.{outlet_at, NonePuts}
 use Rattle.station_step.specs.declared.noted.NotedInput.{NotedInput}
 use Rattle.station_step.specs.declared.noted.NotedOutlet.{NotedOutlet}
@@ -116,10 +116,26 @@ any_bounded-bare (o ∷ outlets) =
     ap (λ (b : Bool). b || list_any is_bounded (map bare_outlet outlets)) (bounded-bare o)
     ∙ ap (λ (b : Bool). is_bounded o || b) (any_bounded-bare outlets)
 
+ring-bare : (o : Outlet) → is_ring (bare_outlet o) ≡ is_ring o
+ring-bare (outlet.Ring put) = refl
+ring-bare (outlet.Room put) = refl
+ring-bare (outlet.Local q) = refl
+
+any_ring-bare : (outlets : List Outlet) → list_any is_ring (map bare_outlet outlets) ≡ list_any is_ring outlets
+any_ring-bare [] = refl
+any_ring-bare (o ∷ outlets) =
+    ap (λ (b : Bool). b || list_any is_ring (map bare_outlet outlets)) (ring-bare o)
+    ∙ ap (λ (b : Bool). is_ring o || b) (any_ring-bare outlets)
+
+-- the same outlets but for their tokens and what they have seen are over rings, or not
+pub rings-same : (before after : List Outlet) → map bare_outlet after ≡ map bare_outlet before → list_any is_ring before ≡ list_any is_ring after
+rings-same before after same =
+    sym (any_ring-bare before) ∙ ap (list_any is_ring) (sym same) ∙ any_ring-bare after
+
 -- what a station notes stays where beside its inputs and outlets all stands as before, and its outlets are the same but
 -- for their tokens and what they have seen
-pub noted-same : (g : Parts) (t : ℕ) (before after : List NotedInput) (outlets outlets' : List NotedOutlet) (fixed : Bool) (worked : List Bool) (bounded : Bool) → (IsTrue fixed → extras_of after ≡ extras_of before) → delays_of outlets' ≡ delays_of outlets → map bare_outlet (outlets_of outlets') ≡ map bare_outlet (outlets_of outlets) → IsNoted g t before outlets fixed worked bounded → IsNoted g t after outlets' fixed worked bounded
-noted-same g t before after outlets outlets' fixed worked bounded extras delays same noted = record {
+pub noted-same : (g : Parts) (t : ℕ) (before after : List NotedInput) (outlets outlets' : List NotedOutlet) (fixed : Bool) (worked : List Bool) (bounded rings : Bool) → (IsTrue fixed → extras_of after ≡ extras_of before) → delays_of outlets' ≡ delays_of outlets → map bare_outlet (outlets_of outlets') ≡ map bare_outlet (outlets_of outlets) → IsNoted g t before outlets fixed worked bounded rings → IsNoted g t after outlets' fixed worked bounded rings
+noted-same g t before after outlets outlets' fixed worked bounded rings extras delays same noted = record {
   extras_are = λ is job. extras is ∙ noted.extras_are is job;
   worked_is = noted.worked_is;
   delays_are = delays ∙ noted.delays_are;
@@ -127,6 +143,10 @@ noted-same g t before after outlets outlets' fixed worked bounded extras delays 
       ∙ sym (any_bounded-bare (outlets_of outlets))
       ∙ ap (list_any is_bounded) (sym same)
       ∙ any_bounded-bare (outlets_of outlets');
+  rings_are = noted.rings_are
+      ∙ sym (any_ring-bare (outlets_of outlets))
+      ∙ ap (list_any is_ring) (sym same)
+      ∙ any_ring-bare (outlets_of outlets');
 }
 
 has_space : (o : Outlet) → (is_bounded o ≡ true → ⊥) → HasSpace o

@@ -1,6 +1,6 @@
 -- The words for the ends of a station's queues, of whatever kind they are: what was taken, how much is known to come
 -- next, what was put, and how much may be put. A shelf is the list of its queues.
-use Rattle.std.specs.Prelude.{◌≡◌, ℕ, ◌+◌, ◌^◌, ◌≤◌, ◌<◌, ⊤, Bool, true, false, List, [], Option, None, Some, length}
+use Rattle.std.specs.Prelude.{◌≡◌, ℕ, ◌+◌, ◌^◌, ◌≤◌, ◌<◌, ⊤, Bool, true, false, List, [], ◌∷◌, ◌++◌, Option, None, Some, length}
 use mathlib.Core.List.{IsPrefix}
 use Rattle.card_queue.specs.Plain.{PlainQueue, plain_taken, plain_waiting}
 use Rattle.card_queue.specs.Queue.{IsQueue, IsMet}
@@ -11,7 +11,7 @@ use Rattle.station_step.specs.declared.ends.Inlet.{Inlet}
 use Rattle.station_step.specs.declared.ends.Outlet.{Outlet}
 use Rattle.station_step.specs.declared.ends.Inlet.TheVariants as inlet
 use Rattle.station_step.specs.declared.ends.Outlet.TheVariants as outlet
-use Rattle.token_shelf.specs.Shelf.{queue_at}
+use Rattle.local_queues.specs.Shelf.{queue_at}
 
 -- the tokens that were taken at an inlet since its queue was made, oldest first
 abbrev pub inlet_taken : List PlainQueue → Inlet → List ℕ
@@ -108,6 +108,19 @@ abbrev pub is_bounded : Outlet → Bool
 is_bounded (outlet.Ring put) = false
 is_bounded (outlet.Room put) = true
 is_bounded (outlet.Local k) = false
+
+-- whether an outlet is the end of a ring, which is given each token
+abbrev pub is_ring : Outlet → Bool
+is_ring (outlet.Ring put) = true
+is_ring (outlet.Room put) = true
+is_ring (outlet.Local k) = false
+
+-- a ring's put was given this token
+abbrev pub HasGot : ℕ → Outlet → Outlet → Type 0
+HasGot date (outlet.Ring put) (outlet.Ring later) = later.added ≡ put.added ++ date ∷ []
+HasGot date (outlet.Room put) (outlet.Room later) = later.added ≡ put.added ++ date ∷ []
+HasGot date (outlet.Local k) (outlet.Local j) = j ≡ k
+HasGot date _ _ = ⊥
 
 -- an outlet knows of space for a token: that of a ring of bounded room has seen enough taken, every other has it always
 abbrev pub HasSpace : Outlet → Type 0

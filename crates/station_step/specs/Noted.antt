@@ -11,7 +11,7 @@ use Rattle.station_step.specs.declared.ends.Outlet.{Outlet}
 use Rattle.station_step.specs.declared.input.Input.{Input}
 use Rattle.station_step.specs.declared.noted.NotedInput.{NotedInput}
 use Rattle.station_step.specs.declared.noted.NotedOutlet.{NotedOutlet}
-use Rattle.station_step.specs.Ends.{is_bounded}
+use Rattle.station_step.specs.Ends.{is_bounded, is_ring}
 use Rattle.station_step.specs.Input.{empty_handed}
 use Rattle.station_step.specs.Station.{WorkStation}
 
@@ -50,13 +50,15 @@ abbrev pub delays_from : Parts → ℕ → List ℕ
 delays_from g t = map (delay g) (outs g t)
 
 -- what the station with this number notes: beside its inputs, where it takes one time for every job, what that adds;
--- beside its outlets their delays; which arcs into it are worked, and whether one of its outlets can lack space
+-- beside its outlets their delays; which arcs into it are worked, whether one of its outlets can lack space, and whether
+-- one is over a ring
 pub record IsNoted (g : Parts) (t : ℕ) (inputs : List NotedInput) (outlets : List NotedOutlet)
-    (fixed : Bool) (worked : List Bool) (bounded : Bool) : Type 0 where
+    (fixed : Bool) (worked : List Bool) (bounded rings : Bool) : Type 0 where
   pub extras_are : IsTrue fixed → (job : ℕ) → extras_of inputs ≡ extras_into g t job
   pub worked_is : worked ≡ worked_into g t
   pub delays_are : delays_of outlets ≡ delays_from g t
   pub bounded_is : bounded ≡ list_any is_bounded (outlets_of outlets)
+  pub rings_are : rings ≡ list_any is_ring (outlets_of outlets)
 
 -- what contracts see of a station that notes this beside its inputs and its outlets
 abbrev pub seen_station : Parts → ℕ → List NotedInput → List NotedOutlet → RoomyLog → ℕ → ℕ → WorkStation

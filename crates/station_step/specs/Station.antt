@@ -1,9 +1,10 @@
 -- What contracts see of a station, and what holds of each.
-use Rattle.std.specs.Prelude.{◌≡◌, ◌≢◌, ℕ, ◌-◌, ◌≤◌, ◌<◌, List, [], ◌⊎◌, None, Some, IfSome, map, length, slice_index_or, slice_set}
+use Rattle.std.specs.Prelude.{◌≡◌, ◌≢◌, ℕ, ◌-◌, ◌≤◌, ◌<◌, List, [], ◌⊎◌, None, Some, IfSome, map, length, slice_index, slice_index_or, slice_set}
 use Rattle.line_base.specs.declared.event.Parts.{Parts}
 use Rattle.line_base.specs.Roomy.{RoomyLog}
 use Rattle.card_queue.specs.Plain.{PlainQueue}
-use Rattle.event_graph.specs.Network.{stations, jobs, ins, outs}
+use Rattle.event_graph.specs.Network.{stations, jobs, delay, ins, outs}
+use Rattle.local_queues.specs.Shelf.{WorkShelf, log_on, source_at}
 use Rattle.station_step.specs.declared.ends.Inlet.{Inlet}
 use Rattle.station_step.specs.declared.ends.Outlet.{Outlet}
 use Rattle.station_step.specs.declared.ends.Outlet.TheVariants.{Local}
@@ -64,6 +65,17 @@ abbrev pub PutWithin : ℕ → List Outlet → Type 0
 PutWithin count outlets =
     (k : ℕ) → k < length outlets → IfSome (outlet_queue (outlet_at outlets k)) (λ q. q < count)
 
+-- some outlet puts on queue q of the shelf
+abbrev pub SomePuts : ℕ → List Outlet → Type 0
+SomePuts q outlets = (k : ℕ) × ((k < length outlets) × (outlet_queue (outlet_at outlets k) ≡ Some q))
+
+-- the tokens of the queues on which these outlets put are the dates of the worker's station i with these delays, and
+-- those of no other queue are
+pub record ComeFrom (i : ℕ) (delays : List ℕ) (shelf : WorkShelf) (outlets : List Outlet) : Type 0 where
+  pub own : (k q : ℕ) → k < length outlets → outlet_queue (outlet_at outlets k) ≡ Some q →
+      source_at shelf.sources q ≡ record { station = i; delay = slice_index delays k }
+  pub puts : (q : ℕ) → q < length shelf.queues → (source_at shelf.sources q).station ≡ i → SomePuts q outlets
+
 -- one input for each arc into the station and one outlet for each arc out of it; the log, and each
 -- ring's put, has room for the firings that are left
 pub record IsStation (s : WorkStation) : Type 0 where
@@ -82,6 +94,12 @@ pub record IsSeated (shelf : List PlainQueue) (s : WorkStation) : Type 0 where
   pub takes_apart : TakeApart s.inputs
   pub puts_within : PutWithin (length shelf) s.outlets
   pub puts_apart : PutApart s.outlets
+
+-- it is the worker's station i: its log stands there, and its queues look into it, with the delays of their arcs
+pub record StandsAt (i : ℕ) (shelf : WorkShelf) (s : WorkStation) : Type 0 where
+  pub there : i < length shelf.logs
+  pub log : log_on shelf.logs i ≡ s.log
+  pub come : ComeFrom i (map (delay s.graph) (outs s.graph s.number)) shelf s.outlets
 
 -- where dates are left to be made, each of its outlets on the shelf has room for a token
 abbrev pub MayPut : List PlainQueue → WorkStation → Type 0

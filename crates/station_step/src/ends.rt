@@ -1,11 +1,11 @@
 ghost use Rattle.std.specs.Prelude.{◌≡◌, ◌≢◌, ℕ, ◌+◌, ◌<◌, ◌≤◌, ◌++◌, ◌∷◌, ◌↔◌, [], Some, length, IsTrue, IfSome, IfNone, option_to_list};
-ghost use Rattle.station_step.specs.Ends.{inlet_taken, inlet_ahead, outlet_added, bare_inlet, bare_outlet, unseen_inlet, unseen_outlet, inlet_queue, outlet_queue, HasRingRoom, HasShelfRoom, is_bounded, HasSpace, HasLooked, AreEnds, AreMet, KnowsMore, HasMoreSpace};
-ghost use Rattle.token_shelf.specs.Shelf.{queue_at, OnlyTakes, OnlyPuts};
+ghost use Rattle.station_step.specs.Ends.{inlet_taken, inlet_ahead, bare_inlet, bare_outlet, unseen_inlet, unseen_outlet, inlet_queue, outlet_queue, HasRingRoom, HasGot, is_bounded, is_ring, HasSpace, HasLooked, AreEnds, AreMet, KnowsMore, HasMoreSpace};
+ghost use Rattle.local_queues.specs.Shelf.{queue_at, OnlyTakes};
 
 use card_queue::{Put, Take};
 use line_base::Date;
+use local_queues::Shelf;
 use room_ring::{RoomPut, RoomTake};
-use token_shelf::Shelf;
 
 /// Where the tokens of an input come from: the end of a ring, that of a ring of bounded room, or the queue with this
 /// number on the worker's shelf.
@@ -17,7 +17,7 @@ pub enum Inlet {
 }
 
 /// Where the tokens of an output go to: the end of a ring, that of a ring of bounded room, or the queue with this
-/// number on the worker's shelf.
+/// number on the worker's shelf, which looks into the station's log.
 #[derive(Drop)]
 pub enum Outlet {
     Ring(Put),
@@ -29,14 +29,16 @@ impl Inlet {
     /// Takes the next token, if one is there. `None` comes only where none was known.
     #[inline]
     pub(crate) fn take(&mut self, shelf: &mut Shelf) -> Option<Date>
-        requires { IfSome (inlet_queue self.old) (λ q. q < length shelf.old) }
+        requires { IfSome (inlet_queue self.old) (λ q. q < length shelf.old.queues) }
         ensures same { bare_inlet self.new ≡ bare_inlet self.old }
-        ensures taken { inlet_taken shelf.new self.new ≡ inlet_taken shelf.old self.old ++
+        ensures taken { inlet_taken shelf.new.queues self.new ≡ inlet_taken shelf.old.queues self.old ++
             option_to_list result }
-        ensures none { IfNone result (inlet_ahead shelf.old self.old ≡ 0) }
-        ensures only_takes { OnlyTakes shelf.old shelf.new }
+        ensures none { IfNone result (inlet_ahead shelf.old.queues self.old ≡ 0) }
+        ensures only_takes { OnlyTakes shelf.old.queues shelf.new.queues }
         ensures others { (q : ℕ) → inlet_queue self.old ≢ Some q →
-            queue_at shelf.new q ≡ queue_at shelf.old q }
+            queue_at shelf.new.queues q ≡ queue_at shelf.old.queues q }
+        ensures logs { shelf.new.logs ≡ shelf.old.logs }
+        ensures sources { shelf.new.sources ≡ shelf.old.sources }
     {
         match self {
             Inlet::Ring(take) => take.take(),
@@ -55,6 +57,14 @@ impl Outlet {
         matches!(self, Outlet::Room(_))
     }
 
+    /// Whether it is the end of a ring, at which each token is put.
+    #[inline]
+    pub(crate) fn is_ring(&self) -> bool
+        ensures { result ≡ is_ring self.now }
+    {
+        !matches!(self, Outlet::Local(_))
+    }
+
     /// Looks for space where none is known, which can be of a ring of bounded room alone. Tells whether there is some.
     #[inline]
     pub(crate) fn look(&mut self) -> bool
@@ -67,19 +77,14 @@ impl Outlet {
         }
     }
 
-    /// Puts a token behind all others. It takes no memory.
+    /// Puts a token at the end of a ring, behind all others. It takes no memory. At a queue on the shelf there is nothing
+    /// to do.
     #[inline]
-    pub(crate) fn put(&mut self, shelf: &mut Shelf, date: Date)
-        requires there { IfSome (outlet_queue self.old) (λ q. q < length shelf.old) }
+    pub(crate) fn put(&mut self, date: Date)
         requires ring_room { HasRingRoom 1 self.old }
-        requires shelf_room { HasShelfRoom shelf.old self.old }
         requires space { HasSpace self.old }
         ensures same { bare_outlet self.new ≡ bare_outlet self.old }
-        ensures added { outlet_added shelf.new self.new ≡ outlet_added shelf.old self.old ++
-            date ∷ [] }
-        ensures only_puts { OnlyPuts shelf.old shelf.new }
-        ensures others { (q : ℕ) → outlet_queue self.old ≢ Some q →
-            queue_at shelf.new q ≡ queue_at shelf.old q }
+        ensures got { HasGot date self.old self.new }
     {
         match self {
             Outlet::Ring(put) => put.put(date),
@@ -87,7 +92,7 @@ impl Outlet {
                 // There is space for it.
                 let _ = put.put(date);
             }
-            Outlet::Local(k) => shelf.put(*k, date),
+            Outlet::Local(_) => {}
         }
     }
 }

@@ -1,11 +1,11 @@
 ghost use Rattle.std.specs.Prelude.{◌≡◌, ◌≢◌, ℕ, ◌<◌, Some, length, IfSome};
 ghost use Rattle.station_step.specs.Ends.{inlet_queue};
 ghost use Rattle.station_step.specs.Input.{IsRefilled};
-ghost use Rattle.token_shelf.specs.Shelf.{queue_at, OnlyTakes};
+ghost use Rattle.local_queues.specs.Shelf.{queue_at, OnlyTakes};
 
 use crate::ends::Inlet;
 use line_base::Date;
-use token_shelf::Shelf;
+use local_queues::Shelf;
 
 /// An input of a station: an inlet, and the hand that it fills.
 #[derive(Drop)]
@@ -18,11 +18,13 @@ impl Input {
     /// Takes the next token into an empty hand, if one is there.
     #[inline]
     pub(crate) fn refill(&mut self, shelf: &mut Shelf)
-        requires { IfSome (inlet_queue self.old.inlet) (λ q. q < length shelf.old) }
-        ensures refilled { IsRefilled shelf.old shelf.new self.old self.new }
-        ensures only_takes { OnlyTakes shelf.old shelf.new }
+        requires { IfSome (inlet_queue self.old.inlet) (λ q. q < length shelf.old.queues) }
+        ensures refilled { IsRefilled shelf.old.queues shelf.new.queues self.old self.new }
+        ensures only_takes { OnlyTakes shelf.old.queues shelf.new.queues }
         ensures others { (q : ℕ) → inlet_queue self.old.inlet ≢ Some q →
-            queue_at shelf.new q ≡ queue_at shelf.old q }
+            queue_at shelf.new.queues q ≡ queue_at shelf.old.queues q }
+        ensures logs { shelf.new.logs ≡ shelf.old.logs }
+        ensures sources { shelf.new.sources ≡ shelf.old.sources }
     {
         if self.hand.is_none() {
             self.hand = self.inlet.take(shelf);

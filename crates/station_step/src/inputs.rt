@@ -6,7 +6,7 @@ ghost use Rattle.station_step.specs.Input.{input_at, IsRefilled, TakeWithin, Tak
 ghost use Rattle.station_step.specs.Noted.{inputs_of, extras_of, unnoted};
 ghost use Rattle.station_step.specs.Refilled.{IfFull, IfEmpty, hand_asks};
 ghost use Rattle.station_step.specs.Station.{bare_input};
-ghost use Rattle.token_shelf.specs.Shelf.{queue_at, OnlyTakes};
+ghost use Rattle.local_queues.specs.Shelf.{queue_at, OnlyTakes};
 
 use crate::ends::Inlet;
 use crate::input::Input;
@@ -14,8 +14,8 @@ use crate::noted::NotedInput;
 use crate::refilled::Refilled;
 use event_graph::Graph;
 use line_base::Date;
+use local_queues::Shelf;
 use std::alloc::{AllocError, Global};
-use token_shelf::Shelf;
 
 /// An input with an empty hand for each inlet. No job time is noted yet.
 pub(crate) fn with_empty_hands(
@@ -38,18 +38,20 @@ pub(crate) fn with_empty_hands(
 /// stays empty.
 #[inline(always)]
 pub(crate) fn refill(inputs: &mut Vec<NotedInput>, shelf: &mut Shelf) -> Refilled
-    requires within { TakeWithin (length shelf.old) (inputs_of inputs.old.items) }
+    requires within { TakeWithin (length shelf.old.queues) (inputs_of inputs.old.items) }
     requires apart { TakeApart (inputs_of inputs.old.items) }
     ensures count { length (inputs_of inputs.new.items) ≡ length (inputs_of inputs.old.items) }
     ensures extras { extras_of inputs.new.items ≡ extras_of inputs.old.items }
     ensures same { map bare_input (inputs_of inputs.new.items) ≡
         map bare_input (inputs_of inputs.old.items) }
     ensures each { (k : ℕ) → k < length (inputs_of inputs.old.items) →
-        IsRefilled shelf.old shelf.new (input_at (inputs_of inputs.old.items) k)
+        IsRefilled shelf.old.queues shelf.new.queues (input_at (inputs_of inputs.old.items) k)
         (input_at (inputs_of inputs.new.items) k) }
-    ensures only_takes { OnlyTakes shelf.old shelf.new }
+    ensures only_takes { OnlyTakes shelf.old.queues shelf.new.queues }
     ensures others { (q : ℕ) → NoneTakes q (inputs_of inputs.old.items) →
-        queue_at shelf.new q ≡ queue_at shelf.old q }
+        queue_at shelf.new.queues q ≡ queue_at shelf.old.queues q }
+    ensures logs { shelf.new.logs ≡ shelf.old.logs }
+    ensures sources { shelf.new.sources ≡ shelf.old.sources }
     ensures full { IfFull result (λ _. (k : ℕ) → k < length (inputs_of inputs.new.items) →
         IsSome (input_at (inputs_of inputs.new.items) k).hand) }
     ensures date { IfFull result (λ date. date ≡

@@ -1,7 +1,7 @@
 ghost use Rattle.std.specs.List.{list_any};
 ghost use Rattle.std.specs.Prelude.{◌≡◌, ℕ, ◌<◌, ◌≤◌, IsTrue, IfOk, length};
 ghost use Rattle.event_graph.specs.Network.{stations, jobs, ins, outs};
-ghost use Rattle.station_step.specs.Ends.{is_bounded};
+ghost use Rattle.station_step.specs.Ends.{is_bounded, is_ring};
 ghost use Rattle.station_step.specs.Noted.{inputs_of, extras_of, outlets_of, delays_of, worked_into, extras_for, extras_into, delays_from};
 
 use crate::ends::Outlet;
@@ -94,6 +94,13 @@ pub(crate) fn with_delays(
         noted.push(NotedOutlet { outlet, delay })?;
     }
     Ok(noted)
+}
+
+/// Whether one of these outlets is over a ring.
+pub(crate) fn has_ring(outlets: &[Outlet]) -> bool
+    ensures { result ≡ list_any is_ring outlets.now }
+{
+    outlets.iter().any(|outlet| outlet.is_ring())
 }
 
 /// Whether one of these outlets can lack space.

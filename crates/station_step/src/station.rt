@@ -1,16 +1,16 @@
-ghost use Rattle.std.specs.Prelude.{◌≡◌, ℕ, ◌+◌, ◌-◌, ◌<◌, ◌≤◌, ◌^◌, ◌↔◌, List, [], All, length, IfOk};
+ghost use Rattle.std.specs.Prelude.{◌≡◌, ℕ, ◌+◌, ◌-◌, ◌<◌, ◌≤◌, ◌^◌, ◌↔◌, List, [], All, length, slice_set, IfOk};
 ghost use Rattle.card_queue.specs.Plain.{PlainQueue};
 ghost use Rattle.event_graph.specs.Network.{stations, jobs, ins, outs};
 ghost use Rattle.station_step.specs.Ends.{IsUntaken, IsUnfilled, HasRingRoom, unseen_inlet, unseen_outlet, AreEnds, AreMet, KnowsMore, HasMoreSpace};
 ghost use Rattle.station_step.specs.Input.{input_at};
 ghost use Rattle.station_step.specs.Kept.{IsKept, IsFresh};
-ghost use Rattle.station_step.specs.Station.{WorkStation, IsStation, IsSeated, MayPut, outlet_at, bare_station, new_station, with_inlet, with_outlet};
+ghost use Rattle.station_step.specs.Station.{WorkStation, IsStation, IsSeated, StandsAt, MayPut, outlet_at, bare_station, new_station, with_inlet, with_outlet};
 ghost use Rattle.station_step.specs.Step.{IsReady, IsDone, HasFired, IfBlocked, IsBlocked, IfFull, IsFull, Did, MovesApart};
 
 use crate::ends::{Inlet, Outlet, meet_ends};
 use crate::inputs::{empty_hands, next_date, refill, with_empty_hands};
 use crate::noted::{
-    NotedInput, NotedOutlet, has_bounded, note_job, note_time, with_delays, worked_into,
+    NotedInput, NotedOutlet, has_bounded, has_ring, note_job, note_time, with_delays, worked_into,
 };
 use crate::outlets::{look_all, put_all};
 use crate::refilled::Refilled;
@@ -18,13 +18,13 @@ use crate::stepped::Stepped;
 use event_graph::Graph;
 use line_base::{Date, Log};
 use live_check::Live;
+use local_queues::Shelf;
 use std::alloc::{AllocError, Global};
 use std::marker::Model;
 use std::snapshot::Snapshot;
-use token_shelf::Shelf;
 
-/// A station at work: its log of dates, the ends of its queues, and for each arc into it a hand, which holds the token
-/// that was taken for the next firing.
+/// A station at work: the ends of its queues, and for each arc into it a hand, which holds the token that was taken for
+/// the next firing. Its log of dates stands on the shelf of its worker.
 ///
 /// A station keeps the number of dates that its log was made with. Each call that takes a `Live` takes the one that the
 /// station was made for.
@@ -38,12 +38,14 @@ pub struct Station {
     // input is worked.
     fixed: bool,
     worked: Vec<bool>,
-    // Whether an output can lack space.
+    // Whether an output can lack space, and whether one is over a ring.
     bounded: bool,
-    log: Log,
+    rings: bool,
     made: u32,
     turns: u64,
-    // The graph that the station was made for. Contracts alone read it.
+    // Its log, as it stands on the worker's shelf, and the graph that the station was made for. Contracts alone read
+    // them.
+    log: Snapshot<Log>,
     graph: Snapshot<Graph>,
 }
 
@@ -53,13 +55,13 @@ impl Model for Station {
 
     ghost Value = { WorkStation };
 
-    ghost view = { λ s. seen_station s.graph.value s.number s.inputs.items s.outlets.items s.log s.made s.turns };
+    ghost view = { λ s. seen_station s.graph.value s.number s.inputs.items s.outlets.items s.log.value s.made s.turns };
 
     ghost invariant = { λ s. record {
-      station : IsStation (seen_station s.graph.value s.number s.inputs.items s.outlets.items s.log
+      station : IsStation (seen_station s.graph.value s.number s.inputs.items s.outlets.items s.log.value
           s.made s.turns);
       noted : IsNoted s.graph.value s.number s.inputs.items s.outlets.items s.fixed s.worked.items
-          s.bounded;
+          s.bounded s.rings;
     } };
 }
 
@@ -72,19 +74,19 @@ impl Station {
         t: u32,
         inlets: Vec<Inlet>,
         outlets: Vec<Outlet>,
-        log: Log,
+        log: &Log,
     ) -> Result<Station, AllocError>
         requires exists { t < stations live.now.graph }
         requires an_inlet_each { length inlets.items ≡ length (ins live.now.graph t) }
         requires an_outlet_each { length outlets.items ≡ length (outs live.now.graph t) }
-        requires few_dates { length log.dates ≤ jobs live.now.graph }
-        requires log_room { jobs live.now.graph ≤ log.room }
+        requires few_dates { length log.now.dates ≤ jobs live.now.graph }
+        requires log_room { jobs live.now.graph ≤ log.now.room }
         requires untaken { All IsUntaken inlets.items }
         requires unfilled { All IsUnfilled outlets.items }
         requires ring_room { (k : ℕ) → k < length outlets.items →
-            HasRingRoom (jobs live.now.graph - length log.dates) (outlet_at outlets.items k) }
+            HasRingRoom (jobs live.now.graph - length log.now.dates) (outlet_at outlets.items k) }
         ensures made { IfOk result (λ s. s ≡
-            new_station live.now.graph t inlets.items outlets.items log) }
+            new_station live.now.graph t inlets.items outlets.items log.now) }
         ensures station { IfOk result IsStation }
         ensures kept { IfOk result (λ s. (shelf : List PlainQueue) → IsFresh shelf s →
             IsKept shelf s) }
@@ -92,6 +94,7 @@ impl Station {
         let graph = live.graph();
         let made = log.dates().len() as u32;
         let bounded = has_bounded(outlets.as_slice());
+        let rings = has_ring(outlets.as_slice());
         let worked = worked_into(alloc, graph, t)?;
         let mut inputs = with_empty_hands(alloc, inlets)?;
         note_time(&mut inputs, worked.as_slice(), graph.time(t, 1));
@@ -102,9 +105,10 @@ impl Station {
             fixed: !graph.varies(t),
             worked,
             bounded,
-            log,
+            rings,
             made,
             turns: 0,
+            log: Snapshot::of(log),
             graph: Snapshot::of(graph),
         })
     }
@@ -118,30 +122,36 @@ impl Station {
     /// goes to the end of the log and, later by the arc's delay, on every output; the hands are empty then. Sums
     /// saturate.
     ///
+    /// The station is number `i` of its worker, on whose shelf its log stands.
+    ///
     /// It takes no memory, and goes over its inputs and its outputs at most twice each.
     ///
     /// Source of the rule: Baccelli, Cohen, Olsder and Quadrat, Synchronization and Linearity, on event graphs.
     #[inline(always)]
-    pub fn step(&mut self, live: &Live, shelf: &mut Shelf) -> Stepped
+    pub fn step(&mut self, live: &Live, shelf: &mut Shelf, i: u32) -> Stepped
         requires made_for { live.now.graph ≡ self.old.graph }
         requires turns { self.old.turns < 2 ^ 40 }
-        requires seated { IsSeated shelf.old self.old }
-        requires may_put { MayPut shelf.old self.old }
+        requires seated { IsSeated shelf.old.queues self.old }
+        requires may_put { MayPut shelf.old.queues self.old }
+        requires stands { StandsAt i shelf.old self.old }
         ensures turns { self.new.turns ≡ self.old.turns + 1 }
         ensures same { bare_station self.new ≡ bare_station self.old }
         ensures station { IsStation self.new }
-        ensures seated { IsSeated shelf.new self.new }
+        ensures seated { IsSeated shelf.new.queues self.new }
+        ensures stands { StandsAt i shelf.new self.new }
         ensures done { IsDone result ↔ (length self.old.log.dates ≡ jobs self.old.graph) }
-        ensures blocked { IfBlocked result (IsBlocked shelf.old self.old self.new) }
+        ensures blocked { IfBlocked result (IsBlocked shelf.old.queues self.old self.new) }
         ensures full { IfFull result (IsFull self.old self.new) }
-        ensures fires { IsReady shelf.old self.old → HasFired result }
-        ensures did { Did result shelf.old shelf.new self.old self.new }
-        ensures kept { IsKept shelf.old self.old → IsKept shelf.new self.new }
-        ensures moves { MovesApart self.old shelf.old shelf.new }
+        ensures fires { IsReady shelf.old.queues self.old → HasFired result }
+        ensures did { Did result shelf.old.queues shelf.new.queues self.old self.new }
+        ensures kept { IsKept shelf.old.queues self.old → IsKept shelf.new.queues self.new }
+        ensures moves { MovesApart self.old shelf.old.queues shelf.new.queues }
+        ensures logs { shelf.new.logs ≡ slice_set shelf.old.logs i self.new.log }
+        ensures sources { shelf.new.sources ≡ shelf.old.sources }
     {
         self.turns += 1;
         let graph = live.graph();
-        let done = self.log.dates().len() as u32;
+        let done = shelf.log(i).dates().len() as u32;
         if done == graph.jobs() {
             return Stepped::Done;
         }
@@ -164,17 +174,9 @@ impl Station {
         }
         empty_hands(&mut self.inputs);
         let date = next_date(graph, self.number, job, latest);
-        put_all(&mut self.outlets, shelf, date);
-        self.log.add(date);
+        put_all(self.rings, &mut self.outlets, shelf, i, date);
+        self.log = Snapshot::of(shelf.log(i));
         Stepped::Fired
-    }
-
-    /// The dates of the station's firings, those of the log that it was made with first. It takes no memory.
-    pub fn log(&self) -> &[Date]
-        ensures log { result.now ≡ self.now.log.dates }
-        ensures station { IsStation self.now }
-    {
-        self.log.dates()
     }
 
     /// How many steps the station made since it was made, or since its turns were last cleared.
@@ -192,13 +194,6 @@ impl Station {
         ensures station { IsStation self.now }
     {
         self.inputs[k as usize].input.hand
-    }
-
-    /// Gives the log up. It takes no memory.
-    pub fn into_log(self) -> Log
-        ensures { result ≡ self.log }
-    {
-        self.log
     }
 
     /// Counts the turns from 0 again. Nothing else changes.

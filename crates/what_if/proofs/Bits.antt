@@ -32,10 +32,10 @@ bit_in-other : (words : List ℕ) (k v j : ℕ) → k / 64 < length words → ((
 bit_in-other words k v j low others other =
     elim (cases_eq (j / 64) (k / 64)) [
       | inl same ↦
-          let place : j % 64 ≢ k % 64 = λ e. other (omega (arith, e, same)) in
+          let rank : j % 64 ≢ k % 64 = λ e. other (omega (arith, e, same)) in
           ap (λ w. eqb (bit_at (get_or (set words (k / 64) v) w 0) (j % 64)) 1) same
           ∙ ap (λ w. eqb (bit_at w (j % 64)) 1) (get_or-set_same words (k / 64) v 0 low)
-          ∙ ap (λ b. eqb b 1) (others (j % 64) (omega arith) place)
+          ∙ ap (λ b. eqb b 1) (others (j % 64) (omega arith) rank)
           ∙ ap (λ w. eqb (bit_at (get_or words w 0) (j % 64)) 1) (sym same)
       | inr far ↦ ap (λ w. eqb (bit_at w (j % 64)) 1) (get_or-set_other words (k / 64) (j / 64) v 0 far)
     ]
@@ -100,9 +100,9 @@ bits_of-write words k n v b low read is others =
 bit_in-word : (words : List ℕ) (j i : ℕ) → i < 64 → bit_in words (64 * j + i) ≡ eqb (bit_at (get_or words j 0) i) 1
 bit_in-word words j i low =
     let at : (64 * j + i) / 64 ≡ j = omega arith in
-    let place : (64 * j + i) % 64 ≡ i = omega arith in
+    let rank : (64 * j + i) % 64 ≡ i = omega arith in
     ap (λ n. eqb (bit_at (get_or words n 0) ((64 * j + i) % 64)) 1) at
-    ∙ ap (λ n. eqb (bit_at (get_or words j 0) n) 1) place
+    ∙ ap (λ n. eqb (bit_at (get_or words j 0) n) 1) rank
 
 is_at-word : (words : List ℕ) (j i : ℕ) → j < length words → i < 64 → is_at (bits_of words) (64 * j + i) ≡ eqb (bit_at (get_or words j 0) i) 1
 is_at-word words j i there low = is_at-bits words (64 * j + i) (omega arith) ∙ bit_in-word words j i low

@@ -46,7 +46,7 @@ term-reads g x a n later =
 work-le : (g : Parts) (x : Table) (a n most : ℕ) → term g x a n ≤ most → work g a n ≤ most
 work-le g x a n most le = omega arith
 
-module _ (l : LiveGraph) (i : Inputs) (graph : IsGraph l.graph) (up : IsUpward l.graph l.places) where
+module _ (l : LiveGraph) (i : Inputs) (graph : IsGraph l.graph) (up : IsUpward l.graph l.ranks) where
   -- the date that a term reads is there, and before it
   pub read-date : (a t n : ℕ) → EndsAt l.graph t a → IsDate l.graph t n → (arc l.graph a).tokens < n → IsDate l.graph (arc l.graph a).from (n - (arc l.graph a).tokens)
   read-date a t n enters date later = record {

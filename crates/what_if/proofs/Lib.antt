@@ -7,9 +7,9 @@ pub mod Least
 pub mod Readers
 pub mod Sums
 pub mod Inputs
-pub mod Keeping
+pub mod KeptSheets
 pub mod Walks
-pub mod Settling
-pub mod Beginning
-pub mod Reading
+pub mod SettledDates
+pub mod NewSheets
+pub mod WordsOfEdits
 pub mod Lines

@@ -1,4 +1,4 @@
--- What the first line of a text, and the lines behind it, come to.
+-- What the first line of a text, and the lines behind it, give.
 use Rattle.std.proofs.Common.{◌≡◌, ℕ, ◌+◌, ◌<◌, ◌≤◌, Bool, eqb, List, [], ◌∷◌, take, drop, length, sym, ap, ◌∙◌, subst, arith, inl, inr}
 use Rattle.std.specs.Prelude.{Result, Ok, Err, not}
 use Rattle.std.specs.List.{position_or_len}
@@ -10,7 +10,7 @@ use Rattle.std.proofs.lemmas.List.Splits.{slice_split_first, slice_split_none}
 use Rattle.line_base.specs.declared.event.Parts.{Parts}
 use Rattle.line_core.specs.Schedule.{lines_of}
 use Rattle.what_if.specs.Edited.{Inputs}
-use Rattle.what_if.specs.Edits.{LeadsTo, IsRefused, Stopped, ComesTo, ends, follows, refuses}
+use Rattle.what_if.specs.Edits.{LeadsTo, IsRefused, Stopped, EditsGive, ends, follows, refuses}
 
 abbrev is_feed : ℕ → Bool
 is_feed byte = eqb byte 10
@@ -32,19 +32,19 @@ module _ (text : List ℕ) (end : ℕ) (found : end ≡ position_or_len is_feed 
       ∙ ap (λ line. line ∷ []) (sym (take_all end text (omega (arith, all))))
 
   module _ (g : Parts) (n : ℕ) (inputs : Inputs) where
-    pub comes-more : (next : Inputs) (outcome : Result Inputs Stopped) → end < length text → LeadsTo g (strip_carriage_return (take end text)) inputs next → ComesTo g (lines_of (drop (end + 1) text)) (n + 1) next outcome → ComesTo g (lines_of text) n inputs outcome
+    pub comes-more : (next : Inputs) (outcome : Result Inputs Stopped) → end < length text → LeadsTo g (strip_carriage_return (take end text)) inputs next → EditsGive g (lines_of (drop (end + 1) text)) (n + 1) next outcome → EditsGive g (lines_of text) n inputs outcome
     comes-more next outcome more leads rest =
-        subst (λ lines. ComesTo g lines n inputs outcome) (sym (lines-more more)) (
+        subst (λ lines. EditsGive g lines n inputs outcome) (sym (lines-more more)) (
         follows (take end text) (lines_of (drop (end + 1) text)) n inputs next outcome leads rest)
 
-    pub comes-last : (next : Inputs) → end ≡ length text → LeadsTo g (strip_carriage_return (take end text)) inputs next → ComesTo g (lines_of text) n inputs (Ok next)
+    pub comes-last : (next : Inputs) → end ≡ length text → LeadsTo g (strip_carriage_return (take end text)) inputs next → EditsGive g (lines_of text) n inputs (Ok next)
     comes-last next all leads =
-        subst (λ lines. ComesTo g lines n inputs (Ok next)) (sym (lines-last all)) (
+        subst (λ lines. EditsGive g lines n inputs (Ok next)) (sym (lines-last all)) (
         follows (take end text) [] n inputs next (Ok next) leads (ends (n + 1) next))
 
-    pub comes-refused : end ≤ length text → IsRefused g (strip_carriage_return (take end text)) inputs → ComesTo g (lines_of text) n inputs (Err (record { line = n; left = inputs }))
+    pub comes-refused : end ≤ length text → IsRefused g (strip_carriage_return (take end text)) inputs → EditsGive g (lines_of text) n inputs (Err (record { line = n; left = inputs }))
     comes-refused within refused =
-        let Comes : List (List ℕ) → Type 0 = λ lines. ComesTo g lines n inputs (Err (record { line = n; left = inputs })) in
+        let Comes : List (List ℕ) → Type 0 = λ lines. EditsGive g lines n inputs (Err (record { line = n; left = inputs })) in
         elim (cases_lt end (length text)) [
           | inl more ↦
               subst Comes (sym (lines-more more)) (

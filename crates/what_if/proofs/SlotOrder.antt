@@ -15,12 +15,12 @@ before_row : (i j width p : ℕ) → i < j → p < width → i * width + p < j *
 before_row i j width p low within =
     omega (arith, mul-le-mul_right {m = i + 1} {n = j} width (omega arith))
 
-module _ (l : LiveGraph) (up : IsUpward l.graph l.places) where
-  pub place-below : (t : ℕ) → t < stations l.graph → get_or l.places t 0 < stations l.graph
-  place-below t there = up.below t 0 (omega (arith, up.place_for_each))
+module _ (l : LiveGraph) (up : IsUpward l.graph l.ranks) where
+  pub rank-below : (t : ℕ) → t < stations l.graph → get_or l.ranks t 0 < stations l.graph
+  rank-below t there = up.below t 0 (omega (arith, up.place_for_each))
 
-  pub place-injective : (t u : ℕ) → t < stations l.graph → u < stations l.graph → get_or l.places t 0 ≡ get_or l.places u 0 → t ≡ u
-  place-injective t u t_there u_there same =
+  pub rank-injective : (t u : ℕ) → t < stations l.graph → u < stations l.graph → get_or l.ranks t 0 ≡ get_or l.ranks u 0 → t ≡ u
+  rank-injective t u t_there u_there same =
       let many = up.place_for_each in
       elim (cases_lt t u) [
         | inl before ↦ absurd (up.distinct t u 0 before (omega (arith, many)) same)
@@ -33,14 +33,14 @@ module _ (l : LiveGraph) (up : IsUpward l.graph l.places) where
   pub slot-earlier_job : (t n u m : ℕ) → t < stations l.graph → 1 ≤ n → n < m → slot l t n < slot l u m
   unfolding slot
   slot-earlier_job t n u m there one before =
-      omega (arith, before_row (n - 1) (m - 1) (stations l.graph) (get_or l.places t 0) (omega arith) (place-below t there))
+      omega (arith, before_row (n - 1) (m - 1) (stations l.graph) (get_or l.ranks t 0) (omega arith) (rank-below t there))
 
   pub slot-below : (t n : ℕ) → IsDate l.graph t n → slot l t n < date_count l.graph
   unfolding slot
   slot-below t n date =
-      omega (arith, before_row (n - 1) (jobs l.graph) (stations l.graph) (get_or l.places t 0) (omega (arith, date.from_one, date.job)) (place-below t date.station), mul_comm (stations l.graph) (jobs l.graph))
+      omega (arith, before_row (n - 1) (jobs l.graph) (stations l.graph) (get_or l.ranks t 0) (omega (arith, date.from_one, date.job)) (rank-below t date.station), mul_comm (stations l.graph) (jobs l.graph))
 
-  slot-same_job : (t u n : ℕ) → slot l t n ≡ slot l u n → get_or l.places t 0 ≡ get_or l.places u 0
+  slot-same_job : (t u n : ℕ) → slot l t n ≡ slot l u n → get_or l.ranks t 0 ≡ get_or l.ranks u 0
   unfolding slot
   slot-same_job t u n same = omega arith
 
@@ -54,12 +54,12 @@ module _ (l : LiveGraph) (up : IsUpward l.graph l.places) where
         ]
       ]
 
-  pub slot-place : (t n u m : ℕ) → IsDate l.graph t n → IsDate l.graph u m → slot l t n ≡ slot l u m → t ≡ u
-  slot-place t n u m here there same =
+  pub slot-rank : (t n u m : ℕ) → IsDate l.graph t n → IsDate l.graph u m → slot l t n ≡ slot l u m → t ≡ u
+  slot-rank t n u m here there same =
       let job = slot-station t n u m here there same in
-      place-injective t u here.station there.station (slot-same_job t u n (same ∙ ap (slot l u) (sym job)))
+      rank-injective t u here.station there.station (slot-same_job t u n (same ∙ ap (slot l u) (sym job)))
 
-  slot-upward : (t u n : ℕ) → get_or l.places t 0 < get_or l.places u 0 → slot l t n < slot l u n
+  slot-upward : (t u n : ℕ) → get_or l.ranks t 0 < get_or l.ranks u 0 → slot l t n < slot l u n
   unfolding slot
   slot-upward t u n above = omega arith
 
@@ -74,17 +74,17 @@ module _ (l : LiveGraph) (up : IsUpward l.graph l.places) where
         | inr some ↦ slot-earlier_job from n to (n + (arc l.graph a).tokens) (graph.starts_exist a there) one (omega arith)
       ]
 
--- the slot by a copy of the places
-pub slot-by_places : (l : LiveGraph) (places : List ℕ) (t n : ℕ) → IsUpward l.graph l.places → places ≡ l.places → (n - 1) * length places + get_or places t 0 ≡ slot l t n
+-- the slot by a copy of the ranks
+pub slot-by_ranks : (l : LiveGraph) (ranks : List ℕ) (t n : ℕ) → IsUpward l.graph l.ranks → ranks ≡ l.ranks → (n - 1) * length ranks + get_or ranks t 0 ≡ slot l t n
 unfolding slot
-slot-by_places l places t n up same =
+slot-by_ranks l ranks t n up same =
     ap (λ (ps : List ℕ). (n - 1) * length ps + get_or ps t 0) same
-    ∙ ap (λ w. (n - 1) * w + get_or l.places t 0) up.place_for_each
+    ∙ ap (λ w. (n - 1) * w + get_or l.ranks t 0) up.place_for_each
 
--- the slot of the station at a place, and of the job, that a slot's number gives
-pub slot-of_number : (l : LiveGraph) (t at : ℕ) → get_or l.places t 0 ≡ at % stations l.graph → slot l t (at / stations l.graph + 1) ≡ at
+-- the slot of the station of a rank, and of the job, that a slot's number gives
+pub slot-of_number : (l : LiveGraph) (t at : ℕ) → get_or l.ranks t 0 ≡ at % stations l.graph → slot l t (at / stations l.graph + 1) ≡ at
 unfolding slot
-slot-of_number l t at place =
+slot-of_number l t at rank =
     let width = stations l.graph in
     let job : at / width + 1 - 1 ≡ at / width = omega arith in
-    ap (λ j. j * width + get_or l.places t 0) job ∙ ap (λ r. (at / width) * width + r) place ∙ div-add-mod' at width
+    ap (λ j. j * width + get_or l.ranks t 0) job ∙ ap (λ r. (at / width) * width + r) rank ∙ div-add-mod' at width

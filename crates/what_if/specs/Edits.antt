@@ -1,4 +1,4 @@
--- The lines of an edits file, and what following them comes to.
+-- The lines of an edits file, and what following them gives.
 use Rattle.std.specs.Prelude.{◌≡◌, ◌≢◌, ℕ, ◌+◌, ◌-◌, ◌≤◌, ◌&&◌, ◌⊎◌, Bool, List, [], ◌∷◌, ◌++◌, Option, Some, Result, Ok, Err, find, codes, decimal, ⊤}
 use Rattle.std.specs.List.{list_any, range_with_len, All}
 use Rattle.std.specs.Str.Lines.{strip_carriage_return}
@@ -96,16 +96,16 @@ pub record Stopped : Type 0 where
   pub line : ℕ
   pub left : Inputs
 
--- what following lines in order comes to, where the first of them has number n: the job times and demand dates that they
+-- what following lines in order gives, where the first of them has number n: the job times and demand dates that they
 -- leave, or the first line that is refused and what those before it leave
-pub data ComesTo (g : Parts) : List (List ℕ) → ℕ → Inputs → Result Inputs Stopped → Type 0 where
-  ends : (n : ℕ) (inputs : Inputs) → ComesTo g [] n inputs (Ok inputs)
+pub data EditsGive (g : Parts) : List (List ℕ) → ℕ → Inputs → Result Inputs Stopped → Type 0 where
+  ends : (n : ℕ) (inputs : Inputs) → EditsGive g [] n inputs (Ok inputs)
   follows : (line : List ℕ) (lines : List (List ℕ)) (n : ℕ) (inputs next : Inputs)
       (end : Result Inputs Stopped) → LeadsTo g (strip_carriage_return line) inputs next
-      → ComesTo g lines (n + 1) next end → ComesTo g (line ∷ lines) n inputs end
+      → EditsGive g lines (n + 1) next end → EditsGive g (line ∷ lines) n inputs end
   refuses : (line : List ℕ) (lines : List (List ℕ)) (n : ℕ) (inputs : Inputs)
       → IsRefused g (strip_carriage_return line) inputs
-      → ComesTo g (line ∷ lines) n inputs (Err (record { line = n; left = inputs }))
+      → EditsGive g (line ∷ lines) n inputs (Err (record { line = n; left = inputs }))
 
 -- a word, a space, and the rest of a text
 pub record IsSplit (text word rest : List ℕ) : Type 0 where

@@ -28,9 +28,9 @@ pub record IsDate (g : Parts) (t n : ℕ) : Type 0 where
   pub from_one : 1 ≤ n
   pub job : n ≤ jobs g
 
--- the number of that date in the order of evaluation: by job, then by the place of the station
+-- the number of that date in the order of evaluation: by job, then by the rank of the station
 unfoldable pub slot : LiveGraph → ℕ → ℕ → ℕ
-slot l t n = (n - 1) * stations l.graph + slice_index l.places t
+slot l t n = (n - 1) * stations l.graph + slice_index l.ranks t
 
 -- whether it is marked, and how many dates are
 abbrev pub is_marked : Page → ℕ → ℕ → Bool

@@ -6,6 +6,7 @@ use Rattle.event_graph.specs.Network.{stations, jobs, outs}
 use Rattle.event_graph.specs.Table.{Table, date_in}
 use Rattle.event_graph.specs.Least.{IsLeast}
 use Rattle.what_if.specs.Page.{Page, graph_of, mark_count}
+use Rattle.what_if.specs.Sheet.{date_count}
 
 -- for each date that differs, the number of arcs out of its station, added up
 unfoldable pub outs_if_changed : Parts → Table → Table → ℕ → ℕ → ℕ
@@ -27,6 +28,10 @@ HasEvaluatedFew old new =
     new.evaluations
     ≤ old.evaluations + mark_count old
     + changed_outs old.live.graph (date_in old.dates) (date_in new.dates)
+
+-- no more evaluations were made than there are dates
+abbrev pub HasEvaluatedEachOnce : Page → Page → Type 0
+HasEvaluatedEachOnce old new = new.evaluations ≤ old.evaluations + date_count old.live.graph
 
 -- only dates, marks and the number of evaluations are others
 pub record KeepsInputs (old new : Page) : Type 0 where

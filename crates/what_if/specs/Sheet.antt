@@ -52,10 +52,10 @@ page_of live times demands first dates marks evaluations = record {
   evaluations = evaluations;
 }
 
--- and the sheet has the places of its stations beside
-pub record IsHeld (p : Page) (places : List ℕ) : Type 0 where
+-- and the sheet has the ranks of its stations beside
+pub record IsHeld (p : Page) (ranks : List ℕ) : Type 0 where
   pub sheet : IsSheet p
-  pub same_places : places ≡ p.live.places
+  pub same_ranks : ranks ≡ p.live.ranks
 
 -- a sheet as it is made: the graph's own times and demand dates, the dates of the table, and no mark
 pub record IsBegun (live : LiveGraph) (rows : List (List ℕ)) (p : Page) : Type 0 where

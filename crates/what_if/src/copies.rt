@@ -10,16 +10,16 @@ use line_core::Table;
 use live_check::Live;
 use std::alloc::{AllocError, Global};
 
-/// The place of each station.
-pub fn places_of(alloc: Global, live: &Live) -> Result<Vec<u32>, AllocError>
-    ensures { IfOk result (λ places. places.items ≡ live.now.places) }
+/// The rank of each station.
+pub fn ranks_of(alloc: Global, live: &Live) -> Result<Vec<u32>, AllocError>
+    ensures { IfOk result (λ ranks. ranks.items ≡ live.now.ranks) }
 {
     let stations = live.graph().stations();
-    let mut places = Vec::with_capacity(alloc, stations as usize)?;
+    let mut ranks = Vec::with_capacity(alloc, stations as usize)?;
     for t in 0..stations {
-        places.push_reserved(live.place_of(t));
+        ranks.push_reserved(live.place_of(t));
     }
-    Ok(places)
+    Ok(ranks)
 }
 
 /// The time of each job at station `t`.

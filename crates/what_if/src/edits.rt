@@ -1,18 +1,17 @@
 ghost use Rattle.std.specs.Bool.{OnTrue, OnFalse};
 ghost use Rattle.std.specs.Prelude.{◌≡◌, ◌+◌, ◌≤◌, ◌↔◌, IsTrue, Ok, Err, IfErr, OnOk, length};
-ghost use Rattle.std.specs.Str.Lines.{strip_carriage_return};
 ghost use Rattle.event_graph.specs.Network.{jobs};
 ghost use Rattle.line_core.specs.Schedule.{lines_of};
 ghost use Rattle.what_if.specs.Edited.{FitsBetween};
-ghost use Rattle.what_if.specs.Edits.{IsEdit, MayFollow, inputs_after, LeadsTo, IsRefused, ComesTo};
+ghost use Rattle.what_if.specs.Edits.{IsEdit, MayFollow, inputs_after, LeadsTo, IsRefused, EditsGive};
 ghost use Rattle.what_if.specs.Page.{mark_count};
 ghost use Rattle.what_if.specs.Settled.{KeepsDates};
 
 use crate::edit::Edit;
 use crate::reader::read_edit;
 use crate::sheet::Sheet;
-use crate::words::{behind, end_before, front};
 use line_base::Date;
+use line_core::{behind, end_before, prefix, without_return};
 use live_check::Live;
 use thiserror::Error;
 
@@ -22,13 +21,6 @@ use thiserror::Error;
 pub struct RefusedLine {
     /// Which line.
     pub line: u64,
-}
-
-/// A line without the carriage return that may stand at its end.
-fn without_return(line: &[u8]) -> &[u8]
-    ensures { result.now ≡ strip_carriage_return line.now }
-{
-    line.strip_suffix(b"\r").unwrap_or(line)
 }
 
 /// Whether this demand date of job `n` is neither before the present one of the job before nor after that of the job
@@ -97,8 +89,8 @@ fn follow_line(sheet: &mut Sheet, live: &Live, line: &[u8]) -> bool
 pub fn follow_edits(sheet: &mut Sheet, live: &Live, edits: &[u8]) -> Result<(), RefusedLine>
     requires made_for { live.now ≡ sheet.old.live }
     ensures followed { OnOk result
-        (ComesTo live.now.graph (lines_of edits.now) 1 sheet.old.inputs (Ok sheet.new.inputs)) }
-    ensures refused { IfErr result (λ at. ComesTo live.now.graph (lines_of edits.now) 1 sheet.old.inputs
+        (EditsGive live.now.graph (lines_of edits.now) 1 sheet.old.inputs (Ok sheet.new.inputs)) }
+    ensures refused { IfErr result (λ at. EditsGive live.now.graph (lines_of edits.now) 1 sheet.old.inputs
         (Err (record { line = at.line; left = sheet.new.inputs }))) }
     ensures dates { KeepsDates sheet.old sheet.new }
     ensures marks { mark_count sheet.new ≤ mark_count sheet.old + length (lines_of edits.now) }
@@ -107,7 +99,7 @@ pub fn follow_edits(sheet: &mut Sheet, live: &Live, edits: &[u8]) -> Result<(), 
     let mut line = 1;
     loop {
         let end = end_before(rest, b'\n');
-        let text = without_return(front(rest, end));
+        let text = without_return(prefix(rest, end));
         if !follow_line(sheet, live, text) {
             return Err(RefusedLine { line });
         }

@@ -15,3 +15,4 @@ mod words;
 
 pub use edits::{RefusedLine, follow_edits};
 pub use sheet::Sheet;
+pub use slots::{date_at_slot, slot};

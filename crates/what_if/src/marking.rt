@@ -41,7 +41,7 @@ fn mark_reader(marks: &mut Marks, live: &Live, a: u32, n: u32)
     ensures { marks.new ≡ with_reader live.now n marks.old a }
 {
     let graph = live.graph();
-    let arc = graph.arcs()[a as usize];
+    let arc = graph.arc(a);
     let job = n + arc.tokens;
     if job <= graph.jobs() {
         marks.insert(slot(live, arc.to, job));

@@ -1,6 +1,6 @@
 ghost use Rattle.std.specs.Prelude.{◌≡◌, ◌^◌, ◌<◌};
 ghost use Rattle.what_if.specs.Page.{mark_count};
-ghost use Rattle.what_if.specs.Settled.{IsSolved, HasEvaluatedFew, KeepsInputs};
+ghost use Rattle.what_if.specs.Settled.{IsSolved, HasEvaluatedFew, HasEvaluatedEachOnce, KeepsInputs};
 ghost use Rattle.what_if.specs.Sheet.{IsSheet};
 
 use crate::sheet::Sheet;
@@ -8,7 +8,7 @@ use crate::slots::date_at_slot;
 use live_check::Live;
 
 impl Sheet {
-    /// Evaluates marked dates, by job and then by the place of the station, until none is marked. The dates are then the
+    /// Evaluates marked dates, by job and then by the rank of the station, until none is marked. The dates are then the
     /// least solution of the edited graph. It takes no memory.
     ///
     /// Each date is evaluated at most once: dates that read it come after it in this order. So there are no more
@@ -21,6 +21,7 @@ impl Sheet {
         ensures solved { IsSolved self.new }
         ensures none_marked { mark_count self.new ≡ 0 }
         ensures few { HasEvaluatedFew self.old self.new }
+        ensures once_each { HasEvaluatedEachOnce self.old self.new }
         ensures inputs { KeepsInputs self.old self.new }
         ensures kept { IsSheet self.new }
     {

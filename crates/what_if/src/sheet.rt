@@ -9,7 +9,7 @@ ghost use Rattle.what_if.specs.Marks.{HasNone, IsFirstFrom};
 ghost use Rattle.what_if.specs.Page.{graph_of, IsDate, date_at, greatest_term, is_marked, mark_count};
 ghost use Rattle.what_if.specs.Sheet.{IsSheet, IsBegun};
 
-use crate::copies::{all_times, demands_of, places_of, rows_of};
+use crate::copies::{all_times, demands_of, ranks_of, rows_of};
 use crate::marking::renew_marks;
 use crate::marks::Marks;
 use crate::row::Row;
@@ -29,7 +29,7 @@ use std::snapshot::Snapshot;
 /// dates and times are in the plant's unit.
 #[derive(Drop)]
 pub struct Sheet {
-    places: Vec<u32>,
+    ranks: Vec<u32>,
     times: Vec<Row>,
     demands: Row,
     first: Vec<Row>,
@@ -52,7 +52,7 @@ impl Model for Sheet {
     ghost invariant = { λ s. IsHeld
         (page_of s.live.value s.times.items s.demands s.first.items s.dates.items
         s.marks s.evaluations)
-        s.places.items };
+        s.ranks.items };
 }
 
 impl Sheet {
@@ -64,14 +64,14 @@ impl Sheet {
         ensures kept { IfOk result IsSheet }
     {
         let graph = live.graph();
-        let places = places_of(alloc, live)?;
+        let ranks = ranks_of(alloc, live)?;
         let times = all_times(alloc, graph)?;
         let demands = demands_of(alloc, graph)?;
         let first = rows_of(alloc, table)?;
         let dates = rows_of(alloc, table)?;
         let marks = Marks::none(alloc, graph.stations() * graph.jobs())?;
         Ok(Sheet {
-            places,
+            ranks,
             times,
             demands,
             first,
@@ -151,7 +151,7 @@ impl Sheet {
         ensures marked { result ≡ is_marked self.now t n }
         ensures kept { IsSheet self.now }
     {
-        self.marks.has(slot_at(self.places[t as usize], self.places.len() as u32, n))
+        self.marks.has(slot_at(self.ranks[t as usize], self.ranks.len() as u32, n))
     }
 
     /// How many dates are marked.
@@ -216,7 +216,7 @@ impl Sheet {
         ensures { result ≡ term (graph_of self.now) (date_in self.now.dates) a n }
     {
         let graph = live.graph();
-        let arc = graph.arcs()[a as usize];
+        let arc = graph.arc(a);
         let work = self.work(arc, n);
         if n <= arc.tokens {
             work

@@ -5,13 +5,13 @@ ghost use Rattle.what_if.specs.Sheet.{date_count};
 
 use live_check::Live;
 
-/// The slot of job `n` at the station with this place, of so many stations.
-pub fn slot_at(place: u32, stations: u32, n: u32) -> u32
+/// The slot of job `n` at the station with this rank, of this many stations.
+pub fn slot_at(rank: u32, stations: u32, n: u32) -> u32
     requires from_one { 1 ≤ n }
-    requires small { (n - 1) * stations + place < 2 ^ 32 }
-    ensures { result ≡ (n - 1) * stations + place }
+    requires small { (n - 1) * stations + rank < 2 ^ 32 }
+    ensures { result ≡ (n - 1) * stations + rank }
 {
-    (n - 1) * stations + place
+    (n - 1) * stations + rank
 }
 
 /// The slot of job `n` at station `t`.

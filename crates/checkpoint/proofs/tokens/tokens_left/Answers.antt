@@ -1,4 +1,4 @@
-use Rattle.std.proofs.Common.{false, length, refl, ap, ◌∙◌, arith, get_or}
+use Rattle.std.proofs.Common.{length, refl, ap, ◌∙◌, arith}
 use Rattle.line_base.specs.Roomy.{RoomyLog}
 use Rattle.event_graph.proofs.Sizes.{delay-small}
 use Rattle.checkpoint.proofs.ReadTokens.{left_within, left_is}
@@ -8,14 +8,14 @@ pub left-requires-clause-within : goal.left-requires-clause-within
 left-requires-clause-within c =
     let g = c.args.graph.now in
     let a = c.args.a in
-    let read = ap (λ arcs. get_or arcs a (record { from = 0; to = 0; tokens = 0; worked = false })) c.arcs.ensures.arcs in
-    left_within g c.args.logs.now a _ c.dates-made.result.now c.delay.result read c.arcs.ensures.graph c.requires.arc c.requires.a_log_each c.requires.given (c.dates-made.ensures ∙ ap (λ (l : RoomyLog). l.dates) c.get-2.ensures) (omega (arith, c.delay.ensures.delay, delay-small g a c.delay.ensures.limits))
+    let read = c.arc-arc.ensures.arc in
+    left_within g c.args.logs.now a _ c.dates-made.result.now c.delay.result read c.arc-arc.ensures.graph c.requires.arc c.requires.a_log_each c.requires.given (c.dates-made.ensures ∙ ap (λ (l : RoomyLog). l.dates) c.get-2.ensures) (omega (arith, c.delay.ensures.delay, delay-small g a c.delay.ensures.limits))
 
 pub returns : goal.returns
 returns c =
     let g = c.args.graph.now in
     let a = c.args.a in
-    let read = ap (λ arcs. get_or arcs a (record { from = 0; to = 0; tokens = 0; worked = false })) c.arcs.ensures.arcs in
+    let read = c.arc-arc.ensures.arc in
     left_is g c.args.logs.now a _ _ _ c.min.result c.dates-made.result.now c.left.result c.delay.result read
     (ap length (c.dates-taken.ensures ∙ ap (λ (l : RoomyLog). l.dates) c.get.ensures))
     (c.dates-made.ensures ∙ ap (λ (l : RoomyLog). l.dates) c.get-2.ensures)

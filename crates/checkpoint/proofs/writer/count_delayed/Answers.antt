@@ -1,7 +1,7 @@
 use Rattle.std.proofs.Common.{◌≡◌, length, sym, ap, ◌∙◌, arith}
 use Rattle.event_graph.specs.Network.{arc_count}
 use Rattle.std.proofs.lemmas.List.{length_push}
-use Rattle.checkpoint.proofs.Writing.{delayed_below, delayed_below-0, delayed_below-all, delayed_below-yes, delayed_below-no}
+use Rattle.checkpoint.proofs.WrittenTexts.{delayed_below, delayed_below-0, delayed_below-all, delayed_below-yes, delayed_below-no}
 use Rattle.checkpoint.proofs.writer.count_delayed.Goals as goal
 use Rattle.checkpoint.proofs.writer.count_delayed.Goals.{then-delay-gt0, else-delay-gt0}
 

@@ -1,5 +1,5 @@
 use Rattle.std.proofs.Common.{◌≡◌, ◌≤◌, length}
-use Rattle.checkpoint.proofs.Writing.{delayed_below}
+use Rattle.checkpoint.proofs.WrittenTexts.{delayed_below}
 use Rattle.checkpoint.proofs.writer.count_delayed.Given as goal
 
 abbrev pub invariant-loop-a : goal.invariant-loop-a

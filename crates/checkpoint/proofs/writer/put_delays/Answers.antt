@@ -3,7 +3,7 @@ use Rattle.std.specs.Prelude.{codes, decimal}
 use Rattle.std.specs.List.{flat_map}
 use Rattle.event_graph.specs.Network.{arc_count}
 use Rattle.checkpoint.specs.Text.{delay_words, two_words}
-use Rattle.checkpoint.proofs.Writing.{delayed_below, delayed_below-0, delayed_below-all, delay_words-more, delay_words-same, delays_written, ok_appended}
+use Rattle.checkpoint.proofs.WrittenTexts.{delayed_below, delayed_below-0, delayed_below-all, delay_words-more, delay_words-same, delays_written, ok_appended}
 use Rattle.checkpoint.proofs.writer.put_delays.Goals as goal
 use Rattle.checkpoint.proofs.writer.put_delays.Goals.{then-delay-gt0+in_ok-put_delay, else-delay-gt0}
 

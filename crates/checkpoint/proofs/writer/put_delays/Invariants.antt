@@ -1,7 +1,7 @@
 use Rattle.std.proofs.Common.{◌≡◌, ◌++◌}
 use Rattle.std.specs.List.{flat_map}
 use Rattle.checkpoint.specs.Text.{delay_words}
-use Rattle.checkpoint.proofs.Writing.{delayed_below}
+use Rattle.checkpoint.proofs.WrittenTexts.{delayed_below}
 use Rattle.checkpoint.proofs.writer.put_delays.Given as goal
 
 abbrev pub invariant-loop-a : goal.invariant-loop-a

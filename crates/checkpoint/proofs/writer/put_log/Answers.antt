@@ -3,7 +3,7 @@ use Rattle.std.specs.Prelude.{codes}
 use Rattle.std.proofs.lemmas.List.{drop_all}
 use Rattle.checkpoint.specs.declared.format.Format.TheVariants.{Differences}
 use Rattle.checkpoint.specs.Text.{date_words}
-use Rattle.checkpoint.proofs.Writing.{words_step, words_end, words_at, dates_written, ok_appended}
+use Rattle.checkpoint.proofs.WrittenTexts.{words_step, words_end, words_at, dates_written, ok_appended}
 use Rattle.checkpoint.proofs.writer.put_log.Goals as goal
 
 pub loop-date-preserved : goal.loop-date-preserved

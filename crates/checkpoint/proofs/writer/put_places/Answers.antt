@@ -3,7 +3,7 @@ use Rattle.std.specs.Prelude.{decimal}
 use Rattle.event_graph.specs.Network.{arc_count}
 use Rattle.checkpoint.specs.declared.format.Format.TheVariants.{Differences}
 use Rattle.checkpoint.specs.Text.{dates_text, place_lines, place_words, filled}
-use Rattle.checkpoint.proofs.Writing.{length-place_lines, place_line_at, place_words_written, line_step, lines_end}
+use Rattle.checkpoint.proofs.WrittenTexts.{length-place_lines, place_line_at, place_words_written, line_step, lines_end}
 use Rattle.checkpoint.proofs.writer.put_places.Goals as goal
 
 pub loop-a-preserved : goal.loop-a-preserved

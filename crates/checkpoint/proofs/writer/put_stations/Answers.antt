@@ -2,7 +2,7 @@ use Rattle.std.proofs.Common.{◌++◌, ◌≤◌, ◌<◌, length, ap, ◌∙�
 use Rattle.event_graph.specs.Network.{stations}
 use Rattle.checkpoint.specs.declared.format.Format.TheVariants.{Differences}
 use Rattle.checkpoint.specs.Text.{dates_text, station_lines, station_words, filled}
-use Rattle.checkpoint.proofs.Writing.{length-station_lines, station_line_at, station_words_written, line_step, lines_end}
+use Rattle.checkpoint.proofs.WrittenTexts.{length-station_lines, station_line_at, station_words_written, line_step, lines_end}
 use Rattle.checkpoint.proofs.writer.put_stations.Goals as goal
 
 pub loop-t-preserved : goal.loop-t-preserved

@@ -2,7 +2,7 @@ use Rattle.std.proofs.Common.{◌≡◌, ◌++◌, length, sym, ap, ◌∙◌, r
 use Rattle.std.specs.Prelude.{codes, decimal}
 use Rattle.checkpoint.specs.declared.format.Format.TheVariants.{Differences}
 use Rattle.checkpoint.specs.Text.{date_words}
-use Rattle.checkpoint.proofs.Writing.{words_step, words_end, dates_written, ok_appended}
+use Rattle.checkpoint.proofs.WrittenTexts.{words_step, words_end, dates_written, ok_appended}
 use Rattle.checkpoint.proofs.writer.put_tokens.Goals as goal
 
 pub loop-date-preserved : goal.loop-date-preserved

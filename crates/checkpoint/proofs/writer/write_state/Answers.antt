@@ -5,7 +5,7 @@ use Rattle.event_graph.specs.Network.{arc_count}
 use Rattle.line_core.proofs.Consistency.{reached_is_consistent}
 use Rattle.checkpoint.specs.declared.format.Format.TheVariants.{Differences}
 use Rattle.checkpoint.specs.Text.{delays_line, place_lines, station_lines, filled}
-use Rattle.checkpoint.proofs.Filling.{text_written, head_written}
+use Rattle.checkpoint.proofs.FilledTexts.{text_written, head_written}
 use Rattle.checkpoint.proofs.writer.write_state.Goals as goal
 
 pub put_places-requires-clause-a_place_each : goal.put_places-requires-clause-a_place_each

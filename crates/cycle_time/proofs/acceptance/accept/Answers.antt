@@ -1,4 +1,4 @@
-use Rattle.cycle_time.proofs.Telescoping.{no_greater}
+use Rattle.cycle_time.proofs.WalkWeights.{no_greater}
 use Rattle.cycle_time.proofs.acceptance.accept.Goals as goal
 
 pub returns-then-is_idle-clause-greatest : goal.returns-then-is_idle-clause-greatest

@@ -1,4 +1,4 @@
-use Rattle.cycle_time.proofs.Telescoping.{certificate_bounds}
+use Rattle.cycle_time.proofs.WalkWeights.{certificate_bounds}
 use Rattle.cycle_time.proofs.laws.certificates_bound_every_ratio.Goals as goal
 
 pub returns : goal.returns

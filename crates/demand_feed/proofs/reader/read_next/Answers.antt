@@ -1,4 +1,4 @@
-use Rattle.demand_feed.proofs.Reading.{GivesNext-read}
+use Rattle.demand_feed.proofs.ReadRecords.{GivesNext-read}
 use Rattle.demand_feed.proofs.reader.read_next.Goals as goal
 
 pub returns-in-Ok-clause-next : goal.returns-in-Ok-clause-next

@@ -1,7 +1,7 @@
 use Rattle.std.proofs.Common.{◌∙◌, sym, arith}
 use Rattle.std.proofs.lemmas.Bool.{not-false, not-true}
 use Rattle.csv.specs.Records.{fields_of}
-use Rattle.demand_feed.proofs.Reading.{HasRead-header, HasRead-job, HasRead-open, HasRead-room, rows_of-all, rows_of-bad}
+use Rattle.demand_feed.proofs.ReadRecords.{HasRead-header, HasRead-job, HasRead-open, HasRead-room, rows_of-all, rows_of-bad}
 use Rattle.demand_feed.proofs.rows.read_rows.Goals as goal
 
 pub records-init : goal.records-init

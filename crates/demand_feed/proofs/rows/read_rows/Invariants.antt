@@ -1,5 +1,5 @@
 use Rattle.std.proofs.Common.{◌-◌, length}
-use Rattle.demand_feed.proofs.Reading.{HasRead}
+use Rattle.demand_feed.proofs.ReadRecords.{HasRead}
 use Rattle.demand_feed.proofs.rows.read_rows.Given as goal
 
 abbrev pub invariant-records : goal.invariant-records

@@ -11,22 +11,22 @@ use Rattle.line_core.proofs.parts.check_tokens_on.Goals.{After-dates_at-dates, A
 
 -- how many tokens the arc has, and how many the station where it ends took
 few_taken : (c : After-dates_at-dates) → length c.dates_at.result.now ≤ 20_000
-few_taken c = omega (arith, ap length c.dates_at.ensures, few_from c.args.graph.now (dates_of c.args.logs.now) c.requires.few c.arc_at.result.to c.arc_at.ensures.ends, c.requires.limits.few_jobs)
+few_taken c = omega (arith, ap length c.dates_at.ensures, few_from c.args.graph.now (dates_of c.args.logs.now) c.requires.few c.arc.result.to c.arc.ensures.ends, c.requires.limits.few_jobs)
 
 held : (c : After-dates_at-dates) → length c.dates_at-dates.result.now + length c.dates_at.result.now ≡ (arc c.args.graph.now c.args.arc).tokens + length (list_at (dates_of c.args.logs.now) (arc c.args.graph.now c.args.arc).from)
 held c =
     let logs = dates_of c.args.logs.now in
-    omega (arith, ap length c.dates_at-dates.ensures, ap length c.dates_at.ensures, ap (λ (x : Arc). length (list_at logs x.to)) c.arc_at.ensures.arc, marked_from c.args.graph.now logs (dates_of c.args.places.now) c.requires.marking c.args.arc c.requires.arc)
+    omega (arith, ap length c.dates_at-dates.ensures, ap length c.dates_at.ensures, ap (λ (x : Arc). length (list_at logs x.to)) c.arc.ensures.arc, marked_from c.args.graph.now logs (dates_of c.args.places.now) c.requires.marking c.args.arc c.requires.arc)
 
 few : (c : After-dates_at-dates) → length c.dates_at-dates.result.now ≤ 30_000
 few c =
     let g = c.args.graph.now in
     let a = c.args.arc in
-    let from = few_from g (dates_of c.args.logs.now) c.requires.few (arc g a).from (subst (λ (x : Arc). x.from < stations g) c.arc_at.ensures.arc c.arc_at.ensures.starts) in
-    omega (arith, held c, from, c.requires.limits.few_jobs, c.arc_at.ensures.tokens, ap (λ (x : Arc). x.tokens) c.arc_at.ensures.arc)
+    let from = few_from g (dates_of c.args.logs.now) c.requires.few (arc g a).from (subst (λ (x : Arc). x.from < stations g) c.arc.ensures.arc c.arc.ensures.starts) in
+    omega (arith, held c, from, c.requires.limits.few_jobs, c.arc.ensures.tokens, ap (λ (x : Arc). x.tokens) c.arc.ensures.arc)
 
 pub overflow_cast-taken : goal.overflow_cast-taken
-overflow_cast-taken c = omega (arith, ap length c.dates_at.ensures, few_from c.args.graph.now (dates_of c.args.logs.now) c.requires.few c.arc_at.result.to c.arc_at.ensures.ends, c.requires.limits.few_jobs)
+overflow_cast-taken c = omega (arith, ap length c.dates_at.ensures, few_from c.args.graph.now (dates_of c.args.logs.now) c.requires.few c.arc.result.to c.arc.ensures.ends, c.requires.limits.few_jobs)
 
 pub overflow_cast-token-end : goal.overflow_cast-token-end
 overflow_cast-token-end c = omega (arith, few c)
@@ -50,7 +50,7 @@ token_date-need-requires-clause-logs c = record { a_log_each = c.requires.parts.
 need_is : (c : After-token_date-need) → length c.dates_at-dates.result.now + length c.dates_at.result.now ≡ (arc c.args.graph.now c.args.arc).tokens + length (list_at (dates_of c.args.logs.now) (arc c.args.graph.now c.args.arc).from) → c.token_date-need.result ≡ get_or (tokens_left c.args.graph.now (dates_of c.args.logs.now) c.args.arc) c.loop-token.token 0
 need_is c held_here =
     let logs = dates_of c.args.logs.now in
-    let taken = ap length c.dates_at.ensures ∙ ap (λ (x : Arc). length (list_at logs x.to)) c.arc_at.ensures.arc in
+    let taken = ap length c.dates_at.ensures ∙ ap (λ (x : Arc). length (list_at logs x.to)) c.arc.ensures.arc in
     c.token_date-need.ensures.date ∙ token-left c.args.graph.now logs c.args.arc (length c.dates_at.result.now) c.loop-token.token taken (omega (arith, held_here, c.loop-token-test.true))
 
 pub returns-then-have-need : goal.returns-then-have-need

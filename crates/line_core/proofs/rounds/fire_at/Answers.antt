@@ -10,16 +10,16 @@ use Rattle.line_core.proofs.rounds.fire_at.Goals as goal
 pub fire_ready-requires-clause-can : goal.fire_ready-requires-clause-can
 fire_ready-requires-clause-can c =
     let r = c.args.state.now in
-    let places = c.args.live.now.places in
-    let ranked = subst (λ (h : Parts). IsRanked (record { graph = h; places = places })) c.requires.made_for c.station_at.ensures.ranked in
+    let places = c.args.live.now.ranks in
+    let ranked = subst (λ (h : Parts). IsRanked (record { graph = h; ranks = places })) c.requires.made_for c.station_at.ensures.ranked in
     let there : c.station_at.result < stations r.graph = omega (arith, ap stations c.requires.made_for, c.station_at.ensures.exists) in
-    can_fire_next r.graph places r.state c.args.done c.args.place c.station_at.result ranked c.requires.reached c.requires.round c.requires.more there c.station_at.ensures.place
+    can_fire_next r.graph places r.state c.args.done c.args.place c.station_at.result ranked c.requires.reached c.requires.round c.requires.more there c.station_at.ensures.rank
 
 pub returns-clause-round : goal.returns-clause-round
 returns-clause-round c =
     let r = c.args.state.now in
-    let places = c.args.live.now.places in
-    let ranked = subst (λ (h : Parts). IsRanked (record { graph = h; places = places })) c.requires.made_for c.station_at.ensures.ranked in
+    let places = c.args.live.now.ranks in
+    let ranked = subst (λ (h : Parts). IsRanked (record { graph = h; ranks = places })) c.requires.made_for c.station_at.ensures.ranked in
     let there : c.station_at.result < stations r.graph = omega (arith, ap stations c.requires.made_for, c.station_at.ensures.exists) in
-    let on = round_goes_on r.graph places r.state c.args.done c.args.place c.station_at.result ranked c.requires.reached c.requires.round there c.station_at.ensures.place in
+    let on = round_goes_on r.graph places r.state c.args.done c.args.place c.station_at.result ranked c.requires.reached c.requires.round there c.station_at.ensures.rank in
     subst (λ (next : Run). IsInRound places next c.args.done (c.args.place + 1)) (sym c.fire_ready.ensures.fired) on

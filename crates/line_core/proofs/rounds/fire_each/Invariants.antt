@@ -6,6 +6,6 @@ use Rattle.line_core.proofs.rounds.fire_each.Given as goal
 abbrev pub invariant-loop-place : goal.invariant-loop-place
 invariant-loop-place l = record {
   graph : l.state.graph ≡ l.initial.state.graph;
-  round : IsInRound l.live.places l.state l.done l.place;
+  round : IsInRound l.live.ranks l.state l.done l.place;
   reached : IsReached l.state;
 }

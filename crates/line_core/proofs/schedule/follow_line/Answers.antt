@@ -4,7 +4,7 @@ use Rattle.std.proofs.lemmas.Bool.{eqb-true, eqb-false}
 use Rattle.line_base.specs.declared.event.Parts.{Parts}
 use Rattle.line_core.specs.Run.{Run}
 use Rattle.line_core.specs.Schedule.{station_with}
-use Rattle.line_core.proofs.Following.{follow-empty, follow-no_station, follow-done, follow-waits, follow-fires}
+use Rattle.line_core.proofs.FollowedLines.{follow-empty, follow-no_station, follow-done, follow-waits, follow-fires}
 use Rattle.line_core.proofs.schedule.follow_line.Goals as goal
 
 pub returns-then-is_empty-clause-followed : goal.returns-then-is_empty-clause-followed

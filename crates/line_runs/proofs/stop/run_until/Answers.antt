@@ -4,7 +4,8 @@ use Rattle.live_check.specs.Order.{LiveGraph}
 use Rattle.line_core.specs.Consistent.{fired}
 use Rattle.line_core.specs.Run.{Run}
 use Rattle.line_runs.specs.Bursts.{IsDone, none, more}
-use Rattle.line_runs.specs.Stop.{all_firings, IsShort, IsStopAt}
+use Rattle.line_runs.specs.AllFirings.{all_firings}
+use Rattle.line_runs.specs.Stop.{IsShort, IsStopAt}
 use Rattle.line_runs.specs.Headline.{MayBeResumed}
 use Rattle.line_runs.proofs.Firings.{burst_leaves_less, undone_is_below}
 use Rattle.line_runs.proofs.Stopping.{burst_live, stop_counts, finish_counts}

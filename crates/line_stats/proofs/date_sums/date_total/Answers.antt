@@ -5,7 +5,7 @@ use Rattle.event_graph.specs.Table.{date_in}
 use Rattle.line_core.specs.Consistent.{LATEST_DATE}
 use Rattle.line_stats.specs.Counts.{job_numbers}
 use Rattle.line_stats.specs.DateSums.{date_total}
-use Rattle.line_stats.proofs.Rising.{date-row}
+use Rattle.line_stats.proofs.RisingDates.{date-row}
 use Rattle.line_stats.proofs.DateSums.{sum_by-range-more, sum-row, sum-row-small}
 use Rattle.line_stats.proofs.date_sums.date_total.Goals as goal
 

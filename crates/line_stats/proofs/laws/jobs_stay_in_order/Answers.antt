@@ -3,7 +3,7 @@ use Rattle.plant_model.specs.Graph.{graph}
 use Rattle.live_check.proofs.NeverLater.{least-rises}
 use Rattle.line_graph.proofs.Inputs.{IsGraph-graph}
 use Rattle.line_graph.proofs.WithinLimits.{IsWithinLimits-graph}
-use Rattle.line_stats.proofs.Rising.{lists_keep_order}
+use Rattle.line_stats.proofs.RisingDates.{lists_keep_order}
 use Rattle.line_stats.proofs.laws.jobs_stay_in_order.Goals as goal
 
 pub returns : goal.returns

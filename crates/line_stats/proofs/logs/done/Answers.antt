@@ -1,7 +1,7 @@
 use Rattle.std.proofs.Common.{subst, sym, ◌∙◌, ap}
 use Rattle.std.specs.List.Sorted.{IsNonDecreasing}
 use Rattle.line_stats.specs.Between.{dates_until}
-use Rattle.line_stats.proofs.Rising.{row-rises, count-row}
+use Rattle.line_stats.proofs.RisingDates.{row-rises, count-row}
 use Rattle.line_stats.proofs.logs.done.Goals as goal
 
 pub dates_until-requires : goal.dates_until-requires

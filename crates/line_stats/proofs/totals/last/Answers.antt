@@ -4,7 +4,7 @@ use Rattle.event_graph.specs.Network.{jobs, stations}
 use Rattle.event_graph.specs.Table.{date_in}
 use Rattle.event_graph.specs.Firing.{greatest}
 use Rattle.line_stats.specs.Counts.{job_numbers, last_date}
-use Rattle.line_stats.proofs.Rising.{date-row}
+use Rattle.line_stats.proofs.RisingDates.{date-row}
 use Rattle.event_graph.proofs.Greatest.{greatest-range}
 use Rattle.line_stats.proofs.Greatest.{greatest-row}
 use Rattle.line_stats.proofs.totals.last.Goals as goal

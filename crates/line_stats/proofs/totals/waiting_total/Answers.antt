@@ -3,7 +3,7 @@ use Rattle.std.specs.List.{sum_by, range_with_len}
 use Rattle.event_graph.specs.Network.{stations, jobs}
 use Rattle.event_graph.specs.Table.{date_in}
 use Rattle.line_stats.specs.Counts.{waiting}
-use Rattle.line_stats.proofs.Rising.{date-row}
+use Rattle.line_stats.proofs.RisingDates.{date-row}
 use Rattle.line_stats.proofs.Waits.{sum-more}
 use Rattle.line_stats.proofs.totals.waiting_total.Goals as goal
 

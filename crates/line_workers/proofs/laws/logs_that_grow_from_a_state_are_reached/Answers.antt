@@ -1,4 +1,4 @@
-use Rattle.worker_crew.proofs.Grown.{grown_is_reached}
+use Rattle.line_worker.proofs.Grown.{grown_is_reached}
 use Rattle.line_workers.proofs.laws.logs_that_grow_from_a_state_are_reached.Goals as goal
 
 pub returns : goal.returns

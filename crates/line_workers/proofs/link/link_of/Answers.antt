@@ -1,6 +1,6 @@
 use Rattle.std.proofs.Common.{length, ap, arith}
 use Rattle.event_graph.specs.Network.{arc_count}
-use Rattle.worker_crew.proofs.Places.{ins-few, outs-few}
+use Rattle.line_worker.proofs.Places.{ins-few, outs-few}
 use Rattle.line_workers.proofs.link.link_of.Goals as goal
 
 pub place_in-requires : goal.place_in-requires

@@ -1,6 +1,6 @@
 use Rattle.std.proofs.Common.{◌≡◌, true, false, eqb, ◌∙◌, refl, sym, arith, rules, tests}
 use Rattle.std.proofs.lemmas.Iterator.{YieldsList-from_slice, IsFirst-from_position, index_from_first}
-use Rattle.worker_crew.specs.Teams.{place_in}
+use Rattle.line_worker.specs.Teams.{place_in}
 use Rattle.line_workers.proofs.link.place_in.Goals as goal
 
 pub returns : goal.returns

@@ -1,27 +1,27 @@
 use Rattle.std.proofs.Common.{◌≡◌, ◌<◌, length, sym, subst, arith}
 use Rattle.std.proofs.lemmas.List.{get_or_default}
-use Rattle.worker_crew.specs.Crews.{no_crew, crew_at, IsAtWork, MayGoOn}
-use Rattle.worker_crew.proofs.Bursting.{at_work_begins, may_go_on, at_work_in_full}
+use Rattle.line_worker.specs.Workers.{no_worker, worker_at, IsAtWork, MayGoOn}
+use Rattle.line_worker.proofs.Bursting.{at_work_begins, may_go_on, at_work_in_full}
 use Rattle.line_workers.proofs.work.work_in_turn.Goals as goal
 
 pub loop-sweep-init : goal.loop-sweep-init
-loop-sweep-init g c w low = at_work_begins (crew_at c.args.crews.now w)
+loop-sweep-init g c w low = at_work_begins (worker_at c.args.workers.now w)
 
 pub go_on_all-requires-after_bounds : goal.go_on_all-requires-after_bounds
 go_on_all-requires-after_bounds g c κs h k d low =
-    let old = c.args.crews.now in
-    let now = c.loop-sweep.crews in
-    let low' : k < length old = omega (arith, low, c.loop-sweep.auto.crews) in
-    subst (MayGoOn c.args.live.now) (sym (get_or_default now k d no_crew low)) (
-    may_go_on c.args.live.now (crew_at old k) (crew_at now k) c.loop-sweep._sweep (omega (arith, c.loop-sweep-test.true)) (c.requires k no_crew low') (c.loop-sweep.invariant k low'))
+    let old = c.args.workers.now in
+    let now = c.loop-sweep.workers in
+    let low' : k < length old = omega (arith, low, c.loop-sweep.auto.workers) in
+    subst (MayGoOn c.args.live.now) (sym (get_or_default now k d no_worker low)) (
+    may_go_on c.args.live.now (worker_at old k) (worker_at now k) c.loop-sweep._sweep (omega (arith, c.loop-sweep-test.true)) (c.requires k no_worker low') (c.loop-sweep.invariant k low'))
 
 pub loop-sweep-preserved : goal.loop-sweep-preserved
 loop-sweep-preserved g c w low =
-    c.go_on_all.ensures w (omega (arith, low, c.loop-sweep.auto.crews)) (crew_at c.args.crews.now w) c.loop-sweep._sweep (omega (arith, c.loop-sweep-test.true)) (c.loop-sweep.invariant w low)
+    c.go_on_all.ensures w (omega (arith, low, c.loop-sweep.auto.workers)) (worker_at c.args.workers.now w) c.loop-sweep._sweep (omega (arith, c.loop-sweep-test.true)) (c.loop-sweep.invariant w low)
 
 pub returns : goal.returns
 returns g c w low =
-    let old = crew_at c.args.crews.now w in
-    let new = crew_at c.loop-sweep.crews w in
+    let old = worker_at c.args.workers.now w in
+    let new = worker_at c.loop-sweep.workers w in
     let full : c.loop-sweep._sweep ≡ 16 = omega (arith, c.loop-sweep-test.false, c.loop-sweep.auto._sweep-end) in
     at_work_in_full old new (subst (IsAtWork old new) full (c.loop-sweep.invariant w low))

@@ -5,4 +5,4 @@ pub returns-then-has : goal.returns-then-has
 returns-then-has c = rw (← c.has.ensures, c.if-has.true, c.in_ok-dates.ensures) refl
 
 pub returns : goal.returns
-returns c = rw (← c.has.ensures, c.if-has.false, c.in_ok-file_at.ensures) refl
+returns c = rw (← c.has.ensures, c.if-has.false, c.in_ok-name.ensures, c.column_at.ensures) refl

@@ -1,6 +1,6 @@
 use Rattle.std.proofs.Common.{refl}
 use Rattle.plant_draft.specs.Reading.{stage_of, loop_of}
-use Rattle.plant_tree.proofs.ValueLists.{map_views}
+use Rattle.plant_keys.proofs.ValueLists.{map_views}
 use Rattle.plant_draft.proofs.build.draft_of.Goals as goal
 
 pub returns : goal.returns

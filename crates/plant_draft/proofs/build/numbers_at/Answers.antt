@@ -1,5 +1,5 @@
-use Rattle.plant_tree.specs.Readers.{number_of}
-use Rattle.plant_tree.proofs.ValueLists.{map_views}
+use Rattle.plant_keys.specs.Readers.{number_of}
+use Rattle.plant_keys.proofs.ValueLists.{map_views}
 use Rattle.plant_draft.proofs.build.numbers_at.Goals as goal
 
 pub returns-in-Some : goal.returns-in-Some

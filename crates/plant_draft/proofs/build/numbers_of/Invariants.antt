@@ -1,6 +1,6 @@
 use Rattle.std.proofs.Common.{◌≡◌, map, take}
 use Rattle.toml.specs.View.{view}
-use Rattle.plant_tree.specs.Readers.{number_of}
+use Rattle.plant_keys.specs.Readers.{number_of}
 use Rattle.plant_draft.proofs.build.numbers_of.Given as goal
 
 abbrev pub invariant-loop-value : goal.invariant-loop-value

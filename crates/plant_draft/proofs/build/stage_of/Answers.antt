@@ -1,6 +1,6 @@
 use Rattle.std.proofs.Common.{refl}
 use Rattle.plant_draft.specs.Reading.{machine_of}
-use Rattle.plant_tree.proofs.ValueLists.{map_views}
+use Rattle.plant_keys.proofs.ValueLists.{map_views}
 use Rattle.plant_draft.proofs.build.stage_of.Goals as goal
 
 pub returns : goal.returns

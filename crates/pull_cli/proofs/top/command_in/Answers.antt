@@ -1,8 +1,8 @@
 use Rattle.std.proofs.Common.{refl, ap}
 use Rattle.std.specs.Prelude.{Err}
-use Rattle.command_words.specs.Options.{texts}
-use Rattle.command_words.specs.Words.{command_of}
-use Rattle.pull_cli.proofs.Ending.{memory_comes, memory_is_no_usage}
+use Rattle.command_line.specs.Options.{texts}
+use Rattle.command_line.specs.Words.{command_of}
+use Rattle.pull_cli.proofs.Ending.{memory_answers, memory_is_no_usage}
 use Rattle.pull_cli.proofs.top.command_in.Goals as goal
 
 pub returns-in-Err-Usage-clause-none : goal.returns-in-Err-Usage-clause-none
@@ -10,5 +10,5 @@ returns-in-Err-Usage-clause-none c = rw (c.in-Err-Usage.ensures.usage.0 (ap Err 
 
 pub returns-in-Err-NoMemory-clause-none : goal.returns-in-Err-NoMemory-clause-none
 returns-in-Err-NoMemory-clause-none c =
-    memory_comes (command_of (texts c.args.words.now))
+    memory_answers (command_of (texts c.args.words.now))
     (λ none. memory_is_no_usage c.in-Err-NoMemory.field-0 (Err c.in-Err-NoMemory.field-0) c.in-Err-NoMemory.field-0-is refl (c.in-Err-NoMemory.ensures.usage.1 none))

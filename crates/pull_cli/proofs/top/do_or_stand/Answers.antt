@@ -1,5 +1,5 @@
 use Rattle.std.proofs.Common.{refl}
-use Rattle.pull_steps.specs.Deeds.{DiskOver, disk_over}
+use Rattle.live_plant.specs.Actions.{DiskOver, disk_over}
 use Rattle.pull_cli.proofs.top.do_or_stand.Goals as goal
 
 pub returns-in-RunStand : goal.returns-in-RunStand

@@ -1,5 +1,5 @@
 use Rattle.std.proofs.Common.{◌∙◌, ap}
-use Rattle.line_disk.specs.DiskView.{Held, held_now}
+use Rattle.line_disk.specs.DiskView.{Held}
 use Rattle.slot_store.specs.Crash.{bytes_now}
 use Rattle.slot_store.specs.Layout.{start_of, header_at}
 use Rattle.slot_store.specs.declared.header.Slot.TheVariants.{One}

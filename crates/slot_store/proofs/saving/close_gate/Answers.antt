@@ -25,3 +25,6 @@ returns-clause-ready g c = on_ok c.write_gate.result c.write_gate.ensures.stands
 
 pub returns-clause-closed : goal.returns-clause-closed
 returns-clause-closed g c = on_ok c.write_gate.result c.write_gate.ensures.gate (λ gate told. shut _ (gate told))
+
+pub returns-clause-closed_by_zero : goal.returns-clause-closed_by_zero
+returns-clause-closed_by_zero g c = on_ok c.write_gate.result c.write_gate.ensures.gate (λ gate was_open told. gate told)

@@ -2,4 +2,4 @@ use Rattle.std.proofs.Common.{vec_len}
 use Rattle.standing_line.proofs.apart.+sweep_all.Given as goal
 
 abbrev pub decreases-sweep_all : goal.decreases-sweep_all
-decreases-sweep_all g l = vec_len l.crews
+decreases-sweep_all g l = vec_len l.workers

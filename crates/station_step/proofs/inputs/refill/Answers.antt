@@ -4,7 +4,7 @@ use Rattle.std.specs.List.{range_with_len}
 use Rattle.event_graph.specs.Firing.{greatest}
 use Rattle.station_step.specs.declared.input.Input.{Input}
 use Rattle.station_step.specs.declared.noted.NotedInput.{NotedInput}
-use Rattle.token_shelf.specs.Shelf.{queue_at}
+use Rattle.local_queues.specs.Shelf.{queue_at}
 use Rattle.station_step.specs.Ends.{inlet_queue}
 use Rattle.station_step.specs.Input.{input_at, IsRefilled}
 use Rattle.station_step.specs.Kept.{saturating}
@@ -20,7 +20,9 @@ pub loop-k-init : goal.loop-k-init
 loop-k-init c =
     let inputs = inputs_of c.args.inputs.now.items in record {
       extras = refl;
-      refilled = refilled_none c.args.shelf.now inputs;
+      logs = refl;
+      sources = refl;
+      refilled = refilled_none c.args.shelf.now.queues inputs;
       found = first-none inputs;
       date = latest-none (hand_asks (extras_of c.args.inputs.now.items) inputs);
     }
@@ -36,7 +38,7 @@ refill-requires c =
     let at : c.index_mut-noted.result.now.input ≡ input_at (inputs_of items) k =
     ap (λ (n : NotedInput). n.input) (input-lent items k c.index_mut-noted.result.now (omega (arith, low, all, was.refilled.count)) c.index_mut-noted.ensures.value)
     ∙ sym (input-at items k) in
-    subst (λ (i : Input). IfSome (inlet_queue i.inlet) (λ q. q < length c.loop-k.shelf)) (sym (at ∙ was.refilled.rest k (omega arith)))
+    subst (λ (i : Input). IfSome (inlet_queue i.inlet) (λ q. q < length c.loop-k.shelf.queues)) (sym (at ∙ was.refilled.rest k (omega arith)))
     (subst (λ (n : ℕ). IfSome (inlet_queue (input_at before k).inlet) (λ q. q < n)) (sym was.refilled.only_takes.count) (c.requires.within k low))
 
 pub loop-k-preserved : goal.loop-k-preserved
@@ -47,8 +49,8 @@ loop-k-preserved c =
     let extras = extras_of items in
     let k = c.loop-k.k in
     let was = c.loop-k.invariant in
-    let mid = c.loop-k.shelf in
-    let new = c.refill.new.shelf in
+    let mid = c.loop-k.shelf.queues in
+    let new = c.refill.new.shelf.queues in
     let input : Input = c.refill.new.self in
     let lent_now = c.index_mut-noted.result.now in
     let noted : NotedInput = record { input = input; extra = lent_now.extra } in
@@ -64,9 +66,11 @@ loop-k-preserved c =
     ∙ ap (saturating (unwrap_or input.hand 0)) (extra ∙ sym (extra-at items k)) in
     record {
       extras = stay ∙ was.extras;
+      logs = c.refill.ensures.logs ∙ was.logs;
+      sources = c.refill.ensures.sources ∙ was.sources;
       refilled =
-          subst (RefilledUpTo (k + 1) c.args.shelf.now new before) changed
-          (refilled_more k c.args.shelf.now mid new before inputs input c.requires.apart low was.refilled
+          subst (RefilledUpTo (k + 1) c.args.shelf.now.queues new before) changed
+          (refilled_more k c.args.shelf.now.queues mid new before inputs input c.requires.apart low was.refilled
           (subst (λ (i : Input). IsRefilled mid new i input) at c.refill.ensures.refilled)
           c.refill.ensures.only_takes
           (subst (λ (i : Input). (q : ℕ) → inlet_queue i.inlet ≢ Some q → queue_at new q ≡ queue_at mid q) at c.refill.ensures.others));

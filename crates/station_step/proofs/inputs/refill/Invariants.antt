@@ -9,7 +9,9 @@ use Rattle.station_step.proofs.inputs.refill.Given as goal
 abbrev pub invariant-loop-k : goal.invariant-loop-k
 invariant-loop-k l = record {
   extras : extras_of l.inputs.items ≡ extras_of l.initial.inputs.items;
-  refilled : RefilledUpTo l.k l.initial.shelf l.shelf (inputs_of l.initial.inputs.items) (inputs_of l.inputs.items);
+  logs : l.shelf.logs ≡ l.initial.shelf.logs;
+  sources : l.shelf.sources ≡ l.initial.shelf.sources;
+  refilled : RefilledUpTo l.k l.initial.shelf.queues l.shelf.queues (inputs_of l.initial.inputs.items) (inputs_of l.inputs.items);
   found : IsFirstEmpty l.k l.first (inputs_of l.inputs.items);
   date : l.latest ≡ greatest (hand_asks (extras_of l.inputs.items) (inputs_of l.inputs.items)) (range_with_len 0 l.k);
 }

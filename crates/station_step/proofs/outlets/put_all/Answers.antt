@@ -1,73 +1,28 @@
-use Rattle.std.proofs.Common.{◌≡◌, ◌≢◌, ◌<◌, ◌+◌, ◌++◌, ◌∷◌, [], ℕ, List, sym, subst, ap, ◌∙◌, arith, length, get_or, slice_index, refl}
-use Rattle.std.specs.Prelude.{Some}
-use Rattle.station_step.specs.declared.ends.Outlet.{Outlet}
-use Rattle.station_step.specs.declared.noted.NotedOutlet.{NotedOutlet}
-use Rattle.token_shelf.specs.Shelf.{queue_at}
-use Rattle.station_step.specs.Ends.{outlet_queue, outlet_added, bare_outlet, HasShelfRoom, HasSpace}
-use Rattle.station_step.specs.Station.{outlet_at}
-use Rattle.station_step.specs.Kept.{saturating}
 use Rattle.station_step.specs.Noted.{outlets_of, delays_of}
-use Rattle.station_step.proofs.Filling.{FilledUpTo, filled_none, filled_more, unfilled-room}
-use Rattle.station_step.proofs.Noting.{no_outlet, outlet-lent, outlet-at, delay-at, outlets-count, outlets-set, delays-stay}
+use Rattle.station_step.proofs.Filling.{AddedTo, only-puts, grows, each-got, none-puts, room-there}
 use Rattle.station_step.proofs.outlets.put_all.Goals as goal
-use Rattle.station_step.proofs.outlets.put_all.Goals.{After-index_mut-noted}
+use Rattle.station_step.proofs.outlets.put_all.Goals.{After-add}
 
-pub loop-k-init : goal.loop-k-init
-loop-k-init c = record {
-  delays = refl;
-  filled = filled_none (λ k. saturating c.args.date (slice_index (delays_of c.args.outlets.now.items) k)) c.args.shelf.now (outlets_of c.args.outlets.now.items);
-}
+-- what came of the date on the shelf
+added : (c : After-add) → AddedTo c.args.i c.args.date c.args.shelf.now.sources c.args.shelf.now.queues c.add.new.self.queues
+added c = let e = c.add.ensures in record { count = e.count; added = e.added; others = e.others; taken = e.taken }
 
--- the outlet that is lent
-lent_outlet : (items : List NotedOutlet) (k : ℕ) (noted : NotedOutlet) → k < length items → noted ≡ get_or items k noted → noted.outlet ≡ outlet_at (outlets_of items) k
-lent_outlet items k noted low is = ap (λ (n : NotedOutlet). n.outlet) (outlet-lent items k noted low is) ∙ sym (outlet-at items k)
+pub returns-clause-each : goal.returns-clause-each
+returns-clause-each c k low =
+    each-got c.args.i c.args.date (delays_of c.args.outlets.now.items) c.args.shelf.now c.add.new.self (outlets_of c.args.outlets.now.items) (outlets_of c.put_rings.new.outlets.items) (added (goal.at.returns-clause-each c).After-add) c.requires.come c.requires.within k low (c.put_rings.ensures.each k low)
 
--- the outlet whose turn it is is there
-there : (c : After-index_mut-noted) → c.loop-k.k < length (outlets_of c.args.outlets.now.items)
-there c = omega (arith, c.len-k-end.ensures, c.loop-k-test.true, outlets-count c.args.outlets.now.items, c.args.outlets.now.ok.0)
+pub returns-clause-only_puts : goal.returns-clause-only_puts
+returns-clause-only_puts c =
+    only-puts c.args.i c.args.date c.args.shelf.now.sources c.args.shelf.now.queues c.add.new.self.queues (added (goal.at.returns-clause-only_puts c).After-add)
 
-below : (c : After-index_mut-noted) → c.loop-k.k < length c.loop-k.outlets.items
-below c = omega (arith, there c, c.loop-k.invariant.filled.count, outlets-count c.loop-k.outlets.items)
+pub returns-clause-grows : goal.returns-clause-grows
+returns-clause-grows c =
+    grows c.args.i c.args.date c.args.shelf.now.sources c.args.shelf.now.queues c.add.new.self.queues (added (goal.at.returns-clause-grows c).After-add)
 
-at : (c : After-index_mut-noted) → c.index_mut-noted.result.now.outlet ≡ outlet_at (outlets_of c.loop-k.outlets.items) c.loop-k.k
-at c = lent_outlet c.loop-k.outlets.items c.loop-k.k c.index_mut-noted.result.now (below c) c.index_mut-noted.ensures.value
+pub returns-clause-others : goal.returns-clause-others
+returns-clause-others c q none =
+    none-puts c.args.i c.args.date (delays_of c.args.outlets.now.items) c.args.shelf.now c.add.new.self (outlets_of c.args.outlets.now.items) (added (goal.at.returns-clause-others c).After-add) c.requires.come q none
 
-pub put-requires-clause-shelf_room : goal.put-requires-clause-shelf_room
-put-requires-clause-shelf_room c =
-    let from = (goal.at.put-requires-clause-shelf_room c).After-index_mut-noted in
-    let before = outlets_of c.args.outlets.now.items in
-    let k = c.loop-k.k in
-    subst (HasShelfRoom c.loop-k.shelf) (sym (at from))
-    (unfilled-room k _ c.args.shelf.now c.loop-k.shelf before (outlets_of c.loop-k.outlets.items) c.requires.apart (there from) c.loop-k.invariant.filled (c.requires.shelf_room k (there from)))
-
-pub put-requires-clause-space : goal.put-requires-clause-space
-put-requires-clause-space c =
-    let from = (goal.at.put-requires-clause-space c).After-index_mut-noted in
-    subst HasSpace (sym (at from ∙ c.loop-k.invariant.filled.rest c.loop-k.k (omega arith))) (c.requires.space c.loop-k.k (there from))
-
--- its delay is the one that is noted beside it
-delay_at : (c : After-index_mut-noted) → c.index_mut-noted.result.now.delay ≡ (get_or c.loop-k.outlets.items c.loop-k.k no_outlet).delay
-delay_at c = ap (λ (n : NotedOutlet). n.delay) (outlet-lent c.loop-k.outlets.items c.loop-k.k c.index_mut-noted.result.now (below c) c.index_mut-noted.ensures.value)
-
-pub loop-k-preserved : goal.loop-k-preserved
-loop-k-preserved c =
-    let from = (goal.at.loop-k-preserved c).After-index_mut-noted in
-    let k = c.loop-k.k in
-    let was = c.loop-k.invariant in
-    let items = c.loop-k.outlets.items in
-    let delay = delay_at from in
-    let noted : NotedOutlet = record { outlet = c.put.new.self; delay = c.index_mut-noted.result.now.delay } in
-    let tokens = λ (j : ℕ). saturating c.args.date (slice_index (delays_of c.args.outlets.now.items) j) in
-    let later : c.saturating_add-later.result ≡ tokens k =
-    c.saturating_add-later.ensures
-    ∙ ap (saturating c.args.date) (delay ∙ sym (delay-at items k) ∙ ap (λ (l : List ℕ). slice_index l k) was.delays) in
-    record {
-      delays = delays-stay items k noted delay ∙ was.delays;
-      filled =
-          subst (FilledUpTo (k + 1) tokens c.args.shelf.now c.put.new.shelf (outlets_of c.args.outlets.now.items)) (sym (outlets-set items k noted))
-          (filled_more k tokens c.args.shelf.now c.loop-k.shelf c.put.new.shelf (outlets_of c.args.outlets.now.items) (outlets_of items) c.put.new.self c.requires.apart (omega (arith, there from, was.filled.count)) was.filled
-          (c.put.ensures.same ∙ ap bare_outlet (at from))
-          (c.put.ensures.added ∙ ap (λ n. outlet_added c.loop-k.shelf c.index_mut-noted.result.now.outlet ++ n ∷ []) later ∙ ap (λ (p : Outlet). outlet_added c.loop-k.shelf p ++ tokens k ∷ []) (at from))
-          c.put.ensures.only_puts
-          (subst (λ (p : Outlet). (q : ℕ) → outlet_queue p ≢ Some q → queue_at c.put.new.shelf q ≡ queue_at c.loop-k.shelf q) (at from) c.put.ensures.others));
-    }
+pub add-requires-clause-room : goal.add-requires-clause-room
+add-requires-clause-room c q low e =
+    room-there c.args.i (delays_of c.args.outlets.now.items) c.args.shelf.now (outlets_of c.args.outlets.now.items) c.requires.come c.requires.shelf_room q low e

@@ -116,7 +116,7 @@ pub invariant_of-from : goal.invariant_of-from
 invariant_of-from c =
     let s = c.from.inside in record {
       station = from_stands c;
-      noted = noted-same s.graph.value s.number s.inputs.items s.inputs.items s.outlets.items (met_outlets c) s.fixed s.worked.items s.bounded
+      noted = noted-same s.graph.value s.number s.inputs.items s.inputs.items s.outlets.items (met_outlets c) s.fixed s.worked.items s.bounded s.rings
           (λ is. refl)
           (delays-stay s.outlets.items c.args.k _ (ap (λ (n : NotedOutlet). n.delay) (outlet_lent c)))
           (ap (map bare_outlet) (met_outlets_are c) ∙ bare-set (outlets c) c.args.k c.meet_ends.new.outlet (same_but_seen c))
@@ -127,7 +127,7 @@ pub invariant_of-to : goal.invariant_of-to
 invariant_of-to c =
     let s = c.to.inside in record {
       station = to_stands c;
-      noted = noted-same s.graph.value s.number s.inputs.items (met_inputs c) s.outlets.items s.outlets.items s.fixed s.worked.items s.bounded
+      noted = noted-same s.graph.value s.number s.inputs.items (met_inputs c) s.outlets.items s.outlets.items s.fixed s.worked.items s.bounded s.rings
           (λ is. extras-stay s.inputs.items c.args.j _ (ap (λ (n : NotedInput). n.extra) (lent c)))
           refl
           refl

@@ -1,4 +1,4 @@
-use Rattle.token_shelf.proofs.Crossing.{shelf_send}
+use Rattle.local_queues.proofs.Crossing.{shelf_send}
 use Rattle.station_step.proofs.Crossing.{station_send}
 use Rattle.station_step.proofs.threads.stations_may_move_to_another_thread.Goals as goal
 

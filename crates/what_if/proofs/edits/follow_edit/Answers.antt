@@ -4,7 +4,7 @@ use Rattle.live_check.specs.Order.{LiveGraph}
 use Rattle.what_if.specs.Page.{Page, slot, mark_count}
 use Rattle.what_if.specs.Edits.{IsEdit}
 use Rattle.what_if.proofs.Readers.{count_of-set}
-use Rattle.what_if.proofs.Reading.{time_edit-station}
+use Rattle.what_if.proofs.WordsOfEdits.{time_edit-station}
 use Rattle.what_if.proofs.edits.follow_edit.Goals as goal
 
 pub set_time-requires-clause-not_the_feed : goal.set_time-requires-clause-not_the_feed

@@ -6,7 +6,7 @@ use Rattle.event_graph.specs.Network.{stations}
 use Rattle.line_core.specs.Schedule.{is_label_of}
 use Rattle.line_core.proofs.Searches.{find-past}
 use Rattle.what_if.specs.Edits.{is_machine, is_machine_with}
-use Rattle.what_if.proofs.Reading.{and-true, and-first, and-second, find-from_one_here, find-from_one_later}
+use Rattle.what_if.proofs.WordsOfEdits.{and-true, and-first, and-second, find-from_one_here, find-from_one_later}
 use Rattle.what_if.proofs.reader.machine_with.Goals as goal
 use Rattle.what_if.proofs.reader.machine_with.Goals.{else-eq-via-then-eq+else-is_machine, else-eq-via-else-eq}
 

@@ -3,7 +3,7 @@ use Rattle.std.specs.Prelude.{Some, decimal}
 use Rattle.what_if.specs.declared.edit.Edit.{Edit}
 use Rattle.what_if.specs.declared.edit.Edit.TheVariants.{Demand}
 use Rattle.what_if.specs.Edits.{HasNoSpace}
-use Rattle.what_if.proofs.Reading.{has_space, demand-writes, demand-parts, nothing-is, some-is}
+use Rattle.what_if.proofs.WordsOfEdits.{has_space, demand-writes, demand-parts, nothing-is, some-is}
 use Rattle.what_if.proofs.reader.read_demand.Goals as goal
 
 pub returns-in_err-job-clause-told : goal.returns-in_err-job-clause-told

@@ -2,7 +2,7 @@ use Rattle.std.proofs.Common.{◌≢◌, sym, ap, ◌∙◌, eqb}
 use Rattle.std.specs.Prelude.{codes}
 use Rattle.std.proofs.lemmas.Bool.{true≢false}
 use lib.Pointwise.{pointwise}
-use Rattle.what_if.proofs.Reading.{one_word-no_edit, other-no_edit}
+use Rattle.what_if.proofs.WordsOfEdits.{one_word-no_edit, other-no_edit}
 use Rattle.what_if.proofs.reader.read_edit.Goals as goal
 
 pub returns-in_err-word-clause-told : goal.returns-in_err-word-clause-told

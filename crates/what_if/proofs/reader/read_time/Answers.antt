@@ -4,7 +4,7 @@ use Rattle.event_graph.specs.Network.{label}
 use Rattle.what_if.specs.declared.edit.Edit.{Edit}
 use Rattle.what_if.specs.declared.edit.Edit.TheVariants.{Time}
 use Rattle.what_if.specs.Edits.{spaced, machine_with, HasNoSpace}
-use Rattle.what_if.proofs.Reading.{has_space, time-writes, time-split, time-parts, none-some, nothing-is, some-is}
+use Rattle.what_if.proofs.WordsOfEdits.{has_space, time-writes, time-split, time-parts, none-some, nothing-is, some-is}
 use Rattle.what_if.proofs.reader.read_time.Goals as goal
 
 pub returns-in_err-label-clause-told : goal.returns-in_err-label-clause-told

@@ -11,4 +11,4 @@ returns-clause-slot c =
     let t = c.station_at.result in
     let width = c.stations-stations.ensures.count ∙ ap stations c.graph.ensures.graph in
     ap (λ w. slot l t (at / w + 1)) width
-    ∙ slot-of_number l t at (c.station_at.ensures.place ∙ ap (λ w. at % w) width)
+    ∙ slot-of_number l t at (c.station_at.ensures.rank ∙ ap (λ w. at % w) width)

@@ -8,4 +8,4 @@ unfolding slot
 returns-clause-slot c =
     c.slot_at.ensures
     ∙ ap (λ w. (c.args.n - 1) * w + c.place_of.result) (c.stations.ensures.count ∙ ap stations c.graph.ensures.graph)
-    ∙ ap (λ p. (c.args.n - 1) * stations c.args.live.now.graph + p) c.place_of.ensures.place
+    ∙ ap (λ p. (c.args.n - 1) * stations c.args.live.now.graph + p) c.place_of.ensures.rank

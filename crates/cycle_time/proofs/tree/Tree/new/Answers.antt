@@ -1,7 +1,7 @@
 use Rattle.std.proofs.Common.{◌≡◌, ℕ, ap, ◌∙◌, sym, length, replicate, subst, List}
 use Rattle.event_graph.specs.Network.{stations, arc_count}
 use Rattle.cycle_time.specs.Search.{IsGrown}
-use Rattle.cycle_time.proofs.Growing.{grown_none}
+use Rattle.cycle_time.proofs.GreaterPotentials.{grown_none}
 use Rattle.cycle_time.proofs.tree.Tree.new.Goals as goal
 
 pub returns-clause-grown : goal.returns-clause-grown

@@ -19,13 +19,13 @@ same_graph c = c.graph-graph.ensures.graph ∙ c.requires.made_for ∙ sym (ap (
 there : (c : After-count_at-taken) → c.args.a < arc_count c.self.inside.graph.value
 there c = omega (arith, ap (λ (r : Run). arc_count r.graph) c.self.view_is, c.requires.arc)
 
-arc_is : (c : After-count_at-taken) → c.arc_at-arc.result ≡ arc c.self.inside.graph.value c.args.a
-arc_is c = c.arc_at-arc.ensures ∙ ap (λ (h : Parts). arc h c.args.a) (same_graph c)
+arc_is : (c : After-count_at-taken) → c.arc-arc.result ≡ arc c.self.inside.graph.value c.args.a
+arc_is c = c.arc-arc.ensures.arc ∙ ap (λ (h : Parts). arc h c.args.a) (same_graph c)
 
 dates_are : (c : After-dates-dates) → c.dates-dates.result.now ≡ get_or (dates_of c.self.inside.logs) (arc c.self.inside.graph.value c.args.a).from []
 dates_are c =
     let g = c.self.inside.graph.value in
-    let is = c.arc_at-arc.ensures ∙ ap (λ (h : Parts). arc h c.args.a) (c.graph-graph.ensures.graph ∙ c.requires.made_for ∙ sym (ap (λ (r : Run). r.graph) c.self.view_is)) in
+    let is = c.arc-arc.ensures.arc ∙ ap (λ (h : Parts). arc h c.args.a) (c.graph-graph.ensures.graph ∙ c.requires.made_for ∙ sym (ap (λ (r : Run). r.graph) c.self.view_is)) in
     dates_read g c.self.inside.logs c.args.a _ _ _ c.dates-dates.ensures c.get.ensures is
 
 pub get-requires : goal.get-requires
@@ -42,7 +42,7 @@ left-requires-clause-few c =
     let a = c.args.a in
     let is = arc_is before in
     let made = λ (t : ℕ). ap (λ l. length (get_or l t [])) (logs-state_of g (dates_of logs)) in
-    let taken = c.count_at-taken.ensures.count ∙ ap (λ (h : Parts). length (log (state_in h logs) c.arc_at-arc.result.to)) (same_graph before) ∙ ap (λ (x : Arc). length (log (state_in g logs) x.to)) is in
+    let taken = c.count_at-taken.ensures.count ∙ ap (λ (h : Parts). length (log (state_in h logs) c.arc-arc.result.to)) (same_graph before) ∙ ap (λ (x : Arc). length (log (state_in g logs) x.to)) is in
     omega (arith, taken, ap length (dates_are (goal.at.left-requires-clause-few c).After-dates-dates), made (arc g a).from, ap (λ (x : Arc). x.tokens) is, length-place g logs c.self.invariant a (there before))
 
 pub left-requires-clause-within : goal.left-requires-clause-within
@@ -62,9 +62,9 @@ returns-clause-tokens c =
     let logs = c.self.inside.logs in
     let a = c.args.a in
     let is = arc_is before in
-    let taken = c.count_at-taken.ensures.count ∙ ap (λ l. length (get_or l c.arc_at-arc.result.to [])) (logs-state_of c.graph-graph.result.now (dates_of logs)) ∙ ap (λ (x : Arc). length (get_or (dates_of logs) x.to [])) is in
+    let taken = c.count_at-taken.ensures.count ∙ ap (λ l. length (get_or l c.arc-arc.result.to [])) (logs-state_of c.graph-graph.result.now (dates_of logs)) ∙ ap (λ (x : Arc). length (get_or (dates_of logs) x.to [])) is in
     c.left.ensures
-    ∙ ap (λ n. drop n (tokens_of c.arc_at-arc.result.tokens c.dates-dates.result.now c.delay.result)) taken
+    ∙ ap (λ n. drop n (tokens_of c.arc-arc.result.tokens c.dates-dates.result.now c.delay.result)) taken
     ∙ ap (λ n. drop (length (get_or (dates_of logs) (arc g a).to [])) (tokens_of n c.dates-dates.result.now c.delay.result)) (ap (λ (x : Arc). x.tokens) is)
     ∙ ap (λ l. drop (length (get_or (dates_of logs) (arc g a).to [])) (tokens_of (arc g a).tokens l c.delay.result)) (dates_are (goal.at.returns-clause-tokens c).After-dates-dates)
     ∙ ap (λ n. drop (length (get_or (dates_of logs) (arc g a).to [])) (tokens_of (arc g a).tokens (get_or (dates_of logs) (arc g a).from []) n)) (c.delay.ensures.delay ∙ ap (λ (h : Parts). delay h a) (same_graph before))

@@ -2,5 +2,5 @@ use borrow.Author.Rules.{rules, lives}
 use Rattle.line_io.proofs.calls.Calls.note_write.Goals as goal
 
 -- what is told lives as long as the call
-pub told-self-requires : goal.told-self-requires
-told-self-requires c κs within = search (rules, lives, within) depth 24 fits 20000
+pub of-self-requires : goal.of-self-requires
+of-self-requires c κs within = search (rules, lives, within) depth 24 fits 20000

@@ -4,4 +4,4 @@ use Rattle.line_workers.proofs.Lines.{at_rest_is_line}
 use Rattle.line_workers.proofs.line.Line.fired.Goals as goal
 
 pub returns-clause-line : goal.returns-clause-line
-returns-clause-line c = subst IsLine c.self.view_is (at_rest_is_line c.self.inside.crews.items c.self.inside.made c.self.invariant)
+returns-clause-line c = subst IsLine c.self.view_is (at_rest_is_line c.self.inside.workers.items c.self.inside.made c.self.invariant)

@@ -4,20 +4,20 @@ use Rattle.event_graph.specs.Reached.{Reached}
 use Rattle.line_workers.proofs.Lines.{at_rest_is_line, new_at_rest, new_stands}
 use Rattle.line_workers.proofs.line.Line.of.Goals as goal
 
-pub crews_of-requires-clause-may_begin : goal.crews_of-requires-clause-may_begin
-crews_of-requires-clause-may_begin c =
+pub workers_of-requires-clause-may_begin : goal.workers_of-requires-clause-may_begin
+workers_of-requires-clause-may_begin c =
     let asked = c.requires in
     record { made_for = asked.made_for; some = asked.some; few = asked.few; fits = asked.fits }
 
 pub invariant_of-result : goal.invariant_of-result
 invariant_of-result c =
     let reached = subst (λ (g : Parts). Reached g c.args.state.now.state) (sym c.requires.made_for) c.fired-made.ensures.reached.reached in
-    new_at_rest c.args.live.now c.args.state.now.state c.args.workers c.args.room c.in_ok-crews.crews.items c.fired-made.result c.in_ok-crews.ensures reached c.requires.few c.fired-made.ensures.fired
+    new_at_rest c.args.live.now c.args.state.now.state c.args.worker_count c.args.room c.in_ok-workers.workers.items c.fired-made.result c.in_ok-workers.ensures reached c.requires.few c.fired-made.ensures.fired
 
 pub returns-clause-stands : goal.returns-clause-stands
 returns-clause-stands c =
     let reached = subst (λ (g : Parts). Reached g c.args.state.now.state) (sym c.requires.made_for) c.fired-made.ensures.reached.reached in
-    new_stands c.args.live.now c.args.state.now.state c.args.workers c.args.room c.in_ok-crews.crews.items c.fired-made.result c.in_ok-crews.ensures reached c.requires.few c.fired-made.ensures.fired
+    new_stands c.args.live.now c.args.state.now.state c.args.worker_count c.args.room c.in_ok-workers.workers.items c.fired-made.result c.in_ok-workers.ensures reached c.requires.few c.fired-made.ensures.fired
 
 pub returns-clause-line : goal.returns-clause-line
-returns-clause-line c = at_rest_is_line c.in_ok-crews.crews.items c.fired-made.result (invariant_of-result c)
+returns-clause-line c = at_rest_is_line c.in_ok-workers.workers.items c.fired-made.result (invariant_of-result c)

@@ -1,4 +1,4 @@
-use Rattle.crew_laying.proofs.StateRoom.{start_fits}
+use Rattle.line_setup.proofs.StateRoom.{start_fits}
 use Rattle.line_workers.proofs.line.Line.prepare_room.Goals as goal
 
 pub of-line-requires-clause-fits : goal.of-line-requires-clause-fits

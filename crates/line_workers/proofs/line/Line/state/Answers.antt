@@ -1,9 +1,9 @@
 use Rattle.std.proofs.Common.{List, ap, ◌∙◌, subst}
 use Rattle.event_graph.specs.Network.{jobs}
-use Rattle.worker_crew.specs.Crew.{WorkCrew, teams_of}
-use Rattle.worker_crew.specs.Crews.{graph_of}
+use Rattle.line_worker.specs.Worker.{LineWorker, teams_of}
+use Rattle.line_worker.specs.Workers.{graph_of}
 use Rattle.line_workers.specs.Line.{IsLine}
-use Rattle.worker_crew.specs.Logs.{copy_of}
+use Rattle.line_worker.specs.Logs.{copy_of}
 use Rattle.line_workers.specs.Close.{copies_among}
 use Rattle.line_workers.proofs.Lines.{at_rest_is_line}
 use Rattle.line_workers.proofs.LogsGiven.{Closes, closes, copies_keep}
@@ -13,9 +13,9 @@ use Rattle.line_workers.proofs.line.Line.state.Goals.{In_ok-logs}
 -- what the copies come to
 copied : (c : In_ok-logs) → Closes c.args.live.now c.args.self.now c.in_ok-logs.logs
 copied c =
-    let crews = c.self.inside.crews.items in
-    closes (copy_of (jobs (graph_of crews))) crews c.self.inside.made c.args.self.now c.self.view_is c.self.invariant (copies_keep crews) c.args.live.now c.requires.made_for c.in_ok-logs.logs (
-    c.in_ok-logs.ensures ∙ ap (λ (l : List WorkCrew). copies_among (graph_of l) (teams_of l)) c.deref.ensures.value)
+    let workers = c.self.inside.workers.items in
+    closes (copy_of (jobs (graph_of workers))) workers c.self.inside.made c.args.self.now c.self.view_is c.self.invariant (copies_keep workers) c.args.live.now c.requires.made_for c.in_ok-logs.logs (
+    c.in_ok-logs.ensures ∙ ap (λ (l : List LineWorker). copies_among (graph_of l) (teams_of l)) c.deref.ensures.value)
 
 pub of_reached-requires-clause-reached : goal.of_reached-requires-clause-reached
 of_reached-requires-clause-reached c = (copied c).reached
@@ -27,7 +27,7 @@ pub returns-clause-state : goal.returns-clause-state
 returns-clause-state c = c.of_reached.ensures.state ∙ (copied (goal.at.returns-clause-state c).In_ok-logs).state
 
 pub returns-clause-line : goal.returns-clause-line
-returns-clause-line c = subst IsLine c.self.view_is (at_rest_is_line c.self.inside.crews.items c.self.inside.made c.self.invariant)
+returns-clause-line c = subst IsLine c.self.view_is (at_rest_is_line c.self.inside.workers.items c.self.inside.made c.self.invariant)
 
 pub returns-in_err-logs-clause-line : goal.returns-in_err-logs-clause-line
-returns-in_err-logs-clause-line c = subst IsLine c.self.view_is (at_rest_is_line c.self.inside.crews.items c.self.inside.made c.self.invariant)
+returns-in_err-logs-clause-line c = subst IsLine c.self.view_is (at_rest_is_line c.self.inside.workers.items c.self.inside.made c.self.invariant)

@@ -2,11 +2,12 @@ use Rattle.std.proofs.Common.{◌≡◌, subst, sym, ap, ◌∙◌, length, List
 use Rattle.std.specs.Prelude.{Bool, true, false, IsTrue, not}
 use Rattle.std.specs.List.{list_any}
 use Rattle.line_base.specs.declared.event.Parts.{Parts}
+use Rattle.line_base.specs.Roomy.{RoomyLog}
 use Rattle.card_queue.specs.Plain.{PlainQueue}
 use Rattle.event_graph.proofs.ArcNumbers.{All-ins}
 use Rattle.station_step.specs.declared.ends.Outlet.{Outlet}
 use Rattle.station_step.specs.declared.input.Input.{Input}
-use Rattle.station_step.specs.Ends.{is_bounded}
+use Rattle.station_step.specs.Ends.{is_bounded, is_ring}
 use Rattle.station_step.specs.Input.{empty_handed}
 use Rattle.station_step.specs.Station.{WorkStation, IsStation, new_station}
 use Rattle.station_step.specs.Kept.{IsKept, IsFresh}
@@ -15,31 +16,34 @@ use Rattle.station_step.proofs.Dates.{time-fixed}
 use Rattle.station_step.proofs.Keeping.{kept-fresh, station-new}
 use Rattle.station_step.proofs.Noting.{inputs-unnoted, extras-into}
 use Rattle.station_step.proofs.station.Station.new.Goals as goal
+use Rattle.station_step.proofs.station.Station.new.Goals.{After-of-2}
 
 -- the station that is made, as contracts see it
-abbrev made : goal.After-of → WorkStation
+abbrev made : After-of-2 → WorkStation
 made c = record {
-  graph = c.of.result.value;
+  graph = c.of-2.result.value;
   number = c.args.t;
   inputs = inputs_of c.note_time.new.inputs.items;
   outlets = outlets_of c.in_ok-with_delays.field-0.items;
-  log = c.args.log;
+  log = c.of.result.value;
   made = length c.dates.result.now;
   turns = 0;
 }
 
-abbrev wanted : goal.After-of → WorkStation
-wanted c = new_station c.args.live.now.graph c.args.t c.args.inlets.items c.args.outlets.items c.args.log
+abbrev wanted : After-of-2 → WorkStation
+wanted c = new_station c.args.live.now.graph c.args.t c.args.inlets.items c.args.outlets.items c.args.log.now
 
-made_is : (c : goal.After-of) → made c ≡ wanted c
+made_is : (c : After-of-2) → made c ≡ wanted c
 made_is c =
     let station : Parts → List Input → List Outlet → ℕ → WorkStation =
-    λ g inputs outlets n. record { graph = g; number = c.args.t; inputs = inputs; outlets = outlets; log = c.args.log; made = n; turns = 0 } in
+    λ g inputs outlets n. record { graph = g; number = c.args.t; inputs = inputs; outlets = outlets; log = c.args.log.now; made = n; turns = 0 } in
+    let logged : RoomyLog → WorkStation = λ l. record (made c) { log = l } in
     let g = c.args.live.now.graph in
     let inputs = inputs_of c.note_time.new.inputs.items in
     let outlets = outlets_of c.in_ok-with_delays.field-0.items in
     let n = length c.dates.result.now in
-    ap (λ (h : Parts). station h inputs outlets n) (c.of.ensures ∙ c.graph-graph.ensures.graph)
+    ap logged c.of.ensures
+    ∙ ap (λ (h : Parts). station h inputs outlets n) (c.of-2.ensures ∙ c.graph-graph.ensures.graph)
     ∙ ap (λ (l : List Input). station g l outlets n) (c.note_time.ensures.inputs ∙ ap inputs_of c.in_ok-inputs.ensures ∙ inputs-unnoted c.args.inlets.items)
     ∙ ap (λ (l : List Outlet). station g (map empty_handed c.args.inlets.items) l n) c.in_ok-with_delays.ensures.outlets
     ∙ ap (station g (map empty_handed c.args.inlets.items) c.args.outlets.items) (ap length c.dates.ensures)
@@ -54,22 +58,24 @@ invariant_of-result c =
     let t = c.args.t in
     let inputs = c.note_time.new.inputs.items in
     let outlets = c.in_ok-with_delays.field-0.items in
-    let noted : IsNoted g t inputs outlets (not c.varies.result) c.in_ok-worked.worked.items c.has_bounded-bounded.result =
+    let noted : IsNoted g t inputs outlets (not c.varies.result) c.in_ok-worked.worked.items c.has_bounded-bounded.result c.has_ring-rings.result =
     record {
       extras_are = λ is job.
           c.note_time.ensures.extras
-          ∙ extras-into g t job c.time.result c.as_slice-2.result.now
-          (c.as_slice-2.ensures.value ∙ c.in_ok-worked.ensures)
+          ∙ extras-into g t job c.time.result c.as_slice-3.result.now
+          (c.as_slice-3.ensures.value ∙ c.in_ok-worked.ensures)
           (c.time.ensures.time ∙ time-fixed g t 1 job (λ varies. not_both c.varies.result (c.varies.ensures.varies.1 varies) is))
           (All-ins g t);
       worked_is = c.in_ok-worked.ensures;
       delays_are = c.in_ok-with_delays.ensures.delays;
       bounded_is = c.has_bounded-bounded.ensures
           ∙ ap (list_any is_bounded) (c.as_slice.ensures.value ∙ sym c.in_ok-with_delays.ensures.outlets);
+      rings_are = c.has_ring-rings.ensures
+          ∙ ap (list_any is_ring) (c.as_slice-2.ensures.value ∙ sym c.in_ok-with_delays.ensures.outlets);
     } in record {
       station = subst IsStation (sym (made_is c))
-          (station-new c.args.live.now.graph t c.args.inlets.items c.args.outlets.items c.args.log c.requires.exists c.requires.an_inlet_each c.requires.an_outlet_each c.requires.few_dates c.requires.log_room c.requires.ring_room);
-      noted = subst (λ (h : Parts). IsNoted h t inputs outlets (not c.varies.result) c.in_ok-worked.worked.items c.has_bounded-bounded.result) (sym c.of.ensures) noted;
+          (station-new c.args.live.now.graph t c.args.inlets.items c.args.outlets.items c.args.log.now c.requires.exists c.requires.an_inlet_each c.requires.an_outlet_each c.requires.few_dates c.requires.log_room c.requires.ring_room);
+      noted = subst (λ (h : Parts). IsNoted h t inputs outlets (not c.varies.result) c.in_ok-worked.worked.items c.has_bounded-bounded.result c.has_ring-rings.result) (sym c.of-2.ensures) noted;
     }
 
 pub returns-clause-made : goal.returns-clause-made
@@ -78,4 +84,4 @@ returns-clause-made c = made_is c
 pub returns-clause-kept : goal.returns-clause-kept
 returns-clause-kept c =
     subst (λ (s : WorkStation). (shelf : List PlainQueue) → IsFresh shelf s → IsKept shelf s) (sym (made_is c))
-    (kept-fresh c.args.live.now.graph c.args.t c.args.inlets.items c.args.outlets.items c.args.log c.requires.untaken c.requires.unfilled c.requires.ring_room)
+    (kept-fresh c.args.live.now.graph c.args.t c.args.inlets.items c.args.outlets.items c.args.log.now c.requires.untaken c.requires.unfilled c.requires.ring_room)

@@ -1,23 +1,25 @@
-use Rattle.std.proofs.Common.{subst, ◌∙◌, sym, ap, ◌≡◌, ◌≢◌, ◌+◌, ◌<◌, ◌++◌, ◌∷◌, [], ℕ, List, arith, length, map, slice_index}
+use Rattle.std.proofs.Common.{subst, ◌∙◌, sym, ap, ◌≡◌, ◌≢◌, ◌+◌, ◌<◌, ◌++◌, ◌∷◌, [], ℕ, List, arith, refl, length, map, set, slice_index, get_or-set_same}
+use Rattle.std.proofs.lemmas.List.{length-set, set-get_or}
 use Rattle.std.specs.Prelude.{unwrap_or}
 use Rattle.line_base.specs.declared.event.Parts.{Parts}
 use Rattle.line_base.specs.Roomy.{RoomyLog, with_date}
 use Rattle.event_graph.specs.Network.{jobs, delay, ins, outs}
 use Rattle.card_queue.specs.Plain.{PlainQueue}
-use Rattle.token_shelf.specs.Shelf.{queue_at, OnlyTakes}
+use Rattle.local_queues.specs.Shelf.{log_on, queue_at, OnlyTakes}
 use Rattle.station_step.specs.Input.{input_at, IsRefilled, NoneTakes}
 use Rattle.station_step.specs.Ends.{outlet_added}
-use Rattle.station_step.specs.Station.{WorkStation, IsStation, IsSeated, MayPut, outlet_at, bare_input}
+use Rattle.station_step.specs.Station.{WorkStation, IsStation, IsSeated, StandsAt, MayPut, outlet_at, bare_input}
 use Rattle.station_step.specs.Kept.{IsKept, date_for, saturating}
 use Rattle.station_step.specs.Step.{MovesItsOwn, MovesApart}
 use Rattle.station_step.specs.Noted.{inputs_of, extras_of, outlets_of, delays_of}
 use Rattle.station_step.specs.declared.input.Input.{Input}
 use Rattle.station_step.proofs.Dates.{delay-noted, date_for-is, latest-is}
 use Rattle.station_step.proofs.Keeping.{kept-waits, kept-fires, IsFiring, fired_station, station-fires, seated-same, own-waits, own-fires, grows-waits, grows-fires, moves-apart, moves-none, kept-alike, station-alike}
-use Rattle.station_step.proofs.Looking.{AreAlike, alike-looked, NonePuts-alike, noted-same, shelf_room-alike, shelf_room-after_takes}
+use Rattle.station_step.proofs.Posts.{come-same, stands-same}
+use Rattle.station_step.proofs.Looking.{AreAlike, alike-looked, NonePuts-alike, noted-same, rings-same, shelf_room-alike, shelf_room-after_takes}
 use Rattle.station_step.specs.contracts.station.Station.{the_view}
 use Rattle.station_step.proofs.station.Station.step.Goals as goal
-use Rattle.station_step.proofs.station.Station.step.Goals.{After-refill}
+use Rattle.station_step.proofs.station.Station.step.Goals.{After-refill, After-of}
 
 -- what the refilling of the hands did to the shelf
 own_waiting : (s now : WorkStation) (noted : List Input) (old mid : List PlainQueue) → s ≡ now → noted ≡ s.inputs → OnlyTakes old mid → ((q : ℕ) → NoneTakes q noted → queue_at mid q ≡ queue_at old q) → MovesItsOwn now old mid
@@ -31,43 +33,125 @@ each_refilled noted before after old mid is each =
     subst (λ (l : List Input). (k : ℕ) → k < length l → IsRefilled old mid (input_at l k) (input_at after k)) is each
 
 -- and to the shelf
-moves : (c : After-refill) → MovesApart c.args.self.now c.args.shelf.now c.refill.new.shelf
+moves : (c : After-refill) → MovesApart c.args.self.now c.args.shelf.now.queues c.refill.new.shelf.queues
 moves c =
-    let old = c.args.shelf.now in
-    let mid = c.refill.new.shelf in
+    let old = c.args.shelf.now.queues in
+    let mid = c.refill.new.shelf.queues in
     let only = c.refill.ensures.only_takes in
     moves-apart old mid c.args.self.now
     (own_waiting (the_view c.self.inside) c.args.self.now (inputs_of c.note_job.new.inputs.items) old mid c.self.view_is c.note_job.ensures.inputs only c.refill.ensures.others)
     (grows-waits old mid only)
 
+-- the dates of its log, as they stand on the shelf
+dates_are : (c : After-refill) → c.dates.result.now ≡ c.self.inside.log.value.dates
+dates_are c =
+    c.dates.ensures
+    ∙ ap (λ (l : RoomyLog). l.dates) (c.log.ensures ∙ c.requires.stands.log ∙ sym (ap (λ (w : WorkStation). w.log) c.self.view_is))
+
+-- the station stands where it stood
+stands_before : (c : After-refill) → StandsAt c.args.i c.args.shelf.now (the_view c.self.inside)
+stands_before c = subst (StandsAt c.args.i c.args.shelf.now) (sym c.self.view_is) c.requires.stands
+
 -- ---- the station is done
 
 pub returns-then-done-jobs-clause-kept : goal.returns-then-done-jobs-clause-kept
 returns-then-done-jobs-clause-kept c was =
-    let kept : IsKept c.args.shelf.now (the_view c.self.inside) = subst (IsKept c.args.shelf.now) (sym c.self.view_is) was in
+    let kept : IsKept c.args.shelf.now.queues (the_view c.self.inside) = subst (IsKept c.args.shelf.now.queues) (sym c.self.view_is) was in
     record { held = kept.held; dates = kept.dates; added = kept.added; room = kept.room }
 
 pub returns-then-done-jobs-clause-moves : goal.returns-then-done-jobs-clause-moves
-returns-then-done-jobs-clause-moves c = moves-none c.args.shelf.now c.args.self.now
+returns-then-done-jobs-clause-moves c = moves-none c.args.shelf.now.queues c.args.self.now
 
 -- ---- an input has no token
 
 pub returns-in-Empty-clause-kept : goal.returns-in-Empty-clause-kept
 returns-in-Empty-clause-kept c =
-    let new = c.refill.new.shelf in
+    let new = c.refill.new.shelf.queues in
     let full = inputs_of c.refill.new.inputs.items in
-    subst (λ (s : WorkStation). IsKept c.args.shelf.now s → IsKept new (record (the_view c.self.inside) { inputs = full; turns = c.self.inside.turns + 1 })) c.self.view_is
-    (kept-waits c.args.shelf.now new (the_view c.self.inside) full (c.self.inside.turns + 1) c.self.invariant.station.an_input_each (c.refill.ensures.count ∙ ap length c.note_job.ensures.inputs) (each_refilled (inputs_of c.note_job.new.inputs.items) (the_view c.self.inside).inputs full c.args.shelf.now c.refill.new.shelf c.note_job.ensures.inputs c.refill.ensures.each) c.refill.ensures.only_takes)
+    subst (λ (s : WorkStation). IsKept c.args.shelf.now.queues s → IsKept new (record (the_view c.self.inside) { inputs = full; turns = c.self.inside.turns + 1 })) c.self.view_is
+    (kept-waits c.args.shelf.now.queues new (the_view c.self.inside) full (c.self.inside.turns + 1) c.self.invariant.station.an_input_each (c.refill.ensures.count ∙ ap length c.note_job.ensures.inputs) (each_refilled (inputs_of c.note_job.new.inputs.items) (the_view c.self.inside).inputs full c.args.shelf.now.queues c.refill.new.shelf.queues c.note_job.ensures.inputs c.refill.ensures.each) c.refill.ensures.only_takes)
 
 pub returns-in-Empty-clause-moves : goal.returns-in-Empty-clause-moves
 returns-in-Empty-clause-moves c = moves (goal.at.returns-in-Empty-clause-moves c).After-refill
 
+pub returns-in-Empty-clause-seated : goal.returns-in-Empty-clause-seated
+returns-in-Empty-clause-seated c =
+    let old = c.args.shelf.now.queues in
+    let s = the_view c.self.inside in
+    let full = inputs_of c.refill.new.inputs.items in
+    let was : IsSeated old s = subst (IsSeated old) (sym c.self.view_is) c.requires.seated in
+    seated-same old c.refill.new.shelf.queues s (record s { inputs = full; turns = c.self.inside.turns + 1 })
+    c.refill.ensures.only_takes.count
+    (c.refill.ensures.count ∙ ap length c.note_job.ensures.inputs)
+    refl
+    (c.refill.ensures.same ∙ ap (map bare_input) c.note_job.ensures.inputs)
+    refl
+    was
+
+pub returns-in-Empty-clause-stands : goal.returns-in-Empty-clause-stands
+returns-in-Empty-clause-stands c =
+    let i = c.args.i in
+    let s = the_view c.self.inside in
+    let stands = stands_before (goal.at.returns-in-Empty-clause-stands c).After-refill in
+    let full = inputs_of c.refill.new.inputs.items in
+    stands-same i c.args.shelf.now c.refill.new.shelf s (record s { inputs = full; turns = c.self.inside.turns + 1 })
+    (ap length c.refill.ensures.logs)
+    (ap (λ (l : List RoomyLog). log_on l i) c.refill.ensures.logs ∙ stands.log)
+    c.refill.ensures.sources c.refill.ensures.only_takes.count refl refl refl refl stands
+
+-- the log stays where nothing is put
+logs_stay : (c : After-refill) → c.refill.new.shelf.logs ≡ set c.args.shelf.now.logs c.args.i c.self.inside.log.value
+logs_stay c =
+    let no_log : RoomyLog = record { dates = []; room = 0 } in
+    c.refill.ensures.logs
+    ∙ sym (set-get_or c.args.shelf.now.logs c.args.i no_log)
+    ∙ ap (set c.args.shelf.now.logs c.args.i) (stands_before c).log
+
+pub returns-in-Empty-clause-logs : goal.returns-in-Empty-clause-logs
+returns-in-Empty-clause-logs c = logs_stay (goal.at.returns-in-Empty-clause-logs c).After-refill
+
+pub returns-in-Some-clause-logs : goal.returns-in-Some-clause-logs
+returns-in-Some-clause-logs c = logs_stay (goal.at.returns-in-Some-clause-logs c).After-refill
+
+pub returns-then-done-jobs-clause-logs : goal.returns-then-done-jobs-clause-logs
+returns-then-done-jobs-clause-logs c =
+    let no_log : RoomyLog = record { dates = []; room = 0 } in
+    sym (set-get_or c.args.shelf.now.logs c.args.i no_log)
+    ∙ ap (set c.args.shelf.now.logs c.args.i) (c.requires.stands.log ∙ sym (ap (λ (w : WorkStation). w.log) c.self.view_is))
+
 -- ---- an output has no space
+
+pub returns-in-Some-clause-seated : goal.returns-in-Some-clause-seated
+returns-in-Some-clause-seated c =
+    let old = c.args.shelf.now.queues in
+    let s = the_view c.self.inside in
+    let full = inputs_of c.refill.new.inputs.items in
+    let looked = outlets_of c.look_all.new.outlets.items in
+    let was : IsSeated old s = subst (IsSeated old) (sym c.self.view_is) c.requires.seated in
+    seated-same old c.refill.new.shelf.queues s (record s { inputs = full; outlets = looked; turns = c.self.inside.turns + 1 })
+    c.refill.ensures.only_takes.count
+    (c.refill.ensures.count ∙ ap length c.note_job.ensures.inputs)
+    c.look_all.ensures.count
+    (c.refill.ensures.same ∙ ap (map bare_input) c.note_job.ensures.inputs)
+    c.look_all.ensures.same
+    was
+
+pub returns-in-Some-clause-stands : goal.returns-in-Some-clause-stands
+returns-in-Some-clause-stands c =
+    let i = c.args.i in
+    let s = the_view c.self.inside in
+    let stands = stands_before (goal.at.returns-in-Some-clause-stands c).After-refill in
+    let full = inputs_of c.refill.new.inputs.items in
+    let looked = outlets_of c.look_all.new.outlets.items in
+    stands-same i c.args.shelf.now c.refill.new.shelf s (record s { inputs = full; outlets = looked; turns = c.self.inside.turns + 1 })
+    (ap length c.refill.ensures.logs)
+    (ap (λ (l : List RoomyLog). log_on l i) c.refill.ensures.logs ∙ stands.log)
+    c.refill.ensures.sources c.refill.ensures.only_takes.count refl refl c.look_all.ensures.count c.look_all.ensures.same stands
 
 pub returns-in-Some-clause-kept : goal.returns-in-Some-clause-kept
 returns-in-Some-clause-kept c =
-    let old = c.args.shelf.now in
-    let mid = c.refill.new.shelf in
+    let old = c.args.shelf.now.queues in
+    let mid = c.refill.new.shelf.queues in
     let s = the_view c.self.inside in
     let full = inputs_of c.refill.new.inputs.items in
     let looked = outlets_of c.look_all.new.outlets.items in
@@ -75,7 +159,7 @@ returns-in-Some-clause-kept c =
     let kept : IsKept old s → IsKept mid (record s { inputs = full; outlets = looked; turns = turns }) =
     λ was.
     kept-alike mid (record s { inputs = full; turns = turns }) looked (alike-looked s.outlets looked c.look_all.ensures.count c.look_all.ensures.looked)
-    (kept-waits old mid s full turns c.self.invariant.station.an_input_each (c.refill.ensures.count ∙ ap length c.note_job.ensures.inputs) (each_refilled (inputs_of c.note_job.new.inputs.items) (the_view c.self.inside).inputs full c.args.shelf.now c.refill.new.shelf c.note_job.ensures.inputs c.refill.ensures.each) c.refill.ensures.only_takes was) in
+    (kept-waits old mid s full turns c.self.invariant.station.an_input_each (c.refill.ensures.count ∙ ap length c.note_job.ensures.inputs) (each_refilled (inputs_of c.note_job.new.inputs.items) (the_view c.self.inside).inputs full c.args.shelf.now.queues c.refill.new.shelf.queues c.note_job.ensures.inputs c.refill.ensures.each) c.refill.ensures.only_takes was) in
     subst (λ (w : WorkStation). IsKept old w → IsKept mid (record s { inputs = full; outlets = looked; turns = turns })) c.self.view_is kept
 
 pub returns-in-Some-clause-moves : goal.returns-in-Some-clause-moves
@@ -83,44 +167,77 @@ returns-in-Some-clause-moves c = moves (goal.at.returns-in-Some-clause-moves c).
 
 -- ---- the station fires
 
+pub put_all-requires-clause-noted : goal.put_all-requires-clause-noted
+put_all-requires-clause-noted c =
+    c.self.invariant.noted.rings_are ∙ rings-same (the_view c.self.inside).outlets (outlets_of c.look_all.new.outlets.items) c.look_all.ensures.same
+
+pub put_all-requires-clause-there : goal.put_all-requires-clause-there
+put_all-requires-clause-there c = omega (arith, c.requires.stands.there, ap length c.refill.ensures.logs)
+
+pub put_all-requires-clause-come : goal.put_all-requires-clause-come
+put_all-requires-clause-come c =
+    let s = the_view c.self.inside in
+    let stands = stands_before (goal.at.put_all-requires-clause-come c).After-refill in
+    come-same c.args.i (map (delay s.graph) (outs s.graph s.number)) (delays_of c.look_all.new.outlets.items) c.args.shelf.now c.refill.new.shelf s.outlets (outlets_of c.look_all.new.outlets.items)
+    (c.look_all.ensures.delays ∙ c.self.invariant.noted.delays_are)
+    c.refill.ensures.sources c.refill.ensures.only_takes.count c.look_all.ensures.count c.look_all.ensures.same stands.come
+
+pub put_all-requires-clause-log_room : goal.put_all-requires-clause-log_room
+put_all-requires-clause-log_room c =
+    let s = the_view c.self.inside in
+    let from = (goal.at.put_all-requires-clause-log_room c).After-refill in
+    let graph : c.graph-graph.result.now ≡ s.graph =
+    c.graph-graph.ensures.graph ∙ c.requires.made_for ∙ sym (ap (λ (w : WorkStation). w.graph) c.self.view_is) in
+    let left : length s.log.dates ≢ jobs s.graph =
+    λ all. c.if-done-jobs.false (ap length (dates_are from) ∙ all ∙ sym (ap jobs graph) ∙ sym c.jobs.ensures.count) in
+    let was : log_on c.refill.new.shelf.logs c.args.i ≡ s.log =
+    ap (λ (l : List RoomyLog). log_on l c.args.i) c.refill.ensures.logs ∙ c.requires.stands.log ∙ sym (ap (λ (w : WorkStation). w.log) c.self.view_is) in
+    subst (λ (l : RoomyLog). length l.dates < l.room) (sym was) (omega (arith, left, c.self.invariant.station.few_dates, c.self.invariant.station.log_room))
+
 pub put_all-requires-clause-shelf_room : goal.put_all-requires-clause-shelf_room
 put_all-requires-clause-shelf_room c k low =
-    let old = c.args.shelf.now in
-    let mid = c.refill.new.shelf in
+    let old = c.args.shelf.now.queues in
+    let mid = c.refill.new.shelf.queues in
     let s = the_view c.self.inside in
     let looked = outlets_of c.look_all.new.outlets.items in
     let below : k < length s.outlets = omega (arith, low, c.look_all.ensures.count) in
     let graph : c.graph-graph.result.now ≡ s.graph =
     c.graph-graph.ensures.graph ∙ c.requires.made_for ∙ sym (ap (λ (w : WorkStation). w.graph) c.self.view_is) in
     let left : length s.log.dates ≢ jobs s.graph =
-    λ all. c.if-done-jobs.false (ap length c.dates.ensures ∙ all ∙ sym (ap jobs graph) ∙ sym c.jobs.ensures.count) in
+    λ all. c.if-done-jobs.false (ap length (dates_are (goal.at.put_all-requires-clause-shelf_room c).After-refill) ∙ all ∙ sym (ap jobs graph) ∙ sym c.jobs.ensures.count) in
     let more : length s.log.dates < jobs s.graph = omega (arith, left, c.self.invariant.station.few_dates) in
     let may : MayPut old s = subst (MayPut old) (sym c.self.view_is) c.requires.may_put in
     shelf_room-alike mid (outlet_at s.outlets k) (outlet_at looked k) (c.look_all.ensures.looked k below).same
     (shelf_room-after_takes old mid (outlet_at s.outlets k) c.refill.ensures.only_takes (may more k below))
 
+-- the dates of its log, as they stood on the shelf
+dates_now : (c : After-of) → c.dates.result.now ≡ c.self.inside.log.value.dates
+dates_now c =
+    c.dates.ensures
+    ∙ ap (λ (l : RoomyLog). l.dates) (c.log.ensures ∙ c.requires.stands.log ∙ sym (ap (λ (w : WorkStation). w.log) c.self.view_is))
+
 -- the station when its outlets have looked
-abbrev looked_station : (c : goal.After-add) → WorkStation
+abbrev looked_station : (c : After-of) → WorkStation
 looked_station c = record (the_view c.self.inside) { outlets = outlets_of c.look_all.new.outlets.items }
 
-looked_alike : (c : goal.After-add) → AreAlike (the_view c.self.inside).outlets (outlets_of c.look_all.new.outlets.items)
+looked_alike : (c : After-of) → AreAlike (the_view c.self.inside).outlets (outlets_of c.look_all.new.outlets.items)
 looked_alike c = alike-looked (the_view c.self.inside).outlets (outlets_of c.look_all.new.outlets.items) c.look_all.ensures.count c.look_all.ensures.looked
 
-looks_soundly : (c : goal.After-add) → IsStation (looked_station c)
+looks_soundly : (c : After-of) → IsStation (looked_station c)
 looks_soundly c = station-alike (the_view c.self.inside) (outlets_of c.look_all.new.outlets.items) (looked_alike c) c.self.invariant.station
 
 -- the delay of the arc of output k, as the station noted it
-delay_is : (c : goal.After-add) (k : ℕ) → k < length (the_view c.self.inside).outlets → slice_index (delays_of c.look_all.new.outlets.items) k ≡ delay (the_view c.self.inside).graph (slice_index (outs (the_view c.self.inside).graph (the_view c.self.inside).number) k)
+delay_is : (c : After-of) (k : ℕ) → k < length (the_view c.self.inside).outlets → slice_index (delays_of c.look_all.new.outlets.items) k ≡ delay (the_view c.self.inside).graph (slice_index (outs (the_view c.self.inside).graph (the_view c.self.inside).number) k)
 delay_is c k low =
     let s = the_view c.self.inside in
     delay-noted s.graph s.number k (delays_of c.look_all.new.outlets.items) (omega (arith, low, c.self.invariant.station.an_outlet_each)) (c.look_all.ensures.delays ∙ c.self.invariant.noted.delays_are)
 
 -- as many inputs as before
-full_count : (c : goal.After-add) → length (inputs_of c.refill.new.inputs.items) ≡ length (the_view c.self.inside).inputs
+full_count : (c : After-of) → length (inputs_of c.refill.new.inputs.items) ≡ length (the_view c.self.inside).inputs
 full_count c = c.refill.ensures.count ∙ ap length c.note_job.ensures.inputs
 
 -- the date of the job is what its tokens ask for
-date_is : (c : goal.After-add) → c.next_date-date.result ≡ date_for (the_view c.self.inside).graph c.self.inside.number (length c.self.inside.log.dates + 1) (λ k. unwrap_or (input_at (inputs_of c.refill.new.inputs.items) k).hand 0)
+date_is : (c : After-of) → c.next_date-date.result ≡ date_for (the_view c.self.inside).graph c.self.inside.number (length c.self.inside.log.value.dates + 1) (λ k. unwrap_or (input_at (inputs_of c.refill.new.inputs.items) k).hand 0)
 date_is c =
     let s = the_view c.self.inside in
     let full = inputs_of c.refill.new.inputs.items in
@@ -136,10 +253,10 @@ date_is c =
     c.next_date-date.ensures
     ∙ date_for-is g s.number (length c.dates.result.now + 1) c.in-Full.latest token latest
     ∙ ap (λ (h : Parts). date_for h s.number (length c.dates.result.now + 1) token) graph
-    ∙ ap (λ (l : List ℕ). date_for s.graph s.number (length l + 1) token) c.dates.ensures
+    ∙ ap (λ (l : List ℕ). date_for s.graph s.number (length l + 1) token) (dates_now c)
 
 -- the firing, as the lemmas have it
-firing : (c : goal.After-add) → IsFiring c.args.shelf.now c.refill.new.shelf c.put_all.new.shelf (looked_station c) (inputs_of c.refill.new.inputs.items) (inputs_of c.empty_hands.new.inputs.items) (outlets_of c.put_all.new.outlets.items) c.next_date-date.result
+firing : (c : After-of) → IsFiring c.args.shelf.now.queues c.refill.new.shelf.queues c.put_all.new.shelf.queues (looked_station c) (inputs_of c.refill.new.inputs.items) (inputs_of c.empty_hands.new.inputs.items) (outlets_of c.put_all.new.outlets.items) c.next_date-date.result
 firing c =
     let s = the_view c.self.inside in
     let full = inputs_of c.refill.new.inputs.items in
@@ -148,7 +265,7 @@ firing c =
       full_count = full_count c;
       empty_count = c.empty_hands.ensures.count;
       outlet_count = c.put_all.ensures.count;
-      refilled = each_refilled (inputs_of c.note_job.new.inputs.items) s.inputs full c.args.shelf.now c.refill.new.shelf c.note_job.ensures.inputs c.refill.ensures.each;
+      refilled = each_refilled (inputs_of c.note_job.new.inputs.items) s.inputs full c.args.shelf.now.queues c.refill.new.shelf.queues c.note_job.ensures.inputs c.refill.ensures.each;
       are_full = c.in-Full.ensures.full;
       inlets = c.empty_hands.ensures.inlets;
       are_empty = c.empty_hands.ensures.hands;
@@ -156,25 +273,38 @@ firing c =
       outlets_same = c.put_all.ensures.same;
       got = λ k low.
           c.put_all.ensures.each k low
-          ∙ ap (λ n. outlet_added c.refill.new.shelf (outlet_at (outlets_of c.look_all.new.outlets.items) k) ++ saturating date n ∷ []) (delay_is c k (omega (arith, low, c.look_all.ensures.count)));
+          ∙ ap (λ n. outlet_added c.refill.new.shelf.queues (outlet_at (outlets_of c.look_all.new.outlets.items) k) ++ saturating date n ∷ []) (delay_is c k (omega (arith, low, c.look_all.ensures.count)));
       only_takes = c.refill.ensures.only_takes;
       only_puts = c.put_all.ensures.only_puts;
     }
 
 -- dates were left to be made
-some_left : (c : goal.After-add) → length (the_view c.self.inside).log.dates ≢ jobs (the_view c.self.inside).graph
+some_left : (c : After-of) → length (the_view c.self.inside).log.dates ≢ jobs (the_view c.self.inside).graph
 some_left c all =
     let graph : c.graph-graph.result.now ≡ (the_view c.self.inside).graph =
     c.graph-graph.ensures.graph ∙ c.requires.made_for ∙ sym (ap (λ (w : WorkStation). w.graph) c.self.view_is) in
-    c.if-done-jobs.false (ap length c.dates.ensures ∙ all ∙ sym (ap jobs graph) ∙ sym c.jobs.ensures.count)
+    c.if-done-jobs.false (ap length (dates_now c) ∙ all ∙ sym (ap jobs graph) ∙ sym c.jobs.ensures.count)
 
 -- the station after it
-fires_soundly : (c : goal.After-add) → IsStation (fired_station (the_view c.self.inside) (inputs_of c.empty_hands.new.inputs.items) (outlets_of c.put_all.new.outlets.items) c.next_date-date.result (c.self.inside.turns + 1))
+fires_soundly : (c : After-of) → IsStation (fired_station (the_view c.self.inside) (inputs_of c.empty_hands.new.inputs.items) (outlets_of c.put_all.new.outlets.items) c.next_date-date.result (c.self.inside.turns + 1))
 fires_soundly c =
-    station-fires c.args.shelf.now c.refill.new.shelf c.put_all.new.shelf (looked_station c) (inputs_of c.refill.new.inputs.items) (inputs_of c.empty_hands.new.inputs.items) (outlets_of c.put_all.new.outlets.items) c.next_date-date.result (c.self.inside.turns + 1) (looks_soundly c) (some_left c) (firing c)
+    station-fires c.args.shelf.now.queues c.refill.new.shelf.queues c.put_all.new.shelf.queues (looked_station c) (inputs_of c.refill.new.inputs.items) (inputs_of c.empty_hands.new.inputs.items) (outlets_of c.put_all.new.outlets.items) c.next_date-date.result (c.self.inside.turns + 1) (looks_soundly c) (some_left c) (firing c)
+
+-- its log after it
+log_is : (c : After-of) → c.of.result.value ≡ with_date c.self.inside.log.value c.next_date-date.result
+log_is c =
+    let i = c.args.i in
+    let was : log_on c.refill.new.shelf.logs i ≡ c.self.inside.log.value =
+    ap (λ (l : List RoomyLog). log_on l i) c.refill.ensures.logs ∙ c.requires.stands.log ∙ sym (ap (λ (w : WorkStation). w.log) c.self.view_is) in
+    let low : i < length c.refill.new.shelf.logs = omega (arith, c.requires.stands.there, ap length c.refill.ensures.logs) in
+    c.of.ensures
+    ∙ c.log-2.ensures
+    ∙ ap (λ (l : List RoomyLog). log_on l i) c.put_all.ensures.logs
+    ∙ get_or-set_same c.refill.new.shelf.logs i (with_date (log_on c.refill.new.shelf.logs i) c.next_date-date.result) (record { dates = []; room = 0 }) low
+    ∙ ap (λ (l : RoomyLog). with_date l c.next_date-date.result) was
 
 -- with its log as the call leaves it
-abbrev with_log : (c : goal.After-add) → RoomyLog → WorkStation
+abbrev with_log : (c : After-of) → RoomyLog → WorkStation
 with_log c log = record (the_view c.self.inside) {
   inputs = inputs_of c.empty_hands.new.inputs.items;
   outlets = outlets_of c.put_all.new.outlets.items;
@@ -184,9 +314,10 @@ with_log c log = record (the_view c.self.inside) {
 
 pub invariant_of-self-2 : goal.invariant_of-self-2
 invariant_of-self-2 c =
+    let from = (goal.at.invariant_of-self-2 c).After-of in
     let s = c.self.inside in record {
-      station = subst (λ (log : RoomyLog). IsStation (with_log c log)) (sym c.add.ensures) (fires_soundly c);
-      noted = noted-same s.graph.value s.number s.inputs.items c.empty_hands.new.inputs.items s.outlets.items c.put_all.new.outlets.items s.fixed s.worked.items s.bounded
+      station = subst (λ (log : RoomyLog). IsStation (with_log from log)) (sym (log_is from)) (fires_soundly from);
+      noted = noted-same s.graph.value s.number s.inputs.items c.empty_hands.new.inputs.items s.outlets.items c.put_all.new.outlets.items s.fixed s.worked.items s.bounded s.rings
           (λ is. c.empty_hands.ensures.extras ∙ c.refill.ensures.extras ∙ c.note_job.ensures.stays is)
           (c.put_all.ensures.delays ∙ c.look_all.ensures.delays)
           (c.put_all.ensures.same ∙ c.look_all.ensures.same)
@@ -194,41 +325,82 @@ invariant_of-self-2 c =
     }
 
 pub returns-clause-station : goal.returns-clause-station
-returns-clause-station c = subst (λ (log : RoomyLog). IsStation (with_log c log)) (sym c.add.ensures) (fires_soundly c)
+returns-clause-station c =
+    let from = (goal.at.returns-clause-station c).After-of in
+    subst (λ (log : RoomyLog). IsStation (with_log from log)) (sym (log_is from)) (fires_soundly from)
 
 pub returns-clause-seated : goal.returns-clause-seated
 returns-clause-seated c =
-    let old = c.args.shelf.now in
-    let new = c.put_all.new.shelf in
+    let from = (goal.at.returns-clause-seated c).After-of in
+    let old = c.args.shelf.now.queues in
+    let new = c.put_all.new.shelf.queues in
     let was : IsSeated old (the_view c.self.inside) = subst (IsSeated old) (sym c.self.view_is) c.requires.seated in
-    seated-same old new (the_view c.self.inside) (with_log c c.add.new.self)
+    seated-same old new (the_view c.self.inside) (with_log from c.of.result.value)
     (c.put_all.ensures.only_puts.count ∙ c.refill.ensures.only_takes.count)
-    (c.empty_hands.ensures.count ∙ full_count c)
+    (c.empty_hands.ensures.count ∙ full_count from)
     (c.put_all.ensures.count ∙ c.look_all.ensures.count)
     (c.empty_hands.ensures.same ∙ c.refill.ensures.same ∙ ap (map bare_input) c.note_job.ensures.inputs)
     (c.put_all.ensures.same ∙ c.look_all.ensures.same)
     was
 
-pub returns-clause-kept : goal.returns-clause-kept
-returns-clause-kept c =
+-- the logs after it: its own is another
+logs_are : (c : After-of) → c.put_all.new.shelf.logs ≡ set c.args.shelf.now.logs c.args.i c.of.result.value
+logs_are c =
+    let i = c.args.i in
+    let date = c.next_date-date.result in
+    let was : log_on c.refill.new.shelf.logs i ≡ c.self.inside.log.value =
+    ap (λ (l : List RoomyLog). log_on l i) c.refill.ensures.logs ∙ c.requires.stands.log ∙ sym (ap (λ (w : WorkStation). w.log) c.self.view_is) in
+    c.put_all.ensures.logs
+    ∙ ap (λ (l : RoomyLog). set c.refill.new.shelf.logs i (with_date l date)) was
+    ∙ ap (set c.refill.new.shelf.logs i) (sym (log_is c))
+    ∙ ap (λ (l : List RoomyLog). set l i c.of.result.value) c.refill.ensures.logs
+
+pub returns-clause-logs : goal.returns-clause-logs
+returns-clause-logs c =
+    let from = (goal.at.returns-clause-logs c).After-of in
+    logs_are from
+
+pub returns-clause-stands : goal.returns-clause-stands
+returns-clause-stands c =
+    let from = (goal.at.returns-clause-stands c).After-of in
+    let i = c.args.i in
+    let s = the_view c.self.inside in
     let old = c.args.shelf.now in
     let new = c.put_all.new.shelf in
-    let kept : IsKept old (the_view c.self.inside) → IsKept new (with_log c (with_date c.self.inside.log c.next_date-date.result)) =
+    let stands : StandsAt i old s = subst (StandsAt i old) (sym c.self.view_is) c.requires.stands in
+    let no_log : RoomyLog = record { dates = []; room = 0 } in
+    stands-same i old new s (with_log from c.of.result.value)
+    (ap length (logs_are from) ∙ length-set old.logs i c.of.result.value)
+    (ap (λ (l : List RoomyLog). log_on l i) (logs_are from) ∙ get_or-set_same old.logs i c.of.result.value no_log stands.there)
+    (c.put_all.ensures.sources ∙ c.refill.ensures.sources)
+    (c.put_all.ensures.only_puts.count ∙ c.refill.ensures.only_takes.count)
+    refl refl
+    (c.put_all.ensures.count ∙ c.look_all.ensures.count)
+    (c.put_all.ensures.same ∙ c.look_all.ensures.same)
+    stands
+
+pub returns-clause-kept : goal.returns-clause-kept
+returns-clause-kept c =
+    let from = (goal.at.returns-clause-kept c).After-of in
+    let old = c.args.shelf.now.queues in
+    let new = c.put_all.new.shelf.queues in
+    let kept : IsKept old (the_view c.self.inside) → IsKept new (with_log from (with_date c.self.inside.log.value c.next_date-date.result)) =
     λ was.
-    kept-fires old c.refill.new.shelf new (looked_station c) (inputs_of c.refill.new.inputs.items) (inputs_of c.empty_hands.new.inputs.items) (outlets_of c.put_all.new.outlets.items) c.next_date-date.result (c.self.inside.turns + 1) (looks_soundly c) (firing c)
-    (kept-alike old (the_view c.self.inside) (outlets_of c.look_all.new.outlets.items) (looked_alike c) was) in
-    subst (λ (s : WorkStation). IsKept old s → IsKept new (with_log c c.add.new.self)) c.self.view_is
-    (subst (λ (log : RoomyLog). IsKept old (the_view c.self.inside) → IsKept new (with_log c log)) (sym c.add.ensures) kept)
+    kept-fires old c.refill.new.shelf.queues new (looked_station from) (inputs_of c.refill.new.inputs.items) (inputs_of c.empty_hands.new.inputs.items) (outlets_of c.put_all.new.outlets.items) c.next_date-date.result (c.self.inside.turns + 1) (looks_soundly from) (firing from)
+    (kept-alike old (the_view c.self.inside) (outlets_of c.look_all.new.outlets.items) (looked_alike from) was) in
+    subst (λ (s : WorkStation). IsKept old s → IsKept new (with_log from c.of.result.value)) c.self.view_is
+    (subst (λ (log : RoomyLog). IsKept old (the_view c.self.inside) → IsKept new (with_log from log)) (sym (log_is from)) kept)
 
 pub returns-clause-moves : goal.returns-clause-moves
 returns-clause-moves c =
+    let from = (goal.at.returns-clause-moves c).After-of in
     let s = the_view c.self.inside in
-    let old = c.args.shelf.now in
-    let mid = c.refill.new.shelf in
-    let new = c.put_all.new.shelf in
+    let old = c.args.shelf.now.queues in
+    let mid = c.refill.new.shelf.queues in
+    let new = c.put_all.new.shelf.queues in
     let outlets = outlets_of c.look_all.new.outlets.items in
     let taken = subst (λ (l : List Input). (q : ℕ) → NoneTakes q l → queue_at mid q ≡ queue_at old q) c.note_job.ensures.inputs c.refill.ensures.others in
-    let own = own-fires s old mid new c.refill.ensures.only_takes taken c.put_all.ensures.only_puts (λ q none. c.put_all.ensures.others q (NonePuts-alike q s.outlets outlets (looked_alike c) none)) in
+    let own = own-fires s old mid new c.refill.ensures.only_takes taken c.put_all.ensures.only_puts (λ q none. c.put_all.ensures.others q (NonePuts-alike q s.outlets outlets (looked_alike from) none)) in
     moves-apart old new c.args.self.now
     (subst (λ (w : WorkStation). MovesItsOwn w old new) c.self.view_is own)
     (grows-fires old mid new c.refill.ensures.only_takes c.put_all.ensures.grows)

@@ -5,7 +5,7 @@ use Rattle.event_graph.specs.Network.{stations}
 use Rattle.what_if.specs.Page.{Page, date_at, greatest_term}
 use Rattle.what_if.specs.Evaluation.{evaluated}
 use Rattle.what_if.specs.Sheet.{IsSheet, page_of}
-use Rattle.what_if.proofs.Keeping.{marks_after-code, evaluated-code, test-differs, date_at-evaluated, evaluated-is_sheet}
+use Rattle.what_if.proofs.KeptSheets.{marks_after-code, evaluated-code, test-differs, date_at-evaluated, evaluated-is_sheet}
 use Rattle.what_if.proofs.sheet.Sheet.evaluate.Goals as goal
 
 pub returns-clause-evaluated : goal.returns-clause-evaluated
@@ -40,4 +40,4 @@ returns-clause-changed c =
     subst (λ d. IsTrue (not (eqb c.date.result c.greatest_term-date.result)) ↔ (c.greatest_term-date.result ≢ d)) c.date.ensures.date (test-differs c.date.result c.greatest_term-date.result))
 
 pub invariant_of-self : goal.invariant_of-self
-invariant_of-self c = record { sheet = returns-clause-kept c; same_places = c.self.invariant.same_places }
+invariant_of-self c = record { sheet = returns-clause-kept c; same_ranks = c.self.invariant.same_ranks }

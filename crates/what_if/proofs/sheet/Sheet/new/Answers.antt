@@ -3,7 +3,7 @@ use Rattle.event_graph.specs.Network.{stations, jobs}
 use Rattle.live_check.specs.Order.{LiveGraph}
 use Rattle.what_if.specs.Sheet.{IsSheet, IsBegun, date_count}
 use Rattle.what_if.proofs.Bits.{count_of-none}
-use Rattle.what_if.proofs.Beginning.{begun-code, begun-is_sheet}
+use Rattle.what_if.proofs.NewSheets.{begun-code, begun-is_sheet}
 use Rattle.what_if.proofs.sheet.Sheet.new.Goals as goal
 
 pub returns-clause-kept : goal.returns-clause-kept
@@ -21,7 +21,7 @@ returns-clause-kept c =
 pub invariant_of-result : goal.invariant_of-result
 invariant_of-result c = record {
   sheet = returns-clause-kept c;
-  same_places = c.in_ok-places.ensures ∙ sym (ap (λ (l : LiveGraph). l.places) c.of.ensures);
+  same_ranks = c.in_ok-ranks.ensures ∙ sym (ap (λ (l : LiveGraph). l.ranks) c.of.ensures);
 }
 
 pub returns-clause-begun : goal.returns-clause-begun

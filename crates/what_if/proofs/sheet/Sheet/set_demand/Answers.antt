@@ -1,7 +1,7 @@
 use Rattle.std.proofs.Common.{sym, subst, arith}
 use Rattle.std.proofs.lemmas.Grind.{common_steps}
 use Rattle.what_if.specs.Sheet.{IsSheet}
-use Rattle.what_if.proofs.Keeping.{redemanded-is_sheet}
+use Rattle.what_if.proofs.KeptSheets.{redemanded-is_sheet}
 use Rattle.what_if.proofs.sheet.Sheet.set_demand.Goals as goal
 
 pub returns-clause-redemanded : goal.returns-clause-redemanded
@@ -13,4 +13,4 @@ returns-clause-kept c =
     subst IsSheet (sym (returns-clause-redemanded c)) (redemanded-is_sheet c.args.self.now sheet c.args.n c.args.date c.requires.in_order c.requires.early)
 
 pub invariant_of-self : goal.invariant_of-self
-invariant_of-self c = record { sheet = returns-clause-kept c; same_places = c.self.invariant.same_places }
+invariant_of-self c = record { sheet = returns-clause-kept c; same_ranks = c.self.invariant.same_ranks }

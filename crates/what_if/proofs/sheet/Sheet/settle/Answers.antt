@@ -3,7 +3,7 @@ use Rattle.std.specs.Prelude.{Option, MatchOption}
 use Rattle.live_check.specs.Order.{LiveGraph}
 use Rattle.what_if.specs.Marks.{HasNone, IsFirstFrom}
 use Rattle.what_if.specs.Page.{Page, IsDate, slot}
-use Rattle.what_if.proofs.Settling.{IsSettling, goes_on, none_next}
+use Rattle.what_if.proofs.SettledDates.{IsSettling, goes_on, none_next, each_once}
 use Rattle.what_if.proofs.sheet.Sheet.settle.Goals as goal
 
 pub loop-next-preserved : goal.loop-next-preserved
@@ -28,3 +28,6 @@ returns-clause-none_marked c = (none_next c.args.self.now c.loop-next.self c.loo
 
 pub returns-clause-solved : goal.returns-clause-solved
 returns-clause-solved c = (none_next c.args.self.now c.loop-next.self c.loop-next.next c.loop-next.invariant.settled c.in_default.is).1
+
+pub returns-clause-once_each : goal.returns-clause-once_each
+returns-clause-once_each c = each_once c.args.self.now c.loop-next.self c.loop-next.next c.loop-next.invariant.settled

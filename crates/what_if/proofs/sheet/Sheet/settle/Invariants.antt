@@ -1,6 +1,6 @@
 use Rattle.std.proofs.Common.{◌≡◌}
 use Rattle.what_if.specs.Sheet.{date_count}
-use Rattle.what_if.proofs.Settling.{IsNext, left_from}
+use Rattle.what_if.proofs.SettledDates.{IsNext, left_from}
 use Rattle.what_if.proofs.sheet.Sheet.settle.Given as goal
 
 abbrev pub invariant-loop-next : goal.invariant-loop-next

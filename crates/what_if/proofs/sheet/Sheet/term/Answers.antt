@@ -1,4 +1,4 @@
-use Rattle.std.proofs.Common.{◌≡◌, ◌+◌, ◌-◌, ◌≤◌, ℕ, List, false, cond, sym, ap, ◌∙◌, arith, get_or}
+use Rattle.std.proofs.Common.{◌≡◌, ◌+◌, ◌-◌, ◌≤◌, ℕ, cond, sym, ap, ◌∙◌, arith}
 use Rattle.line_base.specs.declared.event.Arc.{Arc}
 use Rattle.line_base.specs.declared.event.Parts.{Parts}
 use Rattle.event_graph.specs.Network.{arc, time, delay}
@@ -8,29 +8,25 @@ use Rattle.live_check.specs.Order.{LiveGraph}
 use Rattle.event_graph.proofs.Sizes.{delay-small}
 use Rattle.what_if.specs.Page.{graph_of, IsDate, date_at}
 use Rattle.what_if.proofs.Inputs.{delay-edited}
-use Rattle.what_if.proofs.Keeping.{date-early}
+use Rattle.what_if.proofs.KeptSheets.{date-early}
 use Rattle.what_if.proofs.Least.{term-reads}
 use Rattle.what_if.proofs.Terms.{term-initial}
 use Rattle.what_if.proofs.sheet.Sheet.term.Goals as goal
-use Rattle.what_if.proofs.sheet.Sheet.term.Goals.{After-arcs, After-date}
+use Rattle.what_if.proofs.sheet.Sheet.term.Goals.{After-arc-arc, After-date}
 
 -- the arc, and the graph in which it is looked up
-same_graph : (c : After-arcs) → c.graph-graph.result.now ≡ c.args.self.now.live.graph
+same_graph : (c : After-arc-arc) → c.graph-graph.result.now ≡ c.args.self.now.live.graph
 same_graph c = c.graph-graph.ensures.graph ∙ ap (λ (l : LiveGraph). l.graph) c.requires.made_for
 
-abbrev IsArc : List Arc → Parts → ℕ → Type 0
-IsArc arcs g a = get_or arcs a (record { from = 0; to = 0; tokens = 0; worked = false }) ≡ arc g a
-
-arc_read : (c : After-arcs) → IsArc c.arcs.result.now c.args.self.now.live.graph c.args.a
-arc_read c =
-    ap (λ arcs. get_or arcs c.args.a (record { from = 0; to = 0; tokens = 0; worked = false })) c.arcs.ensures.arcs ∙ ap (λ (g : Parts). arc g c.args.a) (same_graph c)
+arc_read : (c : After-arc-arc) → c.arc-arc.result ≡ arc c.args.self.now.live.graph c.args.a
+arc_read c = c.arc-arc.ensures.arc ∙ ap (λ (g : Parts). arc g c.args.a) (same_graph c)
 
 -- the date that is read, which is early
-date_read : (c : After-date) → IsArc c.arcs.result.now c.args.self.now.live.graph c.args.a → c.date.result ≡ date_at c.args.self.now (arc c.args.self.now.live.graph c.args.a).from (c.args.n - (arc c.args.self.now.live.graph c.args.a).tokens)
+date_read : (c : After-date) → c.arc-arc.result ≡ arc c.args.self.now.live.graph c.args.a → c.date.result ≡ date_at c.args.self.now (arc c.args.self.now.live.graph c.args.a).from (c.args.n - (arc c.args.self.now.live.graph c.args.a).tokens)
 date_read c read =
     c.date.ensures.date ∙ ap (λ (x : Arc). date_at c.args.self.now x.from (c.args.n - x.tokens)) read
 
-date_small : (c : After-date) → IsArc c.arcs.result.now c.args.self.now.live.graph c.args.a → c.date.result ≤ 2_001_000_000_000_000
+date_small : (c : After-date) → c.arc-arc.result ≡ arc c.args.self.now.live.graph c.args.a → c.date.result ≤ 2_001_000_000_000_000
 date_small c read =
     let p = c.args.self.now in
     let sheet = c.date.ensures.kept in
@@ -45,18 +41,18 @@ date_small c read =
 
 pub overflow_add-result : goal.overflow_add-result
 overflow_add-result c =
-    omega (arith, date_small (goal.at.overflow_add-result c).After-date (arc_read (goal.at.overflow_add-result c).After-arcs), c.delay.ensures.delay, delay-small c.graph-graph.result.now c.args.a c.delay.ensures.limits)
+    omega (arith, date_small (goal.at.overflow_add-result c).After-date (arc_read (goal.at.overflow_add-result c).After-arc-arc), c.delay.ensures.delay, delay-small c.graph-graph.result.now c.args.a c.delay.ensures.limits)
 
 pub overflow_add-result-else-n-arc : goal.overflow_add-result-else-n-arc
 overflow_add-result-else-n-arc c =
-    omega (arith, c.work-work.ensures.short, date_small (goal.at.overflow_add-result-else-n-arc c).After-date (arc_read (goal.at.overflow_add-result-else-n-arc c).After-arcs), c.delay.ensures.delay, delay-small c.graph-graph.result.now c.args.a c.delay.ensures.limits)
+    omega (arith, c.work-work.ensures.short, date_small (goal.at.overflow_add-result-else-n-arc c).After-date (arc_read (goal.at.overflow_add-result-else-n-arc c).After-arc-arc), c.delay.ensures.delay, delay-small c.graph-graph.result.now c.args.a c.delay.ensures.limits)
 
 pub returns-then-n-arc : goal.returns-then-n-arc
 unfolding work
 returns-then-n-arc c =
     let p = c.args.self.now in
     let g = graph_of p in
-    let read = arc_read (goal.at.returns-then-n-arc c).After-arcs in
+    let read = arc_read (goal.at.returns-then-n-arc c).After-arc-arc in
     let tokens = ap (λ (x : Arc). x.tokens) read in
     c.work-work.ensures.work
     ∙ ap (λ (x : Arc). cond x.worked (time g x.to c.args.n) 0) read
@@ -69,12 +65,12 @@ returns-else-n-arc c =
     let a = c.args.a in
     let n = c.args.n in
     let g = graph_of p in
-    let read = arc_read (goal.at.returns-else-n-arc c).After-arcs in
+    let read = arc_read (goal.at.returns-else-n-arc c).After-arc-arc in
     let tokens = ap (λ (x : Arc). x.tokens) read in
     let from = (arc p.live.graph a).from in
     let job = n - (arc p.live.graph a).tokens in
     let worked = c.work-work.ensures.work ∙ ap (λ (x : Arc). cond x.worked (time g x.to n) 0) read in
-    let late = c.delay.ensures.delay ∙ ap (λ (h : Parts). delay h a) (same_graph (goal.at.returns-else-n-arc c).After-arcs) ∙ sym (delay-edited p.live.graph p.inputs a) in
+    let late = c.delay.ensures.delay ∙ ap (λ (h : Parts). delay h a) (same_graph (goal.at.returns-else-n-arc c).After-arc-arc) ∙ sym (delay-edited p.live.graph p.inputs a) in
     ap (λ w. w + (c.date.result + c.delay.result)) worked
     ∙ ap (λ d. work g a n + (d + c.delay.result)) (date_read (goal.at.returns-else-n-arc c).After-date read)
     ∙ ap (λ d. work g a n + (date_at p from job + d)) late

@@ -3,7 +3,7 @@ use Rattle.std.proofs.lemmas.Bool.{cond-true}
 use Rattle.event_graph.proofs.Sizes.{time-small}
 use Rattle.event_graph.specs.Network.{time}
 use Rattle.what_if.specs.Page.{graph_of}
-use Rattle.what_if.proofs.Keeping.{time-read}
+use Rattle.what_if.proofs.KeptSheets.{time-read}
 use Rattle.what_if.proofs.sheet.Sheet.work.Goals as goal
 
 pub returns-then-arc-clause-work : goal.returns-then-arc-clause-work

@@ -1,0 +1,4 @@
+pub mod CycleTexts
+mod Examples
+pub mod Writing
+pub mod Sent

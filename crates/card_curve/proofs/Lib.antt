@@ -1,0 +1,5 @@
+mod Examples
+pub mod PutRows
+pub mod GivenPoints
+pub mod SamePoints
+pub mod PrefixRows

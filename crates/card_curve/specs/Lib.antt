@@ -1,0 +1,4 @@
+pub mod Points
+pub mod CurveText
+pub mod Curve
+pub mod Laws

@@ -1,0 +1,4 @@
+pub mod Examples
+pub mod Reading
+pub mod ResumeWords
+pub mod Texts

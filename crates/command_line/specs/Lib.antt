@@ -1,0 +1,11 @@
+pub mod Numbers
+pub mod Options
+pub mod Ranges
+pub mod ReadAs
+pub mod Screens
+pub mod Settings
+pub mod Statuses
+pub mod Topics
+pub mod Usage
+pub mod Words
+pub mod Labels

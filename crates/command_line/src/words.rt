@@ -1,0 +1,472 @@
+ghost use Rattle.std.specs.Prelude.{◌≡◌, ◌≤◌, ◌↔◌, IfOk, IsErrOf, Some, None, option_and_then};
+ghost use Rattle.command_line.specs.Numbers.{number_in, longest_wait};
+ghost use Rattle.command_line.specs.Options.{texts};
+ghost use Rattle.command_line.specs.Ranges.{IsInRange};
+ghost use Rattle.line_base.specs.Limits.{most_cards};
+ghost use Rattle.command_line.specs.Settings.{settings_seen, asked};
+ghost use Rattle.command_line.specs.ReadAs.{IsReadAs};
+ghost use Rattle.command_line.specs.Words.{alone, asking, run_command, resume_command, resume_slots_command, with_options, one_file, after_big, after_resume, cards_command, each_command, after_cards, after_counts, after_curve, latest_command, after_latest, why_command, after_why, window_command, after_chart, plant_command, after_plant_word, help_of, after_help, is_help, after_word, command_of};
+
+use crate::command::{Command, Stop, WordsError};
+use crate::file_name::FileName;
+use crate::first::first_word;
+use crate::label::is_label_word;
+use crate::limits::{MAX_COUNTS, MAX_WAIT};
+use crate::number::{cards_in, number_in};
+use crate::settings::{Mode, settings_of};
+use crate::topic::topic_of;
+use line_base::{MAX_DEMANDS, Text, is_checkpoint_name, is_file_name};
+use std::alloc::Global;
+
+/// Reads the words after the program's name: the command first, then its operands in order, then its options in any
+/// order. `Usage` comes exactly where they are no command, and `NoMemory` only where they are one.
+pub fn read_words(alloc: Global, words: &[String]) -> Result<Command, WordsError>
+    ensures command { IfOk result (λ command. command_of (texts words.now) ≡ Some command) }
+    ensures usage { IsErrOf result WordsError.Usage ↔ (command_of (texts words.now) ≡ None) }
+    ensures range { IfOk result IsInRange }
+{
+    let Some((word, words)) = first_word(words) else {
+        return Err(WordsError::Usage);
+    };
+    match word {
+        "--help" => alone(Command::Help { topic: None }, words),
+        "--version" => alone(Command::Version, words),
+        "help" => help(words),
+        _ => of_command(alloc, word, words),
+    }
+}
+
+/// The command of the words behind `help`.
+#[tactic(auto, unfolding(crate::specs::Words::after_help))]
+fn help(words: &[String]) -> Result<Command, WordsError>
+    ensures { IsReadAs result (after_help (texts words.now)) }
+{
+    match words {
+        [] => Ok(Command::Help { topic: None }),
+        [word] => help_of(word.as_str()),
+        _ => Err(WordsError::Usage),
+    }
+}
+
+/// The screen of the command that a word names.
+fn help_of(word: &str) -> Result<Command, WordsError>
+    ensures { IsReadAs result (help_of word.now) }
+{
+    match topic_of(word) {
+        Some(topic) => Ok(Command::Help { topic: Some(topic) }),
+        None => Err(WordsError::Usage),
+    }
+}
+
+/// Whether words are `--help` alone.
+fn is_help(words: &[String]) -> bool
+    ensures { result ≡ is_help (texts words.now) }
+{
+    match words {
+        [word] => word.as_str() == "--help",
+        _ => false,
+    }
+}
+
+/// The command of a word and of the words behind it, of which the first is neither `help` nor an option.
+fn of_command(alloc: Global, word: &str, words: &[String]) -> Result<Command, WordsError>
+    ensures { IsReadAs result (after_word word.now (texts words.now)) }
+{
+    if is_help(words) {
+        return help_of(word);
+    }
+    match word {
+        "big" => big(words),
+        _ => of_plant(alloc, word, words),
+    }
+}
+
+/// A command with no word behind it.
+fn alone(command: Command, words: &[String]) -> Result<Command, WordsError>
+    requires { IsInRange command }
+    ensures { IsReadAs result (alone command (texts words.now)) }
+{
+    if words.is_empty() {
+        return Ok(command);
+    }
+    drop(command);
+    Err(WordsError::Usage)
+}
+
+/// The command of the words behind `big`.
+#[tactic(auto, unfolding(crate::specs::Words::after_big))]
+fn big(words: &[String]) -> Result<Command, WordsError>
+    ensures { IsReadAs result (after_big (texts words.now)) }
+{
+    let Some((seed, options)) = first_word(words) else {
+        return Err(WordsError::Usage);
+    };
+    let Some(seed) = number_in(seed, 0, u64::MAX) else {
+        return Err(WordsError::Usage);
+    };
+    let Some(settings) = settings_of(options) else {
+        return Err(WordsError::Usage);
+    };
+    match settings.mode {
+        Mode::Whole => Ok(Command::Big {
+            seed,
+            workers: settings.workers,
+        }),
+        _ => Err(WordsError::Usage),
+    }
+}
+
+/// The command of a word and of the words behind it, of which the first names a plant.
+#[tactic(auto, unfolding(crate::specs::Words::after_plant_word, crate::specs::Words::plant_command))]
+fn of_plant(alloc: Global, word: &str, words: &[String]) -> Result<Command, WordsError>
+    ensures { IsReadAs result (after_plant_word word.now (texts words.now)) }
+{
+    let Some((plant, words)) = first_word(words) else {
+        return Err(WordsError::Usage);
+    };
+    if !is_file_name(plant.as_bytes()) {
+        return Err(WordsError::Usage);
+    }
+    match word {
+        "run" => run(alloc, plant, words),
+        "check" => ask(alloc, plant, words, Question::Check),
+        "replay" => {
+            let (plant, schedule) = plant_and_file(alloc, plant, words)?;
+            Ok(Command::Replay { plant, schedule })
+        }
+        "resume" => resume(alloc, plant, words),
+        "cycle" => ask(alloc, plant, words, Question::Cycle),
+        "cards" => cards(alloc, plant, words),
+        "curve" => curve(alloc, plant, words),
+        "latest" => latest(alloc, plant, words),
+        "why" => why(alloc, plant, words),
+        "summary" => ask(alloc, plant, words, Question::Summary),
+        "chart" => chart(alloc, plant, words),
+        "table" => ask(alloc, plant, words, Question::Table),
+        "whatif" => {
+            let (plant, edits) = plant_and_file(alloc, plant, words)?;
+            Ok(Command::WhatIf { plant, edits })
+        }
+        _ => Err(WordsError::Usage),
+    }
+}
+
+/// The command of the words behind `run PLANT`.
+fn run(alloc: Global, plant: &str, words: &[String]) -> Result<Command, WordsError>
+    ensures { IsReadAs result (with_options (run_command plant.now) (texts words.now)) }
+{
+    let Some(settings) = settings_of(words) else {
+        return Err(WordsError::Usage);
+    };
+    let workers = settings.workers;
+    match settings.mode {
+        Mode::Whole => Ok(Command::Run {
+            plant: FileName::of(alloc, plant)?,
+            workers,
+            stop: None,
+        }),
+        Mode::Stopped { after, save } => Ok(Command::Run {
+            plant: FileName::of(alloc, plant)?,
+            workers,
+            stop: Some(Stop {
+                after,
+                save: FileName::of(alloc, save)?,
+            }),
+        }),
+        Mode::Saving { every } => Ok(Command::RunSlots {
+            plant: FileName::of(alloc, plant)?,
+            every,
+            workers,
+        }),
+        Mode::Bounded { room } => Ok(Command::RunRoom {
+            plant: FileName::of(alloc, plant)?,
+            room,
+            workers,
+        }),
+        Mode::Standing => Ok(Command::RunStand {
+            plant: FileName::of(alloc, plant)?,
+            workers,
+        }),
+        Mode::FromSlots => Err(WordsError::Usage),
+    }
+}
+
+/// What is asked of a plant by its name alone.
+#[derive(Clone, Copy)]
+enum Question {
+    /// `check PLANT`.
+    Check,
+    /// `cycle PLANT`.
+    Cycle,
+    /// `summary PLANT`.
+    Summary,
+    /// `table PLANT`.
+    Table,
+}
+
+/// The command of the words behind a question and a plant, of which there are none.
+fn ask(
+    alloc: Global,
+    plant: &str,
+    words: &[String],
+    question: Question,
+) -> Result<Command, WordsError>
+    ensures { IsReadAs result (alone (asking question plant.now) (texts words.now)) }
+{
+    if !words.is_empty() {
+        return Err(WordsError::Usage);
+    }
+    let plant = FileName::of(alloc, plant)?;
+    match question {
+        Question::Check => Ok(Command::Check { plant }),
+        Question::Cycle => Ok(Command::Cycle { plant }),
+        Question::Summary => Ok(Command::Summary { plant }),
+        Question::Table => Ok(Command::Table { plant }),
+    }
+}
+
+/// The names of the plant and of the one file that words behind it name.
+fn plant_and_file(
+    alloc: Global,
+    plant: &str,
+    words: &[String],
+) -> Result<(FileName, FileName), WordsError>
+    ensures plant { IfOk result (λ names. names.0 ≡ plant.now) }
+    ensures file { IfOk result (λ names. one_file (texts words.now) ≡ Some names.1) }
+    ensures usage { IsErrOf result WordsError.Usage ↔ (one_file (texts words.now) ≡ None) }
+{
+    match words {
+        [file] if is_file_name(file.as_bytes()) => Ok((
+            FileName::of(alloc, plant)?,
+            FileName::of(alloc, file.as_str())?,
+        )),
+        _ => Err(WordsError::Usage),
+    }
+}
+
+/// The command of the words behind `resume PLANT`.
+#[tactic(auto, unfolding(crate::specs::Words::after_resume))]
+fn resume(alloc: Global, plant: &str, words: &[String]) -> Result<Command, WordsError>
+    ensures { IsReadAs result (after_resume plant.now (texts words.now)) }
+{
+    let Some((word, options)) = first_word(words) else {
+        return Err(WordsError::Usage);
+    };
+    if is_checkpoint_name(word.as_bytes()) {
+        resume_file(alloc, plant, word, options)
+    } else {
+        resume_slots(alloc, plant, words)
+    }
+}
+
+/// The command of the words behind `resume PLANT FILE`.
+fn resume_file(
+    alloc: Global,
+    plant: &str,
+    saved: &str,
+    options: &[String],
+) -> Result<Command, WordsError>
+    ensures { IsReadAs result (with_options (resume_command plant.now saved.now) (texts options.now)) }
+{
+    let Some(settings) = settings_of(options) else {
+        return Err(WordsError::Usage);
+    };
+    match settings.mode {
+        Mode::Whole => Ok(Command::Resume {
+            plant: FileName::of(alloc, plant)?,
+            saved: FileName::of(alloc, saved)?,
+            workers: settings.workers,
+        }),
+        _ => Err(WordsError::Usage),
+    }
+}
+
+/// The command of the options behind `resume PLANT`.
+fn resume_slots(alloc: Global, plant: &str, options: &[String]) -> Result<Command, WordsError>
+    ensures { IsReadAs result (with_options (resume_slots_command plant.now) (texts options.now)) }
+{
+    let Some(settings) = settings_of(options) else {
+        return Err(WordsError::Usage);
+    };
+    match settings.mode {
+        Mode::FromSlots => Ok(Command::ResumeSlots {
+            plant: FileName::of(alloc, plant)?,
+            workers: settings.workers,
+        }),
+        _ => Err(WordsError::Usage),
+    }
+}
+
+/// The command of the words behind `cards PLANT`.
+#[tactic(auto, unfolding(crate::specs::Words::after_cards))]
+fn cards(alloc: Global, plant: &str, words: &[String]) -> Result<Command, WordsError>
+    ensures { IsReadAs result (after_cards plant.now (texts words.now)) }
+{
+    match words {
+        [wait] => cards_of_all(alloc, plant, wait.as_str()),
+        [wait, option] if option.as_str() == "--each" => cards_of_each(alloc, plant, wait.as_str()),
+        _ => Err(WordsError::Usage),
+    }
+}
+
+/// The command `cards PLANT WAIT`.
+fn cards_of_all(alloc: Global, plant: &str, wait: &str) -> Result<Command, WordsError>
+    ensures { IsReadAs result (cards_command plant.now wait.now) }
+{
+    let Some(wait) = number_in(wait, 0, MAX_WAIT) else {
+        return Err(WordsError::Usage);
+    };
+    Ok(Command::Cards {
+        plant: FileName::of(alloc, plant)?,
+        wait,
+    })
+}
+
+/// The command `cards PLANT WAIT --each`.
+fn cards_of_each(alloc: Global, plant: &str, wait: &str) -> Result<Command, WordsError>
+    ensures { IsReadAs result (each_command plant.now wait.now) }
+{
+    let Some(wait) = number_in(wait, 0, MAX_WAIT) else {
+        return Err(WordsError::Usage);
+    };
+    Ok(Command::CardsEach {
+        plant: FileName::of(alloc, plant)?,
+        wait,
+    })
+}
+
+/// The command of the words behind `curve PLANT`.
+#[tactic(auto, unfolding(crate::specs::Words::after_curve))]
+fn curve(alloc: Global, plant: &str, words: &[String]) -> Result<Command, WordsError>
+    ensures { IsReadAs result (after_curve plant.now (texts words.now)) }
+{
+    let Some((from, words)) = first_word(words) else {
+        return Err(WordsError::Usage);
+    };
+    let Some((to, options)) = first_word(words) else {
+        return Err(WordsError::Usage);
+    };
+    let Some(from) = cards_in(from) else {
+        return Err(WordsError::Usage);
+    };
+    let Some(to) = cards_in(to) else {
+        return Err(WordsError::Usage);
+    };
+    curve_between(alloc, plant, from, to, options)
+}
+
+/// The command of the options behind `curve PLANT FROM TO`.
+fn curve_between(
+    alloc: Global,
+    plant: &str,
+    from: u32,
+    to: u32,
+    options: &[String],
+) -> Result<Command, WordsError>
+    requires cards { to ≤ most_cards }
+    ensures { IsReadAs result (after_counts plant.now from to (texts options.now)) }
+{
+    if from > to || to - from >= MAX_COUNTS {
+        return Err(WordsError::Usage);
+    }
+    let Some(settings) = settings_of(options) else {
+        return Err(WordsError::Usage);
+    };
+    match settings.mode {
+        Mode::Whole => Ok(Command::Curve {
+            plant: FileName::of(alloc, plant)?,
+            from,
+            to,
+            workers: settings.workers,
+        }),
+        _ => Err(WordsError::Usage),
+    }
+}
+
+/// The command of the words behind `latest PLANT`.
+#[tactic(auto, unfolding(crate::specs::Words::after_latest))]
+fn latest(alloc: Global, plant: &str, words: &[String]) -> Result<Command, WordsError>
+    ensures { IsReadAs result (after_latest plant.now (texts words.now)) }
+{
+    match words {
+        [wait] => latest_dates(alloc, plant, wait.as_str()),
+        _ => Err(WordsError::Usage),
+    }
+}
+
+/// The command `latest PLANT WAIT`.
+fn latest_dates(alloc: Global, plant: &str, wait: &str) -> Result<Command, WordsError>
+    ensures { IsReadAs result (latest_command plant.now wait.now) }
+{
+    let Some(wait) = number_in(wait, 0, MAX_WAIT) else {
+        return Err(WordsError::Usage);
+    };
+    Ok(Command::Latest {
+        plant: FileName::of(alloc, plant)?,
+        wait,
+    })
+}
+
+/// The command of the words behind `why PLANT`.
+#[tactic(auto, unfolding(crate::specs::Words::after_why))]
+fn why(alloc: Global, plant: &str, words: &[String]) -> Result<Command, WordsError>
+    ensures { IsReadAs result (after_why plant.now (texts words.now)) }
+{
+    match words {
+        [label, job] => why_date(alloc, plant, label.as_str(), job.as_str()),
+        _ => Err(WordsError::Usage),
+    }
+}
+
+/// The command `why PLANT LABEL JOB`.
+fn why_date(alloc: Global, plant: &str, label: &str, job: &str) -> Result<Command, WordsError>
+    ensures { IsReadAs result (why_command plant.now label.now job.now) }
+{
+    if !is_label_word(label.as_bytes()) {
+        return Err(WordsError::Usage);
+    }
+    let Some(job) = number_in(job, 1, MAX_DEMANDS as u64) else {
+        return Err(WordsError::Usage);
+    };
+    Ok(Command::Why {
+        plant: FileName::of(alloc, plant)?,
+        label: Text::of(alloc, label)?,
+        job: job as u32,
+    })
+}
+
+/// The command of the words behind `chart PLANT`.
+#[tactic(auto, unfolding(crate::specs::Words::after_chart))]
+fn chart(alloc: Global, plant: &str, words: &[String]) -> Result<Command, WordsError>
+    ensures { IsReadAs result (after_chart plant.now (texts words.now)) }
+{
+    match words {
+        [] => Ok(Command::Chart {
+            plant: FileName::of(alloc, plant)?,
+            window: None,
+        }),
+        [from, to] => chart_window(alloc, plant, from.as_str(), to.as_str()),
+        _ => Err(WordsError::Usage),
+    }
+}
+
+/// The command `chart PLANT FROM TO`.
+fn chart_window(alloc: Global, plant: &str, from: &str, to: &str) -> Result<Command, WordsError>
+    ensures { IsReadAs result (option_and_then
+        (λ a. option_and_then (λ b. window_command plant.now a b) (number_in 0 longest_wait to.now))
+        (number_in 0 longest_wait from.now)) }
+{
+    let Some(from) = number_in(from, 0, MAX_WAIT) else {
+        return Err(WordsError::Usage);
+    };
+    let Some(to) = number_in(to, 0, MAX_WAIT) else {
+        return Err(WordsError::Usage);
+    };
+    if from >= to {
+        return Err(WordsError::Usage);
+    }
+    Ok(Command::Chart {
+        plant: FileName::of(alloc, plant)?,
+        window: Some((from, to)),
+    })
+}

@@ -1,3 +1,0 @@
-pub mod CycleTexts
-mod Examples
-pub mod Writing

@@ -1,7 +1,0 @@
-use Rattle.std.proofs.Common.{◌≡◌, ◌++◌, take}
-use Rattle.std.specs.List.{flat_map}
-use Rattle.command_outputs.specs.CardsText.{spaced}
-use Rattle.command_outputs.proofs.cards.add_labels.Given as goal
-
-abbrev pub invariant-loop-label : goal.invariant-loop-label
-invariant-loop-label l = l.text.items ≡ l.initial.text.items ++ flat_map spaced (take l.label-index l.labels)

@@ -1,4 +1,0 @@
-pub mod CardsText
-pub mod ChangesText
-pub mod CycleText
-pub mod Written

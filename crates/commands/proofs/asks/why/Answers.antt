@@ -1,0 +1,21 @@
+use Rattle.std.proofs.Common.{ap, ◌∙◌, arith}
+use Rattle.line_base.specs.declared.event.Parts.{Parts}
+use Rattle.event_graph.specs.Network.{stations, jobs}
+use Rattle.commands.proofs.Asking.{names, names_none}
+use Rattle.commands.proofs.asks.why.Goals as goal
+
+pub causes_of-requires-clause-station : goal.causes_of-requires-clause-station
+causes_of-requires-clause-station c =
+    omega (arith, c.in-Ok.ensures.station, ap (λ (g : Parts). stations g) (c.graph.ensures.graph ∙ c.requires.plant.graph))
+
+pub causes_of-requires-clause-job : goal.causes_of-requires-clause-job
+causes_of-requires-clause-job c =
+    omega (arith, c.in-Ok.ensures.job, ap (λ (g : Parts). jobs g) (c.graph.ensures.graph ∙ c.requires.plant.graph))
+
+pub returns-in-Ok : goal.returns-in-Ok
+returns-in-Ok c =
+    names c.args.line.plant c.graph.result.now c.args.label c.as_bytes.result.now c.in-Ok.station c.args.job c.causes_of.result (c.graph.ensures.graph ∙ c.requires.plant.graph) (c.as_bytes.ensures.value ∙ c.as_str.ensures) c.in-Ok.ensures.named c.causes_of.ensures
+
+pub returns-in-Err : goal.returns-in-Err
+returns-in-Err c =
+    names_none c.args.line.plant c.graph.result.now c.args.label c.as_bytes.result.now c.args.job (c.graph.ensures.graph ∙ c.requires.plant.graph) (c.as_bytes.ensures.value ∙ c.as_str.ensures) c.in-Err.ensures.none

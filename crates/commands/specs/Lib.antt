@@ -1,0 +1,4 @@
+pub mod Answers
+pub mod Reports
+pub mod Saving
+pub mod Task

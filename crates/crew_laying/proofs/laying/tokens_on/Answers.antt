@@ -1,6 +1,0 @@
-use Rattle.crew_laying.proofs.StateRoom.{few_tokens}
-use Rattle.crew_laying.proofs.laying.tokens_on.Goals as goal
-
-pub returns-clause-few : goal.returns-clause-few
-returns-clause-few c =
-    few_tokens c.args.live.now.graph c.args.state.now c.args.a c.requires.made_for c.place.ensures.reached c.requires.arc

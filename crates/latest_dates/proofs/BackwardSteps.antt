@@ -1,0 +1,73 @@
+-- One step of the pass from the last date to the first.
+use Rattle.std.proofs.Common.{◌≡◌, ◌≢◌, ℕ, ◌+◌, ◌<◌, ◌≤◌, List, length, set, sym, ap, ◌∙◌, subst, arith, inl, inr}
+use Rattle.std.specs.Prelude.{Option, None}
+use Rattle.std.proofs.lemmas.Bool.{cases_lt}
+use Rattle.std.proofs.lemmas.Grind.{get_or-set_at}
+use Rattle.std.proofs.lemmas.List.{get_or-set_other}
+use Rattle.line_base.specs.declared.event.Parts.{Parts}
+use Rattle.event_graph.specs.Network.{arc, delay, IsGraph, StartsAt}
+use Rattle.event_graph.specs.Table.{Table, date_in}
+use Rattle.event_graph.specs.Term.{work}
+use Rattle.event_graph.specs.Solves.{Solves}
+use Rattle.live_check.specs.Order.{LiveGraph, IsUpward}
+use Rattle.line_core.specs.Run.{Dates, IsLeastTable}
+use Rattle.what_if.specs.Page.{IsDate, slot}
+use Rattle.what_if.proofs.SlotOrder.{slot-station, slot-rank}
+use Rattle.latest_dates.specs.Latest.{LatestTable, earliest_bound}
+use Rattle.latest_dates.specs.Laws.{IsServed}
+use Rattle.latest_dates.specs.Found.{IsInTime, LeavesTime, latest_in}
+use Rattle.latest_dates.proofs.FromLast.{reader, reads-later}
+use Rattle.latest_dates.proofs.EarliestBounds.{AgreesAfter, earliest_bound-same, term-sent}
+use Rattle.latest_dates.proofs.NoneLater.{AreLatestFrom, none_later}
+use Rattle.latest_dates.proofs.Solving.{no_later-less}
+
+-- the run solves the graph, and serves where no job waits longer than it may
+pub run_solves : (d : Dates) (g : Parts) → IsLeastTable d → d.graph ≡ g → Solves g (date_in d.rows)
+run_solves d g least same = subst (λ h. Solves h (date_in d.rows)) same least.least.solves
+
+served : (d : Dates) (may : ℕ) → IsLeastTable d → IsInTime d.graph (date_in d.rows) may → IsServed d.graph may (date_in d.rows)
+served d may least in_time n one inside =
+    omega (arith, in_time n one inside, least.greatest.feed least.limits.some_station n one inside)
+
+pub run_serves : (d : Dates) (g : Parts) (may : ℕ) → IsLeastTable d → d.graph ≡ g → IsInTime g (date_in d.rows) may → IsServed g may (date_in d.rows)
+run_serves d g may least same in_time =
+    subst (λ h. IsServed h may (date_in d.rows)) same (served d may least (subst (λ h. IsInTime h (date_in d.rows) may) (sym same) in_time))
+
+module _ (l : LiveGraph) (up : IsUpward l.graph l.ranks) (graph : IsGraph l.graph) (may : ℕ) where
+  -- the latest dates that a date is bounded by leave time for what the arcs add
+  pub leaves_time : (y : LatestTable) (at : ℕ) → AreLatestFrom l may y at → (x : Table) → Solves l.graph x → IsServed l.graph may x → (t n : ℕ) → IsDate l.graph t n → at ≤ slot l t n + 1 → (a : ℕ) → StartsAt l.graph t a → LeavesTime l.graph y n a
+  leaves_time y at latest x solves serves t n date from a starts inside =
+      let g = l.graph in
+      let job = n + (arc g a).tokens in
+      let to = (arc g a).to in
+      let asks = solves.others a job starts.0 (omega (arith, date.from_one)) inside in
+      let after = reads-later l up graph t n a date starts in
+      let late = none_later l up graph may y at latest x solves serves to job (reader g t n a graph date starts inside) (omega arith) in
+      no_later-less (delay g a + work g a job) (x to job) (y to job) (omega (arith, asks, term-sent g x a n date.from_one)) late
+
+  module _ (dates : List (Option ℕ)) (at : ℕ) (v : Option ℕ) where
+    past : (u m : ℕ) → at < slot l u m → latest_in l (set dates at v) u m ≡ latest_in l dates u m
+    past u m after =
+        let other : slot l u m ≢ at = omega arith in get_or-set_other dates at (slot l u m) v None other
+
+    agrees : (u m : ℕ) → IsDate l.graph u m → at ≤ slot l u m → AgreesAfter l.graph (latest_in l (set dates at v)) (latest_in l dates) u m
+    agrees u m date from a starts inside =
+        let after = reads-later l up graph u m a date starts in
+        past (arc l.graph a).to (m + (arc l.graph a).tokens) (omega arith)
+
+    pub one_earlier : (t n : ℕ) → IsDate l.graph t n → slot l t n ≡ at → at < length dates → AreLatestFrom l may (latest_in l dates) (at + 1) → v ≡ earliest_bound l.graph may (latest_in l dates) t n → AreLatestFrom l may (latest_in l (set dates at v)) at
+    one_earlier t n here is there latest found u m date from =
+        let same = sym (earliest_bound-same l.graph may (latest_in l (set dates at v)) (latest_in l dates) u m (agrees u m date from)) in
+        elim (cases_lt at (slot l u m)) [
+          | inl after ↦ past u m after ∙ latest u m date (omega arith) ∙ same
+          | inr now ↦
+              let equal : slot l u m ≡ at = omega arith in
+              let slots : slot l t n ≡ slot l u m = is ∙ sym equal in
+              let station = slot-rank l up t n u m here date slots in
+              let job = slot-station l up t n u m here date slots in
+              get_or-set_at dates at (slot l u m) v None equal there
+              ∙ found
+              ∙ ap (λ s. earliest_bound l.graph may (latest_in l dates) s n) station
+              ∙ ap (earliest_bound l.graph may (latest_in l dates) u) job
+              ∙ same
+        ]

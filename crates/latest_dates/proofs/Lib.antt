@@ -1,0 +1,11 @@
+pub mod FromLast
+pub mod Earliest
+pub mod EarliestBounds
+pub mod NoneLater
+pub mod Solving
+pub mod Unbounded
+pub mod Ordered
+pub mod OneTable
+pub mod BackwardSteps
+pub mod Lines
+pub mod Examples

@@ -1,0 +1,4 @@
+pub mod Latest
+pub mod LatestText
+pub mod Found
+pub mod Laws

@@ -1,0 +1,116 @@
+ghost use Rattle.std.specs.Prelude.{◌≡◌, ◌^◌, ◌<◌, IfOk, IfErr, OnOk};
+ghost use Rattle.event_graph.specs.Table.{date_in};
+ghost use Rattle.latest_dates.specs.Found.{latest_in, HasDates, NoneIsBefore, IsFound, IsInTime, IsLatestRefusal, text_of};
+ghost use Rattle.latest_dates.specs.Latest.{AreLatest};
+ghost use Rattle.line_io.specs.SinkView.{WritesText};
+
+use crate::error::LatestError;
+use crate::pass::latest_of;
+use crate::run::LatestRun;
+use crate::waits::first_late;
+use crate::writing::write_latest;
+use line_base::Date;
+use line_core::Table;
+use line_io::{Failed, Outgoing, Sink};
+use live_check::Live;
+use std::alloc::Global;
+use std::marker::Model;
+
+/// The latest date of each job at each station, and the memory for writing them. Contracts see the graph with the
+/// order of its stations, the dates of the run, how long a customer may wait, and the latest dates.
+#[derive(Drop)]
+pub struct Latest {
+    run: LatestRun,
+    out: Outgoing,
+}
+
+impl Model for Latest {
+    ghost use Rattle.std.specs.Prelude.{◌≡◌, false};
+    ghost use Rattle.line_io.specs.Outgoing.{emptied};
+    ghost use Rattle.latest_dates.specs.Found.{Found, found_of, IsRun};
+
+    ghost Value = { Found };
+
+    ghost view = { λ latest. found_of latest.run };
+
+    ghost invariant = { λ latest. IsRun latest.run × (latest.out ≡ emptied false) };
+}
+
+/// The latest dates of a run, or the first job that waits longer than `wait`.
+fn dates_of(
+    alloc: Global,
+    live: &Live,
+    table: &Table,
+    wait: u64,
+) -> Result<Vec<Option<Date>>, LatestError>
+    requires of_graph { table.now.graph ≡ live.now.graph }
+    requires small { wait < 2 ^ 63 }
+    ensures in_time { OnOk result (IsInTime live.now.graph (date_in table.now.rows) wait) }
+    ensures places { IfOk result (λ dates. HasDates live.now dates.items) }
+    ensures latest { IfOk result
+        (λ dates. AreLatest live.now.graph wait (latest_in live.now dates.items)) }
+    ensures not_before { IfOk result
+        (λ dates. NoneIsBefore live.now.graph (date_in table.now.rows) (latest_in live.now dates.items)) }
+    ensures refused { IfErr result (IsLatestRefusal live.now.graph (date_in table.now.rows) wait) }
+{
+    match first_late(live.graph(), table, wait) {
+        Some(late) => Err(LatestError::Late {
+            job: late.job,
+            wait: late.wait,
+        }),
+        None => Ok(latest_of(alloc, live, table, wait)?),
+    }
+}
+
+/// How late each job may be at each station, so that every customer waits at most `wait`, over a run of a live graph.
+/// The last station is the delivery, where job n may be as late as its demand date and `wait`; elsewhere a job may be
+/// as late as the jobs that take its tokens let it. Stations are counted from 0, jobs from 1, dates are in the
+/// plant's unit.
+///
+/// `Late` comes exactly where a job of the run waits longer, and names the first. It takes one pass over all dates,
+/// and all memory that writing takes: the latest dates, and room for one piece of the text.
+///
+/// Source of the rule: Baccelli, Cohen, Olsder and Quadrat, Synchronization and Linearity, backward equations.
+pub fn latest_dates(
+    alloc: Global,
+    live: Live,
+    table: Table,
+    wait: u64,
+) -> Result<Latest, LatestError>
+    requires of_graph { table.graph ≡ live.graph }
+    requires small { wait < 2 ^ 63 }
+    ensures live { IfOk result (λ latest. latest.live ≡ live) }
+    ensures run { IfOk result (λ latest. latest.rows ≡ table.rows) }
+    ensures wait { IfOk result (λ latest. latest.may ≡ wait) }
+    ensures found { IfOk result IsFound }
+    ensures refused { IfErr result (IsLatestRefusal live.graph (date_in table.rows) wait) }
+{
+    // For its clause that the dates are the least solution.
+    let _least = table.stations();
+    let dates = dates_of(alloc, &live, &table, wait)?;
+    let run = LatestRun {
+        live,
+        table,
+        wait,
+        dates,
+    };
+    Ok(Latest {
+        run,
+        out: Outgoing::new(alloc)?,
+    })
+}
+
+impl Latest {
+    /// Writes the latest dates to the sink, a line for each station but the feed and each job, in order:
+    /// `LABEL N LATEST slack S`, with S the time from the run's date to the latest, or `LABEL N none` where nothing
+    /// bounds it; then `tight K`, how many have a slack of 0. It goes out in pieces of 4,096 bytes and a last one that
+    /// may be shorter. After `Failed` a front of it was written. It takes no memory.
+    pub fn write<K: Sink>(&mut self, sink: &mut K) -> Result<(), Failed>
+        ensures puts { WritesText (K.shown sink.old) (K.shown sink.new) (text_of self.old) result }
+        ensures same { self.new ≡ self.old }
+        ensures found { IsFound self.old }
+    {
+        write_latest(&mut self.out, sink, &self.run);
+        self.out.finish(sink)
+    }
+}

@@ -1,0 +1,15 @@
+use line_base::Date;
+use line_core::Table;
+use live_check::Live;
+
+/// A run with its latest dates: what writing them looks at.
+#[derive(Drop)]
+pub struct LatestRun {
+    pub live: Live,
+    /// The dates of the run.
+    pub table: Table,
+    /// How long a customer may wait.
+    pub wait: u64,
+    /// The latest dates, by job and then by the rank of the station. `None` stands for a date that nothing bounds.
+    pub dates: Vec<Option<Date>>,
+}

@@ -1,0 +1,12 @@
+pub mod StepLists
+pub mod StillCounts
+pub mod PairLists
+pub mod LaneFacts
+pub mod BarsApart
+pub mod OneBar
+pub mod ChartLines
+pub mod FirstAfter
+pub mod AxisFacts
+pub mod AxisSteps
+pub mod Windows
+pub mod Examples

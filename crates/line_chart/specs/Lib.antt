@@ -1,0 +1,9 @@
+pub mod Window
+pub mod Bars
+pub mod Machines
+pub mod Areas
+pub mod Counts
+pub mod Axis
+pub mod ChartText
+pub mod Picture
+pub mod Laws

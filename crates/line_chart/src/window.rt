@@ -1,0 +1,8 @@
+/// The dates that a picture shows: from the first on, and before the end.
+#[derive(Clone, Copy, Debug, PartialEq, Eq)]
+pub struct Window {
+    /// The first date.
+    pub from: u64,
+    /// The date at which it ends, above the first.
+    pub to: u64,
+}

@@ -1,0 +1,85 @@
+//! The calls of a file of the machine, for contracts alone.
+ghost use Rattle.std.specs.Prelude.{◌≡◌, ◌++◌, ◌∷◌, []};
+ghost use Rattle.line_disk.specs.HostFile.{calls_of};
+ghost use Rattle.line_disk.specs.RawFile.{Opens, read_call, write_call, sync_call};
+
+use crate::opening::Opening;
+use line_base::Transcript;
+use std::io;
+use std::marker::Model;
+
+/// Names to a transcript what contracts see of a call. No value of it is made.
+#[derive(Drop)]
+pub struct RawCallName {}
+
+impl Model for RawCallName {
+    ghost use Rattle.std.specs.Prelude.{false};
+    ghost use Rattle.line_disk.specs.RawFile.{RawCall, Syncs};
+
+    ghost Value = { RawCall };
+
+    ghost view = { λ _. Syncs false };
+}
+
+/// The calls with their answers, which only contracts see.
+#[derive(Drop)]
+pub struct RawCalls {
+    calls: Transcript<RawCallName>,
+}
+
+impl RawCalls {
+    /// No call yet.
+    pub fn new() -> Self
+        ensures { calls_of result ≡ [] }
+    {
+        RawCalls {
+            calls: Transcript::new(),
+        }
+    }
+
+    /// Notes that the file was opened, and hands on the answer.
+    pub fn note_open(&mut self, makes: bool, answer: Opening) -> Opening
+        ensures same { result ≡ answer }
+        ensures noted { calls_of self.new ≡ calls_of self.old ++ Opens makes result ∷ [] }
+    {
+        self.calls = Transcript::of(&(&self.calls, makes, answer));
+        answer
+    }
+
+    /// Notes that bytes were read, and hands on the answer.
+    pub fn note_read(
+        &mut self,
+        at: u64,
+        bytes: &[u8],
+        answer: io::Result<usize>,
+    ) -> io::Result<usize>
+        ensures same { result ≡ answer }
+        ensures noted { calls_of self.new ≡ calls_of self.old ++ read_call at bytes.now result ∷ [] }
+    {
+        self.calls = Transcript::of(&(&self.calls, at, bytes, &answer));
+        answer
+    }
+
+    /// Notes that bytes were written, and hands on the answer.
+    pub fn note_write(
+        &mut self,
+        at: u64,
+        bytes: &[u8],
+        answer: io::Result<usize>,
+    ) -> io::Result<usize>
+        ensures same { result ≡ answer }
+        ensures noted { calls_of self.new ≡ calls_of self.old ++ write_call at bytes.now result ∷ [] }
+    {
+        self.calls = Transcript::of(&(&self.calls, at, bytes, &answer));
+        answer
+    }
+
+    /// Notes a sync, and hands on the answer.
+    pub fn note_sync(&mut self, answer: io::Result<()>) -> io::Result<()>
+        ensures same { result ≡ answer }
+        ensures noted { calls_of self.new ≡ calls_of self.old ++ sync_call result ∷ [] }
+    {
+        self.calls = Transcript::of(&(&self.calls, &answer));
+        answer
+    }
+}

@@ -1,0 +1,11 @@
+use Rattle.line_setup.proofs.LaidEnds.{laid_plain_read, on_ok}
+use Rattle.line_setup.proofs.laying.Ends.join_within.Goals as goal
+
+pub returns : goal.returns
+returns c =
+    let shelved = c.in_ok-number.ensures in
+    let tokens = c.in_ok-tokens_on in
+    let asked = c.requires in
+    on_ok c.lay.result _ _ (
+    laid_plain_read c.args.start.now c.args.self.now c.shelve.new.self c.lay.new.self c.args.a c.args.worker_number c.in_ok-number.number c.arc_at-arc.result tokens.field-0.items c.arc_at-arc.ensures.sound asked.arc c.arc_at-arc.ensures.arc asked.laid asked.worker_number asked.puts asked.takes tokens.ensures.tokens c.tokens_on.ensures.few shelved.number shelved.shelved)
+    c.lay.ensures

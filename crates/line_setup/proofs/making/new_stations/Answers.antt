@@ -1,0 +1,56 @@
+use Rattle.std.proofs.Common.{◌≡◌, ℕ, ◌+◌, ◌-◌, ◌<◌, ap, ◌∙◌, subst, sym, List, length, arith}
+use Rattle.std.proofs.lemmas.List.{length_push, get_or_default}
+use Rattle.line_base.specs.Roomy.{RoomyLog}
+use Rattle.event_graph.specs.State.{log}
+use Rattle.local_queues.specs.Shelf.{log_on}
+use Rattle.line_worker.specs.Team.{member}
+use Rattle.station_step.specs.Station.{WorkStation}
+use Rattle.line_setup.specs.Making.{QueueEnds, AreNewStations}
+use Rattle.line_setup.proofs.MadeStations.{one_more_made, one_more_with_log, same-without}
+use Rattle.line_setup.proofs.making.new_stations.Goals as goal
+use Rattle.line_setup.proofs.making.new_stations.Goals.{After-index-copy}
+
+-- the log of the station whose turn it is
+there : (c : After-index-copy) → c.loop-t.t - c.args.first < length c.args.logs.now.items
+there c = omega (arith, c.loop-t-test.true, c.requires.count, c.loop-t.invariant.count)
+
+copy_is : (c : After-index-copy) → c.index-copy.result.now ≡ log_on c.args.logs.now.items (c.loop-t.t - c.args.first)
+copy_is c = c.index-copy.ensures ∙ get_or_default c.args.logs.now.items (c.loop-t.t - c.args.first) _ _ (there c)
+
+at_is : (c : After-index-copy) → c.args.first + (c.loop-t.t - c.args.first) ≡ c.loop-t.t
+at_is c = omega (arith, c.loop-t.invariant.count)
+
+pub new_station-requires-clause-dates : goal.new_station-requires-clause-dates
+new_station-requires-clause-dates c =
+    let from = (goal.at.new_station-requires-clause-dates c).After-index-copy in
+    ap (λ (l : RoomyLog). l.dates) (copy_is from) ∙ c.requires.logs.dates (c.loop-t.t - c.args.first) (there from) ∙ ap (log c.args.state.now.state) (at_is from)
+
+pub new_station-requires-clause-few : goal.new_station-requires-clause-few
+new_station-requires-clause-few c =
+    let from = (goal.at.new_station-requires-clause-few c).After-index-copy in
+    omega (arith, ap (λ (l : RoomyLog). length l.dates) (copy_is from), c.requires.logs.few (c.loop-t.t - c.args.first) (there from))
+
+pub new_station-requires-clause-room : goal.new_station-requires-clause-room
+new_station-requires-clause-room c =
+    let from = (goal.at.new_station-requires-clause-room c).After-index-copy in
+    ap (λ (l : RoomyLog). l.room) (copy_is from) ∙ c.requires.logs.room (c.loop-t.t - c.args.first) (there from)
+
+pub loop-t-preserved : goal.loop-t-preserved
+loop-t-preserved c =
+    let g = c.args.live.now.graph in
+    let begun = c.args.state.now.state in
+    let before = c.loop-t.invariant in
+    let pushed = c.in_ok-push.ensures.items in
+    let low = there (goal.at.loop-t-preserved c).After-index-copy in
+    let at : c.index-copy.result.now ≡ log_on c.args.logs.now.items (c.loop-t.t - c.args.first) = c.index-copy.ensures ∙ get_or_default c.args.logs.now.items (c.loop-t.t - c.args.first) _ _ low in
+    record {
+      count = omega (arith, before.count, ap length pushed, length_push c.loop-t.made.items c.in_ok-station.station);
+      made =
+          subst (λ (l : List WorkStation). AreNewStations g begun c.args.first c.args.ends.now l) (sym pushed) (
+          one_more_made g begun c.args.first c.loop-t.t c.args.ends.now c.loop-t.ends c.loop-t.made.items c.in_ok-station.station before.rest before.count before.made c.in_ok-station.ensures.station);
+      rest = same-without c.loop-t.t c.args.ends.now c.loop-t.ends c.new_station.new.ends before.rest c.in_ok-station.ensures.rest;
+      logs = subst (λ (l : List WorkStation). (i : ℕ) → i < length l → (member l i).log ≡ log_on c.args.logs.now.items i) (sym pushed) (
+          one_more_with_log c.args.first c.loop-t.t c.args.logs.now.items c.loop-t.made.items c.in_ok-station.station c.index-copy.result.now before.count at c.in_ok-station.ensures.log before.logs);
+      shelves = ap (λ (e : QueueEnds). e.shelves) c.in_ok-station.ensures.rest ∙ before.shelves;
+      arcs = ap (λ (e : QueueEnds). e.arcs) c.in_ok-station.ensures.rest ∙ before.arcs;
+    }

@@ -1,0 +1,3 @@
+pub mod Making
+pub mod NewWorkers
+pub mod Start

@@ -1,0 +1,12 @@
+use Rattle.line_io.proofs.OutgoingLemmas.{pushed_after}
+use Rattle.std.proofs.Common.{ap, ◌∙◌}
+use Rattle.line_summary.specs.Machines.{busiest_of}
+use Rattle.line_summary.specs.SummaryText.{busiest_line}
+use Rattle.line_summary.proofs.texts.write_busiest.Goals as goal
+
+pub returns : goal.returns
+unfolding busiest_line
+returns g c =
+    let is = c.busiest.ensures ∙ ap busiest_of (c.as_slice.ensures.value ∙ c.requires.uses) in
+    let label = rw is at c.write_label.ensures in
+    pushed_after c.push.ensures (pushed_after label c.push-2.ensures)

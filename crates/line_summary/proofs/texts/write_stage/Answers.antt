@@ -1,0 +1,33 @@
+use Rattle.std.proofs.Common.{sym, ap, ◌∙◌}
+use Rattle.line_base.specs.declared.event.Parts.{Parts}
+use Rattle.event_graph.specs.Table.{date_in}
+use Rattle.line_io.proofs.OutgoingLemmas.{pushed_after}
+use Rattle.line_stats.specs.Counts.{last_date}
+use Rattle.line_summary.specs.SummaryText.{stage_line}
+use Rattle.line_summary.proofs.Read.{last-read}
+use Rattle.line_summary.proofs.texts.write_stage.Goals as goal
+
+pub stage_sums-sums-requires-clause-last : goal.stage_sums-sums-requires-clause-last
+stage_sums-sums-requires-clause-last g c =
+    let r = c.args.line.now in
+    last-read r c.requires.line ∙ ap (λ (h : Parts). last_date h (date_in r.table.rows)) (sym c.requires.line.line.of_plant)
+
+pub returns : goal.returns
+unfolding stage_line
+returns g c =
+    let last = last-read c.args.line.now c.requires.line in
+    let sums = c.stage_sums-sums.ensures in
+    let process = rw (sums.process, last) at c.write_mean.ensures in
+    let move = rw (sums.moving, last) at c.write_mean-2.ensures in
+    let stock = rw (sums.stock, last) at c.write_mean-3.ensures in
+    let peak = rw c.peak.ensures.peak at c.push_number.ensures in
+    let bound = rw c.bound_of.ensures.bound at c.write_bound.ensures in
+    pushed_after c.push.ensures
+    (pushed_after c.write_stage_name.ensures
+    (pushed_after process
+    (pushed_after move
+    (pushed_after stock
+    (pushed_after c.push-2.ensures
+    (pushed_after peak
+    (pushed_after c.push-3.ensures
+    (pushed_after bound c.push-4.ensures))))))))

@@ -1,0 +1,94 @@
+//! The waits that a share of the jobs don't exceed.
+ghost use Rattle.std.specs.List.Sorted.{IsNonDecreasing};
+ghost use Rattle.std.specs.Prelude.{◌≡◌, ◌==◌, ◌*◌, ◌<◌, ◌≤◌, ℕ, length, count_by, IfOk, IsPermutation};
+ghost use Rattle.event_graph.specs.Table.{date_in};
+ghost use Rattle.line_stats.specs.Between.{dates_until};
+ghost use Rattle.line_summary.specs.Waits.{waits, percentile, at_once};
+
+use line_base::{Date, MAX_DEMANDS};
+use line_core::Table;
+use plant_model::FEED;
+use std::alloc::{AllocError, Global};
+
+/// Four percentiles of the waits, and how many jobs don't wait.
+#[derive(Clone, Copy)]
+pub struct Percentiles {
+    pub p50: Date,
+    pub p90: Date,
+    pub p95: Date,
+    pub p99: Date,
+    pub at_once: u32,
+}
+
+/// The waits of all jobs, in order of the jobs.
+fn waits(alloc: Global, table: &Table) -> Result<Vec<Date>, AllocError>
+    ensures { IfOk result (λ list. list.items ≡ waits table.now.graph (date_in table.now.rows)) }
+{
+    let delivered = table.dates(table.stations() - 1);
+    let demanded = table.dates(FEED);
+    let mut list = Vec::with_capacity(alloc, delivered.len())?;
+    for (before, date) in delivered.iter().enumerate() {
+        list.push(date.saturating_sub(demanded[before]))?;
+    }
+    Ok(list)
+}
+
+/// How many of the waits are 0.
+fn count_zeros(waits: &[Date]) -> usize
+    ensures count { result ≡ count_by (λ wait. wait == 0) waits.now }
+    ensures few { result ≤ length waits.now }
+{
+    waits.iter().filter(|wait| **wait == 0).count()
+}
+
+/// The least of the waits that at least so many percent of them don't exceed: it stands at place `percent` of a
+/// hundred of them, rounded up, and places count from 1.
+fn percentile(sorted: &[Date], percent: usize) -> Date
+    requires in_order { IsNonDecreasing sorted.now }
+    requires some { 1 ≤ length sorted.now }
+    requires few { length sorted.now ≤ MAX_DEMANDS }
+    requires percent { 1 ≤ percent }
+    requires whole { percent ≤ 100 }
+    ensures enough { percent * length sorted.now ≤ 100 * dates_until sorted.now result }
+    ensures least { (v : ℕ) → v < result → 100 * dates_until sorted.now v < percent * length sorted.now }
+{
+    let place = (percent * sorted.len()).div_ceil(100);
+    sorted[place - 1]
+}
+
+/// The percentiles of a table's waits, which were sorted.
+fn percentiles_of(table: &Table, sorted: &[Date], zeros: u32) -> Percentiles
+    requires in_order { IsNonDecreasing sorted.now }
+    requires sorted { IsPermutation (waits table.now.graph (date_in table.now.rows)) sorted.now }
+    requires some { 1 ≤ length sorted.now }
+    requires few { length sorted.now ≤ MAX_DEMANDS }
+    ensures p50 { result.p50 ≡ percentile table.now.graph (date_in table.now.rows) 50 }
+    ensures p90 { result.p90 ≡ percentile table.now.graph (date_in table.now.rows) 90 }
+    ensures p95 { result.p95 ≡ percentile table.now.graph (date_in table.now.rows) 95 }
+    ensures p99 { result.p99 ≡ percentile table.now.graph (date_in table.now.rows) 99 }
+    ensures given { result.at_once ≡ zeros }
+{
+    let _stations = table.stations();
+    Percentiles {
+        p50: percentile(sorted, 50),
+        p90: percentile(sorted, 90),
+        p95: percentile(sorted, 95),
+        p99: percentile(sorted, 99),
+        at_once: zeros,
+    }
+}
+
+/// The percentiles of a table's waits, and how many jobs don't wait. The waits are sorted once.
+pub fn wait_percentiles(alloc: Global, table: &Table) -> Result<Percentiles, AllocError>
+    ensures p50 { IfOk result (λ r. r.p50 ≡ percentile table.now.graph (date_in table.now.rows) 50) }
+    ensures p90 { IfOk result (λ r. r.p90 ≡ percentile table.now.graph (date_in table.now.rows) 90) }
+    ensures p95 { IfOk result (λ r. r.p95 ≡ percentile table.now.graph (date_in table.now.rows) 95) }
+    ensures p99 { IfOk result (λ r. r.p99 ≡ percentile table.now.graph (date_in table.now.rows) 99) }
+    ensures at_once { IfOk result (λ r. r.at_once ≡ at_once table.now.graph (date_in table.now.rows)) }
+{
+    let _stations = table.stations();
+    let mut list = waits(alloc, table)?;
+    let zeros = count_zeros(list.as_slice()) as u32;
+    list.sort_unstable();
+    Ok(percentiles_of(table, list.as_slice(), zeros))
+}

@@ -1,0 +1,71 @@
+ghost use Rattle.std.specs.Prelude.{◌≡◌, IfOk};
+ghost use Rattle.line_io.specs.SinkView.{WritesText};
+ghost use Rattle.line_summary.specs.Summarized.{IsOfPlant, IsSummarized, Stays, text_of};
+
+use crate::figures::Figures;
+use crate::machines::machine_uses;
+use crate::percentiles::wait_percentiles;
+use crate::texts::{Reading, write_text};
+use line_core::Table;
+use line_io::{Failed, Outgoing, Sink};
+use plant_model::{LineNumbers, Plant};
+use std::alloc::{AllocError, Global};
+use std::marker::Model;
+
+/// The summary of a finished run of a plant, and the memory for writing it. Contracts see the plant and the dates.
+#[derive(Drop)]
+pub struct Summary {
+    line: Reading,
+    out: Outgoing,
+}
+
+impl Model for Summary {
+    ghost use Rattle.std.specs.Prelude.{◌≡◌, false};
+    ghost use Rattle.line_core.specs.Run.{IsLeastTable};
+    ghost use Rattle.line_io.specs.Outgoing.{emptied};
+    ghost use Rattle.line_summary.specs.Summarized.{Summarized, IsRead};
+
+    ghost Value = { Summarized };
+
+    ghost view = { λ s. record { plant = s.line.plant; rows = s.line.table.rows } };
+
+    ghost invariant = { λ s. IsRead s.line × IsLeastTable s.line.table × (s.out ≡ emptied false) };
+}
+
+impl Summary {
+    /// The summary of a sound plant and a table of its graph. It takes all memory that writing takes: the numbers of
+    /// the stations, the waits, which it sorts once, a record for each machine, and room for one piece of the text.
+    pub fn new(alloc: Global, plant: Plant, table: Table) -> Result<Summary, AllocError>
+        requires { IsOfPlant plant table }
+        ensures plant { IfOk result (λ summary. summary.plant ≡ plant) }
+        ensures dates { IfOk result (λ summary. summary.rows ≡ table.rows) }
+        ensures least { IfOk result IsSummarized }
+    {
+        let _stations = table.stations();
+        let numbers = LineNumbers::of(alloc, &plant)?;
+        let figures = Figures::of(&plant, &numbers, &table);
+        let percentiles = wait_percentiles(alloc, &table)?;
+        let uses = machine_uses(alloc, &plant)?;
+        let out = Outgoing::new(alloc)?;
+        let line = Reading {
+            plant,
+            numbers,
+            table,
+            figures,
+            percentiles,
+            uses,
+        };
+        Ok(Summary { line, out })
+    }
+
+    /// Writes the summary to the sink, from its beginning: what the jobs wait, a line for each stage and each
+    /// machine, and the busiest machine. It goes out in pieces of 4,096 bytes and a last one that may be shorter.
+    /// After `Failed` a front of it was written. It takes no memory.
+    pub fn write<K: Sink>(&mut self, sink: &mut K) -> Result<(), Failed>
+        ensures puts { WritesText (K.shown sink.old) (K.shown sink.new) (text_of self.old) result }
+        ensures stays { Stays self.old self.new }
+    {
+        write_text(&mut self.out, sink, &self.line);
+        self.out.finish(sink)
+    }
+}

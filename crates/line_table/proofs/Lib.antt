@@ -1,0 +1,7 @@
+pub mod StartFacts
+pub mod MachineArcs
+pub mod StartLaws
+pub mod PathParts
+pub mod TableLines
+pub mod StageRuns
+pub mod Examples

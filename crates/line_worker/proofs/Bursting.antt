@@ -1,0 +1,207 @@
+-- Sweep after sweep of a burst.
+use Rattle.std.proofs.Common.{◌≡◌, ℕ, ◌+◌, ◌<◌, ◌≤◌, ◌^◌, min, length, add-zero, refl, ap, ◌∙◌, sym, subst, arith, ⊎_elim, inl, inr}
+use Rattle.std.proofs.lemmas.Bool.{cases_eq}
+use Rattle.event_graph.specs.Network.{jobs}
+use Rattle.live_check.specs.Order.{LiveGraph}
+use Rattle.station_step.specs.Step.{IsReady}
+use Rattle.line_worker.specs.Team.{member}
+use Rattle.line_worker.specs.Worker.{LineWorker, IsWorker, with_team}
+use Rattle.line_worker.specs.Work.{dates_of, HasSwept, AllDone, TurnsBelow, IsAlone, HasBurst, HasBurstAlone, IsBursting}
+use Rattle.line_worker.specs.Workers.{HasDoneBurst, IsReadyFor, MayGoOn, IsAtWork}
+use Rattle.line_worker.proofs.Alone.{all-stations}
+use Rattle.line_worker.proofs.Working.{idle_team, then_team, dates-le}
+
+pub bursting_begins : (c : LineWorker) → IsBursting c c 0
+bursting_begins c = record {
+  begins = λ zero. refl;
+  worker = λ some. absurd (omega arith);
+  frame = refl;
+  worked = idle_team c.team;
+  turned = λ i low. omega arith;
+  fired = λ some i low ready. absurd (omega arith);
+  undone = λ some done. absurd (omega arith);
+  few = λ times alone le. omega arith;
+  alone = λ times alone le. subst (IsAlone c) (sym (add-zero times)) alone;
+}
+
+module _ (old now : LineWorker) (sweeps : ℕ) (inv : IsBursting old now sweeps) (is : IsWorker now) where
+  target-same : now.target ≡ old.target
+  target-same = ap (λ (c : LineWorker). c.target) inv.frame
+
+  -- the worker that is alone has a station
+  alone-done : (times : ℕ) → IsAlone now times → AllDone now.target now.team → times ≡ now.target
+  alone-done times alone done =
+      let some : 0 < length now.team.stations = omega (arith, all-stations now is alone.one, is.ranked.limits.some_station) in
+      sym (alone.fired 0 some) ∙ done 0 some
+
+  module _ (next : LineWorker) (undone : AllDone now.target now.team → ⊥) (is_next : IsWorker next) (frame : next ≡ with_team now next.team) (swept : HasSwept now.team next.team) (rounds : (times : ℕ) → IsAlone now times → times < jobs now.live.graph → IsAlone next (times + 1)) where
+    within : (i : ℕ) → i < length old.team.stations → i < length now.team.stations
+    within i low = omega (arith, low, inv.worked.count)
+
+    fired-more : (i : ℕ) → i < length old.team.stations → IsReady old.team.shelf (member old.team.stations i) → dates_of (member old.team.stations i) < dates_of (member next.team.stations i)
+    fired-more i low ready =
+        ⊎_elim
+        (λ none.
+        let same = inv.begins none in
+        let Ready : LineWorker → Type 0 = λ c. IsReady c.team.shelf (member c.team.stations i) in
+        omega (arith, swept.fired i (within i low) (subst Ready (sym same) ready), ap (λ (c : LineWorker). dates_of (member c.team.stations i)) same))
+        (λ some.
+        omega (arith, inv.fired (omega arith) i low ready, dates-le (member now.team.stations i) (member next.team.stations i) (swept.worked.each i (within i low))))
+        (cases_eq sweeps 0)
+
+    undone-then : AllDone old.target old.team → ⊥
+    undone-then done =
+        ⊎_elim
+        (λ none. undone (subst (λ (c : LineWorker). AllDone c.target c.team) (sym (inv.begins none)) done))
+        (λ some. inv.undone (omega arith) done)
+        (cases_eq sweeps 0)
+
+    few-more : (times : ℕ) → IsAlone old times → times ≤ old.target → times + sweeps < old.target
+    few-more times alone le =
+        let now_alone = inv.alone times alone le in
+        ⊎_elim
+        (λ same.
+        let IsDone : ℕ → Type 0 = λ n. (i : ℕ) → i < length now.team.stations → dates_of (member now.team.stations i) ≡ n in
+        absurd (undone (subst IsDone (same ∙ sym target-same) now_alone.fired)))
+        (λ apart. omega (arith, inv.few times alone le))
+        (cases_eq (times + sweeps) old.target)
+
+    pub bursting_goes_on : IsBursting old next (sweeps + 1)
+    bursting_goes_on = record {
+      begins = λ none. absurd (omega arith);
+      worker = λ some. is_next;
+      frame = frame ∙ ap (λ (c : LineWorker). with_team c next.team) inv.frame;
+      worked = then_team old.team now.team next.team inv.worked swept.worked;
+      turned = λ i low. omega (arith, swept.turned i (within i low), inv.turned i low);
+      fired = λ some i low ready. fired-more i low ready;
+      undone = λ some done. undone-then done;
+      few = λ times alone le. omega (arith, few-more times alone le);
+      alone = λ times alone le.
+          let less : times + sweeps < jobs now.live.graph = omega (arith, few-more times alone le, target-same, is.target) in
+          let again : times + sweeps + 1 ≡ times + (sweeps + 1) = omega arith in
+          subst (IsAlone next) again (rounds (times + sweeps) (inv.alone times alone le) less);
+    }
+
+  -- the end, where all are done
+  pub alone_at_end : sweeps ≤ 16 → AllDone now.target now.team → (times : ℕ) → IsAlone old times → times ≤ old.target → HasBurstAlone times old now
+  alone_at_end few done times alone le =
+      let now_alone = inv.alone times alone le in
+      let all : times + sweeps ≡ old.target = alone-done (times + sweeps) now_alone done ∙ target-same in
+      let most : times + sweeps ≡ min (times + 16) old.target = omega (arith, all, few) in
+      record {
+        alone = subst (IsAlone now) most now_alone;
+        turns = λ i low. omega (arith, inv.turned i low, most);
+      }
+
+-- the end after 16 sweeps
+module _ (old now : LineWorker) (sweeps : ℕ) (inv : IsBursting old now sweeps) (full : sweeps ≡ 16) where
+  pub burst_in_full : HasBurst old.target old.team now.team
+  burst_in_full = record {
+    worked = inv.worked;
+    few = λ i low. omega (arith, inv.turned i low, full);
+    ended = inr (λ i low. omega (arith, inv.turned i low, full));
+    fired = λ i low ready. inv.fired (omega (arith, full)) i low ready;
+    idle = λ done i low. absurd (inv.undone (omega (arith, full)) done);
+  }
+
+  pub alone_in_full : (times : ℕ) → IsAlone old times → times ≤ old.target → HasBurstAlone times old now
+  alone_in_full times alone le =
+      let most : times + sweeps ≡ min (times + 16) old.target = omega (arith, full, inv.few times alone le) in
+      record {
+        alone = subst (IsAlone now) most (inv.alone times alone le);
+        turns = λ i low. omega (arith, inv.turned i low, most);
+      }
+
+-- the end before 16 sweeps, where all are done
+pub burst_when_done : (old now : LineWorker) (sweeps : ℕ) → IsBursting old now sweeps → IsWorker now → sweeps ≤ 16 → AllDone now.target now.team → HasBurst old.target old.team now.team
+burst_when_done old now sweeps inv is few done =
+    let target = ap (λ (c : LineWorker). c.target) inv.frame in
+    let none : AllDone old.target old.team → sweeps ≡ 0 =
+    λ was.
+    ⊎_elim (λ zero. zero) (λ some. absurd (inv.undone (omega arith) was)) (cases_eq sweeps 0) in
+    -- a station that is done isn't ready
+    let unready : (i : ℕ) → i < length now.team.stations → IsReady now.team.shelf (member now.team.stations i) → ⊥ =
+    λ i low ready.
+    omega (arith, ready.more, done i low, ap jobs (is.members.members i low).graph, is.target) in
+    record {
+      worked = inv.worked;
+      few = λ i low. omega (arith, inv.turned i low, few);
+      ended = inl (λ i low. done i low ∙ target);
+      fired = λ i low ready.
+          ⊎_elim
+          (λ zero.
+          let Ready : LineWorker → Type 0 = λ c. IsReady c.team.shelf (member c.team.stations i) in
+          absurd (unready i (omega (arith, low, inv.worked.count)) (subst Ready (sym (inv.begins zero)) ready)))
+          (λ some. inv.fired (omega arith) i low ready)
+          (cases_eq sweeps 0);
+      idle = λ was i low. omega (arith, inv.turned i low, none was);
+    }
+
+-- ---- a worker at work, which makes a sweep in each round, or is done
+
+pub at_work_begins : (c : LineWorker) → IsAtWork c c 0
+at_work_begins c = inl (bursting_begins c)
+
+module _ (old now : LineWorker) (sweeps : ℕ) (work : IsAtWork old now sweeps) where
+  -- it is the same worker of the same line
+  at-work-frame : now ≡ with_team old now.team
+  at-work-frame = ⊎_elim (λ inv. inv.frame) (λ ended. ended.worked.same.frame) work
+
+  -- and has made few turns more
+  at-work-turns : sweeps ≤ 16 → TurnsBelow (2 ^ 38) old.team → TurnsBelow (2 ^ 39) now.team
+  at-work-turns few below i low =
+      ⊎_elim
+      (λ inv.
+      let low' : i < length old.team.stations = omega (arith, low, inv.worked.count) in
+      omega (arith, inv.turned i low', below i low', few))
+      (λ ended.
+      let low' : i < length old.team.stations = omega (arith, low, ended.worked.burst.worked.count) in
+      omega (arith, ended.worked.burst.few i low', below i low'))
+      work
+
+  -- so it may make one more sweep
+  at_work-may : (live : LiveGraph) → sweeps ≤ 16 → IsReadyFor live old → MayGoOn live now
+  at_work-may live few ready = record {
+    made_for = ready.made_for ∙ sym (ap (λ (c : LineWorker). c.live) at-work-frame);
+    turns = at-work-turns few ready.turns;
+  }
+
+  -- where all of its stations are done, the round leaves it as it is
+  pub at_work_done : sweeps ≤ 16 → IsWorker now → AllDone now.target now.team → IsAtWork old now (sweeps + 1)
+  at_work_done few is done =
+      ⊎_elim
+      (λ inv.
+      inr (record {
+        worked = record {
+          same = record { worker = is; frame = inv.frame };
+          burst = burst_when_done old now sweeps inv is few done;
+          alone = alone_at_end old now sweeps inv is few done;
+        };
+        done = done;
+      }))
+      inr
+      work
+
+  -- and else it makes a sweep
+  pub at_work_sweeps : IsWorker now → (next : LineWorker) → (AllDone now.target now.team → ⊥) → IsWorker next → next ≡ with_team now next.team → HasSwept now.team next.team → ((times : ℕ) → IsAlone now times → times < jobs now.live.graph → IsAlone next (times + 1)) → IsAtWork old next (sweeps + 1)
+  at_work_sweeps is next undone is_next frame swept rounds =
+      ⊎_elim
+      (λ inv. inl (bursting_goes_on old now sweeps inv is next undone is_next frame swept rounds))
+      (λ ended. absurd (undone ended.done))
+      work
+
+pub may_go_on : (live : LiveGraph) (old now : LineWorker) (sweeps : ℕ) → sweeps ≤ 16 → IsReadyFor live old → IsAtWork old now sweeps → MayGoOn live now
+may_go_on live old now sweeps few ready work = at_work-may old now sweeps work live few ready
+
+-- after sixteen rounds it has worked for the burst
+pub at_work_in_full : (old now : LineWorker) → IsAtWork old now 16 → HasDoneBurst old now
+at_work_in_full old now work =
+    ⊎_elim
+    (λ inv.
+    record {
+      same = record { worker = inv.worker (omega arith); frame = inv.frame };
+      burst = burst_in_full old now 16 inv refl;
+      alone = alone_in_full old now 16 inv refl;
+    })
+    (λ ended. ended.worked)
+    work

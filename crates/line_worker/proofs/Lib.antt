@@ -1,0 +1,17 @@
+pub mod Early
+pub mod Grown
+pub mod Share
+pub mod Places
+pub mod Standing
+pub mod Spacing
+pub mod Stepping
+pub mod Working
+pub mod Sweeping
+pub mod Alone
+pub mod Counting
+pub mod Bursting
+pub mod Crossing
+pub mod Ordering
+pub mod Cleared
+pub mod WorkerTeams
+pub mod Posts

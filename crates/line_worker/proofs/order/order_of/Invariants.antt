@@ -1,0 +1,5 @@
+use Rattle.line_worker.specs.Order.{IsOrderUpto}
+use Rattle.line_worker.proofs.order.order_of.Given as goal
+
+abbrev pub invariant-loop-place : goal.invariant-loop-place
+invariant-loop-place l = IsOrderUpto l.live.ranks l.first l.count l.order.items l.place

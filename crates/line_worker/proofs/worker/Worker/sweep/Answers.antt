@@ -1,0 +1,49 @@
+use Rattle.std.proofs.Common.{ℕ, ◌≡◌, ◌+◌, ◌<◌, List, length, get_or, sym, ap, ◌∙◌, subst, arith}
+use Rattle.line_worker.specs.Worker.{LineWorker, IsWorker, with_team}
+use Rattle.line_worker.specs.Work.{SteppedAt, IsSweeping, IsAlone}
+use Rattle.line_worker.proofs.Sweeping.{sweeping_goes_on}
+use Rattle.line_worker.proofs.Alone.{alone_goes_on, alone_swept}
+use Rattle.line_worker.proofs.worker.Worker.sweep.Goals as goal
+use Rattle.line_worker.proofs.worker.Worker.sweep.Goals.{then-turn, else-turn}
+
+pub loop-place-preserved : goal.loop-place-preserved
+loop-place-preserved g c =
+    let old = c.args.self.now in
+    let now = c.loop-place.self in
+    let next = c.turn.new.self in
+    let inv = c.loop-place.invariant in
+    let is : IsWorker old = subst IsWorker c.self.view_is c.self.invariant in
+    let is_now : IsWorker (with_team old now.team) = subst IsWorker inv.frame inv.worker in
+    let low : c.loop-place.place < length old.order = omega (arith, c.loop-place-test.true, c.len-place-end.ensures, ap (λ (w : LineWorker). length w.order) c.self.view_is) in
+    let stepped : SteppedAt (get_or old.order c.loop-place.place 0) now.team next.team =
+    subst (λ (o : List ℕ). SteppedAt (get_or o c.loop-place.place 0) now.team next.team) (ap (λ (w : LineWorker). w.order) inv.frame) c.turn.ensures.stepped in
+    record {
+      worker = c.turn.ensures.worker;
+      frame = c.turn.ensures.frame ∙ ap (λ (w : LineWorker). with_team w next.team) inv.frame;
+      sweeping = sweeping_goes_on old.live.ranks old.first old.order old.team now.team next.team c.loop-place.place is.in_order inv.sweeping low stepped;
+      made =
+          elim c.if-turn.branch [
+            | then-turn w ↦ omega (arith, inv.made, w.fired-is, w.if-turn.ensures.fired)
+            | else-turn w ↦ omega (arith, inv.made, w.fired-is, w.if-turn.ensures.fired)
+          ];
+      few =
+          elim c.if-turn.branch [
+            | then-turn w ↦ omega (arith, inv.few, w.fired-is)
+            | else-turn w ↦ omega (arith, inv.few, w.fired-is)
+          ];
+      alone = λ times alone more i low_i early.
+          alone_goes_on old is times alone more now.team c.loop-place.place is_now inv.sweeping (inv.alone times alone more) next.team low stepped i low_i early;
+    }
+
+pub returns-clause-alone : goal.returns-clause-alone
+returns-clause-alone g c =
+    let old = c.args.self.now in
+    let now = c.loop-place.self in
+    let inv = c.loop-place.invariant in
+    let is : IsWorker old = subst IsWorker c.self.view_is c.self.invariant in
+    let is_now : IsWorker (with_team old now.team) = subst IsWorker inv.frame inv.worker in
+    let done : c.loop-place.place ≡ length old.order = omega (arith, c.loop-place-test.false, c.loop-place.auto.place-end, c.len-place-end.ensures, ap (λ (w : LineWorker). length w.order) c.self.view_is) in
+    λ times alone more.
+    let swept = alone_swept old is times alone more now.team is_now (subst (IsSweeping old.order old.team now.team) done inv.sweeping)
+    (λ i low_i early. inv.alone times alone more i low_i (omega (arith, done, early))) in
+    subst (λ (w : LineWorker). IsAlone w (times + 1)) (sym inv.frame) swept

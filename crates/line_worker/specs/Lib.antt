@@ -1,0 +1,11 @@
+pub mod Grown
+pub mod Share
+pub mod Team
+pub mod Teams
+pub mod Worker
+pub mod Order
+pub mod Work
+pub mod Meeting
+pub mod Workers
+pub mod Logs
+pub mod Cleared

@@ -1,0 +1,13 @@
+ghost use Rattle.std.specs.Prelude.{◌≡◌, map};
+ghost use Rattle.line_worker.specs.Cleared.{cleared};
+
+use station_step::Station;
+
+/// Counts the turns of these stations from 0 again. Nothing else changes.
+pub(crate) fn clear_stations(stations: &mut Vec<Station>)
+    ensures { stations.new.items ≡ map cleared stations.old.items }
+{
+    for i in 0..stations.len() {
+        stations[i].clear_turns();
+    }
+}

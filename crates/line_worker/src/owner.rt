@@ -1,0 +1,23 @@
+ghost use Rattle.std.specs.Prelude.{◌≡◌, ◌≤◌, ◌<◌};
+ghost use Rattle.line_worker.specs.Share.{worker_of, first_of};
+
+/// The worker that has station `t`.
+pub fn worker_of(worker_count: u32, stations: u32, t: u32) -> u32
+    requires worker_count { worker_count ≤ 16 }
+    requires stations { stations ≤ 512 }
+    requires station { t < stations }
+    ensures { result ≡ worker_of worker_count stations t }
+{
+    t * worker_count / stations
+}
+
+/// The first station of worker `w`. Those of the next one begin where its own end.
+pub fn first_of(worker_count: u32, stations: u32, w: u32) -> u32
+    requires some { 1 ≤ worker_count }
+    requires worker_count { worker_count ≤ 16 }
+    requires stations { stations ≤ 512 }
+    requires worker_number { w ≤ worker_count }
+    ensures { result ≡ first_of worker_count stations w }
+{
+    (w * stations + (worker_count - 1)) / worker_count
+}

@@ -1,5 +1,0 @@
-use Rattle.line_workers.specs.Meeting.{IsMeeting}
-use Rattle.line_workers.proofs.crews.meet_all.Given as goal
-
-abbrev pub invariant-loop-a : goal.invariant-loop-a
-invariant-loop-a l = IsMeeting l.live l.initial.crews l.crews l.a

@@ -1,0 +1,75 @@
+use Rattle.std.proofs.Common.{◌<◌, length, ap, ◌∙◌, sym, subst, arith}
+use Rattle.std.proofs.lemmas.List.{get_or_default}
+use Rattle.line_base.specs.declared.event.Parts.{Parts}
+use Rattle.live_check.specs.Order.{LiveGraph}
+use Rattle.line_worker.specs.Worker.{LineWorker, teams_of}
+use Rattle.line_worker.specs.Workers.{no_worker}
+use Rattle.line_worker.specs.Teams.{AreAllMet}
+use Rattle.line_workers.specs.Burst.{WorkersBurst}
+use Rattle.line_workers.specs.Meeting.{AreStill}
+use Rattle.line_workers.proofs.AllBurst.{are-mid, same-mid, workers_burst}
+use Rattle.line_workers.proofs.LineBurst.{fired-since, turns-since, turns-below}
+use Rattle.line_workers.proofs.workers.burst_of.Given.{Over}
+use Rattle.line_workers.proofs.workers.burst_of.Goals.{After-meet_all}
+use Rattle.line_workers.proofs.workers.burst_of.Goals as goal
+
+pub work_all-looks-requires-clause-ready : goal.work_all-looks-requires-clause-ready
+work_all-looks-requires-clause-ready g c =
+    λ κs h k d low. record {
+      made_for =
+          c.requires.made_for
+          ∙ sym (c.requires.workers.lives k low)
+          ∙ ap (λ (w : LineWorker). w.live) (get_or_default c.args.workers.now k no_worker d low);
+      turns = c.requires.turns k d low;
+    }
+
+pub meet_all-requires-clause-workers : goal.meet_all-requires-clause-workers
+meet_all-requires-clause-workers g c =
+    are-mid c.args.workers.now c.work_all-looks.new.workers c.requires.workers c.work_all-looks.auto.workers c.work_all-looks.ensures.worked
+
+pub meet_all-requires-clause-made_for : goal.meet_all-requires-clause-made_for
+meet_all-requires-clause-made_for g c =
+    let first : 0 < length c.args.workers.now = omega (arith, c.requires.workers.some) in
+    c.requires.made_for
+    ∙ sym (ap (λ (w : LineWorker). w.live) ((same-mid c.args.workers.now c.work_all-looks.new.workers c.requires.workers c.work_all-looks.auto.workers c.work_all-looks.ensures.worked).each 0 first).frame)
+
+-- the workers have made a burst
+burst : (g : Over) (c : After-meet_all g) → WorkersBurst c.args.workers.now c.meet_all.new.workers
+burst g c =
+    let old = c.args.workers.now in
+    let mid = c.work_all-looks.new.workers in
+    let new = c.meet_all.new.workers in
+    let m = c.meet_all.ensures in
+    let graph = ap (λ (l : LiveGraph). l.graph) c.requires.made_for in
+    workers_burst old mid c.requires.workers c.work_all-looks.auto.workers c.work_all-looks.ensures.worked new m.same m.worked
+    (subst (λ (h : Parts). AreStill h (teams_of mid) (teams_of new)) graph m.still)
+    (subst (λ (h : Parts). AreAllMet h (teams_of new)) graph m.met)
+
+pub dates_of-requires-clause-workers : goal.dates_of-requires-clause-workers
+dates_of-requires-clause-workers g c = (burst g (goal.at.dates_of-requires-clause-workers g c).After-meet_all).whole
+
+pub overflow_sub-fired_since : goal.overflow_sub-fired_since
+overflow_sub-fired_since g c =
+    (fired-since c.args.workers.now c.meet_all.new.workers c.requires.workers (burst g (goal.at.overflow_sub-fired_since g c).After-meet_all) c.dates_of-fired.result c.dates_of.result c.dates_of-fired.ensures c.dates_of.ensures).0
+
+pub turns_of-requires-clause-workers : goal.turns_of-requires-clause-workers
+turns_of-requires-clause-workers g c = (burst g (goal.at.turns_of-requires-clause-workers g c).After-meet_all).whole
+
+pub turns_of-requires-clause-turns : goal.turns_of-requires-clause-turns
+turns_of-requires-clause-turns g c =
+    turns-below c.args.workers.now c.meet_all.new.workers c.requires.workers (burst g (goal.at.turns_of-requires-clause-turns g c).After-meet_all) c.requires.turns
+
+pub overflow_sub-steps_since : goal.overflow_sub-steps_since
+overflow_sub-steps_since g c =
+    (turns-since c.args.workers.now c.meet_all.new.workers c.requires.workers (burst g (goal.at.overflow_sub-steps_since g c).After-meet_all) c.turns_of-steps.result c.turns_of.result c.turns_of-steps.ensures c.turns_of.ensures).0
+
+pub returns-clause-burst : goal.returns-clause-burst
+returns-clause-burst g c = burst g (goal.at.returns-clause-burst g c).After-meet_all
+
+pub returns-clause-fired : goal.returns-clause-fired
+returns-clause-fired g c =
+    (fired-since c.args.workers.now c.meet_all.new.workers c.requires.workers (burst g (goal.at.returns-clause-fired g c).After-meet_all) c.dates_of-fired.result c.dates_of.result c.dates_of-fired.ensures c.dates_of.ensures).1
+
+pub returns-clause-steps : goal.returns-clause-steps
+returns-clause-steps g c =
+    (turns-since c.args.workers.now c.meet_all.new.workers c.requires.workers (burst g (goal.at.returns-clause-steps g c).After-meet_all) c.turns_of-steps.result c.turns_of.result c.turns_of-steps.ensures c.turns_of.ensures).1

@@ -1,0 +1,4 @@
+pub mod ActionLemmas
+pub mod FileReads
+pub mod PlantsOfFiles
+pub mod StepLemmas

@@ -1,0 +1,10 @@
+//! The steps that every command of a plant begins with: the plant file and the files that it names
+//! are read from a store, and the live graph of their plant is made; or the refusal that the command
+//! ends with.
+#![tactic(auto)]
+
+mod files;
+mod live_plant;
+
+pub use files::{read_file, read_plant_files};
+pub use live_plant::{LivePlant, live_graph, live_plant_of, read_live_plant};

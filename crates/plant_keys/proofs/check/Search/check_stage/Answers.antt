@@ -1,0 +1,9 @@
+use Rattle.plant_keys.specs.Walk.{machine_refusals}
+use Rattle.plant_keys.proofs.KeyLists.{each_views}
+use Rattle.plant_keys.proofs.check.Search.check_stage.Goals as goal
+
+pub returns : goal.returns
+returns c =
+    rw
+    (← c.tables_at.ensures, each_views (machine_refusals c.args.self.now.class c.args.i) c.tables_at.result.now, ← c.stage_keys.ensures, c.in_ok-check_table.ensures)
+    c.check_machines.ensures

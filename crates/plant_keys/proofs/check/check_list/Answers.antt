@@ -1,0 +1,10 @@
+use Rattle.plant_model.specs.Place.{key_of}
+use Rattle.plant_keys.specs.Walk.{element_out}
+use Rattle.plant_keys.proofs.KeyLists.{each_views}
+use Rattle.plant_keys.proofs.check.check_list.Goals as goal
+
+pub returns : goal.returns
+returns c =
+    rw
+    (← c.elements_of-elements.ensures, each_views (element_out c.args.most (key_of c.args.table c.args.name.now)) c.elements_of-elements.result.now, ← c.has_right_size.ensures, c.in_ok-refuse_unless.ensures)
+    c.check_numbers.ensures

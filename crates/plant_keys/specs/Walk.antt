@@ -1,0 +1,181 @@
+-- The classes of refusals that single keys meet, each over the whole tree in one order: the keys of the top table, then each
+-- stage with its keys and after them its machines, then each loop. Within a table the keys stand in byte order, a key that
+-- is missing among them, and the elements of a list right after its key.
+use Rattle.std.specs.Prelude.{ℕ, Bool, true, not, ◌&&◌, ◌||◌, ◌==◌, if◌then◌else◌, List, [], ◌++◌, map, take, codes, bytes_eq}
+use Rattle.std.specs.List.{list_all, list_any}
+use Rattle.std.specs.Option.{option_map_or}
+use Rattle.line_base.specs.Text.{is_between, is_name, is_file_name}
+use Rattle.plant_model.specs.declared.error.PlantError.{PlantError}
+use Rattle.plant_model.specs.declared.error.PlantError.TheVariants.{UnknownKey, Missing, WrongType, BadName, NameTwice, OutOfRange}
+use Rattle.plant_model.specs.declared.place.FileTable.{FileTable}
+use Rattle.plant_model.specs.declared.place.FileTable.TheVariants.{Top, InStage, InMachine, InLoop}
+use Rattle.plant_model.specs.Place.{at, key_of}
+use Rattle.plant_model.specs.Refusals.{refuse_if, each, is_reserved}
+use Rattle.toml.specs.Data.{Data, integer, Members, no_members, member, get}
+use Rattle.plant_keys.specs.declared.keys.Kind.{Kind}
+use Rattle.plant_keys.specs.declared.keys.Kind.TheVariants.{PolicyWord, StageName, MachineName, FileName, StageText, Number, Numbers, Tables}
+use Rattle.plant_keys.specs.declared.keys.Class.{Class}
+use Rattle.plant_keys.specs.declared.keys.Class.TheVariants.{UnknownKeys, MissingKeys, WrongTypes, BadNames, OutOfRanges}
+use Rattle.plant_keys.specs.Readers.{members_in, elements_of, is_text, is_number, is_table, is_list_of, text_of, tables_of, tables_at, is_within, name_in, stage_names, is_filled}
+use Rattle.plant_keys.specs.Keys.{Key, has_stage_cards, top_keys, stage_keys, machine_keys, loop_keys, is_allowed}
+
+-- A to Z, a to z, 0 to 9, `_` and `-`
+abbrev pub is_plain : ℕ → Bool
+is_plain byte =
+    is_between 65 90 byte || (is_between 97 122 byte || (is_between 48 57 byte || (byte == 95 || byte == 45)))
+
+-- a key as places show it: one that has another character is a question mark
+abbrev pub shown : List ℕ → List ℕ
+shown key = if list_all is_plain key then key else codes "?"
+
+-- 2, of a member of a table with these keys
+abbrev pub unknown_key : FileTable → List Key → List ℕ → List PlantError
+unknown_key table keys name = refuse_if (not (is_allowed keys name)) (UnknownKey (key_of table (shown name)))
+
+-- 2, of all members of a table with these keys
+abbrev pub unknown_keys : FileTable → List Key → Members → List PlantError
+unknown_keys table keys no_members = []
+unknown_keys table keys (member name value rest) = unknown_key table keys name ++ unknown_keys table keys rest
+
+-- the value is of the kind
+abbrev pub has_kind : Kind → Data → Bool
+has_kind PolicyWord v = is_text v
+has_kind StageName v = is_text v
+has_kind MachineName v = is_text v
+has_kind FileName v = is_text v
+has_kind StageText v = is_text v
+has_kind (Number least most) v = is_number v
+has_kind (Numbers most may_be_empty) v = is_list_of is_number v
+has_kind (Tables may_be_empty) v = is_list_of is_table v
+
+-- a text keeps the rule of what it names
+abbrev pub keeps_name_rule : Kind → List ℕ → Bool
+keeps_name_rule StageName text = is_name text && not (is_reserved text)
+keeps_name_rule MachineName text = is_name text
+keeps_name_rule FileName text = is_file_name text
+keeps_name_rule PolicyWord text = true
+keeps_name_rule StageText text = true
+keeps_name_rule (Number least most) text = true
+keeps_name_rule (Numbers most may_be_empty) text = true
+keeps_name_rule (Tables may_be_empty) text = true
+
+-- one of the four words for a policy
+abbrev pub is_policy : List ℕ → Bool
+is_policy word =
+    bytes_eq word (codes "kanban")
+    || (bytes_eq word (codes "conwip") || (bytes_eq word (codes "base-stock") || bytes_eq word (codes "extended")))
+
+-- 7, at a place, unless the test gives true
+abbrev pub out_unless : Bool → List ℕ → List PlantError
+out_unless test place = refuse_if (not test) (OutOfRange place)
+
+-- a value, if it is a whole number, is one within limits
+abbrev pub may_be_number : ℕ → ℕ → Data → Bool
+may_be_number least most (integer z) = is_within least most z
+may_be_number least most _ = true
+
+-- 7, of element k of a list at a place
+abbrev pub element_out : ℕ → List ℕ → ℕ → Data → List PlantError
+element_out most place k v = out_unless (may_be_number 0 most v) (at place k)
+
+-- 7, of a list of numbers at a place: that it is empty, then its elements
+abbrev pub list_out : ℕ → Bool → List ℕ → List Data → List PlantError
+list_out most may_be_empty place vs =
+    out_unless (may_be_empty || is_filled vs) place ++ each (element_out most place) vs
+
+-- 7, of a value of a kind at a place
+abbrev pub out_of_range : Kind → List ℕ → Data → List PlantError
+out_of_range PolicyWord place v = out_unless (is_policy (text_of v)) place
+out_of_range StageName place v = []
+out_of_range MachineName place v = []
+out_of_range FileName place v = []
+out_of_range StageText place v = []
+out_of_range (Number least most) place v = out_unless (may_be_number least most v) place
+out_of_range (Numbers most may_be_empty) place v =
+    list_out most may_be_empty place (elements_of v)
+out_of_range (Tables may_be_empty) place v = out_unless (may_be_empty || is_filled (tables_of v)) place
+
+-- 4, of a value at a place
+abbrev pub refused_type : Kind → List ℕ → Data → List PlantError
+refused_type kind place v = refuse_if (not (has_kind kind v)) (WrongType place)
+
+-- 5, of a value at a place
+abbrev pub refused_name : Kind → List ℕ → Data → List PlantError
+refused_name kind place v = refuse_if (not (keeps_name_rule kind (text_of v))) (BadName place)
+
+-- what a class refuses of the value at a key
+abbrev pub value_refusals : Class → Kind → List ℕ → Data → List PlantError
+value_refusals UnknownKeys kind place v = []
+value_refusals MissingKeys kind place v = []
+value_refusals WrongTypes kind place v = refused_type kind place v
+value_refusals BadNames kind place v = refused_name kind place v
+value_refusals OutOfRanges kind place v = out_of_range kind place v
+
+-- what a class refuses of a key that isn't there
+abbrev pub absence_refusals : Class → Bool → List ℕ → List PlantError
+absence_refusals MissingKeys required place = refuse_if required (Missing place)
+absence_refusals UnknownKeys required place = []
+absence_refusals WrongTypes required place = []
+absence_refusals BadNames required place = []
+absence_refusals OutOfRanges required place = []
+
+-- what a class refuses of a key of a table
+abbrev pub key_refusals : Class → FileTable → Data → Key → List PlantError
+key_refusals class table d key =
+    let place = key_of table key.name in
+    option_map_or (value_refusals class key.kind place) (get key.name d) (absence_refusals class key.required place)
+
+-- what a class refuses of the keys of a table
+abbrev pub keys_refusals : Class → FileTable → Data → List Key → List PlantError
+keys_refusals class table d keys = each (λ _ key. key_refusals class table d key) keys
+
+-- what a class refuses of a table
+abbrev pub table_refusals : Class → FileTable → Data → List Key → List PlantError
+table_refusals UnknownKeys table d keys = unknown_keys table keys (members_in d)
+table_refusals MissingKeys table d keys = keys_refusals MissingKeys table d keys
+table_refusals WrongTypes table d keys = keys_refusals WrongTypes table d keys
+table_refusals BadNames table d keys = keys_refusals BadNames table d keys
+table_refusals OutOfRanges table d keys = keys_refusals OutOfRanges table d keys
+
+-- of machine j of stage i
+abbrev pub machine_refusals : Class → ℕ → ℕ → Data → List PlantError
+machine_refusals class i j m = table_refusals class (InMachine i j) m (machine_keys m)
+
+-- of stage i: its keys, then its machines
+abbrev pub stage_refusals : Class → Bool → ℕ → Data → List PlantError
+stage_refusals class with_cards i s =
+    table_refusals class (InStage i) s (stage_keys with_cards)
+    ++ each (machine_refusals class i) (tables_at (codes "machine") s)
+
+-- of loop k
+abbrev pub loop_refusals : Class → ℕ → Data → List PlantError
+loop_refusals class k l = table_refusals class (InLoop k) l loop_keys
+
+-- what a class refuses of a plant file
+unfoldable pub walk : Class → Data → List PlantError
+walk class top =
+    table_refusals class Top top (top_keys top)
+    ++ (each (stage_refusals class (has_stage_cards top)) (tables_at (codes "stage") top)
+    ++ each (loop_refusals class) (tables_at (codes "loop") top))
+
+-- 6, of a name that comes after these
+abbrev pub name_twice : FileTable → List (List ℕ) → List ℕ → List PlantError
+name_twice table before name = refuse_if (list_any (bytes_eq name) before) (NameTwice (key_of table (codes "name")))
+
+-- 6, of machine j of stage i, whose machines have these names
+abbrev pub machine_name_twice : ℕ → List (List ℕ) → ℕ → Data → List PlantError
+machine_name_twice i names j m = name_twice (InMachine i j) (take j names) (name_in m)
+
+-- 6, of the machines of stage i
+abbrev pub machine_names_twice : ℕ → List Data → List PlantError
+machine_names_twice i machines = each (machine_name_twice i (map name_in machines)) machines
+
+-- 6, of stage i, which comes after stages of these names: its name, then those of its machines
+abbrev pub stage_name_twice : List (List ℕ) → ℕ → Data → List PlantError
+stage_name_twice before i s =
+    name_twice (InStage i) before (name_in s) ++ machine_names_twice i (tables_at (codes "machine") s)
+
+-- 6: an earlier stage, or an earlier machine of the same stage, has the name
+abbrev pub names_twice : Data → List PlantError
+names_twice top =
+    each (λ i s. stage_name_twice (take i (stage_names top)) i s) (tables_at (codes "stage") top)

@@ -1,0 +1,11 @@
+pub mod Columns
+pub mod Examples
+pub mod FaultLists
+pub mod LineLists
+pub mod Gathering
+pub mod NoToml
+pub mod Later
+pub mod Ranges
+pub mod Refusals
+pub mod SeenNames
+pub mod SoundFiles

@@ -1,0 +1,77 @@
+-- Names that came so far beside the list of all.
+use Rattle.std.proofs.Common.{◌≡◌, ℕ, ◌+◌, ◌<◌, Bool, true, false, not, ◌&&◌, ◌||◌, List, [], ◌∷◌, ◌++◌, map, take, length, get_or, cond, Bor, refl, ap, sym, ◌∙◌}
+use Rattle.std.specs.Prelude.{bytes_eq, codes}
+use Rattle.std.specs.List.{list_any}
+use Rattle.plant_model.specs.declared.place.FileTable.{FileTable}
+use Rattle.plant_model.specs.declared.place.FileTable.TheVariants.{InStage}
+use Rattle.plant_model.specs.declared.error.PlantError.TheVariants.{NameTwice}
+use Rattle.plant_model.specs.Place.{key_of}
+use Rattle.plant_model.specs.Refusals.{refuse_if}
+use Rattle.toml.specs.Data.{Data}
+use Rattle.toml.specs.View.{view}
+use Rattle.toml.specs.declared.value.Value.{Value}
+use Rattle.plant_keys.specs.Code.{views}
+use Rattle.plant_keys.specs.Readers.{name_in, tables_at}
+use Rattle.plant_keys.specs.Walk.{name_twice, machine_names_twice, stage_name_twice}
+use Rattle.std.proofs.lemmas.List.Folds.{list_any-append}
+use Rattle.std.proofs.lemmas.Slice.Eq.{bytes_eq-Decides}
+use Rattle.plant_keys.proofs.NameLists.{names_more, list_any_texts, texts_more}
+use Rattle.plant_lint.specs.Seen.{HaveSame}
+use Rattle.plant_lint.specs.Trees.{is_later}
+
+-- a name that came is one that came before
+known-same : (seen : List (List ℕ)) (name : List ℕ) → list_any (bytes_eq name) seen ≡ true → HaveSame seen (seen ++ name ∷ [])
+known-same seen name known =
+    record {
+      same = λ q.
+          sym
+          (list_any-append (bytes_eq q) seen (name ∷ [])
+          ∙ known_either (list_any (bytes_eq q) seen) (bytes_eq q name) (λ is. ap (λ text. list_any (bytes_eq text) seen) ((bytes_eq-Decides q name).0 is) ∙ known));
+    }
+  where
+    known_either : (there here : Bool) → (here ≡ true → there ≡ true) → (there || (here || false)) ≡ there
+    known_either true here h = refl
+    known_either false true h = sym (h refl)
+    known_either false false h = refl
+
+-- a set after a name was put into it
+pub put-same : (keys after : List (Bor (List ℕ))) (name : Bor (List ℕ)) → after ≡ cond (list_any (λ n. bytes_eq name.now n.now) keys) keys (keys ++ name ∷ []) → HaveSame (map (λ n. n.now) after) (map (λ n. n.now) keys ++ name.now ∷ [])
+put-same keys after name is =
+    put_by (list_any (λ n. bytes_eq name.now n.now) keys) refl is
+  where
+    put_by : (b : Bool) → list_any (λ n. bytes_eq name.now n.now) keys ≡ b → after ≡ cond b keys (keys ++ name ∷ []) → HaveSame (map (λ n. n.now) after) (map (λ n. n.now) keys ++ name.now ∷ [])
+    put_by true known is =
+        rw is (known-same (map (λ n. n.now) keys) name.now (list_any_texts (bytes_eq name.now) keys ∙ known))
+    put_by false known is = rw (is, texts_more keys name) (record { same = λ q. refl })
+
+-- one name more in both
+pub same-push : (seen now names : List (List ℕ)) (name : List ℕ) → HaveSame seen names → HaveSame now (seen ++ name ∷ []) → HaveSame now (names ++ name ∷ [])
+same-push seen now names name before added =
+    record {
+      same = λ q.
+          added.same q
+          ∙ list_any-append (bytes_eq q) seen (name ∷ [])
+          ∙ ap (λ b. b || list_any (bytes_eq q) (name ∷ [])) (before.same q)
+          ∙ sym (list_any-append (bytes_eq q) names (name ∷ []));
+    }
+
+-- the name of the next value came too
+pub seen_more : (vs : List Value) (j : ℕ) (x : Value) (seen now : List (List ℕ)) → HaveSame seen (take j (map name_in (views vs))) → HaveSame now (seen ++ name_in (view x) ∷ []) → j < length vs → x ≡ get_or vs j x → HaveSame now (take (j + 1) (map name_in (views vs)))
+seen_more vs j x seen now before added below is =
+    rw (← names_more vs j x (take j (map name_in (views vs))) refl below is)
+    (same-push seen now (take j (map name_in (views vs))) (name_in (view x)) before added)
+
+-- whether a name stands twice is told by the names that came, whatever their order
+pub name_twice-same : (table : FileTable) (seen names : List (List ℕ)) (name : List ℕ) → HaveSame seen names → name_twice table seen name ≡ name_twice table names name
+name_twice-same table seen names name h =
+    ap (λ twice. refuse_if twice (NameTwice (key_of table (codes "name")))) (h.same name)
+
+pub stage_name_twice-same : (seen names : List (List ℕ)) (i : ℕ) (s : Data) → HaveSame seen names → stage_name_twice seen i s ≡ stage_name_twice names i s
+stage_name_twice-same seen names i s h =
+    ap (λ own. own ++ machine_names_twice i (tables_at (codes "machine") s)) (name_twice-same (InStage i) seen names (name_in s) h)
+
+-- whether a later stage has a name is told by the names of all, and of those up to this one
+pub is_later-same : (all before names : List (List ℕ)) (i : ℕ) (name : List ℕ) → HaveSame all names → HaveSame before (take (i + 1) names) → (list_any (bytes_eq name) all && not (list_any (bytes_eq name) before)) ≡ is_later names i name
+is_later-same all before names i name h g =
+    ap (λ there. there && not (list_any (bytes_eq name) before)) (h.same name)
+    ∙ ap (λ earlier. list_any (bytes_eq name) names && not earlier) (g.same name)

@@ -1,0 +1,22 @@
+use Rattle.std.proofs.Common.{map, take, ap, ◌++◌, ◌∙◌, arith}
+use Rattle.toml.specs.View.{view}
+use Rattle.plant_model.specs.declared.place.FileTable.TheVariants.{InMachine}
+use Rattle.plant_keys.specs.Code.{views}
+use Rattle.plant_keys.specs.Readers.{name_in}
+use Rattle.plant_keys.specs.Walk.{machine_name_twice}
+use Rattle.plant_lint.specs.Faults.{plain}
+use Rattle.plant_lint.proofs.Gathering.{gathers}
+use Rattle.plant_lint.proofs.SeenNames.{seen_more, name_twice-same}
+use Rattle.plant_lint.proofs.names.find_in_machines.Goals as goal
+
+pub loop-j-preserved : goal.loop-j-preserved
+loop-j-preserved c =
+    let rows = c.args.machines.now in
+    let names = map name_in (views rows) in
+    let j = c.loop-j.j in
+    let x = c.index-machines-j.result in (
+      gathers (λ j m. plain (machine_name_twice c.args.i names j (view m))) rows j x _ _ _ c.loop-j.invariant.0 (omega arith) c.index-machines-j.is
+          (rw c.text_at.ensures at c.in_ok-find_name.ensures.found
+          ∙ ap (λ found. c.loop-j.faults.items ++ plain found) (name_twice-same (InMachine c.args.i j) c.loop-j.seen (take j names) (name_in (view x)) c.loop-j.invariant.1)),
+      seen_more rows j x _ _ c.loop-j.invariant.1 (rw c.text_at.ensures at c.in_ok-find_name.ensures.added) (omega arith) c.index-machines-j.is,
+    )

@@ -1,0 +1,14 @@
+use Rattle.std.proofs.Common.{map, take}
+use Rattle.toml.specs.View.{view}
+use Rattle.plant_keys.specs.Code.{views}
+use Rattle.plant_keys.specs.Readers.{name_in}
+use Rattle.plant_keys.specs.Walk.{machine_name_twice}
+use Rattle.plant_lint.specs.Faults.{plain}
+use Rattle.plant_lint.specs.Seen.{HaveSame}
+use Rattle.plant_lint.proofs.Gathering.{Gathered}
+use Rattle.plant_lint.proofs.names.find_in_machines.Given as goal
+
+abbrev pub invariant-loop-j : goal.invariant-loop-j
+invariant-loop-j l =
+    Gathered (λ j m. plain (machine_name_twice l.i (map name_in (views l.machines)) j (view m))) l.machines l.j l.initial.faults.items l.faults.items
+    × HaveSame l.seen (take l.j (map name_in (views l.machines)))

@@ -1,0 +1,14 @@
+use Rattle.std.proofs.Common.{map, take}
+use Rattle.toml.specs.View.{view}
+use Rattle.plant_keys.specs.Code.{views}
+use Rattle.plant_keys.specs.Readers.{name_in}
+use Rattle.plant_keys.specs.Walk.{stage_name_twice}
+use Rattle.plant_lint.specs.Faults.{plain}
+use Rattle.plant_lint.specs.Seen.{HaveSame}
+use Rattle.plant_lint.proofs.Gathering.{Gathered}
+use Rattle.plant_lint.proofs.names.find_twice.Given as goal
+
+abbrev pub invariant-loop-i : goal.invariant-loop-i
+invariant-loop-i l =
+    Gathered (λ i s. plain (stage_name_twice (take i (map name_in (views l.stages))) i (view s))) l.stages l.i l.initial.faults.items l.faults.items
+    × HaveSame l.seen (take l.i (map name_in (views l.stages)))

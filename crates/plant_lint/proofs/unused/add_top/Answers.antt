@@ -1,0 +1,7 @@
+use Rattle.plant_lint.proofs.FaultLists.{then_two}
+use Rattle.plant_lint.proofs.unused.add_top.Goals as goal
+
+pub returns : goal.returns
+returns c =
+    rw (← c.has_line_cards-idle.ensures, ← c.has_column.ensures)
+    (then_two _ _ _ _ _ _ _ _ c.in_ok-add_if.ensures c.in_ok-add_if-2.ensures c.add_if-3.ensures)

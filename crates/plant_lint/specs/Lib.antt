@@ -1,0 +1,10 @@
+pub mod Faults
+pub mod Seen
+pub mod Trees
+pub mod Texts
+pub mod Positions
+pub mod Unused
+pub mod FileLints
+pub mod PlantNotes
+pub mod PlantLints
+pub mod Laws

@@ -1,0 +1,91 @@
+ghost use Rattle.std.specs.Fmt.{DisplaysOnOk};
+ghost use Rattle.std.specs.Prelude.{◌≡◌, ◌++◌, ◌∷◌, [], codes, Some, OnOk};
+ghost use Rattle.plant_lint.specs.Faults.{wanting};
+
+use line_base::Text;
+use plant_model::PlantError;
+use std::alloc::AllocError;
+use std::fmt;
+
+/// What is wanted at the place of a refusal.
+#[derive(Debug, Drop)]
+pub enum Wants {
+    /// The refusal says all.
+    Nothing,
+    /// A text.
+    AText,
+    /// A whole number.
+    ANumber,
+    /// A list of whole numbers.
+    ListOfNumbers,
+    /// A list of tables.
+    ListOfTables,
+    /// A number between two.
+    Between { least: u64, most: u64 },
+    /// One of the four words for a policy.
+    APolicy,
+    /// At least one element.
+    AnElement,
+    /// A name.
+    AName,
+    /// Another name than the one there, which is reserved.
+    FreeName,
+    /// The name of a file.
+    AFileName,
+    /// The name of a later stage in place of this one.
+    LaterThan { name: Text },
+}
+
+/// What is wrong with a plant file at one place, and what is wanted there.
+#[derive(Debug, Drop)]
+pub struct Fault {
+    /// The refusal.
+    pub error: PlantError,
+    /// What is wanted.
+    pub wants: Wants,
+}
+
+/// The text stands right behind that of the refusal.
+impl fmt::Display for Wants {
+    ghost use Rattle.std.specs.Prelude.{Some};
+    ghost use Rattle.plant_lint.specs.Texts.{wants_text};
+
+    ghost output = { λ wants. Some (wants_text wants) };
+
+    fn fmt<W: fmt::Write>(&self, f: &mut fmt::Formatter<W>) -> fmt::Result {
+        match self {
+            Wants::Nothing => Ok(()),
+            Wants::AText => f.write_str(" wants a text"),
+            Wants::ANumber => f.write_str(" wants a whole number"),
+            Wants::ListOfNumbers => f.write_str(" wants a list of whole numbers"),
+            Wants::ListOfTables => f.write_str(" wants a list of tables"),
+            Wants::Between { least, most } => write!(f, " wants {least} to {most}"),
+            Wants::APolicy => f.write_str(" wants kanban, conwip, base-stock or extended"),
+            Wants::AnElement => f.write_str(" wants at least one"),
+            Wants::AName => f.write_str(" wants 1 to 24 of a-z 0-9 _ -, a letter first"),
+            Wants::FreeName => f.write_str(" is taken"),
+            Wants::AFileName => f.write_str(" is no file name"),
+            Wants::LaterThan { name } => after_blank(f, name),
+        }
+    }
+}
+
+/// Writes a name behind a blank.
+fn after_blank<W: fmt::Write>(f: &mut fmt::Formatter<W>, name: &Text) -> fmt::Result
+    ensures { DisplaysOnOk W.write_str_gives f.old result (Some (codes " " ++ name.now)) f.new }
+{
+    let name = name.as_str();
+    write!(f, " {name}")
+}
+
+/// Adds a refusal, with what is wanted there.
+pub(crate) fn add(
+    faults: &mut Vec<Fault>,
+    error: PlantError,
+    wants: Wants,
+) -> Result<(), AllocError>
+    ensures { OnOk result (faults.new.items ≡ faults.old.items ++ wanting wants (error ∷ [])) }
+{
+    faults.push(Fault { error, wants })?;
+    Ok(())
+}

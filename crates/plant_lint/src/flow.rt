@@ -1,0 +1,116 @@
+//! The stages that feed no later one, and those beside the last that feed none.
+ghost use Rattle.std.specs.Prelude.{◌≡◌, ◌<◌, ◌+◌, ◌++◌, ℕ, List, map, take, OnOk, length};
+ghost use Rattle.plant_keys.specs.Code.{views};
+ghost use Rattle.plant_keys.specs.Readers.{name_in};
+ghost use Rattle.plant_lint.specs.Faults.{all_of};
+ghost use Rattle.plant_lint.specs.Seen.{HaveSame};
+ghost use Rattle.plant_lint.specs.Trees.{shown_name, fed_faults, feeds_faults, final_faults};
+ghost use Rattle.toml.specs.View.{view};
+
+use crate::fault::{Fault, Wants, add};
+use crate::seen::Seen;
+use plant_keys::{has, shown, text_at, text_of, value_at};
+use plant_model::{FileTable, PlantError, Text, key_place, table_place};
+use std::alloc::{AllocError, Global};
+use toml::Value;
+
+/// Adds each stage that feeds one which isn't there or stands no later, where these are the names of all.
+pub(crate) fn find_feeds(
+    alloc: Global,
+    all: &Seen<'_>,
+    stages: &[Value],
+    faults: &mut Vec<Fault>,
+) -> Result<(), AllocError>
+    requires { HaveSame all.now (map name_in (views stages.now)) }
+    ensures { OnOk result (faults.new.items ≡ faults.old.items
+        ++ all_of (λ i s. feeds_faults (map name_in (views stages.now)) i (view s)) stages.now) }
+{
+    let mut earlier = Seen::new(alloc);
+    for (i, stage) in stages.iter().enumerate() {
+        earlier.add(text_at(stage, "name"))?;
+        find_feed(alloc, all, &earlier, i, stage, faults)?;
+    }
+    Ok(())
+}
+
+/// Adds that stage `i` feeds no later one, where these are the names of all stages, and of those up to this one.
+fn find_feed(
+    alloc: Global,
+    all: &Seen<'_>,
+    before: &Seen<'_>,
+    i: usize,
+    stage: &Value,
+    faults: &mut Vec<Fault>,
+) -> Result<(), AllocError>
+    ensures { (names : List (List ℕ)) → HaveSame all.now names → HaveSame before.now (take (i + 1) names)
+        → OnOk result (faults.new.items ≡ faults.old.items ++ feeds_faults names i (view stage.now)) }
+{
+    match value_at(stage, "feeds") {
+        Some(fed) => find_fed(alloc, all, before, i, text_of(fed), faults),
+        None => Ok(()),
+    }
+}
+
+/// The same of the name that stands at `feeds`.
+fn find_fed(
+    alloc: Global,
+    all: &Seen<'_>,
+    before: &Seen<'_>,
+    i: usize,
+    name: &str,
+    faults: &mut Vec<Fault>,
+) -> Result<(), AllocError>
+    ensures { (names : List (List ℕ)) → HaveSame all.now names → HaveSame before.now (take (i + 1) names)
+        → OnOk result (faults.new.items ≡ faults.old.items ++ fed_faults names i name.now) }
+{
+    if all.has(name) && !before.has(name) {
+        return Ok(());
+    }
+    let place = key_place(alloc, FileTable::InStage(i), "feeds")?;
+    let name = Text::of(alloc, shown_name(name))?;
+    add(
+        faults,
+        PlantError::FeedsNotLater { place },
+        Wants::LaterThan { name },
+    )
+}
+
+/// A name as lines show it: one that is empty or has another character than a key is a question mark.
+fn shown_name(name: &str) -> &str
+    ensures { result.now ≡ shown_name name.now }
+{
+    if name.is_empty() { "?" } else { shown(name) }
+}
+
+/// Adds each stage but the last that feeds none.
+pub(crate) fn find_finals(
+    alloc: Global,
+    stages: &[Value],
+    faults: &mut Vec<Fault>,
+) -> Result<(), AllocError>
+    ensures { OnOk result (faults.new.items ≡ faults.old.items
+        ++ all_of (λ i s. final_faults (length stages.now) i (view s)) stages.now) }
+{
+    for (i, stage) in stages.iter().enumerate() {
+        find_final(alloc, stages.len(), i, stage, faults)?;
+    }
+    Ok(())
+}
+
+/// Adds that stage `i` of this many feeds none, if it isn't the last.
+fn find_final(
+    alloc: Global,
+    count: usize,
+    i: usize,
+    stage: &Value,
+    faults: &mut Vec<Fault>,
+) -> Result<(), AllocError>
+    requires { i < count }
+    ensures { OnOk result (faults.new.items ≡ faults.old.items ++ final_faults count i (view stage.now)) }
+{
+    if has(stage, "feeds") || i + 1 == count {
+        return Ok(());
+    }
+    let place = table_place(alloc, FileTable::InStage(i))?;
+    add(faults, PlantError::TwoFinals { place }, Wants::Nothing)
+}

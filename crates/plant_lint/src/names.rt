@@ -1,0 +1,93 @@
+//! The names that stand twice, and the stages that feed no later one.
+ghost use Rattle.std.specs.List.{list_any};
+ghost use Rattle.std.specs.Prelude.{◌≡◌, ◌++◌, [], ◌∷◌, map, take, IfOk, OnOk, length, codes};
+ghost use Rattle.plant_keys.specs.Code.{views};
+ghost use Rattle.plant_keys.specs.Readers.{name_in};
+ghost use Rattle.plant_keys.specs.Walk.{name_twice, machine_name_twice, stage_name_twice};
+ghost use Rattle.plant_lint.specs.Faults.{plain, all_of};
+ghost use Rattle.plant_lint.specs.Seen.{HaveSame};
+ghost use Rattle.toml.specs.View.{view};
+
+use crate::fault::{Fault, Wants, add};
+use crate::seen::Seen;
+use plant_keys::{tables_at, text_at};
+use plant_model::{FileTable, PlantError, key_place};
+use std::alloc::{AllocError, Global};
+use toml::Value;
+
+/// Adds each name that an earlier stage, or an earlier machine of the same stage, has. The answer is the names of the
+/// stages.
+pub(crate) fn find_twice<'a>(
+    alloc: Global,
+    stages: &'a [Value],
+    faults: &mut Vec<Fault>,
+) -> Result<Seen<'a>, AllocError>
+    ensures names { IfOk result (λ seen. HaveSame seen (map name_in (views stages.now))) }
+    ensures found { OnOk result (faults.new.items ≡ faults.old.items ++ all_of (λ i s. plain
+        (stage_name_twice (take i (map name_in (views stages.now))) i (view s))) stages.now) }
+{
+    let mut seen = Seen::new(alloc);
+    for (i, stage) in stages.iter().enumerate() {
+        find_in_stage(alloc, &mut seen, i, stage, faults)?;
+    }
+    Ok(seen)
+}
+
+/// Adds the name of stage `i` to those before, and finds whether it, or one of its machines' names, stands twice.
+fn find_in_stage<'a>(
+    alloc: Global,
+    seen: &mut Seen<'a>,
+    i: usize,
+    stage: &'a Value,
+    faults: &mut Vec<Fault>,
+) -> Result<(), AllocError>
+    ensures added { OnOk result (HaveSame seen.new (seen.old ++ name_in (view stage.now) ∷ [])) }
+    ensures found { OnOk result (faults.new.items ≡ faults.old.items
+        ++ plain (stage_name_twice seen.old i (view stage.now))) }
+{
+    find_name(
+        alloc,
+        seen,
+        FileTable::InStage(i),
+        text_at(stage, "name"),
+        faults,
+    )?;
+    find_in_machines(alloc, i, tables_at(stage, "machine"), faults)
+}
+
+/// Adds each name of a machine of stage `i` that an earlier one has.
+fn find_in_machines(
+    alloc: Global,
+    i: usize,
+    machines: &[Value],
+    faults: &mut Vec<Fault>,
+) -> Result<(), AllocError>
+    ensures { OnOk result (faults.new.items ≡ faults.old.items ++ all_of (λ j m. plain
+        (machine_name_twice i (map name_in (views machines.now)) j (view m))) machines.now) }
+{
+    let mut seen = Seen::new(alloc);
+    for (j, machine) in machines.iter().enumerate() {
+        let table = FileTable::InMachine(i, j);
+        find_name(alloc, &mut seen, table, text_at(machine, "name"), faults)?;
+    }
+    Ok(())
+}
+
+/// Adds the name that a table has to those before, and finds whether it is among them.
+fn find_name<'a>(
+    alloc: Global,
+    seen: &mut Seen<'a>,
+    table: FileTable,
+    name: &'a str,
+    faults: &mut Vec<Fault>,
+) -> Result<(), AllocError>
+    ensures added { OnOk result (HaveSame seen.new (seen.old ++ name.now ∷ [])) }
+    ensures found { OnOk result (faults.new.items ≡ faults.old.items
+        ++ plain (name_twice table seen.old name.now)) }
+{
+    if seen.add(name)? {
+        return Ok(());
+    }
+    let place = key_place(alloc, table, "name")?;
+    add(faults, PlantError::NameTwice { place }, Wants::Nothing)
+}

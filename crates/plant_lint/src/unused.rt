@@ -1,0 +1,136 @@
+//! The keys of a plant file that its policy doesn't use.
+ghost use Rattle.std.specs.Prelude.{◌≡◌, ◌++◌, not, IfOk, OnOk, string_bytes};
+ghost use Rattle.plant_keys.specs.Keys.{has_line_cards};
+ghost use Rattle.plant_lint.specs.Faults.{all_of};
+ghost use Rattle.plant_lint.specs.Unused.{unused_if, unused_at_top, unused_in_stage, is_kanban, unused_lines};
+ghost use Rattle.toml.specs.View.{view};
+
+use plant_keys::{has, has_column, has_stage_cards, tables_at, text_at};
+use plant_model::{FileTable, key_place};
+use std::alloc::{AllocError, Global};
+use toml::Value;
+
+/// A note for each key that isn't used, in the order of the walk.
+#[tactic(auto, unfolding(crate::specs::Unused::unused_lines))]
+pub(crate) fn unused_lines(alloc: Global, top: &Value) -> Result<String, AllocError>
+    ensures { IfOk result (λ text. string_bytes text ≡ unused_lines (view top.now)) }
+{
+    let mut text = String::new(alloc);
+    add_top(alloc, &mut text, top)?;
+    let stages = tables_at(top, "stage");
+    add_stages(
+        alloc,
+        &mut text,
+        has_stage_cards(top),
+        is_kanban(top),
+        stages,
+    )?;
+    Ok(text)
+}
+
+/// Whether the policy is kanban.
+fn is_kanban(top: &Value) -> bool
+    ensures { result ≡ is_kanban (view top.now) }
+{
+    text_at(top, "policy") == "kanban"
+}
+
+/// Whether the policy gives the line cards.
+fn has_line_cards(top: &Value) -> bool
+    ensures { result ≡ has_line_cards (view top.now) }
+{
+    text_at(top, "policy") == "conwip"
+}
+
+/// Adds the notes of the top.
+fn add_top(alloc: Global, text: &mut String, top: &Value) -> Result<(), AllocError>
+    ensures { OnOk result (string_bytes text.new ≡ string_bytes text.old ++ unused_at_top (view top.now)) }
+{
+    let idle = !has_line_cards(top);
+    add_if(alloc, text, idle, FileTable::Top, "card_time", top)?;
+    add_if(alloc, text, idle, FileTable::Top, "cards", top)?;
+    add_if(
+        alloc,
+        text,
+        !has_column(top),
+        FileTable::Top,
+        "times_file",
+        top,
+    )
+}
+
+/// Adds the notes of the stages.
+fn add_stages(
+    alloc: Global,
+    text: &mut String,
+    with_cards: bool,
+    without_stock: bool,
+    stages: &[Value],
+) -> Result<(), AllocError>
+    ensures { OnOk result (string_bytes text.new ≡ string_bytes text.old
+        ++ all_of (λ i s. unused_in_stage with_cards without_stock i (view s)) stages.now) }
+{
+    for (i, stage) in stages.iter().enumerate() {
+        add_stage(alloc, text, with_cards, without_stock, i, stage)?;
+    }
+    Ok(())
+}
+
+/// Adds the notes of stage `i`.
+fn add_stage(
+    alloc: Global,
+    text: &mut String,
+    with_cards: bool,
+    without_stock: bool,
+    i: usize,
+    stage: &Value,
+) -> Result<(), AllocError>
+    ensures { OnOk result (string_bytes text.new ≡ string_bytes text.old
+        ++ unused_in_stage with_cards without_stock i (view stage.now)) }
+{
+    add_if(
+        alloc,
+        text,
+        !with_cards,
+        FileTable::InStage(i),
+        "card_time",
+        stage,
+    )?;
+    add_if(
+        alloc,
+        text,
+        !with_cards,
+        FileTable::InStage(i),
+        "cards",
+        stage,
+    )?;
+    add_if(
+        alloc,
+        text,
+        without_stock,
+        FileTable::InStage(i),
+        "stock",
+        stage,
+    )
+}
+
+/// Adds that a key isn't used, if it is there and the test gives true.
+fn add_if(
+    alloc: Global,
+    text: &mut String,
+    idle: bool,
+    table: FileTable,
+    key: &str,
+    value: &Value,
+) -> Result<(), AllocError>
+    ensures { OnOk result (string_bytes text.new ≡ string_bytes text.old
+        ++ unused_if idle table key.now (view value.now)) }
+{
+    if !idle || !has(value, key) {
+        return Ok(());
+    }
+    let place = key_place(alloc, table, key)?;
+    let place = place.as_str();
+    let line = format!(in alloc; "note: {place} is not used\n")?;
+    text.push_str(line.as_str())
+}

@@ -1,0 +1,274 @@
+//! What is said on standard error beside an answer: which status it is, and what to do next.
+
+use pull_cli::{WordsError, read_words};
+use std::alloc::{AllocError, Global};
+
+/// The status of words that are no command.
+const NO_COMMAND: u8 = 2;
+
+/// The status of a plant file that is refused.
+const REFUSED: u8 = 3;
+
+/// What is said of a status.
+#[derive(Clone, Copy)]
+struct Saying {
+    /// Which status it is.
+    what: &'static str,
+    /// What to do next, as far as the name of the plant file.
+    next: &'static str,
+    /// What stands behind that name, where it is named.
+    behind: Option<&'static str>,
+}
+
+/// The line for a status that isn't 0, of a command of these words.
+pub fn hint(alloc: Global, status: u8, words: &[String]) -> Result<String, AllocError> {
+    if status == NO_COMMAND {
+        return words_hint(alloc, words);
+    }
+    let saying = if status == REFUSED {
+        refused_saying(asks_lint(words), has_lint(alloc)?)
+    } else {
+        saying_of(status)
+    };
+    let what = saying.what;
+    let next = saying.next;
+    match saying.behind {
+        Some(behind) => {
+            let plant = plant_of(words);
+            format!(in alloc; "pull: status {status}, {what}; {next}{plant}{behind}")
+        }
+        None => format!(in alloc; "pull: status {status}, {what}; {next}"),
+    }
+}
+
+/// Whether the command is `lint`.
+fn asks_lint(words: &[String]) -> bool {
+    match words.first() {
+        Some(word) => word.as_str() == "lint",
+        None => false,
+    }
+}
+
+/// The plant file of a command, which its second word names.
+fn plant_of(words: &[String]) -> &str {
+    match words.get(1) {
+        Some(word) => word.as_str(),
+        None => "PLANT",
+    }
+}
+
+/// Advice without the name of the plant file.
+fn advice(what: &'static str, next: &'static str) -> Saying {
+    Saying {
+        what,
+        next,
+        behind: None,
+    }
+}
+
+/// Advice in which the name of the plant file stands.
+fn with_plant(what: &'static str, next: &'static str, behind: &'static str) -> Saying {
+    Saying {
+        what,
+        next,
+        behind: Some(behind),
+    }
+}
+
+/// What is said of a status.
+fn saying_of(status: u8) -> Saying {
+    match status {
+        1 => advice("a word is no UTF-8", "write it in UTF-8"),
+        4 => advice(
+            "the plant can't move",
+            "the stations that are named wait for each other: give one of them a card or a server",
+        ),
+        5 => advice(
+            "a file can't be read or written",
+            "see that it is in this folder, and that you may read and write it",
+        ),
+        6 => advice(
+            "the output can't be written",
+            "see that there is room for it, and that its reader goes on",
+        ),
+        7 => advice(
+            "the checkpoint is of no run of the plant",
+            "resume with the plant file that was run, or run it anew",
+        ),
+        8 => with_plant(
+            "a machine has a list of times, and so the plant no cycle time",
+            "'pull summary ",
+            "' tells how busy each machine is",
+        ),
+        9 => advice(
+            "out of memory",
+            "end other programs, or ask for less at once",
+        ),
+        10 => advice(
+            "a file is too long",
+            "a plant, a table, a schedule or edits have at most 64 MiB, a checkpoint 160 MiB",
+        ),
+        11 => advice(
+            "the schedule can't be followed",
+            "mend the line that is named, or add what is missing",
+        ),
+        12 => advice(
+            "the slots can't be read or written",
+            "see that you may read and write pull.slots in this folder",
+        ),
+        13 => with_plant(
+            "no number of cards keeps the wait",
+            "'pull cycle ",
+            "' tells what holds the line",
+        ),
+        14 => with_plant(
+            "nothing is saved in the slots",
+            "'pull run ",
+            " --every 1000 --slots' saves",
+        ),
+        16 => advice("the edits can't be followed", "mend the line that is named"),
+        17 => with_plant(
+            "the plant has no single number of cards",
+            "change its cards or its stock, and ask 'pull summary ",
+            "'",
+        ),
+        18 => with_plant(
+            "no station has the label, or there are fewer jobs",
+            "'pull run ",
+            "' lists all stations and jobs",
+        ),
+        19 => with_plant(
+            "a job waits longer than it may",
+            "give a longer wait, or ask 'pull cards ",
+            " WAIT' how many cards keep it",
+        ),
+        20 => with_plant(
+            "the picture is too large",
+            "give a shorter span of dates: 'pull chart ",
+            " FROM TO'",
+        ),
+        _ => advice("it is not done", "'pull --help' lists all statuses"),
+    }
+}
+
+/// Whether there is a command `lint`, which tells all that is wrong with a plant file.
+fn has_lint(alloc: Global) -> Result<bool, AllocError> {
+    is_command(alloc, &[], "lint a.toml")
+}
+
+/// What is said of a plant file that is refused, to `lint` or to another command.
+fn refused_saying(asks_lint: bool, has_lint: bool) -> Saying {
+    let what = "the plant file is refused";
+    if asks_lint {
+        advice(what, "mend what the lines name, and ask again")
+    } else if has_lint {
+        with_plant(what, "'pull lint ", "' tells more")
+    } else {
+        advice(
+            what,
+            "mend what the line names; docs/GUIDE.md shows how a plant file is written",
+        )
+    }
+}
+
+/// The line for words that are no command.
+fn words_hint(alloc: Global, words: &[String]) -> Result<String, AllocError> {
+    let fault = words_fault(alloc, words)?;
+    let next = words_advice(alloc, words)?;
+    format!(in alloc; "pull: status 2, the words are no command: {fault}; {next}")
+}
+
+/// What to ask next, where words are no command.
+fn words_advice(alloc: Global, words: &[String]) -> Result<String, AllocError> {
+    let Some(word) = words.first() else {
+        return String::from_str(alloc, "'pull --help' lists the commands");
+    };
+    if is_command(alloc, &words[..1], "--help")? {
+        format!(in alloc; "'pull help {word}' shows its words, 'pull --help' lists the commands")
+    } else {
+        String::from_str(alloc, "'pull --help' lists the commands")
+    }
+}
+
+/// Which of the words can't be used, or that there are too few.
+fn words_fault(alloc: Global, words: &[String]) -> Result<String, AllocError> {
+    let Some(place) = first_unusable(alloc, words)? else {
+        return String::from_str(alloc, "words are missing");
+    };
+    match words.get(place) {
+        Some(word) if is_plain(word) => format!(in alloc; "'{word}' can't be used there"),
+        _ => format!(in alloc; "word {} can't be used there", place.saturating_add(1)),
+    }
+}
+
+/// Whether a word can be shown as it is.
+fn is_plain(word: &str) -> bool {
+    !word.is_empty() && word.len() <= 255 && word.bytes().all(|byte| byte >= 32 && byte != 127)
+}
+
+/// The first word that no command with the words before it can go on with: no command begins with these.
+fn first_unusable(alloc: Global, words: &[String]) -> Result<Option<usize>, AllocError> {
+    for place in 0..words.len() {
+        if !begins_command(alloc, &words[..=place])? {
+            return Ok(Some(place));
+        }
+    }
+    Ok(None)
+}
+
+/// Words behind which each command can end: one of them makes a command of any words with which one begins, but for the
+/// counts of `curve`, of which the second is at least the first.
+const ENDS: [&str; 18] = [
+    "",
+    "--help",
+    "a.toml",
+    "0",
+    "1",
+    "a 1",
+    "0 0",
+    "10000000000000000",
+    "--slots",
+    "1 --slots",
+    "--every 1",
+    "1 --every 1",
+    "--save a.ckpt",
+    "0 --save a.ckpt",
+    "1 --save a.ckpt",
+    "--stop-after 0",
+    "a.ckpt --stop-after 0",
+    "1 --stop-after 0",
+];
+
+/// Whether a command begins with these words.
+fn begins_command(alloc: Global, words: &[String]) -> Result<bool, AllocError> {
+    for end in &ENDS {
+        if is_command(alloc, words, end)? {
+            return Ok(true);
+        }
+    }
+    match words.last() {
+        Some(word) => is_command(alloc, words, word),
+        None => Ok(false),
+    }
+}
+
+/// Whether words are a command, with the words of a line behind them.
+fn is_command(alloc: Global, words: &[String], end: &str) -> Result<bool, AllocError> {
+    let mut all = Vec::new(alloc);
+    for word in words {
+        all.push(word.clone()?)?;
+    }
+    for word in end.split(' ') {
+        if !word.is_empty() {
+            all.push(String::from_str(alloc, word)?)?;
+        }
+    }
+    match read_words(alloc, all.as_slice()) {
+        Ok(command) => {
+            drop(command);
+            Ok(true)
+        }
+        Err(WordsError::Usage) => Ok(false),
+        Err(WordsError::NoMemory) => Err(AllocError),
+    }
+}

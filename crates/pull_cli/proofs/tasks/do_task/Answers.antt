@@ -1,0 +1,30 @@
+use Rattle.std.proofs.Common.{refl}
+use Rattle.live_plant.specs.Actions.{DiskOver, disk_over}
+use Rattle.pull_cli.proofs.TaskSteps.{alone_does}
+use Rattle.pull_cli.proofs.tasks.do_task.Goals as goal
+
+pub returns-in-Alone : goal.returns-in-Alone
+returns-in-Alone g c =
+    let view = g.D.Disk.shown c.args.disk.now in
+    rw c.in-Alone.is (alone_does g.S.Store.tells (g.S.Store.shown c.args.store.now) (disk_over g.D.Disk.tells view view) c.in-Alone.question c.ask_alone.result refl c.ask_alone.ensures)
+
+pub returns-in-OnPlant : goal.returns-in-OnPlant
+returns-in-OnPlant g c =
+    let view = g.D.Disk.shown c.args.disk.now in
+    let disk : DiskOver = disk_over g.D.Disk.tells view view in
+    rw c.in-OnPlant.is (rw c.as_str.ensures at (c.on_plant.ensures disk refl))
+
+pub returns-in-OnFile : goal.returns-in-OnFile
+returns-in-OnFile g c =
+    let view = g.D.Disk.shown c.args.disk.now in
+    let disk : DiskOver = disk_over g.D.Disk.tells view view in
+    rw c.in-OnFile.is (rw (c.as_str-in-OnFile.ensures, c.as_str-in-OnFile-2.ensures) at (c.on_file.ensures disk refl))
+
+pub returns-in-Stopping : goal.returns-in-Stopping
+returns-in-Stopping g c =
+    let view = g.D.Disk.shown c.args.disk.now in
+    let disk : DiskOver = disk_over g.D.Disk.tells view view in
+    rw c.in-Stopping.is (rw c.as_str-in-Stopping.ensures at (c.until_stop.ensures disk refl))
+
+pub returns-in-OnDisk : goal.returns-in-OnDisk
+returns-in-OnDisk g c = rw c.in-OnDisk.is (rw c.as_str-in-OnDisk.ensures at c.on_disk.ensures)

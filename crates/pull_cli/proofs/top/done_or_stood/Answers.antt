@@ -1,0 +1,10 @@
+use Rattle.command_line.specs.Options.{texts}
+use Rattle.command_line.specs.Words.{command_of}
+use Rattle.pull_cli.proofs.Ending.{command_does, no_command_does}
+use Rattle.pull_cli.proofs.top.done_or_stood.Goals as goal
+
+pub returns-in-Ok : goal.returns-in-Ok
+returns-in-Ok g c = command_does c.in-Ok.ensures.command c.do_or_stand.ensures
+
+pub returns-in-Err : goal.returns-in-Err
+returns-in-Err g c = no_command_does (command_of (texts c.args.words.now)) c.in-Err.ensures.none

@@ -1,0 +1,52 @@
+-- The first half of the headline. For every plant file, number of workers and interleaving of their steps, a run that isn't
+-- told to stop and ends with status 0 has written exactly the report of the least solution of the policy's equations.
+use Rattle.std.specs.Prelude.{◌≡◌, ℕ, List, ◌++◌, IsTrue, Option, Some, None, Ok}
+use Rattle.command_line.specs.Words.{command_of}
+use Rattle.command_line.specs.declared.command.Command.{Command}
+use Rattle.command_line.specs.declared.command.Command.TheVariants as command
+use Rattle.event_graph.specs.Least.{IsLeast}
+use Rattle.event_graph.specs.Table.{date_in}
+use Rattle.line_io.specs.Calls.{Read}
+use Rattle.line_io.specs.SinkView.{PutsAll}
+use Rattle.line_report.specs.ReportText.{report}
+use Rattle.live_plant.specs.Outside.{StoreOver, SinkOver}
+use Rattle.live_plant.specs.PlantSteps.{OfLivePlant}
+use Rattle.plant_file.specs.PlantOfFiles.{plant_of}
+use Rattle.plant_model.specs.Graph.{graph}
+use Rattle.plant_model.specs.declared.plant.Plant.{Plant}
+
+-- the plant file of a command that runs a plant and isn't told to stop
+abbrev pub run_of : Command → Option (List ℕ)
+run_of (command.Run plant workers None) = Some plant
+run_of (command.RunSlots plant every workers) = Some plant
+run_of (command.RunRoom plant room workers) = Some plant
+run_of (command.RunStand plant workers) = Some plant
+run_of (command.Resume plant saved workers) = Some plant
+run_of (command.ResumeSlots plant workers) = Some plant
+run_of other = None
+
+-- "the plant file": the plant of the files, where the store tells them, and of the bytes that were read from them
+pub record IsPlantRead (p : Plant) (name : List ℕ) (store : StoreOver) : Type 0 where
+  pub reads : List Read
+  pub more : List Read
+  pub asked : store.new.asked.reads ≡ store.old.asked.reads ++ (reads ++ more)
+  pub answers : OfLivePlant name reads (Ok p)
+  pub of_files : IsTrue store.tells → plant_of name store.old.files ≡ Ok p
+
+-- "has written exactly the report of the least solution of the policy's equations"
+pub record HasReported (p : Plant) (sink : SinkOver) : Type 0 where
+  pub rows : List (List ℕ)
+  pub least : IsLeast (graph p) (date_in rows)
+  pub written : PutsAll sink.old sink.new (report p (date_in rows))
+
+-- so has a run of this plant file
+pub record Reports (name : List ℕ) (store : StoreOver) (sink : SinkOver) : Type 0 where
+  pub plant : Plant
+  pub read : IsPlantRead plant name store
+  pub reported : HasReported plant sink
+
+-- "a run that isn't told to stop and ends with status 0"
+abbrev pub RunReports : List (List ℕ) → StoreOver → SinkOver → ℕ → Type 0
+RunReports words store sink status =
+    (asked : Command) (name : List ℕ) → command_of words ≡ Some asked → run_of asked ≡ Some name → status ≡ 0 →
+    Reports name store sink

@@ -1,4 +1,0 @@
-pub mod DeedLemmas
-pub mod FileReads
-pub mod PlantsOfFiles
-pub mod StepLemmas

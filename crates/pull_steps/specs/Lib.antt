@@ -1,6 +1,0 @@
-pub mod Deeds
-pub mod LivePlant
-pub mod Outside
-pub mod PlantSteps
-pub mod Replies
-pub mod Steps

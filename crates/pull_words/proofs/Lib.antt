@@ -1,4 +1,0 @@
-pub mod Checkpoints
-pub mod CycleRefusals
-mod Examples
-pub mod Schedules

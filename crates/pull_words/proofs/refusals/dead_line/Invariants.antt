@@ -1,8 +1,0 @@
-use Rattle.std.proofs.Common.{◌≡◌, ◌++◌, take}
-use Rattle.std.specs.Prelude.{codes}
-use Rattle.std.specs.List.{flat_map}
-use Rattle.pull_words.specs.DeadLine.{spaced}
-use Rattle.pull_words.proofs.refusals.dead_line.Given as goal
-
-abbrev pub invariant-loop-label : goal.invariant-loop-label
-invariant-loop-label l = l.text.items ≡ codes "dead:" ++ flat_map spaced (take l.label-index l.labels)

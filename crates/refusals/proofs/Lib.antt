@@ -1,0 +1,4 @@
+pub mod CheckpointErrors
+pub mod CycleRefusals
+mod Examples
+pub mod ScheduleErrors

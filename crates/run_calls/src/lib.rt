@@ -1,7 +1,0 @@
-//! What no case file reaches, of several workers at once: each public call once, with its answer compared, and runs of
-//! the top call through gates. There is a module of `tests` for each crate below, named `of_` and the crate; the other
-//! crates are in `calls`, `plant_calls`, `line_calls` and `saving_calls`.
-#![tactic(auto)]
-
-#[cfg(test)]
-mod tests;

@@ -1,6 +1,0 @@
-//! What no case file reaches, of what is saved: checkpoints, a disk, and its slots. There is a module of `tests` for each crate
-//! below, named `of_` and the crate; the other crates are in `calls`, `plant_calls`, `line_calls` and `run_calls`.
-#![tactic(auto)]
-
-#[cfg(test)]
-mod tests;

@@ -1,0 +1,225 @@
+use crate::tests::counting_gate::CountingGate;
+use crate::tests::got::got;
+use crate::tests::held_gate::HeldGate;
+use crate::tests::pair_gate::PairGate;
+use crate::tests::same::same;
+use line_disk::MemDisk;
+use line_io::{Files, MemSink, MemStore, Store};
+use line_workers::{FreeGate, Gate};
+use pull_cli::pull;
+use std::alloc::{AllocError, Global};
+use std::process::Abort;
+use std::sync::Wait;
+use std::thread::Threads;
+use test_samples::{
+    BASE_STOCK, FORTY_DEMANDS, KANBAN, ONE_CARD, ONE_PART, THREE_DEMANDS, stages_file,
+};
+
+/// How often a worker with three stations passes a gate in a burst.
+const PASSES: u64 = 48;
+
+/// The checkpoint of the two stages with a card each after all firings for three demands, in format 1.
+const FINISHED: &str = "\
+pull-checkpoint 1
+station feed 3 0 2 4
+station cut 3 0 5 10
+station cut.saw 3 3 8 13
+station weld 3 0 5 10
+station weld.torch 3 5 10 15
+station deliver 3 0 5 10
+place 0 0
+place 1 1 13
+place 2 1 13
+place 3 1 13
+place 4 0
+place 5 1 15
+place 6 1 15
+place 7 1 15
+place 8 0
+place 9 0
+place 10 0
+end
+";
+
+/// The report of the two stages with a card each and three demands.
+const REPORT: &str = "\
+feed 1 0
+feed 2 2
+feed 3 4
+cut 1 0
+cut 2 5
+cut 3 10
+cut.saw 1 3
+cut.saw 2 8
+cut.saw 3 13
+weld 1 0
+weld 2 5
+weld 3 10
+weld.torch 1 5
+weld.torch 2 10
+weld.torch 3 15
+deliver 1 0
+deliver 2 5
+deliver 3 10
+peak cut 1 of 1
+peak weld 1 of 1
+waiting 9
+last 15
+";
+
+/// The words of a line.
+fn words_of(alloc: Global, line: &str) -> Result<Vec<String>, AllocError> {
+    line.split(' ')
+        .map(|word| String::from_str(alloc, word))
+        .try_collect(alloc)
+}
+
+/// A store with one file, of this name and with this text.
+fn store_of(alloc: Global, name: &str, text: &str) -> Result<MemStore, AllocError> {
+    let name = String::from_str(alloc, name)?;
+    let bytes = Vec::from_slice(alloc, text.as_bytes())?;
+    let mut files = Files::new(alloc);
+    let _ = files.insert(name, bytes)?;
+    Ok(MemStore::new(alloc, files, Vec::new(alloc)))
+}
+
+/// A store with the plant file `a.toml` of the two stages, by the line of its policy, the dates of its demands, and
+/// what else is said of each stage.
+fn stages_store(
+    rt: &impl Abort,
+    alloc: Global,
+    policy: &str,
+    demands: &str,
+    said: &str,
+) -> MemStore {
+    let file = got(rt, stages_file(alloc, policy, demands, said, said));
+    got(rt, store_of(alloc, "a.toml", file.as_str()))
+}
+
+/// The status of the top call over a store and a sink, through a gate. What its contract says is let go here.
+fn status_of<R: Threads + Wait + Sync, G: Gate>(
+    rt: &R,
+    alloc: Global,
+    words: &[String],
+    store: &mut MemStore,
+    sink: &mut MemSink,
+    gate: &G,
+) -> u8 {
+    let mut disk = MemDisk::new(alloc, Vec::new(alloc));
+    let status = pull(rt, alloc, words, store, sink, gate, &mut disk);
+    drop(disk);
+    status
+}
+
+/// Does what the words of a line ask for over a store, through a gate, and asserts that it ends well. Answers what it
+/// wrote.
+fn written<R: Abort + Threads + Wait + Sync, G: Gate>(
+    rt: &R,
+    alloc: Global,
+    line: &str,
+    store: &mut MemStore,
+    gate: &G,
+) -> Vec<u8> {
+    let words = got(rt, words_of(alloc, line));
+    let mut sink = got(rt, MemSink::new(alloc, 100_000, Vec::new(alloc), 0));
+    let status = status_of(rt, alloc, &words, store, &mut sink, gate);
+    drop(words);
+    same(rt, status, 0);
+    let report = got(rt, Vec::from_slice(alloc, sink.written()));
+    drop(sink);
+    report
+}
+
+// Worker 1 begins when worker 0 has made all of its first burst. With room for one token the feed has then reached a
+// stop, and most of its demands are left for later bursts; without a bound each pass lets it fire.
+#[test]
+fn a_bounded_ring_holds_the_feed_back(rt: HostRuntime) {
+    let alloc = rt.alloc();
+    let mut store = stages_store(&rt, alloc, BASE_STOCK, FORTY_DEMANDS, ONE_PART);
+    let free = HeldGate::new(1, PASSES);
+    let report = written(&rt, alloc, "run a.toml --workers 2", &mut store, &free);
+    same(&rt, free.has_missed(), false);
+    same(&rt, free.feeds(), 40);
+    let bounded = HeldGate::new(1, PASSES);
+    let line = "run a.toml --room 1 --workers 2";
+    let same_report = written(&rt, alloc, line, &mut store, &bounded);
+    drop(store);
+    same(&rt, bounded.has_missed(), false);
+    assert!(rt; bounded.feeds() >= 55);
+    same(&rt, same_report, report);
+}
+
+/// The end of the report of the two stages with a card each and forty demands: a part is delivered every five.
+fn forty_deliveries(alloc: Global) -> Result<String, AllocError> {
+    let mut end = String::new(alloc);
+    for job in 0..40u32 {
+        write!(end, "deliver {} {}\n", job + 1, job * 5)?;
+    }
+    end.push_str("peak cut 1 of 1\npeak weld 1 of 1\nwaiting 2340\nlast 200\n")?;
+    Ok(end)
+}
+
+/// Asserts that a report of the two stages delivers a part every five, forty in all.
+fn delivers_forty(rt: &impl Abort, alloc: Global, report: &[u8]) {
+    let end = got(rt, forty_deliveries(alloc));
+    same(rt, report.ends_with(end.as_bytes()), true);
+}
+
+// Sixteen sweeps of six stations are 96 firings, of 240; a run that began anew would make all of them.
+#[test]
+fn a_resumed_run_goes_on_from_its_checkpoint(rt: HostRuntime) {
+    let alloc = rt.alloc();
+    let mut store = stages_store(&rt, alloc, KANBAN, FORTY_DEMANDS, ONE_CARD);
+    let whole = CountingGate::new();
+    let report = written(&rt, alloc, "run a.toml", &mut store, &whole);
+    same(&rt, whole.steps(), 240);
+    delivers_forty(&rt, alloc, &report);
+    let line = "run a.toml --stop-after 96 --save c.ckpt";
+    let stopped = written(&rt, alloc, line, &mut store, &FreeGate);
+    same(&rt, stopped.as_slice(), b"stopped 96\n".as_slice());
+    let rest = CountingGate::new();
+    let resumed = written(&rt, alloc, "resume a.toml c.ckpt", &mut store, &rest);
+    drop(store);
+    same(&rt, rest.steps(), 144);
+    same(&rt, resumed, report);
+}
+
+/// Does what the words of a line ask for over the two stages with a card each and three demands, and their checkpoint
+/// `one.ckpt` after all firings, through a gate. Asserts that it writes their report.
+fn writes_report<R: Abort + Threads + Wait + Sync, G: Gate>(
+    rt: &R,
+    alloc: Global,
+    line: &str,
+    gate: &G,
+) {
+    let mut store = stages_store(rt, alloc, KANBAN, THREE_DEMANDS, ONE_CARD);
+    got(rt, store.write("one.ckpt", FINISHED.as_bytes()));
+    let report = written(rt, alloc, line, &mut store, gate);
+    drop(store);
+    same(rt, report.as_slice(), REPORT.as_bytes());
+}
+
+#[test]
+fn a_finished_run_is_resumed_without_a_step(rt: HostRuntime) {
+    let gate = CountingGate::new();
+    writes_report(&rt, rt.alloc(), "resume a.toml one.ckpt", &gate);
+    same(&rt, gate.steps(), 0);
+}
+
+// Where one thread ran both workers, the first at the gate would look in vain for the other.
+#[test]
+fn two_workers_are_at_work_at_once(rt: HostRuntime) {
+    let gate = PairGate::new();
+    writes_report(&rt, rt.alloc(), "run a.toml --workers 2", &gate);
+    assert!(rt; gate.has_come(0) && gate.has_come(1));
+    same(&rt, gate.has_missed(), false);
+}
+
+// In a run of bursts worker 1 would pass 48 times, and worker 0 look in vain.
+#[test]
+fn a_worker_stays_in_its_thread_between_sweeps(rt: HostRuntime) {
+    let gate = HeldGate::new(0, PASSES + 1);
+    writes_report(&rt, rt.alloc(), "run a.toml --stand --workers 2", &gate);
+    assert!(rt; gate.is_open());
+    same(&rt, gate.has_missed(), false);
+}

@@ -1,0 +1,7 @@
+mod new_disk;
+mod of_checkpoint;
+mod of_file_disk;
+mod of_line_disk;
+mod of_slot_store;
+mod same;
+mod short_file;

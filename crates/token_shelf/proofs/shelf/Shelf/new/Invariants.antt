@@ -1,8 +1,0 @@
-use Rattle.std.proofs.Common.{ℕ, map}
-use Rattle.std.specs.Prelude.{Vec}
-use Rattle.std.specs.declared.alloc.Global.{Global}
-use Rattle.token_shelf.proofs.Laying.{LaidUpTo}
-use Rattle.token_shelf.proofs.shelf.Shelf.new.Given as goal
-
-abbrev pub invariant-loop-first : goal.invariant-loop-first
-invariant-loop-first l = LaidUpTo l.first-index (map (λ (v : Vec ℕ Global). v.items) l.fn.firsts.items) l.tokens.items l.queues.items
