@@ -162,7 +162,7 @@ class Folder:
 
 
 def slots_of(path):
-    """The head of each slot, and behind it so many bytes of content as it tells."""
+    """The head of each slot, and behind it this many bytes of content as it tells."""
     held = []
     with open(path, "rb") as file:
         for start in STARTS:

@@ -1,5 +1,6 @@
-"""Runs each file of mistakes/ and compares the status and the first line with the table of mistakes/README.md. Run it in
-mistakes/, with PULL naming the program. Prints what differs, and ends with status 1 where anything does."""
+"""Runs each file of mistakes/ and compares the status, the first line and the message that names the cause with the table
+of mistakes/README.md. Run it in mistakes/, with PULL naming the program. Prints what differs, and ends with status 1
+where anything does."""
 
 import os
 import re
@@ -7,7 +8,9 @@ import shlex
 import subprocess
 import sys
 
-ROW = re.compile(r"^\| (\d\d-[\w.-]+) \| .* \| (\d+) \| (.*?) \| [^|]* \|$")
+ROW = re.compile(r"^\| (\d\d-[\w.-]+) \| .* \| (\d+) \| (.*?) \| (.*?) \|$")
+# the statuses for which a line of `lint` names the cause; for the others standard error does
+LINTED = {0, 3, 4}
 
 
 def words_of(name):
@@ -18,16 +21,41 @@ def words_of(name):
     return ["run", name]
 
 
-def main():
+def ask(words):
+    """The status of the program, what it writes, and what it writes to standard error."""
     program = os.environ["PULL"]
+    ran = subprocess.run([program, *words], stdout=subprocess.PIPE, stderr=subprocess.PIPE, check=False)
+    return ran.returncode, ran.stdout.decode(errors="replace"), ran.stderr.decode(errors="replace")
+
+
+def faults_of(name, status, line, message):
+    """What differs from the row of a file."""
+    came, out, err = ask(words_of(name))
+    first = out.split("\n", 1)[0]
+    if came != status or (status != 0 and first != line.strip("`")):
+        yield f"status {came}, {first!r}"
+    if status not in LINTED:
+        if message.strip("`") not in err:
+            yield f"standard error says {err!r}"
+        return
+    came, out, _ = ask(["lint", name])
+    if came != status:
+        yield f"lint ends with status {came}"
+    lines = out.split("\n")
+    if message == "none":
+        if lines != ["no fault", ""]:
+            yield f"lint writes {lines}"
+    elif message.strip("`") not in lines:
+        yield f"lint writes {lines}"
+
+
+def main():
     with open("README.md", encoding="utf-8") as file:
         rows = [it.groups() for it in map(ROW.match, file.read().splitlines()) if it]
     wrong = 0
-    for name, status, line in rows:
-        ran = subprocess.run([program, *words_of(name)], stdout=subprocess.PIPE, stderr=subprocess.PIPE, check=False)
-        first = ran.stdout.decode(errors="replace").split("\n", 1)[0]
-        if ran.returncode != int(status) or (status != "0" and first != line.strip("`")):
-            print(f"{name}: status {ran.returncode}, {first!r}")
+    for name, status, line, message in rows:
+        for fault in faults_of(name, int(status), line, message):
+            print(f"{name}: {fault}")
             wrong += 1
     listed = {it[0] for it in rows}
     missing = [it for it in os.listdir(".") if it.endswith((".toml", ".words")) and it not in listed]

@@ -5,7 +5,7 @@
 
 The commands are those of which WORD is a part, or all. `memory` tries each with request 1, 2, .. for memory refused, once
 that one alone and once that one and all later ones. The run then ends with status 9 and the line `memory`, or as without
-it; or with 5 or 12 and its line, or with 6, where the machine refused a file for want of memory. `main` collects the words
+it; or with 5 or 12 and its line, or with 6, where the machine refused a file because memory ran out. `main` collects the words
 before anything can be written, with the first requests (`requests_of_main`): where one of these is refused, and only there,
 status 9 may come without its line. `calls` tries every command with call 1, 2, .. on a file failing with each of some
 errors, then short, then as the last thing that the program does, with half of a write done or with none. A failing call
@@ -30,7 +30,7 @@ def tell(command, order, status, out, why):
 
 
 def requests_of_main(words):
-    """How many requests main makes for so many words, at most 7: one for each, for the program's name before them and for
+    """How many requests main makes for this many words, at most 7: one for each, for the program's name before them and for
     the look behind the last; one or two for their list, which has room for 4 and then for 8; one for the words alone."""
     return words + 2 + (1 if words + 1 <= 4 else 2) + 1
 

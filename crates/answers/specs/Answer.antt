@@ -9,7 +9,7 @@ use Rattle.line_chart.specs.Picture as pictures
 use Rattle.line_io.specs.SinkView.{SinkView, WritesText}
 use Rattle.line_io.specs.declared.sink.Failed.{Failed}
 use Rattle.line_summary.specs.Summarized as summarized
-use Rattle.line_table.specs.PlantDates as plant_dates
+use Rattle.line_table.specs.DateTable as date_table
 use Rattle.answers.specs.ChangesText.{changes_text}
 use Rattle.answers.specs.Curves.{CurveIsPut}
 use Rattle.answers.specs.declared.answer.Answer.{Answer}
@@ -32,7 +32,7 @@ answer_bytes (Summarized report) = summary_of report
 answer_bytes (Caused causes) = caused.text_of causes
 answer_bytes (Summary summary) = summarized.text_of summary
 answer_bytes (Drawn chart) = pictures.text_of chart
-answer_bytes (Dates dates) = plant_dates.text_of dates
+answer_bytes (Dates dates) = date_table.text_of dates
 answer_bytes (Latest latest) = found.text_of latest
 answer_bytes (Curved counts) = []
 answer_bytes (Changed changes) = changes_text changes

@@ -1,5 +1,5 @@
--- What `whatif` writes of a sheet: `LABEL N OLD NEW` for each date that differs from the table's, in the order of stations
--- and then jobs, and `changed C` with their number.
+-- What `whatif` writes of a sheet: `LABEL N OLD NEW` for each date that differs from the table's, in the order of
+-- stations and then jobs, and `changed C` with their number.
 use Rattle.std.specs.Prelude.{ℕ, ◌==◌, if◌then◌else◌, List, [], ◌∷◌, ◌++◌, length, codes, decimal}
 use Rattle.std.specs.List.{flat_map, range_with_len}
 use Rattle.event_graph.specs.Network.{stations, jobs, label}

@@ -1,5 +1,5 @@
--- What `cycle` writes of a certificate: `cycle TIME/CARDS`, `circuit LABEL .. time W cards M`, and `potential LABEL V` for each
--- station.
+-- What `cycle` writes of a certificate: `cycle TIME/CARDS`, `circuit LABEL .. time W cards M`, and `potential LABEL V`
+-- for each station.
 use Rattle.std.specs.Prelude.{◌≡◌, ℕ, ℤ, pos, List, ◌∷◌, ◌++◌, slice_index_or, codes, decimal}
 use Rattle.std.specs.Fmt.{signed_decimal}
 use Rattle.std.specs.List.{flat_map, range_with_len}

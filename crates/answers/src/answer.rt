@@ -34,7 +34,7 @@ pub enum Answer {
     },
     /// `--version`: the name and version of the program.
     Version,
-    /// `check`, `cycle` and `cards`: a text that stands in memory.
+    /// `lint`, `check`, `cycle` and `cards`: a text that stands in memory.
     Text {
         /// The text.
         text: Items<u8>,
@@ -121,7 +121,7 @@ impl Answer {
             Answer::Version => whole(put_text(sink, VERSION.as_bytes())),
             Answer::Text { text } => whole(put_text(sink, text.as_slice())),
             Answer::Stopped { fired } => whole(put_stopped(sink, *fired)),
-            Answer::Reported { report } => whole(report.write(sink)),
+            Answer::Reported { report } => whole(report.write(rt, sink)),
             Answer::Summarized { report } => whole(report.write_summary(sink)),
             Answer::Caused { causes } => whole(causes.write(sink)),
             Answer::Summary { summary } => whole(summary.write(sink)),

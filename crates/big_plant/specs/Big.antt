@@ -1,7 +1,7 @@
--- The big plant of a seed: twelve stages of three machines under extended kanban, and two thousand demands. All its numbers
--- are draws, in this order: for each stage its stock, the cards that it has above one for each part of the stock and one more,
--- and for each machine the servers above one, then the time above one; then for each demand how much later it comes than the
--- one before. Stages and machines are numbered from 0 here, jobs from 1.
+-- The big plant of a seed: twelve stages of three machines under extended kanban, and two thousand demands. All its
+-- numbers are draws, in this order: for each stage its stock, the cards that it has above one for each part of the
+-- stock and one more, and for each machine the servers above one, then the time above one; then for each demand how
+-- much later it comes than the one before. Stages and machines are numbered from 0 here, jobs from 1.
 use Rattle.std.specs.Prelude.{ℕ, zero, suc, ◌+◌, ◌*◌, ◌==◌, if◌then◌else◌, List, [], ◌∷◌, ◌++◌, map, Option, None, Some, codes, decimal}
 use Rattle.std.specs.List.{range_with_len}
 use Rattle.line_base.specs.declared.times.Times.TheVariants.{Fixed}

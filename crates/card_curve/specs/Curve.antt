@@ -14,7 +14,7 @@ abbrev pub HavePoints : Plant → ℕ → List (Option Point) → Type 0
 HavePoints p c points =
     (i : ℕ) → i < length points → IfSome (slice_index_or points i None) (IsPoint p (c + i))
 
--- exactly the rows of so many counts, from c on, were put
+-- exactly the rows of this many counts, from c on, were put
 pub record PutsRows (p : Plant) (c count : ℕ) (old new : SinkView) : Type 0 where
   pub points : List Point
   pub number : length points ≡ count
@@ -22,7 +22,7 @@ pub record PutsRows (p : Plant) (c count : ℕ) (old new : SinkView) : Type 0 wh
   pub puts : PutsAll old new (rows_from c points)
   pub faults_stay_or_rise : old.faults ≤ new.faults
 
--- a prefix of the rows of at most so many counts, from c on, was put, as the sink refused a piece
+-- a prefix of the rows of at most this many counts, from c on, was put, as the sink refused a piece
 pub record PutsPrefixOfRows (p : Plant) (c count : ℕ) (old new : SinkView) : Type 0 where
   pub points : List Point
   pub few : length points ≤ count
@@ -36,7 +36,7 @@ pub record PutsFewerRows (p : Plant) (c count : ℕ) (old new : SinkView) : Type
   pub fewer : done < count
   pub rows : PutsRows p c done old new
 
--- where the rows of so many counts, from c on, end early: whole rows stand where memory ran out, and a prefix of rows
+-- where the rows of this many counts, from c on, end early: whole rows stand where memory ran out, and a prefix of rows
 -- where the sink failed
 abbrev pub EndsEarly : Plant → ℕ → ℕ → SinkView → SinkView → CurveError → Type 0
 EndsEarly p c count old new NoMemory = PutsFewerRows p c count old new

@@ -45,6 +45,17 @@ impl From<line_io::Failed> for CurveError {
     }
 }
 
+/// How many bytes are taken and given back before the first count.
+const ROOM: usize = 16_777_216;
+
+/// Takes a large block of memory and gives it back, untouched. From it the allocator of the C library learns to keep as
+/// much of what it gets back, in place of handing it to the system: else each count gets the pages of its run anew, and
+/// the threads wait for one another to get them. Where there is no such block, the counts go on without.
+fn keep_memory(alloc: Global) {
+    let taken: Result<Vec<u8>, AllocError> = Vec::with_capacity(alloc, ROOM);
+    drop(taken);
+}
+
 /// How many counts a thread gets at a time: more where one is soon found, so that the start of a thread is worth it.
 fn counts_each(plant: &Plant) -> u32
     ensures { 1 ≤ result }
@@ -56,7 +67,7 @@ fn counts_each(plant: &Plant) -> u32
     }
 }
 
-/// How many counts are found before their rows are written: so many for each worker, and one where there is one worker.
+/// How many counts are found before their rows are written: a fixed number for each worker, and one where there is one worker.
 fn block_size(plant: &Plant, workers: u32) -> u32
     requires { 1 ≤ workers }
     ensures { 1 ≤ result }
@@ -67,7 +78,7 @@ fn block_size(plant: &Plant, workers: u32) -> u32
     workers.saturating_mul(counts_each(plant))
 }
 
-/// Finds what counts from `first` on give, in at most so many threads; `None` where memory ran out.
+/// Finds what counts from `first` on give, in at most this many threads; `None` where memory ran out.
 fn find_points<R: Threads + Sync>(
     rt: &R,
     alloc: Global,
@@ -166,7 +177,7 @@ fn write_blocks<R: Threads + Sync, K: Sink>(
     Ok(())
 }
 
-/// Writes a row for each count of cards from `from` to `to`: what the plant gives with so many cards at each stage, or
+/// Writes a row for each count of cards from `from` to `to`: what the plant gives with this many cards at each stage, or
 /// for the line under CONWIP. The counts are shared among at most `workers` threads, and the text doesn't depend on how
 /// many these are. They go in blocks, and the rows of a block are put, each to its end, before the next is begun. No
 /// more memory is held than a block takes: for each worker a run of the line, and the figures of each of its counts.
@@ -191,5 +202,6 @@ pub fn write_curve<R: Threads + Sync, K: Sink>(
     ensures prefix { OnErr result (PutsPrefixOfCurve plant.now from (to + 1 - from)
         (K.shown sink.old) (K.shown sink.new)) }
 {
+    keep_memory(alloc);
     write_blocks(rt, alloc, plant, from, to, workers, sink)
 }

@@ -63,7 +63,7 @@ fn point_of(alloc: Global, plant: &Plant) -> Result<Point, AllocError>
     }
 }
 
-/// That a graph was handed back since it isn't live, and not for want of memory.
+/// That a graph was handed back since it isn't live, and not because memory ran out.
 fn check_dead(not_live: NotLive) -> Result<(), AllocError>
     ensures { (g : Parts) → SaysNotLive g not_live → OnOk result (¬ IsLive g) }
 {

@@ -8,7 +8,7 @@ use crate::point::Point;
 use line_io::{Failed, Outgoing, Sink};
 use line_summary::{Figures, push_thousandths};
 
-/// Writes that so many cards are fewer than the stock needs.
+/// Writes that this many cards are fewer than the stock needs.
 fn push_too_few<K: Sink>(out: &mut Outgoing, sink: &mut K, count: u32)
     ensures { Pushed (stream (K.shown sink.old) out.old)
         (stream (K.shown sink.new) out.new) (too_few_row count) }
@@ -18,7 +18,7 @@ fn push_too_few<K: Sink>(out: &mut Outgoing, sink: &mut K, count: u32)
     out.push(sink, b" too few\n");
 }
 
-/// Writes that the line isn't live with so many cards.
+/// Writes that the line isn't live with this many cards.
 fn push_dead<K: Sink>(out: &mut Outgoing, sink: &mut K, count: u32)
     ensures { Pushed (stream (K.shown sink.old) out.old)
         (stream (K.shown sink.new) out.new) (dead_row count) }
@@ -28,7 +28,7 @@ fn push_dead<K: Sink>(out: &mut Outgoing, sink: &mut K, count: u32)
     out.push(sink, b" dead\n");
 }
 
-/// Writes the figures of the line with so many cards.
+/// Writes the figures of the line with this many cards.
 fn push_figures<K: Sink>(out: &mut Outgoing, sink: &mut K, count: u32, figures: &Figures)
     ensures { Pushed (stream (K.shown sink.old) out.old)
         (stream (K.shown sink.new) out.new) (figures_row count figures.now) }

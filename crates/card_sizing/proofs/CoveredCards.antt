@@ -1,9 +1,8 @@
--- Under extended kanban a count with a card for each part of a stage's stock and for each job gives the dates that a greater one
--- gives, and its line is live where that one's is: no job waits for a card then.
+-- Under extended kanban a count with a card for each part of a stage's stock and for each job gives the dates that a
+-- greater one gives, and its line is live where that one's is: no job waits for a card then.
 use Rattle.std.proofs.Common.{◌≡◌, ℕ, ◌+◌, ◌-◌, ◌<◌, ◌≤◌, ◌⊎◌, cond, eqb, ltb, List, length, get_or, inl, inr, refl, sym, ap, ◌∙◌, subst, arith, ⊎_elim}
 use Rattle.std.specs.List.{All, AllZip}
 use Rattle.std.proofs.lemmas.Bool.{cond-false, le-ltb}
-use Rattle.std.proofs.lemmas.List.{get_or-map}
 use Rattle.std.proofs.lemmas.List.Elements.{AllZip-get_or, length_all_zip}
 use Rattle.line_base.specs.Times.{time_at}
 use Rattle.line_base.specs.declared.event.Arc.{Arc}
@@ -28,14 +27,14 @@ use Rattle.live_check.proofs.Upward.{upward_live}
 use Rattle.live_check.proofs.LiveOrder.{has_order}
 use Rattle.line_graph.proofs.CardlessPlants.{release-same, deliver-same, receiver-same, stage-same, machines-same, times-same, one_shape}
 use Rattle.line_graph.proofs.RowPairs.{rows-pairs}
-use Rattle.line_graph.proofs.Sizes.{stations-graph, arc_count-graph}
+use Rattle.line_graph.proofs.Sizes.{stations-graph, arc_count-graph, delay-graph, times-graph, demand-graph, jobs-graph}
 use Rattle.line_graph.proofs.Inputs.{arc-graph, IsGraph-graph}
 use Rattle.line_graph.specs.MoreCards.{DifferInCards}
 use Rattle.card_sizing.specs.Sized.{cards_under, policy_with, sized}
 use Rattle.card_sizing.proofs.SizedStages.{differ-counts, length-sized, stage_at-sized, policy-sized}
 use Rattle.card_sizing.proofs.SizedSound.{starting-sized, stock_between-sized}
 
--- two rows between the same stations that hold at least so many tokens each
+-- two rows between the same stations that hold at least `many` tokens each
 record AreCovered (many : ℕ) (r s : Row) : Type 0 where
   from : r.arc.from ≡ s.arc.from
   to : r.arc.to ≡ s.arc.to
@@ -55,22 +54,6 @@ term_by a late times x n =
 term-by : (g : Parts) (x : Table) (a n : ℕ) → term g x a n ≡ term_by (arc g a) (delay g a) g.times x n
 unfolding work time
 term-by g x a n = refl
-
-delay-graph : (p : Plant) (a : ℕ) (d : Row) → a < length (rows p) → delay (graph p) a ≡ (get_or (rows p) a d).delay
-unfolding graph delay
-delay-graph p a d low = get_or-map (λ (r : Row). r.delay) (rows p) a d 0 low
-
-times-graph : (p : Plant) → (graph p).times ≡ times p
-unfolding graph
-times-graph p = refl
-
-demand-graph : (p q : Plant) (n : ℕ) → p.demands ≡ q.demands → demand (graph p) n ≡ demand (graph q) n
-unfolding graph demand
-demand-graph p q n same = ap (λ (dates : List ℕ). get_or dates (n - 1) 0) same
-
-jobs-graph : (p : Plant) → jobs (graph p) ≡ length p.demands
-unfolding graph
-jobs-graph p = refl
 
 cards-extended : (policy : Policy) (c own : ℕ) → policy ≡ Extended → cards_under policy c own ≡ c
 cards-extended Kanban c own is = refl

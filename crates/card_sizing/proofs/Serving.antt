@@ -1,19 +1,19 @@
 -- More cards keep a line in time, so a count above one that serves serves; and what the run of a plant's graph says of its line.
-use Rattle.std.proofs.Common.{◌≡◌, ℕ, List, ◌-◌, ◌<◌, ◌≤◌, true, length, get_or, refl, sym, ap, ◌∙◌, subst, arith}
+use Rattle.std.proofs.Common.{◌≡◌, ℕ, List, ◌-◌, ◌<◌, ◌≤◌, true, length, sym, ap, ◌∙◌, subst, arith}
 use Rattle.line_base.specs.declared.limits.TheConstants.{MAX_CARDS}
 use Rattle.line_base.specs.declared.event.Parts.{Parts}
 use Rattle.plant_model.specs.declared.plant.Plant.{Plant}
 use Rattle.plant_model.specs.Line.{deliver}
 use Rattle.plant_model.specs.Graph.{labels, graph}
 use Rattle.plant_model.specs.Sound.{IsSound}
-use Rattle.event_graph.specs.Network.{stations, jobs, demand}
+use Rattle.event_graph.specs.Network.{stations, jobs}
 use Rattle.event_graph.specs.Live.{IsLive}
 use Rattle.event_graph.proofs.GreatestTerms.{greatest_of_terms}
 use Rattle.line_core.proofs.Existence.{has_least}
 use Rattle.line_graph.specs.DeadLabels.{AreDead}
 use Rattle.line_graph.specs.MoreCards.{HasMoreCards}
 use Rattle.line_graph.proofs.CardlessPlants.{deliver-same, demands-same}
-use Rattle.line_graph.proofs.Sizes.{stations-graph}
+use Rattle.line_graph.proofs.Sizes.{stations-graph, jobs-graph, demand-graph}
 use Rattle.line_graph.proofs.Inputs.{IsGraph-graph}
 use Rattle.line_graph.proofs.MoreCards.{cards_never_later}
 use Rattle.card_sizing.specs.Sized.{has_single_count, sized, lowest}
@@ -23,14 +23,6 @@ use Rattle.card_sizing.proofs.SizedStages.{more-sized, most-sized}
 use Rattle.card_sizing.proofs.SizedSound.{sound_sized}
 
 -- ---- the graph of a plant
-
-jobs-graph : (p : Plant) → jobs (graph p) ≡ length p.demands
-unfolding graph
-jobs-graph p = refl
-
-demand-graph : (p q : Plant) (n : ℕ) → p.demands ≡ q.demands → demand (graph p) n ≡ demand (graph q) n
-unfolding graph demand
-demand-graph p q n same = ap (λ (dates : List ℕ). get_or dates (n - 1) 0) same
 
 delivery : (p : Plant) → stations (graph p) - 1 ≡ deliver p
 delivery p = let all = stations-graph p in omega arith

@@ -9,8 +9,8 @@ use Rattle.plant_model.specs.declared.plant.Plant.{Plant}
 use Rattle.plant_model.specs.Line.{stage_at, stage_numbers}
 use Rattle.card_sizing.specs.Serving.{IsInTime}
 
--- whether each stage has a count of cards: not under CONWIP and base stock, and not under kanban with a loop, whose cards stand
--- against those of its stages
+-- whether each stage has a count of cards: not under CONWIP and base stock, and not under kanban with a loop, whose
+-- cards stand against those of its stages
 abbrev pub has_counts_under : Policy → Plant → Bool
 has_counts_under Kanban p = length p.loops == 0
 has_counts_under (Conwip _) p = false
@@ -70,8 +70,8 @@ abbrev pub NoneServesLess : Plant → ℕ → List ℕ → Type 0
 NoneServesLess p may counts =
     (i d : ℕ) → i < length p.stages → d < slice_index counts i → ¬ ServeEach p may (with_count counts i d)
 
--- how far the search for the least count of stage i has come: no count below `low` is one with which the line is in time, and
--- with `high` it is
+-- how far the search for the least count of stage i has come: no count below `low` is one with which the line is in
+-- time, and with `high` it is
 pub record IsStageSearch (p : Plant) (may : ℕ) (counts : List ℕ) (i low high : ℕ) : Type 0 where
   pub ordered : low ≤ high
   pub enough : least_at p i ≤ low

@@ -28,8 +28,8 @@ no_sizing = record { stage = []; cards = 0; below = Lowest }
 abbrev pub below_at : List StageSizing → ℕ → Below
 below_at sizings i = (slice_index_or sizings i no_sizing).below
 
--- why stage i can't have one card less, the others as they stand: it has its least count, or with one less the line is live and
--- this job is the first that waits longer than it may, or with one less this circuit has no token
+-- why stage i can't have one card less, the others as they stand: it has its least count, or with one less the line is
+-- live and this job is the first that waits longer than it may, or with one less this circuit has no token
 abbrev pub IsBelowAt : Plant → ℕ → List ℕ → ℕ → Below → Type 0
 IsBelowAt p may counts i Lowest = slice_index counts i ≡ least_at p i
 IsBelowAt p may counts i (Job job wait) =
@@ -43,8 +43,8 @@ IsBelowAt p may counts i (Dead labels) =
 abbrev pub HaveReasons : Plant → ℕ → List ℕ → List StageSizing → ℕ → Type 0
 HaveReasons p may counts sizings n = (i : ℕ) → i < n → IsBelowAt p may counts i (below_at sizings i)
 
--- why no counts are answered: the stages have none, or with the most cards at each stage this job is the first that waits longer
--- than it may; want of memory is free
+-- why no counts are answered: the stages have none, or with the most cards at each stage this job is the first that
+-- waits longer than it may; running out of memory says nothing
 abbrev pub IsEachRefusal : Plant → ℕ → SizingError → Type 0
 IsEachRefusal p may NoSingleCount = has_stage_counts p ≡ false
 IsEachRefusal p may (NoCount job wait) = (has_stage_counts p ≡ true) × IsLateWith p may most_cards job wait

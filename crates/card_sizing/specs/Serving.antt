@@ -1,7 +1,6 @@
--- What it is that a line is in time, and that a count of cards serves: the line is live, and no job waits longer than it may.
--- Jobs are counted from 1.
--- Source: Baccelli, Cohen, Olsder, Quadrat, Synchronization and Linearity: the dates of a line are the least solution of its
--- equations.
+-- What it is that a line is in time, and that a count of cards serves: the line is live, and no job waits longer than
+-- it may. Jobs are counted from 1. Source: Baccelli, Cohen, Olsder, Quadrat, Synchronization and Linearity: the dates
+-- of a line are the least solution of its equations.
 use Rattle.std.specs.Prelude.{◌≡◌, ℕ, ◌-◌, ◌<◌, ◌≤◌, length}
 use Rattle.line_base.specs.Limits.{most_cards}
 use Rattle.line_base.specs.declared.event.Parts.{Parts}

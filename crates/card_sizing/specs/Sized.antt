@@ -9,8 +9,8 @@ use Rattle.plant_model.specs.Stages.{Stage}
 use Rattle.plant_model.specs.declared.plant.Plant.{Plant}
 use Rattle.plant_model.specs.Line.{stage_at, stage_numbers, first_stages, path_stock}
 
--- whether one count says how many cards the plant has: not under base stock, which has none, and not under kanban with a loop,
--- whose cards stand against those of its stages
+-- whether one count says how many cards the plant has: not under base stock, which has none, and not under kanban with
+-- a loop, whose cards stand against those of its stages
 abbrev pub has_count_under : Policy → Plant → Bool
 has_count_under Kanban p = length p.loops == 0
 has_count_under (Conwip _) p = true
@@ -63,8 +63,8 @@ lowest_under Extended p = most_stock p
 unfoldable pub lowest : Plant → ℕ
 lowest p = lowest_under p.policy p
 
--- a count from which on no card more changes a date: under extended kanban one for each part of the most stock and one for each
--- job; at most, and else, the most cards
+-- a count from which on no card more changes a date: under extended kanban one for each part of the most stock and one
+-- for each job; at most, and else, the most cards
 abbrev pub highest_under : Policy → Plant → ℕ
 highest_under Kanban p = most_cards
 highest_under (Conwip _) p = most_cards

@@ -10,8 +10,8 @@ use Rattle.live_check.specs.declared.live.NotLive.TheVariants as refusal
 use Rattle.live_check.specs.DeadCircuit.{IsDeadCircuit}
 use Rattle.line_graph.specs.DeadLabels.{AreDead}
 
--- why the plant's line isn't in time: it is live, and this job is the first that waits longer than it may, or this circuit has
--- no token
+-- why the plant's line isn't in time: it is live, and this job is the first that waits longer than it may, or this
+-- circuit has no token
 abbrev pub FailsBy : Plant → ℕ → Below → Type 0
 FailsBy p may Lowest = ⊥
 FailsBy p may (Job job wait) = IsLate p may job wait
@@ -32,7 +32,7 @@ abbrev pub NamesItsCircuit : NotLive → List (List ℕ) → Type 0
 NamesItsCircuit (refusal.Dead g arcs) labels = AreDead g labels
 NamesItsCircuit (refusal.NoMemory g) labels = ⊥
 
--- of `most` tries so many were made, and halving the counts in this range takes no more than are left
+-- `tries` of `most` tries were made, and halving the counts in this range takes no more than are left
 pub record HasTriesLeft (most tries range : ℕ) : Type 0 where
   pub left : ℕ
   pub all : tries + left ≡ most

@@ -40,15 +40,16 @@ pub struct EachSizing {
     pub tries: u32,
 }
 
-/// Counts of cards, one for each stage, with which the line is live and no job waits longer than `wait` from its demand to its
-/// delivery, in the plant's unit; and with one card less at any one stage, the others as they stand, that isn't so. They begin
-/// at the answer of `least_cards` at each stage. From the last stage back to the first a stage gets the least count with which
-/// the line is still in time, the others as they stand. One pass is enough: with more cards no job waits longer (the law
-/// `more_cards_never_later` of line_graph), so what a stage needs it needs also with fewer cards elsewhere.
+/// Counts of cards, one for each stage, with which the line is live and no job waits longer than `wait` from its demand
+/// to its delivery, in the plant's unit; and with one card less at any one stage, the others as they stand, that isn't
+/// so. They begin at the answer of `least_cards` at each stage. From the last stage back to the first a stage gets the
+/// least count with which the line is still in time, the others as they stand. One pass is enough: with more cards no
+/// job waits longer (the law `more_cards_never_later` of line_graph), so what a stage needs it needs also with fewer
+/// cards elsewhere.
 ///
-/// `NoSingleCount` comes exactly where the plant runs by CONWIP or base stock, or by kanban with a loop; else `NoCount` exactly
-/// where 10,000 cards at each stage don't serve. At most fourteen counts of a stage are tried, and one of them once more for its
-/// reason.
+/// `NoSingleCount` comes exactly where the plant runs by CONWIP or base stock, or by kanban with a loop; else `NoCount`
+/// exactly where 10,000 cards at each stage don't serve. At most fourteen counts of a stage are tried, and one of them
+/// once more for its reason.
 pub fn least_each(alloc: Global, plant: &Plant, wait: u64) -> Result<EachSizing, SizingError>
     requires sound { IsSound plant.now }
     requires live { IsLive (graph plant.now) }
@@ -60,7 +61,7 @@ pub fn least_each(alloc: Global, plant: &Plant, wait: u64) -> Result<EachSizing,
     ensures total { IfOk result (λ each. each.total ≡ sum (counts_of each.stages)) }
     ensures few_tries { IfOk result (λ each. each.tries ≤ 15 + 15 * length plant.now.stages) }
 
-    // No answer but want of memory is free.
+    // No answer but running out of memory is free.
     ensures refused { IfErr result (IsEachRefusal plant.now wait) }
     ensures no_single_count { IsErrOf result SizingError.NoSingleCount ↔
         (has_stage_counts plant.now ≡ false) }
@@ -167,7 +168,8 @@ fn lower(
     Ok(high)
 }
 
-/// Why the line isn't in time with `count` cards at a stage, the others as they stand; `None` where it is. It counts as a try.
+/// Why the line isn't in time with `count` cards at a stage, the others as they stand; `None` where it is. It counts as
+/// a try.
 fn try_counts(
     alloc: Global,
     plant: &Plant,

@@ -32,10 +32,11 @@ pub struct Sizing {
 pub enum Below {
     /// It is the lowest with which each part of the starting stock has a card.
     Lowest,
-    /// With one less this job, counted from 1, is the first that waits longer than it may. Its wait is in the plant's unit.
+    /// With one less this job, counted from 1, is the first that waits longer than it may. Its wait is in the plant's
+    /// unit.
     Job { job: u32, wait: u64 },
-    /// With one less the line isn't live: these are the labels of the stations along a circuit without a token, from the
-    /// station with the least number on.
+    /// With one less the line isn't live: these are the labels of the stations along a circuit without a token, from
+    /// the station with the least number on.
     Dead { labels: Items<Label> },
 }
 
@@ -45,7 +46,8 @@ pub enum SizingError {
     /// The plant has no single count of cards: it runs by base stock, or by kanban with a loop.
     #[error("no single count")]
     NoSingleCount,
-    /// With 10,000 cards this job, counted from 1, is the first that waits longer than it may. Its wait is in the plant's unit.
+    /// With 10,000 cards this job, counted from 1, is the first that waits longer than it may. Its wait is in the
+    /// plant's unit.
     #[error("no count: job {job} waits {wait}")]
     NoCount { job: u32, wait: u64 },
     /// Memory ran out.
@@ -61,14 +63,16 @@ impl From<AllocError> for SizingError {
     }
 }
 
-/// The least count of cards with which the line is live and no job waits longer than `wait` from its demand to its delivery, in
-/// the plant's unit; and why it can't be one less. The count is that of each stage under kanban and extended kanban, and of the
-/// line under CONWIP, from the lowest with which the starting stock has its cards to 10,000.
+/// The least count of cards with which the line is live and no job waits longer than `wait` from its demand to its
+/// delivery, in the plant's unit; and why it can't be one less. The count is that of each stage under kanban and
+/// extended kanban, and of the line under CONWIP, from the lowest with which the starting stock has its cards to
+/// 10,000.
 ///
-/// `NoSingleCount` comes exactly where the plant runs by base stock, or by kanban with a loop; else `NoCount` exactly where
-/// 10,000 cards don't serve. Under extended kanban no count is tried above one card for each part of the most stock and one for
-/// each job, with which no job waits for a card. Halving finds the count, so at most fifteen counts are tried, each in the time of a run at most, and
-/// one that fails up to its first late job: with more cards no job waits longer (Baccelli, Cohen, Olsder and Quadrat, Synchronization and Linearity, on tokens and dates).
+/// `NoSingleCount` comes exactly where the plant runs by base stock, or by kanban with a loop; else `NoCount` exactly
+/// where 10,000 cards don't serve. Under extended kanban no count is tried above one card for each part of the most
+/// stock and one for each job, with which no job waits for a card. Halving finds the count, so at most fifteen counts
+/// are tried, each in the time of a run at most, and one that fails up to its first late job: with more cards no job
+/// waits longer (Baccelli, Cohen, Olsder and Quadrat, Synchronization and Linearity, on tokens and dates).
 pub fn least_cards(alloc: Global, plant: &Plant, wait: u64) -> Result<Sizing, SizingError>
     requires sound { IsSound plant.now }
     requires live { IsLive (graph plant.now) }
@@ -78,7 +82,7 @@ pub fn least_cards(alloc: Global, plant: &Plant, wait: u64) -> Result<Sizing, Si
     ensures few_tries { IfOk result (λ sizing. sizing.tries ≤ 15) }
     ensures halved { IfOk result (λ sizing. HalvesCounts plant.now sizing.tries) }
 
-    // No answer but want of memory is free.
+    // No answer but running out of memory is free.
     ensures refused { IfErr result (IsSizingRefusal plant.now wait) }
     ensures no_single_count { IsErrOf result SizingError.NoSingleCount ↔
         (has_single_count plant.now ≡ false) }
@@ -99,8 +103,8 @@ pub fn least_cards(alloc: Global, plant: &Plant, wait: u64) -> Result<Sizing, Si
     }
 }
 
-/// The least count that serves, from `start` to `end`, the lowest and the highest count, where the highest serves, which is the
-/// one that was tried.
+/// The least count that serves, from `start` to `end`, the lowest and the highest count, where the highest serves,
+/// which is the one that was tried.
 fn halve(
     alloc: Global,
     plant: &Plant,

@@ -4,10 +4,10 @@ ghost use Rattle.card_sizing.specs.Serving.{wait_until, NoneIsLateIn, IsFirstLat
 ghost use Rattle.event_graph.specs.Least.{IsLeast};
 ghost use Rattle.event_graph.specs.Network.{stations, jobs};
 ghost use Rattle.event_graph.specs.Table.{Table};
-ghost use Rattle.line_core.specs.Round.{IsInRound, HasFired};
+ghost use Rattle.line_core.specs.Round.{HasFired};
 ghost use Rattle.line_core.specs.Run.{IsReached};
 
-use line_core::State;
+use line_core::{State, fire_each};
 use live_check::Live;
 use plant_model::FEED;
 
@@ -16,38 +16,6 @@ use plant_model::FEED;
 pub struct LateJob {
     pub job: u32,
     pub wait: u64,
-}
-
-/// Fires the station at a rank, where those below it have fired once more than the others.
-fn fire_at(state: &mut State, live: &Live, done: u32, rank: u32)
-    requires made_for { live.now.graph ≡ state.old.graph }
-    requires rank { rank < stations state.old.graph }
-    requires more { done < jobs state.old.graph }
-    requires round { IsInRound live.now.ranks state.old done rank }
-    requires reached { IsReached state.old }
-    ensures graph { state.new.graph ≡ state.old.graph }
-    ensures reached { IsReached state.new }
-    ensures round { IsInRound live.now.ranks state.new done (rank + 1) }
-{
-    match state.fire(live, live.station_at(rank)) {
-        Ok(()) => (),
-        Err(_) => unreachable!(),
-    }
-}
-
-/// Fires each station once, in the order of the ranks.
-fn fire_each(state: &mut State, live: &Live, done: u32)
-    requires made_for { live.now.graph ≡ state.old.graph }
-    requires more { done < jobs state.old.graph }
-    requires fired { HasFired state.old done }
-    requires reached { IsReached state.old }
-    ensures graph { state.new.graph ≡ state.old.graph }
-    ensures reached { IsReached state.new }
-    ensures fired { HasFired state.new (done + 1) }
-{
-    for rank in 0..live.graph().stations() {
-        fire_at(state, live, done, rank);
-    }
 }
 
 /// How long the job waits that every station made last.

@@ -157,7 +157,7 @@ pub given_right : (xs ys : List (List ℕ)) → AreGiven (xs ++ ys) → AreGiven
 given_right xs ys given =
     All-same (All IsGiven) ys (drop (length xs) (xs ++ ys)) (sym (drop_at xs ys (length xs) refl)) (All-drop (All IsGiven) (length xs) (xs ++ ys) given)
 
--- what is told of a refusal of the logs and places of a text
+-- what a refusal of the logs and places of a text says
 pub tells_refusal : (g : Parts) (bytes : List ℕ) (refusal : StateError) → IsRefused g bytes refusal → Tells g bytes (of_state_error refusal)
 tells_refusal g bytes (Core.Count station have limit) refused = refused
 tells_refusal g bytes (Core.Marking arc have need) refused = refused

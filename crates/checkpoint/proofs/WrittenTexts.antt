@@ -10,6 +10,7 @@ use Rattle.std.proofs.lemmas.List.FromFn.{map-range_with_len_more, get_or-map-ra
 use Rattle.line_core.specs.Parts.{list_at}
 use Rattle.checkpoint.specs.declared.format.Format.{Format}
 use Rattle.line_base.specs.declared.event.Parts.{Parts}
+use Rattle.line_base.proofs.RangeLists.{range-more}
 use Rattle.event_graph.specs.Network.{arc_count, delay, stations, label}
 use Rattle.checkpoint.specs.Text.{date_word, date_words, dates_text, delayed_arcs, delay_words, delays_line, station_words, place_words, station_lines, place_lines, Line, Fixed, Dated, filled}
 
@@ -68,13 +69,6 @@ unfolding filled
 lines_end format lns lists k written whole past h =
     sym (append-nil written) ∙ ap (λ l. written ++ filled format l (drop k lists)) (sym (drop_all k lns past)) ∙ h
 
--- one more number
-pub range_more : (n : ℕ) → range_with_len 0 (n + 1) ≡ range_with_len 0 n ++ n ∷ []
-range_more n = sym (map-id _) ∙ map-range_with_len_more (λ k. k) 0 n n (zero_plus n) ∙ ap (λ l. l ++ n ∷ []) (map-id _)
-  where
-    zero_plus : (m : ℕ) → 0 + m ≡ m
-    zero_plus m = omega arith
-
 -- ---- the arcs with a delay
 
 unfoldable pub delayed_below : Parts → ℕ → List ℕ
@@ -91,14 +85,14 @@ delayed_below-0 g = refl
 pub delayed_below-yes : (g : Parts) (n : ℕ) → 0 < delay g n → delayed_below g (n + 1) ≡ delayed_below g n ++ n ∷ []
 unfolding delayed_below
 delayed_below-yes g n late =
-    ap (filter (λ a. nat_lt 0 (delay g a))) (range_more n)
+    ap (filter (λ a. nat_lt 0 (delay g a))) (range-more n)
     ∙ filter-append (λ a. nat_lt 0 (delay g a)) (range_with_len 0 n) (n ∷ [])
     ∙ ap (λ b. filter (λ a. nat_lt 0 (delay g a)) (range_with_len 0 n) ++ cond b (n ∷ []) []) (lt-ltb 0 (delay g n) late)
 
 pub delayed_below-no : (g : Parts) (n : ℕ) → delay g n ≤ 0 → delayed_below g (n + 1) ≡ delayed_below g n
 unfolding delayed_below
 delayed_below-no g n none =
-    ap (filter (λ a. nat_lt 0 (delay g a))) (range_more n)
+    ap (filter (λ a. nat_lt 0 (delay g a))) (range-more n)
     ∙ filter-append (λ a. nat_lt 0 (delay g a)) (range_with_len 0 n) (n ∷ [])
     ∙ ap (λ b. filter (λ a. nat_lt 0 (delay g a)) (range_with_len 0 n) ++ cond b (n ∷ []) []) (le-ltb 0 (delay g n) none)
     ∙ append-nil _

@@ -154,8 +154,8 @@ pub record HasRead (format : Format) (g : Parts) (number : ℕ) (lists : List (L
   pub given : AreGiven lists
   pub is : r.text ≡ filled format (take number (lines format g)) lists ++ r.rest
 
--- the lines of the first t stations are read: their logs, each up to its first dates, one a job, and the first log that is
--- too long
+-- the lines of the first t stations are read: their logs, each up to its first dates, one a job, and the first log that
+-- is too long
 pub record HasReadLogs (format : Format) (g : Parts) (t : ℕ) (logs : RoomyLogs)
     (long : Option StateError) (r : Reading) : Type 0 where
   pub lists : List (List ℕ)
@@ -164,8 +164,8 @@ pub record HasReadLogs (format : Format) (g : Parts) (t : ℕ) (logs : RoomyLogs
   pub logs_are : dates_of logs ≡ map (take (jobs g)) lists
   pub long_is : long ≡ first (each_below t (long_log g lists))
 
--- the lines of the first a arcs are read behind those of the stations: how many tokens each has, and the first token that
--- is unlike what the logs leave
+-- the lines of the first a arcs are read behind those of the stations: how many tokens each has, and the first token
+-- that is unlike what the logs leave
 pub record HasReadPlaces (format : Format) (g : Parts) (logs : List (List ℕ)) (a : ℕ)
     (marking : List ℕ) (wrong : Option StateError) (before r : Reading) : Type 0 where
   pub places : List (List ℕ)

@@ -8,8 +8,8 @@ use Rattle.line_core.specs.Parts.{LATEST_GIVEN, list_at}
 use Rattle.checkpoint.specs.declared.format.Format.{Format}
 use Rattle.checkpoint.specs.declared.format.Format.TheVariants.{Dates, Differences}
 
--- the word of a date that follows another one: format 1 has the date, format 2 how much later it is, or `-` and how much
--- earlier
+-- the word of a date that follows another one: format 1 has the date, format 2 how much later it is, or `-` and how
+-- much earlier
 abbrev pub date_word : Format → ℕ → ℕ → List ℕ
 date_word Dates before date = decimal date
 date_word Differences before date =

@@ -19,9 +19,9 @@ use Rattle.plant_model.proofs.Soundness.{FeedsLater, IsSound-FeedsLater}
 use Rattle.plant_model.proofs.Paths.{path-step}
 use Rattle.event_graph.specs.Network.{arc}
 use Rattle.event_graph.specs.State.{State, place}
-use Rattle.event_graph.specs.Reached.{Reached, begins, fires}
-use Rattle.event_graph.specs.Circuit.{IsWalk, IsCircuit, tokens_in, tokens_on}
-use Rattle.event_graph.proofs.Places.{circuit-after, walk-start}
+use Rattle.event_graph.specs.Reached.{Reached}
+use Rattle.event_graph.specs.Circuit.{IsWalk, tokens_in, tokens_on}
+use Rattle.event_graph.proofs.Places.{circuit_keeps_number}
 use Rattle.circuit_sums.specs.declared.circuit.CardCircuit.{CardCircuit}
 use Rattle.plant_model.specs.ArcNumbers.{onward_arcs, onward_arcs_of, kanban_arc, extended_arc, conwip_arc, first_loop_arc}
 use Rattle.circuit_sums.specs.Circuits.{stage_circuit, line_circuit, policy_circuits, loop_circuits, circuits, IsCardCircuit}
@@ -174,18 +174,12 @@ bounds-have-circuits p sound i number below bounded_by = by_policy p.policy refl
     by_policy Extended is =
         bounded-stage p i number (extended_arc p) sound below (policy_circuits-extended p is) (bound-extended p i is) bounded_by
 
--- in every state that firings reach a circuit has its tokens
-circuit-keeps : (g : Parts) (s : State) → Reached g s → (arcs : List ℕ) → IsCircuit g arcs → tokens_in s arcs ≡ tokens_on g arcs
-circuit-keeps g s begins arcs circuit = walk-start g arcs circuit.base circuit.base circuit.closed
-circuit-keeps g s (fires old t reached can) arcs circuit =
-    circuit-after g old t can arcs circuit ∙ circuit-keeps g old reached arcs circuit
-
 -- so no more parts than the bound stand in a stage
 pub bounds-hold : (p : Plant) → IsSound p → (s : State) → Reached (graph p) s → (i number : ℕ) → i < length p.stages → bound p i ≡ Some number → tokens_in s (onward_arcs p i) ≤ number
 bounds-hold p sound s reached i number below bounded_by =
     let g = graph p in
     let b = bounds-have-circuits p sound i number below bounded_by in
     let circuit = All-contains (IsCardCircuit g) (circuits p) b.circuit (circuits-closed p sound) b.listed in
-    let kept = circuit-keeps g s reached b.circuit.arcs circuit.closed in
+    let kept = circuit_keeps_number g s reached b.circuit.arcs circuit.closed in
     let parts = ap (tokens_in s) b.way.through ∙ sum_by-parts (λ a. length (place s a)) b.way.before (onward_arcs p i) b.way.after in
     omega (arith, kept, parts, circuit.number, b.cards)

@@ -73,12 +73,12 @@ line_circuit-made p cards i final arc arcs sound below last at are =
     ap made same
 
 -- how many arcs the graph has, where they were read
-arc_count-graph : (p : Plant) → arc_count (graph p) ≡ first_loop_arc p + length p.loops
+pub arc_count-loops : (p : Plant) → arc_count (graph p) ≡ first_loop_arc p + length p.loops
 unfolding graph
-arc_count-graph p = length-map (rows p) (λ r. r.arc) ∙ length-rows p
+arc_count-loops p = length-map (rows p) (λ r. r.arc) ∙ length-rows p
 
 pub length-arcs : (p : Plant) (g : Parts) (arcs : List Arc) → arcs ≡ g.arcs → g ≡ graph p → length arcs ≡ first_loop_arc p + length p.loops
-length-arcs p g arcs are is = ap length are ∙ ap arc_count is ∙ arc_count-graph p
+length-arcs p g arcs are is = ap length are ∙ ap arc_count is ∙ arc_count-loops p
 
 -- the circuit that is made of a loop that was read
 pub loop_circuit-made : (p : Plant) (k first : ℕ) (loops : List CardLoop) (arcs : List ℕ) → loops ≡ p.loops → arcs ≡ onward_arcs_of p (up_to (get_or loops k no_loop).last (path p (get_or loops k no_loop).first)) ++ (first + k) ∷ [] → record { kind = kind.CardLoop k; arcs = arcs; number = (get_or loops k no_loop).cards } ≡ loop_circuit p first k

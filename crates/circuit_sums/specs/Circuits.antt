@@ -44,8 +44,8 @@ policy_circuits p = circuits_under p.policy
     circuits_under BaseStock = []
     circuits_under Extended = extended_circuits p
 
--- the circuit of the cards of loop k, from its first stage to its last on the path of its first, and back, where the arcs
--- of the loops stand from this one on
+-- the circuit of the cards of loop k, from its first stage to its last on the path of its first, and back, where the
+-- arcs of the loops stand from this one on
 abbrev pub loop_circuit : Plant → ℕ → ℕ → CardCircuit
 loop_circuit p first k =
     record {

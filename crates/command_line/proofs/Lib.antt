@@ -1,4 +1,7 @@
 pub mod Examples
+pub mod OptionCommands
+pub mod OptionOrder
+pub mod OptionSteps
 pub mod Reading
 pub mod ResumeWords
 pub mod Texts

@@ -8,9 +8,9 @@ use Rattle.command_line.specs.Labels.{is_label_word}
 use Rattle.command_line.specs.Numbers.{number_in, longest_wait}
 use Rattle.command_line.specs.Settings.{Way, Asked, whole, stopped, saving, from_slots, bounded, standing, asked}
 use Rattle.command_line.specs.Words.{alone, run_command, resume_command, resume_slots_command, big_command, with_options, one_file, after_big, after_resume, each_command, after_cards, curve_command, are_counts, after_counts, after_curve, after_latest, after_why, window_command, after_chart, plant_command, after_plant_word, help_of, after_help, is_help, after_word, command_of}
-use Rattle.command_line.specs.Topics.{topic_of}
+use Rattle.command_line.specs.Screens.{topic_of}
 use Rattle.command_line.specs.declared.command.Command.{Command}
-use Rattle.command_line.specs.declared.command.Command.TheVariants.{Check, Replay, Resume, Cycle, Cards, CardsEach, Latest, Why, Summary, Table, WhatIf, Help, Version}
+use Rattle.command_line.specs.declared.command.Command.TheVariants.{Lint, Check, Replay, Resume, Cycle, Cards, CardsEach, Latest, Why, Summary, Table, WhatIf, Help, Version}
 
 -- a command that resumes from a file names a plant file, and a checkpoint
 abbrev pub NamesFiles : Command → Type 0
@@ -132,6 +132,7 @@ plant_command_named : (word plant : List ℕ) (words : List (List ℕ)) → is_f
 unfolding plant_command
 plant_command_named word plant words file =
     if_named (bytes_eq word (codes "run")) _ _ (λ is. options_named (run_command plant) words (run_named plant))
+    (if_named (bytes_eq word (codes "lint")) _ _ (λ is. alone_named (Lint plant) words tt)
     (if_named (bytes_eq word (codes "check")) _ _ (λ is. alone_named (Check plant) words tt)
     (if_named (bytes_eq word (codes "replay")) _ _ (λ is. map_named (λ schedule. Replay plant schedule) (one_file words) (λ schedule. tt))
     (if_named (bytes_eq word (codes "resume")) _ _ (λ is. after_resume_named plant file words)
@@ -143,7 +144,7 @@ plant_command_named word plant words file =
     (if_named (bytes_eq word (codes "summary")) _ _ (λ is. alone_named (Summary plant) words tt)
     (if_named (bytes_eq word (codes "table")) _ _ (λ is. alone_named (Table plant) words tt)
     (if_named (bytes_eq word (codes "chart")) _ _ (λ is. after_chart_named plant words)
-    (if_named (bytes_eq word (codes "whatif")) _ None (λ is. map_named (λ edits. WhatIf plant edits) (one_file words) (λ edits. tt)) tt))))))))))))
+    (if_named (bytes_eq word (codes "whatif")) _ None (λ is. map_named (λ edits. WhatIf plant edits) (one_file words) (λ edits. tt)) tt)))))))))))))
 
 plant_word_named : (word : List ℕ) (words : List (List ℕ)) → Named (after_plant_word word words)
 unfolding after_plant_word

@@ -5,7 +5,7 @@ pub mod ReadAs
 pub mod Screens
 pub mod Settings
 pub mod Statuses
-pub mod Topics
 pub mod Usage
 pub mod Words
 pub mod Labels
+pub mod AnyOrder

@@ -1,11 +1,52 @@
--- What `help COMMAND` shows, line by line: the words of the command, what it writes, its options, an example, and the
--- statuses that it may end with, its own ones before those that it shares. The plants of the examples are those of the
--- folder `examples`.
-use Rattle.std.specs.Prelude.{ℕ, List, ◌∷◌, codes, Option, Some, None}
+-- Which words name a command that has a screen of its own, and what `help COMMAND` shows of it, line by line: the words of
+-- the command, what it writes, its options, an example, and the statuses that it may end with, its own ones before those
+-- that it shares. The plants of the examples are those of the folder `examples`.
+use Rattle.std.specs.Prelude.{ℕ, List, ◌∷◌, codes, if◌then◌else◌, Option, Some, None}
+use Rattle.std.specs.Str.{bytes_eq}
 use Rattle.command_line.specs.Statuses as status
 use Rattle.command_line.specs.Usage.{as_text, usage}
-use Rattle.command_line.specs.declared.topic.Topic.{Topic}
-use Rattle.command_line.specs.declared.topic.Topic.TheVariants as topic
+use Rattle.command_line.specs.declared.screens.Topic.{Topic}
+use Rattle.command_line.specs.declared.screens.Topic.TheVariants as topic
+
+-- the command that a word names
+unfoldable pub topic_of : List ℕ → Option Topic
+topic_of word =
+    if bytes_eq word (codes "lint") then Some topic.Lint
+    else if bytes_eq word (codes "check") then Some topic.Check
+    else if bytes_eq word (codes "summary") then Some topic.Summary
+    else if bytes_eq word (codes "run") then Some topic.Run
+    else if bytes_eq word (codes "table") then Some topic.Table
+    else if bytes_eq word (codes "why") then Some topic.Why
+    else if bytes_eq word (codes "chart") then Some topic.Chart
+    else if bytes_eq word (codes "cards") then Some topic.Cards
+    else if bytes_eq word (codes "curve") then Some topic.Curve
+    else if bytes_eq word (codes "latest") then Some topic.Latest
+    else if bytes_eq word (codes "cycle") then Some topic.Cycle
+    else if bytes_eq word (codes "whatif") then Some topic.WhatIf
+    else if bytes_eq word (codes "replay") then Some topic.Replay
+    else if bytes_eq word (codes "resume") then Some topic.Resume
+    else if bytes_eq word (codes "big") then Some topic.Big
+    else None
+
+abbrev pub lint_lines : List (List ℕ)
+lint_lines =
+    codes "pull lint PLANT"
+    ∷ codes ""
+    ∷ codes "Writes all that is wrong with the plant file PLANT and with the files that it names, a line each, 200 at"
+    ∷ codes "most, and what is wanted there; or where the file stops being TOML. Where nothing is wrong it writes so,"
+    ∷ codes "and then what may not be meant, a note each."
+    ∷ codes ""
+    ∷ codes "$ pull lint two-stage.toml"
+    ∷ codes "no fault"
+    ∷ codes "$ sed 's/cards = 1/cards = 99999/; s/time = 5/tim = 5/' two-stage.toml > wrong.toml"
+    ∷ codes "$ pull lint wrong.toml"
+    ∷ codes "plant: unknown key: stage[2].machine[1].tim"
+    ∷ codes "plant: missing: stage[2].machine[1].time"
+    ∷ codes "plant: out of range: stage[1].cards wants 0 to 10000"
+    ∷ codes "plant: out of range: stage[2].cards wants 0 to 10000"
+    ∷ codes ""
+    ∷ status.done
+    ∷ status.of_plants
 
 abbrev pub check_lines : List (List ℕ)
 check_lines =
@@ -352,6 +393,7 @@ big_lines =
 
 -- the lines of the screen of each command
 abbrev pub screen_lines : Topic → List (List ℕ)
+screen_lines topic.Lint = lint_lines
 screen_lines topic.Check = check_lines
 screen_lines topic.Summary = summary_lines
 screen_lines topic.Run = run_lines

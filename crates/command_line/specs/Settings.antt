@@ -9,9 +9,9 @@ use Rattle.command_line.specs.Options.{Given, none_given, options_after}
 pub data Way : Type 0 where
   -- to the end
   whole : Way
-  -- to the first burst's end at which so many firings are made, with the checkpoint that is written then
+  -- to the first burst's end at which this many firings are made, with the checkpoint that is written then
   stopped : ℕ → List ℕ → Way
-  -- to the end, with a checkpoint into a slot each time that so many firings are made
+  -- to the end, with a checkpoint into a slot each time that this many firings are made
   saving : ℕ → Way
   -- from the newest slot to the end
   from_slots : Way

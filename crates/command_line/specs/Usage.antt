@@ -14,7 +14,8 @@ as_text lines = flat_map as_line lines
 -- the commands, in the order in which a planner meets them, and the statuses that the program ends with
 abbrev pub usage_lines : List (List ℕ)
 usage_lines =
-    codes "pull check PLANT                           writes whether the plant is live, and its card circuits"
+    codes "pull lint PLANT                            writes all that is wrong with a plant file, or what may not be meant"
+    ∷ codes "pull check PLANT                           writes whether the plant is live, and its card circuits"
     ∷ codes "pull summary PLANT                         writes waits, mean stock and backlog, and how busy each machine is"
     ∷ codes "pull run PLANT                             writes the report of the plant"
     ∷ codes "pull table PLANT                           writes every date as csv, with each start and whom a part serves"

@@ -6,9 +6,9 @@ use Rattle.line_base.specs.Limits.{most_demands, most_cards}
 use Rattle.command_line.specs.Labels.{is_label_word}
 use Rattle.command_line.specs.Numbers.{number_in, longest_wait, most_counts}
 use Rattle.command_line.specs.Settings.{Way, whole, stopped, saving, from_slots, bounded, standing, asked}
-use Rattle.command_line.specs.Topics.{topic_of}
+use Rattle.command_line.specs.Screens.{topic_of}
 use Rattle.command_line.specs.declared.command.Command.{Command}
-use Rattle.command_line.specs.declared.command.Command.TheVariants.{Run, Check, Replay, Big, Resume, Cycle, RunSlots, RunRoom, RunStand, ResumeSlots, Cards, CardsEach, Curve, Latest, Why, Summary, Table, Chart, WhatIf, Help, Version}
+use Rattle.command_line.specs.declared.command.Command.TheVariants.{Run, Lint, Check, Replay, Big, Resume, Cycle, RunSlots, RunRoom, RunStand, ResumeSlots, Cards, CardsEach, Curve, Latest, Why, Summary, Table, Chart, WhatIf, Help, Version}
 use Rattle.command_line.specs.declared.words.Question.{Question}
 use Rattle.command_line.specs.declared.words.Question.TheVariants as question
 
@@ -60,8 +60,9 @@ after_resume plant (word ∷ words) =
     then with_options (resume_command plant word) words
     else with_options (resume_slots_command plant) (word ∷ words)
 
--- `check PLANT`, `cycle PLANT`, `summary PLANT` and `table PLANT`
+-- `lint PLANT`, `check PLANT`, `cycle PLANT`, `summary PLANT` and `table PLANT`
 abbrev pub asking : Question → List ℕ → Command
+asking question.Lint plant = Lint plant
 asking question.Check plant = Check plant
 asking question.Cycle plant = Cycle plant
 asking question.Summary plant = Summary plant
@@ -142,6 +143,7 @@ after_chart plant words = None
 unfoldable pub plant_command : List ℕ → List ℕ → List (List ℕ) → Option Command
 plant_command word plant words =
     if bytes_eq word (codes "run") then with_options (run_command plant) words
+    else if bytes_eq word (codes "lint") then alone (Lint plant) words
     else if bytes_eq word (codes "check") then alone (Check plant) words
     else if bytes_eq word (codes "replay") then option_map (λ schedule. Replay plant schedule) (one_file words)
     else if bytes_eq word (codes "resume") then after_resume plant words

@@ -2,12 +2,12 @@ ghost use Rattle.std.specs.Prelude.{◌≡◌};
 ghost use Rattle.command_line.specs.declared.command.WordsError.{WordsError};
 
 use crate::file_name::FileName;
-use crate::topic::Topic;
+use crate::screens::Topic;
 use line_base::Text;
 use std::alloc::AllocError;
 use thiserror::Error;
 
-/// Where a run stops before its end: at the first burst's end where so many firings are made.
+/// Where a run stops before its end: at the first burst's end where this many firings are made.
 #[derive(Debug, Drop)]
 pub struct Stop {
     /// The firings, 0 to 1,000,000.
@@ -27,6 +27,11 @@ pub enum Command {
         workers: u32,
         /// Where the run stops, if it doesn't go to its end.
         stop: Option<Stop>,
+    },
+    /// `lint PLANT`: all that is wrong with the plant, or what may not be meant in it.
+    Lint {
+        /// The plant file.
+        plant: FileName,
     },
     /// `check PLANT`: that the plant is live, and its card circuits.
     Check {

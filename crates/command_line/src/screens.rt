@@ -1,8 +1,67 @@
 ghost use Rattle.std.specs.Prelude.{◌≡◌};
-ghost use Rattle.command_line.specs.Screens.{screen, help_text};
+ghost use Rattle.command_line.specs.Screens.{screen, help_text, topic_of};
 
-use crate::topic::Topic;
 use crate::usage::{USAGE, usage_is_that_of_the_definitions};
+
+/// A command that has a screen of its own, named by its first word.
+#[derive(Clone, Copy)]
+pub enum Topic {
+    /// `lint`.
+    Lint,
+    /// `check`.
+    Check,
+    /// `summary`.
+    Summary,
+    /// `run`.
+    Run,
+    /// `table`.
+    Table,
+    /// `why`.
+    Why,
+    /// `chart`.
+    Chart,
+    /// `cards`.
+    Cards,
+    /// `curve`.
+    Curve,
+    /// `latest`.
+    Latest,
+    /// `cycle`.
+    Cycle,
+    /// `whatif`.
+    WhatIf,
+    /// `replay`.
+    Replay,
+    /// `resume`.
+    Resume,
+    /// `big`.
+    Big,
+}
+
+/// The command that a word names.
+#[tactic(auto, unfolding(crate::specs::Screens::topic_of))]
+pub(crate) fn topic_of(word: &str) -> Option<Topic>
+    ensures { result ≡ topic_of word.now }
+{
+    match word {
+        "lint" => Some(Topic::Lint),
+        "check" => Some(Topic::Check),
+        "summary" => Some(Topic::Summary),
+        "run" => Some(Topic::Run),
+        "table" => Some(Topic::Table),
+        "why" => Some(Topic::Why),
+        "chart" => Some(Topic::Chart),
+        "cards" => Some(Topic::Cards),
+        "curve" => Some(Topic::Curve),
+        "latest" => Some(Topic::Latest),
+        "cycle" => Some(Topic::Cycle),
+        "whatif" => Some(Topic::WhatIf),
+        "replay" => Some(Topic::Replay),
+        "resume" => Some(Topic::Resume),
+        "big" => Some(Topic::Big),
+        _ => None,
+    }
+}
 
 /// What `help COMMAND` shows of a command, or what `--help` shows where none is named.
 pub fn help_text(topic: Option<Topic>) -> &'static str
@@ -23,6 +82,7 @@ fn screen(topic: Topic) -> &'static str
     // called for its clauses: each constant is the text of the definitions
     screens_are_those_of_the_definitions();
     match topic {
+        Topic::Lint => LINT,
         Topic::Check => CHECK,
         Topic::Summary => SUMMARY,
         Topic::Run => RUN,
@@ -43,6 +103,7 @@ fn screen(topic: Topic) -> &'static str
 /// Each text is that of the definitions.
 #[tactic(auto, unfolding(crate::specs::Screens::screen))]
 fn screens_are_those_of_the_definitions()
+    ensures lint { LINT.now ≡ screen Topic.Lint }
     ensures check { CHECK.now ≡ screen Topic.Check }
     ensures summary { SUMMARY.now ≡ screen Topic.Summary }
     ensures run { RUN.now ≡ screen Topic.Run }
@@ -58,6 +119,34 @@ fn screens_are_those_of_the_definitions()
     ensures resume { RESUME.now ≡ screen Topic.Resume }
     ensures big { BIG.now ≡ screen Topic.Big }
 {}
+
+/// `help lint`.
+const LINT: &str = "\
+pull lint PLANT
+
+Writes all that is wrong with the plant file PLANT and with the files that it names, a line each, 200 at
+most, and what is wanted there; or where the file stops being TOML. Where nothing is wrong it writes so,
+and then what may not be meant, a note each.
+
+$ pull lint two-stage.toml
+no fault
+$ sed 's/cards = 1/cards = 99999/; s/time = 5/tim = 5/' two-stage.toml > wrong.toml
+$ pull lint wrong.toml
+plant: unknown key: stage[2].machine[1].tim
+plant: missing: stage[2].machine[1].time
+plant: out of range: stage[1].cards wants 0 to 10000
+plant: out of range: stage[2].cards wants 0 to 10000
+
+status 0   done
+status 1   the words are no UTF-8
+status 2   the words are no command
+status 3   the plant is refused
+status 4   the plant has a circuit without a token
+status 5   a file can't be read or written
+status 6   the output can't be written
+status 9   out of memory
+status 10  a file is longer than 64 MiB, or a checkpoint longer than 160 MiB
+";
 
 /// `help check`.
 const CHECK: &str = "\

@@ -10,14 +10,14 @@ use crate::options::{Options, options_of};
 pub enum Mode<'a> {
     /// To the end.
     Whole,
-    /// To the first burst's end at which so many firings are made.
+    /// To the first burst's end at which this many firings are made.
     Stopped {
         /// The firings.
         after: u64,
         /// The checkpoint that is written then.
         save: &'a str,
     },
-    /// To the end, with a checkpoint into a slot each time that so many firings are made.
+    /// To the end, with a checkpoint into a slot each time that this many firings are made.
     Saving {
         /// The firings between two checkpoints.
         every: u64,

@@ -3,6 +3,7 @@ ghost use Rattle.command_line.specs.Usage.{usage};
 
 /// What `--help` shows.
 pub const USAGE: &str = "\
+pull lint PLANT                            writes all that is wrong with a plant file, or what may not be meant
 pull check PLANT                           writes whether the plant is live, and its card circuits
 pull summary PLANT                         writes waits, mean stock and backlog, and how busy each machine is
 pull run PLANT                             writes the report of the plant

@@ -13,8 +13,8 @@ use crate::first::first_word;
 use crate::label::is_label_word;
 use crate::limits::{MAX_COUNTS, MAX_WAIT};
 use crate::number::{cards_in, number_in};
+use crate::screens::topic_of;
 use crate::settings::{Mode, settings_of};
-use crate::topic::topic_of;
 use line_base::{MAX_DEMANDS, Text, is_checkpoint_name, is_file_name};
 use std::alloc::Global;
 
@@ -129,6 +129,7 @@ fn of_plant(alloc: Global, word: &str, words: &[String]) -> Result<Command, Word
     }
     match word {
         "run" => run(alloc, plant, words),
+        "lint" => ask(alloc, plant, words, Question::Lint),
         "check" => ask(alloc, plant, words, Question::Check),
         "replay" => {
             let (plant, schedule) = plant_and_file(alloc, plant, words)?;
@@ -194,6 +195,8 @@ fn run(alloc: Global, plant: &str, words: &[String]) -> Result<Command, WordsErr
 /// What is asked of a plant by its name alone.
 #[derive(Clone, Copy)]
 enum Question {
+    /// `lint PLANT`.
+    Lint,
     /// `check PLANT`.
     Check,
     /// `cycle PLANT`.
@@ -218,6 +221,7 @@ fn ask(
     }
     let plant = FileName::of(alloc, plant)?;
     match question {
+        Question::Lint => Ok(Command::Lint { plant }),
         Question::Check => Ok(Command::Check { plant }),
         Question::Cycle => Ok(Command::Cycle { plant }),
         Question::Summary => Ok(Command::Summary { plant }),

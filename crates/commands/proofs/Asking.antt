@@ -38,9 +38,8 @@ use Rattle.date_causes.specs.Chain.{IsChain}
 use Rattle.date_causes.specs.Named.{HasNoDate}
 use Rattle.date_causes.specs.WhyText.{why_text}
 use Rattle.line_chart.specs.Picture.{Picture, IsDrawn, MayBeAskedFor, bars_and_lanes, text_of}
-use Rattle.line_summary.specs.Summarized.{Summarized}
 use Rattle.line_summary.specs.SummaryText.{summary_text}
-use Rattle.line_table.specs.PlantDates.{PlantDates}
+use Rattle.line_stats.specs.PlantDates.{PlantDates}
 use Rattle.line_table.specs.TableText.{table_text}
 use Rattle.live_check.specs.Order.{LiveGraph}
 use Rattle.plant_model.specs.declared.plant.Plant.{Plant}
@@ -86,7 +85,7 @@ reports p r is least = inl (record {
   written = ap (λ (q : Plant). report q (date_in r.rows)) is;
 })
 
-pub summarizes_line : (p : Plant) (s : Summarized) → s.plant ≡ p → IsLeast (graph p) (date_in s.rows) → OrNoMemory (IsLineSummary p) (Ok (Summary s))
+pub summarizes_line : (p : Plant) (s : PlantDates) → s.plant ≡ p → IsLeast (graph p) (date_in s.rows) → OrNoMemory (IsLineSummary p) (Ok (Summary s))
 summarizes_line p s is least = inl (record {
   rows = s.rows;
   least = least;

@@ -1,4 +1,4 @@
--- A run of a plant that is told to stop.
+-- A run of a plant that is asked to stop.
 use Rattle.std.proofs.Common.{◌≡◌, ◌⊎◌, ℕ, ◌<◌, Bool, List, [], length, refl, ap, sym, ◌∙◌, subst, inl, inr, arith, mul-pos, mul-zero}
 use Rattle.std.specs.Prelude.{Result, Ok, Err, IfErr}
 use Rattle.std.proofs.lemmas.List.Folds.{sum_by-replicate}

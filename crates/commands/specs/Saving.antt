@@ -36,7 +36,7 @@ use Rattle.commands.specs.declared.task.DiskQuestion.TheVariants as disk_questio
 use Rattle.answers.specs.declared.answer.Answer.{Answer}
 use Rattle.answers.specs.declared.answer.Answer.TheVariants.{Stopped}
 
--- what a run answers that stopped after so many firings, by what the write of its state into this file was answered
+-- what a run answers that stopped after this many firings, by what the write of its state into this file was answered
 abbrev pub AnswersWrite : List ℕ → ℕ → Result (Unit {0}) StoreError → Result Answer Refusal → Type 0
 AnswersWrite file count (Ok done) answer = answer ≡ Ok (Stopped count)
 AnswersWrite file count (Err store_error.Failed) answer = answer ≡ Err (StoreFault file)
@@ -53,7 +53,7 @@ pub record WritesText (file bytes : List ℕ) (count : ℕ) (asked : Asked) (ans
 abbrev pub AsksNothing : Asked → Result Answer Refusal → Type 0
 AsksNothing asked answer = (asked ≡ none_asked) × (answer ≡ Err NoMemory)
 
--- the bytes of a checkpoint of so many firings are saved in a file
+-- the bytes of a checkpoint of this many firings are saved in a file
 abbrev pub SavesText : List ℕ → List ℕ → ℕ → Action Answer
 SavesText file bytes count asked disk answer =
     (disk.new ≡ disk.old) × (WritesText file bytes count asked answer ⊎ AsksNothing asked answer)

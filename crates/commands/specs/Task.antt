@@ -13,7 +13,7 @@ use Rattle.commands.specs.declared.task.FileQuestion.TheVariants as file
 use Rattle.commands.specs.declared.task.PlantQuestion.{PlantQuestion}
 use Rattle.commands.specs.declared.task.PlantQuestion.TheVariants as of_plant
 use Rattle.commands.specs.declared.task.Task.{Task}
-use Rattle.commands.specs.declared.task.Task.TheVariants.{Alone, OnPlant, OnFile, Stopping, OnDisk}
+use Rattle.commands.specs.declared.task.Task.TheVariants.{Alone, Linting, OnPlant, OnFile, Stopping, OnDisk}
 
 -- what each command asks for; a run by standing workers asks for the report, as a run by bursts does
 abbrev pub task_of : Command → Task
@@ -27,6 +27,7 @@ task_of (command.RunStand plant workers) = OnPlant plant (of_plant.Run workers)
 task_of (command.RunSlots plant every workers) = OnDisk plant (disk.RunSlots every workers)
 task_of (command.Resume plant saved workers) = OnFile plant saved (file.Resume workers)
 task_of (command.ResumeSlots plant workers) = OnDisk plant (disk.ResumeSlots workers)
+task_of (command.Lint plant) = Linting plant
 task_of (command.Check plant) = OnPlant plant of_plant.Check
 task_of (command.Replay plant schedule) = OnFile plant schedule file.Replay
 task_of (command.Cycle plant) = OnPlant plant of_plant.Cycle
@@ -67,6 +68,7 @@ IsDiskInRange (disk.ResumeSlots workers) = AreWorkers workers
 -- each number of a task is in its range
 abbrev pub IsTaskInRange : Task → Type 0
 IsTaskInRange (Alone question) = IsAloneInRange question
+IsTaskInRange (Linting plant) = ⊤
 IsTaskInRange (OnPlant plant question) = IsPlantInRange question
 IsTaskInRange (OnFile plant file question) = IsFileInRange question
 IsTaskInRange (Stopping plant workers stop) = AreWorkers workers

@@ -138,7 +138,7 @@ fn replay_schedule(alloc: Global, line: LivePlant, schedule: &[u8]) -> Result<An
     match replay(alloc, &line.live, schedule) {
         Ok(end) => {
             let table = end.into_table(&line.live);
-            report_of(alloc, line, table)
+            report_of(alloc, line, table, 1)
         }
         Err(error) => {
             let refusal = schedule_refusal(alloc, line.live.graph(), error);

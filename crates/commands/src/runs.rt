@@ -33,13 +33,18 @@ use std::alloc::{AllocError, Global};
 use std::sync::Wait;
 use std::thread::Threads;
 
-/// The report of a live plant, over the table that a run of it answered.
-pub(crate) fn report_of(alloc: Global, line: LivePlant, table: Table) -> Result<Answer, Refusal>
+/// The report of a live plant, over the table that a run of it answered, to be written by as many workers.
+pub(crate) fn report_of(
+    alloc: Global,
+    line: LivePlant,
+    table: Table,
+    workers: u32,
+) -> Result<Answer, Refusal>
     requires plant { IsLivePlant line }
     requires table { IsLeastOf line.live.graph table }
     ensures { IsReport line.plant result ⊎ (result ≡ Err Refusal.NoMemory) }
 {
-    report_or_none(alloc, line, Ok(table))
+    report_or_none(alloc, line, Ok(table), workers)
 }
 
 /// The report of a live plant, over the table that a run of it answered, where there was memory for the run.
@@ -47,12 +52,13 @@ fn report_or_none(
     alloc: Global,
     line: LivePlant,
     table: Result<Table, AllocError>,
+    workers: u32,
 ) -> Result<Answer, Refusal>
     requires plant { IsLivePlant line }
     requires table { IfOk table (IsLeastOf line.live.graph) }
     ensures { IsReport line.plant result ⊎ (result ≡ Err Refusal.NoMemory) }
 {
-    let report = report_over(alloc, line, table)?;
+    let report = report_over(alloc, line, table, workers)?;
     Ok(Answer::Reported { report })
 }
 
@@ -61,6 +67,7 @@ fn report_over(
     alloc: Global,
     line: LivePlant,
     table: Result<Table, AllocError>,
+    workers: u32,
 ) -> Result<Report, AllocError>
     requires plant { IsLivePlant line }
     requires table { IfOk table (IsLeastOf line.live.graph) }
@@ -68,7 +75,7 @@ fn report_over(
     ensures least { IfOk result (λ report. IsLeast (graph line.plant) (date_in report.rows)) }
 {
     match table {
-        Ok(table) => Report::new(alloc, line.plant, line.live, table),
+        Ok(table) => Report::new(alloc, line.plant, line.live, table, workers),
         Err(error) => {
             drop(line);
             Err(error)
@@ -89,7 +96,7 @@ pub fn run_whole<R: Threads + Sync, G: Gate>(
     ensures { IsReport line.plant result ⊎ (result ≡ Err Refusal.NoMemory) }
 {
     let table = table_of(rt, alloc, &line.live, workers, gate);
-    report_or_none(alloc, line, table)
+    report_or_none(alloc, line, table, workers)
 }
 
 /// The dates of a live graph, by as many workers.
@@ -123,7 +130,7 @@ pub fn run_with_room<R: Threads + Sync, G: Gate>(
     ensures { IsReport line.plant result ⊎ (result ≡ Err Refusal.NoMemory) }
 {
     let table = table_with_room(rt, alloc, &line.live, workers, room, gate);
-    report_or_none(alloc, line, table)
+    report_or_none(alloc, line, table, workers)
 }
 
 /// The dates of a live graph, by as many workers with as much room in the rings between them.
@@ -157,7 +164,7 @@ pub fn run_standing<R: Threads + Wait + Sync, G: Gate>(
     ensures { IsReport line.plant result ⊎ (result ≡ Err Refusal.NoMemory) }
 {
     let table = standing_table_of(rt, alloc, &line.live, workers, gate);
-    report_or_none(alloc, line, table)
+    report_or_none(alloc, line, table, workers)
 }
 
 /// The dates of a live graph, by as many workers that stand until all firings are made.
@@ -192,7 +199,7 @@ pub fn run_until<R: Threads + Sync, G: Gate, S: Store>(
         (RunsUntil line.plant stop.after stop.save) result }
 {
     match outcome_of(rt, alloc, &line.live, workers, stop.after, gate) {
-        Ok(outcome) => end_run(alloc, line, outcome, stop, store),
+        Ok(outcome) => end_run(alloc, line, outcome, workers, stop, store),
         Err(_) => {
             drop(line);
             Err(Refusal::NoMemory)
@@ -200,7 +207,7 @@ pub fn run_until<R: Threads + Sync, G: Gate, S: Store>(
     }
 }
 
-/// How a run of a live graph ends that is told to stop after as many firings, by as many workers.
+/// How a run of a live graph ends that is asked to stop after as many firings, by as many workers.
 fn outcome_of<R: Threads + Sync, G: Gate>(
     rt: &R,
     alloc: Global,
@@ -222,6 +229,7 @@ fn end_run<S: Store>(
     alloc: Global,
     line: LivePlant,
     outcome: Outcome,
+    workers: u32,
     stop: Stop,
     store: &mut S,
 ) -> Result<Answer, Refusal>
@@ -232,7 +240,7 @@ fn end_run<S: Store>(
         (RunsUntil line.plant stop.after stop.save) result }
 {
     match outcome {
-        Outcome::Finished(table) => report_of(alloc, line, table),
+        Outcome::Finished(table) => report_of(alloc, line, table, workers),
         Outcome::Stopped(state) => save(alloc, line, state, stop, store),
     }
 }
@@ -288,7 +296,7 @@ pub fn resume<R: Threads + Sync, G: Gate>(
     ensures { IsResumed line.plant bytes.now result ⊎ (result ≡ Err Refusal.NoMemory) }
 {
     match line_runs::resume(rt, alloc, &line.live, bytes, workers, gate) {
-        Ok(table) => report_of(alloc, line, table),
+        Ok(table) => report_of(alloc, line, table, workers),
         Err(error) => {
             let refusal = checkpoint_refusal(alloc, line.live.graph(), error);
             drop(line);
@@ -310,7 +318,8 @@ pub fn big<R: Threads + Sync, G: Gate>(
 {
     let line = big_line(alloc, seed)?;
     let table = table_of(rt, alloc, &line.live, workers, gate);
-    let report = report_over(alloc, line, table)?;
+    // The summary has no lines of dates, so it is written by one.
+    let report = report_over(alloc, line, table, 1)?;
     Ok(Answer::Summarized { report })
 }
 

@@ -38,7 +38,7 @@ pub fn run_with_slots<R: Threads + Sync, G: Gate, D: Disk>(
         (RunsWithSlots line.plant every) result }
 {
     match Line::prepare(alloc, &line.live, workers) {
-        Ok(work) => run_saving(rt, alloc, line, work, every, gate, disk),
+        Ok(work) => run_saving(rt, alloc, line, work, workers, every, gate, disk),
         Err(_) => {
             drop(line);
             Err(Refusal::NoMemory)
@@ -46,12 +46,13 @@ pub fn run_with_slots<R: Threads + Sync, G: Gate, D: Disk>(
     }
 }
 
-/// Runs a live plant to its end by a line of workers that stands at the start.
+/// Runs a live plant to its end by a line of as many workers that stands at the start.
 fn run_saving<R: Threads + Sync, G: Gate, D: Disk>(
     rt: &R,
     alloc: Global,
     line: LivePlant,
     work: Line,
+    workers: u32,
     every: u64,
     gate: &G,
     disk: &mut D,
@@ -64,7 +65,7 @@ fn run_saving<R: Threads + Sync, G: Gate, D: Disk>(
         (RunsWithSlots line.plant every) result }
 {
     match line_runs::run_with_slots(rt, alloc, &line.live, work, every, gate, disk) {
-        Ok(table) => report_of(alloc, line, table),
+        Ok(table) => report_of(alloc, line, table, workers),
         Err(error) => {
             drop(line);
             Err(slot_refusal(error))
@@ -100,7 +101,7 @@ pub fn resume_slots<R: Threads + Sync, G: Gate, D: Disk>(
         (ResumesSlots line.plant) result }
 {
     match line_runs::resume_slots(rt, alloc, &line.live, disk, workers, gate) {
-        Ok(table) => report_of(alloc, line, table),
+        Ok(table) => report_of(alloc, line, table, workers),
         Err(error) => {
             let refusal = resume_refusal(alloc, line.live.graph(), error);
             drop(line);

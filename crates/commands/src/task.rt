@@ -13,6 +13,11 @@ pub enum Task {
         /// What is asked.
         question: AloneQuestion,
     },
+    /// All that is wrong with a plant file and with the files that it names is told.
+    Linting {
+        /// The plant file.
+        plant: FileName,
+    },
     /// The live plant of a plant file is asked.
     OnPlant {
         /// The plant file.
@@ -199,6 +204,7 @@ pub fn task_of(command: Command) -> Task
         Command::ResumeSlots { plant, workers } => {
             on_disk(plant, DiskQuestion::ResumeSlots { workers })
         }
+        Command::Lint { plant } => Task::Linting { plant },
         Command::Check { plant } => on_plant(plant, PlantQuestion::Check),
         Command::Replay { plant, schedule } => on_file(plant, schedule, FileQuestion::Replay),
         Command::Cycle { plant } => on_plant(plant, PlantQuestion::Cycle),

@@ -1,11 +1,10 @@
 -- How it is tested that some arcs are a circuit.
-use Rattle.std.proofs.Common.{◌≡◌, ◌≢◌, ℕ, ◌+◌, ◌<◌, true, false, cond, List, [], ◌∷◌, ◌++◌, length, get_or, take, map, sym, ap, ◌∙◌, subst, arith}
+use Rattle.std.proofs.Common.{◌≡◌, ◌≢◌, ℕ, ◌+◌, ◌<◌, List, [], ◌∷◌, ◌++◌, length, get_or, take, map, sym, ap, ◌∙◌, subst, arith}
 use Rattle.std.specs.List.{AllPairs, Contains}
 use Rattle.std.proofs.lemmas.List.{take_more, map-append, length-map, length-take, get_or-map, get_or-take, get_or_default}
 use Rattle.std.proofs.lemmas.List.Quantifiers.{all_pairs_push}
 use Rattle.line_base.specs.declared.event.Parts.{Parts}
-use Rattle.event_graph.specs.Network.{arc, arc_count, time}
-use Rattle.event_graph.specs.Term.{work}
+use Rattle.event_graph.specs.Network.{arc, arc_count}
 use Rattle.event_graph.specs.Circuit.{IsWalk, IsCircuit, starting_stations}
 use Rattle.event_graph.proofs.Walks.{walk_push, walk_take}
 
@@ -68,12 +67,3 @@ pub circuit_walk : (g : Parts) (arcs : List ℕ) → IsCircuit g arcs → IsWalk
 circuit_walk g arcs circuit =
     let first = starts_at_base g circuit.base arcs circuit.some circuit.closed in
     subst (λ t. IsWalk g t arcs t) (sym first) circuit.closed
-
--- the job time of an arc that is worked, and of another one
-pub work-worked : (g : Parts) (a n : ℕ) → (arc g a).worked ≡ true → work g a n ≡ time g (arc g a).to n
-unfolding work
-work-worked g a n worked = ap (λ b. cond b (time g (arc g a).to n) 0) worked
-
-pub work-plain : (g : Parts) (a n : ℕ) → (arc g a).worked ≡ false → work g a n ≡ 0
-unfolding work
-work-plain g a n plain = ap (λ b. cond b (time g (arc g a).to n) 0) plain

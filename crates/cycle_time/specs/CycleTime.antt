@@ -7,8 +7,8 @@ use Rattle.cycle_time.specs.Weight.{AreGreatestWeights}
 use Rattle.cycle_time.specs.Certificate.{IsCertificate, HasNoGreaterRatio, HasNoCircuit, IsLowest, IsSmall}
 use Rattle.cycle_time.specs.Dates.{BoundsDates, HoldsBack}
 
--- a certificate in lowest terms of the greatest ratio of time to tokens over all circuits, with the greatest weights of walks
--- as potentials; no date of the least solution grows faster, and at the stations of the circuit none grows slower
+-- a certificate in lowest terms of the greatest ratio of time to tokens over all circuits, with the greatest weights of
+-- walks as potentials; no date of the least solution grows faster, and at the stations of the circuit none grows slower
 pub record IsCycleTime (g : Parts) (c : Certificate) : Type 0 where
   pub certificate : IsCertificate g c
   pub lowest : IsLowest c.time c.cards

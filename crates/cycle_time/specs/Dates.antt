@@ -30,7 +30,8 @@ BoundsDates g c =
     (x : Table) → IsLeast g x → (t n : ℕ) → t < stations g → 1 ≤ n → n ≤ jobs g →
     pos (c.cards * x t n) ≤ℤ (pos (latest g c n) +ℤ potential c.potentials t)
 
--- at each station of the circuit, a job is later by the circuit's time than the one as many jobs before as it has tokens
+-- at each station of the circuit, a job is later by the circuit's time than the one as many jobs before as it has
+-- tokens
 abbrev pub HoldsBack : Parts → List ℕ → Type 0
 HoldsBack g arcs =
     (x : Table) → IsLeast g x → (t n : ℕ) → Contains (starting_stations g arcs) t → 1 ≤ n →

@@ -1,6 +1,6 @@
--- The search for heavier walks, for the functions that make it: potentials grow arc by arc, each station keeps the arc that
--- gave it its potential, and a circuit of such arcs weighs more than 0.
--- Source: the method of Bellman and Ford for longest walks, with a look for circuits among the arcs that it keeps.
+-- The search for heavier walks, for the functions that make it: potentials grow arc by arc, each station keeps the arc
+-- that gave it its potential, and a circuit of such arcs weighs more than 0. Source: the method of Bellman and Ford for
+-- longest walks, with a look for circuits among the arcs that it keeps.
 use Rattle.std.specs.Prelude.{◌≡◌, ℕ, ◌+◌, ◌-◌, ◌*◌, ◌<◌, ◌≤◌, ◌⊎◌, List, length, sum_by, slice_index, slice_set, All}
 use Rattle.line_base.specs.declared.event.Parts.{Parts}
 use Rattle.event_graph.specs.Network.{stations, arc_count, arc, delay, EndsAt}
@@ -30,7 +30,8 @@ gains g w arcs = sum_by (gain g w) arcs
 abbrev pub losses : Parts → Weighing → List ℕ → ℕ
 losses g w arcs = sum_by (loss g w) arcs
 
--- the most that an arc can add: at a ratio of a circuit of most stations, each arc with the most tokens and the longest times
+-- the most that an arc can add: at a ratio of a circuit of most stations, each arc with the most tokens and the longest
+-- times
 abbrev pub most_gain : ℕ
 most_gain = 20_000_000_000_000_000
 

@@ -84,13 +84,8 @@ pub fn time_on(graph: &Graph, a: u32) -> u64
     ensures time { result ≡ work graph.now a 1 + delay graph.now a }
     ensures small { result ≤ 2_000_000_000 }
 {
-    let arc = graph.arc(a);
     let delay = graph.delay(a);
-    if arc.worked {
-        graph.time(arc.to, 1) + delay
-    } else {
-        delay
-    }
+    graph.work(a, 1) + delay
 }
 
 /// How many tokens the arcs hold at the start.

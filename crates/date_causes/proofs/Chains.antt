@@ -1,13 +1,13 @@
 -- What a chain of causes sums to, that it is a walk, and that no walk sums to more.
-use Rattle.std.proofs.Common.{◌≡◌, ℕ, ◌+◌, ◌-◌, ◌<◌, ◌≤◌, List, [], ◌∷◌, ◌++◌, map, length, get_or, refl, sym, ap, ◌∙◌, subst, arith}
-use Rattle.std.specs.List.{All, sum, sum_by}
+use Rattle.std.proofs.Common.{◌≡◌, ℕ, ◌+◌, ◌-◌, ◌≤◌, List, [], ◌∷◌, ◌++◌, sym, ◌∙◌, subst, arith}
+use Rattle.std.specs.List.{All, sum}
 use Rattle.std.proofs.lemmas.List.{map-append}
 use Rattle.std.proofs.lemmas.List.Elements.{All-push, All-nil}
 use Rattle.std.proofs.lemmas.List.Sums.{sum_by_push}
 use Rattle.line_base.specs.declared.event.Parts.{Parts}
-use Rattle.event_graph.specs.Network.{stations, jobs, arc, demand, delay}
+use Rattle.event_graph.specs.Network.{arc, delay}
 use Rattle.event_graph.specs.Table.{Table}
-use Rattle.event_graph.specs.Term.{term, work}
+use Rattle.event_graph.specs.Term.{work}
 use Rattle.event_graph.specs.Solves.{Solves}
 use Rattle.date_causes.specs.declared.link.Cause.{Cause}
 use Rattle.date_causes.specs.declared.link.Cause.TheVariants.{DemandDate, Start, Along}
@@ -15,7 +15,7 @@ use Rattle.date_causes.specs.declared.link.Link.{Link}
 use Rattle.date_causes.specs.Chain.{IsCaused, IsDemanded, IsStarted, IsLed, IsLink, IsChain, demanded, started, led}
 use Rattle.date_causes.specs.Walk.{IsWalkTo, from_demand, from_start, along}
 use Rattle.date_causes.specs.Shares.{amounts, total}
-use Rattle.date_causes.proofs.ArcTerms.{term-later, term-initial}
+use Rattle.event_graph.proofs.ArcTerms.{term-later, term-initial}
 
 module _ (g : Parts) (x : Table) where
   -- the cause of a link, by its kind
@@ -33,7 +33,7 @@ module _ (g : Parts) (x : Table) where
       let by : IsStarted g x l.station l.job l.added = caused_by l Start link is in
       by.added_is ∙ sym (term-initial g x by.last l.job by.initial) ∙ by.cause.tight
 
-  -- what an arc adds comes to the date at its start
+  -- what an arc adds is added to the date at its start
   arc-adds : (l : Link) (a : ℕ) → IsLink g x l → l.cause ≡ Along a → x (arc g a).from (l.job - (arc g a).tokens) + l.added ≡ x l.station l.job
   arc-adds l a link is =
       let by : IsLed g x l.station l.job a l.added = caused_by l (Along a) link is in

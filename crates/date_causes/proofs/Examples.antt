@@ -1,61 +1,35 @@
 -- The kinds of a small plant's arcs and the text of a chain, against what was written by hand.
-use Rattle.std.specs.Prelude.{◌≡◌, ℕ, ◌≤◌, List, [], ◌∷◌, Option, None, Some, codes, refl}
+use Rattle.std.specs.Prelude.{◌≡◌, ℕ, List, [], ◌∷◌, codes, refl}
 use Rattle.std.specs.Fmt.{digits}
 use Rattle.std.proofs.Common.{arith}
-use Rattle.line_base.specs.declared.times.Times.TheVariants.{Fixed}
-use Rattle.plant_model.specs.declared.plant.Policy.{Policy}
-use Rattle.plant_model.specs.declared.plant.Policy.TheVariants.{Kanban, Conwip, BaseStock, Extended}
-use Rattle.plant_model.specs.Stages.{Stage, one_server}
-use Rattle.plant_model.specs.declared.plant.CardLoop.{CardLoop}
-use Rattle.plant_model.specs.declared.plant.Plant.{Plant}
+use Rattle.plant_model.specs.declared.plant.Policy.TheVariants.{Conwip, Extended}
 use Rattle.plant_model.specs.Graph.{graph, labels}
+use Rattle.plant_model.proofs.TwoStage.{two_stages, kanban_line}
 use Rattle.event_graph.specs.Network.{demand}
 use Rattle.event_graph.specs.Table.{date_in}
-use Rattle.date_causes.specs.declared.kind.ArcKind.{ArcKind}
 use Rattle.date_causes.specs.declared.kind.ArcKind.TheVariants.{Part, Server, Order, Demand, Card, Loop}
 use Rattle.date_causes.specs.declared.link.Cause.{Cause}
 use Rattle.date_causes.specs.declared.link.Cause.TheVariants.{DemandDate, Start, Along}
 use Rattle.date_causes.specs.declared.link.Link.{Link}
-use Rattle.date_causes.specs.Chain.{IsLink, IsChain, demanded}
+use Rattle.date_causes.specs.Chain.{IsChain, demanded}
 use Rattle.date_causes.specs.Kinds.{kinds}
 use Rattle.date_causes.specs.WhyText.{link_line, share_line, share_lines, why_text}
 
--- a stage with one machine and one card
-abbrev stage : List ℕ → Option ℕ → List ℕ → ℕ → Stage
-stage name to machine time =
-    record {
-      name = name;
-      feeds = to;
-      cards = 1;
-      stock = 0;
-      travel = 0;
-      card_time = 0;
-      machines = one_server machine (Fixed time) ∷ [];
-    }
-
--- `cut` with `saw` feeds `weld` with `torch`
-abbrev plant : Policy → List CardLoop → Plant
-plant policy loops =
-    record {
-      policy = policy;
-      stages = stage (codes "cut") (Some 1) (codes "saw") 3 ∷ stage (codes "weld") None (codes "torch") 5 ∷ [];
-      loops = loops;
-      card_time = 0;
-      demands = 0 ∷ 2 ∷ 4 ∷ [];
-      observe = [];
-    }
-
-kanban_kinds : kinds (plant Kanban []) ≡ Part ∷ Server ∷ Order ∷ Part ∷ Part ∷ Server ∷ Order ∷ Part ∷ Demand ∷ Card ∷ Card ∷ []
+kanban_kinds :
+    kinds kanban_line
+    ≡ Part ∷ Server ∷ Order ∷ Part ∷ Part ∷ Server ∷ Order ∷ Part ∷ Demand ∷ Card ∷ Card ∷ []
 unfolding kinds
 kanban_kinds = refl
 
 extended_kinds :
-    kinds (plant Extended (record { first = 0; last = 1; cards = 4; card_time = 0 } ∷ []))
+    kinds (two_stages Extended 1 0 1 0 (record { first = 0; last = 1; cards = 4; card_time = 0 } ∷ []))
     ≡ Part ∷ Server ∷ Order ∷ Part ∷ Part ∷ Server ∷ Order ∷ Part ∷ Demand ∷ Demand ∷ Card ∷ Demand ∷ Card ∷ Loop ∷ []
 unfolding kinds
 extended_kinds = refl
 
-conwip_kinds : kinds (plant (Conwip 2) []) ≡ Part ∷ Server ∷ Order ∷ Part ∷ Part ∷ Server ∷ Order ∷ Part ∷ Demand ∷ Card ∷ []
+conwip_kinds :
+    kinds (two_stages (Conwip 2) 1 0 1 0 [])
+    ≡ Part ∷ Server ∷ Order ∷ Part ∷ Part ∷ Server ∷ Order ∷ Part ∷ Demand ∷ Card ∷ []
 unfolding kinds
 conwip_kinds = refl
 
@@ -74,18 +48,18 @@ delivered =
     ∷ []
 
 delivered_text :
-    why_text (plant Kanban []) delivered
+    why_text kanban_line delivered
     ≡ codes "weld 1 0 start 0\nweld.torch 1 5 part 5\ndeliver 2 5 part 0\nweld 2 5 card 0\nweld.torch 2 10 part 5\ndeliver 3 10 part 0\nshare weld.torch 10\n"
 unfolding why_text link_line share_lines share_line kinds graph labels digits
 delivered_text = refl
 
-demanded_text : why_text (plant Kanban []) (link 0 3 4 DemandDate 4 ∷ []) ≡ codes "feed 3 4 date 4\nshare feed 4\n"
+demanded_text : why_text kanban_line (link 0 3 4 DemandDate 4 ∷ []) ≡ codes "feed 3 4 date 4\nshare feed 4\n"
 unfolding why_text link_line share_lines share_line kinds graph labels digits
 demanded_text = refl
 
 -- the chain of a demand date is the date alone
 demanded_chain :
-    IsChain (graph (plant Kanban [])) (date_in ((0 ∷ 2 ∷ 4 ∷ []) ∷ [])) 0 3 (link 0 3 4 DemandDate 4 ∷ [])
+    IsChain (graph kanban_line) (date_in ((0 ∷ 2 ∷ 4 ∷ []) ∷ [])) 0 3 (link 0 3 4 DemandDate 4 ∷ [])
 unfolding graph labels demand
 demanded_chain =
     demanded (link 0 3 4 DemandDate 4)

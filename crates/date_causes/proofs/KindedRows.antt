@@ -1,24 +1,23 @@
 -- The rows of a plant's graph, each with its kind: the rows are those of the graph, the kinds those of Kinds.antt, and each row
 -- is what its kind says.
-use Rattle.std.proofs.Common.{◌≡◌, ◌≢◌, ℕ, zero, suc, ◌+◌, ◌-◌, ◌<◌, ◌≤◌, ◌⊎◌, true, false, eqb, List, [], ◌∷◌, ◌++◌, map, length, get_or, refl, sym, ap, ◌∙◌, subst, arith, inl, inr}
+use Rattle.std.proofs.Common.{◌≡◌, ℕ, zero, suc, ◌+◌, ◌-◌, ◌<◌, ◌≤◌, true, false, eqb, List, [], ◌∷◌, ◌++◌, map, length, get_or, refl, sym, ap, ◌∙◌, subst, arith, inl, inr}
 use Rattle.std.specs.Prelude.{Option, None, Some}
 use Rattle.std.specs.Option.{option_map_or}
-use Rattle.std.specs.List.{All, flat_map, range_with_len}
+use Rattle.std.specs.List.{All, flat_map}
 use Rattle.std.proofs.lemmas.Bool.{cond_both, cases_lt, false≢true}
 use Rattle.std.proofs.lemmas.List.{map-append, length-append, length-map, get_or_append_left, get_or-append-add, get_or-map}
 use Rattle.std.proofs.lemmas.List.Elements.{All-nil, All-cons, All-map}
 use Rattle.std.proofs.lemmas.Simd.{map-map}
-use Rattle.line_base.proofs.RangeLists.{All-flat_map-range, All-range}
+use Rattle.line_base.proofs.RangeLists.{All-flat_map-range}
 use Rattle.line_base.specs.declared.event.Arc.{Arc}
 use Rattle.line_base.specs.declared.event.Parts.{Parts}
 use Rattle.event_graph.specs.Network.{arc, arc_count}
 use Rattle.plant_model.specs.declared.plant.Policy.{Policy}
 use Rattle.plant_model.specs.declared.plant.Policy.TheVariants.{Kanban, Conwip, BaseStock, Extended}
-use Rattle.plant_model.specs.declared.plant.CardLoop.{CardLoop}
 use Rattle.plant_model.specs.declared.plant.Plant.{Plant}
 use Rattle.plant_model.specs.Line.{stage_at, machine_at, stage_numbers, machine_numbers, release, machine_station, deliver, next, receiver, starting, first_stages}
 use Rattle.plant_model.specs.ArcNumbers.{delivery_arc, policy_arc, first_loop_arc}
-use Rattle.plant_model.specs.Graph.{Row, worked, plain, onward, stage_rows, feed_row, card_row, demand_row, line_card_row, policy_rows, loop_row, loop_rows, rows, graph}
+use Rattle.plant_model.specs.Graph.{Row, worked, plain, onward, stage_rows, feed_row, card_row, demand_row, line_card_row, policy_rows, loop_row, rows, graph}
 use Rattle.plant_model.specs.Sound.{IsSound}
 use Rattle.plant_model.proofs.LayoutStations.{receiver-above}
 use Rattle.circuit_sums.proofs.RowNumbers.{no_row, length-rows}
@@ -333,10 +332,6 @@ arc_of_kind p sound a there =
     let inside : a < length (all_parts p) = omega (arith, count-parts p) in
     subst (λ k. IsLike p a (arc (graph p) a) k) (sym (kind-read p a inside)) (
     subst (λ b. IsLike p a b (get_or (all_parts p) a no_part).kind) (sym (arc-read p a inside)) (row-like p sound a inside))
-
-pub arc_count-plant : (p : Plant) → arc_count (graph p) ≡ first_loop_arc p + length p.loops
-unfolding graph
-arc_count-plant p = omega (arith, length-map (rows p) (λ r. r.arc), length-rows p)
 
 -- ---- the kind of an arc that is like this
 

@@ -1,4 +1,3 @@
-pub mod ArcTerms
 pub mod Sums
 pub mod Chains
 pub mod OneChain

@@ -1,6 +1,6 @@
 -- Each date of the least solution of a live graph has one chain of causes: the walk back goes down by job and then by rank, and
 -- leaves no choice.
-use Rattle.std.proofs.Common.{◌≡◌, ◌≢◌, ℕ, zero, suc, ◌+◌, ◌-◌, ◌*◌, ◌<◌, ◌≤◌, ◌⊎◌, List, [], ◌∷◌, ◌++◌, length, get_or, refl, sym, ap, ◌∙◌, subst, arith, inl, inr, ⊎_elim}
+use Rattle.std.proofs.Common.{◌≡◌, ◌≢◌, ℕ, zero, suc, ◌+◌, ◌-◌, ◌*◌, ◌<◌, ◌≤◌, ◌⊎◌, List, [], ◌∷◌, ◌++◌, get_or, refl, sym, ap, ◌∙◌, subst, arith, inl, inr, ⊎_elim}
 use Rattle.std.proofs.lemmas.Bool.{cases_eq, cases_lt, cases_order}
 use Rattle.line_base.specs.declared.event.Parts.{Parts}
 use Rattle.event_graph.specs.Network.{stations, jobs, arc, arc_count, demand, delay, IsGraph, EndsAt}
@@ -11,7 +11,7 @@ use Rattle.live_check.specs.Order.{IsUpward}
 use Rattle.date_causes.specs.declared.link.Cause.{Cause}
 use Rattle.date_causes.specs.declared.link.Cause.TheVariants.{DemandDate, Start, Along}
 use Rattle.date_causes.specs.declared.link.Link.{Link}
-use Rattle.date_causes.specs.Chain.{IsFirstTight, IsCaused, IsDemanded, IsStarted, IsLed, IsLink, IsChain, demanded, started, led}
+use Rattle.date_causes.specs.Chain.{IsFirstTight, IsCaused, IsLink, IsChain, demanded, started, led}
 use Rattle.date_causes.specs.Laws.{HasOneChain}
 
 -- ---- the walk back goes down

@@ -1,6 +1,6 @@
--- The chain of causes of a date, from its beginning on. Stations and arcs count from 0, jobs from 1.
--- Source: Baccelli, Cohen, Olsder, Quadrat, Synchronization and Linearity: each date of the least solution is the greatest of
--- its terms, and so the end of a critical path.
+-- The chain of causes of a date, from its beginning on. Stations and arcs count from 0, jobs from 1. Source: Baccelli,
+-- Cohen, Olsder, Quadrat, Synchronization and Linearity: each date of the least solution is the greatest of its terms,
+-- and so the end of a critical path.
 use Rattle.std.specs.Prelude.{◌≡◌, ◌≢◌, ℕ, ◌+◌, ◌-◌, ◌<◌, ◌≤◌, List, [], ◌∷◌, ◌++◌, Option, None, Some, ⊤}
 use Rattle.line_base.specs.declared.event.Parts.{Parts}
 use Rattle.event_graph.specs.Network.{stations, jobs, arc_count, arc, demand, delay, EndsAt}

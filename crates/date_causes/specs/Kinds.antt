@@ -68,8 +68,8 @@ pub record IsOwn (arc : Arc) (worked : Bool) : Type 0 where
   pub own : arc.from ≡ arc.to
   pub worked_is : arc.worked ≡ worked
 
--- what an arc of a kind is: a part goes on to a later station; a server and the order of parts are a machine's own arcs, with
--- and without its time; a demand is told by the feed; a card is the policy's, or a loop's
+-- what an arc of a kind is: a part goes on to a later station; a server and the order of parts are a machine's own
+-- arcs, with and without its time; a demand comes from the feed; a card is the policy's, or a loop's
 abbrev pub IsLike : Plant → ℕ → Arc → ArcKind → Type 0
 IsLike p a arc Part = IsOfStages p a arc × (arc.from < arc.to)
 IsLike p a arc Server = IsOfStages p a arc × IsOwn arc true

@@ -1,10 +1,8 @@
 -- Laws of chains of causes, each on a public function whose contract cites it.
-use Rattle.std.specs.Prelude.{◌≡◌, ◌≢◌, ℕ, ◌+◌, ◌<◌, ◌≤◌, List, length, sum}
+use Rattle.std.specs.Prelude.{◌≡◌, ℕ, ◌<◌, ◌≤◌, List, sum}
 use Rattle.line_base.specs.declared.event.Parts.{Parts}
-use Rattle.event_graph.specs.Live.{IsLive}
-use Rattle.event_graph.specs.Network.{IsGraph, stations, jobs}
+use Rattle.event_graph.specs.Network.{stations, jobs}
 use Rattle.event_graph.specs.Table.{Table}
-use Rattle.event_graph.specs.Least.{IsLeast}
 use Rattle.date_causes.specs.declared.link.Link.{Link}
 use Rattle.date_causes.specs.Chain.{IsChain}
 use Rattle.date_causes.specs.Walk.{IsWalkTo}

@@ -1,5 +1,5 @@
--- What `why` writes of a chain of causes: `LABEL JOB DATE CAUSE ADDED` for each link, and `share LABEL SUM` for each station
--- that adds more than 0.
+-- What `why` writes of a chain of causes: `LABEL JOB DATE CAUSE ADDED` for each link, and `share LABEL SUM` for each
+-- station that adds more than 0.
 use Rattle.std.specs.Prelude.{ℕ, ◌==◌, if◌then◌else◌, List, [], ◌++◌, slice_index, codes, decimal}
 use Rattle.std.specs.List.{flat_map, range_with_len}
 use Rattle.line_base.specs.declared.event.Parts.{Parts}

@@ -4,7 +4,7 @@ ghost use Rattle.event_graph.specs.Network.{stations, jobs};
 ghost use Rattle.event_graph.specs.Table.{date_in};
 
 use crate::link::{Cause, Link};
-use crate::terms::{arc_at, term_of};
+use crate::terms::term_of;
 use event_graph::Graph;
 use line_base::{Date, Items};
 use line_core::Table;
@@ -41,7 +41,7 @@ fn cause_of(graph: &Graph, table: &Table, t: u32, n: u32) -> (Cause, Date)
     ensures { IsCaused graph.now (date_in table.now.rows) t n result.0 result.1 }
 {
     let a = first_tight(graph, table, t, n);
-    let arc = arc_at(graph, a);
+    let arc = graph.arc(a);
     let date = table.date(t, n);
     if n <= arc.tokens {
         return (Cause::Start, date);
@@ -82,7 +82,7 @@ fn before(graph: &Graph, link: Link) -> Option<(u32, u32)>
 {
     match link.cause {
         Cause::Along(a) => {
-            let arc = arc_at(graph, a);
+            let arc = graph.arc(a);
             Some((arc.from, link.job - arc.tokens))
         }
         _ => None,

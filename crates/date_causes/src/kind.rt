@@ -3,7 +3,6 @@ ghost use Rattle.date_causes.specs.Caused.{IsOfPlant};
 ghost use Rattle.event_graph.specs.Network.{arc_count};
 ghost use Rattle.date_causes.specs.Kinds.{kind_at, kind_word};
 
-use crate::terms::arc_at;
 use event_graph::Graph;
 use plant_model::{FEED, LineNumbers, Plant};
 
@@ -16,7 +15,7 @@ pub enum ArcKind {
     Server,
     /// The job before has left the machine.
     Order,
-    /// A demand is told.
+    /// A demand has come.
     Demand,
     /// A card of the stage, or of the line, comes back.
     Card,
@@ -30,7 +29,7 @@ pub fn kind_of(plant: &Plant, numbers: &LineNumbers, graph: &Graph, a: u32) -> A
     requires arc { a < arc_count graph.now }
     ensures { result ≡ kind_at plant.now a }
 {
-    let arc = arc_at(graph, a);
+    let arc = graph.arc(a);
     if arc.from == FEED {
         return ArcKind::Demand;
     }

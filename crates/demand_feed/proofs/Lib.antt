@@ -5,3 +5,4 @@ pub mod RowLemmas
 pub mod Taken
 pub mod GoodRows
 pub mod JobTimesLemmas
+pub mod BadFields

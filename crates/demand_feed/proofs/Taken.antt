@@ -38,7 +38,7 @@ unfolding later_jobs
 later_jobs-one used count row h = rw h refl
 
 -- a record that lacks no number
-abbrev is_lacking : List ℕ → ℕ → Placed → Bool
+abbrev pub is_lacking : List ℕ → ℕ → Placed → Bool
 is_lacking used most row = lacks_number used most row.1
 
 -- the rows of numbers of the jobs among some records
@@ -83,15 +83,19 @@ Taken-job used most rows numbers count row h good taken =
     }
 
 -- the first bad record, whatever stands behind it
+pub Taken-found : (used : List ℕ) (most : ℕ) (rows : List Record) (numbers : List ℕ) (count : ℕ) (row : Record) (rest : List Record)
+    → is_header used (1 + length rows, row) ≡ false → lacks_number used most row ≡ true
+    → Taken used most rows numbers count → find (is_lacking used most) (jobs used (rows ++ row ∷ rest)) ≡ Some (1 + length rows, row)
+Taken-found used most rows numbers count row rest h bad taken =
+    let later = later_jobs-job used (length rows) row rest h in
+    rw (jobs-append used rows (row ∷ rest), later.1) (find-append (is_lacking used most) (jobs used rows) _ ∙ rw (taken.whole, bad) refl)
+
 pub Taken-bad : (used : List ℕ) (most : ℕ) (rows : List Record) (numbers : List ℕ) (count : ℕ) (row : Record) (rest : List Record)
     → is_header used (1 + length rows, row) ≡ false → lacks_number used most row ≡ true
     → Taken used most rows numbers count → rows_of used most (rows ++ row ∷ rest) ≡ Err (1 + length rows)
 unfolding first_bad
 Taken-bad used most rows numbers count row rest h bad taken =
-    let later = later_jobs-job used (length rows) row rest h in
-    let found : find (is_lacking used most) (jobs used (rows ++ row ∷ rest)) ≡ Some (1 + length rows, row) =
-    rw (jobs-append used rows (row ∷ rest), later.1) (find-append (is_lacking used most) (jobs used rows) _ ∙ rw (taken.whole, bad) refl) in
-    rw found refl
+    rw (Taken-found used most rows numbers count row rest h bad taken) refl
 
 -- all the records of a file
 pub Taken-all : (used : List ℕ) (most : ℕ) (rows : List Record) (numbers : List ℕ) (count : ℕ)

@@ -6,3 +6,4 @@ pub mod FeedError
 pub mod Dates
 pub mod JobTimes
 pub mod Times
+pub mod BadField

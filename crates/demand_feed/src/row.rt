@@ -1,6 +1,7 @@
 ghost use Rattle.std.specs.List.{list_all};
-ghost use Rattle.std.specs.Prelude.{◌≡◌, ◌≤◌, ◌++◌, not, true, All, IfOk, option_map};
+ghost use Rattle.std.specs.Prelude.{◌≡◌, ◌≤◌, ◌++◌, not, true, All, IfOk, IfSome, option_map};
 ghost use Rattle.csv.specs.Records.{fields_of};
+ghost use Rattle.demand_feed.specs.BadField.{lacking_column};
 ghost use Rattle.demand_feed.specs.Rows.{field_in, has_title_at, lacks_number, number_at, numbers_of};
 
 use crate::field::{is_title, number_in};
@@ -8,7 +9,7 @@ use csv::ByteRecord;
 use std::alloc::AllocError;
 
 /// The field of a record in a column, if it has one. Columns count from 1.
-fn field_in(row: &ByteRecord, column: u32) -> Option<&[u8]>
+pub(crate) fn field_in(row: &ByteRecord, column: u32) -> Option<&[u8]>
     requires { 1 ≤ column }
     ensures { option_map (λ field. field.now) result ≡ field_in (fields_of row.now) column }
 {
@@ -65,4 +66,15 @@ pub(crate) fn add_numbers(
         numbers.push(number)?;
     }
     Ok(true)
+}
+
+/// The first of the used columns in which a record has no number of at most `most`, if there is one.
+pub(crate) fn lacking_column(row: &ByteRecord, used: &[u32], most: u64) -> Option<u32>
+    requires { All (λ column. 1 ≤ column) used.now }
+    ensures column { result ≡ lacking_column used.now most (fields_of row.now) }
+    ensures from_one { IfSome result (λ column. 1 ≤ column) }
+{
+    used.iter()
+        .copied()
+        .find(|column| number_at(row, *column, most).is_none())
 }

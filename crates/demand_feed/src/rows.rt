@@ -20,7 +20,7 @@ pub(crate) struct Rows {
 }
 
 /// Whether a record, counted from 1, is a header: the first one, with a title in every used column.
-fn is_header(number: u64, row: &ByteRecord, used: &[u32]) -> bool
+pub(crate) fn is_header(number: u64, row: &ByteRecord, used: &[u32]) -> bool
     requires { All (λ column. 1 ≤ column) used.now }
     ensures { result ≡ is_header used.now (number, fields_of row.now) }
 {

@@ -4,6 +4,7 @@ pub mod ArcNumbers
 pub mod Mapped
 pub mod Places
 pub mod Greatest
+pub mod ArcTerms
 pub mod GreatestTerms
 pub mod Sizes
 pub mod Walks

@@ -10,6 +10,7 @@ use Rattle.event_graph.specs.Network.{arc_count, arc}
 use Rattle.event_graph.specs.State.{State, start, place}
 use Rattle.event_graph.specs.Firing.{CanFire, new_date, place_after, after}
 use Rattle.event_graph.specs.Circuit.{IsWalk, IsCircuit, tokens_in, tokens_on}
+use Rattle.event_graph.specs.Reached.{Reached, begins, fires}
 
 -- at the start each place has its arc's tokens
 pub place-start : (g : Parts) (a : ℕ) → a < arc_count g → place (start g) a ≡ replicate (arc g a).tokens 0
@@ -52,3 +53,9 @@ walk-start g [] from to same = refl
 walk-start g (a ∷ arcs) from to (there, starts, rest) =
     let here = ap length (place-start g a there) ∙ length-replicate (arc g a).tokens 0 in
     omega (arith, here, walk-start g arcs (arc g a).to to rest, sum_by-cons (λ b. length (place (start g) b)) a arcs, sum_by-cons (λ b. (arc g b).tokens) a arcs)
+
+-- in every state that firings reach a circuit has its tokens
+pub circuit_keeps_number : (g : Parts) (s : State) → Reached g s → (arcs : List ℕ) → IsCircuit g arcs → tokens_in s arcs ≡ tokens_on g arcs
+circuit_keeps_number g s begins arcs circuit = walk-start g arcs circuit.base circuit.base circuit.closed
+circuit_keeps_number g s (fires old t reached can) arcs circuit =
+    circuit-after g old t can arcs circuit ∙ circuit_keeps_number g old reached arcs circuit

@@ -3,7 +3,9 @@ ghost use Rattle.event_graph.specs.Faults.{IsFirstFault};
 ghost use Rattle.event_graph.specs.Limits.{IsWithinLimits};
 ghost use Rattle.event_graph.specs.Lists.{IsListed};
 ghost use Rattle.event_graph.specs.Network.{stations, jobs, arc_count, arc, time, demand, delay, label, ins, outs, IsGraph, EndsAt, StartsAt};
+ghost use Rattle.event_graph.specs.Term.{work};
 ghost use Rattle.event_graph.specs.Varying.{Varies};
+ghost use Rattle.line_base.specs.Limits.{longest_time};
 ghost use Rattle.line_base.specs.Text.{is_label};
 
 use crate::checks::{check_ends, check_feed, check_inputs};
@@ -155,6 +157,20 @@ impl Graph {
         ensures limits { IsWithinLimits self.now }
     {
         self.parts.times.as_slice()[t as usize].at(n)
+    }
+
+    /// The time that arc `a` adds for job `n`: that of the station which it enters, where it is worked, else 0.
+    pub fn work(&self, a: u32, n: u32) -> u64
+        requires arc { a < arc_count self.now }
+        requires from_one { 1 ≤ n }
+        requires job { n ≤ jobs self.now }
+        ensures work { result ≡ work self.now a n }
+        ensures short { result ≤ longest_time }
+        ensures graph { IsGraph self.now }
+        ensures limits { IsWithinLimits self.now }
+    {
+        let arc = self.arc(a);
+        if arc.worked { self.time(arc.to, n) } else { 0 }
     }
 
     /// Whether station `t` has a list of times, with one for each job.

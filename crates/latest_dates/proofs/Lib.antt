@@ -1,3 +1,5 @@
+pub mod WordLemmas
+pub mod Places
 pub mod FromLast
 pub mod Earliest
 pub mod EarliestBounds

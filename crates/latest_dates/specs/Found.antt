@@ -1,12 +1,12 @@
 -- What contracts see of a `Latest`, and when none is answered.
-use Rattle.std.specs.Prelude.{◌≡◌, ℕ, ◌+◌, ◌-◌, ◌≤◌, List, length, slice_index_or, Option, None, Some, ⊤}
+use Rattle.std.specs.Prelude.{◌≡◌, ℕ, ◌+◌, ◌-◌, ◌*◌, ◌≤◌, List, length, slice_index_or, Option, None, Some, ⊤}
 use Rattle.line_base.specs.declared.event.Parts.{Parts}
 use Rattle.event_graph.specs.Network.{stations, jobs, arc, delay}
 use Rattle.event_graph.specs.Table.{Table, date_in}
 use Rattle.event_graph.specs.Term.{work}
 use Rattle.live_check.specs.Order.{LiveGraph}
 use Rattle.line_core.specs.Run.{IsLeastTable}
-use Rattle.what_if.specs.Page.{IsDate, slot}
+use Rattle.what_if.specs.Page.{IsDate}
 use Rattle.what_if.specs.Sheet.{date_count}
 use Rattle.card_sizing.specs.Serving.{wait_until, NoneWaitsLonger, IsFirstLate}
 use Rattle.latest_dates.specs.declared.error.LatestError.{LatestError}
@@ -29,9 +29,13 @@ abbrev pub IsLatestRefusal : Parts → Table → ℕ → LatestError → Type 0
 IsLatestRefusal g x may (Late job wait) = IsFirstLate (wait_of g x) (jobs g) may job wait
 IsLatestRefusal g x may NoMemory = ⊤
 
--- the latest dates that are kept by job and then by the rank of the station, as a table
+-- the place of job n at station t in a list where the dates of a station follow one another
+unfoldable pub place : Parts → ℕ → ℕ → ℕ
+place g t n = t * jobs g + (n - 1)
+
+-- the latest dates that are kept station by station, as a table
 abbrev pub latest_in : LiveGraph → List (Option ℕ) → LatestTable
-latest_in l dates t n = slice_index_or dates (slot l t n) None
+latest_in l dates t n = slice_index_or dates (place l.graph t n) None
 
 -- there is a place for each station and job
 abbrev pub HasDates : LiveGraph → List (Option ℕ) → Type 0

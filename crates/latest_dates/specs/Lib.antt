@@ -1,3 +1,4 @@
+pub mod Words
 pub mod Latest
 pub mod LatestText
 pub mod Found

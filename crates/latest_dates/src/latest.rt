@@ -5,11 +5,11 @@ ghost use Rattle.latest_dates.specs.Latest.{AreLatest};
 ghost use Rattle.line_io.specs.SinkView.{WritesText};
 
 use crate::error::LatestError;
+use crate::latest_date::LatestDate;
 use crate::pass::latest_of;
 use crate::run::LatestRun;
 use crate::waits::first_late;
 use crate::writing::write_latest;
-use line_base::Date;
 use line_core::Table;
 use line_io::{Failed, Outgoing, Sink};
 use live_check::Live;
@@ -42,7 +42,7 @@ fn dates_of(
     live: &Live,
     table: &Table,
     wait: u64,
-) -> Result<Vec<Option<Date>>, LatestError>
+) -> Result<Vec<LatestDate>, LatestError>
     requires of_graph { table.now.graph ≡ live.now.graph }
     requires small { wait < 2 ^ 63 }
     ensures in_time { OnOk result (IsInTime live.now.graph (date_in table.now.rows) wait) }

@@ -4,6 +4,7 @@
 mod bounds;
 mod error;
 mod latest;
+mod latest_date;
 mod laws;
 mod pass;
 mod run;

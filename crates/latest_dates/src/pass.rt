@@ -3,15 +3,15 @@ ghost use Rattle.event_graph.specs.Table.{date_in};
 ghost use Rattle.latest_dates.specs.Found.{latest_in, HasDates, IsInTime, NoneIsBefore};
 ghost use Rattle.latest_dates.specs.Latest.{AreLatest};
 
-use crate::bounds::earliest_bound;
-use line_base::Date;
+use crate::bounds::{earliest_bound, place};
+use crate::latest_date::LatestDate;
 use line_core::Table;
 use live_check::Live;
 use std::alloc::{AllocError, Global};
 use what_if::date_at_slot;
 
-/// The latest dates of a run in which no job waits longer than `wait`, by job and then by the rank of the station. It
-/// goes once from the last date to the first, and takes memory for them alone.
+/// The latest dates of a run in which no job waits longer than `wait`, station by station. It goes once from the last
+/// date to the first, by job and then by the rank of the station, and takes memory for the dates alone.
 ///
 /// Source of the rule: Baccelli, Cohen, Olsder and Quadrat, Synchronization and Linearity, backward equations.
 pub fn latest_of(
@@ -19,7 +19,7 @@ pub fn latest_of(
     live: &Live,
     table: &Table,
     wait: u64,
-) -> Result<Vec<Option<Date>>, AllocError>
+) -> Result<Vec<LatestDate>, AllocError>
     requires of_graph { table.now.graph ≡ live.now.graph }
     requires small { wait < 2 ^ 63 }
     requires in_time { IsInTime live.now.graph (date_in table.now.rows) wait }
@@ -33,12 +33,11 @@ pub fn latest_of(
     let _least = table.stations();
     let graph = live.graph();
     let count = graph.stations() * graph.jobs();
-    let mut dates: Vec<Option<Date>> = vec![in alloc; None; count as usize]?;
+    let mut dates = vec![in alloc; LatestDate::none(); count as usize]?;
     for behind in 0..count {
-        let at = count - 1 - behind;
-        let (t, n) = date_at_slot(live, at);
+        let (t, n) = date_at_slot(live, count - 1 - behind);
         let latest = earliest_bound(&dates, live, wait, t, n);
-        dates[at as usize] = latest;
+        dates[place(graph, t, n)] = latest;
     }
     Ok(dates)
 }

@@ -1,4 +1,4 @@
-use line_base::Date;
+use crate::latest_date::LatestDate;
 use line_core::Table;
 use live_check::Live;
 
@@ -10,6 +10,6 @@ pub struct LatestRun {
     pub table: Table,
     /// How long a customer may wait.
     pub wait: u64,
-    /// The latest dates, by job and then by the rank of the station. `None` stands for a date that nothing bounds.
-    pub dates: Vec<Option<Date>>,
+    /// The latest dates, those of a station one after another.
+    pub dates: Vec<LatestDate>,
 }

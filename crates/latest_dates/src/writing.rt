@@ -76,7 +76,7 @@ fn write_station<K: Sink>(out: &mut Outgoing, sink: &mut K, run: &LatestRun, t: 
     let mut tight = 0;
     for before in 0..graph.jobs() {
         let job = before + 1;
-        let latest = latest_at(run.dates.as_slice(), &run.live, t, job);
+        let latest = latest_at(run.dates.as_slice(), &run.live, t, job).date();
         let date = run.table.date(t, job);
         write_line(out, sink, label, job, latest, date);
         if has_no_slack(latest, date) {

@@ -22,7 +22,7 @@ to-multiple s t k le =
     let up : s * k ≤ s * (t / s) = mul-le-mul_left s le in
     omega (arith, is, up)
 
--- the lines of so many multiples
+-- the lines of the first multiples
 abbrev pub axis_lines : Window → ℕ → ℕ → ℕ → ℕ → List ℕ
 axis_lines w end step first n = flat_map (axis_line w end) (map (λ k. step * k) (range_with_len first n))
 

@@ -10,22 +10,13 @@ use Rattle.std.proofs.lemmas.List.FromFn.{filter_of_map_range_with_len_more, len
 use Rattle.line_base.specs.declared.event.Parts.{Parts}
 use Rattle.event_graph.specs.Table.{Table}
 use Rattle.line_io.specs.Outgoing.{Stream, Pushed}
-use Rattle.line_io.proofs.OutgoingLemmas.{pushed_after}
+use Rattle.line_io.proofs.OutgoingLemmas.{pushed_after, pushed_element}
 use Rattle.line_chart.specs.declared.window.Window.{Window}
 use Rattle.line_chart.specs.declared.lanes.Lanes.{Lanes}
 use Rattle.line_chart.specs.declared.bar.Bar.{Bar}
 use Rattle.event_graph.specs.Network.{jobs}
 use Rattle.line_chart.specs.Bars.{bar, meets, machine_bars}
 use Rattle.line_chart.specs.ChartText.{numbered, lane_number}
-
--- one element more
-flat_map-more : {X : Type 0} (f : X → List ℕ) (xs : List X) (i : ℕ) (d : X) → i < length xs → flat_map f (take (i + 1) xs) ≡ flat_map f (take i xs) ++ f (get_or xs i d)
-flat_map-more f xs i d below =
-    ap (flat_map f) (take_more xs i d below) ∙ flat_map-append f (take i xs) (get_or xs i d ∷ []) ∙ ap (λ l. flat_map f (take i xs) ++ l) (append-nil (f (get_or xs i d)))
-
--- the text of the next element is written
-pub pushed_element : {X : Type 0} {a b c : Stream} (f : X → List ℕ) (xs : List X) (i : ℕ) (d : X) → i < length xs → Pushed a b (flat_map f (take i xs)) → Pushed b c (f (get_or xs i d)) → Pushed a c (flat_map f (take (i + 1) xs))
-pushed_element {b = b} f xs i d below before now = rw (flat_map-more f xs i d below) (pushed_after {b = b} before now)
 
 -- the bars of the first jobs of a machine
 abbrev pub first_bars : Parts → Table → Window → Lanes → ℕ → List Bar

@@ -1,11 +1,8 @@
 -- The text of a picture of a small plant, against a picture that was written by hand.
 use Rattle.std.specs.Prelude.{◌≡◌, ℕ, List, [], ◌∷◌, ◌++◌, Option, None, Some, codes, refl}
 use Rattle.std.specs.Fmt.{digits}
-use Rattle.line_base.specs.declared.times.Times.TheVariants.{Fixed}
-use Rattle.plant_model.specs.declared.plant.Policy.TheVariants.{Kanban}
-use Rattle.plant_model.specs.Stages.{Stage, one_server}
-use Rattle.plant_model.specs.declared.plant.Plant.{Plant}
 use Rattle.plant_model.specs.Graph.{graph, labels, times, rows}
+use Rattle.plant_model.proofs.TwoStage.{kanban_line, kanban_dates}
 use Rattle.event_graph.specs.Network.{ins, delay, time}
 use Rattle.event_graph.specs.Table.{date_in}
 use Rattle.event_graph.specs.Firing.{greatest}
@@ -17,44 +14,8 @@ use Rattle.line_chart.specs.Areas.{changes, most}
 use Rattle.line_chart.specs.Bars.{lane_count, machines, machine_bars, bars}
 use Rattle.line_chart.specs.ChartText.{head_text, axis_line, axis_text, lane_line, lane_lines, names_text, bar_line, field_line, bars_text, path_text, class_path, area_head, stage_area, backlog_area, picture}
 
--- a stage with one machine and one card
-abbrev stage : List ℕ → Option ℕ → List ℕ → ℕ → Stage
-stage name to machine time =
-    record {
-      name = name;
-      feeds = to;
-      cards = 1;
-      stock = 0;
-      travel = 0;
-      card_time = 0;
-      machines = one_server machine (Fixed time) ∷ [];
-    }
-
--- `cut` with `saw` feeds `weld` with `torch`
-abbrev plant : Plant
-plant =
-    record {
-      policy = Kanban;
-      stages = stage (codes "cut") (Some 1) (codes "saw") 3 ∷ stage (codes "weld") None (codes "torch") 5 ∷ [];
-      loops = [];
-      card_time = 0;
-      demands = 0 ∷ 2 ∷ 4 ∷ [];
-      observe = [];
-    }
-
--- its dates
-abbrev dates : List (List ℕ)
-dates =
-    (0 ∷ 2 ∷ 4 ∷ [])
-    ∷ (0 ∷ 5 ∷ 10 ∷ [])
-    ∷ (3 ∷ 8 ∷ 13 ∷ [])
-    ∷ (0 ∷ 5 ∷ 10 ∷ [])
-    ∷ (5 ∷ 10 ∷ 15 ∷ [])
-    ∷ (0 ∷ 5 ∷ 10 ∷ [])
-    ∷ []
-
 picture_of_plant :
-    picture plant (date_in dates) (window_of None 15)
+    picture kanban_line (date_in kanban_dates) (window_of None 15)
     ≡ codes "<svg xmlns=\"http://www.w3.org/2000/svg\" width=\"1200\" height=\"272\""
     ++ codes " font-family=\"sans-serif\" font-size=\"11\">\n"
     ++ codes "<style>.c0{fill:#4477aa}.c1{fill:#66ccee}.c2{fill:#228833}.c3{fill:#ccbb44}.c4{fill:#ee667"

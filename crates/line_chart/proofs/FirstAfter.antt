@@ -4,7 +4,7 @@ use Rattle.std.specs.List.Sorted.{IsNonDecreasing, IsPartitionPoint}
 use Rattle.std.proofs.lemmas.Bool.{cases_lt, le-leb, lt-leb, lt-ltb, le-ltb}
 use Rattle.line_chart.specs.Counts.{NoneBetween}
 
--- so many dates are passed
+-- the first dates are passed
 abbrev pub Passed : List ℕ → ℕ → ℕ → ℕ → Type 0
 Passed dates late at i =
     IsPartitionPoint (λ y. leb (y + late) at ≡ true) (λ y. leb (y + late) at ≡ false) dates i

@@ -28,12 +28,9 @@ use Rattle.line_chart.specs.Bars.{lanes, lanes_before, stage_lanes, lanes_of_sta
 use Rattle.line_chart.specs.Machines.{IsMachineOf}
 use Rattle.line_chart.proofs.StepLists.{range-two}
 use Rattle.line_chart.proofs.PairLists.{AllPairs-flat_map, AllPairs-range}
+use Rattle.line_stats.proofs.DateSums.{sum_by-range-more}
 
 -- ---- sums over the first numbers
-
-sum-next : (f : ℕ → ℕ) (n : ℕ) → sum_by f (range_with_len 0 (n + 1)) ≡ sum_by f (range_with_len 0 n) + f n
-sum-next f n =
-    ap (sum_by f) (range-more n) ∙ sum_by-append f (range_with_len 0 n) (n ∷ []) ∙ omega (arith, sum_by-cons f n [])
 
 sum-grows : (f : ℕ → ℕ) (m n : ℕ) → m ≤ n → sum_by f (range_with_len 0 m) ≤ sum_by f (range_with_len 0 n)
 sum-grows f m n le =
@@ -43,16 +40,16 @@ sum-grows f m n le =
 
 -- one machine more, and one stage more
 pub lanes_before-next : (p : Plant) (i j : ℕ) → lanes_before p i (j + 1) ≡ lanes_before p i j + lanes p i j
-lanes_before-next p i j = sum-next (lanes p i) j
+lanes_before-next p i j = sum_by-range-more (lanes p i) j
 
 pub lanes_of_stages-next : (p : Plant) (i : ℕ) → lanes_of_stages p (i + 1) ≡ lanes_of_stages p i + stage_lanes p i
-lanes_of_stages-next p i = sum-next (stage_lanes p) i
+lanes_of_stages-next p i = sum_by-range-more (stage_lanes p) i
 
 -- a machine has no more lanes than may be servers
 pub few_lanes : (p : Plant) (i j : ℕ) → IsSound p → i < length p.stages → j < length (stage_at p i).machines → lanes p i j ≤ 10_000
 few_lanes p i j sound below inside = omega (arith, (IsSoundMachine-sound p i j sound below inside).few_servers)
 
--- so many lanes come before a machine
+-- how many lanes come before a machine
 few_before : (p : Plant) (i j : ℕ) → IsSound p → i < length p.stages → j ≤ length (stage_at p i).machines → lanes_before p i j ≤ 10_000 * j
 few_before p i zero sound below inside = omega arith
 few_before p i (suc j) sound below inside =
@@ -157,11 +154,6 @@ machines_in_order p =
         omega (arith, lanes_before-next p i j, sum-grows (lanes p i) (j + 1) (length (stage_at p i).machines) (omega arith), lanes_of_stages-next p i, sum-grows (stage_lanes p) (i + 1) k (omega arith))))
 
 -- ---- the lanes as they are listed
-
--- how many jobs there are
-pub jobs-graph : (p : Plant) → jobs (graph p) ≡ length p.demands
-unfolding graph
-jobs-graph p = refl
 
 -- the machines of a stage that is read, and a machine of them
 pub machines-count : (p : Plant) (i : ℕ) (stages : List Stage) (s : Stage) (ms : List Machine) → stages ≡ p.stages → i < length p.stages → ms ≡ (get_or stages i s).machines → ms ≡ (stage_at p i).machines

@@ -18,7 +18,8 @@ use Rattle.line_chart.specs.declared.bar.Bar.{Bar}
 use Rattle.line_chart.specs.Bars.{machine_lanes, stage_machines, machines, bar, meets, machine_bars, bars}
 use Rattle.line_chart.specs.Laws.{IsBarOfJob, BarsAreOfJobs, EachJobHasOneBar}
 use Rattle.line_chart.proofs.LaneFacts.{IsLanesOf, each_machine}
-use Rattle.line_chart.proofs.PairLists.{All-flat_map, count-flat_map, count-filter-map, sum-none, sum-one, sum-map, sum-flat_map}
+use Rattle.line_chart.proofs.PairLists.{count-flat_map, count-filter-map, sum-none, sum-one, sum-map, sum-flat_map}
+use Rattle.line_graph.proofs.WithinLimits.{All-flat_map}
 
 -- ---- each bar is of a job
 

@@ -8,7 +8,8 @@ use Rattle.line_stats.specs.Counts.{in_process, in_move, standing, backlog}
 use Rattle.line_chart.specs.declared.count.Count.{Count}
 use Rattle.line_chart.specs.declared.count.Count.TheVariants.{Parts, UnderWay, Backlog}
 
--- what is counted at a date: the parts of a stage, those in process or on their way, or the demands that are not delivered
+-- what is counted at a date: the parts of a stage, those in process or on their way, or the demands that are not
+-- delivered
 abbrev pub count_of : Plant → Table → Count → ℕ → ℕ
 count_of p x (Parts stage) v = standing p x stage v
 count_of p x (UnderWay stage) v = in_process p x stage v + in_move p x stage v

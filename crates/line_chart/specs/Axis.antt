@@ -4,8 +4,8 @@ use Rattle.std.specs.List.{range_with_len}
 use Rattle.line_chart.specs.declared.window.Window.{Window}
 use Rattle.line_chart.specs.Window.{span}
 
--- the least step among one, two and five times this power of ten, and of the next ones, of which at most ten fit into the
--- span
+-- the least step among one, two and five times this power of ten, and of the next ones, of which at most ten fit into
+-- the span
 unfoldable pub step_from : ℕ → ℕ → ℕ → ℕ
 step_from zero ten span = ten
 step_from (suc more) ten span =

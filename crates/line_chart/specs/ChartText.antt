@@ -20,7 +20,7 @@ use Rattle.line_chart.specs.Axis.{axis_step, multiples, axis_place}
 abbrev pub numbered : List ℕ → ℕ → List ℕ
 numbered text n = text ++ decimal n
 
--- where the areas begin under so many lanes, and where so many of them end
+-- where the areas begin under this many lanes, and where this many of them end
 abbrev pub areas_top : ℕ → ℕ
 areas_top lanes = 60 + 16 * lanes
 

@@ -5,8 +5,8 @@ use Rattle.plant_model.specs.declared.plant.Plant.{Plant}
 use Rattle.plant_model.specs.Graph.{graph}
 use Rattle.plant_model.specs.Sound.{IsSound}
 use Rattle.event_graph.specs.Table.{date_in}
-use Rattle.live_check.specs.Order.{LiveGraph}
-use Rattle.line_core.specs.Run.{Dates, IsLeastTable}
+use Rattle.line_core.specs.Run.{IsLeastTable}
+use Rattle.line_stats.specs.PlantDates.{AreOfPlant}
 use Rattle.line_chart.specs.declared.window.Window.{Window}
 use Rattle.line_chart.specs.declared.error.ChartError.{ChartError}
 use Rattle.line_chart.specs.declared.error.ChartError.TheVariants.{TooLarge, NoMemory}
@@ -39,16 +39,10 @@ abbrev pub MayBeAskedFor : Option (ℕ × ℕ) → Type 0
 MayBeAskedFor None = ⊤
 MayBeAskedFor (Some (from, to)) = IsWindow (record { from = from; to = to })
 
--- why a picture isn't drawn: it has more bars and lanes than 20,000, so many; want of memory may come instead
+-- why a picture isn't drawn: it has this many bars and lanes, more than 20,000; running out of memory may come instead
 abbrev pub IsReason : Picture → ChartError → Type 0
 IsReason c (TooLarge bars) = (bars ≡ bars_and_lanes c) × (20_000 < bars)
 IsReason c NoMemory = ⊤
-
--- a sound plant, its live graph, and a table of that graph
-pub record AreOfPlant (p : Plant) (live : LiveGraph) (table : Dates) : Type 0 where
-  pub sound : IsSound p
-  pub live_graph : live.graph ≡ graph p
-  pub table_graph : table.graph ≡ graph p
 
 -- the plant is sound, the dates are the least solution of its graph, and the window is one
 pub record IsDrawn (c : Picture) : Type 0 where

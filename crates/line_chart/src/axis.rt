@@ -9,7 +9,7 @@ use crate::text::write_numbered;
 use crate::window::Window;
 use line_io::{Outgoing, Sink};
 
-/// The step of the axis of a window that has so many dates.
+/// The step of the axis of a window that has this many dates.
 fn axis_step(span: u64) -> u64
     ensures step { result ≡ axis_step span }
     ensures some { 1 ≤ result }

@@ -1,11 +1,12 @@
 ghost use Rattle.std.specs.Prelude.{◌≡◌, ◌≤◌, ◌+◌, ◌*◌, IfOk, IfErr, length};
 ghost use Rattle.event_graph.specs.Table.{date_in};
 ghost use Rattle.line_chart.specs.ChartText.{head_text, areas_end, area_count, picture};
-ghost use Rattle.line_chart.specs.Picture.{Picture, AreOfPlant, IsDrawn, IsOfRun, IsReason, IsWindow, MayBeAskedFor, Stays, text_of};
+ghost use Rattle.line_chart.specs.Picture.{Picture, IsDrawn, IsOfRun, IsReason, IsWindow, MayBeAskedFor, Stays, text_of};
 ghost use Rattle.line_chart.specs.Window.{window_of};
 ghost use Rattle.line_io.specs.Outgoing.{Pushed, stream};
 ghost use Rattle.line_io.specs.SinkView.{WritesText};
 ghost use Rattle.line_stats.specs.Counts.{last_date};
+ghost use Rattle.line_stats.specs.PlantDates.{AreOfPlant};
 ghost use Rattle.plant_model.specs.Graph.{graph};
 
 use crate::areas::{write_backlog, write_stages};

@@ -7,7 +7,7 @@ use thiserror::Error;
 /// Why a picture isn't drawn.
 #[derive(Clone, Copy, Debug, PartialEq, Eq, Error)]
 pub enum ChartError {
-    /// It has so many bars and lanes together, more than 20,000.
+    /// It has this many bars and lanes together, more than 20,000.
     #[error("{bars} bars and lanes")]
     TooLarge { bars: u64 },
     /// Memory ran out.

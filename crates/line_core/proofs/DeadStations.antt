@@ -13,7 +13,7 @@ use Rattle.event_graph.specs.Circuit.{IsWalk, starting_stations}
 use Rattle.live_check.specs.DeadCircuit.{IsDeadCircuit}
 use Rattle.line_core.specs.Laws.{IsIdle}
 use Rattle.line_core.proofs.ArcTokens.{log-after}
-use Rattle.line_core.proofs.Circuits.{circuit_keeps_number}
+use Rattle.event_graph.proofs.Places.{circuit_keeps_number}
 use Rattle.line_core.proofs.Consistency.{exists, log-start, reached_is_consistent}
 
 -- some arc of the list ends at the station

@@ -2,7 +2,6 @@ pub mod ArcTokens
 pub mod Consistency
 pub mod Solution
 pub mod Bounds
-pub mod Circuits
 pub mod DeadStations
 pub mod Order
 pub mod Progress

@@ -1,5 +1,5 @@
 -- What the logs of a run tell of its state.
-use Rattle.std.proofs.Common.{◌≡◌, ◌≢◌, ℕ, zero, suc, ◌+◌, ◌-◌, ◌<◌, ◌≤◌, true, false, eqb, List, [], ◌∷◌, ◌++◌, drop, take, replicate, map, length, get_or, set, refl, sym, ap, ◌∙◌, subst, arith, ⊎_elim}
+use Rattle.std.proofs.Common.{◌≡◌, ◌≢◌, ℕ, zero, suc, ◌+◌, ◌-◌, ◌<◌, ◌≤◌, false, eqb, List, [], ◌∷◌, ◌++◌, drop, take, replicate, map, length, get_or, set, refl, sym, ap, ◌∙◌, subst, arith, ⊎_elim}
 use Rattle.std.specs.List.{All, sum_by, range_with_len}
 use Rattle.std.proofs.lemmas.Bool.{cases_lt, cases_eq, ne_eqb, cond-false, cond-true, eq-eqb}
 use Rattle.std.proofs.lemmas.List.{get_or-map, length-map, map-set, length-drop, get_or_past, get_or_append_left, get_or-append_right, get_or-replicate, length-replicate, get_or-set_same, get_or-set_other, take_all, drop-map, drop-append-le, drop_all, drop-drop}
@@ -8,7 +8,7 @@ use Rattle.std.proofs.lemmas.List.Sums.{sum_by-cons}
 use Rattle.line_base.specs.declared.event.Arc.{Arc}
 use Rattle.line_base.specs.declared.event.Parts.{Parts}
 use Rattle.line_base.specs.Roomy.{RoomyLog, RoomyLogs, log_at, dates_of, with_date}
-use Rattle.event_graph.specs.Network.{stations, jobs, arc, arc_count, demand, delay, time, ins, IsGraph}
+use Rattle.event_graph.specs.Network.{stations, jobs, arc, arc_count, demand, delay, ins, IsGraph}
 use Rattle.event_graph.specs.Limits.{IsWithinLimits}
 use Rattle.event_graph.specs.Table.{date_in}
 use Rattle.event_graph.specs.Least.{IsLeast}
@@ -22,7 +22,7 @@ use Rattle.line_core.specs.Run.{Run, run_of, fired_at, begun, IsReached, IsRunWi
 use Rattle.line_core.proofs.ArcTokens.{length-all_tokens}
 use Rattle.line_core.proofs.Consistency.{date_by_tokens, new_date-by_tokens, held_now, start_is_consistent, reached_is_consistent}
 use Rattle.line_core.proofs.Bounds.{fired-le, reached_is_within}
-use Rattle.line_core.proofs.Circuits.{circuit_keeps_number}
+use Rattle.event_graph.proofs.Places.{circuit_keeps_number}
 use Rattle.line_core.proofs.Solution.{finished_is_least}
 use Rattle.event_graph.proofs.GreatestTerms.{greatest_of_terms}
 use Rattle.line_core.proofs.LastFirings.{state_of-logs, place-state_of}
@@ -93,14 +93,6 @@ asks g logs k a = work g a (k + 1) + get_or (all_tokens g (dates_of logs) a) k 0
 pub asks-is : (g : Parts) (logs : RoomyLogs) (k a : ℕ) → work g a (k + 1) + get_or (all_tokens g (dates_of logs) a) k 0 ≡ asks g logs k a
 unfolding asks
 asks-is g logs k a = refl
-
-pub work-worked : (g : Parts) (a n : ℕ) → (arc g a).worked ≡ true → work g a n ≡ time g (arc g a).to n
-unfolding work
-work-worked g a n worked = cond-true (arc g a).worked _ _ worked
-
-pub work-plain : (g : Parts) (a n : ℕ) → (arc g a).worked ≡ false → work g a n ≡ 0
-unfolding work
-work-plain g a n plain = cond-false (arc g a).worked _ _ plain
 
 -- ---- reached states
 

@@ -1,4 +1,4 @@
--- Logs with the number of tokens in each place: what can be told of them before the dates of the tokens are seen.
+-- Logs with the number of tokens in each place: what is known of them before the dates of the tokens are seen.
 use Rattle.std.specs.Prelude.{◌≡◌, ℕ, List, ◌++◌, length, map, slice_index, Some}
 use Rattle.line_base.specs.declared.event.Parts.{Parts}
 use Rattle.event_graph.specs.Network.{arc_count}

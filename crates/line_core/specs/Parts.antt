@@ -50,8 +50,8 @@ long_log g logs t =
 abbrev pub long_logs : Parts → List (List ℕ) → List StateError
 long_logs g logs = each_below (stations g) (long_log g logs)
 
--- how many tokens arc a needs: those of the start and one for each date of the log where it starts, less one for each of
--- the log where it ends
+-- how many tokens arc a needs: those of the start and one for each date of the log where it starts, less one for each
+-- of the log where it ends
 abbrev pub tokens_needed : Parts → List (List ℕ) → ℕ → ℤ
 tokens_needed g logs a =
     pos ((arc g a).tokens + length (list_at logs (arc g a).from)) -ℤ pos (length (list_at logs (arc g a).to))

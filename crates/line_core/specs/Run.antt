@@ -49,8 +49,8 @@ pub record Dates : Type 0 where
   pub graph : Parts
   pub rows : List (List ℕ)
 
--- each station has one date for each job, none is late, and together they are the least solution, in which each date is the
--- greatest of its terms
+-- each station has one date for each job, none is late, and together they are the least solution, in which each date is
+-- the greatest of its terms
 pub record IsLeastTable (d : Dates) : Type 0 where
   pub sound : IsGraph d.graph
   pub limits : IsWithinLimits d.graph

@@ -87,13 +87,7 @@ fn asked_date(logs: &Logs, graph: &Graph, a: u32, k: usize) -> Date
     ensures { result ≡
         work graph.now a (k + 1) + slice_index (all_tokens graph.now (dates_of logs.now) a) k }
 {
-    let arc = graph.arc(a);
-    let date = token(logs, graph, a, k);
-    if arc.worked {
-        graph.time(arc.to, k as u32 + 1) + date
-    } else {
-        date
-    }
+    graph.work(a, k as u32 + 1) + token(logs, graph, a, k)
 }
 
 /// The date of the next job of station `t`.

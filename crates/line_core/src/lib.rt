@@ -20,7 +20,7 @@ pub use laws::{
 };
 pub use lines::{behind, end_before, prefix, without_return};
 pub use logs::log_with;
-pub use rounds::run;
+pub use rounds::{fire_each, run};
 pub use schedule::replay;
 pub use state::State;
 pub use table::Table;

@@ -160,13 +160,7 @@ fn term_of(graph: &Graph, logs: &Logs, a: u32, n: u32) -> Date
     requires job { n ≤ jobs graph.now }
     ensures { result ≡ term graph.now (date_in (dates_of logs.now)) a n }
 {
-    let arc = graph.arc(a);
-    let date = token_date(graph, logs, a, n);
-    if arc.worked {
-        graph.time(arc.to, n) + date
-    } else {
-        date
-    }
+    graph.work(a, n) + token_date(graph, logs, a, n)
 }
 
 /// The date that the equations of the graph give to job `n` at station `t` over the logs.

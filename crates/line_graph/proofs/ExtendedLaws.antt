@@ -20,6 +20,7 @@ use Rattle.line_graph.specs.Laws.{under, HaveSameLeast, CardsEqualStock, CardsCo
 use Rattle.line_graph.proofs.Inputs.{in_feed}
 use Rattle.line_graph.proofs.SolvesRows.{asked, Meets, Meets-solves, Solves-meets}
 use Rattle.line_graph.proofs.SharedRows.{StartAlike, HoldAlike-sound, shared, shared_back, in_kanban, in_base_stock, extended_card_row, in_extended_demand, in_extended_card}
+use Rattle.line_graph.proofs.Sizes.{jobs-graph}
 
 -- the policy touches neither stations nor jobs, times and demands
 times-under : (policy : Policy) (p : Plant) → times (under policy p) ≡ times p
@@ -37,10 +38,6 @@ jobs-under policy p = refl
 demand-under : (policy : Policy) (p : Plant) (n : ℕ) → demand (graph (under policy p)) n ≡ demand (graph p) n
 unfolding graph demand
 demand-under policy p n = refl
-
-jobs-graph : (p : Plant) → jobs (graph p) ≡ length p.demands
-unfolding graph
-jobs-graph p = refl
 
 -- the table meets the rows of a plant
 abbrev MeetsAll : Plant → Table → Plant → Type 0

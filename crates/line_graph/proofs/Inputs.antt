@@ -1,5 +1,5 @@
--- The graph of a sound plant is an event graph: the ends of its arcs exist, no arc enters the feed, and each other station
--- has an arc in.
+-- The graph of a sound plant is an event graph: the ends of its arcs exist, no arc enters the feed, and each other
+-- station has an arc in.
 use Rattle.std.proofs.Common.{◌≡◌, ℕ, ◌+◌, ◌-◌, ◌<◌, ◌≤◌, Bool, true, false, cond, eqb, [], ◌∷◌, ◌++◌, length, get_or, Option, None, Some, refl, ap, ◌∙◌, arith}
 use Rattle.std.specs.List.{Contains, flat_map, list_any}
 use Rattle.std.specs.Option.{option_map_or}
@@ -53,7 +53,7 @@ machine-input p i j below inside =
     let self = worked (machine_station p i j) (machine_station p i j) (machine_at p i j).servers in
     (self, in_machines p i j self below inside (Contains-head self (plain (machine_station p i j) (machine_station p i j) 1 0 ∷ onward p i j ∷ [])), refl)
 
--- the delivery is told of the demands
+-- the demands come to the delivery
 deliver-input : (p : Plant) → HasInput p (deliver p)
 deliver-input p = (feed_row p, in_feed p, refl)
 

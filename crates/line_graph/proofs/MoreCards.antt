@@ -11,7 +11,7 @@ use Rattle.plant_model.specs.Stages.{Machine, Stage}
 use Rattle.plant_model.specs.declared.plant.CardLoop.{CardLoop}
 use Rattle.plant_model.specs.declared.plant.Plant.{Plant}
 use Rattle.plant_model.specs.Line.{no_stage, stage_at, no_machine, release, machine_station, receiver, stock_under, starting, line_cards, path, path_stock, up_to, stock_between}
-use Rattle.plant_model.specs.Graph.{Row, worked, plain, onward, feed_row, loop_row, rows, labels, times, graph}
+use Rattle.plant_model.specs.Graph.{Row, worked, plain, onward, feed_row, loop_row, rows, labels, graph}
 use Rattle.plant_model.specs.Sound.{IsSound}
 use Rattle.event_graph.specs.Live.{IsLive}
 use Rattle.live_check.specs.MoreTokens.{KeepsArc, HasMoreTokens, IsNeverLater}
@@ -19,7 +19,7 @@ use Rattle.live_check.proofs.NeverLater.{never_later}
 use Rattle.line_graph.specs.MoreCards.{policy_without_cards, DifferInCards, HasMoreOnEachArc, HasMoreCards, loop_at}
 use Rattle.line_graph.proofs.RowPairs.{rows-pairs, AllZip-from_get_or, AllZip-mapped, map-pairs}
 use Rattle.line_graph.proofs.CardlessPlants.{labels-same, times-same, demands-same, card_time-same, release-same, deliver-same, receiver-same, stages-same, stage-same, loop-same, machines-same, path-same, one_shape}
-use Rattle.line_graph.proofs.Sizes.{sum_by-same, arc_count-graph}
+use Rattle.line_graph.proofs.Sizes.{sum_by-same, arc_count-graph, times-graph}
 use Rattle.line_graph.proofs.Inputs.{arc-graph, IsGraph-graph}
 use Rattle.line_graph.proofs.OwnTokens.{graph_keeps_order}
 use Rattle.line_graph.proofs.WithinLimits.{IsWithinLimits-graph}
@@ -82,10 +82,6 @@ module _ (p q : Plant) (differ : DifferInCards p q) where
 labels-graph : (p : Plant) → (graph p).labels ≡ labels p
 unfolding graph
 labels-graph p = refl
-
-times-graph : (p : Plant) → (graph p).times ≡ times p
-unfolding graph
-times-graph p = refl
 
 dates-graph : (p : Plant) → (graph p).dates ≡ p.demands
 unfolding graph

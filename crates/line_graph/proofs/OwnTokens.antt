@@ -1,12 +1,11 @@
 -- Each station of a plant's graph with a list of times has an arc to itself with one token.
-use Rattle.std.proofs.Common.{◌≡◌, ℕ, suc, ◌+◌, ◌<◌, List, [], ◌∷◌, ◌++◌, length, get_or, take, refl, ap, ◌∙◌, subst, arith}
+use Rattle.std.proofs.Common.{◌≡◌, ℕ, suc, ◌+◌, ◌<◌, [], ◌∷◌, ◌++◌, length, get_or, take, refl, ap, ◌∙◌, subst, arith}
 use Rattle.std.specs.List.{flat_map, Contains}
-use Rattle.std.proofs.lemmas.List.{get_or_append_left, length-map}
+use Rattle.std.proofs.lemmas.List.{get_or_append_left}
 use Rattle.std.proofs.Math.Seq.{get_or-append_seam}
-use Rattle.std.proofs.lemmas.List.Concat.{length-flat_map, get_or-flat_map}
+use Rattle.std.proofs.lemmas.List.Concat.{get_or-flat_map}
 use Rattle.line_base.specs.declared.event.Arc.{Arc}
 use Rattle.line_base.specs.declared.times.Times.TheVariants.{Fixed}
-use Rattle.plant_model.specs.Stages.{Stage}
 use Rattle.plant_model.specs.declared.plant.Plant.{Plant}
 use Rattle.plant_model.specs.Line.{no_stage, stage_at, machine_at, stations_of, release, machine_station, deliver, station_count}
 use Rattle.plant_model.specs.Graph.{Row, worked, plain, onward, rows, stage_times, times, graph}
@@ -14,7 +13,7 @@ use Rattle.plant_model.proofs.LayoutStations.{release-below}
 use Rattle.event_graph.specs.Network.{arc}
 use Rattle.live_check.specs.MoreTokens.{IsList, HasOwnToken, ListsKeepOrder}
 use Rattle.line_base.proofs.RangeLists.{Contains-head, Contains-tail}
-use Rattle.line_graph.proofs.Sizes.{sum_by-same, stations-graph, arc_count-graph}
+use Rattle.line_graph.proofs.Sizes.{stations-graph, arc_count-graph, length-times_of, times-graph}
 use Rattle.line_graph.proofs.Inputs.{in_machines, arc-graph}
 use Rattle.line_graph.proofs.EachStation.{each_station}
 
@@ -40,11 +39,6 @@ machine-own p i j below inside =
     row-own p m (in_machines p i j one below inside (Contains-tail self (one ∷ onward p i j ∷ []) one (Contains-head one (onward p i j ∷ []))))
 
 -- ---- releases, the feed and the delivery have no list of times
-
-length-times_of : (stages : List Stage) → length (flat_map stage_times stages) ≡ stations_of stages
-length-times_of stages =
-    length-flat_map stage_times stages
-    ∙ sum_by-same (λ s. length (stage_times s)) (λ s. 1 + length s.machines) stages (λ s. omega (arith, length-map s.machines (λ m. m.times)))
 
 time-release : (p : Plant) (i : ℕ) → i < length p.stages → get_or (times p) (release p i) (Fixed 0) ≡ Fixed 0
 unfolding times
@@ -85,10 +79,6 @@ station-keeps p t below =
     (fixed-keeps p (deliver p) (time-deliver p))
     t
     below
-
-times-graph : (p : Plant) → (graph p).times ≡ times p
-unfolding graph
-times-graph p = refl
 
 -- a plant's graph keeps the jobs of each list of times in order
 pub graph_keeps_order : (p : Plant) → ListsKeepOrder (graph p)

@@ -1,7 +1,7 @@
 -- How many stations and arcs a plant's graph has, and that its lists are of one length.
-use Rattle.std.proofs.Common.{codes, ◌≡◌, ℕ, ◌+◌, ◌-◌, ◌*◌, ◌≤◌, List, [], ◌∷◌, ◌++◌, length, map, sum, refl, sym, ap, ◌∙◌, arith}
+use Rattle.std.proofs.Common.{codes, ◌≡◌, ℕ, ◌+◌, ◌-◌, ◌*◌, ◌<◌, ◌≤◌, List, [], ◌∷◌, ◌++◌, length, get_or, map, sum, refl, sym, ap, ◌∙◌, arith}
 use Rattle.std.specs.List.{flat_map, filter, sum_by}
-use Rattle.std.proofs.lemmas.List.{length-append, length-map}
+use Rattle.std.proofs.lemmas.List.{length-append, length-map, get_or-map}
 use Rattle.std.proofs.lemmas.List.FromFn.{length-map-range_with_len, length-range_with_len, fill_by_all}
 use Rattle.std.proofs.lemmas.List.Concat.{length-flat_map}
 use Rattle.std.proofs.lemmas.List.Sums.{sum_by-cons, sum-map, length-filter, count_by-le-length}
@@ -12,9 +12,9 @@ use Rattle.plant_model.specs.declared.plant.Policy.TheVariants.{Kanban, Conwip, 
 use Rattle.plant_model.specs.Stages.{Stage}
 use Rattle.plant_model.specs.declared.plant.Plant.{Plant}
 use Rattle.plant_model.specs.Line.{no_stage, stage_at, stage_numbers, stations_of, station_count, starting, is_first}
-use Rattle.plant_model.specs.Graph.{machine_rows, stage_rows, feed_row, card_row, demand_row, line_card_row, loop_row, policy_rows, loop_rows, rows, stage_labels, labels, stage_times, times, graph}
+use Rattle.plant_model.specs.Graph.{Row, machine_rows, stage_rows, feed_row, card_row, demand_row, line_card_row, loop_row, policy_rows, loop_rows, rows, stage_labels, labels, stage_times, times, graph}
 use Rattle.plant_model.specs.Sound.{IsSound}
-use Rattle.event_graph.specs.Network.{stations, arc_count}
+use Rattle.event_graph.specs.Network.{stations, jobs, arc_count, demand, delay}
 use Rattle.plant_model.proofs.SoundPlants.{HasSoundSizes-sound}
 use Rattle.line_base.proofs.RangeLists.{length-flat_map-range}
 use Rattle.line_graph.proofs.PolicyRows.{policy_rows-kanban, policy_rows-base_stock, policy_rows-extended, policy_rows-conwip}
@@ -34,8 +34,13 @@ length-around first last f stages each =
 length-stage_labels : (s : Stage) → length (stage_labels s) ≡ 1 + length s.machines
 length-stage_labels s = omega (arith, length-map s.machines (λ m. s.name ++ codes "." ++ m.name))
 
-length-stage_times : (s : Stage) → length (stage_times s) ≡ 1 + length s.machines
+pub length-stage_times : (s : Stage) → length (stage_times s) ≡ 1 + length s.machines
 length-stage_times s = omega (arith, length-map s.machines (λ m. m.times))
+
+pub length-times_of : (stages : List Stage) → length (flat_map stage_times stages) ≡ stations_of stages
+length-times_of stages =
+    length-flat_map stage_times stages
+    ∙ sum_by-same (λ s. length (stage_times s)) (λ s. 1 + length s.machines) stages length-stage_times
 
 -- there is a label and a list of times for each station
 pub stations-graph : (p : Plant) → stations (graph p) ≡ station_count p
@@ -54,6 +59,23 @@ arc_count-graph p = length-map (rows p) (λ r. r.arc)
 pub length-delays : (p : Plant) → length (graph p).delays ≡ length (rows p)
 unfolding graph
 length-delays p = length-map (rows p) (λ r. r.delay)
+
+-- the jobs, the demand dates, the job times and the delays of the graph are those of the plant
+pub jobs-graph : (p : Plant) → jobs (graph p) ≡ length p.demands
+unfolding graph
+jobs-graph p = refl
+
+pub demand-graph : (p q : Plant) (n : ℕ) → p.demands ≡ q.demands → demand (graph p) n ≡ demand (graph q) n
+unfolding graph demand
+demand-graph p q n same = ap (λ (dates : List ℕ). get_or dates (n - 1) 0) same
+
+pub times-graph : (p : Plant) → (graph p).times ≡ times p
+unfolding graph
+times-graph p = refl
+
+pub delay-graph : (p : Plant) (a : ℕ) (d : Row) → a < length (rows p) → delay (graph p) a ≡ (get_or (rows p) a d).delay
+unfolding graph delay
+delay-graph p a d below = get_or-map (λ (r : Row). r.delay) (rows p) a d 0 below
 
 -- a stage has one row and three a machine
 length-stage_rows : (p : Plant) (i : ℕ) → length (stage_rows p i) ≡ 1 + 3 * length (stage_at p i).machines

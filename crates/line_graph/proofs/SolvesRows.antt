@@ -2,7 +2,6 @@
 use Rattle.std.proofs.Common.{◌≡◌, ℕ, ◌+◌, ◌-◌, ◌<◌, ◌≤◌, nat_lt, List, length, get_or, refl, sym, ap, ◌∙◌, subst}
 use Rattle.std.specs.Prelude.{if◌then◌else◌, slice_index_or}
 use Rattle.std.specs.List.{All}
-use Rattle.std.proofs.lemmas.List.{get_or-map}
 use Rattle.std.proofs.lemmas.List.Elements.{All-from_get_or, All-get_or}
 use Rattle.line_base.specs.declared.event.Arc.{Arc}
 use Rattle.line_base.specs.declared.event.Parts.{Parts}
@@ -15,7 +14,7 @@ use Rattle.event_graph.specs.Network.{jobs, arc, time, demand, delay}
 use Rattle.event_graph.specs.Table.{Table}
 use Rattle.event_graph.specs.Term.{work, term}
 use Rattle.event_graph.specs.Solves.{Solves}
-use Rattle.line_graph.proofs.Sizes.{arc_count-graph}
+use Rattle.line_graph.proofs.Sizes.{arc_count-graph, delay-graph, times-graph}
 use Rattle.line_graph.proofs.Inputs.{arc-graph}
 
 -- what an arc with its delay asks of the date of job n
@@ -30,14 +29,6 @@ pub record Meets (ts : List Times) (count : ℕ) (x : Table) (r : Row) : Type 0 
 term-asked : (g : Parts) (x : Table) (a n : ℕ) → term g x a n ≡ asked g.times x (arc g a) (delay g a) n
 unfolding asked work time
 term-asked g x a n = refl
-
-delay-graph : (p : Plant) (a : ℕ) (d : Row) → a < length (rows p) → delay (graph p) a ≡ (get_or (rows p) a d).delay
-unfolding graph delay
-delay-graph p a d below = get_or-map (λ r. r.delay) (rows p) a d 0 below
-
-times-graph : (p : Plant) → (graph p).times ≡ times p
-unfolding graph
-times-graph p = refl
 
 -- what arc a of the graph asks is what row a asks
 term-graph : (p : Plant) (x : Table) (a n : ℕ) (d : Row) → a < length (rows p) → term (graph p) x a n ≡ asked (times p) x (get_or (rows p) a d).arc (get_or (rows p) a d).delay n

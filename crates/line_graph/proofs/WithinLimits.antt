@@ -19,7 +19,7 @@ use Rattle.line_graph.proofs.Sizes.{stations-graph, arc_count-graph, length-time
 use Rattle.line_graph.proofs.SmallRows.{IsSmallRow, rows-small}
 
 -- what holds of each element of each list holds of all of them one after the other
-All-flat_map : {X Y : Type 0} (P : Y → Type 0) (f : X → List Y) (xs : List X) → All (λ x. All P (f x)) xs → All P (flat_map f xs)
+pub All-flat_map : {X Y : Type 0} (P : Y → Type 0) (f : X → List Y) (xs : List X) → All (λ x. All P (f x)) xs → All P (flat_map f xs)
 All-flat_map P f [] h = All-nil P
 All-flat_map P f (x ∷ xs) h =
     All-append P (f x) (flat_map f xs) (h 0 x (omega arith)) (All-flat_map P f xs (λ k d below. h (suc k) d (omega arith)))

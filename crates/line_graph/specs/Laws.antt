@@ -1,5 +1,5 @@
--- Laws of the policies, each on a public function whose contract cites it (Dallery and Liberopoulos 2000, for kanban and
--- base stock as the ends of extended kanban).
+-- Laws of the policies, each on a public function whose contract cites it (Dallery and Liberopoulos 2000, for kanban
+-- and base stock as the ends of extended kanban).
 use Rattle.std.specs.Prelude.{◌≡◌, ℕ, ◌+◌, ◌<◌, ◌≤◌, ◌↔◌, length}
 use Rattle.plant_model.specs.declared.plant.Policy.{Policy}
 use Rattle.plant_model.specs.declared.plant.Policy.TheVariants.{Kanban, BaseStock, Extended}

@@ -1,5 +1,5 @@
--- Plants that differ in cards and stock alone, for the law *More tokens, never later* on plants.
--- Source: Baccelli, Cohen, Olsder, Quadrat, Synchronization and Linearity: dates do not get later with more tokens; Dallery and
+-- Plants that differ in cards and stock alone, for the law *More tokens, never later* on plants. Source: Baccelli,
+-- Cohen, Olsder, Quadrat, Synchronization and Linearity: dates do not get later with more tokens; Dallery and
 -- Liberopoulos 2000 for the cards.
 use Rattle.std.specs.Prelude.{◌≡◌, ℕ, ◌<◌, ◌≤◌, map, length}
 use Rattle.plant_model.specs.declared.plant.Policy.{Policy}
@@ -46,8 +46,8 @@ pub record DifferInCards (few many : Plant) : Type 0 where
 pub record HasMoreOnEachArc (few many : Plant) : Type 0 where
   pub each : (a : ℕ) → a < arc_count (graph few) → (arc (graph few) a).tokens ≤ (arc (graph many) a).tokens
 
--- the second plant has at least as many cards at each stage, on the line and on each loop, and the same stock; under kanban, where
--- a stage's cards are its stock, a plant with a loop has the same cards at each stage
+-- the second plant has at least as many cards at each stage, on the line and on each loop, and the same stock; under
+-- kanban, where a stage's cards are its stock, a plant with a loop has the same cards at each stage
 pub record HasMoreCards (few many : Plant) : Type 0 where
   pub differ : DifferInCards few many
   pub stages : (i : ℕ) → i < length few.stages → (stage_at few i).cards ≤ (stage_at many i).cards

@@ -1,9 +1,13 @@
 -- Bytes that are given to a sink and the buffer before it, one part after another.
-use Rattle.std.proofs.Common.{◌≡◌, ◌≤◌, ℕ, List, [], ◌++◌, Bool, true, false, Result, Ok, Err, OnOk, OnErr, is_err, refl, sym, ap, ◌∙◌, append_assoc, append-nil, arith}
+use Rattle.std.proofs.Common.{◌≡◌, ◌+◌, ◌<◌, ◌≤◌, ℕ, List, [], ◌∷◌, ◌++◌, length, take, get_or, Bool, true, false, Result, Ok, Err, OnOk, OnErr, is_err, refl, sym, ap, ◌∙◌, append_assoc, append-nil, map-id, arith}
+use Rattle.std.specs.List.{flat_map, range_with_len}
 use Rattle.std.proofs.lemmas.Bool.{false≢true}
+use Rattle.std.proofs.lemmas.List.{take_more}
+use Rattle.std.proofs.lemmas.List.Concat.{flat_map-append}
+use Rattle.std.proofs.lemmas.List.FromFn.{map-range_with_len_more}
 use Rattle.line_io.specs.SinkView.{SinkView, PutsAll, PutsPrefix, WritesText}
 use Rattle.line_io.specs.Faults.{Rose}
-use Rattle.line_io.specs.Outgoing.{Stream, Pushed}
+use Rattle.line_io.specs.Outgoing.{Pending, Stream, Pushed, stream, emptied}
 use Rattle.line_io.proofs.WrittenLemmas.{puts_none, puts_all_after}
 
 -- a count that rose stays risen
@@ -50,6 +54,11 @@ pub pushed_after : {a b c : Stream} {xs ys : List ℕ} → Pushed a b xs → Pus
 pushed_after {a} {b} {c} {xs} {ys} p q =
     let by_case : (v : Bool) → b.failed ≡ v → Pushed a c (xs ++ ys) = λ v. elim v as (λ w. b.failed ≡ w → Pushed a c (xs ++ ys)) [ true ↦ pushed_after_fault p q | false ↦ pushed_after_well p q ] in
     by_case b.failed refl
+
+infixr 10 ◌⨟◌
+-- parts one after another, as they are given
+pub ◌⨟◌ : {a b c : Stream} {xs ys : List ℕ} → Pushed a b xs → Pushed b c ys → Pushed a c (xs ++ ys)
+p ⨟ q = pushed_after p q
 
 -- nothing was given, and nothing happened
 pub pushed_none : (a : Stream) → Pushed a a []
@@ -157,3 +166,26 @@ pushed_part {c} sink pending part held failed is sent =
     rw is (pushed_held sink pending part failed)
     in
     pushed_then_none {b = between} holds sent
+
+-- the part of each number from a on up to j, and that of j
+parts_more : (f : ℕ → List ℕ) (a n j : ℕ) → a + n ≡ j → flat_map f (range_with_len a (n + 1)) ≡ flat_map f (range_with_len a n) ++ f j
+parts_more f a n j at =
+    ap (flat_map f) (sym (map-id _) ∙ map-range_with_len_more (λ k. k) a n j at ∙ ap (λ l. l ++ j ∷ []) (map-id _))
+    ∙ flat_map-append f (range_with_len a n) (j ∷ [])
+    ∙ ap (λ l. flat_map f (range_with_len a n) ++ l) (append-nil (f j))
+
+pub pushed_next : {a b c : Stream} (f : ℕ → List ℕ) (from n j : ℕ) → from + n ≡ j → Pushed a b (flat_map f (range_with_len from n)) → Pushed b c (f j) → Pushed a c (flat_map f (range_with_len from (n + 1)))
+pushed_next f from n j at before now = rw (parts_more f from n j at) (before ⨟ now)
+
+-- the part of each of a list's first elements, and that of the next one
+pub pushed_element : {X : Type 0} {a b c : Stream} (f : X → List ℕ) (xs : List X) (i : ℕ) (d : X) → i < length xs → Pushed a b (flat_map f (take i xs)) → Pushed b c (f (get_or xs i d)) → Pushed a c (flat_map f (take (i + 1) xs))
+pushed_element f xs i d below before now =
+    let x = get_or xs i d in
+    let more : flat_map f (take (i + 1) xs) ≡ flat_map f (take i xs) ++ f x =
+    ap (flat_map f) (take_more xs i d below) ∙ flat_map-append f (take i xs) (x ∷ []) ∙ ap (λ l. flat_map f (take i xs) ++ l) (append-nil (f x)) in
+    rw more (before ⨟ now)
+
+-- a text is written, where nothing waited before it and all that waits is sent after it
+pub text_written : {T E : Type 0} {out : Pending} {old : SinkView} {b : Stream} {text : List ℕ} (new : SinkView) (r : Result T E) → out ≡ emptied false → Pushed (stream old out) b text → Pushed b (stream new (emptied (is_err r))) [] → WritesText old new text r
+text_written new r empty pushed sent =
+    writes_text new r (ap (λ (o : Pending). o.bytes) empty) (ap (λ (o : Pending). o.failed) empty) pushed sent

@@ -4,10 +4,12 @@ pub mod Contents
 pub mod FailPlans
 pub mod Faults
 pub mod Held
+pub mod HostFiles
 pub mod Left
 pub mod Machine
 pub mod Memory
 pub mod Outgoing
+pub mod RawFiles
 pub mod RawOut
 pub mod SinkView
 pub mod StoreView

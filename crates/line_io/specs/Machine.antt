@@ -1,26 +1,23 @@
--- What a store and a sink over the machine show, and what they go through. `FileStore` stands here with the types of its runtime.
-use Rattle.std.specs.Prelude.{None, List}
+-- What a store and a sink over the machine show, and what they go through.
+use Rattle.std.specs.Prelude.{ℕ, List}
+use Rattle.line_io.specs.RawFiles.{FilesView, named_files}
 use Rattle.line_io.specs.RawOut.{OutCall, std_view}
 use Rattle.line_io.specs.SinkView.{SinkView}
 use Rattle.line_io.specs.StoreView.{StoreView}
 use Rattle.line_io.specs.Noted.{asked_of}
-use Rattle.line_io.specs.declared.file_store.FileStore.{FileStore}
+use Rattle.line_io.specs.declared.calls.Calls.{Calls}
 use Rattle.line_io.specs.declared.raw_out.HostOut.{HostOut}
 use Rattle.line_io.specs.declared.std_sink.StdSink.{StdSink}
 
--- what a store of the machine's files shows: no contents, and one count of faults for every name and both kinds of call
-abbrev pub file_view : {R F E : Type 0} → FileStore R F E → StoreView
-file_view store = record {
-  files = λ _. None;
-  read_faults = λ _. store.faults;
-  write_faults = λ _. store.faults;
-  taken = store.taken;
-  asked = asked_of store.calls;
+-- what a store over the machine's own calls shows, with one count of faults for every name and both kinds of call
+abbrev pub file_view : FilesView → (faults taken : ℕ) → Calls → StoreView
+file_view files faults taken calls = record {
+  files = named_files files;
+  read_faults = λ _. faults;
+  write_faults = λ _. faults;
+  taken = taken;
+  asked = asked_of calls;
 }
-
--- the runtime that opens the files
-abbrev pub file_opener : {R F E : Type 0} → FileStore R F E → R
-file_opener store = store.rt
 
 -- the calls of standard output, with their answers
 abbrev pub out_calls : {P : Type 0} → HostOut P → List OutCall

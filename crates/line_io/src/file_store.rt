@@ -1,212 +1,159 @@
-ghost use Rattle.std.specs.Prelude.{◌≡◌, ◌<◌, ◌≤◌, ◌↔◌, ◌+◌, ◌-◌, ◌^◌, min, length, Ok, IfOk, IfSome, IfErr, OnOk, OnErr, IsErrOf};
+ghost use Rattle.std.specs.Prelude.{◌≡◌, ◌<◌, ◌≤◌, ◌↔◌, ◌+◌, Some, false, length, string_bytes, is_ok, IsTrue, IfOk, OnOk, OnErr, IsErrOf};
+ghost use Rattle.line_io.specs.Calls.{after_read, after_write, bytes_of};
+ghost use Rattle.line_io.specs.Contents.{SameFiles, OthersStay, IsTorn, IsLongerThan};
 ghost use Rattle.line_io.specs.Faults.{Rose};
+ghost use Rattle.line_io.specs.Machine.{file_view};
+ghost use Rattle.line_io.specs.Noted.{asked_of};
+ghost use Rattle.line_io.specs.RawFiles.{Asks, AsksToRead, AsksToWrite, SameHeld, SameNamed, Named, empties, given_by, named_files, spare_of};
 
 use crate::calls::Calls;
+use crate::faults::counted;
+use crate::file_reading::read_file;
+use crate::file_writing::write_file;
+use crate::raw_files::{HostFiles, RawFiles};
 use crate::store::{Store, StoreError};
 use std::alloc::{AllocError, Global};
-use std::fs::{OpenFile, OpenOptions};
-use std::io::{ErrorKind, Read, Write};
 use std::rt::Files;
-use std::{fs, io};
 
-/// The most bytes that one turn of reading asks for.
-const MAX_TURN: usize = 16_384;
-
-/// What stands behind the name of a file in the name of the file beside it.
+/// What stands behind the name of a file in the name of the spare file beside it.
 const BESIDE: &str = ".new";
 
-/// The files of the machine, by their paths from the folder in which the program runs. What they
-/// hold is told only of what was read, and one count of faults serves every name and both kinds of call. A file is written
-/// beside the named one, synced, and renamed over it, so that a fault or a crash leaves the old one or the new one whole; where
-/// no file can be made in that folder, or the name is a link or a device, it is written in its place.
+/// Files as a store, over the machine's own calls. One count of faults serves every name and both kinds of call. A file is
+/// written beside the named one, synced, and renamed over it, so that a fault or a crash leaves the old one or the new one
+/// whole; where no file can be made in that folder, or the name is a link or a device, it is written in its place.
 #[derive(Drop)]
-pub struct FileStore<R: Files + AllocGlobal + Drop> {
-    rt: R,
+pub struct FileStore<F: RawFiles + Drop> {
+    files: F,
+    alloc: Global,
     faults: u64,
     taken: u64,
     calls: Calls,
 }
 
-impl<R: Files + AllocGlobal + Drop> FileStore<R> {
-    ghost use Rattle.line_io.specs.Machine.{file_opener, file_view};
+impl<F: RawFiles + Drop> FileStore<F> {
     ghost use Rattle.line_io.specs.StoreView.{IsUnused};
 
-    /// The runtime that opens files, or a reference to it.
-    pub fn new(rt: R) -> Self
-        ensures opens { file_opener result ≡ rt }
-        ensures unused { IsUnused (file_view result) }
+    /// The machine's own calls as a store of which nothing was asked. Names are put together in memory of this allocator.
+    pub fn over(alloc: Global, files: F) -> Self
+        ensures files { result.files ≡ files }
+        ensures unused { IsUnused (file_view (F.shown result.files) result.faults result.taken result.calls) }
     {
         FileStore {
-            rt,
+            files,
+            alloc,
             faults: 0,
             taken: 0,
             calls: Calls::new(),
         }
     }
+
+    /// The machine's own calls below the store.
+    pub fn files(&self) -> &F
+        ensures { result.now ≡ self.now.files }
+    {
+        &self.files
+    }
 }
 
-/// The answer of the machine, where each error is a fault that is counted.
-fn counted<T: Drop>(answer: io::Result<T>, faults: &mut u64) -> Result<T, StoreError>
-    ensures same { IfOk result (λ value. answer ≡ Ok value) }
-    ensures failed { IfErr result (λ error. error ≡ StoreError.Failed) }
-    ensures stays { OnOk result (faults.new ≡ faults.old) }
-    ensures stays_or_rises { faults.old ≤ faults.new }
-    ensures rises { OnErr result (faults.new ≡ min (faults.old + 1) (2 ^ 64 - 1)) }
+impl<R: Files + AllocGlobal + Drop> FileStore<HostFiles<R>> {
+    ghost use Rattle.std.specs.Prelude.{[], None};
+    ghost use Rattle.line_io.specs.HostFiles.{files_calls, host_files_view};
+    ghost use Rattle.line_io.specs.StoreView.{IsUnused};
+
+    /// The files of the machine as a store: the runtime that opens files, or a reference to it.
+    pub fn new(rt: R) -> Self
+        ensures opens { result.files.rt ≡ rt }
+        ensures not_open { result.files.file ≡ None }
+        ensures nothing_asked { files_calls result.files.calls ≡ [] }
+        ensures unused { IsUnused (file_view (host_files_view result.files.file result.files.calls)
+            result.faults result.taken result.calls) }
+    {
+        FileStore::over(rt.alloc(), HostFiles::new(rt))
+    }
+}
+
+/// The name of the spare file beside a file.
+fn spare_name(alloc: Global, name: &str) -> Result<String, AllocError>
+    ensures { IfOk result (λ spare. string_bytes spare ≡ spare_of name.now) }
 {
-    match answer {
-        Ok(value) => Ok(value),
-        Err(_) => {
-            *faults = faults.saturating_add(1);
-            Err(StoreError::Failed)
-        }
-    }
+    let mut spare = String::from_str(alloc, name)?;
+    spare.push_str(BESIDE)?;
+    Ok(spare)
 }
 
-/// Reads to the end, to an error, or until limit + 1 bytes were taken, and counts the bytes taken. The bytes are all that
-/// the reader had left.
-fn read_to_limit<R: Read>(
-    alloc: Global,
-    file: &mut R,
-    limit: u64,
-    taken: &mut u64,
-    faults: &mut u64,
-) -> Result<Vec<u8>, StoreError>
-    requires { taken.old ≡ 0 }
-    ensures bytes { IfOk result (λ v. IfSome (R.remaining file.old) (λ left. v.items ≡ left)) }
-    ensures within_limit { IfOk result (λ v. length v.items ≤ limit) }
-    ensures took_them { IfOk result (λ v. taken.new ≡ length v.items) }
-    ensures too_long { IsErrOf result StoreError.TooLong ↔ (limit < taken.new) }
-    ensures one_more_at_most { taken.new ≤ limit + 1 }
-    ensures cause { IsErrOf result StoreError.Failed → Rose faults.old faults.new }
-    ensures stays { OnOk result (faults.new ≡ faults.old) }
-    ensures once { faults.new ≤ faults.old + 1 }
-    ensures memory_is_no_fault { IsErrOf result StoreError.NoMemory → faults.new ≡ faults.old }
-    ensures faults_stay_or_rise { faults.old ≤ faults.new }
-{
-    let mut bytes = Vec::new(alloc);
-    let mut buffer = [0; MAX_TURN];
-    loop {
-        let left = limit - bytes.len() as u64;
-        let most = left.saturating_add(1).min(MAX_TURN as u64) as usize;
-        let count = counted(file.read(&mut buffer[..most]), faults)?;
-        if count == 0 {
-            return Ok(bytes);
-        }
-        *taken += count as u64;
-        if count as u64 > left {
-            return Err(StoreError::TooLong);
-        }
-        bytes.extend_from_slice(&buffer[..count])?;
-    }
-}
+impl<F: RawFiles + Drop> Store for FileStore<F> {
+    ghost tells = { F.tells };
 
-/// Writes to a file that is empty, and syncs it.
-fn fill_file<F: Write + OpenFile>(file: &mut F, bytes: &[u8]) -> io::Result<()> {
-    file.write_all(bytes)?;
-    file.sync_all()
-}
+    ghost shown = { λ store. file_view (F.shown store.files) store.faults store.taken store.calls };
 
-/// Writes over a file in its place. What it held is gone where this fails.
-fn write_in_place<R: Files>(rt: &R, name: &str, bytes: &[u8]) -> io::Result<()> {
-    let mut file = fs::create(rt, name)?;
-    fill_file(&mut file, bytes)
-}
-
-/// Makes an empty file where there is none, or where one is left of a run that was broken off.
-fn make_anew<R: Files>(rt: &R, name: &str) -> io::Result<R::File> {
-    let _ = rt.remove_file(name);
-    OpenOptions::new()
-        .write(true)
-        .create_new(true)
-        .open(rt, name)
-}
-
-/// Whether nothing stands at a name, or a plain file, so that another file may take its place.
-fn may_be_replaced<R: Files>(rt: &R, name: &str) -> bool {
-    match rt.symlink_metadata(name) {
-        Ok(found) => found.is_file(),
-        Err(error) => error.kind() == ErrorKind::NotFound,
-    }
-}
-
-/// Whether no file can be made in that folder, while one that is there may be writable.
-fn bars_new_files(kind: ErrorKind) -> bool {
-    matches!(
-        kind,
-        ErrorKind::PermissionDenied | ErrorKind::ReadOnlyFilesystem | ErrorKind::InvalidFilename
-    )
-}
-
-/// Writes the file beside a file, syncs it, and gives it the name. Where this fails the named file is as it was.
-fn write_beside<R: Files>(
-    rt: &R,
-    file: &mut R::File,
-    beside: &str,
-    name: &str,
-    bytes: &[u8],
-) -> io::Result<()> {
-    let answer = match fill_file(file, bytes) {
-        Ok(()) => rt.rename(beside, name),
-        Err(error) => Err(error),
-    };
-    if answer.is_err() {
-        let _ = rt.remove_file(beside);
-    }
-    answer
-}
-
-/// Writes a file: beside it where that can be, else in its place.
-fn write_file<R: Files>(rt: &R, name: &str, beside: &str, bytes: &[u8]) -> io::Result<()> {
-    if !may_be_replaced(rt, name) {
-        return write_in_place(rt, name, bytes);
-    }
-    match make_anew(rt, beside) {
-        Ok(mut file) => write_beside(rt, &mut file, beside, name, bytes),
-        Err(error) if bars_new_files(error.kind()) => write_in_place(rt, name, bytes),
-        Err(error) => Err(error),
-    }
-}
-
-/// The name of the file beside a file.
-fn beside_of(alloc: Global, name: &str) -> Result<String, AllocError> {
-    let mut beside = String::from_str(alloc, name)?;
-    beside.push_str(BESIDE)?;
-    Ok(beside)
-}
-
-impl<R: Files + AllocGlobal + Drop> Store for FileStore<R> {
-    ghost use Rattle.std.specs.Prelude.{false};
-    ghost use Rattle.line_io.specs.Machine.{file_view};
-
-    ghost tells = { false };
-
-    ghost shown = { file_view };
-
-    fn read(&mut self, alloc: Global, name: &str, limit: u64) -> Result<Vec<u8>, StoreError> {
+    fn read(&mut self, alloc: Global, name: &str, limit: u64) -> Result<Vec<u8>, StoreError>
+        ensures asks { Asks (F.shown self.old.files) (F.shown self.new.files) (λ calls.
+            AsksToRead name.now limit calls (bytes_of result) × (self.new.taken ≡ length (given_by calls))) }
+        ensures closed { (F.shown self.new.files).is_open ≡ false }
+        ensures told { asked_of self.new.calls ≡ after_read (asked_of self.old.calls) name.now result }
+        ensures bytes { IfOk result (λ v. IsTrue F.tells
+            → named_files (F.shown self.old.files) name.now ≡ Some v.items) }
+        ensures within_limit { IfOk result (λ v. length v.items ≤ limit) }
+        ensures took_them { IfOk result (λ v. self.new.taken ≡ length v.items) }
+        ensures too_long { IsErrOf result StoreError.TooLong ↔ (limit < self.new.taken) }
+        ensures one_more_at_most { self.new.taken ≤ limit + 1 }
+        ensures longer { IsErrOf result StoreError.TooLong → IsTrue F.tells
+            → IsLongerThan limit (named_files (F.shown self.old.files) name.now) }
+        ensures cause { IsErrOf result StoreError.Failed → Rose self.old.faults self.new.faults }
+        ensures files_stay { SameHeld F.tells (F.shown self.old.files) (F.shown self.new.files) }
+        ensures faults_stay { OnOk result (self.new.faults ≡ self.old.faults) }
+        ensures faults_stay_or_rise { self.old.faults ≤ self.new.faults }
+        ensures faults_rise_by_one { self.new.faults ≤ self.old.faults + 1 }
+        ensures memory_is_no_fault { IsErrOf result StoreError.NoMemory → self.new.faults ≡ self.old.faults }
+    {
         self.taken = 0;
-        match counted(fs::open(&self.rt, name), &mut self.faults) {
-            Ok(mut file) => {
-                let answer = read_to_limit(
-                    alloc,
-                    &mut file,
-                    limit,
-                    &mut self.taken,
-                    &mut self.faults,
-                );
-                self.calls.note_read(name, answer)
-            }
-            Err(error) => self.calls.note_read(name, Err(error)),
-        }
+        let answer = read_file(
+            alloc,
+            &mut self.files,
+            name,
+            limit,
+            &mut self.taken,
+            &mut self.faults,
+        );
+        self.files.close();
+        self.calls.note_read(name, answer)
     }
 
-    fn write(&mut self, name: &str, bytes: &[u8]) -> Result<(), StoreError> {
-        let answer = match beside_of(self.rt.alloc(), name) {
-            Ok(beside) => counted(
-                write_file(&self.rt, name, beside.as_str(), bytes),
+    fn write(&mut self, name: &str, bytes: &[u8]) -> Result<(), StoreError>
+        ensures asks { ¬ (IsErrOf result StoreError.NoMemory)
+            → Asks (F.shown self.old.files) (F.shown self.new.files) (λ calls.
+            AsksToWrite (spare_of name.now) name.now bytes.now calls (is_ok result)
+            × (empties calls ≡ false → OnErr result
+            (SameNamed F.tells (F.shown self.old.files) (F.shown self.new.files)))) }
+        ensures asks_nothing { IsErrOf result StoreError.NoMemory
+            → (F.shown self.new.files).asked ≡ (F.shown self.old.files).asked }
+        ensures closed { (F.shown self.new.files).is_open ≡ false }
+        ensures told { asked_of self.new.calls ≡ after_write (asked_of self.old.calls) name.now bytes.now result }
+        ensures written { OnOk result (IsTrue F.tells
+            → named_files (F.shown self.new.files) name.now ≡ Some bytes.now) }
+        ensures others_stay { OthersStay F.tells (named_files (F.shown self.old.files))
+            (named_files (F.shown self.new.files)) name.now }
+        ensures torn { IsErrOf result StoreError.Failed → IsTrue F.tells
+            → IsTorn (named_files (F.shown self.old.files) name.now)
+            (named_files (F.shown self.new.files) name.now) bytes.now }
+        ensures no_memory { IsErrOf result StoreError.NoMemory
+            → SameFiles F.tells (named_files (F.shown self.old.files)) (named_files (F.shown self.new.files)) }
+        ensures never_too_long { ¬ (IsErrOf result StoreError.TooLong) }
+        ensures cause { IsErrOf result StoreError.Failed → Rose self.old.faults self.new.faults }
+        ensures taken_stays { self.new.taken ≡ self.old.taken }
+        ensures faults_stay { OnOk result (self.new.faults ≡ self.old.faults) }
+        ensures faults_stay_or_rise { self.old.faults ≤ self.new.faults }
+        ensures faults_rise_by_one { self.new.faults ≤ self.old.faults + 1 }
+        ensures memory_is_no_fault { IsErrOf result StoreError.NoMemory → self.new.faults ≡ self.old.faults }
+    {
+        let answer = match spare_name(self.alloc, name) {
+            Ok(spare) => counted(
+                write_file(&mut self.files, spare.as_str(), name, bytes),
                 &mut self.faults,
             ),
             Err(_) => Err(StoreError::NoMemory),
         };
+        self.files.close();
         self.calls.note_write(name, bytes, answer)
     }
 }

@@ -166,7 +166,7 @@ fn give(alloc: Global, files: &mut Files, name: &str, bytes: &[u8]) -> Result<()
     Ok(set_file(alloc, files, name, bytes)?)
 }
 
-/// A write that fails, which is noted, and leaves so many of the bytes, or with none given the file as it was.
+/// A write that fails, which is noted, and leaves this many of the bytes, or with none given the file as it was.
 fn break_off(
     alloc: Global,
     files: &mut Files,

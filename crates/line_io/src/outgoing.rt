@@ -1,7 +1,7 @@
-ghost use Rattle.std.specs.Prelude.{◌≡◌, ◌+◌, ◌≤◌, ◌<◌, ◌++◌, [], false, length, decimal, is_err, IfOk};
+ghost use Rattle.std.specs.Prelude.{◌≡◌, ◌+◌, ◌≤◌, ◌<◌, ◌++◌, [], false, length, take, decimal, is_err, IfOk};
 ghost use Rattle.line_io.specs.Outgoing.{Pushed, stream, emptied, waiting, last_two_numbers};
 
-use crate::piece_buffer::{MAX_OVER, PieceBuffer};
+use crate::piece_buffer::{PieceBuffer, ROOM};
 use crate::pieces::put_all;
 use crate::sink::{Failed, MAX_PIECE, Sink};
 use itoa::Buffer;
@@ -43,6 +43,15 @@ fn send_full<K: Sink>(buffer: &mut PieceBuffer, failed: bool, sink: &mut K) -> b
     failed
 }
 
+/// Sends a whole piece, unless the sink has failed, and answers whether it has failed now.
+fn send_piece<K: Sink>(piece: &[u8], failed: bool, sink: &mut K) -> bool
+    requires { length piece.now ≡ MAX_PIECE }
+    ensures { Pushed (stream (K.shown sink.old) (waiting piece.now failed))
+        (stream (K.shown sink.new) (emptied result)) [] }
+{
+    failed || sink.put(piece).is_err()
+}
+
 impl Outgoing {
     /// An empty buffer, with the room of a piece. The other calls take no memory.
     pub fn new(alloc: Global) -> Result<Outgoing, AllocError>
@@ -54,9 +63,9 @@ impl Outgoing {
         })
     }
 
-    /// Gives a short part to the sink.
+    /// Gives a part to the sink that there is room for.
     fn push_part<K: Sink>(&mut self, sink: &mut K, part: &[u8])
-        requires { length part.now ≤ MAX_OVER }
+        requires { length self.old.bytes + length part.now ≤ ROOM }
         ensures { Pushed (stream (K.shown sink.old) self.old)
             (stream (K.shown sink.new) self.new) part.now }
     {
@@ -64,15 +73,44 @@ impl Outgoing {
         self.failed = send_full(&mut self.buffer, self.failed, sink);
     }
 
-    /// Gives bytes to the sink, part by part.
-    fn push_parts<K: Sink>(&mut self, sink: &mut K, bytes: &[u8])
+    /// Gives a whole piece to the sink from where it stands, as nothing waits before it.
+    fn push_piece<K: Sink>(&mut self, sink: &mut K, piece: &[u8])
+        requires none_waits { self.old.bytes ≡ [] }
+        requires whole { length piece.now ≡ MAX_PIECE }
+        ensures { Pushed (stream (K.shown sink.old) self.old)
+            (stream (K.shown sink.new) self.new) piece.now }
+    {
+        self.failed = send_piece(piece, self.failed, sink);
+    }
+
+    /// Gives the front of bytes to the sink, and answers how many these are: a whole piece where nothing waits, else what
+    /// the piece lacks that waits.
+    fn push_front<K: Sink>(&mut self, sink: &mut K, bytes: &[u8]) -> usize
+        requires { 0 < length bytes.now }
+        ensures some { 0 < result }
+        ensures few { result ≤ length bytes.now }
+        ensures pushed { Pushed (stream (K.shown sink.old) self.old)
+            (stream (K.shown sink.new) self.new) (take result bytes.now) }
+    {
+        let waits = self.buffer.len();
+        if waits == 0 && bytes.len() >= MAX_PIECE {
+            self.push_piece(sink, &bytes[..MAX_PIECE]);
+            return MAX_PIECE;
+        }
+        let count = bytes.len().min(MAX_PIECE - waits);
+        self.push_part(sink, &bytes[..count]);
+        count
+    }
+
+    /// Gives bytes to the sink, front by front.
+    fn push_long<K: Sink>(&mut self, sink: &mut K, bytes: &[u8])
         ensures { Pushed (stream (K.shown sink.old) self.old)
             (stream (K.shown sink.new) self.new) bytes.now }
     {
         let mut rest = bytes;
         while !rest.is_empty() {
-            let (now, later) = rest.split_at(rest.len().min(MAX_OVER));
-            self.push_part(sink, now);
+            let count = self.push_front(sink, rest);
+            let (_, later) = rest.split_at(count);
             rest = later;
         }
     }
@@ -82,10 +120,10 @@ impl Outgoing {
         ensures { Pushed (stream (K.shown sink.old) self.old)
             (stream (K.shown sink.new) self.new) bytes.now }
     {
-        if bytes.len() <= MAX_OVER {
+        if bytes.len() <= ROOM - self.buffer.len() {
             self.push_part(sink, bytes);
         } else {
-            self.push_parts(sink, bytes);
+            self.push_long(sink, bytes);
         }
     }
 

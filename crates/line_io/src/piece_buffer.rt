@@ -8,13 +8,13 @@ use std::alloc::{AllocError, Global};
 use std::marker::Model;
 
 /// How far a part may go over the end of a piece.
-pub const MAX_OVER: usize = 64;
+const MAX_OVER: usize = 64;
 
 /// The most digits of a number of 64 bits.
 const MAX_DIGITS: usize = 20;
 
-/// The bytes that a buffer has room for.
-const ROOM: usize = MAX_PIECE + MAX_OVER;
+/// The bytes that a buffer has room for: a piece, and what a part may have over its end.
+pub const ROOM: usize = MAX_PIECE + MAX_OVER;
 
 /// A buffer of one piece and of what a part may have over its end. Contracts see the bytes that wait in it.
 #[derive(Drop)]

@@ -1,3 +1,5 @@
 mod Examples
 pub mod Lines
+pub mod Portions
 pub mod SameReports
+pub mod Starts

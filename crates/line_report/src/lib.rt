@@ -3,7 +3,10 @@
 
 mod dates;
 mod laws;
+mod line_end;
+mod line_start;
 mod observed;
+mod portion;
 mod report;
 mod run;
 mod summary;
@@ -11,3 +14,4 @@ mod totals;
 
 pub use laws::schedules_agree;
 pub use report::Report;
+pub use totals::write_bound;

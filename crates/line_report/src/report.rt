@@ -1,4 +1,4 @@
-ghost use Rattle.std.specs.Prelude.{◌≡◌, IfOk};
+ghost use Rattle.std.specs.Prelude.{◌≡◌, ◌<◌, IfOk, length};
 ghost use Rattle.event_graph.specs.Table.{date_in};
 ghost use Rattle.line_io.specs.Outgoing.{Pushed, stream};
 ghost use Rattle.line_io.specs.SinkView.{WritesText};
@@ -8,6 +8,7 @@ ghost use Rattle.line_report.specs.SummaryText.{summary};
 
 use crate::dates::write_dates;
 use crate::observed::write_observed;
+use crate::portion::Portion;
 use crate::run::FinishedRun;
 use crate::summary::{write_sizes, write_sum};
 use crate::totals::write_end;
@@ -17,16 +18,19 @@ use live_check::Live;
 use plant_model::{LineNumbers, Plant};
 use std::alloc::{AllocError, Global};
 use std::marker::Model;
+use std::thread::Threads;
 
 /// The report of a finished run of a plant, and the memory for writing it. Contracts see the plant and the dates.
 #[derive(Drop)]
 pub struct Report {
     run: FinishedRun,
     out: Outgoing,
+    // One for each worker.
+    portions: Vec<Portion>,
 }
 
 impl Model for Report {
-    ghost use Rattle.std.specs.Prelude.{◌≡◌, false};
+    ghost use Rattle.std.specs.Prelude.{◌≡◌, ◌<◌, false, length};
     ghost use Rattle.line_core.specs.Run.{IsLeastTable};
     ghost use Rattle.line_io.specs.Outgoing.{emptied};
     ghost use Rattle.line_report.specs.Reported.{Reported, AreOfPlant};
@@ -36,16 +40,24 @@ impl Model for Report {
     ghost view = { λ r. record { plant = r.run.plant; rows = r.run.table.rows } };
 
     ghost invariant = { λ r. AreOfPlant r.run.plant r.run.live r.run.table × IsLeastTable r.run.table
-        × (r.out ≡ emptied false) × (r.run.numbers ≡ r.run.plant) };
+        × (r.out ≡ emptied false) × (r.run.numbers ≡ r.run.plant) × (0 < length r.portions.items) };
 }
 
 /// Writes the whole text of a report.
-fn write_text<K: Sink>(out: &mut Outgoing, sink: &mut K, run: &FinishedRun)
-    requires { IsOfRun run.now }
-    ensures { Pushed (stream (K.shown sink.old) out.old)
+fn write_text<R: Threads + Sync, K: Sink>(
+    rt: &R,
+    out: &mut Outgoing,
+    sink: &mut K,
+    run: &FinishedRun,
+    portions: &mut [Portion],
+)
+    requires run { IsOfRun run.now }
+    requires some { 0 < length portions.old }
+    ensures number { length portions.new ≡ length portions.old }
+    ensures text { Pushed (stream (K.shown sink.old) out.old)
         (stream (K.shown sink.new) out.new) (report run.now.plant (date_in run.now.table.rows)) }
 {
-    write_dates(out, sink, run.live.graph(), &run.table);
+    write_dates(rt, out, sink, run.live.graph(), &run.table, portions);
     write_observed(out, sink, run);
     write_end(out, sink, run);
 }
@@ -61,10 +73,29 @@ fn write_short_text<K: Sink>(out: &mut Outgoing, sink: &mut K, run: &FinishedRun
     write_end(out, sink, run);
 }
 
+/// A portion for each worker, and one at least.
+fn portions_for(alloc: Global, workers: u32) -> Result<Vec<Portion>, AllocError>
+    ensures { IfOk result (λ portions. 0 < length portions.items) }
+{
+    let mut portions = Vec::new(alloc);
+    portions.push(Portion::new(alloc)?)?;
+    for _ in 1..workers {
+        portions.push(Portion::new(alloc)?)?;
+    }
+    Ok(portions)
+}
+
 impl Report {
-    /// The report of a sound plant, its live graph, and a table of that graph. It takes all memory that writing takes: the
-    /// numbers of the stations, and room for one piece of the text.
-    pub fn new(alloc: Global, plant: Plant, live: Live, table: Table) -> Result<Report, AllocError>
+    /// The report of a sound plant, its live graph, and a table of that graph, to be written by as many workers, which are
+    /// one at least. It takes all memory that writing takes: the numbers of the stations, room for one piece of the text,
+    /// and for each worker 256 KiB.
+    pub fn new(
+        alloc: Global,
+        plant: Plant,
+        live: Live,
+        table: Table,
+        workers: u32,
+    ) -> Result<Report, AllocError>
         requires { AreOfPlant plant live table }
         ensures plant { IfOk result (λ report. report.plant ≡ plant) }
         ensures dates { IfOk result (λ report. report.rows ≡ table.rows) }
@@ -81,18 +112,19 @@ impl Report {
         Ok(Report {
             run,
             out: Outgoing::new(alloc)?,
+            portions: portions_for(alloc, workers)?,
         })
     }
 
     /// Writes the report to the sink, from its beginning: a line for each station and job, what stands in each stage at
     /// each date that is looked at, the peak of each stage, how long the jobs wait, and the last date. It goes out in
-    /// pieces of 4,096 bytes and a last one that may be shorter. After `Failed` a front of it was written. It takes no
-    /// memory.
-    pub fn write<K: Sink>(&mut self, sink: &mut K) -> Result<(), Failed>
+    /// pieces of 4,096 bytes and a last one that may be shorter. The lines of the dates are formatted by as many threads as
+    /// there are workers, and by one no thread is begun. After `Failed` a front of it was written. It takes no memory.
+    pub fn write<R: Threads + Sync, K: Sink>(&mut self, rt: &R, sink: &mut K) -> Result<(), Failed>
         ensures puts { WritesText (K.shown sink.old) (K.shown sink.new) (report_of self.old) result }
         ensures stays { Stays self.old self.new }
     {
-        write_text(&mut self.out, sink, &self.run);
+        write_text(rt, &mut self.out, sink, &self.run, &mut self.portions);
         self.out.finish(sink)
     }
 

@@ -15,7 +15,7 @@ use line_stats::{last, peak, waiting_total};
 use plant_model::bound_of;
 
 /// Writes the bound of a stage, or that it has none.
-fn write_bound<K: Sink>(out: &mut Outgoing, sink: &mut K, bound: Option<u32>)
+pub fn write_bound<K: Sink>(out: &mut Outgoing, sink: &mut K, bound: Option<u32>)
     ensures { Pushed (stream (K.shown sink.old) out.old)
         (stream (K.shown sink.new) out.new) (bound_word bound) }
 {

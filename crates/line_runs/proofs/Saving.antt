@@ -6,6 +6,8 @@ use Rattle.line_base.specs.declared.event.Parts.{Parts}
 use Rattle.event_graph.specs.Network.{stations}
 use Rattle.live_check.specs.Order.{LiveGraph}
 use Rattle.line_core.specs.Consistent.{fired}
+use Rattle.line_core.specs.Run.{Dates}
+use Rattle.line_worker.specs.Work.{most_sweeps}
 use Rattle.checkpoint.specs.declared.format.Format.TheVariants.{Differences}
 use Rattle.checkpoint.specs.Text.{text}
 use Rattle.line_disk.specs.DiskView.{Image, DiskView, LeavesOnly, held_now}
@@ -13,13 +15,13 @@ use Rattle.line_disk.proofs.Moments.{leaves_on, leaves_also, leaves_here, leaves
 use Rattle.slot_store.specs.Layout.{content}
 use Rattle.slot_store.specs.Crash.{CouldLeave, IsOldOrNew}
 use Rattle.line_workers.specs.Line.{WorkLine, IsLine, run_in}
-use Rattle.line_runs.specs.Bursts.{IsBurst, IsDone}
+use Rattle.line_runs.specs.Bursts.{IsBurst, IsDone, none}
 use Rattle.line_runs.specs.AllFirings.{all_firings}
 use Rattle.line_runs.specs.Headline.{MayBeResumed}
 use Rattle.line_runs.specs.Store.{IsOver}
-use Rattle.line_runs.specs.Saves.{counted_from, IsDue, SavesWhenDue, begins, passes, saves, HoldsLast, IsSavedState, IsOldOrState, IsLateState, HasTooLongState, SavesIfDue}
+use Rattle.line_runs.specs.Saves.{counted_from, IsDue, SavesWhenDue, begins, passes, saves, HoldsLast, IsSavedState, IsOldOrState, IsLateState, HasTooLongState, SavesIfDue, FinishesSaving}
 use Rattle.line_runs.proofs.Firings.{done_is_all, line_is_within}
-use Rattle.line_runs.proofs.Stopping.{burst_live}
+use Rattle.line_runs.proofs.Stopping.{burst_live, HaveLed, led_more, bursts_made}
 use Rattle.line_runs.proofs.Resumed.{may_be_resumed}
 
 -- ---- the lines at the bursts' ends
@@ -67,6 +69,29 @@ left_before old new burst =
     let same : all_firings new.live.graph ≡ all_firings old.live.graph = ap (λ (v : LiveGraph). all_firings v.graph) (burst_live old new burst) in
     omega (arith, line_is_within new burst.line, burst.some, same)
 
+-- the bursts between, before each of which some firing was left
+pub saves_led : (n : ℕ) (first : WorkLine) (saved : Option WorkLine) (last : WorkLine) → SavesWhenDue n first saved last → HaveLed (all_firings first.live.graph) first last
+saves_led n first saved last begins = record { count = 0; bursts = none }
+saves_led n first saved last (passes old l new before burst not_due) =
+    led_more (all_firings first.live.graph) first l new (saves_led n first old l before)
+    (subst (λ (v : LiveGraph). fired l.state < all_firings v.graph) (saves_live n first old l before) (left_before l new burst)) burst
+saves_led n first saved last (saves old l new before burst due) =
+    led_more (all_firings first.live.graph) first l new (saves_led n first old l before)
+    (subst (λ (v : LiveGraph). fired l.state < all_firings v.graph) (saves_live n first old l before) (left_before l new burst)) burst
+
+pub finishes_saving : (n : ℕ) (first : WorkLine) (saved : Option WorkLine) (last : WorkLine) → SavesWhenDue n first saved last → IsLine last → IsDone last → (d : Dates) → d.rows ≡ last.state.logs → FinishesSaving n first saved d
+finishes_saving n first saved last before is done d dates =
+    let led = saves_led n first saved last before in
+    record {
+      last = last;
+      saves = before;
+      count = led.count;
+      bursts = led.bursts;
+      counts = bursts_made (all_firings first.live.graph) first led.count last led.bursts is;
+      done = done;
+      dates = dates;
+    }
+
 -- ---- the line that was saved last
 
 -- it has firings left, and is of the same graph
@@ -93,7 +118,7 @@ pub stopped_resumes : (l : WorkLine) → IsLine l → fired l.state < all_firing
 stopped_resumes l is left = may_be_resumed (run_in l) is.reached left
 
 -- few firings were made after the last save
-few_after : (n : ℕ) (first : WorkLine) (saved : Option WorkLine) (last : WorkLine) → IsLine first → 1 ≤ n → SavesWhenDue n first saved last → IsDone last → fired first.state < all_firings first.live.graph → all_firings first.live.graph < counted_from first saved + n + 16 * stations first.live.graph
+few_after : (n : ℕ) (first : WorkLine) (saved : Option WorkLine) (last : WorkLine) → IsLine first → 1 ≤ n → SavesWhenDue n first saved last → IsDone last → fired first.state < all_firings first.live.graph → all_firings first.live.graph < counted_from first saved + n + most_sweeps * stations first.live.graph
 few_after n first saved last is some begins done left = absurd (omega (arith, left, done_is_all first is done))
 few_after n first saved last is some (passes old l new before burst not_due) done left =
     let live_l = saves_live n first old l before in
@@ -104,22 +129,22 @@ few_after n first saved last is some (passes old l new before burst not_due) don
 few_after n first saved last is some (saves old l new before burst due) done left =
     absurd (omega (arith, due.not_all, done_is_all new burst.line done))
 
-late_of : (g : Parts) (n room : ℕ) (first : WorkLine) (saved : Option WorkLine) (old new : DiskView) → g ≡ first.live.graph → SavedStopped first saved → HoldsLast room old new saved → all_firings first.live.graph < counted_from first saved + n + 16 * stations first.live.graph → fired first.state + n + 16 * stations g ≤ all_firings g → IsLateState g n room (held_now new)
+late_of : (g : Parts) (n room : ℕ) (first : WorkLine) (saved : Option WorkLine) (old new : DiskView) → g ≡ first.live.graph → SavedStopped first saved → HoldsLast room old new saved → all_firings first.live.graph < counted_from first saved + n + most_sweeps * stations first.live.graph → fired first.state + n + most_sweeps * stations g ≤ all_firings g → IsLateState g n room (held_now new)
 late_of g n room first None old new same stopped holds few many =
-    absurd (omega (arith, few, subst (λ (v : Parts). fired first.state + n + 16 * stations v ≤ all_firings v) same many))
+    absurd (omega (arith, few, subst (λ (v : Parts). fired first.state + n + most_sweeps * stations v ≤ all_firings v) same many))
 late_of g n room first (Some l) old new same stopped holds few many =
     let of_l : l.live.graph ≡ g = ap (λ (v : LiveGraph). v.graph) stopped.live ∙ sym same in
     record {
       state = l.state;
       resumed = subst (λ (v : Parts). MayBeResumed v l.state) of_l (stopped_resumes l stopped.line stopped.not_all);
       saved = subst (λ (v : Parts). HoldsLast room old new (Some (record l { live = record l.live { graph = v } }))) of_l holds;
-      late = subst (λ (v : Parts). all_firings v < fired l.state + n + 16 * stations v) (sym same) few;
+      late = subst (λ (v : Parts). all_firings v < fired l.state + n + most_sweeps * stations v) (sym same) few;
     }
 
-pub late_state : (g : Parts) (n room : ℕ) (first : WorkLine) (saved : Option WorkLine) (last : WorkLine) (old new : DiskView) → g ≡ first.live.graph → IsLine first → 1 ≤ n → SavesWhenDue n first saved last → IsDone last → HoldsLast room old new saved → fired first.state + n + 16 * stations g ≤ all_firings g → IsLateState g n room (held_now new)
+pub late_state : (g : Parts) (n room : ℕ) (first : WorkLine) (saved : Option WorkLine) (last : WorkLine) (old new : DiskView) → g ≡ first.live.graph → IsLine first → 1 ≤ n → SavesWhenDue n first saved last → IsDone last → HoldsLast room old new saved → fired first.state + n + most_sweeps * stations g ≤ all_firings g → IsLateState g n room (held_now new)
 late_state g n room first saved last old new same is some before done holds many =
     let left : fired first.state < all_firings first.live.graph =
-    omega (arith, some, subst (λ (v : Parts). fired first.state + n + 16 * stations v ≤ all_firings v) same many) in
+    omega (arith, some, subst (λ (v : Parts). fired first.state + n + most_sweeps * stations v ≤ all_firings v) same many) in
     late_of g n room first saved old new same (saved_stopped n first saved last before) holds (few_after n first saved last is some before done left) many
 
 -- ---- what a crash leaves
@@ -151,7 +176,7 @@ leaves_saved b c room l is left only =
 
 -- ---- a run on its way
 
--- bursts have led from the first line to this one, with saves on the way; so many firings had the line that was saved last
+-- bursts have led from the first line to this one, with saves on the way; this many firings had the line that was saved last
 pub record SavesOn (tells : Bool) (room n : ℕ) (first last : WorkLine) (count : ℕ) (old now : DiskView) : Type 0 where
   pub saved : Option WorkLine
   pub before : SavesWhenDue n first saved last

@@ -13,7 +13,7 @@ use Rattle.line_runs.specs.declared.error.ResumeError.TheVariants.{DiskFault, No
 use Rattle.line_runs.specs.Resume.{Resumes}
 use Rattle.line_runs.specs.ResumeSlots.{AnswersLoad, of_checkpoint_error, AnswersSaved, ResumesSlots}
 
--- a fault of the disk may be answered to anything, and want of memory too
+-- a fault of the disk may be answered to anything, and out of memory too
 faults_anywhere : (g : Parts) (saved : Option (List ℕ)) → AnswersSaved g saved (Err DiskFault)
 faults_anywhere g None = tt
 faults_anywhere g (Some bytes) = tt

@@ -1,8 +1,8 @@
 -- The theorem on runs, as far as it speaks of event graphs. For every live graph, number of workers
--- and interleaving of their steps: a run comes to the least solution of the graph's equations; or,
--- if it was told to stop before all firings were made, it stands in a state that firings reach, in
+-- and interleaving of their steps: a run ends in the least solution of the graph's equations; or,
+-- if it was asked to stop before all firings were made, it stands in a state that firings reach, in
 -- which every circuit holds its initial number of tokens, and whoever resumes the text of that
--- state comes to the least solution. There is one least solution: `HasOneLeast` of `event_graph`.
+-- state ends in the least solution. There is one least solution: `HasOneLeast` of `event_graph`.
 use Rattle.std.specs.Prelude.{◌≡◌, ℕ, ◌<◌, List, Result, MatchResult}
 use Rattle.line_base.specs.declared.event.Parts.{Parts}
 use Rattle.event_graph.specs.State.{State}

@@ -16,7 +16,7 @@ pub record IsCheckpoint (g : Parts) (bytes : List ℕ) : Type 0 where
   pub reached : Reached g state
   pub text : IsTextOf g state bytes
 
--- to a text of a state that firings reach the one error is want of memory
+-- to a text of a state that firings reach the one error is out of memory
 abbrev pub FailsOnlyFor : Parts → List ℕ → CheckpointError → Type 0
 FailsOnlyFor g bytes error = IsCheckpoint g bytes → error ≡ NoMemory
 

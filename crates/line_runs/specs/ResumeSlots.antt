@@ -12,7 +12,7 @@ use Rattle.line_runs.specs.declared.error.ResumeError.{ResumeError}
 use Rattle.line_runs.specs.declared.error.ResumeError.TheVariants.{NothingSaved, Checkpoint, DiskFault, NoMemory}
 use Rattle.line_runs.specs.Resume.{Resumes}
 
--- what the refusal of a load comes to; a load never finds the content too long
+-- the answer to the refusal of a load; a load never finds the content too long
 abbrev pub AnswersLoad : SlotError → ResumeError → Type 0
 AnswersLoad Slot.NoneSaved error = error ≡ NothingSaved
 AnswersLoad Slot.DiskFault error = error ≡ DiskFault
@@ -29,7 +29,7 @@ of_checkpoint_error (Text.PlaceDate arc token have need) =
     Checkpoint (Text.PlaceDate arc token have need)
 of_checkpoint_error Text.NoMemory = NoMemory
 
--- what is answered where nothing is saved; a fault of the disk and want of memory come before
+-- what is answered where nothing is saved; a fault of the disk and out of memory come before
 abbrev pub AnswersNothing : Result Dates ResumeError → Type 0
 AnswersNothing (Ok d) = ⊥
 AnswersNothing (Err NothingSaved) = ⊤

@@ -6,13 +6,14 @@ use Rattle.event_graph.specs.State.{State}
 use Rattle.event_graph.specs.Reached.{Reached}
 use Rattle.line_core.specs.Consistent.{fired}
 use Rattle.line_core.specs.Run.{Dates}
+use Rattle.line_worker.specs.Work.{most_sweeps}
 use Rattle.line_workers.specs.Line.{WorkLine}
 use Rattle.checkpoint.specs.declared.format.Format.TheVariants.{Differences}
 use Rattle.checkpoint.specs.Text.{text}
 use Rattle.line_disk.specs.DiskView.{Image, DiskView, Held, held_now}
 use Rattle.slot_store.specs.Layout.{content}
 use Rattle.slot_store.specs.Crash.{CouldLeave, IsSaved}
-use Rattle.line_runs.specs.Bursts.{IsBurst, IsDone}
+use Rattle.line_runs.specs.Bursts.{IsBurst, BurstsBelow, HasMade, IsDone}
 use Rattle.line_runs.specs.AllFirings.{all_firings}
 use Rattle.line_runs.specs.Headline.{MayBeResumed}
 use Rattle.line_runs.specs.Store.{IsOver}
@@ -27,8 +28,8 @@ pub record IsDue (n from : ℕ) (l : WorkLine) : Type 0 where
   pub since : from + n ≤ fired l.state
   pub not_all : fired l.state < all_firings l.live.graph
 
--- the line was saved where that was due, and else the disk is untouched; so many firings had the
--- state that was saved last before, and so many has the one that was saved last now
+-- the line was saved where that was due, and else the disk is untouched; this many firings had the
+-- state that was saved last before, and this many has the one that was saved last now
 pub record SavesIfDue (tells : Bool) (room n : ℕ) (l : WorkLine) (before last : ℕ)
     (old new : DiskView) : Type 0 where
   pub due_count : IsDue n before l → last ≡ fired l.state
@@ -59,6 +60,9 @@ pub record FinishesSaving (n : ℕ) (first : WorkLine) (saved : Option WorkLine)
     (d : Dates) : Type 0 where
   pub last : WorkLine
   pub saves : SavesWhenDue n first saved last
+  pub count : ℕ
+  pub bursts : BurstsBelow (all_firings first.live.graph) first count last
+  pub counts : HasMade first last count
   pub done : IsDone last
   pub dates : d.rows ≡ last.state.logs
 
@@ -81,7 +85,7 @@ abbrev pub IsOldOrState : Held → ℕ → Parts → Image → Type 0
 IsOldOrState before room g image =
     CouldLeave before room (content image room) ⊎ IsSavedState g (content image room)
 
--- so many bytes are those of the text of a state that firings reach, and they don't fit into the
+-- this many bytes are those of the text of a state that firings reach, and they don't fit into the
 -- room
 pub record HasTooLongState (g : Parts) (room have : ℕ) : Type 0 where
   pub state : State
@@ -93,4 +97,4 @@ pub record IsLateState (g : Parts) (n : ℕ) (room : ℕ) (held : Held) : Type 0
   pub state : State
   pub resumed : MayBeResumed g state
   pub saved : IsSaved held room (text Differences g state)
-  pub late : all_firings g < fired state + n + 16 * stations g
+  pub late : all_firings g < fired state + n + most_sweeps * stations g

@@ -11,7 +11,7 @@ use Rattle.checkpoint.specs.Text.{text}
 abbrev pub text_of : Run → List ℕ
 text_of r = text Differences r.graph r.state
 
--- the text has so many bytes, and they don't fit into the room
+-- the text has this many bytes, and they don't fit into the room
 pub record IsOver (room have : ℕ) (bytes : List ℕ) : Type 0 where
   pub have_is : have ≡ length bytes
   pub over : room < have

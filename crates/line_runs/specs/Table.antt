@@ -1,4 +1,4 @@
--- What a run comes to that makes all firings.
+-- The answer of a run that makes all firings.
 use Rattle.std.specs.Prelude.{◌≡◌}
 use Rattle.line_base.specs.declared.event.Parts.{Parts}
 use Rattle.event_graph.specs.Table.{date_in}

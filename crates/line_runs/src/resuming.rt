@@ -12,8 +12,8 @@ use live_check::Live;
 use std::alloc::Global;
 use std::thread::Threads;
 
-/// The line of so many workers that stands for the state whose text these bytes are. Every error
-/// but want of memory is the first thing that is wrong with the bytes, and comes exactly where they
+/// The line of this many workers that stands for the state whose text these bytes are. Every error
+/// but out of memory is the first thing that is wrong with the bytes, and comes exactly where they
 /// are a text of no state that firings reach.
 pub fn line_of_text(
     alloc: Global,
@@ -39,7 +39,7 @@ pub fn line_of_text(
     }
 }
 
-/// Goes on from the text of a state, with so many workers, until every station has fired once for
+/// Goes on from the text of a state, with this many workers, until every station has fired once for
 /// each job. The table is the least solution of the graph, the same as that of a run that never
 /// stopped.
 pub fn resume<R: Threads + Sync, G: Gate>(

@@ -1,5 +1,7 @@
 ghost use Rattle.std.specs.Prelude.{◌≡◌};
 ghost use Rattle.line_runs.specs.Bursts.{IsBurst, IsDone};
+ghost use Rattle.line_runs.specs.AllFirings.{all_firings};
+ghost use Rattle.line_runs.specs.Stop.{FinishesBefore};
 ghost use Rattle.line_runs.specs.Table.{IsLeastOf};
 
 use line_core::Table;
@@ -29,11 +31,15 @@ pub(crate) fn table_of(live: &Live, line: Line) -> Table
 }
 
 /// Lets a line work, burst by burst, until every station has fired once for each job. The table
-/// that it comes to is the least solution of its graph, whatever the number of workers and whatever
+/// that it answers is the least solution of its graph, whatever the number of workers and whatever
 /// their threads do. It takes no memory.
+///
+/// It makes at most one burst for each station and job. One worker whose stations have fired as often
+/// as each other, as at the start, makes a firing with every step.
 pub fn run_to_end<R: Threads + Sync, G: Gate>(rt: &R, live: &Live, line: Line, gate: &G) -> Table
     requires { live.now ≡ line.live }
-    ensures { IsLeastOf live.now.graph result }
+    ensures least { IsLeastOf live.now.graph result }
+    ensures bursts { FinishesBefore (all_firings live.now.graph) line result }
 {
     let mut line = line;
     while !line.finished() {

@@ -8,6 +8,7 @@ ghost use Rattle.line_runs.specs.Saves.{IsOldOrState, HasTooLongState};
 ghost use Rattle.line_runs.specs.AllFirings.{all_firings};
 ghost use Rattle.line_runs.specs.Store.{text_of, IsOver};
 ghost use Rattle.line_runs.specs.Table.{IsLeastOf};
+ghost use Rattle.line_worker.specs.Work.{most_sweeps};
 ghost use Rattle.line_workers.specs.Line.{IsLine, run_in};
 ghost use Rattle.slot_store.specs.Crash.{IsOldOrNew, IsSaved};
 ghost use Rattle.slot_store.specs.declared.error.SlotError.TheVariants.{TooLong};
@@ -74,7 +75,7 @@ fn save_line<D: Disk>(
     }
 }
 
-/// Whether a line is to be saved: so many firings were made since the last save, and not all.
+/// Whether a line is to be saved: this many firings were made since the last save, and not all.
 fn is_due(line: &Line, every: u64, saved: u64) -> bool
     requires { saved ≤ fired line.now.state }
     ensures due { IsTrue result ↔ IsDue every saved line.now }
@@ -114,11 +115,11 @@ fn save_if_due<D: Disk>(
 }
 
 /// Lets a line work until every station has fired once for each job. At each burst's end that
-/// leaves firings, the state is saved in the two slots of a disk, where so many firings were made
+/// leaves firings, the state is saved in the two slots of a disk, where this many firings were made
 /// since the last save or the beginning.
 ///
 /// A crash at any moment leaves what it might have left when the call began, or the text of a state
-/// of the run, from which `resume_slots` comes to the same dates.
+/// of the run, from which `resume_slots` gets the same dates.
 pub fn run_with_slots<R: Threads + Sync, G: Gate, D: Disk>(
     rt: &R,
     alloc: Global,
@@ -136,14 +137,14 @@ pub fn run_with_slots<R: Threads + Sync, G: Gate, D: Disk>(
     ensures saves { IfOk result
         (HasSaved D.tells MAX_ROOM every line (D.shown disk.old) (D.shown disk.new)) }
     ensures late { OnOk result (IsTrue D.tells
-        → fired line.state + every + 16 * stations live.now.graph ≤ all_firings live.now.graph
+        → fired line.state + every + most_sweeps * stations live.now.graph ≤ all_firings live.now.graph
         → IsLateState live.now.graph every MAX_ROOM (held_now (D.shown disk.new))) }
 
     // What a crash leaves, whatever is answered.
     ensures any_moment { IsTrue D.tells → LeavesOnly (D.shown disk.old) (D.shown disk.new)
         (IsOldOrState (held_now (D.shown disk.old)) MAX_ROOM live.now.graph) }
 
-    // When each error comes; want of memory is free.
+    // When each error comes; out of memory is free.
     ensures too_long { (have : ℕ) → IsErrOf result (TooLong have)
         → HasTooLongState live.now.graph MAX_ROOM have }
     ensures disk_fault { IsErrOf result SlotError.DiskFault

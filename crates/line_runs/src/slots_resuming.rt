@@ -28,7 +28,7 @@ fn not_loaded(refusal: SlotError) -> ResumeError
     }
 }
 
-/// Goes on from what the two slots of a disk hold, with so many workers, until every station has
+/// Goes on from what the two slots of a disk hold, with this many workers, until every station has
 /// fired once for each job. The table is the least solution of the graph. The disk is as before.
 pub fn resume_slots<R: Threads + Sync, G: Gate, D: Disk>(
     rt: &R,

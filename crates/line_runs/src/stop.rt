@@ -9,7 +9,7 @@ use line_workers::{Gate, Line};
 use live_check::Live;
 use std::thread::Threads;
 
-/// How a run ends that is told to stop.
+/// How a run ends that is to stop.
 #[derive(Drop)]
 pub enum Outcome {
     /// All firings were made first: their dates.
@@ -18,7 +18,7 @@ pub enum Outcome {
     Stopped(State),
 }
 
-/// Lets a line work until so many firings are made, those with which it begins among them, and
+/// Lets a line work until this many firings are made, those with which it begins among them, and
 /// stops it at the first burst's end, or before the first burst, where they are. Where all firings
 /// are made first, the run is finished. It takes no memory: a state that it stops in has the very
 /// logs of the line.

@@ -51,7 +51,7 @@ pub record IsNewRoom (g : Parts) (begun : State) (a : ℕ) (put : RoomPutEnd) (t
   pub known : length (place begun a) ≤ room_known take
   pub space : room_space put + length (place begun a) ≡ put.ring.room
 
--- the room is 1 to 10,000, and a ring with room for its arc's tokens at the start and so many more takes those there
+-- the room is 1 to 10,000, and a ring with room for its arc's tokens at the start and that many more takes those there
 -- now
 pub record FitsRoom (room : ℕ) (g : Parts) (begun : State) : Type 0 where
   pub some : 1 ≤ room

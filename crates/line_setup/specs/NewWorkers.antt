@@ -29,7 +29,7 @@ pub record AreNewWorkers (live : LiveGraph) (begun : State) (worker_count : ℕ)
   pub met : AreAllMet live.graph (teams_of workers)
   pub new : HaveBegun live.graph begun (teams_of workers)
 
--- so many of them are made
+-- this many of them are made
 pub record AreMakingWorkers (live : LiveGraph) (begun : State) (worker_count : ℕ) (room : Option ℕ)
     (teams left : List WorkTeam) (workers : List LineWorker) (made : ℕ) : Type 0 where
   pub count : length workers ≡ made

@@ -20,7 +20,7 @@ use Rattle.line_stats.specs.Counts.{count_until, done, arrived}
 use Rattle.line_stats.proofs.CountsOfDates.{until-shift}
 
 -- what a row asks of a job that takes no token of the start
-asked-late : (ts : List Times) (x : Table) (a : Arc) (late n : ℕ) → a.tokens < n → x a.from (n - a.tokens) + late ≤ asked ts x a late n
+pub asked-late : (ts : List Times) (x : Table) (a : Arc) (late n : ℕ) → a.tokens < n → x a.from (n - a.tokens) + late ≤ asked ts x a late n
 unfolding asked
 asked-late ts x a late n above =
     let part = ap (λ (b : Bool). cond b (x a.from (n - a.tokens) + late) 0) (lt-ltb a.tokens n above) in
@@ -46,7 +46,7 @@ row-flow_soon p x r v solves row =
     omega (arith, row-flow p x r v solves row, sent-le p x r.arc.from r.delay v)
 
 -- onward from a machine that isn't the last, and from the last
-onward-inner : (p : Plant) (i j : ℕ) → j + 1 < length (stage_at p i).machines → onward p i j ≡ worked (machine_station p i j) (machine_station p i (j + 1)) 0
+pub onward-inner : (p : Plant) (i j : ℕ) → j + 1 < length (stage_at p i).machines → onward p i j ≡ worked (machine_station p i j) (machine_station p i (j + 1)) 0
 onward-inner p i j before =
     let last = plain (machine_station p i j) (receiver p i) (starting p i) (stage_at p i).travel in
     let inner = worked (machine_station p i j) (machine_station p i (j + 1)) 0 in

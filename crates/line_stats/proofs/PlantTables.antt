@@ -14,7 +14,7 @@ use Rattle.event_graph.specs.Network.{stations, jobs}
 use Rattle.event_graph.specs.Table.{Table, date_in}
 use Rattle.event_graph.specs.Solves.{Solves}
 use Rattle.line_core.specs.Run.{Dates, IsLeastTable}
-use Rattle.line_graph.proofs.Sizes.{stations-graph}
+use Rattle.line_graph.proofs.Sizes.{stations-graph, jobs-graph}
 use Rattle.line_stats.specs.Counts.{count_until, done, arrived}
 use Rattle.line_stats.proofs.CountsOfDates.{until-le, until-moved, until-none}
 
@@ -62,10 +62,6 @@ unfolding count_until
 arrived-before p x i v lt = sym (until-none (jobs (graph p)) (x (last_machine p i)) (stage_at p i).travel v lt)
 
 -- the counts are small
-jobs-graph : (p : Plant) → jobs (graph p) ≡ length p.demands
-unfolding graph
-jobs-graph p = refl
-
 pub arrived-small : (p : Plant) (x : Table) (i v : ℕ) → IsSound p → arrived p x i v ≤ 20000
 unfolding count_until
 arrived-small p x i v sound =

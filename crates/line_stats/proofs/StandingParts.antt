@@ -28,7 +28,7 @@ standing-is p x i v sound solves below =
     omega (arith, process-flow p x i v sound solves below, move-flow p x i v, stock-flow p x i v sound solves below)
 
 -- a value on a range is at most the greatest
-at-range : (f : ℕ → ℕ) (a n k : ℕ) → a ≤ k → k < a + n → f k ≤ greatest f (range_with_len a n)
+pub at-range : (f : ℕ → ℕ) (a n k : ℕ) → a ≤ k → k < a + n → f k ≤ greatest f (range_with_len a n)
 at-range f a n k low high =
     let all = le-greatest f (range_with_len a n) (k - a) 0 (omega (arith, length-range_with_len a n)) in
     let here : get_or (range_with_len a n) (k - a) 0 ≡ k = omega (arith, get_or-range_with_len a n (k - a) 0 (omega arith)) in

@@ -15,11 +15,11 @@ use Rattle.line_stats.proofs.CountsOfDates.{until-later}
 use Rattle.line_stats.proofs.DateLists.{count-above, counted-le}
 use Rattle.line_stats.proofs.PlantTables.{exists_in}
 use Rattle.line_stats.proofs.RisingDates.{date-row}
-use Rattle.line_stats.proofs.StandingParts.{date-le-last}
+use Rattle.line_stats.proofs.StandingParts.{date-le-last, at-range}
 use Rattle.line_stats.proofs.StationRows.{row-in_order, row-done}
 use Rattle.std.proofs.lemmas.List.Sums.{count_by-le-length}
 use Rattle.line_summary.specs.OverTime.{most_backlog}
-use Rattle.line_summary.proofs.Longest.{le-greatest-range, greatest-range-le}
+use Rattle.line_summary.proofs.Longest.{greatest-range-le}
 
 -- the backlogs at the first demands were looked at: none is above this, and it is one of a date up to the last, or 0
 pub record IsMostSoFar (p : Plant) (d : Dates) (count most : ℕ) : Type 0 where
@@ -83,5 +83,5 @@ module _ (p : Plant) (d : Dates) (is : d.graph ≡ graph p) (table : IsLeastTabl
       let x = date_in d.rows in
       let last = last_date (graph p) x in
       let up = greatest-range-le (backlog p x) 0 (last + 1) most (λ v low high. covers most all v) in
-      let down = all.least (greatest (backlog p x) (range_with_len 0 (last + 1))) (λ v early. le-greatest-range (backlog p x) 0 (last + 1) v (omega arith) (omega arith)) in
+      let down = all.least (greatest (backlog p x) (range_with_len 0 (last + 1))) (λ v early. at-range (backlog p x) 0 (last + 1) v (omega arith) (omega arith)) in
       omega arith

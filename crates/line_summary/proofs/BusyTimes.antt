@@ -20,7 +20,7 @@ use Rattle.event_graph.specs.Table.{Table}
 use Rattle.event_graph.specs.Solves.{Solves}
 use Rattle.plant_model.proofs.LayoutStations.{last_machine-below}
 use Rattle.line_graph.proofs.Inputs.{in_machines}
-use Rattle.line_graph.proofs.Sizes.{sum_by-same}
+use Rattle.line_graph.proofs.Sizes.{sum_by-same, length-stage_times, length-times_of}
 use Rattle.line_graph.proofs.SolvesRows.{asked, Meets, Meets-solves}
 use Rattle.line_stats.specs.Counts.{last_date}
 use Rattle.line_stats.proofs.StandingParts.{date-le-last}
@@ -63,19 +63,12 @@ work-fits f work count (suc jobs) none fits =
     omega (arith, rest, sum-jobs-more work jobs, window-next f count jobs, fits (suc jobs) (omega arith) (omega arith))
 
 -- the job times of a machine stand at its station
-length-stage_times : (s : Stage) → length (stage_times s) ≡ 1 + length s.machines
-length-stage_times s = let e = length-map s.machines (λ m. m.times) in omega (arith, e)
-
-times-before : (stages : List Stage) → length (flat_map stage_times stages) ≡ stations_of stages
-times-before stages =
-    length-flat_map stage_times stages ∙ sum_by-same (λ s. length (stage_times s)) (λ s. 1 + length s.machines) stages length-stage_times
-
 times-machine : (p : Plant) (i j : ℕ) → i < length p.stages → j < length (stage_at p i).machines → get_or (times p) (machine_station p i j) (Fixed 0) ≡ (machine_at p i j).times
 unfolding times
 times-machine p i j below inside =
     let all = flat_map stage_times p.stages in
     let before = length (flat_map stage_times (take i p.stages)) in
-    let at : machine_station p i j ≡ suc (before + (1 + j)) = omega (arith, times-before (take i p.stages)) in
+    let at : machine_station p i j ≡ suc (before + (1 + j)) = omega (arith, length-times_of (take i p.stages)) in
     let few : 1 + j < length (stage_times (stage_at p i)) = omega (arith, length-stage_times (stage_at p i)) in
     let within = length-flat_map-take stage_times p.stages i no_stage below in
     let left = get_or_append_left all (Fixed 0 ∷ []) (Fixed 0) (before + (1 + j)) (omega (arith, within, few)) in

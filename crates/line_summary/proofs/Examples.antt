@@ -1,11 +1,9 @@
 -- The summary of a small plant, against the text that was written by hand, and that of a plant in which nothing takes time.
 use Rattle.std.specs.Prelude.{◌≡◌, ℕ, List, [], ◌∷◌, ◌++◌, Option, None, Some, codes, refl}
 use Rattle.std.specs.Fmt.{digits}
-use Rattle.line_base.specs.declared.times.Times.TheVariants.{Fixed}
-use Rattle.plant_model.specs.declared.plant.Policy.TheVariants.{Kanban}
-use Rattle.plant_model.specs.Stages.{Stage, one_server}
 use Rattle.plant_model.specs.declared.plant.Plant.{Plant}
 use Rattle.plant_model.specs.Graph.{graph, labels}
+use Rattle.plant_model.proofs.TwoStage.{machine, stage, kanban_line, kanban_dates}
 use Rattle.event_graph.specs.Table.{date_in}
 use Rattle.event_graph.specs.Firing.{greatest}
 use Rattle.line_stats.specs.Counts.{count_until, in_process, in_move, in_stock, standing, backlog, last_date, peak, waiting}
@@ -28,56 +26,20 @@ nearly : thousandths 1999999 1000000 ≡ codes "2.000"
 unfolding nearest decimal_text digits
 nearly = refl
 
--- a stage with one machine and one card
-abbrev stage : List ℕ → Option ℕ → List ℕ → ℕ → Stage
-stage name to machine time =
-    record {
-      name = name;
-      feeds = to;
-      cards = 1;
-      stock = 0;
-      travel = 0;
-      card_time = 0;
-      machines = one_server machine (Fixed time) ∷ [];
-    }
-
--- `cut` with `saw` feeds `weld` with `torch`
-abbrev plant : Plant
-plant =
-    record {
-      policy = Kanban;
-      stages = stage (codes "cut") (Some 1) (codes "saw") 3 ∷ stage (codes "weld") None (codes "torch") 5 ∷ [];
-      loops = [];
-      card_time = 0;
-      demands = 0 ∷ 2 ∷ 4 ∷ [];
-      observe = [];
-    }
-
--- its dates
-abbrev rows : List (List ℕ)
-rows =
-    (0 ∷ 2 ∷ 4 ∷ [])
-    ∷ (0 ∷ 5 ∷ 10 ∷ [])
-    ∷ (3 ∷ 8 ∷ 13 ∷ [])
-    ∷ (0 ∷ 5 ∷ 10 ∷ [])
-    ∷ (5 ∷ 10 ∷ 15 ∷ [])
-    ∷ (0 ∷ 5 ∷ 10 ∷ [])
-    ∷ []
-
-head : head_lines plant (date_in rows) ≡ codes "jobs 3\nlast 15\nthroughput 0.200\nwait mean 3.000 most 6 job 3\nwait p50 3 p90 6 p95 6 p99 6\nat once 1 of 3\nbacklog mean 0.600 most 2\nwip mean 2.000\n"
+head : head_lines kanban_line (date_in kanban_dates) ≡ codes "jobs 3\nlast 15\nthroughput 0.200\nwait mean 3.000 most 6 job 3\nwait p50 3 p90 6 p95 6 p99 6\nat once 1 of 3\nbacklog mean 0.600 most 2\nwip mean 2.000\n"
 unfolding head_lines job_lines wait_line percentile_line at_once_line backlog_line parts_line waiting most_wait worst_job within percentile at_once most_backlog parts_sum sum_until in_process in_move in_stock backlog count_until last_date greatest graph labels nearest decimal_text digits
 head = refl
 
-cut : stage_line plant (date_in rows) 0 ≡ codes "stage cut process 0.600 move 0.000 stock 0.400 peak 1 of 1\n"
+cut : stage_line kanban_line (date_in kanban_dates) 0 ≡ codes "stage cut process 0.600 move 0.000 stock 0.400 peak 1 of 1\n"
 unfolding stage_line peak standing sum_until in_process in_move in_stock count_until last_date greatest graph labels nearest decimal_text digits
 cut = refl
 
-weld : stage_line plant (date_in rows) 1 ≡ codes "stage weld process 1.000 move 0.000 stock 0.000 peak 1 of 1\n"
+weld : stage_line kanban_line (date_in kanban_dates) 1 ≡ codes "stage weld process 1.000 move 0.000 stock 0.000 peak 1 of 1\n"
 unfolding stage_line peak standing sum_until in_process in_move in_stock count_until last_date greatest graph labels nearest decimal_text digits
 weld = refl
 
 text_of_plant :
-    summary_text plant (date_in rows)
+    summary_text kanban_line (date_in kanban_dates)
     ≡ codes "jobs 3\nlast 15\nthroughput 0.200\nwait mean 3.000 most 6 job 3\nwait p50 3 p90 6 p95 6 p99 6\nat once 1 of 3\nbacklog mean 0.600 most 2\nwip mean 2.000\n"
     ++ codes "stage cut process 0.600 move 0.000 stock 0.400 peak 1 of 1\nstage weld process 1.000 move 0.000 stock 0.000 peak 1 of 1\n"
     ++ codes "machine cut.saw servers 1 busy 0.600\nmachine weld.torch servers 1 busy 1.000\nbusiest weld.torch\n"
@@ -86,7 +48,7 @@ text_of_plant = rw (head, cut, weld) refl
 
 -- `solo` with `m`, where nothing takes time
 abbrev timeless : Plant
-timeless = record plant { stages = stage (codes "solo") None (codes "m") 0 ∷ []; demands = 0 ∷ [] }
+timeless = record kanban_line { stages = stage (codes "solo") None 1 0 (machine (codes "m") 0) ∷ []; demands = 0 ∷ [] }
 
 abbrev zeros : List (List ℕ)
 zeros = (0 ∷ []) ∷ (0 ∷ []) ∷ (0 ∷ []) ∷ (0 ∷ []) ∷ []

@@ -10,4 +10,3 @@ pub mod Stays
 pub mod Backlogs
 pub mod Read
 pub mod MachineLists
-pub mod MachineTexts

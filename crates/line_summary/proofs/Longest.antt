@@ -8,6 +8,7 @@ use Rattle.event_graph.proofs.Greatest.{le-greatest, greatest-le}
 use Rattle.line_stats.proofs.SameCounts.{All-numbers}
 use Rattle.std.proofs.lemmas.List.FromFn.{length-range_with_len, get_or-range_with_len}
 use Rattle.line_summary.specs.Waits.{first_of}
+use Rattle.line_stats.proofs.StandingParts.{at-range}
 
 -- what a search through numbers finds
 pub find-range : (p : ℕ → Bool) (n a k : ℕ) → a ≤ k → k < a + n → p k ≡ true → ((j : ℕ) → a ≤ j → j < k → p j ≡ false) → find p (range_with_len a n) ≡ Some k
@@ -25,14 +26,7 @@ find-range p (suc n) a k low high passes fails =
 pub first_of-range : (p : ℕ → Bool) (n a k : ℕ) → a ≤ k → k < a + n → p k ≡ true → ((j : ℕ) → a ≤ j → j < k → p j ≡ false) → k ≡ first_of p (range_with_len a n)
 first_of-range p n a k low high passes fails = sym (ap (λ o. unwrap_or o 0) (find-range p n a k low high passes fails))
 
--- a value on a range is at most the greatest, and the greatest is what none is above and one has
-pub le-greatest-range : (f : ℕ → ℕ) (a n k : ℕ) → a ≤ k → k < a + n → f k ≤ greatest f (range_with_len a n)
-le-greatest-range f a n k low high =
-    let all = le-greatest f (range_with_len a n) (k - a) 0 (omega (arith, length-range_with_len a n)) in
-    let here : a + (k - a) ≡ k = omega arith in
-    let at = get_or-range_with_len a n (k - a) 0 (omega arith) ∙ here in
-    subst (λ m. f m ≤ greatest f (range_with_len a n)) at all
-
+-- the greatest on a range is at most what no value is above
 pub greatest-range-le : (f : ℕ → ℕ) (a n most : ℕ) → ((k : ℕ) → a ≤ k → k < a + n → f k ≤ most) → greatest f (range_with_len a n) ≤ most
 greatest-range-le f a n most all = greatest-le f (range_with_len a n) most (All-numbers (λ k. f k ≤ most) a n all)
 
@@ -98,7 +92,7 @@ IsLongest-stays f count most job wait is less so_far = record {
 pub IsLongest-most : (f : ℕ → ℕ) (count most job : ℕ) → 1 ≤ count → IsLongest f count most job → most ≡ greatest f (range_with_len 1 count)
 IsLongest-most f count most job some all =
     let up = greatest-range-le f 1 count most (λ k low high. all.none_above k low (omega arith)) in
-    let at = le-greatest-range f 1 count job all.from_one (let h = all.inside some in omega arith) in
+    let at = at-range f 1 count job all.from_one (let h = all.inside some in omega arith) in
     let here = all.here some in
     omega arith
 

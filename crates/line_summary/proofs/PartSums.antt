@@ -13,10 +13,6 @@ use Rattle.line_stats.proofs.Flows.{process-flow, move-flow, stock-flow}
 use Rattle.line_summary.specs.OverTime.{sum_until, process_sum, move_sum, stock_sum}
 use Rattle.line_summary.proofs.OverTime.{sum_until-add, sum_until-same}
 
-pub jobs-graph : (p : Plant) → jobs (graph p) ≡ length p.demands
-unfolding graph
-jobs-graph p = refl
-
 -- the sum of a station of a plant, which was looked up by another name
 pub done_sum-in : (p : Plant) (g : Parts) (x : Table) (t u end last n : ℕ) → g ≡ graph p → t ≡ u → end ≡ last → n ≡ sum_until end (done g x t) → n ≡ sum_until last (done (graph p) x u)
 done_sum-in p g x t u end last n is at by n_is =

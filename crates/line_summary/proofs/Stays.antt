@@ -27,7 +27,7 @@ use Rattle.event_graph.specs.Solves.{Solves}
 use Rattle.line_stats.specs.Between.{dates_until}
 use Rattle.line_stats.specs.Counts.{job_numbers, count_until, in_process, in_move, in_stock, standing, backlog, last_date, waiting}
 use Rattle.line_stats.proofs.CountsOfDates.{until}
-use Rattle.line_stats.proofs.Flows.{process-flow, delivery-after, delivery-flow}
+use Rattle.line_stats.proofs.Flows.{asked-late, onward-inner, process-flow, delivery-after, delivery-flow}
 use Rattle.line_stats.proofs.StandingParts.{date-le-last, standing-bounded}
 use Rattle.line_summary.specs.Laws.{Stay, inside}
 use Rattle.line_summary.specs.OverTime.{sum_until, process_sum, backlog_sum, stage_sum}
@@ -74,13 +74,6 @@ stays-add_up (s ∷ stays) end all =
     let here = stay-adds_up s.entered s.left end (All-head (λ r. r.left ≤ end) s stays all) in
     omega (arith, more, here, stays-add_up stays end (All-tail (λ r. r.left ≤ end) s stays all), sum_by-cons (λ r. r.left - r.entered) s stays)
 
--- what a row asks of a job that takes no token of the start
-asked-late : (ts : List Times) (x : Table) (a : Arc) (late n : ℕ) → a.tokens < n → x a.from (n - a.tokens) + late ≤ asked ts x a late n
-unfolding asked
-asked-late ts x a late n above =
-    let part = ap (λ (b : Bool). cond b (x a.from (n - a.tokens) + late) 0) (lt-ltb a.tokens n above) in
-    omega (arith, part)
-
 -- what a row asks of each job: no sooner than the job leaves its start, where it has no token of the start
 row-after : (p : Plant) (x : Table) (r : Row) (n : ℕ) → Solves (graph p) x → Contains (rows p) r → r.arc.tokens ≡ 0 → 1 ≤ n → n ≤ jobs (graph p) → x r.arc.from n ≤ x r.arc.to n
 row-after p x r n solves row none some few =
@@ -89,12 +82,6 @@ row-after p x r n solves row none some few =
     let asks = asked-late (times p) x r.arc r.delay n (omega arith) in
     let same = ap (x r.arc.from) e in
     omega (arith, asks, meets.each n some few, same)
-
-onward-inner : (p : Plant) (i j : ℕ) → j + 1 < length (stage_at p i).machines → onward p i j ≡ worked (machine_station p i j) (machine_station p i (j + 1)) 0
-onward-inner p i j before =
-    let last = plain (machine_station p i j) (receiver p i) (starting p i) (stage_at p i).travel in
-    let inner = worked (machine_station p i j) (machine_station p i (j + 1)) 0 in
-    ap (λ (t : Bool). cond t last inner) (ne_eqb (j + 1) (length (stage_at p i).machines) (omega arith))
 
 -- two dates of each job, the second no sooner, both by the end: the jobs between them
 between-adds_up : (g : Parts) (from to count : ℕ → ℕ) (end : ℕ) → ((v : ℕ) → count_until g from v ≡ count v + count_until g to v) → ((n : ℕ) → 1 ≤ n → n ≤ jobs g → (from n ≤ to n) × (to n ≤ end)) → sum_until end count ≡ sum_by (λ n. to n - from n) (job_numbers g)

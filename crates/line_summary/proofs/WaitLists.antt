@@ -1,5 +1,5 @@
 -- The sorted waits, and what they say of a share of the jobs.
-use Rattle.std.proofs.Common.{◌≡◌, ℕ, ◌+◌, ◌*◌, ◌<◌, ◌≤◌, Bool, cond, leb, List, [], ◌∷◌, length, map, refl, sym, ap, ◌∙◌, inl, inr, arith, count_by}
+use Rattle.std.proofs.Common.{◌≡◌, ℕ, ◌+◌, ◌-◌, ◌*◌, ◌<◌, ◌≤◌, Bool, cond, leb, List, [], ◌∷◌, length, get_or, map, refl, sym, ap, ◌∙◌, inl, inr, arith, count_by}
 use Rattle.std.specs.Prelude.{nat_le, ◌==◌, IsPermutation}
 use Rattle.std.specs.List.{sum_by}
 use Rattle.std.proofs.lemmas.Bool.{cases_lt, le-leb, lt-leb}
@@ -8,14 +8,17 @@ use Rattle.std.proofs.lemmas.List.Sums.{sum_by-cons}
 use Rattle.std.proofs.lemmas.List.Sorted.{sum_by-IsPermutation, length_permutation}
 use Rattle.std.proofs.lemmas.List.FromFn.{length-map-range_with_len}
 use Rattle.line_base.specs.declared.event.Parts.{Parts}
-use Rattle.event_graph.specs.Network.{jobs}
-use Rattle.event_graph.specs.Table.{Table}
+use Rattle.event_graph.specs.Network.{jobs, stations}
+use Rattle.event_graph.specs.Table.{Table, date_in}
 use Rattle.event_graph.specs.Firing.{greatest}
+use Rattle.line_core.specs.Run.{Dates}
 use Rattle.line_stats.specs.Between.{dates_until}
 use Rattle.line_stats.specs.Counts.{job_numbers}
 use Rattle.line_stats.proofs.CountsOfDates.{until-all}
+use Rattle.line_stats.proofs.RisingDates.{date-row}
 use Rattle.line_summary.specs.Waits.{wait, waits, most_wait, within, percentile, at_once}
-use Rattle.line_summary.proofs.Longest.{first_of-range, le-greatest-range}
+use Rattle.line_summary.proofs.Longest.{first_of-range}
+use Rattle.line_stats.proofs.StandingParts.{at-range}
 
 -- a sum over what a function gives
 sum_by-map : (f : ℕ → ℕ) (g : ℕ → ℕ) (xs : List ℕ) → sum_by f (map g xs) ≡ sum_by (λ x. f (g x)) xs
@@ -35,7 +38,7 @@ within-sorted g x sorted v same =
 within-most : (g : Parts) (x : Table) → within g x (most_wait g x) ≡ jobs g
 unfolding within most_wait
 within-most g x =
-    until-all (jobs g) (wait g x) (greatest (wait g x) (job_numbers g)) (λ n some few. le-greatest-range (wait g x) 1 (jobs g) n some (omega arith))
+    until-all (jobs g) (wait g x) (greatest (wait g x) (job_numbers g)) (λ n some few. at-range (wait g x) 1 (jobs g) n some (omega arith))
 
 -- the least number that enough jobs don't exceed
 pub percentile-is : (g : Parts) (x : Table) (percent v : ℕ) → percent ≤ 100 → percent * jobs g ≤ 100 * within g x v → ((w : ℕ) → w < v → 100 * within g x w < percent * jobs g) → v ≡ percentile g x percent
@@ -67,3 +70,11 @@ percentile-sorted g x sorted percent v same small enough least =
     let long = ap (λ n. percent * n) (length-sorted g x sorted same) in
     percentile-is g x percent v small (omega (arith, enough, long, within-sorted g x sorted v same))
     (λ w below. omega (arith, least w below, long, within-sorted g x sorted w same))
+
+-- the wait of a job, read in the lists of the last station and of the feed
+pub wait-read : (d : Dates) (k count w : ℕ) (delivered demanded : List ℕ) → count ≡ stations d.graph → delivered ≡ get_or d.rows (count - 1) [] → demanded ≡ get_or d.rows 0 [] → w ≡ get_or delivered k 0 - get_or demanded k 0 → w ≡ wait d.graph (date_in d.rows) (k + 1)
+wait-read d k count w delivered demanded count_is delivered_is demanded_is is =
+    let last = ap (λ n. get_or (get_or d.rows (n - 1) []) k 0) count_is in
+    let late = ap (λ row. get_or row k 0) delivered_is ∙ last ∙ sym (date-row d (stations d.graph - 1) k) in
+    let soon = ap (λ row. get_or row k 0) demanded_is ∙ sym (date-row d 0 k) in
+    omega (arith, is, late, soon)

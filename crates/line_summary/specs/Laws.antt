@@ -64,7 +64,7 @@ HasNoMeans p x = (sum : ℕ) → thousandths sum (last_date (graph p) x) ≡ cod
 abbrev pub HasNoShares : Plant → Table → Type 0
 HasNoShares p x = (busy servers : ℕ) → thousandths busy (servers * last_date (graph p) x) ≡ codes "none"
 
--- so many thousandths are no more than half a one above the ratio, and less than half a one below it
+-- the thousandths are no more than half a one above the ratio, and less than half a one below it
 abbrev pub IsNearestAbove : ℕ → ℕ → Type 0
 IsNearestAbove part whole = 2 * whole * nearest part whole ≤ 2000 * part + whole
 

@@ -10,7 +10,7 @@ three_digits n = decimal (n / 100) ++ (decimal (n / 10 % 10) ++ decimal (n % 10)
 unfoldable pub nearest : ℕ → ℕ → ℕ
 nearest part whole = (2000 * part + whole) / (2 * whole)
 
--- so many thousandths, as a decimal
+-- this many thousandths, as a decimal
 unfoldable pub decimal_text : ℕ → List ℕ
 decimal_text n = decimal (n / 1000) ++ (codes "." ++ three_digits (n % 1000))
 

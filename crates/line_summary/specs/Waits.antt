@@ -31,7 +31,7 @@ worst_job g x = first_of (λ n. wait g x n == most_wait g x) (job_numbers g)
 unfoldable pub within : Parts → Table → ℕ → ℕ
 within g x most = count_by (λ n. nat_le (wait g x n) most) (job_numbers g)
 
--- the least wait that at least so many percent of the jobs don't exceed
+-- the least wait that at least this many percent of the jobs don't exceed
 unfoldable pub percentile : Parts → Table → ℕ → ℕ
 percentile g x percent =
     first_of (λ most. nat_le (percent * jobs g) (100 * within g x most)) (range_with_len 0 (most_wait g x + 1))

@@ -41,7 +41,7 @@ fn count_zeros(waits: &[Date]) -> usize
     waits.iter().filter(|wait| **wait == 0).count()
 }
 
-/// The least of the waits that at least so many percent of them don't exceed: it stands at place `percent` of a
+/// The least of the waits that at least this many percent of them don't exceed: it stands at place `percent` of a
 /// hundred of them, rounded up, and places count from 1.
 fn percentile(sorted: &[Date], percent: usize) -> Date
     requires in_order { IsNonDecreasing sorted.now }

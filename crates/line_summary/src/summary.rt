@@ -1,6 +1,7 @@
 ghost use Rattle.std.specs.Prelude.{◌≡◌, IfOk};
 ghost use Rattle.line_io.specs.SinkView.{WritesText};
-ghost use Rattle.line_summary.specs.Summarized.{IsOfPlant, IsSummarized, Stays, text_of};
+ghost use Rattle.line_stats.specs.PlantDates.{AreLeastDates, Stays};
+ghost use Rattle.line_summary.specs.Summarized.{IsOfPlant, text_of};
 
 use crate::figures::Figures;
 use crate::machines::machine_uses;
@@ -23,9 +24,10 @@ impl Model for Summary {
     ghost use Rattle.std.specs.Prelude.{◌≡◌, false};
     ghost use Rattle.line_core.specs.Run.{IsLeastTable};
     ghost use Rattle.line_io.specs.Outgoing.{emptied};
-    ghost use Rattle.line_summary.specs.Summarized.{Summarized, IsRead};
+    ghost use Rattle.line_stats.specs.PlantDates.{PlantDates};
+    ghost use Rattle.line_summary.specs.Summarized.{IsRead};
 
-    ghost Value = { Summarized };
+    ghost Value = { PlantDates };
 
     ghost view = { λ s. record { plant = s.line.plant; rows = s.line.table.rows } };
 
@@ -39,7 +41,7 @@ impl Summary {
         requires { IsOfPlant plant table }
         ensures plant { IfOk result (λ summary. summary.plant ≡ plant) }
         ensures dates { IfOk result (λ summary. summary.rows ≡ table.rows) }
-        ensures least { IfOk result IsSummarized }
+        ensures least { IfOk result AreLeastDates }
     {
         let _stations = table.stations();
         let numbers = LineNumbers::of(alloc, &plant)?;

@@ -3,7 +3,6 @@ ghost use Rattle.std.specs.List.{flat_map, range_with_len};
 ghost use Rattle.std.specs.Prelude.{◌≡◌, ◌<◌, ◌++◌, length, slice_index_or};
 ghost use Rattle.event_graph.specs.Table.{date_in};
 ghost use Rattle.line_io.specs.Outgoing.{Pushed, stream};
-ghost use Rattle.line_report.specs.ReportText.{bound_word};
 ghost use Rattle.line_summary.specs.Machines.{label_of};
 ghost use Rattle.line_summary.specs.Summarized.{IsRead};
 ghost use Rattle.line_summary.specs.SummaryText.{job_lines, wait_line, percentile_line, at_once_line, backlog_line, parts_line, head_lines, mean_words, stage_line, machine_line, busiest_line, summary_text};
@@ -18,6 +17,7 @@ use crate::waits::most_backlog;
 use line_base::Date;
 use line_core::Table;
 use line_io::{Outgoing, Sink};
+use line_report::write_bound;
 use line_stats::peak;
 use plant_model::{LineNumbers, Machine, Plant, bound_of};
 
@@ -129,17 +129,6 @@ fn write_head<K: Sink>(out: &mut Outgoing, sink: &mut K, line: &Reading)
     write_at_once(out, sink, waits.at_once, figures.jobs);
     write_backlog(out, sink, figures.waited, figures.last, most);
     write_parts(out, sink, figures.parts, figures.last);
-}
-
-/// Writes the bound of a stage, or that it has none.
-fn write_bound<K: Sink>(out: &mut Outgoing, sink: &mut K, bound: Option<u32>)
-    ensures { Pushed (stream (K.shown sink.old) out.old)
-        (stream (K.shown sink.new) out.new) (bound_word bound) }
-{
-    match bound {
-        Some(number) => out.push_number(sink, number as u64),
-        None => out.push(sink, b"none"),
-    }
 }
 
 /// Writes a word, and a mean behind it.

@@ -1,56 +1,17 @@
 -- The text of a table at a small plant, against a text that was written by hand.
 use Rattle.std.specs.Prelude.{◌≡◌, ℕ, List, [], ◌∷◌, ◌++◌, Option, None, Some, codes, refl}
 use Rattle.std.specs.Fmt.{digits}
-use Rattle.line_base.specs.declared.times.Times.TheVariants.{Fixed}
-use Rattle.plant_model.specs.declared.plant.Policy.TheVariants.{Kanban}
-use Rattle.plant_model.specs.Stages.{Stage, one_server}
-use Rattle.plant_model.specs.declared.plant.Plant.{Plant}
 use Rattle.plant_model.specs.Graph.{graph, labels, rows}
+use Rattle.plant_model.proofs.TwoStage.{kanban_line, kanban_dates}
 use Rattle.event_graph.specs.Network.{ins, delay}
 use Rattle.event_graph.specs.Table.{date_in}
 use Rattle.event_graph.specs.Firing.{greatest}
 use Rattle.line_table.specs.Starts.{worked_ins, start}
 use Rattle.line_table.specs.TableText.{job_record, station_records, stage_records, table_text}
 
--- a stage with one machine and one card
-abbrev stage : List ℕ → Option ℕ → List ℕ → ℕ → Stage
-stage name to machine time =
-    record {
-      name = name;
-      feeds = to;
-      cards = 1;
-      stock = 0;
-      travel = 0;
-      card_time = 0;
-      machines = one_server machine (Fixed time) ∷ [];
-    }
-
--- `cut` with `saw` feeds `weld` with `torch`
-abbrev plant : Plant
-plant =
-    record {
-      policy = Kanban;
-      stages = stage (codes "cut") (Some 1) (codes "saw") 3 ∷ stage (codes "weld") None (codes "torch") 5 ∷ [];
-      loops = [];
-      card_time = 0;
-      demands = 0 ∷ 2 ∷ 4 ∷ [];
-      observe = [];
-    }
-
--- its dates
-abbrev dates : List (List ℕ)
-dates =
-    (0 ∷ 2 ∷ 4 ∷ [])
-    ∷ (0 ∷ 5 ∷ 10 ∷ [])
-    ∷ (3 ∷ 8 ∷ 13 ∷ [])
-    ∷ (0 ∷ 5 ∷ 10 ∷ [])
-    ∷ (5 ∷ 10 ∷ 15 ∷ [])
-    ∷ (0 ∷ 5 ∷ 10 ∷ [])
-    ∷ []
-
 -- the parts at `cut` stand behind two parts of starting stock, those at `weld` behind one
 table_of_plant :
-    table_text plant (date_in dates)
+    table_text kanban_line (date_in kanban_dates)
     ≡ codes "station,job,serves,start,date\n"
     ++ codes "feed,1,1,,0\nfeed,2,2,,2\nfeed,3,3,,4\n"
     ++ codes "cut,1,3,,0\ncut,2,,,5\ncut,3,,,10\n"

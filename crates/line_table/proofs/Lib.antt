@@ -2,6 +2,5 @@ pub mod StartFacts
 pub mod MachineArcs
 pub mod StartLaws
 pub mod PathParts
-pub mod TableLines
 pub mod StageRuns
 pub mod Examples

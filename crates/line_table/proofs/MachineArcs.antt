@@ -12,13 +12,9 @@ use Rattle.plant_model.specs.Sound.{IsSound}
 use Rattle.plant_model.proofs.LayoutStations.{release-next, release-all, release-le, at_receiver}
 use Rattle.event_graph.specs.Network.{arc, arc_count, delay, EndsAt}
 use Rattle.line_base.proofs.RangeLists.{Contains-head}
-use Rattle.line_graph.proofs.Sizes.{arc_count-graph}
+use Rattle.line_graph.proofs.Sizes.{arc_count-graph, delay-graph}
 use Rattle.line_graph.proofs.Inputs.{in_machines, arc-graph}
 use Rattle.line_graph.proofs.GraphRows.{EachRow, All-rows}
-
-delay-graph : (p : Plant) (a : ℕ) (d : Row) → a < length (rows p) → delay (graph p) a ≡ (get_or (rows p) a d).delay
-unfolding graph delay
-delay-graph p a d below = get_or-map (λ r. r.delay) (rows p) a d 0 below
 
 -- the number of an arc that is this row
 pub record HasRow (p : Plant) (r : Row) : Type 0 where

@@ -6,7 +6,7 @@ use Rattle.std.specs.List.{range_with_len}
 use Rattle.std.proofs.lemmas.List.FromFn.{length-map-range_with_len, get_or-map-range_with_len, map-range_with_len_more}
 use Rattle.plant_model.specs.declared.plant.Plant.{Plant}
 use Rattle.plant_model.specs.Line.{path_stock}
-use Rattle.line_table.specs.PlantDates.{path_stocks}
+use Rattle.line_table.specs.DateTable.{path_stocks}
 
 -- the stock of a stage is there, and is what is read
 pub stocks-inside : (p : Plant) (stocks : Vec ℕ Global) (i : ℕ) → stocks.items ≡ path_stocks p → i < length p.stages → i < vec_len stocks

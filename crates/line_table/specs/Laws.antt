@@ -42,10 +42,10 @@ ServersAreFreeAtStarts p =
     (x : Table) (i j n : ℕ) → IsJobAt p i j n → n + (machine_at p i j).servers ≤ jobs (graph p)
     → x (machine_station p i j) n ≤ start (graph p) x (machine_station p i j) (n + (machine_at p i j).servers)
 
--- the places on which the parts of station t, which is of stage i, go on to the delivery: the last of those on the path of
--- the stage. At the start they hold the starting stock on the path, which is ahead of every part that leaves the station. So
--- in every state that firings reach, as many parts stand on them or are delivered as that stock and the station's jobs
--- are together; and the part of job n is the one that the delivery takes for job n and that stock.
+-- the places on which the parts of station t, which is of stage i, go on to the delivery: the last of those on the path
+-- of the stage. At the start they hold the starting stock on the path, which is ahead of every part that leaves the
+-- station. So in every state that firings reach, as many parts stand on them or are delivered as that stock and the
+-- station's jobs are together; and the part of job n is the one that the delivery takes for job n and that stock.
 pub record StandsBehindStock (p : Plant) (i t : ℕ) : Type 0 where
   pub before : List ℕ
   pub places : List ℕ

@@ -1,5 +1,5 @@
 pub mod Starts
 pub mod Serves
 pub mod TableText
-pub mod PlantDates
+pub mod DateTable
 pub mod Laws

@@ -6,7 +6,7 @@ use Rattle.plant_model.specs.Line.{path_stock}
 use Rattle.plant_model.specs.Graph.{graph}
 use Rattle.event_graph.specs.Network.{jobs}
 
--- the customer of job n's part where so many parts are ahead of it at the start; nobody where there are fewer jobs
+-- the customer of job n's part where this many parts are ahead of it at the start; nobody where there are fewer jobs
 abbrev pub customer : Parts → ℕ → ℕ → Option ℕ
 customer g ahead n = if nat_le (n + ahead) (jobs g) then Some (n + ahead) else None
 

@@ -30,7 +30,7 @@ header = codes "station,job,serves,start,date\n"
 abbrev pub start_of : Parts → Table → Bool → ℕ → ℕ → Option ℕ
 start_of g x machine t n = if machine then Some (start g x t n) else None
 
--- the record of job n at station t, where so many parts are ahead of it at the start
+-- the record of job n at station t, where this many parts are ahead of it at the start
 unfoldable pub job_record : Parts → Table → ℕ → Bool → ℕ → ℕ → List ℕ
 job_record g x ahead machine t n =
     csv_record

@@ -4,7 +4,7 @@ ghost use Rattle.std.specs.Prelude.{◌≡◌, ◌<◌, ◌≤◌, ◌+◌, ◌^
 ghost use Rattle.event_graph.specs.Network.{stations};
 ghost use Rattle.event_graph.specs.Table.{date_in};
 ghost use Rattle.line_io.specs.Outgoing.{Pushed, stream};
-ghost use Rattle.line_table.specs.PlantDates.{IsOfRun};
+ghost use Rattle.line_table.specs.DateTable.{IsOfRun};
 ghost use Rattle.line_table.specs.Serves.{customer};
 ghost use Rattle.line_table.specs.TableText.{field, csv_record, job_record, station_records, machine_records_behind, stage_records, table_text};
 ghost use Rattle.plant_model.specs.Line.{stage_numbers};
@@ -53,7 +53,8 @@ fn write_record<K: Sink>(
     out.push(sink, b"\n");
 }
 
-/// The customer of the part of job `n`, where `ahead` parts are ahead of it at the start; `None` where there are fewer jobs.
+/// The customer of the part of job `n`, where `ahead` parts are ahead of it at the start; `None` where there are fewer
+/// jobs.
 fn customer(graph: &Graph, ahead: u64, n: u32) -> Option<u64>
     requires { ahead < 2 ^ 63 }
     ensures { result ≡ customer graph.now ahead n }
@@ -95,7 +96,7 @@ fn write_station<K: Sink>(
     }
 }
 
-/// Writes the records of the machines that follow a release, so many.
+/// Writes the records of the machines that follow a release, of which there are this many.
 fn write_machines<K: Sink>(
     out: &mut Outgoing,
     sink: &mut K,
@@ -143,7 +144,8 @@ fn write_stages<K: Sink>(out: &mut Outgoing, sink: &mut K, run: &PlantRun)
     }
 }
 
-/// Writes the whole table: the names of the fields, and then the records of the feed, of the stages and of the delivery.
+/// Writes the whole table: the names of the fields, and then the records of the feed, of the stages and of the
+/// delivery.
 pub fn write_table<K: Sink>(out: &mut Outgoing, sink: &mut K, run: &PlantRun)
     requires { IsOfRun run.now }
     ensures { Pushed (stream (K.shown sink.old) out.old) (stream (K.shown sink.new) out.new)

@@ -1,5 +1,5 @@
 ghost use Rattle.std.specs.Prelude.{◌≡◌, ◌<◌, length, IfOk};
-ghost use Rattle.line_table.specs.PlantDates.{path_stocks};
+ghost use Rattle.line_table.specs.DateTable.{path_stocks};
 ghost use Rattle.plant_model.specs.Line.{stage_at};
 ghost use Rattle.plant_model.specs.Sound.{IsSound};
 

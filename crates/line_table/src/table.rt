@@ -1,6 +1,7 @@
 ghost use Rattle.std.specs.Prelude.{◌≡◌, IfOk};
 ghost use Rattle.line_io.specs.SinkView.{WritesText};
-ghost use Rattle.line_table.specs.PlantDates.{AreOfPlant, AreLeastDates, Stays, text_of};
+ghost use Rattle.line_stats.specs.PlantDates.{AreLeastDates, AreOfPlant, Stays};
+ghost use Rattle.line_table.specs.DateTable.{text_of};
 
 use crate::records::write_table;
 use crate::run::{PlantRun, path_stocks};
@@ -22,7 +23,8 @@ impl Model for DateTable {
     ghost use Rattle.std.specs.Prelude.{◌≡◌, false};
     ghost use Rattle.line_core.specs.Run.{IsLeastTable};
     ghost use Rattle.line_io.specs.Outgoing.{emptied};
-    ghost use Rattle.line_table.specs.PlantDates.{PlantDates, IsOfRun};
+    ghost use Rattle.line_stats.specs.PlantDates.{PlantDates};
+    ghost use Rattle.line_table.specs.DateTable.{IsOfRun};
 
     ghost Value = { PlantDates };
 

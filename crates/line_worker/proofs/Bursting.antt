@@ -99,6 +99,7 @@ module _ (old now : LineWorker) (sweeps : ℕ) (inv : IsBursting old now sweeps)
   burst_in_full = record {
     worked = inv.worked;
     few = λ i low. omega (arith, inv.turned i low, full);
+    even = λ i j low_i low_j. omega (arith, inv.turned i low_i, inv.turned j low_j);
     ended = inr (λ i low. omega (arith, inv.turned i low, full));
     fired = λ i low ready. inv.fired (omega (arith, full)) i low ready;
     idle = λ done i low. absurd (inv.undone (omega (arith, full)) done);
@@ -126,6 +127,7 @@ burst_when_done old now sweeps inv is few done =
     record {
       worked = inv.worked;
       few = λ i low. omega (arith, inv.turned i low, few);
+      even = λ i j low_i low_j. omega (arith, inv.turned i low_i, inv.turned j low_j);
       ended = inl (λ i low. done i low ∙ target);
       fired = λ i low ready.
           ⊎_elim

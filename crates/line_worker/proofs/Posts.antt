@@ -93,13 +93,13 @@ pub copies-map : (room : ℕ) (stations : List WorkStation) → map (copy_with r
 copies-map room [] = refl
 copies-map room (s ∷ stations) = ap (λ (l : List RoomyLog). copy_of room s ∷ l) (copies-map room stations)
 
--- where each station has made at most so many dates, each log has as few
+-- where each station has made at most this many dates, each log has as few
 pub logs-few : (logs : List RoomyLog) (stations : List WorkStation) (most : ℕ) → logs ≡ map log_of stations → ((i : ℕ) → i < length stations → dates_of (member stations i) ≤ most) → (i : ℕ) → i < length logs → dates_in (log_on logs i) ≤ most
 logs-few logs stations most are few i there =
     let low : i < length stations = omega (arith, there, ap length are, length-map stations log_of) in
     omega (arith, few i low, ap (λ (l : List RoomyLog). dates_in (log_on l i)) are ∙ dates-at stations i low)
 
--- each station has made so many dates where each log has them
+-- each station has made this many dates where each log has them
 pub all-done : (logs : List RoomyLog) (stations : List WorkStation) (target : ℕ) → logs ≡ map log_of stations → ((i : ℕ) → i < length logs → dates_in (log_on logs i) ≡ target) → (i : ℕ) → i < length stations → dates_of (member stations i) ≡ target
 all-done logs stations target are done i low =
     sym (ap (λ (l : List RoomyLog). dates_in (log_on l i)) are ∙ dates-at stations i low)

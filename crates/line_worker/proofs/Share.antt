@@ -1,6 +1,6 @@
 -- Which worker has which station: station t belongs to worker w exactly where it stands from the first of w on and before
 -- the first of w + 1.
-use Rattle.std.proofs.Common.{◌≡◌, ℕ, ◌+◌, ◌-◌, ◌*◌, ◌/◌, ◌<◌, ◌≤◌, arith, ⊎_elim}
+use Rattle.std.proofs.Common.{◌≡◌, ℕ, ◌+◌, ◌-◌, ◌*◌, ◌/◌, ◌<◌, ◌≤◌, ap, arith, ⊎_elim}
 use Rattle.std.proofs.Math.Nat.{mul-le-mul_left}
 use Rattle.std.proofs.lemmas.Bool.{cases_lt}
 use Rattle.line_worker.specs.Share.{worker_of, first_of}
@@ -83,3 +83,14 @@ module _ (worker_count stations : ℕ) (some : 1 ≤ worker_count) (any : 1 ≤ 
       (λ below. below)
       (λ past. let late = first_from_worker worker_count t past in absurd (omega (arith, first-all)))
       (cases_lt (worker_of worker_count stations t) worker_count)
+
+  -- the first station of a worker that has one is its own, and the least of them
+  pub first-own : (w t : ℕ) → worker_of worker_count stations t ≡ w → worker_of worker_count stations (first_of worker_count stations w) ≡ w
+  first-own w t is =
+      let low = first_from_worker w t (omega (arith, is)) in
+      let high : first_of worker_count stations w < first_of worker_count stations (w + 1) =
+      omega (arith, low, next-above t, ap (λ n. first_of worker_count stations (n + 1)) is) in
+      worker_is w (first_of worker_count stations w) (omega arith) high
+
+  pub first-least : (w t : ℕ) → worker_of worker_count stations t ≡ w → first_of worker_count stations w ≤ t
+  first-least w t is = first_from_worker w t (omega (arith, is))

@@ -11,10 +11,10 @@ log_of s = s.log
 abbrev pub dates_in : RoomyLog → ℕ
 dates_in log = length log.dates
 
--- a copy of a log, with room for so many dates
+-- a copy of a log, with room for this many dates
 abbrev pub copy_with : ℕ → RoomyLog → RoomyLog
 copy_with room log = record { dates = log.dates; room = room }
 
--- a copy of the log of a station, with room for so many dates
+-- a copy of the log of a station, with room for this many dates
 abbrev pub copy_of : ℕ → WorkStation → RoomyLog
 copy_of room s = record { dates = s.log.dates; room = room }

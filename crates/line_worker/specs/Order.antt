@@ -2,7 +2,7 @@
 use Rattle.std.specs.Prelude.{ℕ, ◌+◌, ◌<◌, List, length, slice_index}
 use Rattle.line_worker.specs.Teams.{place_in}
 
--- of so many stations from the first on, those at the places below this one are listed
+-- of this many stations from the first on, those at the places below this one are listed
 pub record IsOrderUpto (places : List ℕ) (first count : ℕ) (order : List ℕ) (place : ℕ) : Type 0 where
   pub exists : (p : ℕ) → p < length order → slice_index order p < count
   pub rises : (p q : ℕ) → p < q → q < length order →

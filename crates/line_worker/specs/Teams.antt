@@ -80,7 +80,7 @@ pub record IsJoined (g : Parts) (begun : State) (teams : List WorkTeam) (a : ℕ
       ShareQueue (outlet_on g teams a) (input_on g teams a).inlet
   pub initial : outlet_initial (shelf_of g teams (arc g a).from) (outlet_on g teams a) ≡ place begun a
 
--- where a room is given, the ring has the room of so many tokens and so much more; else its room has no bound
+-- where a room is given, the ring has the room of this many tokens and this much more; else its room has no bound
 abbrev pub IsOfRoom : Option ℕ → ℕ → Outlet → Type 0
 IsOfRoom None tokens (outlet.Ring put) = ⊤
 IsOfRoom (Some room) tokens (outlet.Room put) = put.ring.room ≡ tokens + room

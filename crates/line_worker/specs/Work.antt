@@ -9,6 +9,10 @@ use Rattle.line_worker.specs.Team.{WorkTeam, member}
 use Rattle.line_worker.specs.Teams.{place_in, team_at, IsJoined}
 use Rattle.line_worker.specs.Worker.{LineWorker, IsWorker, with_team}
 
+-- how many turns a worker gives each of its stations in a burst, at most
+abbrev pub most_sweeps : ℕ
+most_sweeps = 16
+
 -- how many dates a station has made
 abbrev pub dates_of : WorkStation → ℕ
 dates_of s = length s.log.dates
@@ -73,11 +77,11 @@ pub record TeamsWorked (old new : List WorkTeam) : Type 0 where
   pub count : length new ≡ length old
   pub each : (w : ℕ) → w < length old → TeamWorked (team_at old w) (team_at new w)
 
--- no station of the team has made so many turns
+-- no station of the team has made this many turns
 abbrev pub TurnsBelow : ℕ → WorkTeam → Type 0
 TurnsBelow most team = (i : ℕ) → i < length team.stations → (member team.stations i).turns < most
 
--- the worker is the only one of its line, and each of its stations has made so many dates
+-- the worker is the only one of its line, and each of its stations has made this many dates
 pub record IsAlone (c : LineWorker) (times : ℕ) : Type 0 where
   pub one : c.worker_count ≡ 1
   pub joined : (a : ℕ) → a < arc_count c.live.graph → IsJoined c.live.graph c.begun (c.team ∷ []) a
@@ -87,29 +91,33 @@ pub record IsAlone (c : LineWorker) (times : ℕ) : Type 0 where
 abbrev pub turns_made : WorkTeam → ℕ
 turns_made team = sum_by turns_of team.stations
 
--- each station of the team has made so many dates
+-- each station of the team has made this many dates
 abbrev pub AllDone : ℕ → WorkTeam → Type 0
 AllDone target team = (i : ℕ) → i < length team.stations → dates_of (member team.stations i) ≡ target
 
--- each station has made 16 turns, or fewer where all are done, and none where all were; each that was ready fired
+-- each station has made as many turns as a burst has sweeps, or fewer where all are done, and none where all were, and
+-- all of them as many; each that was ready fired
 pub record HasBurst (target : ℕ) (old new : WorkTeam) : Type 0 where
   pub worked : TeamWorked old new
-  pub few : (i : ℕ) → i < length old.stations → (member new.stations i).turns ≤ (member old.stations i).turns + 16
+  pub few : (i : ℕ) → i < length old.stations → (member new.stations i).turns ≤ (member old.stations i).turns + most_sweeps
+  pub even : (i j : ℕ) → i < length old.stations → j < length old.stations →
+      (member new.stations i).turns + (member old.stations j).turns ≡
+      (member new.stations j).turns + (member old.stations i).turns
   pub ended : AllDone target new ⊎
-      ((i : ℕ) → i < length old.stations → (member new.stations i).turns ≡ (member old.stations i).turns + 16)
+      ((i : ℕ) → i < length old.stations → (member new.stations i).turns ≡ (member old.stations i).turns + most_sweeps)
   pub fired : (i : ℕ) → i < length old.stations → IsReady old.shelf (member old.stations i) →
       dates_of (member old.stations i) < dates_of (member new.stations i)
   pub idle : AllDone target old → (i : ℕ) → i < length old.stations →
       (member new.stations i).turns ≡ (member old.stations i).turns
 
--- the one worker of its line, where each station had made so many dates: each has fired 16 times, or as often as dates
--- were left, and made as many turns
+-- the one worker of its line, where each station had made this many dates: each has fired as often as a burst has sweeps,
+-- or as dates were left, and made as many turns
 pub record HasBurstAlone (times : ℕ) (old new : LineWorker) : Type 0 where
-  pub alone : IsAlone new (min (times + 16) old.target)
+  pub alone : IsAlone new (min (times + most_sweeps) old.target)
   pub turns : (i : ℕ) → i < length old.team.stations →
-      (member new.team.stations i).turns + times ≡ (member old.team.stations i).turns + min (times + 16) old.target
+      (member new.team.stations i).turns + times ≡ (member old.team.stations i).turns + min (times + most_sweeps) old.target
 
--- so many sweeps of a burst were made, and before each some station was not done
+-- this many sweeps of a burst were made, and before each some station was not done
 pub record IsBursting (old now : LineWorker) (sweeps : ℕ) : Type 0 where
   pub begins : sweeps ≡ 0 → now ≡ old
   pub worker : 0 < sweeps → IsWorker now

@@ -22,7 +22,7 @@ pub record LineWorker : Type 0 where
   pub order : List ℕ  -- in which its stations step, each by its number in the team
   pub spare : RoomyLogs  -- where the logs go when the line is closed
 
--- each of so many stations, from the first on, is listed once, in the order of their places
+-- each of this many stations, from the first on, is listed once, in the order of their places
 pub record IsOrder (places : List ℕ) (first count : ℕ) (order : List ℕ) : Type 0 where
   pub exists : (p : ℕ) → p < length order → slice_index order p < count
   pub listed : (i : ℕ) → i < count → place_in order i < length order

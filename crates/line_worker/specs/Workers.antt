@@ -7,7 +7,7 @@ use Rattle.live_check.specs.Order.{LiveGraph}
 use Rattle.line_worker.specs.Team.{no_station}
 use Rattle.line_worker.specs.Teams.{IsJoined, AreOfRoom}
 use Rattle.line_worker.specs.Worker.{LineWorker, IsWorker, with_team, teams_of}
-use Rattle.line_worker.specs.Work.{HasBurst, HasBurstAlone, IsAlone, AllDone, TurnsBelow, IsBursting}
+use Rattle.line_worker.specs.Work.{most_sweeps, HasBurst, HasBurstAlone, IsAlone, AllDone, TurnsBelow, IsBursting}
 
 -- stands for a worker past the end of a list
 abbrev pub no_worker : LineWorker
@@ -81,7 +81,7 @@ pub record HasEnded (old now : LineWorker) : Type 0 where
   pub worked : HasDoneBurst old now
   pub done : AllDone now.target now.team
 
--- the worker as it was when a burst began, and as it is after so many rounds: it made a sweep in each, or is done
+-- the worker as it was when a burst began, and as it is after this many rounds: it made a sweep in each, or is done
 abbrev pub IsAtWork : LineWorker → LineWorker → ℕ → Type 0
 IsAtWork old now sweeps = IsBursting old now sweeps ⊎ HasEnded old now
 
@@ -93,4 +93,4 @@ pub record MayGoOn (live : LiveGraph) (c : LineWorker) : Type 0 where
 -- the worker went on with the burst in which it was, by one round
 abbrev pub HasGoneOn : LineWorker → LineWorker → Type 0
 HasGoneOn before after =
-    (old : LineWorker) (sweeps : ℕ) → sweeps < 16 → IsAtWork old before sweeps → IsAtWork old after (sweeps + 1)
+    (old : LineWorker) (sweeps : ℕ) → sweeps < most_sweeps → IsAtWork old before sweeps → IsAtWork old after (sweeps + 1)

@@ -39,7 +39,7 @@ pub(crate) fn turns_made(stations: &Vec<Station>) -> u64
     turns
 }
 
-/// Whether each of these logs has so many dates.
+/// Whether each of these logs has this many dates.
 pub(crate) fn all_done(logs: &Vec<Log>, target: u32) -> bool
     requires { (i : ℕ) → i < length logs.now.items →
         dates_in (log_on logs.now.items i) ≤ target }

@@ -13,6 +13,6 @@ mod worker;
 
 pub use arcs::arc_at;
 pub use gate::{FreeGate, Gate};
-pub use owner::{first_of, worker_of};
+pub use owner::{first_is_least, first_of, worker_of};
 pub use team::Team;
 pub use worker::{SWEEPS, Worker};

@@ -16,7 +16,7 @@ pub(crate) fn give_logs(given: Vec<Log>, logs: &mut Logs)
     }
 }
 
-/// Copies the logs of stations, one after the other, behind those of a list, each with room for so many dates.
+/// Copies the logs of stations, one after the other, behind those of a list, each with room for this many dates.
 pub(crate) fn copy_logs(
     alloc: Global,
     copied: &Vec<Log>,

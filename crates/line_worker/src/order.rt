@@ -5,7 +5,7 @@ ghost use Rattle.line_worker.specs.Worker.{IsOrder};
 use live_check::Live;
 use std::alloc::{AllocError, Global};
 
-/// The number of station `t` among so many stations from the first on, if it is one of them.
+/// The number of station `t` among this many stations from the first on, if it is one of them.
 fn number_in(first: u32, count: u32, t: u32) -> Option<u32>
     requires { first + count < 2 ^ 32 }
     ensures { SomeIff result ((first ≤ t) × (t < first + count)) (t - first) }
@@ -17,7 +17,7 @@ fn number_in(first: u32, count: u32, t: u32) -> Option<u32>
     }
 }
 
-/// The order in which so many stations from the first on step: their numbers among them, by their places.
+/// The order in which this many stations from the first on step: their numbers among them, by their places.
 pub(crate) fn order_of(
     alloc: Global,
     live: &Live,

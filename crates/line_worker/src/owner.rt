@@ -1,4 +1,4 @@
-ghost use Rattle.std.specs.Prelude.{◌≡◌, ◌≤◌, ◌<◌};
+ghost use Rattle.std.specs.Prelude.{◌≡◌, ◌≤◌, ◌<◌, ℕ};
 ghost use Rattle.line_worker.specs.Share.{worker_of, first_of};
 
 /// The worker that has station `t`.
@@ -21,3 +21,13 @@ pub fn first_of(worker_count: u32, stations: u32, w: u32) -> u32
 {
     (w * stations + (worker_count - 1)) / worker_count
 }
+
+/// The law *Shares*: the first station of a worker that has one is its own, and the least of its stations.
+pub fn first_is_least()
+    ensures own { (worker_count stations w t : ℕ) → 1 ≤ worker_count → 1 ≤ stations →
+        worker_of worker_count stations t ≡ w →
+        worker_of worker_count stations (first_of worker_count stations w) ≡ w }
+    ensures least { (worker_count stations w t : ℕ) → 1 ≤ worker_count → 1 ≤ stations →
+        worker_of worker_count stations t ≡ w →
+        first_of worker_count stations w ≤ t }
+{}

@@ -1,5 +1,5 @@
 -- A burst of all workers: what each did, and then the meeting.
-use Rattle.std.proofs.Common.{◌≡◌, ℕ, ◌+◌, ◌-◌, ◌<◌, ◌≤◌, List, [], ◌∷◌, take, min, length, refl, ap, ◌∙◌, sym, subst, arith}
+use Rattle.std.proofs.Common.{◌≡◌, ℕ, ◌+◌, ◌-◌, ◌<◌, ◌≤◌, List, [], ◌∷◌, take, min, length, refl, ap, ◌∙◌, sym, subst, arith, ⊎_elim, inl, inr}
 use Rattle.line_base.specs.declared.event.Parts.{Parts}
 use Rattle.line_base.specs.Roomy.{RoomyLog}
 use Rattle.event_graph.specs.Network.{stations, jobs, arc_count}
@@ -13,7 +13,7 @@ use Rattle.line_worker.specs.Worker.{LineWorker, teams_of}
 use Rattle.line_worker.specs.Work.{dates_of, turns_of, HasWorked, HasBurst, HasBurstAlone, IsAlone, AllDone, TeamWorked, TeamsWorked}
 use Rattle.line_workers.specs.Meeting.{AreStill}
 use Rattle.line_worker.specs.Workers.{worker_at, graph_of, begun_of, AreWorkers, AreSameWorkers, HasDoneBurst}
-use Rattle.line_workers.specs.Burst.{AllMade, EachMade, WorkersBurst}
+use Rattle.line_workers.specs.Burst.{AllMade, EachMade, WorkerBurst, WorkersBurst}
 use Rattle.line_worker.proofs.WorkerTeams.{count-teams, team_at-workers}
 use Rattle.line_workers.proofs.AllWorkers.{graph-same, worker_there, seat_there, seated, of_seat, workers-same, then_same}
 
@@ -99,6 +99,39 @@ module _ (old mid : List LineWorker) (are : AreWorkers old) (count : length mid 
       let of = of_seat old are v i low low_i in
       ap dates_of (sym of.1) ∙ made (first_of (length old) (stations g) v + i) of.0
 
+  -- the stations of one worker
+  beside-t : (t : ℕ) → t < stations g → WorkerBurst g (length old) (teams_of old) (teams_of mid) t
+  beside-t t there =
+      let owner : ℕ → ℕ = worker_of (length old) (stations g) in
+      let number : ℕ → ℕ = λ u. u - first_of (length old) (stations g) (owner u) in
+      let low = worker_there old are t there in
+      let burst : HasBurst (worker_at old (owner t)).target (worker_at old (owner t)).team (worker_at mid (owner t)).team = (each (owner t) low).burst in
+      let there-of : (u : ℕ) → u < stations g → owner u ≡ owner t → number u < length (worker_at old (owner t)).team.stations =
+      λ u u_there one. subst (λ v. number u < length (worker_at old v).team.stations) one (seat_there old are u u_there).number in
+      let old-of : (u : ℕ) → u < stations g → owner u ≡ owner t → member (worker_at old (owner t)).team.stations (number u) ≡ station_of g (teams_of old) u =
+      λ u u_there one. sym (ap (λ v. member (worker_at old v).team.stations (number u)) one) ∙ at_old u u_there in
+      let mid-of : (u : ℕ) → u < stations g → owner u ≡ owner t → member (worker_at mid (owner t)).team.stations (number u) ≡ station_of g (teams_of mid) u =
+      λ u u_there one. sym (ap (λ v. member (worker_at mid v).team.stations (number u)) one) ∙ at_mid u u_there in
+      record {
+        even = λ u u_there one.
+            omega (
+              arith,
+              burst.even (number u) (number t) (there-of u u_there one) (there-of t there refl),
+              ap turns_of (old-of u u_there one),
+              ap turns_of (mid-of u u_there one),
+              ap turns_of (old-of t there refl),
+              ap turns_of (mid-of t there refl),
+            );
+        ended =
+            ⊎_elim
+            (λ done. inl (λ u u_there one.
+            sym (ap dates_of (mid-of u u_there one))
+            ∙ done (number u) (omega (arith, there-of u u_there one, burst.worked.count))
+            ∙ target-is t there))
+            (λ full. inr (omega (arith, full (number t) (there-of t there refl), ap turns_of (old-of t there refl), ap turns_of (mid-of t there refl))))
+            burst.ended;
+      }
+
   idle-t : AllMade g (teams_of old) → (t : ℕ) → t < stations g → turns_of (station_of g (teams_of mid) t) ≡ turns_of (station_of g (teams_of old) t)
   idle-t all t there =
       let v = worker_of (length old) (stations g) t in
@@ -183,6 +216,16 @@ module _ (old mid : List LineWorker) (are : AreWorkers old) (count : length mid 
               steps = omega (arith, w.steps, turns, ap (λ (l : RoomyLog). length l.dates) log);
               few = omega (arith, few-t t there, turns);
               fired = λ ready. omega (arith, fired-t t there ready, ap (λ (l : RoomyLog). length l.dates) log);
+            };
+        workers = λ t there.
+            let beside = beside-t t there in
+            record {
+              even = λ u u_there one. omega (arith, beside.even u u_there one, still.turns u u_there, still.turns t there);
+              ended =
+                  ⊎_elim
+                  (λ done. inl (λ u u_there one. ap (λ (l : RoomyLog). length l.dates) (still.logs u u_there) ∙ done u u_there one))
+                  (λ full. inr (omega (arith, full, still.turns t there)))
+                  beside.ended;
             };
         idle = λ all t there. still.turns t there ∙ idle-t all t there;
         alone = λ one times le made t there. ap (λ (l : RoomyLog). length l.dates) (still.logs t there) ∙ alone-dates one times le made t there;

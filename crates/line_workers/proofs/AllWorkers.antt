@@ -1,5 +1,5 @@
 -- The workers of a line as teams, and a meeting among them.
-use Rattle.std.proofs.Common.{◌≡◌, ℕ, ◌+◌, ◌-◌, ◌<◌, ◌≤◌, List, Option, length, set, refl, ap, ◌∙◌, sym, subst, arith, ⊎_elim}
+use Rattle.std.proofs.Common.{◌≡◌, ℕ, ◌+◌, ◌-◌, ◌<◌, ◌≤◌, List, Option, length, set, refl, ap, ◌∙◌, sym, subst, arith, ⊎_elim, ◌⊎◌}
 use Rattle.std.proofs.lemmas.Bool.{cases_eq}
 use Rattle.std.proofs.lemmas.List.{length-set, get_or-set_other, map-set}
 use Rattle.line_base.specs.declared.event.Parts.{Parts}
@@ -345,14 +345,14 @@ then_same workers mid new first next = record {
 
 -- ---- all arcs
 
-pub meeting_begins : (live : LiveGraph) (workers : List LineWorker) → AreWorkers workers → live ≡ live_of workers → IsMeeting live workers workers 0
-meeting_begins live workers are made_for = record {
+pub meeting_begins : (live : LiveGraph) (workers : List LineWorker) (None : ℕ → Type 0) → ((b : ℕ) → None b → ⊥) → AreWorkers workers → live ≡ live_of workers → IsMeeting live workers workers None
+meeting_begins live workers None none are made_for = record {
   whole = are;
   live_is = made_for;
   same = workers-stay workers are;
   worked = record { count = refl; each = λ w low. idle_team (team_at (teams_of workers) w) };
   still = record { logs = λ t there. refl; turns = λ t there. refl };
-  met = λ b low. absurd (omega arith);
+  met = λ b low some. absurd (none b some);
 }
 
 pub teams-then : (old now next : List WorkTeam) → TeamsWorked old now → TeamsWorked now next → TeamsWorked old next
@@ -361,8 +361,9 @@ teams-then old now next first later = record {
   each = λ w low. then_team (team_at old w) (team_at now w) (team_at next w) (first.each w low) (later.each w (omega (arith, low, first.count)));
 }
 
-pub meeting_goes_on : (live : LiveGraph) (old now next : List LineWorker) (a : ℕ) → IsMeeting live old now a → a < arc_count live.graph → AreSameWorkers now next → MeetsOn live.graph (teams_of now) (teams_of next) a → IsMeeting live old next (a + 1)
-meeting_goes_on live old now next a inv listed same meets =
+-- one arc more
+pub meeting_goes_on : (live : LiveGraph) (old now next : List LineWorker) (Some More : ℕ → Type 0) (a : ℕ) → IsMeeting live old now Some → ((b : ℕ) → More b → (b ≡ a) ⊎ Some b) → AreSameWorkers now next → MeetsOn live.graph (teams_of now) (teams_of next) a → IsMeeting live old next More
+meeting_goes_on live old now next Some More a inv narrow same meets =
     let first : 0 < length now = omega (arith, inv.whole.some) in
     record {
       whole = workers-same now inv.whole next same meets.worked;
@@ -373,11 +374,13 @@ meeting_goes_on live old now next a inv listed same meets =
         logs = λ t there. meets.still.logs t there ∙ inv.still.logs t there;
         turns = λ t there. meets.still.turns t there ∙ inv.still.turns t there;
       };
-      met = λ b low.
+      met = λ b low more.
+          let here : b ≡ a → IsMetOn live.graph (teams_of next) b =
+          λ same_arc. subst (IsMetOn live.graph (teams_of next)) (sym same_arc) meets.met in
           ⊎_elim
-          (λ here. subst (IsMetOn live.graph (teams_of next)) (sym here) meets.met)
-          (λ apart. let before : b < a = omega arith in meets.others b (omega (arith, before, listed)) apart (inv.met b before))
-          (cases_eq b a);
+          here
+          (λ before. ⊎_elim here (λ apart. meets.others b low apart (inv.met b low before)) (cases_eq b a))
+          (narrow b more);
     }
 
 -- ---- totals

@@ -5,6 +5,8 @@ pub mod AllWorkers
 pub mod AllBurst
 pub mod LineBurst
 pub mod Lines
+pub mod AllFirings
 pub mod LogsGiven
 pub mod TurnsCleared
 pub mod AfterSweeps
+pub mod Linked

@@ -1,5 +1,5 @@
 -- What a burst means for the line: firings, steps, progress.
-use Rattle.std.proofs.Common.{◌≡◌, ℕ, zero, suc, ◌+◌, ◌-◌, ◌*◌, ◌^◌, ◌<◌, ◌≤◌, ◌↔◌, List, Option, None, map, take, min, length, get_or, zero-add, refl, ap, ◌∙◌, sym, subst, arith, ⊎_elim}
+use Rattle.std.proofs.Common.{◌≡◌, ℕ, zero, suc, ◌+◌, ◌-◌, ◌*◌, ◌^◌, ◌<◌, ◌≤◌, ◌↔◌, List, Option, None, map, take, min, length, get_or, zero-add, refl, ap, ◌∙◌, sym, subst, arith, ⊎_elim, inl, inr}
 use Rattle.std.specs.List.{sum_by, sum, range_with_len, All}
 use Rattle.std.proofs.lemmas.Bool.{cases_lt}
 use Rattle.std.proofs.lemmas.List.{length-take, get_or_default}
@@ -21,10 +21,10 @@ use Rattle.line_worker.specs.Team.{WorkTeam, member}
 use Rattle.line_worker.specs.Share.{worker_of, first_of}
 use Rattle.line_worker.specs.Teams.{station_of, outlet_on, AreOfRoom, AreTeams, AreAllMet, state_among}
 use Rattle.line_worker.specs.Worker.{LineWorker, teams_of}
-use Rattle.line_worker.specs.Work.{dates_of, turns_of, TurnsBelow}
+use Rattle.line_worker.specs.Work.{dates_of, turns_of, most_sweeps, TurnsBelow}
 use Rattle.line_worker.specs.Workers.{worker_at, no_worker, live_of, graph_of, begun_of, room_of, AreWorkers}
 use Rattle.line_workers.specs.Burst.{AllMade, EachMade, WorkersBurst}
-use Rattle.line_workers.specs.Line.{WorkLine, turns_among, line_of, run_in, KeepsPace, AreAtRest, IsLine, IsWithinRooms, LogsGrow}
+use Rattle.line_workers.specs.Line.{WorkLine, turns_among, line_of, run_in, KeepsPace, AreAtRest, IsLine, IsWithinRooms, LogsGrow, WorksAt, EachWorks}
 use Rattle.line_workers.proofs.AllWorkers.{ranked, workers_are_teams, seat_there, seated, of_seat}
 use Rattle.line_worker.proofs.Standing.{log-among, stands_for_reached, can_fire_is_ready}
 use Rattle.line_worker.proofs.Spacing.{spaces, free-spaces, few-spaces, first_can_fire}
@@ -78,14 +78,15 @@ pub record LineBurst (old new : WorkLine) (f s : ℕ) : Type 0 where
   pub line : IsLine new
   pub frame : new ≡ record old { state = new.state; turns = new.turns }
   pub logs : LogsGrow old.live.graph old.state new.state
+  pub works : EachWorks old new
   pub fired : fired new.state ≡ fired old.state + f
   pub steps : sum new.turns ≡ sum old.turns + s
   pub at_most : f ≤ s
-  pub few : s ≤ 16 * stations old.live.graph
+  pub few : s ≤ most_sweeps * stations old.live.graph
   pub ready : old.room ≡ None → (t : ℕ) → CanFire old.live.graph old.state t → length (log old.state t) < length (log new.state t)
   pub idle : (f ≡ 0) ↔ IsFinished old.live.graph old.state
   pub rest : IsFinished old.live.graph old.state → s ≡ 0
-  pub alone : (times : ℕ) → old.worker_count ≡ 1 → HasFired (run_in old) times → HasFired (run_in new) (min (times + 16) (jobs old.live.graph))
+  pub alone : (times : ℕ) → old.worker_count ≡ 1 → HasFired (run_in old) times → HasFired (run_in new) (min (times + most_sweeps) (jobs old.live.graph))
   pub alone_steps : (times : ℕ) → old.worker_count ≡ 1 → HasFired (run_in old) times → s ≡ f
 
 -- ---- the counts never fall
@@ -287,6 +288,28 @@ module _ (old new : List LineWorker) (made : ℕ) (rest : AreAtRest old made) (b
               (cases_lt f 1),
         )
 
+    -- what each station did, as the line shows it
+    works : EachWorks (line_of old made) seen
+    works t there =
+        let turns-old : (u : ℕ) → u < stations g → get_or (turns_among g (teams_of old)) u 0 ≡ U u =
+        λ u u_there. get_or-map-range_with_len U 0 (stations g) u u 0 u_there (zero-add u) in
+        let turns-new : (u : ℕ) → u < stations g → get_or (turns_among g (teams_of new)) u 0 ≡ U' u =
+        λ u u_there. get_or-map-range_with_len U' 0 (stations g) u u 0 u_there (zero-add u) in
+        let each = b.each t there in
+        let beside = b.workers t there in
+        record {
+          turned = omega (arith, each.turned, turns-old t there, turns-new t there);
+          few = omega (arith, each.few, turns-old t there, turns-new t there);
+          ended =
+              ⊎_elim
+              (λ done. inl (λ u u_there one. ap length (new-log u u_there) ∙ done u u_there one))
+              (λ full. inr (omega (arith, full, turns-old t there, turns-new t there)))
+              beside.ended;
+          even = λ u u_there one.
+              omega (arith, beside.even u u_there one, turns-old u u_there, turns-new u u_there, turns-old t there, turns-new t there);
+          steps = omega (arith, each.steps, turns-old t there, turns-new t there, ap length (old-log t there), ap length (new-log t there));
+        }
+
     each_made : (times : ℕ) → HasFired (record { graph = g; state = state_among g (teams_of old) }) times → EachMade g (teams_of old) times
     each_made times has t there = sym (ap length (old-log t there)) ∙ has t there
 
@@ -307,6 +330,7 @@ module _ (old new : List LineWorker) (made : ℕ) (rest : AreAtRest old made) (b
           ∙ ap (take (D t)) (new-log t there)
           ∙ (b.each t there).kept
           ∙ sym (old-log t there);
+      works = works;
       fired = fired_is;
       steps = steps_is;
       at_most = fewer;
@@ -365,4 +389,12 @@ line_after items lent new after made f s old is_items is_new view rest burst fir
           subst (λ (l : List LineWorker). LineBurst (line_of items made) (line_of l made) f s) (sym is_new) (
           burst_of_line items new made rest b f s f_is s_is)),
       subst (λ (l : List LineWorker). AreAtRest l made) (sym is_new) (at_rest_again items new made rest b f s f_is s_is),
+    )
+
+-- the graph and the number of workers stay
+pub stays_of : (items lent new after : List LineWorker) → lent ≡ items → after ≡ new → AreWorkers items → WorkersBurst lent new → (graph_of after ≡ graph_of items) × (length after ≡ length items)
+stays_of items lent new after is_items is_new are burst =
+    let b : WorkersBurst items new = subst (λ (l : List LineWorker). WorkersBurst l new) is_items burst in (
+      ap graph_of is_new ∙ ap (λ (l : LiveGraph). l.graph) (same-live items new are b),
+      ap (λ (l : List LineWorker). length l) is_new ∙ b.same.count,
     )

@@ -13,7 +13,7 @@ use Rattle.line_worker.specs.Worker.{LineWorker, teams_of}
 use Rattle.line_worker.specs.Workers.{graph_of}
 use Rattle.line_worker.specs.Logs.{log_of, copy_of}
 
--- what this gives of each of the first so many stations
+-- what this gives of each of the first stations, up to this number
 abbrev pub first_logs : (WorkStation → RoomyLog) → Parts → List WorkTeam → ℕ → List RoomyLog
 first_logs of g teams count = map (λ t. of (station_of g teams t)) (range_with_len 0 count)
 
@@ -25,7 +25,7 @@ logs_among g teams = first_logs log_of g teams (stations g)
 abbrev pub copies_among : Parts → List WorkTeam → List RoomyLog
 copies_among g teams = first_logs (copy_of (jobs g)) g teams (stations g)
 
--- these are what this gives of the stations of the first so many workers, with room for those of all
+-- these are what this gives of the stations of the first workers, up to this number, with room for those of all
 pub record AreGiven (of : WorkStation → RoomyLog) (workers : List LineWorker) (count : ℕ) (given : RoomyLogs) : Type 0 where
   pub logs : given.logs ≡
       first_logs of (graph_of workers) (teams_of workers) (first_of (length workers) (stations (graph_of workers)) count)

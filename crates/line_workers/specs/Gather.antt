@@ -21,7 +21,7 @@ pub record AreWorkersAfter (old new : List LineWorker) : Type 0 where
   pub count : length new ≡ length old
   pub each : (w : ℕ) → w < length old → IsWorkerAfter (worker_at old w) (worker_at new w)
 
--- the workers of a line that is made of these, where so many firings had been made: each queue was met, no log has
+-- the workers of a line that is made of these, where this many firings had been made: each queue was met, no log has
 -- changed, and the turns count from 0
 pub record Gathers (live : LiveGraph) (workers gathered : List LineWorker) (made : ℕ) : Type 0 where
   pub rest : AreAtRest gathered made

@@ -1,8 +1,9 @@
 -- What contracts see of a line: what it was made for, the state that it stands for, and counts. Nothing of queues.
-use Rattle.std.specs.Prelude.{◌≡◌, ◌≢◌, ℕ, ◌+◌, ◌-◌, ◌*◌, ◌<◌, ◌≤◌, List, Option, None, Some, map, take, length, All}
+use Rattle.std.specs.Prelude.{◌≡◌, ◌≢◌, ℕ, ◌+◌, ◌-◌, ◌*◌, ◌<◌, ◌≤◌, ◌⊎◌, List, Option, None, Some, map, take, length, slice_index, All}
 use Rattle.std.specs.List.{range_with_len}
+use Rattle.line_base.specs.Limits.{most_workers}
 use Rattle.line_base.specs.declared.event.Parts.{Parts}
-use Rattle.event_graph.specs.Network.{stations, arc, arc_count}
+use Rattle.event_graph.specs.Network.{stations, jobs, arc, arc_count}
 use Rattle.event_graph.specs.State.{State, log, place}
 use Rattle.live_check.specs.Order.{LiveGraph, IsRanked}
 use Rattle.line_core.specs.Consistent.{fired}
@@ -11,7 +12,7 @@ use Rattle.line_worker.specs.Share.{worker_of}
 use Rattle.line_worker.specs.Team.{WorkTeam}
 use Rattle.line_worker.specs.Teams.{station_of, state_among, AreAllMet}
 use Rattle.line_worker.specs.Worker.{LineWorker, teams_of}
-use Rattle.line_worker.specs.Work.{turns_of}
+use Rattle.line_worker.specs.Work.{turns_of, most_sweeps}
 use Rattle.line_worker.specs.Workers.{live_of, graph_of, room_of, AreWorkers}
 
 -- what contracts see of a `Line`
@@ -46,14 +47,14 @@ run_in l = record { graph = l.live.graph; state = l.state }
 abbrev pub firings_of : WorkLine → ℕ
 firings_of l = fired l.state - l.made
 
--- no station has made more than 16 turns for each firing
+-- no station has made more turns than a burst has sweeps for each firing
 abbrev pub KeepsPace : WorkLine → Type 0
-KeepsPace l = (l.made ≤ fired l.state) × All (λ turns. turns ≤ 16 * firings_of l) l.turns
+KeepsPace l = (l.made ≤ fired l.state) × All (λ turns. turns ≤ most_sweeps * firings_of l) l.turns
 
 -- the workers of a line at rest: every queue was met
 pub record AreAtRest (workers : List LineWorker) (made : ℕ) : Type 0 where
   pub whole : AreWorkers workers
-  pub few : length workers ≤ 16
+  pub few : length workers ≤ most_workers
   pub met : AreAllMet (graph_of workers) (teams_of workers)
   pub pace : KeepsPace (line_of workers made)
 
@@ -79,7 +80,33 @@ pub record IsLine (l : WorkLine) : Type 0 where
 abbrev pub LogsGrow : Parts → State → State → Type 0
 LogsGrow g old new = (t : ℕ) → t < stations g → take (length (log old t)) (log new t) ≡ log old t
 
--- a new line of so many workers, with rings of this room, which stands for this state
+-- how many turns station t of a line has made, and how many firings
+abbrev pub turns_at : WorkLine → ℕ → ℕ
+turns_at l t = slice_index l.turns t
+
+abbrev pub dates_at : WorkLine → ℕ → ℕ
+dates_at l t = length (log l.state t)
+
+-- one worker has both stations
+abbrev pub AreOfOneWorker : WorkLine → ℕ → ℕ → Type 0
+AreOfOneWorker l t u = worker_of l.worker_count (stations l.live.graph) u ≡ worker_of l.worker_count (stations l.live.graph) t
+
+-- what station t did in a burst: it made as many turns as the burst has sweeps, or fewer where all stations of its worker
+-- are done, and as many as each of them; in a turn it made one firing at most
+pub record WorksAt (old new : WorkLine) (t : ℕ) : Type 0 where
+  pub turned : turns_at old t ≤ turns_at new t
+  pub few : turns_at new t ≤ turns_at old t + most_sweeps
+  pub ended : ((u : ℕ) → u < stations old.live.graph → AreOfOneWorker old t u → dates_at new u ≡ jobs old.live.graph) ⊎
+      (turns_at new t ≡ turns_at old t + most_sweeps)
+  pub even : (u : ℕ) → u < stations old.live.graph → AreOfOneWorker old t u →
+      turns_at new u + turns_at old t ≡ turns_at new t + turns_at old u
+  pub steps : dates_at new t + turns_at old t ≤ dates_at old t + turns_at new t
+
+-- each station did so
+abbrev pub EachWorks : WorkLine → WorkLine → Type 0
+EachWorks old new = (t : ℕ) → t < stations old.live.graph → WorksAt old new t
+
+-- a new line of this many workers, with rings of this room, which stands for this state
 pub record StandsIn (room : Option ℕ) (live : LiveGraph) (state : State) (worker_count : ℕ) (l : WorkLine) : Type 0 where
   pub live_is : l.live ≡ live
   pub state_is : l.state ≡ state
@@ -88,6 +115,6 @@ pub record StandsIn (room : Option ℕ) (live : LiveGraph) (state : State) (work
   pub made_is : l.made ≡ fired state
   pub no_turns : All (λ turns. turns ≡ 0) l.turns
 
--- a new line of so many workers, with rings whose room has no bound, which stands for this state
+-- a new line of this many workers, with rings whose room has no bound, which stands for this state
 abbrev pub Stands : LiveGraph → State → ℕ → WorkLine → Type 0
 Stands live state worker_count = StandsIn None live state worker_count

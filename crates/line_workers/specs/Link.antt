@@ -1,12 +1,15 @@
 -- Where the two ends of an arc's queue stand, and what their meeting does.
-use Rattle.std.specs.Prelude.{◌≡◌, ◌≢◌, ℕ, ◌-◌, ◌<◌, List, length, slice_set}
+use Rattle.std.specs.Prelude.{◌≡◌, ◌≢◌, ℕ, ◌-◌, ◌<◌, ◌==◌, ⊤, Bool, not, List, map, length, slice_set}
+use Rattle.std.specs.List.{filter, range_with_len}
 use Rattle.line_base.specs.declared.event.Parts.{Parts}
-use Rattle.event_graph.specs.Network.{stations, arc, ins, outs}
+use Rattle.event_graph.specs.Network.{stations, arc, arc_count, ins, outs}
 use Rattle.station_step.specs.Ends.{AreEnds, AreMet}
 use Rattle.station_step.specs.Input.{input_at}
 use Rattle.station_step.specs.Station.{WorkStation, outlet_at}
 use Rattle.line_workers.specs.declared.link.Seat.{Seat}
 use Rattle.line_workers.specs.declared.link.Link.{Link}
+use Rattle.line_workers.specs.declared.link.Links.{Links}
+use Rattle.line_workers.specs.declared.link.Links.TheVariants.{Listed, Unlisted}
 use Rattle.line_worker.specs.Share.{worker_of, first_of}
 use Rattle.line_worker.specs.Team.{member}
 use Rattle.line_worker.specs.Teams.{place_in}
@@ -33,6 +36,28 @@ link_of g worker_count a = record {
 -- one worker has both stations of arc a
 abbrev pub IsInside : Parts → ℕ → ℕ → Type 0
 IsInside g worker_count a = worker_of worker_count (stations g) (arc g a).from ≡ worker_of worker_count (stations g) (arc g a).to
+
+-- arc a leads from one worker to another
+abbrev pub is_between : Parts → ℕ → ℕ → Bool
+is_between g worker_count a =
+    not (worker_of worker_count (stations g) (arc g a).from == worker_of worker_count (stations g) (arc g a).to)
+
+-- of the first n arcs those between two workers, in their order
+unfoldable pub arcs_between : Parts → ℕ → ℕ → List ℕ
+arcs_between g worker_count n = filter (is_between g worker_count) (range_with_len 0 n)
+
+-- where their ends stand
+abbrev pub first_links : Parts → ℕ → ℕ → List Link
+first_links g worker_count n = map (link_of g worker_count) (arcs_between g worker_count n)
+
+-- where the ends of each arc between two workers stand
+abbrev pub links_of : Parts → ℕ → List Link
+links_of g worker_count = first_links g worker_count (arc_count g)
+
+-- a list that a line has is that of all arcs between two of its workers
+abbrev pub AreLinks : Parts → ℕ → Links → Type 0
+AreLinks g worker_count (Listed links) = links.items ≡ links_of g worker_count
+AreLinks g worker_count Unlisted = ⊤
 
 -- the station at a seat
 abbrev pub seated_at : List LineWorker → Seat → WorkStation

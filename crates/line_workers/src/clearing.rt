@@ -7,7 +7,7 @@ use line_worker::Worker;
 pub(crate) fn clear_workers(workers: &mut [Worker])
     ensures { workers.new ≡ map cleared_worker workers.old }
 {
-    for k in 0..workers.len() {
-        workers[k].clear_turns();
+    for worker in workers.iter_mut() {
+        worker.clear_turns();
     }
 }

@@ -9,13 +9,14 @@ ghost use Rattle.line_core.specs.Consistent.{IsFinished, fired};
 ghost use Rattle.line_core.specs.Round.{HasFired};
 ghost use Rattle.line_core.specs.Run.{IsReached};
 ghost use Rattle.line_workers.specs.Gather.{logs_in};
-ghost use Rattle.line_workers.specs.Line.{IsLine, Stands, StandsIn, LogsGrow, run_in, line_of};
+ghost use Rattle.line_workers.specs.Line.{IsLine, Stands, StandsIn, LogsGrow, EachWorks, run_in, line_of};
 ghost use Rattle.line_worker.specs.Workers.{live_of, room_of, AreWorkers};
-ghost use Rattle.line_worker.specs.Work.{TurnsBelow};
+ghost use Rattle.line_worker.specs.Work.{most_sweeps, TurnsBelow};
 
 use crate::closing::{copies_of, logs_of};
+use crate::link::{Links, links_of};
 use crate::threading::Threading;
-use crate::workers::{all_done, burst_of, dates_of, gather_workers};
+use crate::workers::{Counts, burst_of, gather_workers};
 use line_core::State;
 use line_setup::{Start, workers_of};
 use line_worker::{Gate, Worker};
@@ -34,18 +35,33 @@ pub struct Line {
     workers: Vec<Worker>,
     // How many firings had been made when the turns of the stations began to count. Contracts alone read it.
     made: u64,
+    // How many firings and steps the stations have made, and how many firings there are in all.
+    counts: Counts,
+    all: u64,
+    // The arcs between two workers.
+    links: Links,
     // Whether the next burst goes by threads.
     threading: Threading,
 }
 
 impl Model for Line {
+    ghost use Rattle.std.specs.Prelude.{◌≡◌, ◌*◌, length};
+    ghost use Rattle.event_graph.specs.Network.{stations, jobs};
+    ghost use Rattle.line_worker.specs.Workers.{graph_of};
     ghost use Rattle.line_workers.specs.Line.{WorkLine, line_of, AreAtRest};
+    ghost use Rattle.line_workers.specs.Counts.{AreCounts};
+    ghost use Rattle.line_workers.specs.Link.{AreLinks};
 
     ghost Value = { WorkLine };
 
     ghost view = { λ l. line_of l.workers.items l.made };
 
-    ghost invariant = { λ l. AreAtRest l.workers.items l.made };
+    ghost invariant = { λ l. record {
+      rest : AreAtRest l.workers.items l.made;
+      counts : AreCounts l.counts l.workers.items;
+      all : l.all ≡ stations (graph_of l.workers.items) * jobs (graph_of l.workers.items);
+      links : AreLinks (graph_of l.workers.items) (length l.workers.items) l.links;
+    } };
 }
 
 /// What came of a burst.
@@ -55,6 +71,13 @@ pub struct Burst {
     pub fired: u64,
     /// How many steps were made.
     pub steps: u64,
+}
+
+/// How many firings there are in all: one for each station and job.
+fn firings_of(live: &Live) -> u64
+    ensures { result ≡ stations live.now.graph * jobs live.now.graph }
+{
+    u64::from(live.graph().stations()) * u64::from(live.graph().jobs())
 }
 
 impl Line {
@@ -81,9 +104,16 @@ impl Line {
             room,
         };
         let workers = workers_of(alloc, &start)?;
+        let links = links_of(alloc, live, worker_count)?;
         Ok(Line {
             workers,
             made,
+            counts: Counts {
+                fired: made,
+                steps: 0,
+            },
+            all: firings_of(live),
+            links: Links::Listed(links),
             threading: Threading::new(),
         })
     }
@@ -154,7 +184,7 @@ impl Line {
         ensures fired { result ≡ fired self.now.state }
         ensures line { IsLine self.now }
     {
-        dates_of(&self.workers)
+        self.counts.fired
     }
 
     /// Whether every station has fired once for each job.
@@ -162,7 +192,7 @@ impl Line {
         ensures finished { IsTrue result ↔ IsFinished self.now.live.graph self.now.state }
         ensures line { IsLine self.now }
     {
-        all_done(&self.workers)
+        self.counts.fired == self.all
     }
 
     /// Lets each worker go over its stations 16 times, or fewer where all of them are done before, and then lets the
@@ -182,11 +212,12 @@ impl Line {
             record self.old { state = self.new.state; turns = self.new.turns } }
         ensures logs { LogsGrow self.old.live.graph self.old.state self.new.state }
 
-        // How many firings and steps were made, and which at least.
+        // What each station did, how many firings and steps were made, and which at least.
+        ensures works { EachWorks self.old self.new }
         ensures fired { fired self.new.state ≡ fired self.old.state + result.fired }
         ensures steps { sum self.new.turns ≡ sum self.old.turns + result.steps }
         ensures at_most { result.fired ≤ result.steps }
-        ensures few { result.steps ≤ 16 * stations self.old.live.graph }
+        ensures few { result.steps ≤ most_sweeps * stations self.old.live.graph }
         ensures ready { self.old.room ≡ None → (t : ℕ) →
             CanFire self.old.live.graph self.old.state t →
             length (log self.old.state t) < length (log self.new.state t) }
@@ -195,11 +226,19 @@ impl Line {
 
         // One worker, where all stations have fired as often, fires each of them with every step.
         ensures alone { (times : ℕ) → self.old.worker_count ≡ 1 → HasFired (run_in self.old) times →
-            HasFired (run_in self.new) (min (times + 16) (jobs self.old.live.graph)) }
+            HasFired (run_in self.new) (min (times + most_sweeps) (jobs self.old.live.graph)) }
         ensures alone_steps { (times : ℕ) → self.old.worker_count ≡ 1 →
             HasFired (run_in self.old) times → result.steps ≡ result.fired }
     {
-        burst_of(rt, &mut self.workers, live, gate, &mut self.threading)
+        burst_of(
+            rt,
+            &mut self.workers,
+            live,
+            gate,
+            &self.links,
+            &mut self.counts,
+            &mut self.threading,
+        )
     }
 
     /// A copy of the state that the line stands for. It can go on firing by itself: it takes the room of all later
@@ -251,6 +290,12 @@ impl Line {
         Line {
             workers,
             made,
+            counts: Counts {
+                fired: made,
+                steps: 0,
+            },
+            all: firings_of(live),
+            links: Links::Unlisted,
             threading: Threading::new(),
         }
     }

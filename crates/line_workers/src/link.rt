@@ -1,10 +1,11 @@
-ghost use Rattle.std.specs.Prelude.{◌≡◌, ◌<◌, ◌≤◌, ◌^◌, ◌↔◌, IsTrue, length};
+ghost use Rattle.std.specs.Prelude.{◌≡◌, ◌<◌, ◌≤◌, ◌^◌, ◌↔◌, IsTrue, IfOk, length};
 ghost use Rattle.event_graph.specs.Network.{stations, arc_count};
-ghost use Rattle.line_workers.specs.Link.{seat_of, link_of, IsInside};
+ghost use Rattle.line_workers.specs.Link.{seat_of, link_of, links_of, IsInside};
 ghost use Rattle.line_worker.specs.Teams.{place_in};
 
 use line_worker::{arc_at, first_of, worker_of};
 use live_check::Live;
+use std::alloc::{AllocError, Global};
 
 /// Where a station stands: its worker, and its number in the worker's team.
 #[derive(Clone, Copy)]
@@ -20,6 +21,15 @@ pub(crate) struct Link {
     pub(crate) output: u32,
     pub(crate) to: Seat,
     pub(crate) input: u32,
+}
+
+/// How a line finds the arcs between two workers at a meeting.
+#[derive(Drop)]
+pub(crate) enum Links {
+    /// By a list of them all, which was made with the line.
+    Listed(Vec<Link>),
+    /// By a look at each arc: a line that was gathered has no list, since that takes memory.
+    Unlisted,
 }
 
 /// Where a number stands in a list; behind its end where the list doesn't have it.
@@ -70,4 +80,23 @@ pub(crate) fn link_of(worker_count: u32, live: &Live, a: u32) -> Link
         to: seat_of(worker_count, live, arc.to),
         input: place_in(live.graph().ins(arc.to), a),
     }
+}
+
+/// Where the ends of each arc between two workers stand, in the order of the arcs.
+pub(crate) fn links_of(
+    alloc: Global,
+    live: &Live,
+    worker_count: u32,
+) -> Result<Vec<Link>, AllocError>
+    requires some { 1 ≤ worker_count }
+    requires few { worker_count ≤ 16 }
+    ensures { IfOk result (λ links. links.items ≡ links_of live.now.graph worker_count) }
+{
+    let mut links = Vec::new(alloc);
+    for a in 0..live.graph().arcs().len() as u32 {
+        if !is_inside(worker_count, live, a) {
+            links.push(link_of(worker_count, live, a))?;
+        }
+    }
+    Ok(links)
 }

@@ -22,7 +22,7 @@ pub(crate) struct Waits {
 }
 
 impl Waits {
-    /// Of so many workers, none of which has begun a sweep.
+    /// Of this many workers, none of which has begun a sweep.
     pub(crate) fn new(workers: u64) -> Waits {
         Waits {
             workers,
@@ -74,7 +74,7 @@ impl<'a> Pace<'a> {
         first == station
     }
 
-    /// Looks for a moment whether so many sweeps have begun.
+    /// Looks for a moment whether this many sweeps have begun.
     fn have_begun(&self, sweeps: u64) -> bool {
         for look in 0..LOOKS {
             if self.waits.begun.load(Ordering::SeqCst) >= sweeps {
@@ -87,7 +87,7 @@ impl<'a> Pace<'a> {
         false
     }
 
-    /// Looks until so many sweeps have begun, as long as the worker may in a burst.
+    /// Looks until this many sweeps have begun, as long as the worker may in a burst.
     fn look_for(&self, sweeps: u64) {
         for round in self.rounds.load(Ordering::SeqCst)..ROUNDS {
             if self.have_begun(sweeps) {

@@ -16,7 +16,7 @@ const FIRINGS_FOR_A_LOOK: u64 = 16;
 ///
 /// To begin a thread takes as long as a thousand firings, and one that begins late lets the others wait. So a line goes
 /// by threads as long as that pays; where it did not, some bursts go in turn on one thread before it tries again. What a
-/// burst comes to is the same.
+/// burst gives is the same.
 #[derive(Drop)]
 pub(crate) struct Threading {
     // How many bursts are to go in turn before the next by threads.
@@ -34,7 +34,7 @@ impl Threading {
         }
     }
 
-    /// Whether the next burst, of so many workers, goes by threads. It is taken to be made then.
+    /// Whether the next burst, of this many workers, goes by threads. It is taken to be made then.
     pub(crate) fn begins_threads(&mut self, workers: usize) -> bool {
         if self.in_turn == 0 {
             return workers > 1;

@@ -13,8 +13,8 @@ fn go_on_all<G: Gate>(workers: &mut [Worker], live: &Live, gate: &G)
     ensures { (w : ℕ) → w < length workers.old →
         HasGoneOn (worker_at workers.old w) (worker_at workers.new w) }
 {
-    for w in 0..workers.len() {
-        workers[w].go_on(live, gate);
+    for worker in workers.iter_mut() {
+        worker.go_on(live, gate);
     }
 }
 

@@ -1,10 +1,11 @@
-ghost use Rattle.std.specs.Prelude.{◌≡◌, ◌+◌, ◌<◌, ◌≤◌, ◌^◌, length, sum, All, IsTrue, ◌↔◌};
+ghost use Rattle.std.specs.Prelude.{◌≡◌, ◌+◌, ◌<◌, ◌≤◌, ◌^◌, length, sum, All};
 ghost use Rattle.event_graph.specs.Network.{arc_count};
-ghost use Rattle.line_core.specs.Consistent.{fired, IsFinished};
+ghost use Rattle.line_core.specs.Consistent.{fired};
 ghost use Rattle.line_workers.specs.Burst.{WorkersBurst};
 ghost use Rattle.line_workers.specs.Gather.{Gathers};
+ghost use Rattle.line_workers.specs.Counts.{AreCounts};
 ghost use Rattle.line_workers.specs.Line.{turns_among};
-ghost use Rattle.line_workers.specs.Link.{IsRing, HaveMet};
+ghost use Rattle.line_workers.specs.Link.{IsRing, HaveMet, AreLinks, links_of};
 ghost use Rattle.line_workers.specs.Meeting.{AreStill, MeetsOn};
 ghost use Rattle.line_worker.specs.Worker.{teams_of};
 ghost use Rattle.line_worker.specs.Workers.{live_of, graph_of, AreWorkers, AreSameWorkers};
@@ -13,12 +14,19 @@ ghost use Rattle.line_worker.specs.Work.{TurnsBelow, TeamsWorked};
 
 use crate::clearing::clear_workers;
 use crate::line::Burst;
-use crate::link::{Link, is_inside, link_of};
+use crate::link::{Link, Links, is_inside, link_of};
 use crate::threading::Threading;
 use crate::work::work_all;
 use line_worker::{Gate, Worker};
 use live_check::Live;
 use std::thread::Threads;
+
+/// How many firings and steps the stations of all workers have made together.
+#[derive(Clone, Copy)]
+pub(crate) struct Counts {
+    pub(crate) fired: u64,
+    pub(crate) steps: u64,
+}
 
 /// The two ends of a ring between two workers meet.
 fn meet_over(workers: &mut [Worker], link: &Link)
@@ -78,6 +86,37 @@ pub(crate) fn meet_all(workers: &mut [Worker], live: &Live)
     }
 }
 
+/// The two ends of each arc of a list meet, of all arcs between two workers.
+fn meet_listed(workers: &mut [Worker], links: &[Link])
+    requires workers { AreWorkers workers.old }
+    requires links { links.now ≡ links_of (graph_of workers.old) (length workers.old) }
+    ensures same { AreSameWorkers workers.old workers.new }
+    ensures worked { TeamsWorked (teams_of workers.old) (teams_of workers.new) }
+    ensures still { AreStill (graph_of workers.old) (teams_of workers.old) (teams_of workers.new) }
+    ensures met { AreAllMet (graph_of workers.old) (teams_of workers.new) }
+{
+    for link in links {
+        meet_over(workers, link);
+    }
+}
+
+/// The two ends of every queue meet on this thread, by the list of the line where it has one.
+fn meet_by(workers: &mut [Worker], live: &Live, links: &Links)
+    requires workers { AreWorkers workers.old }
+    requires few { length workers.old ≤ 16 }
+    requires made_for { live.now ≡ live_of workers.old }
+    requires links { AreLinks live.now.graph (length workers.old) links.now }
+    ensures same { AreSameWorkers workers.old workers.new }
+    ensures worked { TeamsWorked (teams_of workers.old) (teams_of workers.new) }
+    ensures still { AreStill live.now.graph (teams_of workers.old) (teams_of workers.new) }
+    ensures met { AreAllMet live.now.graph (teams_of workers.new) }
+{
+    match links {
+        Links::Listed(links) => meet_listed(workers, links),
+        Links::Unlisted => meet_all(workers, live),
+    }
+}
+
 /// How many dates the stations of all workers have made together.
 pub(crate) fn dates_of(workers: &[Worker]) -> u64
     requires workers { AreWorkers workers.now }
@@ -111,45 +150,37 @@ pub(crate) fn burst_of<R: Threads + Sync, G: Gate>(
     workers: &mut [Worker],
     live: &Live,
     gate: &G,
+    links: &Links,
+    counts: &mut Counts,
     threading: &mut Threading,
 ) -> Burst
     requires workers { AreWorkers workers.old }
     requires few { length workers.old ≤ 16 }
     requires met { AreAllMet (graph_of workers.old) (teams_of workers.old) }
     requires made_for { live.now ≡ live_of workers.old }
+    requires links { AreLinks live.now.graph (length workers.old) links.now }
+    requires counts { AreCounts counts.old workers.old }
     requires turns { All (λ worker. TurnsBelow (2 ^ 38) worker.team) workers.old }
+    ensures counts { AreCounts counts.new workers.new }
     ensures burst { WorkersBurst workers.old workers.new }
     ensures fired { fired (state_among (graph_of workers.old) (teams_of workers.new)) ≡
         fired (state_among (graph_of workers.old) (teams_of workers.old)) + result.fired }
     ensures steps { sum (turns_among (graph_of workers.old) (teams_of workers.new)) ≡
         sum (turns_among (graph_of workers.old) (teams_of workers.old)) + result.steps }
 {
-    let fired = dates_of(workers);
-    let steps = turns_of(workers);
     let at_once = threading.begins_threads(workers.len());
     let looks = work_all(rt, workers, live, gate, at_once);
-    meet_all(workers, live);
-    let fired_since = dates_of(workers) - fired;
-    let steps_since = turns_of(workers) - steps;
+    meet_by(workers, live, links);
+    let fired = dates_of(workers);
+    let steps = turns_of(workers);
+    let fired_since = fired - counts.fired;
+    let steps_since = steps - counts.steps;
+    *counts = Counts { fired, steps };
     threading.note(looks, fired_since);
     Burst {
         fired: fired_since,
         steps: steps_since,
     }
-}
-
-/// Whether each station of all workers has fired once for each job.
-pub(crate) fn all_done(workers: &[Worker]) -> bool
-    requires { AreWorkers workers.now }
-    ensures { IsTrue result ↔
-        IsFinished (graph_of workers.now) (state_among (graph_of workers.now) (teams_of workers.now)) }
-{
-    for worker in workers {
-        if !worker.done() {
-            return false;
-        }
-    }
-    true
 }
 
 /// Brings the workers of a line together after their sweeps: the turns of the stations count from 0 again, and the ends

@@ -3,8 +3,7 @@ use Rattle.std.proofs.Common.{◌≡◌, ℕ, zero, suc, ◌+◌, ◌<◌, ◌�
 use Rattle.std.specs.List.{sum_by, range_with_len}
 use Rattle.std.proofs.lemmas.Bool.{cases_Bool}
 use Rattle.std.proofs.lemmas.List.FromFn.{length-range_with_len, get_or-range_with_len}
-use Rattle.line_base.proofs.RangeLists.{range-more}
-use Rattle.std.proofs.lemmas.List.Sums.{sum_by-cons, sum_by_push, get_or-le-sum_by}
+use Rattle.std.proofs.lemmas.List.Sums.{sum_by-cons, get_or-le-sum_by}
 
 zero_test : (b : Bool) → cond b 1 0 ≤ 0 → b ≡ false
 zero_test true h = absurd (omega (arith, h))
@@ -55,7 +54,3 @@ some_passes p a (suc n) some =
           let later = some_passes p (a + 1) n (omega (arith, whole, zero_here, some)) in
           (later.0, omega (arith, later.1), later.2))
     ]
-
--- a count over a range with one more number
-pub count_by-range_more : (p : ℕ → Bool) (n : ℕ) → count_by p (range_with_len 0 (n + 1)) ≡ count_by p (range_with_len 0 n) + cond (p n) 1 0
-count_by-range_more p n = ap (count_by p) (range-more n) ∙ sum_by_push (λ k. cond (p k) 1 0) (range_with_len 0 n) n

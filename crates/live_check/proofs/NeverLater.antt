@@ -19,6 +19,7 @@ use Rattle.event_graph.specs.Term.{work, term}
 use Rattle.event_graph.specs.Solves.{Solves}
 use Rattle.event_graph.specs.Least.{IsLeast}
 use Rattle.live_check.specs.MoreTokens.{KeepsArc, HasMoreTokens, IsList, HasOwnToken, ListsKeepOrder, MoreTokensNeverLater}
+use Rattle.event_graph.proofs.GreatestTerms.{term-le}
 
 -- the lesser of each date and the next, up to job h
 unfoldable pub early : ℕ → Table → Table
@@ -50,12 +51,6 @@ along-le m k d n p f g h =
 term-along : (g : Parts) (x : Table) (a n : ℕ) → term g x a n ≡ work g a n + along (arc g a).tokens (delay g a) (x (arc g a).from) n
 unfolding along
 term-along g x a n = refl
-
--- a later date at the start of an arc gives no earlier term
-term-le : (g : Parts) (x y : Table) (a n : ℕ) → ((k : ℕ) → y (arc g a).from k ≤ x (arc g a).from k) → term g y a n ≤ term g x a n
-term-le g x y a n below =
-    let part : along (arc g a).tokens (delay g a) (y (arc g a).from) n ≤ along (arc g a).tokens (delay g a) (x (arc g a).from) n = along-le _ _ _ n n _ _ (λ h. (h, below _)) in
-    omega (arith, term-along g x a n, term-along g y a n, part)
 
 -- where the times are no list, each job has the same time
 time_at-next : (times : Times) (n : ℕ) → (IsList times → ⊥) → time_at times n ≡ time_at times (n + 1)

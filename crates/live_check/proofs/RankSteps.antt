@@ -11,7 +11,8 @@ use Rattle.line_base.specs.declared.event.Parts.{Parts}
 use Rattle.event_graph.specs.Network.{IsGraph, arc, arc_count, stations, ins}
 use Rattle.live_check.specs.Ranking.{Ranks, with_next, with_passed, released, is_free_from, is_open, open_count, IsFalling, IsPassing, IsPassed, NoneIsReady, CountsFree, IsComplete}
 use Rattle.live_check.specs.DeadCircuit.{IsStuck}
-use Rattle.live_check.proofs.Counts.{count_by-range-agree, count_by-filter, count_by-range_more, sum_by-range-add, none_passes, some_passes}
+use Rattle.live_check.proofs.Counts.{count_by-range-agree, count_by-filter, sum_by-range-add, none_passes, some_passes}
+use Rattle.line_base.proofs.RangeLists.{count_by-range_more}
 
 -- an unranked station leaves room for the next rank
 pub has_room : (g : Parts) (r : Ranks) (s : ℕ) → IsFalling g r.ranks r.order → s < stations g → stations g ≤ get_or r.ranks s 0 → length r.order < stations g

@@ -2,3 +2,4 @@ pub mod ActionLemmas
 pub mod FileReads
 pub mod PlantsOfFiles
 pub mod StepLemmas
+pub mod LintReads

@@ -52,8 +52,8 @@ pub record ThenDoes {A B : Type 0} (first : List Read → Result A Refusal → T
 abbrev pub with_asked : Asked → Asked → Asked
 with_asked old more = record { reads = old.reads ++ more.reads; writes = old.writes ++ more.writes }
 
--- What a write left of its file, where files are told: the bytes; a front of them, or what was there, where it failed; what
--- was there, where there was no memory.
+-- What a write left of its file, where the store tells its files: the bytes; a prefix of them, or what was there, where
+-- it failed; what was there, where there was no memory.
 abbrev pub LeavesFile : Bool → Contents → Contents → List ℕ → List ℕ → Result (Unit {0}) StoreError → Type 0
 LeavesFile tells old new name bytes (Ok done) = IsTrue tells → new name ≡ Some bytes
 LeavesFile tells old new name bytes (Err store_error.Failed) = IsTrue tells → IsTorn (old name) (new name) bytes
@@ -82,8 +82,8 @@ abbrev pub IsFailedWrite : List ℕ → Write → Type 0
 IsFailedWrite file w = (w.name ≡ file) × (w.answer ≡ Err store_error.Failed)
 
 -- A file that couldn't be read has a count of failed reads that rose in this call; of one that couldn't be written a
--- write failed in this call, and its count of failed writes rose; of one that is too long more bytes than its limit were
--- taken; and the disk's count of faults rose where it is said to have failed.
+-- write failed in this call, and its count of failed writes rose; of one that is too long more bytes than its limit
+-- were taken; and the disk's count of faults rose where it is said to have failed.
 abbrev pub HasCause : StoreOver → DiskOver → List Write → Refusal → Type 0
 HasCause store disk writes (StoreFault file) =
     Rose (store.old.read_faults file) (store.new.read_faults file)
@@ -92,8 +92,8 @@ HasCause store disk writes (TooLong file) = limit_of file < store.new.taken
 HasCause store disk writes Disk = Rose disk.old.faults disk.new.faults
 HasCause store disk writes other = ⊤
 
--- A store and a disk over a call that makes a action: what this call asked of the store is what the action asks, and nothing else;
--- each read fits its file; the files are changed by the writes alone; and a refusal has its cause.
+-- A store and a disk over a call that takes an action: what this call asked of the store is what the action asks, and
+-- nothing else; each read fits its file; the files are changed by the writes alone; and a refusal has its cause.
 pub record Does {A : Type 0} (store : StoreOver) (disk : DiskOver) (action : Asked → DiskOver → Result A Refusal → Type 0)
     (answer : Result A Refusal) : Type 0 where
   pub asks : Asked

@@ -4,3 +4,4 @@ pub mod Outside
 pub mod PlantSteps
 pub mod Refused
 pub mod Steps
+pub mod LintSteps

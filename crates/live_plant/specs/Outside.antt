@@ -38,8 +38,8 @@ with_reads asked reads = record asked { reads = asked.reads ++ reads }
 abbrev pub limit_of : List ℕ → ℕ
 limit_of name = if is_checkpoint_name name then most_checkpoint_bytes else most_file_bytes
 
--- What a read answered fits what the file holds, where that is told: the bytes are its bytes, and a file that is called too
--- long is. No bytes are above the limit.
+-- What a read answered fits what the file holds, where the store tells that: the bytes are its bytes, and a file that
+-- is called too long is. No bytes are above the limit.
 abbrev pub Fits : Bool → Contents → List ℕ → Result (List ℕ) StoreError → Type 0
 Fits tells files name (Ok bytes) = (length bytes ≤ limit_of name) × (IsTrue tells → files name ≡ Some bytes)
 Fits tells files name (Err store_error.TooLong) = IsTrue tells → IsLongerThan (limit_of name) (files name)
@@ -49,8 +49,8 @@ Fits tells files name (Err other) = ⊤
 abbrev pub IsOfFile : StoreOver → Read → Type 0
 IsOfFile store read = Fits store.tells store.old.files read.name read.answer
 
--- A file that can't be read has a count that rose in this call, and from one that is too long more bytes than its limit were
--- taken. No step that only reads answers a fault of the disk.
+-- A file that can't be read has a count that rose in this call, and from one that is too long more bytes than its limit
+-- were taken. No step that only reads answers a fault of the disk.
 abbrev pub IsCaused : StoreOver → Refusal → Type 0
 IsCaused store (StoreFault file) = Rose (store.old.read_faults file) (store.new.read_faults file)
 IsCaused store (TooLong file) = limit_of file < store.new.taken

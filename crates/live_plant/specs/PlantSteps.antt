@@ -1,5 +1,5 @@
--- The steps up to a live plant: which files are read, in which order, and what they answer over the bytes that the reads gave.
--- The first refusal ends the command.
+-- The steps up to a live plant: which files are read, in which order, and what they answer over the bytes that the
+-- reads gave. The first refusal ends the command.
 use Rattle.std.specs.Prelude.{◌≡◌, ℕ, List, Bool, IsTrue, Result, Ok, Err, ⊤}
 use Rattle.line_io.specs.Calls.{Read}
 use Rattle.line_io.specs.Contents.{Contents}
@@ -59,8 +59,8 @@ IsOfPlant plant (Err (Refused error)) = plant ≡ Err error
 IsOfPlant plant (Err (Dead labels)) = (p : Plant) × (plant ≡ Ok p) × AreDead (graph p) labels
 IsOfPlant plant (Err other) = ⊤
 
--- The live plant of a plant file: what the steps answer over the bytes that the reads gave; and where a store tells its files,
--- it is the plant of these files.
+-- The live plant of a plant file: what the steps answer over the bytes that the reads gave; and where a store tells its
+-- files, it is the plant of these files.
 pub record OfPlantNamed (tells : Bool) (files : Contents) (name : List ℕ) (reads : List Read)
     (answer : Result Plant Refusal) : Type 0 where
   pub answers : OfLivePlant name reads answer

@@ -1,4 +1,5 @@
--- The steps of a command. A step makes reads, and then answers a value to go on with, or the refusal that the command ends with.
+-- The steps of a command. A step makes reads, and then answers a value to go on with, or the refusal that the command
+-- ends with.
 use Rattle.std.specs.Prelude.{◌≡◌, ◌⊎◌, ℕ, List, [], ◌∷◌, ◌++◌, Option, Some, None, Result, Ok, Err, IfErr, All}
 use Rattle.line_io.specs.Calls.{Read}
 use Rattle.line_io.specs.Contents.{SameFiles}
@@ -54,8 +55,8 @@ abbrev pub LooksAtNamed : Option (List ℕ) → Step (Option (List ℕ))
 LooksAtNamed None = Gives (Ok None)
 LooksAtNamed (Some name) = Then (LooksAt name) (λ bytes. Gives (Ok (Some bytes)))
 
--- A store over a call that makes a step: the reads of this call are those of the step, and nothing else was asked; each fits its
--- file; and a refusal has its cause.
+-- A store over a call that makes a step: the reads of this call are those of the step, and nothing else was asked; each
+-- fits its file; and a refusal has its cause.
 pub record Makes {A : Type 0} (store : StoreOver) (step : List Read → Result A Refusal → Type 0)
     (answer : Result A Refusal) : Type 0 where
   pub reads : List Read

@@ -51,7 +51,7 @@ fn file_fault(alloc: Global, name: &str, error: StoreError) -> Refusal
 }
 
 /// The bytes of a file, if one is named.
-fn read_named<S: Store>(
+pub(crate) fn read_named<S: Store>(
     alloc: Global,
     store: &mut S,
     name: Option<&str>,
@@ -104,7 +104,7 @@ fn complete<S: Store>(alloc: Global, store: &mut S, draft: Draft) -> Result<Plan
 }
 
 /// The bytes, if there are any.
-fn slice_of(bytes: &Option<Items<u8>>) -> Option<&[u8]>
+pub(crate) fn slice_of(bytes: &Option<Items<u8>>) -> Option<&[u8]>
     ensures { option_map (λ slice. slice.now) result ≡ bytes.now }
 {
     match bytes {

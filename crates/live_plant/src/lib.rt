@@ -4,7 +4,9 @@
 #![tactic(auto)]
 
 mod files;
+mod lint;
 mod live_plant;
 
 pub use files::{read_file, read_plant_files};
+pub use lint::{SoundFile, lint_plant_file};
 pub use live_plant::{LivePlant, live_graph, live_plant_of, read_live_plant};

@@ -24,10 +24,7 @@ tally_send =
             search sendable,
             (
               search sendable,
-              (
-                search crosses,
-                tt,
-              ),
+              tt,
             ),
           ),
         ),

@@ -17,10 +17,9 @@ pub record IsLaid (logs : List RoomyLog) (first : List ℕ) (source : Source) (t
   pub began : tally.start + tally.initial ≤ length tokens
   pub initial : tally.initial ≡ length first
   pub stand : firsts_of tokens tally ≡ first
-  pub firsts_taken : tally.firsts_taken ≡ 0
+  pub taken : tally.taken ≡ 0
   pub source_is : tally.source ≡ source
-  pub next : tally.next ≡ tally.made.value
-  pub made : tally.made.value ≡ length (dates_for logs tally)
+  pub made : tally.made ≡ length (dates_for logs tally)
 
 -- the first n queues are laid
 pub record LaidUpTo (n : ℕ) (logs : List RoomyLog) (firsts : List (List ℕ)) (sources : List Source) (tokens : List ℕ) (tallies : List Tally) : Type 0 where
@@ -37,9 +36,8 @@ laid-longer logs first source tokens more tally is =
       stand = ap (take tally.initial) (drop-append-le tally.start tokens more (omega (arith, is.began)))
           ∙ take-append-le tally.initial (drop tally.start tokens) more (omega (arith, is.began, before))
           ∙ is.stand;
-      firsts_taken = is.firsts_taken;
+      taken = is.taken;
       source_is = is.source_is;
-      next = is.next;
       made = is.made;
     }
 
@@ -55,9 +53,8 @@ laid_more n logs firsts sources tokens first source made tallies first_is source
       stand = ap (take (length first)) (drop_at tokens first (length tokens) refl)
           ∙ take_all (length first) first (omega arith)
           ∙ first_is;
-      firsts_taken = refl;
+      taken = refl;
       source_is = source_is;
-      next = refl;
       made = made_is;
     } in
     record {
@@ -87,16 +84,15 @@ seen-laid logs firsts sources tokens room tallies laid =
     let tally = tally_at tallies q in
     let is = laid.each q low in
     let first = slice_index_or firsts q [] in
-    let takes : tally.firsts_taken + (tally.next - tally.made.value) ≡ 0 = omega (arith, is.firsts_taken, is.next) in
     let later = later_by tally.source.delay in
-    let added : map later (drop tally.made.value (dates_for logs tally)) ≡ [] =
-    ap (map later) (drop_all tally.made.value (dates_for logs tally) (omega (arith, is.made))) in
+    let added : map later (drop tally.made (dates_for logs tally)) ≡ [] =
+    ap (map later) (drop_all tally.made (dates_for logs tally) (omega (arith, is.made))) in
     let queue : ℕ → List ℕ → List ℕ → PlainQueue =
     λ takes added initial. record { initial = initial; added = added; room = room; takes = takes } in
     queue-seen tokens room logs tallies q (omega (arith, low, laid.count))
-    ∙ ap (queue (tally.firsts_taken + (tally.next - tally.made.value)) (map later (drop tally.made.value (dates_for logs tally)))) is.stand
-    ∙ ap (λ (added : List ℕ). queue (tally.firsts_taken + (tally.next - tally.made.value)) added first) added
-    ∙ ap (λ n. queue n [] first) takes
+    ∙ ap (queue tally.taken (map later (drop tally.made (dates_for logs tally)))) is.stand
+    ∙ ap (λ (added : List ℕ). queue tally.taken added first) added
+    ∙ ap (λ n. queue n [] first) is.taken
     ∙ sym (get_or-map (new_queue room) firsts q [] none low))
 
 -- their sources
@@ -118,10 +114,8 @@ tallies-laid logs firsts sources tokens room tallies small there few laid q low 
       counted = omega (arith, is.initial, fits);
       few = omega (arith, is.made, few (tally_at tallies q).source.station station_there);
       there = station_there;
-      few_firsts = omega (arith, is.firsts_taken);
-      firsts_first = λ _. is.next;
-      made_first = omega (arith, is.next);
-      next_there = omega (arith, is.next, is.made);
+      made_there = omega (arith, is.made);
+      taken_there = omega (arith, is.taken);
       fits = omega (arith, is.made);
     }
 

@@ -1,14 +1,14 @@
 -- The queues of a shelf by their counts and the logs: what is read there, and what a take or a date more changes.
-use Rattle.std.proofs.Common.{◌≡◌, ◌≢◌, ℕ, cond, ◌+◌, ◌-◌, ◌<◌, ◌≤◌, List, [], ◌∷◌, ◌++◌, length, get_or, set, take, drop, map, refl, sym, ap, ◌∙◌, subst, arith, ⊎_elim, append_assoc, length-append, length-drop, get_or-set_same, get_or-set_other}
+use Rattle.std.proofs.Common.{◌≡◌, ◌≢◌, ℕ, ◌+◌, ◌-◌, ◌^◌, ◌<◌, ◌≤◌, List, [], ◌∷◌, ◌++◌, length, get_or, set, take, drop, map, refl, sym, ap, ◌∙◌, subst, arith, ⊎_elim, append_assoc, length-append, length-drop, get_or-set_same, get_or-set_other}
 use Rattle.std.specs.Prelude.{Option, None, Some, IsNone, ◌↔◌, option_to_list, slice_index}
 use Rattle.std.proofs.lemmas.List.{append-nil, length-map, length-set, map-set, map_push, get_or-map, set-get_or, length-take-le, get_or-take, get_or-drop, get_or_append_left, get_or-append_right, drop_more, drop_all, drop-append-le, take_more, take-append-le, get_or_past}
 use Rattle.std.proofs.Math.Seq.{map-set_same}
 use Rattle.std.proofs.Math.ListN.{get_or-map as at_map}
-use Rattle.std.proofs.lemmas.Bool.{cases_lt, cases_eq, lt-ltb, le-ltb}
+use Rattle.std.proofs.lemmas.Bool.{cases_lt, cases_eq}
 use Rattle.line_base.specs.Roomy.{RoomyLog, with_date}
 use Rattle.card_queue.specs.Plain.{PlainQueue, plain_tokens, plain_taken, plain_waiting}
 use Rattle.local_queues.specs.declared.tally.Tally.{Tally}
-use Rattle.local_queues.specs.Shelf.{log_on, source_at, later_by, queue_at, untaken}
+use Rattle.local_queues.specs.Shelf.{log_on, source_at, later_by, queue_at, untaken, counted}
 use Rattle.local_queues.specs.Counts.{no_tally, tally_at, dates_for, firsts_of, seen_queue, IsTally, AreTallies, one_taken}
 
 abbrev no_queue : PlainQueue
@@ -53,49 +53,41 @@ module _ (firsts : List ℕ) (room : ℕ) (logs : List RoomyLog) (tally : Tally)
   later = later_by tally.source.delay
 
   abbrev added : List ℕ
-  added = map later (drop tally.made.value source_dates)
+  added = map later (drop tally.made source_dates)
 
   length-firsts : length initial ≡ tally.initial
   length-firsts = length-take-le tally.initial (drop tally.start firsts) (omega (arith, is.began, length-drop tally.start firsts))
 
-  length-added : length added ≡ length source_dates - tally.made.value
-  length-added = length-map (drop tally.made.value source_dates) later ∙ length-drop tally.made.value source_dates
+  length-added : length added ≡ length source_dates - tally.made
+  length-added = length-map (drop tally.made source_dates) later ∙ length-drop tally.made source_dates
 
   -- how many tokens it was given
-  pub length-tokens : length (plain_tokens (seen_queue firsts room logs tally)) ≡ tally.initial + (length source_dates - tally.made.value)
+  pub length-tokens : length (plain_tokens (seen_queue firsts room logs tally)) ≡ tally.initial + (length source_dates - tally.made)
   length-tokens = omega (arith, length-append initial added, length-firsts, length-added)
 
   -- how many of them wait
-  pub length-waiting : length (plain_waiting (seen_queue firsts room logs tally)) ≡ tally.initial - tally.firsts_taken + (length source_dates - tally.next)
-  length-waiting =
-      let takes = tally.firsts_taken + (tally.next - tally.made.value) in
-      omega (arith, length-drop takes (initial ++ added), length-tokens, is.few_firsts, is.made_first, is.next_there)
+  pub length-waiting : length (plain_waiting (seen_queue firsts room logs tally)) ≡ tally.initial + (length source_dates - tally.made) - tally.taken
+  length-waiting = length-drop tally.taken (initial ++ added) ∙ ap (λ n. n - tally.taken) length-tokens
 
   -- the front token: one that the queue began with, a date of its source, or none
-  pub front-initial : tally.firsts_taken < tally.initial → slice_index firsts (tally.start + tally.firsts_taken) ∷ [] ≡ take 1 (plain_waiting (seen_queue firsts room logs tally))
+  pub front-initial : tally.taken < tally.initial → slice_index firsts (tally.start + tally.taken) ∷ [] ≡ take 1 (plain_waiting (seen_queue firsts room logs tally))
   front-initial less =
-      let takes : tally.firsts_taken ≡ tally.firsts_taken + (tally.next - tally.made.value) = omega (arith, is.firsts_first less) in
-      front-there (initial ++ added) tally.firsts_taken _ (omega (arith, length-append initial added, length-firsts, less))
-      (get_or_append_left initial added 0 tally.firsts_taken (omega (arith, length-firsts, less))
-      ∙ get_or-take tally.initial (drop tally.start firsts) tally.firsts_taken 0 less
-      ∙ get_or-drop tally.start firsts tally.firsts_taken 0)
-      ∙ ap (λ n. take 1 (drop n (initial ++ added))) takes
+      front-there (initial ++ added) tally.taken _ (omega (arith, length-append initial added, length-firsts, less))
+      (get_or_append_left initial added 0 tally.taken (omega (arith, length-firsts, less))
+      ∙ get_or-take tally.initial (drop tally.start firsts) tally.taken 0 less
+      ∙ get_or-drop tally.start firsts tally.taken 0)
 
-  pub front-date : tally.initial ≤ tally.firsts_taken → tally.next < length source_dates → later (slice_index source_dates tally.next) ∷ [] ≡ take 1 (plain_waiting (seen_queue firsts room logs tally))
+  pub front-date : tally.initial ≤ tally.taken → tally.made + (tally.taken - tally.initial) < length source_dates → later (slice_index source_dates (tally.made + (tally.taken - tally.initial))) ∷ [] ≡ take 1 (plain_waiting (seen_queue firsts room logs tally))
   front-date past more =
-      let takes = tally.firsts_taken + (tally.next - tally.made.value) in
-      let index : takes - tally.initial ≡ tally.next - tally.made.value = omega (arith, past, is.few_firsts) in
-      let at : tally.made.value + (tally.next - tally.made.value) ≡ tally.next = omega (arith, is.made_first) in
-      front-there (initial ++ added) takes _ (omega (arith, length-append initial added, length-firsts, length-added, more, past, is.few_firsts, is.made_first))
-      (get_or-append_right initial added tally.initial takes 0 length-firsts (omega (arith, past))
-      ∙ ap (λ n. slice_index added n) index
-      ∙ get_or-map later (drop tally.made.value source_dates) (tally.next - tally.made.value) 0 0 (omega (arith, length-drop tally.made.value source_dates, more, is.made_first))
-      ∙ ap later (get_or-drop tally.made.value source_dates (tally.next - tally.made.value) 0 ∙ ap (slice_index source_dates) at))
+      let index = tally.taken - tally.initial in
+      front-there (initial ++ added) tally.taken _ (omega (arith, length-append initial added, length-firsts, length-added, more, past))
+      (get_or-append_right initial added tally.initial tally.taken 0 length-firsts past
+      ∙ get_or-map later (drop tally.made source_dates) index 0 0 (omega (arith, length-drop tally.made source_dates, more))
+      ∙ ap later (get_or-drop tally.made source_dates index 0))
 
-  pub front-none : tally.initial ≤ tally.firsts_taken → length source_dates ≤ tally.next → [] ≡ take 1 (plain_waiting (seen_queue firsts room logs tally))
+  pub front-none : tally.initial ≤ tally.taken → length source_dates ≤ tally.made + (tally.taken - tally.initial) → [] ≡ take 1 (plain_waiting (seen_queue firsts room logs tally))
   front-none past all =
-      let takes = tally.firsts_taken + (tally.next - tally.made.value) in
-      ap (take 1) (sym (drop_all takes (initial ++ added) (omega (arith, length-tokens, past, all, is.few_firsts, is.made_first))))
+      ap (take 1) (sym (drop_all tally.taken (initial ++ added) (omega (arith, length-tokens, past, all, is.made_there))))
 
 -- ---- a take
 
@@ -105,74 +97,17 @@ pub record TakenFrom (old new : List PlainQueue) (k : ℕ) (token : Option ℕ) 
   pub none : IsNone token ↔ (plain_waiting (queue_at old k) ≡ [])
   pub puts : untaken (queue_at new k) ≡ untaken (queue_at old k)
 
--- the tally after it: while first tokens are left, one of them is taken, and a date after that
-abbrev first_taken : Tally → Tally
-first_taken tally = record tally { firsts_taken = tally.firsts_taken + 1 }
-
-abbrev date_taken : Tally → Tally
-date_taken tally = record tally { next = tally.next + 1 }
-
-take-first : (tally : Tally) → tally.firsts_taken < tally.initial → one_taken tally ≡ first_taken tally
-take-first tally less =
-    ap (λ b. cond b (first_taken tally) (date_taken tally)) (lt-ltb tally.firsts_taken tally.initial less)
-
-take-date : (tally : Tally) → tally.initial ≤ tally.firsts_taken → one_taken tally ≡ date_taken tally
-take-date tally past =
-    ap (λ b. cond b (first_taken tally) (date_taken tally)) (le-ltb tally.firsts_taken tally.initial past)
-
--- the source of a queue stays
-pub source-taken : (tally : Tally) → (one_taken tally).source ≡ tally.source
-source-taken tally =
-    ⊎_elim
-    (λ (less : tally.firsts_taken < tally.initial). ap (λ (t : Tally). t.source) (take-first tally less))
-    (λ (past : tally.initial ≤ tally.firsts_taken). ap (λ (t : Tally). t.source) (take-date tally past))
-    (cases_lt tally.firsts_taken tally.initial)
-
--- what is seen of the queue after a take
-queue-one_taken : (firsts : List ℕ) (room : ℕ) (logs : List RoomyLog) (tally : Tally) → tally.made.value ≤ tally.next → seen_queue firsts room logs (one_taken tally) ≡ record (seen_queue firsts room logs tally) { takes = tally.firsts_taken + (tally.next - tally.made.value) + 1 }
-queue-one_taken firsts room logs tally made_first =
-    let was = seen_queue firsts room logs tally in
-    ⊎_elim
-    (λ (less : tally.firsts_taken < tally.initial).
-    let next : tally.firsts_taken + 1 + (tally.next - tally.made.value) ≡ tally.firsts_taken + (tally.next - tally.made.value) + 1 = omega arith in
-    ap (seen_queue firsts room logs) (take-first tally less)
-    ∙ ap (λ n. record was { takes = n }) next)
-    (λ (past : tally.initial ≤ tally.firsts_taken).
-    let next : tally.firsts_taken + (tally.next + 1 - tally.made.value) ≡ tally.firsts_taken + (tally.next - tally.made.value) + 1 =
-    omega (arith, made_first) in
-    ap (seen_queue firsts room logs) (take-date tally past)
-    ∙ ap (λ n. record was { takes = n }) next)
-    (cases_lt tally.firsts_taken tally.initial)
-
 -- the tally is sound after it
-tally-one_taken : (firsts : List ℕ) (room : ℕ) (logs : List RoomyLog) (tally : Tally) → IsTally firsts room logs tally → tally.firsts_taken + (tally.next - tally.made.value) < tally.initial + (length (dates_for logs tally) - tally.made.value) → IsTally firsts room logs (one_taken tally)
-tally-one_taken firsts room logs tally is more =
-    ⊎_elim
-    (λ (less : tally.firsts_taken < tally.initial).
-    subst (IsTally firsts room logs) (sym (take-first tally less)) (record {
-      began = is.began;
-      counted = is.counted;
-      few = is.few;
-      there = is.there;
-      few_firsts = omega (arith, less);
-      firsts_first = λ _. is.firsts_first less;
-      made_first = is.made_first;
-      next_there = is.next_there;
-      fits = is.fits;
-    }))
-    (λ (past : tally.initial ≤ tally.firsts_taken).
-    subst (IsTally firsts room logs) (sym (take-date tally past)) (record {
-      began = is.began;
-      counted = is.counted;
-      few = is.few;
-      there = is.there;
-      few_firsts = is.few_firsts;
-      firsts_first = λ less. absurd (omega (arith, less, past));
-      made_first = omega (arith, is.made_first);
-      next_there = omega (arith, past, more, is.few_firsts, is.made_first);
-      fits = is.fits;
-    }))
-    (cases_lt tally.firsts_taken tally.initial)
+tally-one_taken : (firsts : List ℕ) (room : ℕ) (logs : List RoomyLog) (tally : Tally) → IsTally firsts room logs tally → tally.taken < tally.initial + (length (dates_for logs tally) - tally.made) → IsTally firsts room logs (one_taken tally)
+tally-one_taken firsts room logs tally is more = record {
+  began = is.began;
+  counted = is.counted;
+  few = is.few;
+  there = is.there;
+  made_there = is.made_there;
+  taken_there = omega (arith, more);
+  fits = is.fits;
+}
 
 -- a list whose front is there isn't empty
 front_below : (tokens : List ℕ) (i token : ℕ) → token ∷ [] ≡ take 1 (drop i tokens) → i < length tokens
@@ -184,7 +119,7 @@ front_below tokens i token front =
     absurd (omega (arith, ap length none)))
     (cases_lt i (length tokens))
 
-front-more : (tokens : List ℕ) (i token : ℕ) → token ∷ [] ≡ take 1 (drop i tokens) → take (i + 1) tokens ≡ take i tokens ++ token ∷ []
+pub front-more : (tokens : List ℕ) (i token : ℕ) → token ∷ [] ≡ take 1 (drop i tokens) → take (i + 1) tokens ≡ take i tokens ++ token ∷ []
 front-more tokens i token front =
     let low = front_below tokens i token front in
     take_more tokens i 0 low
@@ -193,6 +128,17 @@ front-more tokens i token front =
 front-empty : (waiting : List ℕ) → [] ≡ take 1 waiting → waiting ≡ []
 front-empty [] front = refl
 front-empty (x ∷ xs) front = absurd (omega (arith, ap length front))
+
+-- where a token waits, one more may be counted as taken
+pub one-fits : (firsts : List ℕ) (room : ℕ) (logs : List RoomyLog) (tally : Tally) (token : ℕ) → IsTally firsts room logs tally → token ∷ [] ≡ take 1 (plain_waiting (seen_queue firsts room logs tally)) → tally.taken < 2 ^ 32 - 1
+one-fits firsts room logs tally token is front =
+    let queue = seen_queue firsts room logs tally in
+    omega (arith, front_below (plain_tokens queue) tally.taken token front, length-tokens firsts room logs tally is, is.fits, is.counted)
+
+-- the front of a list in which something is
+pub front-some : (waiting : List ℕ) → waiting ≢ [] → slice_index waiting 0 ∷ [] ≡ take 1 waiting
+front-some [] some = absurd (some refl)
+front-some (x ∷ xs) some = refl
 
 pub take-none : (shelf : List PlainQueue) (k : ℕ) → k < length shelf → [] ≡ take 1 (plain_waiting (queue_at shelf k)) → TakenFrom shelf shelf k None
 take-none shelf k low front = record {
@@ -217,13 +163,11 @@ module _ (firsts : List ℕ) (room : ℕ) (logs : List RoomyLog) (tallies : List
       let was = seen_queue firsts room logs taken_from in
       let set_is : new ≡ set old k (seen_queue firsts room logs (one_taken taken_from)) =
       map-set (seen_queue firsts room logs) tallies k (one_taken taken_from) in
-      let next : seen_queue firsts room logs (one_taken taken_from) ≡ record was { takes = was.takes + 1 } =
-      queue-one_taken firsts room logs taken_from (is k low).made_first in
       let now : queue_at new k ≡ record was { takes = was.takes + 1 } =
-      queue-set old new k _ (omega (arith, low, length-seen firsts room logs tallies)) set_is ∙ next in
+      queue-set old new k (counted was) (omega (arith, low, length-seen firsts room logs tallies)) set_is in
       let before : queue_at old k ≡ was = queue-seen firsts room logs tallies k low in
       record {
-        only = set_is ∙ ap (set old k) (next ∙ sym now);
+        only = set_is ∙ ap (set old k) (sym now);
         taken = ap plain_taken now
             ∙ front-more (plain_tokens was) was.takes token front
             ∙ ap (λ (queue : PlainQueue). plain_taken queue ++ token ∷ []) (sym before);
@@ -234,11 +178,17 @@ module _ (firsts : List ℕ) (room : ℕ) (logs : List RoomyLog) (tallies : List
         puts = ap untaken now ∙ ap untaken (sym before);
       }
 
+  -- what is seen of all queues after it
+  pub take-counted : new ≡ set old k (counted (queue_at old k))
+  take-counted =
+      map-set (seen_queue firsts room logs) tallies k (one_taken taken_from)
+      ∙ ap (λ (queue : PlainQueue). set old k (counted queue)) (sym (queue-seen firsts room logs tallies k low))
+
   pub take-sound : AreTallies firsts room logs (set tallies k (one_taken taken_from))
   take-sound q there =
       let next = one_taken taken_from in
       let queue = seen_queue firsts room logs taken_from in
-      let more : taken_from.firsts_taken + (taken_from.next - taken_from.made.value) < taken_from.initial + (length (dates_for logs taken_from) - taken_from.made.value) =
+      let more : taken_from.taken < taken_from.initial + (length (dates_for logs taken_from) - taken_from.made) =
       omega (arith, front_below (plain_tokens queue) queue.takes token front, length-tokens firsts room logs taken_from (is k low)) in
       ⊎_elim
       (λ (e : q ≡ k).
@@ -249,7 +199,7 @@ module _ (firsts : List ℕ) (room : ℕ) (logs : List RoomyLog) (tallies : List
       (cases_eq q k)
 
   pub take-sources : map (λ (t : Tally). t.source) (set tallies k (one_taken taken_from)) ≡ map (λ (t : Tally). t.source) tallies
-  take-sources = map-set_same (λ (t : Tally). t.source) tallies k (one_taken taken_from) no_tally (source-taken taken_from)
+  take-sources = map-set_same (λ (t : Tally). t.source) tallies k (one_taken taken_from) no_tally refl
 
 -- ---- a date more
 
@@ -277,16 +227,16 @@ module _ (firsts : List ℕ) (room : ℕ) (logs : List RoomyLog) (tallies : List
       ∙ ap (λ (l : RoomyLog). l.dates) (get_or-set_same logs i log no_log low)
       ∙ ap (λ n. (log_on logs n).dates ++ date ∷ []) (sym e)
 
-  queue-dates : (tally : Tally) (dates : List ℕ) → dates_for longer tally ≡ dates → seen_queue firsts room longer tally ≡ record (seen_queue firsts room logs tally) { added = map (later_by tally.source.delay) (drop tally.made.value dates) }
+  queue-dates : (tally : Tally) (dates : List ℕ) → dates_for longer tally ≡ dates → seen_queue firsts room longer tally ≡ record (seen_queue firsts room logs tally) { added = map (later_by tally.source.delay) (drop tally.made dates) }
   queue-dates tally dates e =
-      ap (λ (l : List ℕ). (let q : PlainQueue = record (seen_queue firsts room logs tally) { added = map (later_by tally.source.delay) (drop tally.made.value l) } in q)) e
+      ap (λ (l : List ℕ). (let q : PlainQueue = record (seen_queue firsts room logs tally) { added = map (later_by tally.source.delay) (drop tally.made l) } in q)) e
 
   added-here : (tally : Tally) → IsTally firsts room logs tally → tally.source.station ≡ i → seen_queue firsts room longer tally ≡ record (seen_queue firsts room logs tally) { added = (seen_queue firsts room logs tally).added ++ later_by tally.source.delay date ∷ [] }
   added-here tally sound e =
       queue-dates tally (dates_for logs tally ++ date ∷ []) (dates-here tally e)
       ∙ ap (λ (l : List ℕ). (let q : PlainQueue = record (seen_queue firsts room logs tally) { added = l } in q))
-      (ap (map (later_by tally.source.delay)) (drop-append-le tally.made.value (dates_for logs tally) (date ∷ []) (omega (arith, sound.made_first, sound.next_there)))
-      ∙ map_push (later_by tally.source.delay) (drop tally.made.value (dates_for logs tally)) date)
+      (ap (map (later_by tally.source.delay)) (drop-append-le tally.made (dates_for logs tally) (date ∷ []) sound.made_there)
+      ∙ map_push (later_by tally.source.delay) (drop tally.made (dates_for logs tally)) date)
 
   abbrev was : List PlainQueue
   was = seen_queues firsts room logs tallies
@@ -324,7 +274,7 @@ module _ (firsts : List ℕ) (room : ℕ) (logs : List RoomyLog) (tallies : List
       ⊎_elim
       (λ (e : tally.source.station ≡ i).
       ap plain_taken (queue-seen firsts room longer tallies q there ∙ added-here tally sound e)
-      ∙ added-taken queue.initial queue.added (later_by tally.source.delay date ∷ []) queue.takes (omega (arith, length-tokens firsts room logs tally sound, sound.few_firsts, sound.made_first, sound.next_there))
+      ∙ added-taken queue.initial queue.added (later_by tally.source.delay date ∷ []) queue.takes (omega (arith, length-tokens firsts room logs tally sound, sound.taken_there))
       ∙ ap plain_taken (sym (queue-seen firsts room logs tallies q there)))
       (λ (ne : tally.source.station ≢ i). ap plain_taken (add-else q (λ _. ne)))
       (cases_eq tally.source.station i))
@@ -340,18 +290,16 @@ module _ (firsts : List ℕ) (room : ℕ) (logs : List RoomyLog) (tallies : List
       ⊎_elim
       (λ (e : tally.source.station ≡ i).
       let more : length (dates_for longer tally) ≡ length (dates_for logs tally) + 1 = ap length (dates-here tally e) ∙ length-append (dates_for logs tally) (date ∷ []) in
-      let fits : length (dates_for logs tally) - tally.made.value < room =
+      let fits : length (dates_for logs tally) - tally.made < room =
       omega (arith, has q there e, ap (λ (queue : PlainQueue). length queue.added) (queue-seen firsts room logs tallies q there), length-added firsts room logs tally sound) in
       record {
         began = sound.began;
         counted = sound.counted;
         few = sound.few;
         there = omega (arith, sound.there, count);
-        few_firsts = sound.few_firsts;
-        firsts_first = sound.firsts_first;
-        made_first = sound.made_first;
-        next_there = omega (arith, sound.next_there, more);
-        fits = omega (arith, fits, more, sound.made_first, sound.next_there);
+        made_there = omega (arith, sound.made_there, more);
+        taken_there = omega (arith, sound.taken_there, sound.made_there, more);
+        fits = omega (arith, fits, more, sound.made_there);
       })
       (λ (ne : tally.source.station ≢ i).
       let same : length (dates_for longer tally) ≡ length (dates_for logs tally) = ap length (dates-else tally ne) in
@@ -360,10 +308,8 @@ module _ (firsts : List ℕ) (room : ℕ) (logs : List RoomyLog) (tallies : List
         counted = sound.counted;
         few = sound.few;
         there = omega (arith, sound.there, count);
-        few_firsts = sound.few_firsts;
-        firsts_first = sound.firsts_first;
-        made_first = sound.made_first;
-        next_there = omega (arith, sound.next_there, same);
+        made_there = omega (arith, sound.made_there, same);
+        taken_there = omega (arith, sound.taken_there, same);
         fits = omega (arith, sound.fits, same);
       })
       (cases_eq tally.source.station i)

@@ -1,23 +1,22 @@
 -- How a shelf keeps its queues: the tokens that they began with stand queue after queue in one list. Those that were put
 -- since stand nowhere: they are the dates of their source's log, later by a delay. Of each queue it is counted how many
 -- tokens were taken. Only the shelf itself reads these words.
-use Rattle.std.specs.Prelude.{◌≡◌, ℕ, ◌+◌, ◌-◌, nat_lt, if◌then◌else◌, ◌^◌, ◌≤◌, ◌<◌, List, map, take, drop, length, slice_index_or}
+use Rattle.std.specs.Prelude.{ℕ, ◌+◌, ◌-◌, ◌^◌, ◌≤◌, ◌<◌, List, map, take, drop, length, slice_index_or}
 use Rattle.card_queue.specs.Plain.{PlainQueue}
 use Rattle.line_base.specs.Roomy.{RoomyLog}
 use Rattle.local_queues.specs.declared.source.Source.{Source}
 use Rattle.local_queues.specs.declared.tally.Tally.{Tally}
 use Rattle.local_queues.specs.Shelf.{WorkShelf, log_on, later_by}
 
--- the tally of a queue whose first tokens, so many, stand from this place on, where the log of its source has so many
+-- the tally of a queue whose first tokens, this many, stand from this place on, where the log of its source has this many
 -- dates
 abbrev pub new_tally : ℕ → ℕ → Source → ℕ → Tally
 new_tally start initial source made = record {
-  start = start;
+  taken = 0;
   initial = initial;
-  firsts_taken = 0;
   source = source;
-  next = made;
-  made = record { value = made; marker = record {} };
+  made = made;
+  start = start;
 }
 
 -- where there is no queue
@@ -40,9 +39,9 @@ firsts_of firsts tally = take tally.initial (drop tally.start firsts)
 abbrev pub seen_queue : List ℕ → ℕ → List RoomyLog → Tally → PlainQueue
 seen_queue firsts room logs tally = record {
   initial = firsts_of firsts tally;
-  added = map (later_by tally.source.delay) (drop tally.made.value (dates_for logs tally));
+  added = map (later_by tally.source.delay) (drop tally.made (dates_for logs tally));
   room = room;
-  takes = tally.firsts_taken + (tally.next - tally.made.value);
+  takes = tally.taken;
 }
 
 -- the shelf with these tallies
@@ -53,18 +52,16 @@ seen_shelf firsts room logs tallies = record {
   queues = map (seen_queue firsts room logs) tallies;
 }
 
--- the first tokens of a queue stand in the list, and its source's log is there. No more was taken than is there, and its
--- first tokens before all others; as many were put as there is room for
+-- the first tokens of a queue stand in the list, and its source's log is there. No more was taken than is there; as many
+-- were put as there is room for
 pub record IsTally (firsts : List ℕ) (room : ℕ) (logs : List RoomyLog) (tally : Tally) : Type 0 where
   pub began : tally.start + tally.initial ≤ length firsts
   pub counted : tally.initial + room < 2 ^ 32
-  pub few : tally.made.value ≤ room
+  pub few : tally.made ≤ room
   pub there : tally.source.station < length logs
-  pub few_firsts : tally.firsts_taken ≤ tally.initial
-  pub firsts_first : tally.firsts_taken < tally.initial → tally.next ≡ tally.made.value
-  pub made_first : tally.made.value ≤ tally.next
-  pub next_there : tally.next ≤ length (dates_for logs tally)
-  pub fits : length (dates_for logs tally) ≤ tally.made.value + room
+  pub made_there : tally.made ≤ length (dates_for logs tally)
+  pub taken_there : tally.taken ≤ tally.initial + (length (dates_for logs tally) - tally.made)
+  pub fits : length (dates_for logs tally) ≤ tally.made + room
 
 -- each of these is such a tally
 abbrev pub AreTallies : List ℕ → ℕ → List RoomyLog → List Tally → Type 0
@@ -72,6 +69,4 @@ AreTallies firsts room logs tallies = (q : ℕ) → q < length tallies → IsTal
 
 -- the tally after one token more was taken
 abbrev pub one_taken : Tally → Tally
-one_taken tally =
-    if nat_lt tally.firsts_taken tally.initial then record tally { firsts_taken = tally.firsts_taken + 1 }
-    else record tally { next = tally.next + 1 }
+one_taken tally = record tally { taken = tally.taken + 1 }

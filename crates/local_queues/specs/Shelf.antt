@@ -27,13 +27,17 @@ later_by delay date = min (date + delay) (2 ^ 64 - 1)
 abbrev pub queue_at : List PlainQueue → ℕ → PlainQueue
 queue_at shelf k = slice_index_or shelf k (record { initial = []; added = []; room = 0; takes = 0 })
 
--- a queue that begins with these tokens, on which so many may be put
+-- a queue that begins with these tokens, on which this many may be put
 abbrev pub new_queue : ℕ → List ℕ → PlainQueue
 new_queue room tokens = record { initial = tokens; added = []; room = room; takes = 0 }
 
 -- a queue without the number of its takes: what was put into it, and its room
 abbrev pub untaken : PlainQueue → PlainQueue
 untaken queue = record queue { takes = 0 }
+
+-- a queue of which one token more was taken
+abbrev pub counted : PlainQueue → PlainQueue
+counted queue = record queue { takes = queue.takes + 1 }
 
 -- a queue without the tokens that were put since it was made
 abbrev pub unfilled : PlainQueue → PlainQueue

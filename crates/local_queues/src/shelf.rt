@@ -1,7 +1,7 @@
-ghost use Rattle.std.specs.Prelude.{◌≡◌, ◌≢◌, ℕ, ◌<◌, ◌≤◌, ◌+◌, ◌^◌, ◌++◌, ◌∷◌, [], ◌↔◌, All, map, length, slice_set, IfOk, IsNone, option_to_list};
+ghost use Rattle.std.specs.Prelude.{◌≡◌, ◌≢◌, ℕ, ◌<◌, ◌≤◌, ◌+◌, ◌^◌, ◌++◌, ◌∷◌, [], ◌↔◌, All, map, take, length, slice_set, IfOk, IsNone, option_to_list};
 ghost use Rattle.card_queue.specs.Plain.{plain_taken, plain_waiting};
 ghost use Rattle.line_base.specs.Roomy.{with_date};
-ghost use Rattle.local_queues.specs.Shelf.{log_on, source_at, later_by, queue_at, new_queue, untaken};
+ghost use Rattle.local_queues.specs.Shelf.{log_on, source_at, later_by, queue_at, new_queue, untaken, counted};
 
 use crate::source::Source;
 use crate::tally::Tally;
@@ -38,7 +38,7 @@ impl Model for Shelf {
 
 impl Shelf {
     /// The shelf with these logs, and with a queue for each of these lists of tokens, which it begins with, and for each
-    /// of these sources, from which its further tokens come. `room` may come on each. Fails only for want of memory.
+    /// of these sources, from which its further tokens come. `room` may come on each. Fails only where memory runs out.
     pub fn new(
         alloc: Global,
         logs: Vec<Log>,
@@ -100,8 +100,32 @@ impl Shelf {
         ensures { result ≡ length (plain_waiting (queue_at self.now.queues k)) }
     {
         let tally = &self.queues[k as usize];
-        let put = self.logs[tally.source.station as usize].dates().len() - tally.next;
-        tally.initial - tally.firsts_taken + put as u32
+        let put = self.logs[tally.source.station as usize].dates().len() - tally.made;
+        tally.initial + put as u32 - tally.taken
+    }
+
+    /// The front token of queue `k`, if there is one. It stays there.
+    #[inline(always)]
+    pub fn front(&self, k: u32) -> Option<Date>
+        requires { k < length self.now.queues }
+        ensures { option_to_list result ≡ take 1 (plain_waiting (queue_at self.now.queues k)) }
+    {
+        let tally = &self.queues[k as usize];
+        tally.front(self.firsts.as_slice(), &self.logs)
+    }
+
+    /// Counts the front token of queue `k`, which is there, as taken.
+    #[inline(always)]
+    pub fn count_take(&mut self, k: u32)
+        requires there { k < length self.old.queues }
+        requires some { plain_waiting (queue_at self.old.queues k) ≢ [] }
+        ensures counted { self.new.queues ≡
+            slice_set self.old.queues k (counted (queue_at self.old.queues k)) }
+        ensures logs { self.new.logs ≡ self.old.logs }
+        ensures sources { self.new.sources ≡ self.old.sources }
+    {
+        let tally = &mut self.queues[k as usize];
+        tally.note_take();
     }
 
     /// Takes the front token of queue `k`, if there is one.

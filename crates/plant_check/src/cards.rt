@@ -103,7 +103,7 @@ fn check_loop(
 }
 
 /// The starting stock of a loop's stages; `None` exactly where it goes down no path.
-fn stock_of_loop(paths: &PathTable, card_loop: &CardLoop) -> Option<u64>
+pub fn stock_of_loop(paths: &PathTable, card_loop: &CardLoop) -> Option<u64>
     ensures { result ≡ loop_stock paths.now card_loop.now }
 {
     let first = card_loop.first as usize;

@@ -9,6 +9,7 @@ mod names;
 mod ranges;
 mod sizes;
 
+pub use cards::stock_of_loop;
 pub use classes::{check, check_whole};
 pub use feeds::check_flow;
 pub use sizes::count_stations;

@@ -212,7 +212,7 @@ names_twice-none d dates table sound =
     ∙ sound.names
 
 -- 8 and 9
-feeds-none : (d : DraftPlant) (dates : Option (List ℕ)) (table : Option JobTimes) → IsSoundDraft d → all_feeds_not_later (plant_with d dates table) ≡ []
+pub feeds-none : (d : DraftPlant) (dates : Option (List ℕ)) (table : Option JobTimes) → IsSoundDraft d → all_feeds_not_later (plant_with d dates table) ≡ []
 feeds-none d dates table sound =
     ap (λ count. each (feeds_not_later count) (map (stage_with table) d.stages)) (length-map d.stages (stage_with table))
     ∙ each_from-map (feeds_not_later (length d.stages)) (feeds_not_later (length d.stages)) (stage_with table) 0 d.stages (λ i s. refl)

@@ -1,5 +1,5 @@
 -- For the proofs of this crate: how many job times a draft has, and whether that many are allowed.
-use Rattle.std.specs.Prelude.{ℕ, ◌+◌, ◌*◌, Bool, ◌&&◌, nat_le, if◌then◌else◌, List, length, Option, None, Some}
+use Rattle.std.specs.Prelude.{ℕ, ◌+◌, ◌*◌, Bool, true, ◌&&◌, nat_le, if◌then◌else◌, List, length, Option, None, Some}
 use Rattle.line_base.specs.Limits.{most_stations, most_demands, most_dates}
 use Rattle.line_base.specs.declared.times.Times.{Times}
 use Rattle.line_base.specs.declared.times.Times.TheVariants.{Fixed, Each}
@@ -29,6 +29,19 @@ abbrev pub stays_within : ℕ → List DraftStage → Bool
 stays_within jobs stages =
     nat_le (1 + stations_of stages + 1) most_stations
     && (nat_le jobs most_demands && nat_le ((1 + stations_of stages + 1) * jobs) most_dates)
+
+-- the most numbers of copied columns, which are 512 MiB, and of the stations of a plant that has them copied
+abbrev pub most_copies : ℕ
+most_copies = 67108864
+
+abbrev pub most_copying : ℕ
+most_copying = 1000000
+
+-- a copy of the table's records for each of these stations is no more numbers than that
+abbrev pub can_be_copied : List DraftStage → Option JobTimes → Bool
+can_be_copied stages None = true
+can_be_copied stages (Some table) =
+    nat_le (stations_of stages) most_copying && nat_le (stations_of stages * length table.rows) most_copies
 
 -- the table, if the plant stays within its limits
 abbrev pub table_within : Bool → Option JobTimes → Option JobTimes

@@ -1,6 +1,6 @@
 //! How many job times the machines of a draft have. It tells whether a plant is refused before any of them is copied.
 ghost use Rattle.std.specs.Prelude.{◌≡◌, length, option_map};
-ghost use Rattle.plant_file.specs.Counts.{list_length, machine_counts, stage_counts, stays_within, table_within};
+ghost use Rattle.plant_file.specs.Counts.{can_be_copied, list_length, machine_counts, stage_counts, stays_within, table_within};
 ghost use Rattle.plant_file.specs.Finish.{dates_with, times_with};
 ghost use Rattle.plant_model.specs.Refusals.{AnswersFirst, each, times_count};
 
@@ -91,6 +91,26 @@ fn list_length(times: &DraftTimes, table: &Option<Columns>) -> Option<u64>
             Some(table) => Some(u64::from(table.records())),
             None => None,
         },
+    }
+}
+
+/// The most numbers of copied columns: 512 MiB.
+const MOST_COPIES: u128 = 67_108_864;
+
+/// The most stations of a plant whose columns are copied before it is known to stay within its limits.
+const MOST_COPYING: u128 = 1_000_000;
+
+/// Whether a copy of a table's records for each station is no more numbers than are copied.
+pub(crate) fn can_be_copied(stages: &[DraftStage], table: &Option<Columns>) -> bool
+    ensures { result ≡ can_be_copied stages.now table.now }
+{
+    match table {
+        None => true,
+        Some(table) => {
+            let stations = count_stations(stages);
+            let records = u128::from(table.records());
+            stations <= MOST_COPYING && stations * records <= MOST_COPIES
+        }
     }
 }
 

@@ -1,16 +1,16 @@
 //! A draft becomes a plant, once the files that it names have been read.
-ghost use Rattle.std.specs.Prelude.{◌≡◌, ◌≢◌, ◌≤◌, ◌<◌, [], ◌∷◌, ℕ, List, Option, All, Ok, Some, IfErr, IfOk, IfSome, map, is_some, option_map, option_copied, length, vec_len};
+ghost use Rattle.std.specs.Prelude.{◌≡◌, ◌≢◌, ◌≤◌, ◌<◌, [], ◌∷◌, ℕ, List, Option, All, Ok, Some, IfErr, IfOk, IfSome, OnOk, map, is_some, option_map, option_copied, length, vec_len};
 ghost use Rattle.demand_feed.specs.Dates.{dates_of};
 ghost use Rattle.demand_feed.specs.Times.{times_of};
 ghost use Rattle.line_base.specs.declared.limits.TheConstants.{MAX_CHECKPOINT_BYTES, MAX_DEMAND_DATE};
 ghost use Rattle.plant_draft.specs.Draft.{demands_file, demands_column, columns_of};
 ghost use Rattle.plant_file.specs.Complete.{HoldsDates, HoldsTimes, refusal_of};
-ghost use Rattle.plant_file.specs.Finish.{AnswersPlant, HasColumn, HasColumns, IsWithinLimit, bad_record_in, bad_records, completed, dates_with, finished, loop_with, machine_with, plant_with, stage_with, times_with};
+ghost use Rattle.plant_file.specs.Finish.{AnswersPlant, HasColumn, HasColumns, IsWithinLimit, bad_record_in, bad_records, plant_of_bytes, completed, dates_with, finished, loop_with, machine_with, plant_with, stage_with, times_with};
 ghost use Rattle.plant_file.specs.PlantOfFiles.{Contents, IsReadFrom, plant_of};
-ghost use Rattle.plant_model.specs.Refusals.{first};
+ghost use Rattle.plant_model.specs.Refusals.{all_feeds_not_later, first, whole_refusals};
 ghost use Rattle.plant_model.specs.Sound.{IsSound};
 
-use crate::counts::{check_counts, count_demands, table_within};
+use crate::counts::{can_be_copied, check_counts, count_demands, table_within};
 use demand_feed::{Columns, FeedError, read_dates, read_times};
 use line_base::{Date, Items, Times};
 use plant_check::check_whole;
@@ -69,6 +69,35 @@ pub fn complete_draft(
 {
     let tables = tables_in(alloc, &draft, demands, times)?;
     finish_draft(alloc, draft, tables.0, tables.1)
+}
+
+/// The plant of a draft and of the bytes of its files, whatever is wrong with it as a whole: the refusals 11 to 15 aren't
+/// tried. The error is the first of class 10, the demand file tried before the times file. Out of memory may come before it,
+/// and comes where the columns of the machines would be more than 512 MiB.
+pub fn assemble_plant(
+    alloc: Global,
+    draft: Draft,
+    demands: Option<&[u8]>,
+    times: Option<&[u8]>,
+) -> Result<Plant, PlantError>
+    requires demands_where_used { is_some demands ≡ is_some (demands_file draft) }
+    requires times_where_used { is_some times ≡ is_some draft.times_file }
+    requires times_size { IfSome times (λ bytes. length bytes.now ≤ MAX_CHECKPOINT_BYTES) }
+    ensures plant { IfOk result (λ made.
+        made ≡ plant_of_bytes draft (option_copied demands.entry) (option_copied times.entry)) }
+    ensures feeds { IfOk result (λ made. all_feeds_not_later made ≡ []) }
+    ensures sound { IfOk result (λ made. whole_refusals made ≡ [] → IsSound made) }
+    ensures good { OnOk result (bad_records draft (option_copied demands.entry) (option_copied times.entry) ≡ []) }
+    ensures refused { IfErr result (λ e. e ≢ PlantError.NoMemory
+        → first (bad_records draft (option_copied demands.entry) (option_copied times.entry)) ≡ Some e) }
+{
+    let tables = tables_in(alloc, &draft, demands, times)?;
+    let draft = draft.into_plant();
+    if !can_be_copied(draft.stages.as_slice(), &tables.1) {
+        return Err(PlantError::NoMemory);
+    }
+    let plant = plant_with(alloc, draft, tables.0, tables.1)?;
+    Ok(plant)
 }
 
 /// The dates and the table of the bytes of a draft's files, each where there is one; the demand file is tried first.

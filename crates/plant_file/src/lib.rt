@@ -4,7 +4,7 @@
 mod counts;
 mod finish;
 
-pub use finish::{complete_draft, finish_draft};
+pub use finish::{assemble_plant, complete_draft, finish_draft};
 pub use plant_draft::{
     Draft, DraftDemands, DraftLoop, DraftMachine, DraftPlant, DraftStage, DraftTimes, read_plant,
 };

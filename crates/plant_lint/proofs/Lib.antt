@@ -9,3 +9,4 @@ pub mod Ranges
 pub mod Refusals
 pub mod SeenNames
 pub mod SoundFiles
+pub mod DraftLints

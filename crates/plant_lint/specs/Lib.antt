@@ -7,4 +7,6 @@ pub mod Unused
 pub mod FileLints
 pub mod PlantNotes
 pub mod PlantLints
+pub mod Records
+pub mod DraftLints
 pub mod Laws

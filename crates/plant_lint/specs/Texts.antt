@@ -20,6 +20,9 @@ wants_text wants.AName = codes " wants 1 to 24 of a-z 0-9 _ -, a letter first"
 wants_text wants.FreeName = codes " is taken"
 wants_text wants.AFileName = codes " is no file name"
 wants_text (wants.LaterThan name) = codes " " ++ name
+wants_text wants.ADate = codes " has no date"
+wants_text (wants.NumberFor text) = codes " has \"" ++ (text ++ codes "\"")
+wants_text (wants.AField column) = codes " has no column " ++ decimal column
 
 -- the line of a fault
 abbrev pub fault_line : Fault → List ℕ

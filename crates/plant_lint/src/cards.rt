@@ -1,9 +1,10 @@
 //! The cards that are fewer than starting stock needs, and the loops that go down no path.
 ghost use Rattle.std.specs.Prelude.{◌≡◌, ◌<◌, ◌++◌, length, codes, OnOk};
 ghost use Rattle.plant_model.specs.Place.{key_of};
-ghost use Rattle.plant_model.specs.Refusals.{each, too_few, too_few_in_line, too_few_in_stage, too_few_under, loop_stock, too_few_in_loop, too_few_cards, not_downstream};
+ghost use Rattle.plant_model.specs.Refusals.{each, too_few, too_few_in_line, too_few_in_stage, too_few_under, too_few_in_loop, too_few_cards, not_downstream};
 
 use crate::whole::refuse;
+use plant_check::stock_of_loop;
 use plant_model::{
     CardLoop, FileTable, PathTable, PlantError, Policy, Stage, key_place, table_place,
 };
@@ -130,18 +131,6 @@ fn find_few_in_loop(
             find_few(alloc, FileTable::InLoop(k), cards, stock, refusals)
         }
         None => Ok(()),
-    }
-}
-
-/// The starting stock of a loop's stages; `None` exactly where it goes down no path.
-fn stock_of_loop(paths: &PathTable, card_loop: &CardLoop) -> Option<u64>
-    ensures { result ≡ loop_stock paths.now card_loop.now }
-{
-    let first = card_loop.first as usize;
-    if first < paths.plant().stages.len() {
-        paths.stock_up_to(first, card_loop.last as usize)
-    } else {
-        None
     }
 }
 

@@ -34,6 +34,12 @@ pub enum Wants {
     AFileName,
     /// The name of a later stage in place of this one.
     LaterThan { name: Text },
+    /// A date: the file has none.
+    ADate,
+    /// A number in place of this text, which is a field as far as it is printable.
+    NumberFor { text: Text },
+    /// A field in this column.
+    AField { column: u32 },
 }
 
 /// What is wrong with a plant file at one place, and what is wanted there.
@@ -66,6 +72,9 @@ impl fmt::Display for Wants {
             Wants::FreeName => f.write_str(" is taken"),
             Wants::AFileName => f.write_str(" is no file name"),
             Wants::LaterThan { name } => after_blank(f, name),
+            Wants::ADate => f.write_str(" has no date"),
+            Wants::NumberFor { text } => quoted(f, text),
+            Wants::AField { column } => write!(f, " has no column {column}"),
         }
     }
 }
@@ -76,6 +85,14 @@ fn after_blank<W: fmt::Write>(f: &mut fmt::Formatter<W>, name: &Text) -> fmt::Re
 {
     let name = name.as_str();
     write!(f, " {name}")
+}
+
+/// Writes the text that stands there.
+fn quoted<W: fmt::Write>(f: &mut fmt::Formatter<W>, text: &Text) -> fmt::Result
+    ensures { DisplaysOnOk W.write_str_gives f.old result (Some (codes " has \"" ++ (text.now ++ codes "\""))) f.new }
+{
+    let text = text.as_str();
+    write!(f, " has \"{text}\"")
 }
 
 /// Adds a refusal, with what is wanted there.

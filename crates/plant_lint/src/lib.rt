@@ -2,6 +2,7 @@
 #![tactic(auto)]
 
 mod cards;
+mod draft;
 mod fault;
 mod file;
 mod flow;
@@ -11,6 +12,7 @@ mod names;
 mod notes;
 mod plant;
 mod position;
+mod records;
 mod seen;
 mod sizes;
 mod tree;
@@ -19,6 +21,7 @@ mod values;
 mod walk;
 mod whole;
 
+pub use draft::{DraftLint, lint_draft};
 pub use fault::{Fault, Wants};
 pub use file::{FileLint, lint_file};
 pub use laws::faults_are_refusals;

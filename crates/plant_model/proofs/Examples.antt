@@ -10,31 +10,8 @@ use Rattle.plant_model.specs.declared.plant.CardLoop.{CardLoop}
 use Rattle.plant_model.specs.declared.plant.Plant.{Plant}
 use Rattle.plant_model.specs.Line.{path, first_stages}
 use Rattle.plant_model.specs.Graph.{Row, worked, plain, rows, graph, labels, times}
+use Rattle.plant_model.proofs.TwoStage.{machine, stage, two_stages, kanban_line}
 use Rattle.plant_model.specs.Refusals.{refusals, parts_refusals, whole_refusals}
-
--- a machine with one server
-abbrev machine : List ℕ → ℕ → Machine
-machine name time = one_server name (Fixed time)
-
--- a stage with one machine
-abbrev stage : List ℕ → Option ℕ → ℕ → ℕ → Machine → Stage
-stage name to cards stock m =
-    record { name = name; feeds = to; cards = cards; stock = stock; travel = 0; card_time = 0; machines = m ∷ [] }
-
--- `cut` with `saw` feeds `weld` with `torch`, and three demands
-abbrev plant_a : Policy → ℕ → ℕ → ℕ → ℕ → List CardLoop → Plant
-plant_a policy cut_cards cut_stock weld_cards weld_stock loops =
-    record {
-      policy = policy;
-      stages =
-          stage (codes "cut") (Some 1) cut_cards cut_stock (machine (codes "saw") 3)
-          ∷ stage (codes "weld") None weld_cards weld_stock (machine (codes "torch") 5)
-          ∷ [];
-      loops = loops;
-      card_time = 0;
-      demands = 0 ∷ 2 ∷ 4 ∷ [];
-      observe = [];
-    }
 
 -- the rows of the two stages and of the delivery's demands, with the starting stock of each stage
 abbrev line_a : ℕ → ℕ → List Row
@@ -50,36 +27,36 @@ line_a cut_stock weld_stock =
     ∷ plain 0 5 0 0
     ∷ []
 
-kanban_a : rows (plant_a Kanban 1 0 1 0 []) ≡ line_a 1 1 ++ plain 3 1 0 0 ∷ plain 5 3 0 0 ∷ []
+kanban_a : rows kanban_line ≡ line_a 1 1 ++ plain 3 1 0 0 ∷ plain 5 3 0 0 ∷ []
 unfolding rows
 kanban_a = refl
 
 labels_a :
-    labels (plant_a Kanban 1 0 1 0 [])
+    labels kanban_line
     ≡ codes "feed" ∷ codes "cut" ∷ codes "cut.saw" ∷ codes "weld" ∷ codes "weld.torch" ∷ codes "deliver" ∷ []
 unfolding labels
 labels_a = refl
 
-times_a : times (plant_a Kanban 1 0 1 0 []) ≡ Fixed 0 ∷ Fixed 0 ∷ Fixed 3 ∷ Fixed 0 ∷ Fixed 5 ∷ Fixed 0 ∷ []
+times_a : times kanban_line ≡ Fixed 0 ∷ Fixed 0 ∷ Fixed 3 ∷ Fixed 0 ∷ Fixed 5 ∷ Fixed 0 ∷ []
 unfolding times
 times_a = refl
 
-base_stock_a : rows (plant_a BaseStock 0 1 0 1 []) ≡ line_a 1 1 ++ plain 0 1 0 0 ∷ plain 0 3 0 0 ∷ []
+base_stock_a : rows (two_stages BaseStock 0 1 0 1 []) ≡ line_a 1 1 ++ plain 0 1 0 0 ∷ plain 0 3 0 0 ∷ []
 unfolding rows
 base_stock_a = refl
 
 extended_a :
-    rows (plant_a Extended 2 1 3 1 [])
+    rows (two_stages Extended 2 1 3 1 [])
     ≡ line_a 1 1 ++ plain 0 1 0 0 ∷ plain 3 1 1 0 ∷ plain 0 3 0 0 ∷ plain 5 3 2 0 ∷ []
 unfolding rows
 extended_a = refl
 
-conwip_a : rows (plant_a (Conwip 2) 0 0 0 1 []) ≡ line_a 0 1 ++ plain 5 1 1 0 ∷ []
+conwip_a : rows (two_stages (Conwip 2) 0 0 0 1 []) ≡ line_a 0 1 ++ plain 5 1 1 0 ∷ []
 unfolding rows
 conwip_a = refl
 
 loop_a :
-    rows (plant_a BaseStock 0 1 0 1 (record { first = 0; last = 1; cards = 2; card_time = 0 } ∷ []))
+    rows (two_stages BaseStock 0 1 0 1 (record { first = 0; last = 1; cards = 2; card_time = 0 } ∷ []))
     ≡ line_a 1 1 ++ plain 0 1 0 0 ∷ plain 0 3 0 0 ∷ plain 5 1 0 0 ∷ []
 unfolding rows
 loop_a = refl
@@ -134,27 +111,16 @@ paths = refl
 firsts : first_stages (assembly Kanban) ≡ 0 ∷ 1 ∷ []
 firsts = refl
 
--- `cut` with a travel of 4 and a card time of 1
+-- `cut` with a travel of 4 and a card time of 1, and a loop with one of 7
 abbrev plant_with_travel : Plant
 plant_with_travel =
-    record {
-      policy = Kanban;
+    record kanban_line {
       stages =
-          record {
-            name = codes "cut";
-            feeds = Some 1;
-            cards = 1;
-            stock = 0;
-            travel = 4;
-            card_time = 1;
-            machines = machine (codes "saw") 3 ∷ [];
-          }
+          record (stage (codes "cut") (Some 1) 1 0 (machine (codes "saw") 3)) { travel = 4; card_time = 1 }
           ∷ stage (codes "weld") None 1 0 (machine (codes "torch") 5)
           ∷ [];
       loops = record { first = 1; last = 1; cards = 1; card_time = 7 } ∷ [];
       card_time = 9;
-      demands = 0 ∷ 2 ∷ 4 ∷ [];
-      observe = [];
     }
 
 delays_of_travel : (graph plant_with_travel).delays ≡ 0 ∷ 0 ∷ 0 ∷ 4 ∷ 0 ∷ 0 ∷ 0 ∷ 0 ∷ 0 ∷ 1 ∷ 0 ∷ 7 ∷ []
@@ -198,17 +164,17 @@ kanban_cell :
 unfolding rows
 kanban_cell = refl
 
-sound_a : refusals (plant_a Kanban 1 0 1 0 []) ≡ []
+sound_a : refusals kanban_line ≡ []
 unfolding refusals parts_refusals whole_refusals digits
 sound_a = refl
 
-too_few_in_stage : refusals (plant_a Extended 1 2 2 1 []) ≡ TooFewCards (codes "stage[1].cards") 1 2 ∷ []
+too_few_in_stage : refusals (two_stages Extended 1 2 2 1 []) ≡ TooFewCards (codes "stage[1].cards") 1 2 ∷ []
 unfolding refusals parts_refusals whole_refusals digits
 too_few_in_stage = refl
 
 -- a loop from one stage to another, over base stock
 abbrev looped : ℕ → ℕ → ℕ → Plant
-looped a b cards = plant_a BaseStock 0 1 0 1 (record { first = a; last = b; cards = cards; card_time = 0 } ∷ [])
+looped a b cards = two_stages BaseStock 0 1 0 1 (record { first = a; last = b; cards = cards; card_time = 0 } ∷ [])
 
 too_few_in_loop : refusals (looped 0 1 1) ≡ TooFewCards (codes "loop[1].cards") 1 2 ∷ []
 unfolding refusals parts_refusals whole_refusals digits
@@ -218,9 +184,9 @@ upstream : refusals (looped 1 0 2) ≡ LoopNotDownstream (codes "loop[1]") ∷ [
 unfolding refusals parts_refusals whole_refusals digits
 upstream = refl
 
--- plant A with these demands
+-- the line of two stages with these demands
 abbrev demanded : List ℕ → Plant
-demanded dates = record (plant_a Kanban 1 0 1 0 []) { demands = dates }
+demanded dates = record kanban_line { demands = dates }
 
 no_demand : refusals (demanded []) ≡ OutOfRange (codes "demands") ∷ []
 unfolding refusals parts_refusals whole_refusals digits

@@ -1,4 +1,5 @@
 mod Examples
+pub mod TwoStage
 pub mod NoRefusals
 pub mod Passes
 pub mod Soundness

@@ -1,5 +1,5 @@
--- The numbers of the arcs of a plant's graph, over the order of its rows: those of the stages, the demand of the delivery,
--- the policy's, the loops'.
+-- The numbers of the arcs of a plant's graph, over the order of its rows: those of the stages, the demand of the
+-- delivery, the policy's, the loops'.
 use Rattle.std.specs.Prelude.{ℕ, ◌+◌, ◌*◌, List, length, take, map, sum_by, count_by}
 use Rattle.std.specs.List.{range_with_len, flat_map}
 use Rattle.plant_model.specs.Stages.{Stage}
@@ -15,8 +15,8 @@ arcs_in stages = sum_by (λ s. 1 + 3 * length s.machines) stages
 abbrev pub entry_arc : Plant → ℕ → ℕ
 entry_arc p i = arcs_in (take i p.stages)
 
--- the arcs on which the parts of stage i go on: from its release to its first machine, from each machine to the next, and
--- from the last one to what the stage feeds; a machine's two arcs to itself stand between
+-- the arcs on which the parts of stage i go on: from its release to its first machine, from each machine to the next,
+-- and from the last one to what the stage feeds; a machine's two arcs to itself stand between
 abbrev pub onward_arcs : Plant → ℕ → List ℕ
 onward_arcs p i = map (λ k. entry_arc p i + 3 * k) (range_with_len 0 (length (stage_at p i).machines + 1))
 

@@ -1,5 +1,5 @@
--- The graph of a plant: the stations, their labels and job times, and the arcs in order, as one list of rows. The policies
--- follow the idea of Dallery and Liberopoulos 2000, the words those of Baccelli, Cohen, Olsder and Quadrat,
+-- The graph of a plant: the stations, their labels and job times, and the arcs in order, as one list of rows. The
+-- policies follow the idea of Dallery and Liberopoulos 2000, the words those of Baccelli, Cohen, Olsder and Quadrat,
 -- Synchronization and Linearity.
 use Rattle.std.specs.Prelude.{ℕ, ◌+◌, ◌-◌, ◌==◌, if◌then◌else◌, true, false, List, [], ◌∷◌, ◌++◌, length, map, codes}
 use Rattle.std.specs.List.{flat_map}
@@ -27,7 +27,8 @@ worked s t n = record { arc = record { from = s; to = t; tokens = n; worked = tr
 abbrev pub plain : ℕ → ℕ → ℕ → ℕ → Row
 plain s t n late = record { arc = record { from = s; to = t; tokens = n; worked = false }; delay = late }
 
--- from machine j of stage i on: to the next machine, or after the last one, over the starting stock, to what the stage feeds
+-- from machine j of stage i on: to the next machine, or after the last one, over the starting stock, to what the stage
+-- feeds
 abbrev pub onward : Plant → ℕ → ℕ → Row
 onward p i j =
     if j + 1 == length (stage_at p i).machines

@@ -1,5 +1,5 @@
--- Stages and their machines. Those of a plant have job times; those of a plant that is still to be read have in their place
--- where the times stand.
+-- Stages and their machines. Those of a plant have job times; those of a plant that is still to be read have in their
+-- place where the times stand.
 use Rattle.std.specs.Prelude.{ℕ, List}
 use Rattle.line_base.specs.declared.times.Times.{Times}
 use Rattle.plant_model.specs.declared.plant.Machine.{Machine as MachineOf}

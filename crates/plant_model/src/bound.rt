@@ -4,9 +4,9 @@ ghost use Rattle.plant_model.specs.Line.{stage_at};
 
 use crate::plant::{Plant, Policy};
 
-/// The bound of a stage, numbered from 0: how many parts at most stand in it, in process, in move and in stock together. It
-/// is the stage's cards under kanban and extended kanban, the line's cards under CONWIP, and `None` exactly under base
-/// stock. It takes no memory.
+/// The bound of a stage, numbered from 0: how many parts at most stand in it, in process, in move and in stock
+/// together. It is the stage's cards under kanban and extended kanban, the line's cards under CONWIP, and `None`
+/// exactly under base stock. It takes no memory.
 pub fn bound_of(plant: &Plant, stage: u32) -> Option<u32>
     requires { stage < length plant.now.stages }
     ensures bound { result ≡ bound plant.now stage }

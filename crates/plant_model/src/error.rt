@@ -8,13 +8,13 @@ use std::alloc::AllocError;
 use std::error::Error;
 use std::fmt;
 
-/// Why a plant is refused, in the order in which the refusals are tried. A place is the path of a key in the plant file,
-/// counted from 1, as `stage[2].machine[1].time`.
+/// Why a plant is refused, in the order in which the refusals are tried. A place is the path of a key in the plant
+/// file, counted from 1, as `stage[2].machine[1].time`.
 #[derive(Debug, Drop)]
 pub enum PlantError {
     /// The file is no TOML.
     NotToml,
-    /// A key isn't one of the plant file's, or another key excludes it.
+    /// A key isn't one of the plant file's, or another key excludes it, or the key that it goes with is absent.
     UnknownKey { place: Text },
     /// A required key isn't there.
     Missing { place: Text },

@@ -9,8 +9,8 @@ use crate::plant::{CardLoop, Plant, Policy, Stage};
 use std::alloc::{AllocError, Global};
 use std::marker::Model;
 
-/// A sound plant with the numbers of its stations and arcs, which are made once and looked up after that. Contracts see it as
-/// the plant. Its looks take no memory.
+/// A sound plant with the numbers of its stations and arcs, which are made once and looked up after that. Contracts see
+/// it as the plant. Its looks take no memory.
 #[derive(Drop)]
 pub struct Layout<'a> {
     plant: &'a Plant,

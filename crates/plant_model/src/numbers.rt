@@ -13,8 +13,8 @@ use std::snapshot::Snapshot;
 pub const FEED: u32 = 0;
 
 /// The numbers of the stations and of the arcs of a sound plant's stages. The feed is station 0, then come each stage's
-/// release and its machines, then the delivery; the arcs stand as the graph has them. They are made once, in one pass over
-/// the stages. Contracts see the plant. The looks take no memory.
+/// release and its machines, then the delivery; the arcs stand as the graph has them. They are made once, in one pass
+/// over the stages. Contracts see the plant. The looks take no memory.
 #[derive(Drop)]
 pub struct LineNumbers {
     /// The station of each stage's release, and last that of the delivery.
@@ -91,7 +91,8 @@ impl LineNumbers {
         self.releases[self.releases.len() - 1]
     }
 
-    /// The station that takes the parts of a stage of the plant: the release of the stage that it feeds, or the delivery.
+    /// The station that takes the parts of a stage of the plant: the release of the stage that it feeds, or the
+    /// delivery.
     pub fn receiver(&self, plant: &Plant, stage: u32) -> u32
         requires sound { IsSound plant.now }
         requires plant { plant.now ≡ self.now }

@@ -1,5 +1,5 @@
-//! The paths of a plant's stages as a table, made in one pass, by which few steps tell whether a stage is on the path of
-//! another.
+//! The paths of a plant's stages as a table, made in one pass, by which few steps tell whether a stage is on the path
+//! of another.
 ghost use Rattle.std.specs.Prelude.{◌≡◌, ◌+◌, ◌<◌, ◌⊎◌, [], length, IfOk};
 ghost use Rattle.plant_model.specs.Line.{is_first, is_downstream, path_stock, stock_down_to};
 ghost use Rattle.plant_model.specs.Line;
@@ -18,9 +18,9 @@ struct PathRow {
     stock: u64,
     /// How many stages the path has after the stage.
     stages: usize,
-    /// A stage further down the path; at the final stage the stage itself. It lies as far ahead as two jumps of equal length
-    /// from the next stage lead, else it is the next stage, so the number of steps to a stage grows with the logarithm of its
-    /// distance (Myers 1983, an applicative random-access stack).
+    /// A stage further down the path; at the final stage the stage itself. It lies as far ahead as two jumps of equal
+    /// length from the next stage lead, else it is the next stage, so the number of steps to a stage grows with the
+    /// logarithm of its distance (Myers 1983, an applicative random-access stack).
     jump: usize,
 }
 
@@ -77,7 +77,8 @@ impl<'a> PathTable<'a> {
         self.rows[i].stock
     }
 
-    /// The starting stock of the stages from `from` to `to` on the path of `from`; `None` exactly where `to` isn't on it.
+    /// The starting stock of the stages from `from` to `to` on the path of `from`; `None` exactly where `to` isn't on
+    /// it.
     pub fn stock_up_to(&self, from: usize, to: usize) -> Option<u64>
         requires { from < length self.now.stages }
         ensures { result ≡ stock_down_to self.now from to }

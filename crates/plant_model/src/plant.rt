@@ -11,14 +11,14 @@ pub enum Policy {
     Kanban,
     /// The line has this many cards, which come back as a part is delivered.
     Conwip(u32),
-    /// There are no cards: each demand is told to every stage at once.
+    /// There are no cards: each demand goes to every stage at once.
     BaseStock,
-    /// Each demand is told to every stage at once, and each stage has cards of its own.
+    /// Each demand goes to every stage at once, and each stage has cards of its own.
     Extended,
 }
 
-/// A machine of a stage. The job times of a plant are the numbers themselves; a plant that is still to be read has in their
-/// place where they stand.
+/// A machine of a stage. The job times of a plant are the numbers themselves; a plant that is still to be read has in
+/// their place where they stand.
 #[derive(Drop)]
 pub struct Machine<T = Times> {
     /// Its name, which no other machine of the stage has.

@@ -1,4 +1,4 @@
-//! Base stock: each demand is told to every stage at once, and there are no cards.
+//! Base stock: each demand goes to every stage at once, and there are no cards.
 #![tactic(auto)]
 
 ghost use Rattle.std.specs.Prelude.{◌≡◌, ◌<◌, length, IfOk};
@@ -23,7 +23,7 @@ pub fn arcs(alloc: Global, plant: &Plant) -> Result<Vec<Arc>, AllocError>
     Ok(arcs)
 }
 
-/// The arc on which a stage is told of demands.
+/// The arc on which demands come to a stage.
 pub fn demand_arc(layout: &Layout, stage: u32) -> Arc
     requires { stage < length layout.now.stages }
     ensures { result ≡ (demand_row layout.now stage).arc }

@@ -1,4 +1,4 @@
-//! Extended kanban: each demand is told to every stage at once, and each stage has cards of its own.
+//! Extended kanban: each demand goes to every stage at once, and each stage has cards of its own.
 #![tactic(auto)]
 
 ghost use Rattle.std.specs.Prelude.{◌≡◌, IfOk};
@@ -11,9 +11,9 @@ use policy_basestock::demand_arc;
 use policy_kanban::card_arc;
 use std::alloc::{AllocError, Global};
 
-/// The arcs of the demands and of the cards, two a stage in order: from the feed to the stage's release, without a token,
-/// then from the station that takes the stage's parts to the release, with the cards that the starting stock leaves free
-/// (Dallery and Liberopoulos 2000).
+/// The arcs of the demands and of the cards, two a stage in order: from the feed to the stage's release, without a
+/// token, then from the station that takes the stage's parts to the release, with the cards that the starting stock
+/// leaves free (Dallery and Liberopoulos 2000).
 pub fn arcs(alloc: Global, plant: &Plant) -> Result<Vec<Arc>, AllocError>
     requires sound { IsSound plant.now }
     requires policy { plant.now.policy ≡ Policy.Extended }

@@ -79,7 +79,7 @@ module _ (store : StoreOver) (sink : SinkOver) (disk : DiskOver) (answer : Resul
   on_unwritten next (Ok p) after on go = go p on
   on_unwritten next (Err refusal) after on go = unwritten asks after on.0
 
-  -- a run that is told to stop
+  -- a run that is asked to stop
   until_writes : (name : List ℕ) (workers : ℕ) (stop : Stop) (p : Plant) (after : List Read) → IsPlantRead p name store → RunsUntil p stop.after stop.save (record asks { reads = after }) disk answer → (asks.writes ≡ []) ⊎ StopsIn (command.Run name workers (Some stop))
   until_writes name workers stop p after read runs =
       ⊎_elim

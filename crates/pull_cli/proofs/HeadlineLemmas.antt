@@ -19,7 +19,7 @@ use Rattle.plant_model.specs.Graph.{graph}
 use Rattle.refusals.specs.Checkpoints.{checkpoint_refusal}
 use Rattle.refusals.specs.Refusal.{status_of, text_of}
 use Rattle.refusals.specs.declared.refusal.Refusal.{Refusal}
-use Rattle.refusals.specs.declared.refusal.Refusal.TheVariants.{Usage, Refused, Dead, StoreFault, NotReached, Varying, NoMemory, TooLong, NotFollowed, Disk, NoCount, NothingSaved, NotEdited, NoSingleCount, NoDate, Late, TooLarge}
+use Rattle.refusals.specs.declared.refusal.Refusal.TheVariants.{Usage, Refused, Faults, Dead, StoreFault, NotReached, Varying, NoMemory, TooLong, NotFollowed, Disk, NoCount, NothingSaved, NotEdited, NoSingleCount, NoDate, Late, TooLarge}
 use Rattle.live_plant.specs.Actions.{Action, DiskOver, Plainly, DoesOn, ThenDoes, with_asked, Changes}
 use Rattle.live_plant.specs.Outside.{StoreOver, SinkOver}
 use Rattle.live_plant.specs.PlantSteps.{OfPlantNamed}
@@ -46,6 +46,7 @@ zero_writes sink bytes good (inr broke) = absurd (omega (arith, broke.0))
 above_zero : (refusal : Refusal) → 1 ≤ status_of refusal
 above_zero Usage = omega arith
 above_zero (Refused error) = omega arith
+above_zero (Faults lines) = omega arith
 above_zero (Dead labels) = omega arith
 above_zero (StoreFault file) = omega arith
 above_zero (NotReached line) = omega arith
@@ -224,7 +225,7 @@ module _ (store : StoreOver) (sink : SinkOver) (disk : DiskOver) (answer : Resul
       then_reports plant name same (λ p. Plainly (Settles (IsReport p))) (plainly_then (OfPlantNamed store.tells store.old.files plant) (λ p. Settles (IsReport p)) asks disk answer does)
       (λ p after on. settled_reported p on.answers.1)
 
-  -- each command that runs a plant and isn't told to stop
+  -- each command that runs a plant and isn't asked to stop
   of_run : (c : Command) (name : List ℕ) → run_of c ≡ Some name → OfCommand store.tells store.old.files c asks disk answer → Reports name store sink
   of_run (command.Run plant workers None) name is does =
       let same : plant ≡ name = cc in run_well plant name same does

@@ -1,4 +1,4 @@
--- Which file a call may change: FILE of a run that is told to stop, and no other.
+-- Which file a call may change: FILE of a run that is asked to stop, and no other.
 use Rattle.std.specs.Prelude.{◌≡◌, ◌≢◌, ◌⊎◌, ℕ, List, IsTrue, Option, Some, None}
 use Rattle.checkpoint.specs.Text.{text}
 use Rattle.checkpoint.specs.declared.format.Format.TheVariants.{Differences}
@@ -46,7 +46,7 @@ abbrev pub StaysOrSaves : List ℕ → Stop → StoreOver → SinkOver → ℕ �
 StaysOrSaves name stop store sink status =
     (store.new.files stop.save ≡ store.old.files stop.save) ⊎ StopsAndSaves name stop store sink status
 
--- Where files are told, every file is as it was but FILE of a run that is told to stop, and with a status other than 0,
+-- Where files are told, every file is as it was but FILE of a run that is asked to stop, and with a status other than 0,
 -- 5 and 6 FILE too; and FILE is as it was where the run didn't stop.
 pub record FilesStay (words : List (List ℕ)) (store : StoreOver) (sink : SinkOver) (status : ℕ) : Type 0 where
   pub others_stay : IsTrue store.tells → (q : List ℕ) → save_of (command_of words) ≢ Some q

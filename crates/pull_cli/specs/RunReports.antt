@@ -15,7 +15,7 @@ use Rattle.plant_file.specs.PlantOfFiles.{plant_of}
 use Rattle.plant_model.specs.Graph.{graph}
 use Rattle.plant_model.specs.declared.plant.Plant.{Plant}
 
--- the plant file of a command that runs a plant and isn't told to stop
+-- the plant file of a command that runs a plant and isn't asked to stop
 abbrev pub run_of : Command → Option (List ℕ)
 run_of (command.Run plant workers None) = Some plant
 run_of (command.RunSlots plant every workers) = Some plant
@@ -45,7 +45,7 @@ pub record Reports (name : List ℕ) (store : StoreOver) (sink : SinkOver) : Typ
   pub read : IsPlantRead plant name store
   pub reported : HasReported plant sink
 
--- "a run that isn't told to stop and ends with status 0"
+-- "a run that isn't asked to stop and ends with status 0"
 abbrev pub RunReports : List (List ℕ) → StoreOver → SinkOver → ℕ → Type 0
 RunReports words store sink status =
     (asked : Command) (name : List ℕ) → command_of words ≡ Some asked → run_of asked ≡ Some name → status ≡ 0 →

@@ -24,7 +24,7 @@ use Rattle.plant_model.specs.declared.plant.Plant.{Plant}
 use Rattle.refusals.specs.declared.refusal.Refusal.{Refusal}
 use Rattle.pull_cli.specs.RunReports.{IsPlantRead, HasReported}
 
--- "resuming it writes that same report": whatever resuming these bytes answers, but for want of memory, is the report over
+-- "resuming it writes that same report": whatever resuming these bytes answers, but for out of memory, is the report over
 -- the least solution, of which a graph has one
 abbrev pub ResumesToReport : Plant → List ℕ → Type 0
 ResumesToReport p bytes = (answer : Result Answer Refusal) → IsResumed p bytes answer → IsReport p answer
@@ -47,7 +47,7 @@ pub record ReportsOrSaves (name : List ℕ) (stop : Stop) (store : StoreOver) (s
   pub read : IsPlantRead plant name store
   pub done : HasReported plant sink ⊎ HasSaved plant stop store sink
 
--- "a run that is told to stop and ends with status 0"
+-- "a run that is asked to stop and ends with status 0"
 abbrev pub StopsAndResumes : List (List ℕ) → StoreOver → SinkOver → ℕ → Type 0
 StopsAndResumes words store sink status =
     (name : List ℕ) (workers : ℕ) (stop : Stop) → command_of words ≡ Some (Run name workers (Some stop)) →

@@ -5,13 +5,15 @@ use Rattle.std.specs.Prelude.{◌≡◌, ◌⊎◌, Bool, List, ℕ, Option, Som
 use Rattle.answers.specs.declared.answer.Answer.{Answer}
 use Rattle.command_line.specs.declared.command.Command.{Command}
 use Rattle.commands.specs.Answers.{AnswersAlone, AnswersOfPlant, AnswersOfFile}
+use Rattle.commands.specs.Reports.{Writes}
 use Rattle.commands.specs.Saving.{DoesOnSlots, RunsUntil}
 use Rattle.commands.specs.Task.{task_of}
 use Rattle.commands.specs.declared.task.Task.{Task}
-use Rattle.commands.specs.declared.task.Task.TheVariants.{Alone, OnPlant, OnFile, Stopping, OnDisk}
+use Rattle.commands.specs.declared.task.Task.TheVariants.{Alone, Linting, OnPlant, OnFile, Stopping, OnDisk}
 use Rattle.line_io.specs.Calls.{none_asked}
 use Rattle.line_io.specs.Contents.{Contents}
 use Rattle.live_plant.specs.Actions.{Action, DiskOver, Does, Plainly, ThenDoes}
+use Rattle.live_plant.specs.LintSteps.{LintsPlant}
 use Rattle.live_plant.specs.Outside.{StoreOver}
 use Rattle.live_plant.specs.PlantSteps.{OfPlantNamed}
 use Rattle.live_plant.specs.Steps.{Step, LooksAt, Settles, Then}
@@ -26,6 +28,7 @@ AsksWith file answers = Then (LooksAt file) (λ bytes. Settles (answers bytes))
 -- what is done for a task
 abbrev pub OfTask : Bool → Contents → Task → Action Answer
 OfTask tells files (Alone question) = Plainly (Settles (AnswersAlone question))
+OfTask tells files (Linting plant) = Plainly (Then (LintsPlant plant) (λ text. Settles (Writes text)))
 OfTask tells files (OnPlant plant question) =
     Plainly (Then (OfPlantNamed tells files plant) (λ p. Settles (AnswersOfPlant question p)))
 OfTask tells files (OnFile plant file question) =

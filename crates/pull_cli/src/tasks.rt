@@ -19,7 +19,7 @@ use commands::{
 use line_disk::Disk;
 use line_io::Store;
 use line_workers::Gate;
-use live_plant::{LivePlant, read_file, read_live_plant};
+use live_plant::{LivePlant, lint_plant_file, read_file, read_live_plant};
 use refusals::Refusal;
 use std::alloc::Global;
 use std::sync::Wait;
@@ -64,6 +64,18 @@ pub fn do_task<R: Threads + Sync, S: Store, G: Gate, D: Disk>(
         Task::OnDisk { plant, question } => {
             on_disk(rt, alloc, plant.as_str(), question, store, gate, disk)
         }
+        Task::Linting { plant } => lint(alloc, plant.as_str(), store),
+    }
+}
+
+/// What lint answers of a plant file.
+fn lint<S: Store>(alloc: Global, plant: &str, store: &mut S) -> Result<Answer, Refusal>
+    ensures { DoesOnStore (store_over S.tells (S.shown store.old) (S.shown store.new))
+        (OfTask S.tells (S.shown store.old).files (task.Linting plant.now)) result }
+{
+    match lint_plant_file(alloc, store, plant) {
+        Ok(text) => Ok(Answer::Text { text }),
+        Err(refusal) => Err(refusal),
     }
 }
 
@@ -127,7 +139,7 @@ fn ask_with<R: Threads + Sync, S: Store, G: Gate>(
     }
 }
 
-/// What a run of the live plant of a plant file answers that is told to stop.
+/// What a run of the live plant of a plant file answers that is asked to stop.
 fn until_stop<R: Threads + Sync, S: Store, G: Gate>(
     rt: &R,
     alloc: Global,

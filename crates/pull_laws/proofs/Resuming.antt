@@ -35,7 +35,7 @@ no_checkpoint q name plain checkpoint same =
     let both : true ≡ false = sym checkpoint ∙ (ap is_checkpoint_name (sym same) ∙ plain) in
     absurd (cc)
 
--- a call for a command that runs a plant by workers and isn't told to stop, and ends with status 0, has written the report
+-- a call for a command that runs a plant by workers and isn't asked to stop, and ends with status 0, has written the report
 -- of the plant that the files are
 run_reports : (c : Command) (name : List ℕ) (p : Plant) (call : Call) → CallsFor c call → run_of c ≡ Some name → call.status ≡ 0 → plant_of name (files_before call) ≡ Ok p → HasReported p call.sink
 run_reports c name p call calls runs zero plant =
@@ -70,7 +70,7 @@ module _ (p : Plant) (name : List ℕ) (stop : Stop) (first : Call) (stopped : H
     pub second_reports : second.status ≡ 0 → HasReported p second.sink
     second_reports zero = run_reports (Resume name stop.save resumed.workers) name p second resumed.calls refl zero second_plant
 
-    -- a run that isn't told to stop reports the same plant
+    -- a run that isn't asked to stop reports the same plant
     whole_reports : (whole : Call) → IsWholeRun name first whole → HasReported p whole.sink
     whole_reports whole run =
         run_reports (Run name run.workers None) name p whole run.calls refl run.status

@@ -36,7 +36,7 @@ pub record CallsFor (command : Command) (call : Call) : Type 0 where
   pub known : IsTrue call.store.tells
   pub ends : Ends call.words call.store call.sink call.disk call.status
 
--- a run of the plant file that was told to stop has ended with status 0 and has saved a state of this plant
+-- a run of the plant file that was asked to stop has ended with status 0 and has saved a state of this plant
 pub record HasStopped (p : Plant) (name : List ℕ) (stop : Stop) (call : Call) : Type 0 where
   pub workers : ℕ
   pub calls : CallsFor (Run name workers (Some stop)) call
@@ -50,7 +50,7 @@ pub record IsResumedBy (name : List ℕ) (stop : Stop) (first second : Call) : T
   pub calls : CallsFor (Resume name stop.save workers) second
   pub over : (q : List ℕ) → files_before second q ≡ files_after first q
 
--- a run of the plant file that isn't told to stop, over the files that the first call found, has ended with status 0
+-- a run of the plant file that isn't asked to stop, over the files that the first call found, has ended with status 0
 pub record IsWholeRun (name : List ℕ) (first whole : Call) : Type 0 where
   pub workers : ℕ
   pub calls : CallsFor (Run name workers None) whole
@@ -61,8 +61,8 @@ pub record IsWholeRun (name : List ℕ) (first whole : Call) : Type 0 where
 abbrev pub HasFailedRead : Call → List ℕ → Type 0
 HasFailedRead call file = Rose (call.store.old.read_faults file) (call.store.new.read_faults file)
 
--- How a call ends that resumes what was saved: with the report, or because a file couldn't be read, the sink failed, or memory
--- ran out.
+-- How a call ends that resumes what was saved: with the report, or because a file couldn't be read, the sink failed, or
+-- memory ran out.
 pub data EndsResumed (p : Plant) (call : Call) : Type 0 where
   reported : call.status ≡ 0 → HasReported p call.sink → EndsResumed p call
   unread : (file : List ℕ) → call.status ≡ 5 → HasFailedRead call file → EndsResumed p call

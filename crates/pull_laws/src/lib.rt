@@ -3,7 +3,7 @@
 
 ghost use Rattle.pull_laws.specs.Resuming.{ResumingReports, ResumingWritesTheSame};
 
-/// The law *Resuming writes that same report*, on two calls of `pull`: where a run was told to stop
+/// The law *Resuming writes that same report*, on two calls of `pull`: where a run was asked to stop
 /// and has saved, a call that resumes it over the files that it left writes the report of the same
 /// plant over the least solution, and so the bytes that a run writes which never stops. It ends
 /// otherwise only where a file couldn't be read, the sink failed, or memory ran out.

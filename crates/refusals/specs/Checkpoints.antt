@@ -1,5 +1,5 @@
--- The refusal of a checkpoint that is the text of no state that firings reach, with its line. Stations go by their labels
--- and arcs by their numbers.
+-- The refusal of a checkpoint that is the text of no state that firings reach, with its line. Stations go by their
+-- labels and arcs by their numbers.
 use Rattle.std.specs.Prelude.{ℕ, ◌<◌, List, ◌++◌, codes, decimal, ⊤}
 use Rattle.std.specs.Fmt.{signed_decimal}
 use Rattle.line_base.specs.declared.event.Parts.{Parts}

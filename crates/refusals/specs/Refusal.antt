@@ -4,12 +4,13 @@ use Rattle.plant_model.specs.Reasons.{plant_reason}
 use Rattle.command_line.specs.Usage.{as_line}
 use Rattle.refusals.specs.DeadLine.{dead_line}
 use Rattle.refusals.specs.declared.refusal.Refusal.{Refusal}
-use Rattle.refusals.specs.declared.refusal.Refusal.TheVariants.{Usage, Refused, Dead, StoreFault, NotReached, Varying, NoMemory, TooLong, NotFollowed, Disk, NoCount, NothingSaved, NotEdited, NoSingleCount, NoDate, Late, TooLarge}
+use Rattle.refusals.specs.declared.refusal.Refusal.TheVariants.{Usage, Refused, Faults, Dead, StoreFault, NotReached, Varying, NoMemory, TooLong, NotFollowed, Disk, NoCount, NothingSaved, NotEdited, NoSingleCount, NoDate, Late, TooLarge}
 
 -- the status that the program ends with
 abbrev pub status_of : Refusal → ℕ
 status_of Usage = 2
 status_of (Refused error) = 3
+status_of (Faults lines) = 3
 status_of (Dead labels) = 4
 status_of (StoreFault file) = 5
 status_of (NotReached line) = 7
@@ -26,10 +27,11 @@ status_of (NoDate label job) = 18
 status_of (Late job wait) = 19
 status_of (TooLarge bars) = 20
 
--- the line that it writes
+-- the line that it writes, or the lines
 abbrev pub text_of : Refusal → List ℕ
 text_of Usage = as_line (codes "pull: the words are no command")
 text_of (Refused error) = as_line (codes "plant: " ++ plant_reason error)
+text_of (Faults lines) = lines
 text_of (Dead labels) = as_line (dead_line labels)
 text_of (StoreFault file) = as_line (codes "store: " ++ file)
 text_of (NotReached line) = as_line line
@@ -50,6 +52,7 @@ text_of (NoDate label job) = as_line (codes "no date: " ++ (label ++ (codes " " 
 -- its line is known beforehand, so that writing it takes no memory
 abbrev pub IsFixed : Refusal → Type 0
 IsFixed Usage = ⊤
+IsFixed (Faults lines) = ⊤
 IsFixed NoMemory = ⊤
 IsFixed Disk = ⊤
 IsFixed NothingSaved = ⊤

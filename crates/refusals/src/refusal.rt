@@ -28,6 +28,11 @@ pub enum Refusal {
         /// Why.
         error: PlantError,
     },
+    /// Status 3: all that is wrong with the plant, as lint says it.
+    Faults {
+        /// The lines.
+        lines: Text,
+    },
     /// Status 4: the plant's graph has a circuit without a token.
     Dead {
         /// The labels of the circuit's stations.
@@ -146,6 +151,7 @@ impl Refusal {
         match self {
             Refusal::Usage => 2,
             Refusal::Refused { .. } => 3,
+            Refusal::Faults { .. } => 3,
             Refusal::Dead { .. } => 4,
             Refusal::StoreFault { .. } => 5,
             Refusal::NotReached { .. } => 7,
@@ -164,7 +170,7 @@ impl Refusal {
         }
     }
 
-    /// The line that it writes. One that is known beforehand takes no memory.
+    /// The line that it writes, or the lines of all faults. One that is known beforehand takes no memory.
     pub fn text(&self, alloc: Global) -> Result<CowSlice<'_, u8>, AllocError>
         ensures text { IfOk result (λ text. cow_slice_items text ≡ text_of self.now) }
         ensures memory { OnErr result (IsFixed self.now → ⊥) }
@@ -172,6 +178,7 @@ impl Refusal {
         let line = match self {
             Refusal::Usage => return fixed("pull: the words are no command\n"),
             Refusal::Refused { error } => format!(in alloc; "plant: {error}")?.into_bytes(),
+            Refusal::Faults { lines } => return fixed(lines.as_str()),
             Refusal::Dead { labels } => dead_line(alloc, labels.as_slice())?,
             Refusal::StoreFault { file } => words_of(alloc, b"store: ", file.as_str().as_bytes())?,
             Refusal::NotReached { line } => Vec::from_slice(alloc, line.as_slice())?,

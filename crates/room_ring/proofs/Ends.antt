@@ -2,7 +2,7 @@
 use Rattle.std.proofs.Common.{◌≡◌, ℕ, ◌+◌, ◌-◌, ◌<◌, ◌≤◌, List, ◌++◌, length, take, drop, ap, sym, ◌∙◌, arith}
 use Rattle.std.proofs.lemmas.List.{take-append-drop}
 use Rattle.std.proofs.Math.Nat.{mod-lt}
-use Rattle.room_ring.specs.Rule.{cell_of}
+use Rattle.room_ring.specs.Rule.{first_cell, cell_of}
 
 -- where there is space, a token may be stored
 pub space_within : (initial room seen : ℕ) (tokens : List ℕ) → 0 < room + seen - length (take initial tokens ++ drop initial tokens) → length tokens < seen + room
@@ -15,5 +15,5 @@ known_within seen tokens known = omega arith
 pub same_cell : (word size room token count : ℕ) → word ≡ cell_of room token → size ≡ room → token ≡ count → word ≡ cell_of size count
 same_cell word size room token count is key same = is ∙ λ i. cell_of (sym key i) (same i)
 
-pub cell_within : (word room token words : ℕ) → word ≡ cell_of room token → 1 ≤ room → words ≡ room + 2 → word < words
+pub cell_within : (word room token words : ℕ) → word ≡ cell_of room token → 1 ≤ room → words ≡ room + first_cell → word < words
 cell_within word room token words is some_room e = let less = mod-lt token {m = room} some_room in omega arith

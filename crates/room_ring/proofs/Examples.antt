@@ -7,9 +7,14 @@ use Rattle.room_ring.specs.Rule.{takers, tail, head, cell_of, cell, Keeps}
 use Rattle.room_ring.proofs.Views.{prefix-none}
 use Rattle.room_ring.proofs.Steps.{none≢some, keeps_store_cell, keeps_store_tail}
 
--- room for 2: word 0 is the tail, word 1 the head, and token 5 stands where token 3 stood
+-- the words of a ring with this tail and head, and these cells
+abbrev with_words : ℕ → ℕ → List ℕ → List ℕ
+with_words tail head cells =
+    tail ∷ 0 ∷ 0 ∷ 0 ∷ 0 ∷ 0 ∷ 0 ∷ 0 ∷ head ∷ 0 ∷ 0 ∷ 0 ∷ 0 ∷ 0 ∷ 0 ∷ 0 ∷ cells
+
+-- room for 2: token 5 stands where token 3 stood
 words : List ℕ
-words = 5 ∷ 4 ∷ 40 ∷ 30 ∷ []
+words = with_words 5 4 (40 ∷ 30 ∷ [])
 
 tail_is : tail words ≡ 5
 unfolding words
@@ -56,7 +61,7 @@ one_taker : takers (first_taker 2 ∷ note [] 0 ∷ spent ∷ []) ≡ 1
 one_taker = refl
 
 -- the rule holds of a ring that has put nothing
-abbrev begun : Keeps 2 (0 ∷ 0 ∷ 0 ∷ 0 ∷ []) (first_putter 2) []
+abbrev begun : Keeps 2 (with_words 0 0 (0 ∷ 0 ∷ [])) (first_putter 2) []
 begun = record {
   words = refl;
   seats = record { putter = refl; room = refl; one_putter = λ j v at. absurd (some-ne-none v (sym at)); one_taker = omega arith; taker_room = λ j v at. absurd (some-ne-none v (sym at)); alone = λ e. refl };
@@ -68,13 +73,13 @@ begun = record {
 }
 
 -- and after its first put
-first_put : Keeps 2 (1 ∷ 0 ∷ 7 ∷ 0 ∷ []) (record (first_putter 2) { list = 7 ∷ [] }) []
-first_put = keeps_store_tail 2 (0 ∷ 0 ∷ 7 ∷ 0 ∷ []) (cell_stored 7 (first_putter 2)) [] (keeps_store_cell 2 (0 ∷ 0 ∷ 0 ∷ 0 ∷ []) (first_putter 2) [] begun 7 (omega arith) refl (omega arith)) 7 refl
+first_put : Keeps 2 (with_words 1 0 (7 ∷ 0 ∷ [])) (record (first_putter 2) { list = 7 ∷ [] }) []
+first_put = keeps_store_tail 2 (with_words 0 0 (7 ∷ 0 ∷ [])) (cell_stored 7 (first_putter 2)) [] (keeps_store_cell 2 (with_words 0 0 (0 ∷ 0 ∷ [])) (first_putter 2) [] begun 7 (omega arith) refl (omega arith)) 7 refl
 
 -- it doesn't hold where the cell of a token that waits was used again
-used_again : (others : List View) → Keeps 2 (3 ∷ 0 ∷ 9 ∷ 8 ∷ []) (record (first_putter 2) { list = 7 ∷ 8 ∷ 9 ∷ [] }) others → ⊥
+used_again : (others : List View) → Keeps 2 (with_words 3 0 (9 ∷ 8 ∷ [])) (record (first_putter 2) { list = 7 ∷ 8 ∷ 9 ∷ [] }) others → ⊥
 used_again others k = let e : ◌≡◌ {A = ℕ} 9 7 = k.cells.published 0 (omega arith) (omega arith) in omega arith
 
 -- nor where the tail was published before its cell
-published_early : (others : List View) → Keeps 2 (1 ∷ 0 ∷ 0 ∷ 0 ∷ []) (record (first_putter 2) { list = 7 ∷ [] }) others → ⊥
+published_early : (others : List View) → Keeps 2 (with_words 1 0 (0 ∷ 0 ∷ [])) (record (first_putter 2) { list = 7 ∷ [] }) others → ⊥
 published_early others k = let e : ◌≡◌ {A = ℕ} 0 7 = k.cells.published 0 (omega arith) (omega arith) in omega arith

@@ -9,7 +9,7 @@ use Rattle.atomic_table.proofs.Lists.{set_again, set_else}
 use Rattle.room_ring.specs.declared.view.View.{View}
 use Rattle.room_ring.specs.declared.view.Role.TheVariants.{Putter, Taker, Note}
 use Rattle.room_ring.specs.View.{first_taker, note, took, note_of, IsPutter, IsTaker, MayNote, MayBeTold, spent, cell_stored, tail_stored, other_seen, cell_loaded, head_stored, opened, joined}
-use Rattle.room_ring.specs.Rule.{number, tail, head, cell_of, Keeps, KeepsViews, KeepsRule}
+use Rattle.room_ring.specs.Rule.{number, head_word, tail, head, cell_of, Keeps, KeepsViews, KeepsRule}
 use Rattle.room_ring.specs.Plays.{Mine, StoresCell, StoresTail, LoadsHead, LoadsTail, LoadsCell, StoresHead}
 use Rattle.room_ring.proofs.Views.{prefix-length, prefix-self}
 use Rattle.room_ring.proofs.Steps.{taker≢putter, note≢putter, head_within, keeps_load_head, keeps_store_cell, keeps_store_tail, keeps_load_tail, keeps_load_cell, keeps_store_head, keeps_first_split, keeps_note, keeps_putter_join, keeps_taker_join}
@@ -56,9 +56,9 @@ module _ (size slots id : ℕ) (me : Mine) where
   unset : (row : List ℕ) (i : ℕ) (P : List ℕ → Type 0) → P row → P (set row i (get_or row i 0))
   unset row i P = subst P (sym (set-get_or row i 0))
 
-  pub may_load_head : me.0.role ≡ Putter → Allows (KeepsRule size) slots id me 1 (λ n. n) (LoadsHead (step slots 1 0 0 none) me)
-  may_load_head is = putter_moves size slots id me 1 (λ n. n) (λ n. other_seen n me.0) (LoadsHead (step slots 1 0 0 none) me) is (λ row others k. (
-    unset row 1 (λ r. Keeps size r (other_seen (head row) me.0) others) (keeps_load_head size row me.0 others k),
+  pub may_load_head : me.0.role ≡ Putter → Allows (KeepsRule size) slots id me head_word (λ n. n) (LoadsHead (step slots head_word 0 0 none) me)
+  may_load_head is = putter_moves size slots id me head_word (λ n. n) (λ n. other_seen n me.0) (LoadsHead (step slots head_word 0 0 none) me) is (λ row others k. (
+    unset row head_word (λ r. Keeps size r (other_seen (head row) me.0) others) (keeps_load_head size row me.0 others k),
     record { changed = refl; later = k.room.seen; most = head_within size row me.0 others k; told = k.truth.told; count = k.truth.count },
   ))
 
@@ -94,9 +94,9 @@ module _ (size slots id : ℕ) (me : Mine) where
   ))
 
   pub may_store_head : (new : ℕ) → me.0.role ≡ Taker → me.0.is_loaded ≡ true → new ≡ length me.0.list
-      → Allows (KeepsRule size) slots id me 1 (λ _. new) (λ _. StoresHead (step slots 1 new 0 none) me new)
-  may_store_head new is loaded next = taker_moves size slots id me 1 (λ _. new) (λ _. head_stored me.0) (λ _. StoresHead (step slots 1 new 0 none) me new) is (λ row p others k j at. (
-    subst (λ n. Keeps size (set row 1 n) p (set others j (head_stored me.0))) (sym next) (keeps_store_head size row p others k j me.0 at is loaded),
+      → Allows (KeepsRule size) slots id me head_word (λ _. new) (λ _. StoresHead (step slots head_word new 0 none) me new)
+  may_store_head new is loaded next = taker_moves size slots id me head_word (λ _. new) (λ _. head_stored me.0) (λ _. StoresHead (step slots head_word new 0 none) me new) is (λ row p others k j at. (
+    subst (λ n. Keeps size (set row head_word n) p (set others j (head_stored me.0))) (sym next) (keeps_store_head size row p others k j me.0 at is loaded),
     refl,
   ))
 

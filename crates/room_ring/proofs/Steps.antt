@@ -12,7 +12,7 @@ use Rattle.room_ring.specs.declared.view.View.{View}
 use Rattle.room_ring.specs.declared.view.Role.{Role}
 use Rattle.room_ring.specs.declared.view.Role.TheVariants.{Putter, Taker, Note, Spent}
 use Rattle.room_ring.specs.View.{first_taker, note, spent, cell_stored, tail_stored, other_seen, cell_loaded, head_stored, opened, joined}
-use Rattle.room_ring.specs.Rule.{number, is_taker, takers, Each, tail, head, cell_of, cell, IsCounted, IsSeen, IsRoomy, IsTrueOf, HasSeats, Keeps}
+use Rattle.room_ring.specs.Rule.{number, is_taker, takers, Each, head_word, first_cell, tail, head, cell_of, cell, IsCounted, IsSeen, IsRoomy, IsTrueOf, HasSeats, Keeps}
 use Rattle.room_ring.proofs.Views.{takers-set, takers-add, takers_at, one_seat, Takes, none, there, takes, each-set, each-add, prefix-none, prefix-longer, prefix-length, prefix-next}
 
 abbrev is_putter : Role → Bool
@@ -76,24 +76,24 @@ module _ (size : ℕ) (row : List ℕ) (p : View) (others : List View) (k : Keep
     truth = record { told = k.truth.told; count = k.truth.count; each = k.truth.each };
   }
 
-  -- a word past the head that is set leaves the tail and the head
-  same_tail : (at date : ℕ) → 2 ≤ at → tail (set row at date) ≡ tail row
+  -- a cell that is set leaves the tail and the head
+  same_tail : (at date : ℕ) → first_cell ≤ at → tail (set row at date) ≡ tail row
   same_tail at date past = get_or-set_other row at 0 date 0 (λ e. omega arith)
 
-  same_head : (at date : ℕ) → 2 ≤ at → head (set row at date) ≡ head row
-  same_head at date past = get_or-set_other row at 1 date 0 (λ e. omega arith)
+  same_head : (at date : ℕ) → first_cell ≤ at → head (set row at date) ≡ head row
+  same_head at date past = get_or-set_other row at head_word date 0 (λ e. omega arith)
 
   -- the cell behind the last token is no cell of a token that waits
   other_cell : 0 < size → length p.list < p.seen + size → (i : ℕ) → head row ≤ i → i < tail row → cell_of size i ≢ cell_of size (length p.list)
   other_cell some_room space i from below e =
       let s = k.room.seen in let t = k.counts.put in
-      let same : i ≡ length p.list = one_turn i (length p.list) size (omega arith) (omega arith) (let l : i % size + 2 ≡ length p.list % size + 2 = e in omega arith) in
+      let same : i ≡ length p.list = one_turn i (length p.list) size (omega arith) (omega arith) (let l : i % size + first_cell ≡ length p.list % size + first_cell = e in omega arith) in
       omega arith
 
   pub keeps_store_cell : (date : ℕ) → 0 < size → p.stored ≡ None → length p.list < p.seen + size → Keeps size (set row (cell_of size (length p.list)) date) (cell_stored date p) others
   keeps_store_cell date some_room unstored space =
       let at : ℕ = cell_of size (length p.list) in
-      let past : 2 ≤ at = omega arith in
+      let past : first_cell ≤ at = omega arith in
       let t : tail (set row at date) ≡ tail row = same_tail at date past in
       let h : head (set row at date) ≡ head row = same_head at date past in
       let less : length p.list % size < size = mod-lt (length p.list) some_room in
@@ -119,7 +119,7 @@ module _ (size : ℕ) (row : List ℕ) (p : View) (others : List View) (k : Keep
       let n : ℕ = length p.list + 1 in
       let wide = k.words in
       let t : tail (set row 0 n) ≡ n = get_or-set_same row 0 n 0 (omega arith) in
-      let h : head (set row 0 n) ≡ head row = get_or-set_other row 0 1 n 0 (λ e. omega arith) in
+      let h : head (set row 0 n) ≡ head row = get_or-set_other row 0 head_word n 0 (λ e. omega arith) in
       let l : length (p.list ++ date ∷ []) ≡ n = length-append p.list (date ∷ []) in
       let put = k.counts.put in
       let one : length (option_to_list p.stored) ≡ 1 = ap (λ o. length (option_to_list o)) is in
@@ -216,35 +216,35 @@ module _ (size : ℕ) (row : List ℕ) (p : View) (others : List View) (k : Keep
           (λ r. (s, (let goal : length (v.list ++ x ∷ []) ≤ v.seen = omega arith in goal)))
           (record { list = prefix-next v.list p.list x t.list (omega arith) (next_token free known); told = t.told; count = t.count })
 
-      pub keeps_store_head : v.is_loaded ≡ true → Keeps size (set row 1 (length v.list)) p (set others j (head_stored v))
+      pub keeps_store_head : v.is_loaded ≡ true → Keeps size (set row head_word (length v.list)) p (set others j (head_stored v))
       keeps_store_head loaded =
           let n : ℕ = length v.list in
           let w : View = head_stored v in
           let c = k.counts.taken j v at is in let o : number v.is_loaded ≡ 1 = ap number loaded in
           let wide = k.words in
-          let h : head (set row 1 n) ≡ n = get_or-set_same row 1 n 0 (omega arith) in
-          let t : tail (set row 1 n) ≡ tail row = get_or-set_other row 1 0 n 0 (λ e. omega arith) in
+          let h : head (set row head_word n) ≡ n = get_or-set_same row head_word n 0 (omega arith) in
+          let t : tail (set row head_word n) ≡ tail row = get_or-set_other row head_word 0 n 0 (λ e. omega arith) in
           let same : takers (set others j w) ≡ takers others = takers-set others j v w at refl in
           let most = k.seats.one_taker in let some_taker = takers_at others j v at is in
           let truth = k.truth.each j v at in
           record {
-            words = length-set row 1 n ∙ k.words;
+            words = length-set row head_word n ∙ k.words;
             seats = seats-set w (k.seats.one_putter j v at) refl (k.seats.taker_room j v at);
             counts = record {
               put = t ∙ k.counts.put;
-              taken = each-set (IsCounted (head (set row 1 n))) others j w (λ i u ne isu role. absurd (ne (one_seat others i j u v most isu at role is))) (λ r. let goal : n ≡ head (set row 1 n) + 0 = omega arith in goal);
+              taken = each-set (IsCounted (head (set row head_word n))) others j w (λ i u ne isu role. absurd (ne (one_seat others i j u v most isu at role is))) (λ r. let goal : n ≡ head (set row head_word n) + 0 = omega arith in goal);
               untaken = λ z. absurd (omega arith);
             };
             room = record { seen = let s = k.room.seen in omega arith; room = k.room.room };
             taken = subst (λ m. Each (IsSeen m) (set others j w)) (sym t) (each-set (IsSeen (tail row)) others j w (λ i u ne isu. k.taken i u isu) (k.taken j v at));
             cells = record {
-              published = λ i from below. get_or-set_other row 1 (cell_of size i) n 0 (λ e. omega arith) ∙ k.cells.published i (omega arith) (omega arith);
-              stored = λ d e. ap (λ m. cell size (set row 1 n) m) t ∙ (get_or-set_other row 1 (cell_of size (tail row)) n 0 (λ e. omega arith) ∙ k.cells.stored d e);
+              published = λ i from below. get_or-set_other row head_word (cell_of size i) n 0 (λ e. omega arith) ∙ k.cells.published i (omega arith) (omega arith);
+              stored = λ d e. ap (λ m. cell size (set row head_word n) m) t ∙ (get_or-set_other row head_word (cell_of size (tail row)) n 0 (λ e. omega arith) ∙ k.cells.stored d e);
             };
             truth = record {
               told = k.truth.told;
               count = let b = k.truth.count in omega arith;
-              each = each-set (IsTrueOf p.list (head (set row 1 n))) others j w
+              each = each-set (IsTrueOf p.list (head (set row head_word n))) others j w
                   (λ i u ne isu. let e = k.truth.each i u isu in let b = e.count in record { list = e.list; told = e.told; count = omega arith })
                   (let b = truth.count in record { list = truth.list; told = truth.told; count = omega arith });
             };

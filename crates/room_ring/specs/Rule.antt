@@ -8,17 +8,25 @@ use Rattle.room_ring.specs.declared.view.View.{View}
 use Rattle.room_ring.specs.declared.view.Role.{Role}
 use Rattle.room_ring.specs.declared.view.Role.TheVariants.{Putter, Taker, Note, Spent}
 
--- word 0: how many tokens were put
+-- the word of the head, and the first cell: the tail, the head and the cells stand a cache line apart, since each is
+-- written by a thread while another reads its neighbours
+abbrev pub head_word : ℕ
+head_word = 8
+
+abbrev pub first_cell : ℕ
+first_cell = 16
+
+-- the tail, word 0: how many tokens were put
 abbrev pub tail : List ℕ → ℕ
 tail words = slice_index words 0
 
--- word 1: how many cells the taker has given back
+-- the head: how many cells the taker has given back
 abbrev pub head : List ℕ → ℕ
-head words = slice_index words 1
+head words = slice_index words head_word
 
 -- the number of the word in which token i stands, counted from 0
 abbrev pub cell_of : ℕ → ℕ → ℕ
-cell_of room i = i % room + 2
+cell_of room i = i % room + first_cell
 
 -- what stands where token i stands or stood
 abbrev pub cell : ℕ → List ℕ → ℕ → ℕ
@@ -71,31 +79,31 @@ pub record HasSeats (size : ℕ) (p : View) (others : List View) : Type 0 where
   pub taker_room : Each (IsRoomy size) others
   pub alone : p.is_split ≡ false → others ≡ []
 
--- 2. Word 0 is the length of what was put. Word 1 is the length of what was taken, or one less between the load of a
--- cell and the store of the head. While there is no taker, word 1 is 0.
+-- 2. The tail is the length of what was put. The head is the length of what was taken, or one less between the load of a
+-- cell and the store of the head. While there is no taker, the head is 0.
 pub record HasCounts (row : List ℕ) (p : View) (others : List View) : Type 0 where
   pub put : tail row ≡ length p.list
   pub taken : Each (IsCounted (head row)) others
   pub untaken : takers others ≡ 0 → head row ≡ 0
 
--- 3. The head that the putter has seen is at most word 1, and the length of what was put is at most that head plus the
+-- 3. The head that the putter has seen is at most the head, and the length of what was put is at most that head plus the
 -- room, strictly less where a date is stored and not published.
 pub record HasRoom (size : ℕ) (row : List ℕ) (p : View) : Type 0 where
   pub seen : p.seen ≤ head row
   pub room : length p.list + length (option_to_list p.stored) ≤ p.seen + size
 
--- 4. The tail that the taker has seen is at most word 0, and the length of what was taken is at most that tail.
+-- 4. The tail that the taker has seen is at most the tail, and the length of what was taken is at most that tail.
 abbrev pub HasTaken : List ℕ → List View → Type 0
 HasTaken row others = Each (IsSeen (tail row)) others
 
--- 5. Token i stands in its cell, for each i from word 1 on and below word 0. A date that is stored stands in the cell
+-- 5. Token i stands in its cell, for each i from the head on and below the tail. A date that is stored stands in the cell
 -- that comes next.
 pub record HasCells (size : ℕ) (row : List ℕ) (p : View) : Type 0 where
   pub published : (i : ℕ) → head row ≤ i → i < tail row → cell size row i ≡ slice_index p.list i
   pub stored : (date : ℕ) → p.stored ≡ Some date → cell size row (tail row) ≡ date
 
 -- 6. What was taken, and every list of a note or told by one, is a prefix of what was put. Every count of a note, or
--- told by one, is at most word 1.
+-- told by one, is at most the head.
 pub record HasTruth (row : List ℕ) (p : View) (others : List View) : Type 0 where
   pub told : IsPrefix p.told p.list
   pub count : p.count ≤ head row
@@ -103,7 +111,7 @@ pub record HasTruth (row : List ℕ) (p : View) (others : List View) : Type 0 wh
 
 -- the six sentences
 pub record Keeps (size : ℕ) (row : List ℕ) (p : View) (others : List View) : Type 0 where
-  pub words : length row ≡ size + 2
+  pub words : length row ≡ size + first_cell
   pub seats : HasSeats size p others
   pub counts : HasCounts row p others
   pub room : HasRoom size row p

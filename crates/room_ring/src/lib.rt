@@ -23,7 +23,7 @@ use std::alloc::{AllocError, Global};
 use std::sync::Arc;
 pub use take::RoomTake;
 use view::View;
-use words::{HEAD, LeaveNote, LoadHead, LoadTail, Open, TAIL, Tell, Words};
+use words::{FIRST_CELL, HEAD, LeaveNote, LoadHead, LoadTail, Open, TAIL, Tell, Words};
 
 /// Makes a ring in which `room` tokens may wait at once. It has put the initial tokens and taken
 /// none, its take knows all of them, and its space is the room less their number. Fails only for
@@ -64,7 +64,7 @@ fn empty_ring(alloc: Global, room: u32) -> Result<(RoomPut, RoomTake), AllocErro
     ensures head { IfOk result (λ ends. ends.0.head ≡ 0) }
     ensures taken { IfOk result (λ ends. ends.1.taken ≡ []) }
 {
-    let cells = vec![in alloc; 0; room as usize + 2]?;
+    let cells = vec![in alloc; 0; room as usize + FIRST_CELL]?;
     let (words, mut seat) = Words::of_words(alloc, &cells, &u64::from(room))?;
     let words = Arc::new(alloc, words)?;
     let others = Arc::try_clone(&words)?;

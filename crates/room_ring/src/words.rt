@@ -8,21 +8,25 @@ use crate::view::View;
 use atomic_table::{Join, Play, Split, Table, TableRule};
 use std::alloc::Global;
 
-/// The words of a ring: the tail, the head, and then the cells.
+/// The words of a ring: the tail, the head, and then the cells, each of the three in a cache line of its own, with words
+/// between that nobody reads.
 pub(crate) type Words = Table<(), View, u64, Rule, Global>;
 
 /// How many tokens were put.
 pub(crate) const TAIL: usize = 0;
 
 /// How many tokens were taken.
-pub(crate) const HEAD: usize = 1;
+pub(crate) const HEAD: usize = 8;
+
+/// The first cell.
+pub(crate) const FIRST_CELL: usize = 16;
 
 /// The word in which this token stands, counted from 0.
 pub(crate) fn cell(room: u32, token: u64) -> usize
     requires { 0 < room }
     ensures { result ≡ cell_of room token }
 {
-    (token % u64::from(room)) as usize + 2
+    (token % u64::from(room)) as usize + FIRST_CELL
 }
 
 pub(crate) struct Rule;

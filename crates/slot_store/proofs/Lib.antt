@@ -3,6 +3,7 @@ pub mod Calls
 pub mod Chosen
 pub mod Contents
 pub mod Near
+pub mod Outside
 pub mod Phases
 pub mod Save
 pub mod Staged

@@ -1,5 +1,5 @@
 -- Calls of a disk that write within one range of addresses alone, and what a crash leaves of the rest.
-use Rattle.std.specs.Prelude.{◌≡◌, ℕ, false}
+use Rattle.std.specs.Prelude.{◌≡◌, ℕ, ◌+◌, ◌*◌, ◌≤◌, Bool, IsTrue, false}
 use Rattle.line_disk.specs.DiskView.{Image, Held, DiskView, LeavesOnly, held_now, is_within}
 use Rattle.slot_store.specs.Crash.{bytes_now}
 
@@ -16,3 +16,8 @@ pub record IsSameBut (at n : ℕ) (base image : Image) : Type 0 where
 pub record WritesWithin (at n : ℕ) (start now : DiskView) : Type 0 where
   pub leaves : LeavesOnly start now (IsSameBut at n (bytes_now start))
   pub near : IsNear at n (bytes_now start) (held_now now)
+
+-- where the disk is told, each byte behind both slots is as it was
+abbrev pub OutsideStays : Bool → (room : ℕ) → DiskView → DiskView → Type 0
+OutsideStays tells room old new =
+    IsTrue tells → (i : ℕ) → 2 * (16 + room) ≤ i → bytes_now new i ≡ bytes_now old i

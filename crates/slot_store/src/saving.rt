@@ -5,7 +5,7 @@ ghost use Rattle.line_disk.specs.DiskView.{MayLeave, LeavesOnly, held_now};
 ghost use Rattle.line_io.specs.Faults.{Rose};
 ghost use Rattle.slot_store.specs.Crash.{KeepsContent, TellsGate, IsSettled, IsClosed, IsStaged, IsReady, IsSaved, IsKeptOrNew, bytes_now, staged_in};
 ghost use Rattle.slot_store.specs.Layout.{header_at, newer_header, start_of, content, target_by};
-ghost use Rattle.slot_store.specs.Within.{WritesWithin};
+ghost use Rattle.slot_store.specs.Within.{WritesWithin, OutsideStays};
 
 use crate::header::{HEADER, MAX_ROOM, OPEN, Slot};
 use crate::target::Target;
@@ -36,6 +36,7 @@ pub fn close_gate<D: Disk>(disk: &mut D, room: u64, target: Target) -> Result<()
     requires room { room ≤ MAX_ROOM }
     requires ready { IsTrue D.tells → IsReady (D.shown disk.old) room target }
     requires gate { IsTrue D.tells → TellsGate (bytes_now (D.shown disk.old)) room target }
+    ensures outside_stays { OutsideStays D.tells room (D.shown disk.old) (D.shown disk.new) }
     ensures any_moment { KeepsContent D.tells (D.shown disk.old) (D.shown disk.new) room }
     ensures ready { OnOk result (IsTrue D.tells → IsReady (D.shown disk.new) room target) }
     ensures closed { OnOk result
@@ -71,6 +72,7 @@ pub fn write_content<D: Disk>(
     requires fits { length bytes.now ≤ room }
     requires ready { IsTrue D.tells → IsReady (D.shown disk.old) room target }
     requires closed { IsTrue D.tells → IsClosed (bytes_now (D.shown disk.old)) room target }
+    ensures outside_stays { OutsideStays D.tells room (D.shown disk.old) (D.shown disk.new) }
     ensures any_moment { KeepsContent D.tells (D.shown disk.old) (D.shown disk.new) room }
     ensures ready { OnOk result (IsTrue D.tells → IsReady (D.shown disk.new) room target) }
     ensures staged { OnOk result
@@ -97,6 +99,7 @@ pub fn open_gate<D: Disk>(disk: &mut D, room: u64, target: Target) -> Result<(),
         (staged_in (bytes_now (D.shown disk.old)) room target) }
     requires fits { IsTrue D.tells
         → length (staged_in (bytes_now (D.shown disk.old)) room target) ≤ room }
+    ensures outside_stays { OutsideStays D.tells room (D.shown disk.old) (D.shown disk.new) }
     ensures any_moment { IsTrue D.tells → LeavesOnly (D.shown disk.old) (D.shown disk.new)
         (IsKeptOrNew (bytes_now (D.shown disk.old)) room
         (staged_in (bytes_now (D.shown disk.old)) room target)) }

@@ -24,6 +24,7 @@ impl<'a, D: Disk> Slots<'a, D> {
     ghost use Rattle.line_io.specs.Faults.{Rose};
     ghost use Rattle.slot_store.specs.Crash.{IsOldOrNew, IsSaved, bytes_now};
     ghost use Rattle.slot_store.specs.Layout.{content};
+    ghost use Rattle.slot_store.specs.Within.{OutsideStays};
     ghost use Rattle.slot_store.specs.declared.error.SlotError.TheVariants.{TooLong};
 
     /// The slots of this disk, each with this room for its content: 1 to 167,772,160 bytes. It takes no memory, and
@@ -48,6 +49,8 @@ impl<'a, D: Disk> Slots<'a, D> {
             (IsOldOrNew (held_now (D.shown self.old.disk.now)) self.old.room bytes.now) }
         ensures saved { OnOk result (IsTrue D.tells
             → IsSaved (held_now (D.shown self.new.disk.now)) self.old.room bytes.now) }
+        ensures outside_stays { OutsideStays D.tells self.old.room (D.shown self.old.disk.now)
+            (D.shown self.new.disk.now) }
         ensures too_long { IsErrOf result (TooLong (length bytes.now))
             ↔ (self.old.room < length bytes.now) }
         ensures have { (have : ℕ) → IsErrOf result (TooLong have) → have ≡ length bytes.now }

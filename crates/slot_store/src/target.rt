@@ -1,9 +1,10 @@
 //! The slot that a save writes to.
-ghost use Rattle.std.specs.Prelude.{◌≡◌, ◌≤◌, IsTrue, IfOk, OnOk, IsErrOf};
+ghost use Rattle.std.specs.Prelude.{◌≡◌, ◌≤◌, ℕ, IsTrue, IfOk, OnOk, IsErrOf};
 ghost use Rattle.line_disk.specs.DiskView.{MayLeave, LeavesOnly, held_now};
 ghost use Rattle.line_io.specs.Faults.{Rose};
 ghost use Rattle.slot_store.specs.Crash.{IsSettled, TellsGate, IsReady, bytes_now};
 ghost use Rattle.slot_store.specs.Layout.{newer_header, target_by};
+ghost use Rattle.slot_store.specs.Within.{OutsideStays};
 
 use crate::header::{Header, MAX_ROOM, OPEN, Slot, newer, next, read_headers};
 use line_disk::{Disk, DiskError};
@@ -42,6 +43,8 @@ fn target_of(zero: Header, one: Header, room: u64) -> Target
 
 /// Makes all that was written before stand: a write that is pending could open a gate over torn bytes.
 fn settle<D: Disk>(disk: &mut D) -> Result<(), DiskError>
+    ensures bytes_stay { IsTrue D.tells → (i : ℕ)
+        → bytes_now (D.shown disk.new) i ≡ bytes_now (D.shown disk.old) i }
     ensures any_moment { IsTrue D.tells → LeavesOnly (D.shown disk.old) (D.shown disk.new)
         (MayLeave (held_now (D.shown disk.old))) }
     ensures settled { OnOk result (IsTrue D.tells → IsSettled (held_now (D.shown disk.new))) }
@@ -56,6 +59,7 @@ fn settle<D: Disk>(disk: &mut D) -> Result<(), DiskError>
 /// nothing but what it might have left before.
 pub fn find_target<D: Disk>(disk: &mut D, alloc: Global, room: u64) -> Result<Target, DiskError>
     requires { room ≤ MAX_ROOM }
+    ensures outside_stays { OutsideStays D.tells room (D.shown disk.old) (D.shown disk.new) }
     ensures any_moment { IsTrue D.tells → LeavesOnly (D.shown disk.old) (D.shown disk.new)
         (MayLeave (held_now (D.shown disk.old))) }
     ensures ready { IfOk result

@@ -1,21 +1,22 @@
 -- Workers that sweep, each in a thread of its own.
-use Rattle.std.proofs.Common.{◌≡◌, ℕ, ◌<◌, List, [], ◌∷◌, ◌++◌, take, length, get_or, refl, sym, ap, subst, ◌∙◌, arith, ⊎_elim}
-use Rattle.std.specs.List.{All}
+use Rattle.std.proofs.Common.{◌≡◌, ℕ, ◌+◌, ◌<◌, ◌≤◌, List, [], ◌∷◌, ◌++◌, take, length, get_or, refl, sym, ap, subst, ◌∙◌, arith, ⊎_elim}
+use Rattle.std.specs.List.{All, Any}
 use Rattle.std.proofs.lemmas.Bool.{cases_lt}
-use Rattle.std.proofs.lemmas.List.{get_or_append_left, get_or_push, length_push}
+use Rattle.std.proofs.lemmas.List.{get_or_append_left, get_or_push, get_or_default, length_push}
 use Rattle.std.proofs.lemmas.List.Elements.{All-from_get_or}
 use Rattle.event_graph.specs.State.{log}
 use Rattle.live_check.specs.Order.{LiveGraph}
 use Rattle.line_worker.specs.Teams.{state_among}
 use Rattle.line_worker.specs.Worker.{LineWorker, IsWorker, with_team, teams_of}
-use Rattle.line_worker.specs.Work.{HasSwept}
+use Rattle.line_worker.specs.Team.{WorkTeam, member, no_station}
+use Rattle.line_worker.specs.Work.{turns_of, HasSwept, AllDone, TurnsBelow}
 use Rattle.line_worker.specs.Workers.{worker_at, no_worker, live_of, graph_of, room_of, AreWorkers}
 use Rattle.line_workers.specs.Gather.{logs_in, IsWorkerAfter, AreWorkersAfter}
 use Rattle.line_workers.specs.Line.{WorkLine, line_of, IsLine, LogsGrow, StandsIn}
 use Rattle.line_worker.proofs.Working.{idle_team}
 use Rattle.line_workers.proofs.AfterSweeps.{after_more, logs_grow}
 use Rattle.standing_line.specs.Standing.{GoesOn}
-use Rattle.standing_line.specs.Sweeping.{IsWorkerFor}
+use Rattle.standing_line.specs.Sweeping.{IsWorkerFor, IsMostTurns}
 
 -- ---- workers after sweeps
 
@@ -64,6 +65,50 @@ one_more old new was is after swept = record {
 pub sweep_more : (was now next : LineWorker) → IsWorkerAfter was now → IsWorker next → next ≡ with_team now next.team → HasSwept now.team next.team → IsWorkerAfter was next
 sweep_more was now next after is frame swept =
     after_more was now next after (record { same = record { worker = is; frame = frame }; worked = swept.worked })
+
+-- ---- how many turns its stations have made
+
+any_turns : (team : WorkTeam) (k n : ℕ) → k < length team.stations → turns_of (member team.stations k) ≡ n → Any (λ s. turns_of s ≡ n) team.stations
+any_turns team k n low is =
+    (k, member team.stations k, low, get_or_default team.stations k (member team.stations k) no_station low, is)
+
+-- where no station has more turns than this, none has as many as this and one more
+pub turns_below : (team : WorkTeam) (turns most : ℕ) → IsMostTurns team turns → turns < most → TurnsBelow most team
+turns_below team turns most is low i there = omega (arith, is.most i there, low)
+
+-- and where each has fewer than that, so has the one that has most
+pub most_below : (team : WorkTeam) (turns most : ℕ) → 0 < most → IsMostTurns team turns → TurnsBelow most team → turns < most
+most_below team turns most some is below =
+    ⊎_elim
+    (λ none. omega (arith, none, some))
+    (λ any.
+    let found = is.one (omega (arith, any)) in
+    let at = get_or_default team.stations found.0 no_station found.1 found.2 ∙ found.3 in
+    omega (arith, below found.0 found.2, ap turns_of at, found.4))
+    (cases_lt turns 1)
+
+-- a sweep gives each station one turn
+pub one_turn_more : (c : LineWorker) (next : WorkTeam) (turns : ℕ) → ¬ AllDone c.target c.team → IsMostTurns c.team turns → HasSwept c.team next → IsMostTurns next (turns + 1)
+one_turn_more c next turns undone is swept =
+    let old = c.team in
+    let count : length next.stations ≡ length old.stations = swept.worked.count in
+    record {
+      most = λ i low. let there : i < length old.stations = omega (arith, low, count) in omega (arith, swept.turned i there, is.most i there);
+      one = λ _.
+          ⊎_elim
+          (λ none.
+          ⊎_elim
+          (λ empty. absurd (undone (λ i low. absurd (omega (arith, low, empty)))))
+          (λ some.
+          let first : 0 < length old.stations = omega (arith, some) in
+          any_turns next 0 (turns + 1) (omega (arith, first, count)) (omega (arith, swept.turned 0 first, is.most 0 first, none)))
+          (cases_lt (length old.stations) 1))
+          (λ any.
+          let found = is.one (omega (arith, any)) in
+          let at = get_or_default old.stations found.0 no_station found.1 found.2 ∙ found.3 in
+          any_turns next found.0 (turns + 1) (omega (arith, found.2, count)) (omega (arith, swept.turned found.0 found.2, ap turns_of at, found.4)))
+          (cases_lt turns 1);
+    }
 
 -- ---- the line of workers after sweeps
 

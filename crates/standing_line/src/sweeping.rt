@@ -1,6 +1,6 @@
 ghost use Rattle.std.specs.Prelude.{◌↔◌, IsTrue};
 ghost use Rattle.line_workers.specs.Gather.{IsWorkerAfter};
-ghost use Rattle.standing_line.specs.Sweeping.{IsWorkerFor, MaySweep};
+ghost use Rattle.standing_line.specs.Sweeping.{IsWorkerFor, IsMostTurns, MaySweep};
 ghost use Rattle.line_worker.specs.Worker.{IsWorker};
 
 use line_workers::{Gate, Worker};
@@ -21,13 +21,14 @@ impl Promise<Worker> for AfterSweeps {
     ghost kept_by = { λ promise worker. IsWorkerAfter promise.0.value worker };
 }
 
-/// Whether a worker may make another sweep: not all of its stations are done, and none has made as
-/// many turns as it may.
-fn may_sweep(worker: &Worker) -> bool
+/// Whether a worker may make another sweep, of whose stations one has made this many turns and none
+/// more: not all of its stations are done, and none has made as many turns as it may.
+fn may_sweep(worker: &Worker, turns: u64) -> bool
+    requires turns { IsMostTurns worker.now.team turns }
     ensures may { IsTrue result ↔ MaySweep worker.now }
     ensures worker { IsWorker worker.now }
 {
-    !worker.done() && worker.turns() < MAX_TURNS
+    !worker.done() && turns < MAX_TURNS
 }
 
 /// Lets another thread run after a sweep in which nothing was fired. With more workers than processors one that has
@@ -40,13 +41,16 @@ fn rest(fired: u64) {
 
 /// Lets a worker sweep until it is done, the stop word is set, or a station has made as many turns as
 /// it may. An idle sweep is followed by another: the worker never parks, but lets another thread run.
+/// Each sweep gives every station one turn, so it looks once how many were made, and then counts.
 pub(crate) fn sweep_on<G: Gate>(worker: Worker, live: &Live, gate: &G, stop: &AtomicBool) -> Worker
     requires { IsWorkerFor live.now worker }
     ensures { IsWorkerAfter worker result }
 {
     let mut worker = worker;
-    while !stop.load(Ordering::SeqCst) && may_sweep(&worker) {
+    let mut turns = worker.turns();
+    while !stop.load(Ordering::SeqCst) && may_sweep(&worker, turns) {
         rest(worker.sweep(live, gate));
+        turns += 1;
     }
     worker
 }

@@ -3,10 +3,12 @@
 use denote.Param.Send.{IsSend, sendable, view_send}
 use denote.Param.SendFields.{as_row_send, declared_send}
 use Rattle.std.proofs.Crossing.{crosses, Vec-send}
+use Rattle.station_step.specs.contracts.fronts.Front as Front
 use Rattle.station_step.specs.contracts.noted.NotedInput as NotedInput
 use Rattle.station_step.specs.contracts.noted.NotedOutlet as NotedOutlet
 use Rattle.station_step.specs.contracts.station.Station as Station
 use Rattle.station_step.specs.contracts.station.Station.TheInside as StationInside
+use Rattle.station_step.proofs.fronts.Front.TheSendSync as FrontSent
 use Rattle.station_step.proofs.noted.NotedInput.TheSendSync as InputSent
 use Rattle.station_step.proofs.noted.NotedOutlet.TheSendSync as OutletSent
 
@@ -15,26 +17,35 @@ station_fields =
     declared_send StationInside.the_type (
       search sendable,
       (
-        Vec-send NotedInput.the_row (as_row_send NotedInput.the_field InputSent.the_field_send),
+        search sendable,
         (
-          Vec-send NotedOutlet.the_row (as_row_send NotedOutlet.the_field OutletSent.the_field_send),
+          search sendable,
           (
             search sendable,
             (
-              search crosses,
+              search sendable,
               (
                 search sendable,
                 (
                   search sendable,
                   (
-                    search sendable,
+                    Vec-send Front.the_row (as_row_send Front.the_field FrontSent.the_field_send),
                     (
-                      search sendable,
+                      Vec-send NotedInput.the_row (as_row_send NotedInput.the_field InputSent.the_field_send),
                       (
-                        search crosses,
+                        Vec-send NotedOutlet.the_row (as_row_send NotedOutlet.the_field OutletSent.the_field_send),
                         (
                           search crosses,
-                          tt,
+                          (
+                            search sendable,
+                            (
+                              search crosses,
+                              (
+                                search crosses,
+                                tt,
+                              ),
+                            ),
+                          ),
                         ),
                       ),
                     ),

@@ -45,14 +45,14 @@ extra-noted g t job k extras low is =
     ap (λ (l : List ℕ). slice_index l k) is ∙ get_or-map (λ a. work g a job) (ins g t) k 0 0 low
 
 -- the greatest over one input more
-greatest-more : (f : ℕ → ℕ) (k n : ℕ) → greatest f (range_with_len k (suc n)) ≡ max (greatest f (range_with_len k n)) (f (k + n))
+pub greatest-more : (f : ℕ → ℕ) (k n : ℕ) → greatest f (range_with_len k (suc n)) ≡ max (greatest f (range_with_len k n)) (f (k + n))
 unfolding greatest
 greatest-more f k zero = let at : k + zero ≡ k = omega arith in omega (arith, ap f at)
 greatest-more f k (suc n) =
     let at : k + 1 + n ≡ k + suc n = omega arith in omega (arith, greatest-more f (k + 1) n, ap f at)
 
 -- functions that agree below n have the same greatest value there
-greatest-agree : (f h : ℕ → ℕ) (k n : ℕ) → ((j : ℕ) → k ≤ j → j < k + n → f j ≡ h j) → greatest f (range_with_len k n) ≡ greatest h (range_with_len k n)
+pub greatest-agree : (f h : ℕ → ℕ) (k n : ℕ) → ((j : ℕ) → k ≤ j → j < k + n → f j ≡ h j) → greatest f (range_with_len k n) ≡ greatest h (range_with_len k n)
 unfolding greatest
 greatest-agree f h k zero agree = refl
 greatest-agree f h k (suc n) agree =

@@ -7,5 +7,6 @@ pub mod Filling
 pub mod Noting
 pub mod Dates
 pub mod Keeping
+pub mod AtOnce
 pub mod Posts
 pub mod Crossing

@@ -91,7 +91,7 @@ IsUnfilled (outlet.Ring put) = put.added ≡ []
 IsUnfilled (outlet.Room put) = put.added ≡ []
 IsUnfilled (outlet.Local k) = ⊤
 
--- so many more tokens may be put at a ring's put
+-- this many more tokens may be put at a ring's put
 abbrev pub HasRingRoom : ℕ → Outlet → Type 0
 HasRingRoom more (outlet.Ring put) = length put.added + more ≤ put.room
 HasRingRoom more (outlet.Room put) = length put.added + more ≤ 2 ^ 40

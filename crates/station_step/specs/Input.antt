@@ -14,7 +14,7 @@ empty_handed inlet = record { inlet = inlet; hand = None }
 abbrev pub input_at : List Input → ℕ → Input
 input_at inputs k = slice_index_or inputs k (record { inlet = Local 0; hand = None })
 
--- one token was taken for each of so many firings, and one more where the hand is full, which it holds
+-- one token was taken for each of this many firings, and one more where the hand is full, which it holds
 pub record IsHeld (shelf : List PlainQueue) (fired : ℕ) (input : Input) : Type 0 where
   pub enough : fired ≤ length (inlet_taken shelf input.inlet)
   pub rest : drop fired (inlet_taken shelf input.inlet) ≡ option_to_list input.hand
@@ -40,7 +40,7 @@ TakeApart inputs = (j k : ℕ) → j < k → k < length inputs → (q : ℕ) →
 abbrev pub NoneTakes : ℕ → List Input → Type 0
 NoneTakes q inputs = (k : ℕ) → k < length inputs → inlet_queue (input_at inputs k).inlet ≢ Some q
 
--- each queue from which an input takes is on a shelf of so many
+-- each queue from which an input takes is on a shelf of this many
 abbrev pub TakeWithin : ℕ → List Input → Type 0
 TakeWithin count inputs =
     (k : ℕ) → k < length inputs → IfSome (inlet_queue (input_at inputs k).inlet) (λ q. q < count)

@@ -60,7 +60,7 @@ abbrev pub PutApart : List Outlet → Type 0
 PutApart outlets = (j k : ℕ) → j < k → k < length outlets → (q : ℕ) →
     outlet_queue (outlet_at outlets j) ≡ Some q → outlet_queue (outlet_at outlets k) ≢ Some q
 
--- each queue on which an outlet puts is on a shelf of so many
+-- each queue on which an outlet puts is on a shelf of this many
 abbrev pub PutWithin : ℕ → List Outlet → Type 0
 PutWithin count outlets =
     (k : ℕ) → k < length outlets → IfSome (outlet_queue (outlet_at outlets k)) (λ q. q < count)

@@ -26,6 +26,16 @@ pub enum Outlet {
 }
 
 impl Inlet {
+    /// The number of the shelf's queue from which it takes, if it takes from one.
+    pub(crate) fn queue(&self) -> Option<u32>
+        ensures { result ≡ inlet_queue self.now }
+    {
+        match self {
+            Inlet::Ring(_) | Inlet::Room(_) => None,
+            Inlet::Local(k) => Some(*k),
+        }
+    }
+
     /// Takes the next token, if one is there. `None` comes only where none was known.
     #[inline]
     pub(crate) fn take(&mut self, shelf: &mut Shelf) -> Option<Date>

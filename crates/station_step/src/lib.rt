@@ -3,6 +3,7 @@
 #![tactic(auto)]
 
 mod ends;
+mod fronts;
 mod input;
 mod inputs;
 mod noted;

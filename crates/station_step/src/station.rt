@@ -8,6 +8,7 @@ ghost use Rattle.station_step.specs.Station.{WorkStation, IsStation, IsSeated, S
 ghost use Rattle.station_step.specs.Step.{IsReady, IsDone, HasFired, IfBlocked, IsBlocked, IfFull, IsFull, Did, MovesApart};
 
 use crate::ends::{Inlet, Outlet, meet_ends};
+use crate::fronts::{Front, count_takes, fronts_of, is_direct, latest_front};
 use crate::inputs::{empty_hands, next_date, refill, with_empty_hands};
 use crate::noted::{
     NotedInput, NotedOutlet, has_bounded, has_ring, note_job, note_time, with_delays, worked_into,
@@ -31,18 +32,22 @@ use std::snapshot::Snapshot;
 #[derive(Drop)]
 pub struct Station {
     number: u32,
-    // Beside each input stands what the time of the job adds to its token, and beside each outlet the delay of its arc.
-    inputs: Vec<NotedInput>,
-    outlets: Vec<NotedOutlet>,
     // Whether every job takes one time here. Where not, each step notes what its job adds, by whether the arc of each
     // input is worked.
     fixed: bool,
-    worked: Vec<bool>,
     // Whether an output can lack space, and whether one is over a ring.
     bounded: bool,
     rings: bool,
-    made: u32,
+    // Whether it fires by its fronts where it can, and whether all hands are empty, without which it doesn't.
+    direct: bool,
+    empty_handed: bool,
     turns: u64,
+    fronts: Vec<Front>,
+    // Beside each input stands what the time of the job adds to its token, and beside each outlet the delay of its arc.
+    inputs: Vec<NotedInput>,
+    outlets: Vec<NotedOutlet>,
+    worked: Vec<bool>,
+    made: u32,
     // Its log, as it stands on the worker's shelf, and the graph that the station was made for. Contracts alone read
     // them.
     log: Snapshot<Log>,
@@ -50,7 +55,8 @@ pub struct Station {
 }
 
 impl Model for Station {
-    ghost use Rattle.station_step.specs.Noted.{IsNoted, seen_station};
+    ghost use Rattle.station_step.specs.Fronts.{IsReadied};
+    ghost use Rattle.station_step.specs.Noted.{IsNoted, inputs_of, seen_station};
     ghost use Rattle.station_step.specs.Station.{WorkStation, IsStation};
 
     ghost Value = { WorkStation };
@@ -62,12 +68,14 @@ impl Model for Station {
           s.made s.turns);
       noted : IsNoted s.graph.value s.number s.inputs.items s.outlets.items s.fixed s.worked.items
           s.bounded s.rings;
+      readied : IsReadied s.graph.value s.number (inputs_of s.inputs.items) s.fronts.items s.bounded
+          s.direct s.empty_handed;
     } };
 }
 
 impl Station {
     /// The station `t` with these ends of its queues, in the order of the arcs into it and out of it, and the log that
-    /// it goes on with. Fails only for want of memory.
+    /// it goes on with. Fails only where memory runs out.
     pub fn new(
         alloc: Global,
         live: &Live,
@@ -98,16 +106,22 @@ impl Station {
         let worked = worked_into(alloc, graph, t)?;
         let mut inputs = with_empty_hands(alloc, inlets)?;
         note_time(&mut inputs, worked.as_slice(), graph.time(t, 1));
+        let fixed = !graph.varies(t);
+        let fronts = fronts_of(alloc, &inputs)?;
+        let outlets = with_delays(alloc, graph, t, outlets)?;
         Ok(Station {
             number: t,
-            inputs,
-            outlets: with_delays(alloc, graph, t, outlets)?,
-            fixed: !graph.varies(t),
-            worked,
+            fixed,
             bounded,
             rings,
-            made,
+            direct: is_direct(fixed, bounded, &fronts, &inputs),
+            empty_handed: true,
             turns: 0,
+            fronts,
+            inputs,
+            outlets,
+            worked,
+            made,
             log: Snapshot::of(log),
             graph: Snapshot::of(graph),
         })
@@ -156,6 +170,15 @@ impl Station {
             return Stepped::Done;
         }
         let job = done + 1;
+        let fronts = self.fronts.as_slice();
+        if let Some(latest) = latest_front(self.direct, self.empty_handed, fronts, shelf) {
+            count_takes(fronts, shelf);
+            let date = next_date(graph, self.number, job, latest);
+            put_all(self.rings, &mut self.outlets, shelf, i, date);
+            self.log = Snapshot::of(shelf.log(i));
+            return Stepped::Fired;
+        }
+        self.empty_handed = false;
         let worked = self.worked.as_slice();
         note_job(
             self.fixed,
@@ -173,6 +196,7 @@ impl Station {
             return Stepped::Full(graph.outs(self.number)[k]);
         }
         empty_hands(&mut self.inputs);
+        self.empty_handed = true;
         let date = next_date(graph, self.number, job, latest);
         put_all(self.rings, &mut self.outlets, shelf, i, date);
         self.log = Snapshot::of(shelf.log(i));

@@ -26,7 +26,7 @@ pub record IsOfArcs (g : Parts) (shelf : WorkShelf) : Type 0 where
   pub sources : (q : ℕ) → q < arc_count g →
       source_at shelf.sources q ≡ record { station = (arc g q).from; delay = delay g q }
 
--- each of these logs is empty, with room for so many dates
+-- each of these logs is empty, with room for this many dates
 abbrev pub AreEmpty : ℕ → List RoomyLog → Type 0
 AreEmpty room logs = (t : ℕ) → t < length logs → log_on logs t ≡ record { dates = []; room = room }
 

@@ -1,11 +1,11 @@
 -- Where each date is the greatest of its terms in a graph whose arcs without tokens go upwards, the dates are the least
 -- solution, and none is late: one induction over the order of evaluation each.
-use Rattle.std.proofs.Common.{◌≡◌, ℕ, zero, suc, ◌+◌, ◌-◌, ◌<◌, ◌≤◌, ltb, List, length, ap, arith, inl, inr}
-use Rattle.std.proofs.lemmas.Bool.{cond-true, lt-ltb, cases_lt}
+use Rattle.std.proofs.Common.{◌≡◌, ℕ, zero, suc, ◌+◌, ◌-◌, ◌<◌, ◌≤◌, List, length, ap, arith, inl, inr}
+use Rattle.std.proofs.lemmas.Bool.{cases_lt}
 use Rattle.std.proofs.lemmas.List.{get_or_past}
 use Rattle.line_base.specs.Limits.{last_demand}
 use Rattle.line_base.specs.declared.event.Parts.{Parts}
-use Rattle.event_graph.specs.Network.{stations, jobs, arc, demand, delay, IsGraph, EndsAt}
+use Rattle.event_graph.specs.Network.{stations, jobs, arc, demand, IsGraph, EndsAt}
 use Rattle.event_graph.specs.Limits.{IsWithinLimits}
 use Rattle.event_graph.specs.Table.{Table, date_in}
 use Rattle.event_graph.specs.Term.{term, work}
@@ -19,6 +19,7 @@ use Rattle.what_if.specs.Page.{IsDate, slot}
 use Rattle.what_if.specs.Sheet.{latest_at}
 use Rattle.what_if.proofs.SlotOrder.{slot-reader}
 use Rattle.what_if.proofs.Terms.{due-feed, due-le, term-le, term-le-due}
+use Rattle.event_graph.proofs.ArcTerms.{term-later}
 
 -- no demand date is late
 demand-early : (g : Parts) (n : ℕ) → IsWithinLimits g → demand g n ≤ last_demand
@@ -37,11 +38,6 @@ edited-graph g i graph = record {
   feed_has_no_input = graph.feed_has_no_input;
   others_have_input = graph.others_have_input;
 }
-
--- a term is its work, and the date that it reads with the delay
-pub term-reads : (g : Parts) (x : Table) (a n : ℕ) → (arc g a).tokens < n → term g x a n ≡ work g a n + (x (arc g a).from (n - (arc g a).tokens) + delay g a)
-term-reads g x a n later =
-    ap (λ d. work g a n + d) (cond-true (ltb (arc g a).tokens n) (x (arc g a).from (n - (arc g a).tokens) + delay g a) 0 (lt-ltb (arc g a).tokens n later))
 
 work-le : (g : Parts) (x : Table) (a n most : ℕ) → term g x a n ≤ most → work g a n ≤ most
 work-le g x a n most le = omega arith
@@ -114,7 +110,7 @@ module _ (l : LiveGraph) (i : Inputs) (graph : IsGraph l.graph) (up : IsUpward l
           let from = (arc l.graph a).from in
           let job = n - (arc l.graph a).tokens in
           let read = not_above k from job (read-date a t n enters date later) (omega (arith, read-before a t n enters later)) in
-          omega (arith, read, term-reads g y a n later, asked))) in
+          omega (arith, read, term-later g y a n later, asked))) in
           omega (arith, due t n date, greatest)
 
     pub greatest_is_least : IsLeast (edited l.graph i) (date_in rows)

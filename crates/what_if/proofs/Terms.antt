@@ -69,9 +69,3 @@ due-same g rows others t n same =
           term-same g (date_in rows) (date_in others) a n (same a (All-ins g t k d low)))
           ∙ sym (due-other g others t n other)
     ]
-
--- a term through tokens of the start is its work alone
-pub term-initial : (g : Parts) (x : Table) (a n : ℕ) → n ≤ (arc g a).tokens → term g x a n ≡ work g a n
-term-initial g x a n initial =
-    let tokens = (arc g a).tokens in
-    omega (arith, cond-false (ltb tokens n) (x (arc g a).from (n - tokens) + delay g a) 0 (le-ltb tokens n initial))

@@ -35,7 +35,8 @@ with_time inputs t n time = record inputs { times = with_number inputs.times t n
 abbrev pub with_demand : Inputs → ℕ → ℕ → Inputs
 with_demand inputs n date = record inputs { demands = slice_set inputs.demands (n - 1) date }
 
--- job n is there, and this date is neither before the demand date of the job before it nor after that of the job after it
+-- job n is there, and this date is neither before the demand date of the job before it nor after that of the job after
+-- it
 pub record FitsBetween (demands : List ℕ) (n date : ℕ) : Type 0 where
   pub from_one : 1 ≤ n
   pub job : n ≤ length demands

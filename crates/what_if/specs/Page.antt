@@ -8,8 +8,9 @@ use Rattle.line_core.specs.Consistent.{due_date}
 use Rattle.what_if.specs.Edited.{Inputs, edited}
 use Rattle.what_if.specs.Marks.{is_at, count_of}
 
--- the graph that the sheet was made for and the order of its stations; the present job times and demand dates; the dates of
--- the table, and the present ones, in a list for each station; which dates are marked, by slot; how many dates were evaluated
+-- the graph that the sheet was made for and the order of its stations; the present job times and demand dates; the
+-- dates of the table, and the present ones, in a list for each station; which dates are marked, by slot; how many dates
+-- were evaluated
 pub record Page : Type 0 where
   pub live : LiveGraph
   pub inputs : Inputs

@@ -22,7 +22,8 @@ changed_outs g x y = sum_by (changed_outs_at g x y) (range_with_len 0 (stations 
 abbrev pub IsSolved : Page → Type 0
 IsSolved p = IsLeast (graph_of p) (date_in p.dates)
 
--- no more evaluations were made than there were marks, and one for each arc out of the station of each date that changed
+-- no more evaluations were made than there were marks, and one for each arc out of the station of each date that
+-- changed
 abbrev pub HasEvaluatedFew : Page → Page → Type 0
 HasEvaluatedFew old new =
     new.evaluations

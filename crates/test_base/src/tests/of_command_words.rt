@@ -38,6 +38,7 @@ fn a_run_takes_its_options_in_any_order(rt: HostRuntime) -> Result<(), Fail> {
 #[test]
 fn other_commands_take_their_operands(rt: HostRuntime) -> Result<(), Fail> {
     let cases = [
+        ("lint a.toml", "lint a.toml"),
         ("check a.toml", "check a.toml"),
         ("cycle a.toml", "cycle a.toml"),
         ("replay a.toml s.txt", "replay a.toml s.txt"),
@@ -150,6 +151,7 @@ fn write_command(text: &mut String, command: &Command) -> Result<(), AllocError>
             workers,
             stop,
         } => write_run(text, plant, *workers, stop.as_ref()),
+        Command::Lint { plant } => write_plain(text, "lint", plant),
         Command::Check { plant } => write_plain(text, "check", plant),
         Command::Replay { plant, schedule } => write_two(text, "replay", plant, schedule),
         Command::Big { seed, workers } => write_big(text, *seed, *workers),

@@ -7,6 +7,7 @@ use line_io::{
 use std::alloc::Global;
 use std::cell::Cell;
 use std::fmt::Display;
+use std::fs::Files as _;
 use std::process::Abort;
 use std::{fs, io};
 
@@ -265,6 +266,12 @@ fn a_file_of_the_machine_is_written_and_read(rt: HostRuntime) {
     assert!(rt; !got(&rt, fs::exists(&rt, beside.as_str())));
     let long = read_of(&rt, alloc, name, 39_999).err();
     same(&rt, long, Some(StoreError::TooLong));
+    let link = got(&rt, format!(in alloc; "{name}.link"));
+    got(&rt, rt.symlink(name, link.as_str()));
+    got(&rt, FileStore::new(&rt).write(link.as_str(), b"by a link"));
+    assert!(rt; got(&rt, read_of(&rt, alloc, name, 40_000)).as_slice() == b"by a link".as_slice());
+    assert!(rt; got(&rt, rt.symlink_metadata(link.as_str())).is_symlink());
+    got(&rt, fs::remove_file(&rt, link.as_str()));
     got(&rt, fs::remove_file(&rt, name));
     let gone = read_of(&rt, alloc, name, 40_000).err();
     same(&rt, gone, Some(StoreError::Failed));

@@ -107,6 +107,12 @@ fn the_file_of_the_machine_is_a_disk_and_a_folder_in_its_place_a_fault(
     save_file(&rt, rt.alloc(), b"hello")?;
     let hello = load_file(&rt, rt.alloc())?;
     same(&rt, hello.as_slice(), b"hello".as_slice());
+    FileDisk::new(&rt).sync()?;
+    same(
+        &rt,
+        load_file(&rt, rt.alloc())?.as_slice(),
+        b"hello".as_slice(),
+    );
     fs::remove_file(&rt, FILE)?;
     fs::create_dir(&rt, FILE)?;
     let fault = load_file(&rt, rt.alloc()).err();

@@ -1,4 +1,4 @@
-use Rattle.line_io.proofs.OutgoingLemmas.{pushed_after}
+use Rattle.line_io.proofs.OutgoingLemmas.{◌⨟◌}
 use Rattle.answers.specs.ChangesText.{change_line}
 use Rattle.answers.proofs.Writing.{written_none, written_line, no_line, one_line}
 use Rattle.answers.proofs.changes.write_date.Goals as goal
@@ -11,6 +11,4 @@ pub returns-clause-written : goal.returns-clause-written
 returns-clause-written g c =
     rw (one_line c.args.label.now c.args.job c.args.old c.args.new c.if-old-new.false)
     (written_line _ _ (change_line c.args.label.now c.args.job c.args.old c.args.new)
-    (pushed_after c.push.ensures
-    (pushed_after c.push-2.ensures
-    (pushed_after c.push_number.ensures c.push_last_two_numbers.ensures))))
+    (c.push.ensures ⨟ c.push-2.ensures ⨟ c.push_number.ensures ⨟ c.push_last_two_numbers.ensures))

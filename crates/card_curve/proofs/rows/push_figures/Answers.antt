@@ -1,4 +1,4 @@
-use Rattle.line_io.proofs.OutgoingLemmas.{pushed_after}
+use Rattle.line_io.proofs.OutgoingLemmas.{◌⨟◌}
 use Rattle.card_curve.specs.CurveText.{figures_row}
 use Rattle.card_curve.proofs.rows.push_figures.Goals as goal
 
@@ -8,15 +8,6 @@ returns g c =
     let throughput = rw (c.from.ensures, c.from-2.ensures) at c.push_thousandths.ensures in
     let wait = rw c.from-3.ensures at c.push_thousandths-2.ensures in
     let parts = rw c.from-4.ensures at c.push_thousandths-3.ensures in
-    pushed_after c.push.ensures
-    (pushed_after c.push_number.ensures
-    (pushed_after c.push-2.ensures
-    (pushed_after c.push_number-2.ensures
-    (pushed_after c.push-3.ensures
-    (pushed_after throughput
-    (pushed_after c.push-4.ensures
-    (pushed_after wait
-    (pushed_after c.push-5.ensures
-    (pushed_after c.push_number-3.ensures
-    (pushed_after c.push-6.ensures
-    (pushed_after parts c.push-7.ensures)))))))))))
+    c.push.ensures ⨟ c.push_number.ensures ⨟ c.push-2.ensures ⨟ c.push_number-2.ensures ⨟ c.push-3.ensures
+    ⨟ throughput ⨟ c.push-4.ensures ⨟ wait ⨟ c.push-5.ensures ⨟ c.push_number-3.ensures ⨟ c.push-6.ensures ⨟ parts
+    ⨟ c.push-7.ensures

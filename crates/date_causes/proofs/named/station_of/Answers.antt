@@ -1,4 +1,4 @@
-use Rattle.std.proofs.Common.{◌∙◌, sym, inl, inr}
+use Rattle.std.proofs.Common.{◌∙◌, sym, inl}
 use Rattle.date_causes.proofs.Names.{named_exists, names_none}
 use Rattle.date_causes.proofs.named.station_of.Goals as goal
 

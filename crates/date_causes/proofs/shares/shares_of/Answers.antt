@@ -1,4 +1,4 @@
-use Rattle.std.proofs.Common.{◌≡◌, ◌<◌, length, ap, ◌∙◌, get_or, arith}
+use Rattle.std.proofs.Common.{◌<◌, length, ap, ◌∙◌, get_or, arith}
 use Rattle.std.proofs.lemmas.List.{take_all, get_or_default}
 use Rattle.std.proofs.lemmas.List.FromFn.{fill_by_all}
 use Rattle.date_causes.specs.declared.link.Cause.TheVariants.{DemandDate}

@@ -1,7 +1,6 @@
-use Rattle.line_io.proofs.OutgoingLemmas.{pushed_none}
+use Rattle.line_io.proofs.OutgoingLemmas.{pushed_none, pushed_element}
 use Rattle.date_causes.specs.declared.link.Cause.TheVariants.{DemandDate}
 use Rattle.date_causes.specs.WhyText.{link_line}
-use Rattle.date_causes.proofs.Lines.{pushed_element}
 use Rattle.date_causes.proofs.writing.write_links.Goals as goal
 
 pub loop-link-init : goal.loop-link-init

@@ -1,6 +1,5 @@
-use Rattle.std.proofs.Common.{refl}
 use Rattle.std.proofs.lemmas.Bool.{ne_eqb}
-use Rattle.line_io.proofs.OutgoingLemmas.{pushed_none, pushed_after}
+use Rattle.line_io.proofs.OutgoingLemmas.{pushed_none, ◌⨟◌}
 use Rattle.date_causes.proofs.Lines.{no_share}
 use Rattle.date_causes.proofs.writing.write_share.Goals as goal
 
@@ -10,7 +9,4 @@ returns-then-sum-eq0 g c = rw (no_share c.args.label.now c.args.sum c.if-sum-eq0
 pub returns : goal.returns
 returns g c =
     rw (ne_eqb c.args.sum 0 c.if-sum-eq0.false)
-    (pushed_after c.push.ensures
-    (pushed_after c.push-2.ensures
-    (pushed_after c.push-3.ensures
-    (pushed_after c.push_number.ensures c.push-4.ensures))))
+    (c.push.ensures ⨟ c.push-2.ensures ⨟ c.push-3.ensures ⨟ c.push_number.ensures ⨟ c.push-4.ensures)

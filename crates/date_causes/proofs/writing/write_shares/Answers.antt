@@ -1,8 +1,7 @@
 use Rattle.std.proofs.Common.{◌≡◌, arith}
 use Rattle.event_graph.specs.Network.{stations}
-use Rattle.line_io.proofs.OutgoingLemmas.{pushed_none}
+use Rattle.line_io.proofs.OutgoingLemmas.{pushed_none, pushed_next}
 use Rattle.date_causes.specs.WhyText.{share_line, share_lines}
-use Rattle.date_causes.proofs.Lines.{pushed_number}
 use Rattle.date_causes.proofs.writing.write_shares.Goals as goal
 
 pub loop-t-init : goal.loop-t-init
@@ -12,7 +11,7 @@ pub loop-t-preserved : goal.loop-t-preserved
 unfolding share_line
 loop-t-preserved g c =
     let written = rw c.label.ensures.text at c.write_share.ensures in
-    pushed_number (share_line c.args.graph.now c.args.shares.now) c.loop-t.t c.loop-t.invariant written
+    pushed_next (share_line c.args.graph.now c.args.shares.now) 0 c.loop-t.t c.loop-t.t (omega arith) c.loop-t.invariant written
 
 pub returns : goal.returns
 unfolding share_lines

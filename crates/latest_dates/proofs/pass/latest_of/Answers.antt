@@ -5,7 +5,8 @@ use Rattle.event_graph.specs.Table.{date_in}
 use Rattle.what_if.specs.Page.{slot}
 use Rattle.what_if.specs.Sheet.{date_count}
 use Rattle.what_if.proofs.SlotOrder.{slot-below}
-use Rattle.latest_dates.specs.Found.{latest_in}
+use Rattle.latest_dates.specs.Found.{place, latest_in}
+use Rattle.latest_dates.proofs.Places.{place-below}
 use Rattle.latest_dates.proofs.NoneLater.{AreLatestFrom, none_later}
 use Rattle.latest_dates.proofs.BackwardSteps.{run_solves, run_serves, leaves_time, one_earlier}
 use Rattle.latest_dates.proofs.pass.latest_of.Goals as goal
@@ -51,17 +52,17 @@ loop-behind-preserved c =
     let ranked = c.graph-graph.ensures.ranked in
     let t = c.date_at_slot-t.result.0 in
     let n = c.date_at_slot-t.result.1 in
+    let here = c.date_at_slot-t.ensures.date in
     let dates = c.loop-behind.dates.items in
-    let at = c.stations.result * c.jobs.result - 1 - c.loop-behind.behind in
     let v = c.earliest_bound-latest.result in
     let many = counted (goal.at.loop-behind-preserved c).After-jobs in
-    let is = c.date_at_slot-t.ensures.slot in
+    let at : c.place.result ≡ place live.graph t n = c.place.ensures.place ∙ ap (λ h. place h t n) c.graph-graph.ensures.graph in
     let found = rw c.deref.ensures.value at c.earliest_bound-latest.ensures in
-    let next : at ≡ c.stations.result * c.jobs.result - (c.loop-behind.behind + 1) = omega arith in
-    let after = subst (λ k. AreLatestFrom live c.args.wait (latest_in live dates) (k + 1)) is (behind (goal.at.loop-behind-preserved c).After-date_at_slot-t) in (
-      length-set dates at v ∙ c.loop-behind.invariant.0,
-      subst (AreLatestFrom live c.args.wait (latest_in live (set dates at v))) next
-          (one_earlier live ranked.upward ranked.sound c.args.wait dates at v t n c.date_at_slot-t.ensures.date is (omega (arith, c.loop-behind.invariant.0, many, c.loop-behind-test.true)) after found),
+    let next : slot live t n ≡ c.stations.result * c.jobs.result - (c.loop-behind.behind + 1) = omega (arith, c.date_at_slot-t.ensures.slot) in
+    let after = behind (goal.at.loop-behind-preserved c).After-date_at_slot-t in (
+      length-set dates c.place.result v ∙ c.loop-behind.invariant.0,
+      subst (AreLatestFrom live c.args.wait (latest_in live (set dates c.place.result v))) next
+          (rw at (one_earlier live ranked.upward ranked.sound c.args.wait dates t n here v (omega (arith, c.loop-behind.invariant.0, place-below live.graph t n here)) after found)),
     )
 
 pub returns-clause-not_before : goal.returns-clause-not_before

@@ -1,4 +1,4 @@
-use Rattle.line_io.proofs.OutgoingLemmas.{pushed_after}
+use Rattle.line_io.proofs.OutgoingLemmas.{◌⨟◌}
 use Rattle.latest_dates.specs.LatestText.{latest_text}
 use Rattle.latest_dates.proofs.writing.write_latest.Goals as goal
 
@@ -6,5 +6,4 @@ pub returns : goal.returns
 unfolding latest_text
 returns g c =
     let count = rw c.write_stations-tight.ensures.tight at c.push_number.ensures in
-    pushed_after c.write_stations-tight.ensures.written
-    (pushed_after c.push.ensures (pushed_after count c.push-2.ensures))
+    c.write_stations-tight.ensures.written ⨟ c.push.ensures ⨟ count ⨟ c.push-2.ensures

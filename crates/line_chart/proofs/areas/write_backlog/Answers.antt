@@ -1,6 +1,6 @@
 use Rattle.std.proofs.Common.{arith}
 use Rattle.plant_model.proofs.LayoutFacts.{few_stages}
-use Rattle.line_io.proofs.OutgoingLemmas.{pushed_after}
+use Rattle.line_io.proofs.OutgoingLemmas.{◌⨟◌}
 use Rattle.line_chart.specs.ChartText.{backlog_area}
 use Rattle.line_chart.proofs.areas.write_backlog.Goals as goal
 
@@ -17,4 +17,4 @@ pub returns : goal.returns
 unfolding backlog_area
 returns g c =
     let head = rw (c.requires.lanes, c.len.ensures, c.most.ensures) at c.write_head.ensures in
-    pushed_after head (pushed_after c.write_class_path.ensures c.push.ensures)
+    head ⨟ c.write_class_path.ensures ⨟ c.push.ensures

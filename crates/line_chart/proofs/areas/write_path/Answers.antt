@@ -1,6 +1,6 @@
 use Rattle.std.proofs.Common.{◌≡◌, ◌≢◌, ◌-◌, sym, ◌∙◌, arith}
 use Rattle.event_graph.specs.Table.{date_in}
-use Rattle.line_io.proofs.OutgoingLemmas.{pushed_none, pushed_after}
+use Rattle.line_io.proofs.OutgoingLemmas.{pushed_none, ◌⨟◌}
 use Rattle.line_chart.specs.Areas.{count_of}
 use Rattle.line_chart.specs.ChartText.{path_text}
 use Rattle.line_chart.proofs.StepLists.{steps-none, steps-step, steps-same}
@@ -33,7 +33,7 @@ loop-date-preserved g c =
         | then-now-height w ↦
             let other : f d ≢ f (d - 1) = λ same. w.if-now-height.true (c.count_at-now.ensures ∙ same ∙ sym inv.1) in
             rw (steps-step f from d next inv.2 after still other, w.out-is, w.sink-is)
-            (pushed_after inv.0 (rw c.count_at-now.ensures at w.write_step.ensures))
+            (inv.0 ⨟ (rw c.count_at-now.ensures at w.write_step.ensures))
         | else-now-height w ↦
             let same : f d ≡ f (d - 1) = sym c.count_at-now.ensures ∙ w.if-now-height.false ∙ inv.1 in
             rw (steps-same f from d next inv.2 after still same, w.out-is, w.sink-is) inv.0
@@ -50,7 +50,4 @@ returns g c =
     let all : c.loop-date.date ≡ c.args.run.now.window.to = omega (arith, c.loop-date.invariant.3) in
     let first = rw c.count_at-height.ensures at c.write_numbered-2.ensures in
     let steps = rw all at c.loop-date.invariant.0 in
-    pushed_after c.write_numbered.ensures
-    (pushed_after first
-    (pushed_after steps
-    (pushed_after c.write_numbered-3.ensures c.push.ensures)))
+    c.write_numbered.ensures ⨟ first ⨟ steps ⨟ c.write_numbered-3.ensures ⨟ c.push.ensures

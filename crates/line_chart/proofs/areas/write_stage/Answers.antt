@@ -1,6 +1,6 @@
 use Rattle.std.proofs.Common.{◌∙◌, arith}
 use Rattle.plant_model.proofs.LayoutFacts.{few_stages}
-use Rattle.line_io.proofs.OutgoingLemmas.{pushed_after}
+use Rattle.line_io.proofs.OutgoingLemmas.{◌⨟◌}
 use Rattle.line_chart.specs.ChartText.{stage_area}
 use Rattle.line_chart.proofs.LaneFacts.{stage-name}
 use Rattle.line_chart.proofs.areas.write_stage.Goals as goal
@@ -14,4 +14,4 @@ returns g c =
     let p = c.args.run.now.plant in
     let name = c.text-name.ensures.text ∙ stage-name p c.args.stage c.as_slice.result.now c.index-as_slice-stage.result c.as_slice.ensures c.requires.exists in
     let head = rw (name, c.requires.run.lanes, c.most.ensures) at c.write_head.ensures in
-    pushed_after head (pushed_after c.write_class_path.ensures (pushed_after c.write_class_path-2.ensures c.push.ensures))
+    head ⨟ c.write_class_path.ensures ⨟ c.write_class_path-2.ensures ⨟ c.push.ensures

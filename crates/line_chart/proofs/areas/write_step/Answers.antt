@@ -1,5 +1,5 @@
-use Rattle.line_io.proofs.OutgoingLemmas.{pushed_after}
+use Rattle.line_io.proofs.OutgoingLemmas.{◌⨟◌}
 use Rattle.line_chart.proofs.areas.write_step.Goals as goal
 
 pub returns : goal.returns
-returns g c = pushed_after c.write_numbered.ensures c.write_numbered-2.ensures
+returns g c = c.write_numbered.ensures ⨟ c.write_numbered-2.ensures

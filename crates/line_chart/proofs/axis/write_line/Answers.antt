@@ -1,4 +1,4 @@
-use Rattle.line_io.proofs.OutgoingLemmas.{pushed_after}
+use Rattle.line_io.proofs.OutgoingLemmas.{◌⨟◌}
 use Rattle.line_chart.specs.ChartText.{axis_line}
 use Rattle.line_chart.proofs.axis.write_line.Goals as goal
 
@@ -8,8 +8,4 @@ returns g c =
     let first = rw c.axis_place-place.ensures at c.write_numbered.ensures in
     let second = rw c.axis_place-place.ensures at c.write_numbered-2.ensures in
     let fourth = rw c.axis_place-place.ensures at c.write_numbered-4.ensures in
-    pushed_after first
-    (pushed_after second
-    (pushed_after c.write_numbered-3.ensures
-    (pushed_after fourth
-    (pushed_after c.write_numbered-5.ensures c.push.ensures))))
+    first ⨟ second ⨟ c.write_numbered-3.ensures ⨟ fourth ⨟ c.write_numbered-5.ensures ⨟ c.push.ensures

@@ -1,4 +1,4 @@
-use Rattle.line_io.proofs.OutgoingLemmas.{pushed_after}
+use Rattle.line_io.proofs.OutgoingLemmas.{◌⨟◌}
 use Rattle.line_chart.specs.ChartText.{field_line, bars_text}
 use Rattle.line_chart.proofs.bars.write_bars.Goals as goal
 
@@ -7,9 +7,5 @@ unfolding field_line bars_text
 returns g c =
     let high = rw c.requires.lanes at c.write_numbered.ensures in
     let deep = rw c.requires.lanes at c.write_numbered-4.ensures in
-    pushed_after
-    (pushed_after high
-    (pushed_after c.write_numbered-2.ensures
-    (pushed_after c.write_numbered-3.ensures
-    (pushed_after deep c.push.ensures))))
-    (pushed_after c.write_all_bars.ensures c.push-2.ensures)
+    (high ⨟ c.write_numbered-2.ensures ⨟ c.write_numbered-3.ensures ⨟ deep ⨟ c.push.ensures)
+    ⨟ c.write_all_bars.ensures ⨟ c.push-2.ensures

@@ -1,7 +1,7 @@
 use Rattle.std.proofs.Common.{◌≡◌, sym, ap, ◌∙◌, arith}
 use Rattle.event_graph.specs.Network.{jobs}
 use Rattle.event_graph.specs.Table.{date_in}
-use Rattle.line_io.proofs.OutgoingLemmas.{pushed_none, pushed_after}
+use Rattle.line_io.proofs.OutgoingLemmas.{pushed_none, ◌⨟◌}
 use Rattle.line_chart.specs.Bars.{meets, machine_bars}
 use Rattle.line_chart.specs.ChartText.{bar_line}
 use Rattle.line_chart.proofs.ChartLines.{first_bars-missed, text-met}
@@ -22,7 +22,7 @@ loop-before-preserved g c =
     elim c.if-meets.branch [
       | then-meets t ↦
           rw (text-met bar_line h x w m n (met ∙ t.if-meets.true), t.out-is, t.sink-is)
-          (pushed_after c.loop-before.invariant (rw c.bar-bar.ensures.bar at t.write_bar.ensures))
+          (c.loop-before.invariant ⨟ (rw c.bar-bar.ensures.bar at t.write_bar.ensures))
       | else-meets t ↦ rw (first_bars-missed h x w m n (met ∙ t.if-meets.false), t.out-is, t.sink-is) c.loop-before.invariant
     ]
 

@@ -1,6 +1,5 @@
 use Rattle.std.proofs.Common.{◌≡◌, arith}
-use Rattle.line_io.proofs.OutgoingLemmas.{pushed_none, pushed_after}
-use Rattle.line_table.proofs.TableLines.{pushed_next}
+use Rattle.line_io.proofs.OutgoingLemmas.{pushed_none, ◌⨟◌, pushed_next}
 use Rattle.line_chart.specs.ChartText.{lane_line, lane_lines}
 use Rattle.line_chart.proofs.bars.write_names_of.Goals as goal
 
@@ -12,10 +11,8 @@ unfolding lane_line
 loop-lane-preserved g c =
     let label = rw c.label.ensures.text at c.push-in-loop-lane.ensures in
     let line =
-    pushed_after c.write_numbered.ensures
-    (pushed_after c.push.ensures
-    (pushed_after label
-    (pushed_after c.write_lane_number.ensures c.push-in-loop-lane-2.ensures))) in
+    c.write_numbered.ensures ⨟ c.push.ensures ⨟ label ⨟ c.write_lane_number.ensures
+    ⨟ c.push-in-loop-lane-2.ensures in
     pushed_next (lane_line c.args.graph.now c.args.machine) 0 c.loop-lane.lane c.loop-lane.lane (omega arith) c.loop-lane.invariant line
 
 pub returns : goal.returns

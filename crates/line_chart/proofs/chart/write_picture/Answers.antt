@@ -1,6 +1,6 @@
 use Rattle.std.proofs.Common.{arith}
 use Rattle.plant_model.proofs.LayoutFacts.{few_stages}
-use Rattle.line_io.proofs.OutgoingLemmas.{pushed_after}
+use Rattle.line_io.proofs.OutgoingLemmas.{◌⨟◌}
 use Rattle.line_chart.specs.ChartText.{picture}
 use Rattle.line_chart.proofs.chart.write_picture.Goals as goal
 
@@ -21,9 +21,5 @@ unfolding picture
 returns g c =
     let head = rw (c.requires.lanes, c.len.ensures) at c.write_head.ensures in
     let axis = rw (c.requires.lanes, c.len.ensures) at c.write_axis.ensures in
-    pushed_after head
-    (pushed_after axis
-    (pushed_after c.write_names.ensures
-    (pushed_after c.write_bars.ensures
-    (pushed_after c.write_stages.ensures
-    (pushed_after c.write_backlog.ensures c.push.ensures)))))
+    head ⨟ axis ⨟ c.write_names.ensures ⨟ c.write_bars.ensures ⨟ c.write_stages.ensures ⨟ c.write_backlog.ensures
+    ⨟ c.push.ensures

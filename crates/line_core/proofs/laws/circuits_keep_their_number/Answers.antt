@@ -1,4 +1,4 @@
-use Rattle.line_core.proofs.Circuits.{circuit_keeps_number}
+use Rattle.event_graph.proofs.Places.{circuit_keeps_number}
 use Rattle.line_core.proofs.laws.circuits_keep_their_number.Goals as goal
 
 pub returns : goal.returns

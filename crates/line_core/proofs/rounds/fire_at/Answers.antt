@@ -10,16 +10,16 @@ use Rattle.line_core.proofs.rounds.fire_at.Goals as goal
 pub fire_ready-requires-clause-can : goal.fire_ready-requires-clause-can
 fire_ready-requires-clause-can c =
     let r = c.args.state.now in
-    let places = c.args.live.now.ranks in
-    let ranked = subst (λ (h : Parts). IsRanked (record { graph = h; ranks = places })) c.requires.made_for c.station_at.ensures.ranked in
+    let ranks = c.args.live.now.ranks in
+    let ranked = subst (λ (h : Parts). IsRanked (record { graph = h; ranks = ranks })) c.requires.made_for c.station_at.ensures.ranked in
     let there : c.station_at.result < stations r.graph = omega (arith, ap stations c.requires.made_for, c.station_at.ensures.exists) in
-    can_fire_next r.graph places r.state c.args.done c.args.place c.station_at.result ranked c.requires.reached c.requires.round c.requires.more there c.station_at.ensures.rank
+    can_fire_next r.graph ranks r.state c.args.done c.args.rank c.station_at.result ranked c.requires.reached c.requires.round c.requires.more there c.station_at.ensures.rank
 
 pub returns-clause-round : goal.returns-clause-round
 returns-clause-round c =
     let r = c.args.state.now in
-    let places = c.args.live.now.ranks in
-    let ranked = subst (λ (h : Parts). IsRanked (record { graph = h; ranks = places })) c.requires.made_for c.station_at.ensures.ranked in
+    let ranks = c.args.live.now.ranks in
+    let ranked = subst (λ (h : Parts). IsRanked (record { graph = h; ranks = ranks })) c.requires.made_for c.station_at.ensures.ranked in
     let there : c.station_at.result < stations r.graph = omega (arith, ap stations c.requires.made_for, c.station_at.ensures.exists) in
-    let on = round_goes_on r.graph places r.state c.args.done c.args.place c.station_at.result ranked c.requires.reached c.requires.round there c.station_at.ensures.rank in
-    subst (λ (next : Run). IsInRound places next c.args.done (c.args.place + 1)) (sym c.fire_ready.ensures.fired) on
+    let on = round_goes_on r.graph ranks r.state c.args.done c.args.rank c.station_at.result ranked c.requires.reached c.requires.round there c.station_at.ensures.rank in
+    subst (λ (next : Run). IsInRound ranks next c.args.done (c.args.rank + 1)) (sym c.fire_ready.ensures.fired) on

@@ -4,7 +4,7 @@ use Rattle.line_disk.specs.RawFile.{RawCall, raw_now, disk_of}
 use Rattle.line_disk.proofs.RawRuns.{WritesSoFar}
 use Rattle.line_disk.proofs.file_disk.put.Given as goal
 
--- the calls so far wrote so many bytes, and whatever writes the rest writes all
+-- the calls so far wrote this many bytes, and whatever writes the rest writes all
 abbrev pub invariant-loop-taken : goal.invariant-loop-taken
 invariant-loop-taken g l = record {
   within : l.taken ≤ length l.bytes;

@@ -3,7 +3,7 @@ use Rattle.line_io.specs.RawOut.{OutCall, taken_of}
 use Rattle.line_io.proofs.RawOutLemmas.{HandsSoFar}
 use Rattle.line_io.proofs.std_sink.hand_on.Given as goal
 
--- the calls so far took so many bytes, and whatever hands on the rest hands on all
+-- the calls so far took this many bytes, and whatever hands on the rest hands on all
 abbrev pub invariant-loop-taken : goal.invariant-loop-taken
 invariant-loop-taken g l = record {
   within : l.taken ≤ length l.piece;

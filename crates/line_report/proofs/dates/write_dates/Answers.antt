@@ -1,20 +1,34 @@
-use Rattle.std.proofs.Common.{◌≡◌, arith}
-use Rattle.event_graph.specs.Network.{stations}
+use Rattle.std.proofs.Common.{◌≡◌, ◌-◌, ◌*◌, refl, ◌∙◌, arith}
+use Rattle.event_graph.specs.Network.{stations, jobs}
 use Rattle.event_graph.specs.Table.{date_in}
-use Rattle.line_io.proofs.OutgoingLemmas.{pushed_none}
-use Rattle.line_report.specs.ReportText.{station_lines, date_lines}
-use Rattle.line_report.proofs.Lines.{pushed_line}
+use Rattle.line_report.proofs.Portions.{pushed-no_lines, pushed-more_lines, all-numbered}
 use Rattle.line_report.proofs.dates.write_dates.Goals as goal
 
-pub loop-t-init : goal.loop-t-init
-loop-t-init g c = pushed_none _
+pub loop-next-init : goal.loop-next-init
+loop-next-init g c = record {
+  within = omega arith;
+  number = refl;
+  lines = pushed-no_lines c.args.graph.now (date_in c.args.table.now.rows) 0 0 refl;
+}
 
-pub loop-t-preserved : goal.loop-t-preserved
-loop-t-preserved g c =
-    pushed_line (station_lines c.args.graph.now (date_in c.args.table.now.rows)) 0 c.loop-t.t c.loop-t.t (omega arith) c.loop-t.invariant c.write_station.ensures
+pub loop-next-preserved : goal.loop-next-preserved
+loop-next-preserved g c =
+    let before = c.loop-next.invariant in
+    let next = c.loop-next.next in
+    let end = c.share_end-end.result in
+    let is = c.share_end-end.ensures in
+    record {
+      within = omega (arith, is);
+      number = c.write_round.ensures.number ∙ before.number;
+      lines =
+          pushed-more_lines c.args.graph.now (date_in c.args.table.now.rows) 0 next next (end - next) end
+          (omega arith) (omega (arith, is, before.within)) before.lines c.write_round.ensures.lines;
+    }
 
-pub returns : goal.returns
-unfolding date_lines
-returns g c =
-    let all : c.loop-t.t ≡ stations c.args.graph.now = omega arith in
-    rw all at c.loop-t.invariant
+pub returns-clause-lines : goal.returns-clause-lines
+returns-clause-lines g c =
+    let graph = c.args.graph.now in
+    let before = c.loop-next.invariant in
+    let lines : c.stations.result * c.jobs.result ≡ stations graph * jobs graph = rw (c.stations.ensures.count, c.jobs.ensures.count) refl in
+    let all : c.loop-next.next ≡ stations graph * jobs graph = omega (arith, lines, before.within, c.loop-next-test.false) in
+    rw (← all-numbered graph (date_in c.args.table.now.rows), ← all) before.lines

@@ -1,17 +1,15 @@
 use Rattle.std.proofs.Common.{sym, ap, ◌∙◌, subst}
 use Rattle.plant_model.specs.Graph.{graph}
 use Rattle.plant_model.specs.Sound.{IsSound}
-use Rattle.line_io.proofs.OutgoingLemmas.{pushed_after}
+use Rattle.line_io.proofs.OutgoingLemmas.{◌⨟◌}
 use Rattle.line_report.specs.ReportText.{backlog_line}
 use Rattle.line_report.proofs.observed.write_backlog.Goals as goal
 
 pub returns : goal.returns
 unfolding backlog_line
 returns g c =
-    pushed_after c.push.ensures
-    (pushed_after c.push_number.ensures
-    (pushed_after c.push-2.ensures
-    (pushed_after (rw (c.backlog.ensures.count, c.requires.numbers) at c.push_number-2.ensures) c.push-3.ensures)))
+    c.push.ensures ⨟ c.push_number.ensures ⨟ c.push-2.ensures
+    ⨟ (rw (c.backlog.ensures.count, c.requires.numbers) at c.push_number-2.ensures) ⨟ c.push-3.ensures
 
 pub backlog-requires-clause-sound : goal.backlog-requires-clause-sound
 backlog-requires-clause-sound g c = subst IsSound (sym c.requires.numbers) c.requires.of_plant.sound

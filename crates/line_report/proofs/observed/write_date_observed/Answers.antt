@@ -1,6 +1,6 @@
 use Rattle.std.proofs.Common.{◌≡◌, length, arith}
 use Rattle.event_graph.specs.Table.{date_in}
-use Rattle.line_io.proofs.OutgoingLemmas.{pushed_none, pushed_after}
+use Rattle.line_io.proofs.OutgoingLemmas.{pushed_none, ◌⨟◌}
 use Rattle.line_report.specs.ReportText.{stage_line, observed_lines}
 use Rattle.line_report.proofs.Lines.{pushed_line}
 use Rattle.line_report.proofs.observed.write_date_observed.Goals as goal
@@ -16,4 +16,4 @@ pub returns : goal.returns
 unfolding observed_lines
 returns g c =
     let all : c.loop-stage.stage ≡ length c.args.run.now.plant.stages = omega arith in
-    pushed_after (rw all at c.loop-stage.invariant) c.write_backlog.ensures
+    (rw all at c.loop-stage.invariant) ⨟ c.write_backlog.ensures

@@ -5,7 +5,7 @@ use Rattle.plant_model.specs.Sound.{IsSound}
 use Rattle.event_graph.specs.Table.{date_in}
 use Rattle.line_stats.specs.Counts.{in_move}
 use Rattle.line_io.specs.Outgoing.{Pushed, stream}
-use Rattle.line_io.proofs.OutgoingLemmas.{pushed_none, pushed_after}
+use Rattle.line_io.proofs.OutgoingLemmas.{pushed_none, ◌⨟◌}
 use Rattle.line_report.proofs.Lines.{stage_read, stage_line-parts, move_words, move_words-moving, move_words-still}
 use Rattle.line_report.proofs.observed.write_stage.Goals as goal
 use Rattle.line_report.proofs.observed.write_stage.Goals.{then-part-gt0, else-part-gt0}
@@ -26,22 +26,15 @@ returns g c =
       | then-part-gt0 w ↦
           let move = rw w.in_move.ensures.count at w.push_number-then-part-gt0.ensures in
           rw (move_words-moving stage.travel moving w.if-part-gt0.true, w.out-is, w.sink-is)
-          (pushed_after w.push-then-part-gt0.ensures move)
+          (w.push-then-part-gt0.ensures ⨟ move)
       | else-part-gt0 w ↦
           rw (move_words-still stage.travel moving w.if-part-gt0.false, w.out-is, w.sink-is)
           (pushed_none _)
     ]
     in
     rw (stage_line-parts plant x c.args.at c.args.stage stage read)
-    (pushed_after c.push.ensures
-    (pushed_after c.push_number.ensures
-    (pushed_after c.push-2.ensures
-    (pushed_after (rw c.text.ensures.text at c.push-3.ensures)
-    (pushed_after c.push-4.ensures
-    (pushed_after process
-    (pushed_after way
-    (pushed_after c.push-5.ensures
-    (pushed_after stock c.push-6.ensures)))))))))
+    (c.push.ensures ⨟ c.push_number.ensures ⨟ c.push-2.ensures ⨟ (rw c.text.ensures.text at c.push-3.ensures)
+    ⨟ c.push-4.ensures ⨟ process ⨟ way ⨟ c.push-5.ensures ⨟ stock ⨟ c.push-6.ensures)
 
 pub in_process-requires-clause-sound : goal.in_process-requires-clause-sound
 in_process-requires-clause-sound g c = subst IsSound (sym c.requires.run.numbers) c.requires.run.of_plant.sound

@@ -1,5 +1,5 @@
 use Rattle.std.proofs.Common.{◌∙◌}
-use Rattle.line_io.proofs.OutgoingLemmas.{pushed_after}
+use Rattle.line_io.proofs.OutgoingLemmas.{◌⨟◌}
 use Rattle.line_report.specs.SummaryText.{summary}
 use Rattle.line_report.proofs.report.write_short_text.Goals as goal
 
@@ -8,4 +8,4 @@ unfolding summary
 returns g c =
     let sizes = rw (c.graph.ensures.graph ∙ c.requires.of_plant.live_graph) at c.write_sizes.ensures in
     let sum = rw c.requires.of_plant.table_graph at c.write_sum.ensures in
-    pushed_after sizes (pushed_after sum c.write_end.ensures)
+    sizes ⨟ sum ⨟ c.write_end.ensures

@@ -1,10 +1,11 @@
 use Rattle.std.proofs.Common.{◌∙◌}
-use Rattle.line_io.proofs.OutgoingLemmas.{pushed_after}
+use Rattle.line_io.proofs.OutgoingLemmas.{◌⨟◌}
 use Rattle.line_report.specs.ReportText.{report}
 use Rattle.line_report.proofs.report.write_text.Goals as goal
 
-pub returns : goal.returns
+pub returns-clause-text : goal.returns-clause-text
 unfolding report
-returns g c =
-    let dates = rw (c.graph.ensures.graph ∙ c.requires.of_plant.live_graph) at c.write_dates.ensures in
-    pushed_after dates (pushed_after c.write_observed.ensures c.write_end.ensures)
+returns-clause-text g c =
+    let of_plant = c.requires.run.of_plant in
+    let dates = rw (c.graph.ensures.graph ∙ of_plant.live_graph) at c.write_dates.ensures.lines in
+    dates ⨟ c.write_observed.ensures ⨟ c.write_end.ensures

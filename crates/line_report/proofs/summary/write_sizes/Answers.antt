@@ -1,4 +1,4 @@
-use Rattle.line_io.proofs.OutgoingLemmas.{pushed_after}
+use Rattle.line_io.proofs.OutgoingLemmas.{◌⨟◌}
 use Rattle.line_report.specs.SummaryText.{size_lines}
 use Rattle.line_report.proofs.summary.write_sizes.Goals as goal
 
@@ -8,4 +8,4 @@ returns g c =
     let stations = rw (c.from.ensures, c.stations-stations.ensures.count) at c.write_number.ensures in
     let jobs = rw (c.from-2.ensures, c.jobs-jobs.ensures.count) at c.write_number-2.ensures in
     let firings = rw (c.from-3.ensures, c.stations-stations.ensures.count, c.jobs-jobs.ensures.count) at c.write_number-3.ensures in
-    pushed_after stations (pushed_after jobs firings)
+    stations ⨟ jobs ⨟ firings

@@ -1,7 +1,7 @@
-use Rattle.line_io.proofs.OutgoingLemmas.{pushed_after}
+use Rattle.line_io.proofs.OutgoingLemmas.{◌⨟◌}
 use Rattle.line_report.proofs.totals.write_end.Goals as goal
 
 pub returns : goal.returns
 returns g c =
     let totals = rw c.requires.of_plant.table_graph at c.write_totals.ensures in
-    pushed_after c.write_peaks.ensures totals
+    c.write_peaks.ensures ⨟ totals

@@ -1,6 +1,6 @@
 use Rattle.std.proofs.Common.{◌≡◌}
 use Rattle.plant_model.specs.Line.{stage_at}
-use Rattle.line_io.proofs.OutgoingLemmas.{pushed_after}
+use Rattle.line_io.proofs.OutgoingLemmas.{◌⨟◌}
 use Rattle.line_report.specs.ReportText.{peak_line}
 use Rattle.line_report.proofs.Lines.{stage_read}
 use Rattle.line_report.proofs.totals.write_peak.Goals as goal
@@ -16,9 +16,4 @@ returns g c =
     let peak = rw c.peak.ensures.peak at c.push_number.ensures in
     let bound = rw c.bound_of.ensures.bound at c.write_bound.ensures in
     rw (← read)
-    (pushed_after c.push.ensures
-    (pushed_after name
-    (pushed_after c.push-3.ensures
-    (pushed_after peak
-    (pushed_after c.push-4.ensures
-    (pushed_after bound c.push-5.ensures))))))
+    (c.push.ensures ⨟ name ⨟ c.push-3.ensures ⨟ peak ⨟ c.push-4.ensures ⨟ bound ⨟ c.push-5.ensures)

@@ -1,4 +1,4 @@
-use Rattle.line_io.proofs.OutgoingLemmas.{pushed_after}
+use Rattle.line_io.proofs.OutgoingLemmas.{◌⨟◌}
 use Rattle.line_report.specs.ReportText.{waiting_line, last_line}
 use Rattle.line_report.proofs.totals.write_totals.Goals as goal
 
@@ -7,6 +7,4 @@ unfolding waiting_line last_line
 returns g c =
     let waiting = rw c.waiting_total.ensures at c.push_wide_number.ensures in
     let last = rw c.last.ensures at c.push_number.ensures in
-    pushed_after
-    (pushed_after c.push.ensures (pushed_after waiting c.push-2.ensures))
-    (pushed_after c.push-3.ensures (pushed_after last c.push-4.ensures))
+    (c.push.ensures ⨟ waiting ⨟ c.push-2.ensures) ⨟ c.push-3.ensures ⨟ last ⨟ c.push-4.ensures

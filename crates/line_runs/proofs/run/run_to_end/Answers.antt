@@ -1,9 +1,33 @@
-use Rattle.std.proofs.Common.{rules}
-use Rattle.line_runs.specs.Bursts.{IsDone}
-use Rattle.line_runs.proofs.Firings.{burst_leaves_less}
+use Rattle.std.proofs.Common.{◌≡◌, ◌<◌, sym, ap, ◌∙◌, subst, rules}
+use Rattle.live_check.specs.Order.{LiveGraph}
+use Rattle.line_core.specs.Consistent.{fired}
+use Rattle.line_runs.specs.AllFirings.{all_firings}
+use Rattle.line_runs.specs.Bursts.{IsDone, none}
+use Rattle.line_runs.proofs.Firings.{burst_leaves_less, undone_is_below}
+use Rattle.line_runs.proofs.Stopping.{burst_live, led_more, finishes}
 use Rattle.line_runs.proofs.run.run_to_end.Goals as goal
+
+pub loop-line-init : goal.loop-line-init
+loop-line-init g c = record { made_for = c.requires; led = record { count = 0; bursts = none } }
 
 pub loop-line-smaller : goal.loop-line-smaller
 loop-line-smaller g c =
     let undone : ¬ IsDone c.loop-line.line = search rules in
     burst_leaves_less c.loop-line.line c.burst_on.new.line c.finished.ensures.line undone c.burst_on.ensures
+
+pub loop-line-preserved : goal.loop-line-preserved
+loop-line-preserved g c =
+    let line = c.loop-line.line in
+    let inv = c.loop-line.invariant in
+    let undone : ¬ IsDone c.loop-line.line = search rules in
+    let left : fired line.state < all_firings c.args.live.now.graph =
+    subst (λ (v : LiveGraph). fired line.state < all_firings v.graph) (sym inv.made_for) (undone_is_below line c.finished.ensures.line undone) in
+    record {
+      made_for = inv.made_for ∙ sym (burst_live line c.burst_on.new.line c.burst_on.ensures);
+      led = led_more (all_firings c.args.live.now.graph) c.args.line line c.burst_on.new.line inv.led left c.burst_on.ensures;
+    }
+
+pub returns-clause-bursts : goal.returns-clause-bursts
+returns-clause-bursts g c =
+    let done : IsDone c.loop-line.line = search rules in
+    finishes (all_firings c.args.live.now.graph) c.args.line c.loop-line.line c.loop-line.invariant.led c.finished.ensures.line done c.table_of.result c.table_of.ensures.dates

@@ -6,7 +6,7 @@ use Rattle.line_runs.specs.Bursts.{IsDone}
 use Rattle.line_runs.specs.Saves.{IsOldOrState}
 use Rattle.line_runs.proofs.Firings.{burst_leaves_less}
 use Rattle.line_runs.proofs.Stopping.{burst_live}
-use Rattle.line_runs.proofs.Saving.{counted_before, saves_begin, saves_go_on, leaves_then, late_state}
+use Rattle.line_runs.proofs.Saving.{counted_before, finishes_saving, saves_begin, saves_go_on, leaves_then, late_state}
 use Rattle.line_runs.proofs.slots.run_with_slots.Goals as goal
 
 pub loop-alloc-init : goal.loop-alloc-init
@@ -49,7 +49,7 @@ returns-clause-saves g c =
     let done : IsDone c.loop-alloc.line = search rules in
     record {
       saved = on.saved;
-      finishes = record { last = c.loop-alloc.line; saves = on.before; done = done; dates = c.table_of.ensures.dates };
+      finishes = finishes_saving c.args.every c.args.line on.saved c.loop-alloc.line on.before c.finished.ensures.line done c.table_of.result c.table_of.ensures.dates;
       holds = on.holds;
     }
 

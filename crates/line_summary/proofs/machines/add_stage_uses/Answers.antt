@@ -12,9 +12,9 @@ use Rattle.event_graph.specs.Network.{jobs}
 use Rattle.line_summary.specs.declared.machines.MachineUse.{MachineUse}
 use Rattle.line_summary.specs.Machines.{busy, use_of}
 use Rattle.line_summary.proofs.MachineLists.{machine_read, few_machines, use-read}
-use Rattle.line_summary.proofs.PartSums.{jobs-graph}
 use Rattle.line_summary.proofs.machines.add_stage_uses.Goals.{After-index-machines-machine}
 use Rattle.line_summary.proofs.machines.add_stage_uses.Goals as goal
+use Rattle.line_graph.proofs.Sizes.{jobs-graph}
 
 module _ (c : After-index-machines-machine) where
   stage_is : get_or c.as_slice.result.now c.args.stage c.index-as_slice-stage.result ≡ stage_at c.args.plant.now c.args.stage

@@ -1,4 +1,4 @@
-use Rattle.line_io.proofs.OutgoingLemmas.{pushed_after}
+use Rattle.line_io.proofs.OutgoingLemmas.{◌⨟◌}
 use Rattle.std.proofs.Common.{ap, ◌∙◌}
 use Rattle.line_summary.specs.Machines.{busiest_of}
 use Rattle.line_summary.specs.SummaryText.{busiest_line}
@@ -9,4 +9,4 @@ unfolding busiest_line
 returns g c =
     let is = c.busiest.ensures ∙ ap busiest_of (c.as_slice.ensures.value ∙ c.requires.uses) in
     let label = rw is at c.write_label.ensures in
-    pushed_after c.push.ensures (pushed_after label c.push-2.ensures)
+    c.push.ensures ⨟ label ⨟ c.push-2.ensures

@@ -1,4 +1,4 @@
-use Rattle.line_io.proofs.OutgoingLemmas.{pushed_after}
+use Rattle.line_io.proofs.OutgoingLemmas.{◌⨟◌}
 use Rattle.line_summary.specs.SummaryText.{head_lines}
 use Rattle.line_summary.proofs.Read.{jobs-read, last-read, waited-read, most-read, worst-read, parts-read, backlog-read}
 use Rattle.line_summary.proofs.texts.write_head.Goals as goal
@@ -16,4 +16,4 @@ returns g c =
     let once = rw (shares.at_once, jobs) at c.write_at_once.ensures in
     let backlog = rw (backlog-read r c.requires c.most_backlog-most.ensures.least, last, c.most_backlog-most.ensures.most) at c.write_backlog.ensures in
     let parts = rw (parts-read r c.requires, last) at c.write_parts.ensures in
-    pushed_after first (pushed_after waits (pushed_after percentiles (pushed_after once (pushed_after backlog parts))))
+    first ⨟ waits ⨟ percentiles ⨟ once ⨟ backlog ⨟ parts

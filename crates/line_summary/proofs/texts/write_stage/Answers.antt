@@ -1,7 +1,7 @@
 use Rattle.std.proofs.Common.{sym, ap, ◌∙◌}
 use Rattle.line_base.specs.declared.event.Parts.{Parts}
 use Rattle.event_graph.specs.Table.{date_in}
-use Rattle.line_io.proofs.OutgoingLemmas.{pushed_after}
+use Rattle.line_io.proofs.OutgoingLemmas.{◌⨟◌}
 use Rattle.line_stats.specs.Counts.{last_date}
 use Rattle.line_summary.specs.SummaryText.{stage_line}
 use Rattle.line_summary.proofs.Read.{last-read}
@@ -22,12 +22,5 @@ returns g c =
     let stock = rw (sums.stock, last) at c.write_mean-3.ensures in
     let peak = rw c.peak.ensures.peak at c.push_number.ensures in
     let bound = rw c.bound_of.ensures.bound at c.write_bound.ensures in
-    pushed_after c.push.ensures
-    (pushed_after c.write_stage_name.ensures
-    (pushed_after process
-    (pushed_after move
-    (pushed_after stock
-    (pushed_after c.push-2.ensures
-    (pushed_after peak
-    (pushed_after c.push-3.ensures
-    (pushed_after bound c.push-4.ensures))))))))
+    c.push.ensures ⨟ c.write_stage_name.ensures ⨟ process ⨟ move ⨟ stock ⨟ c.push-2.ensures ⨟ peak
+    ⨟ c.push-3.ensures ⨟ bound ⨟ c.push-4.ensures

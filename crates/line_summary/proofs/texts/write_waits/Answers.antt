@@ -1,4 +1,4 @@
-use Rattle.line_io.proofs.OutgoingLemmas.{pushed_after}
+use Rattle.line_io.proofs.OutgoingLemmas.{◌⨟◌}
 use Rattle.line_summary.specs.SummaryText.{wait_line}
 use Rattle.line_summary.proofs.texts.write_waits.Goals as goal
 
@@ -6,9 +6,5 @@ pub returns : goal.returns
 unfolding wait_line
 returns g c =
     let ratio = rw c.from.ensures at c.push_thousandths.ensures in
-    pushed_after c.push.ensures
-    (pushed_after ratio
-    (pushed_after c.push-2.ensures
-    (pushed_after c.push_number.ensures
-    (pushed_after c.push-3.ensures
-    (pushed_after c.push_number-2.ensures c.push-4.ensures)))))
+    c.push.ensures ⨟ ratio ⨟ c.push-2.ensures ⨟ c.push_number.ensures ⨟ c.push-3.ensures ⨟ c.push_number-2.ensures
+    ⨟ c.push-4.ensures

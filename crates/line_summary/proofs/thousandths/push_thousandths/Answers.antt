@@ -1,5 +1,5 @@
 use Rattle.std.proofs.Common.{◌<◌, refl, arith}
-use Rattle.line_io.proofs.OutgoingLemmas.{pushed_after}
+use Rattle.line_io.proofs.OutgoingLemmas.{◌⨟◌}
 use Rattle.line_summary.proofs.Ratios.{thousandths-parts}
 use Rattle.line_summary.proofs.thousandths.push_thousandths.Goals as goal
 
@@ -7,4 +7,4 @@ pub returns : goal.returns
 returns g c =
     let some : 0 < c.args.whole = omega arith in
     rw (thousandths-parts c.args.part c.args.whole _ some refl)
-    (pushed_after c.push_wide_number.ensures (pushed_after c.push-2.ensures c.push_three_digits.ensures))
+    (c.push_wide_number.ensures ⨟ c.push-2.ensures ⨟ c.push_three_digits.ensures)

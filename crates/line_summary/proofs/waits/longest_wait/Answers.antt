@@ -1,8 +1,8 @@
 use Rattle.std.proofs.Common.{◌≡◌, ◌+◌, ◌-◌, [], get_or, length, ap, ◌∙◌, sym, subst, arith}
-use Rattle.event_graph.specs.Network.{stations, jobs}
+use Rattle.event_graph.specs.Network.{jobs}
 use Rattle.event_graph.specs.Table.{date_in}
-use Rattle.line_stats.proofs.RisingDates.{date-row}
 use Rattle.line_summary.specs.Waits.{wait, most_wait, worst_job}
+use Rattle.line_summary.proofs.WaitLists.{wait-read}
 use Rattle.line_summary.proofs.Longest.{IsLongest, IsLongest-begins, IsLongest-longer, IsLongest-stays, IsLongest-most, IsLongest-job}
 use Rattle.line_summary.proofs.waits.longest_wait.Goals.{Joined-wait-most, then-wait-most, else-wait-most}
 use Rattle.line_summary.proofs.waits.longest_wait.Goals as goal
@@ -13,13 +13,8 @@ loop-before-init c = IsLongest-begins _
 -- the wait of the job in hand
 wait_is : (c : Joined-wait-most) → c.saturating_sub-wait.result ≡ wait c.args.table.now.graph (date_in c.args.table.now.rows) (c.loop-before.before + 1)
 wait_is c =
-    let d = c.args.table.now in
-    let k = c.loop-before.before in
-    let v = stations d.graph - 1 in
-    let last = ap (λ n. get_or (get_or d.rows (n - 1) []) k 0) c.stations.ensures.stations in
-    let delivered = ap (λ row. get_or row k 0) c.dates-delivered.ensures.dates ∙ last ∙ sym (date-row d v k) in
-    let demanded = ap (λ row. get_or row k 0) c.dates-demanded.ensures.dates ∙ sym (date-row d 0 k) in
-    omega (arith, c.saturating_sub-wait.ensures, delivered, demanded)
+    wait-read c.args.table.now c.loop-before.before c.stations.result c.saturating_sub-wait.result c.dates-delivered.result.now c.dates-demanded.result.now c.stations.ensures.stations c.dates-delivered.ensures.dates c.dates-demanded.ensures.dates
+    (omega (arith, c.saturating_sub-wait.ensures))
 
 pub loop-before-preserved : goal.loop-before-preserved
 loop-before-preserved c =

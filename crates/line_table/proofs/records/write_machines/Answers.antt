@@ -1,8 +1,7 @@
 use Rattle.std.proofs.Common.{◌≡◌, arith}
 use Rattle.event_graph.specs.Table.{date_in}
-use Rattle.line_io.proofs.OutgoingLemmas.{pushed_none}
+use Rattle.line_io.proofs.OutgoingLemmas.{pushed_none, pushed_next}
 use Rattle.line_table.specs.TableText.{machine_records_behind}
-use Rattle.line_table.proofs.TableLines.{pushed_next}
 use Rattle.line_table.proofs.records.write_machines.Goals as goal
 
 pub loop-machine-init : goal.loop-machine-init

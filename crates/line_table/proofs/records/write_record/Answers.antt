@@ -1,14 +1,7 @@
-use Rattle.line_io.proofs.OutgoingLemmas.{pushed_after}
+use Rattle.line_io.proofs.OutgoingLemmas.{◌⨟◌}
 use Rattle.line_table.proofs.records.write_record.Goals as goal
 
 pub returns : goal.returns
 returns g c =
-    pushed_after c.push.ensures
-    (pushed_after c.push-2.ensures
-    (pushed_after c.push_number.ensures
-    (pushed_after c.push-3.ensures
-    (pushed_after c.write_field.ensures
-    (pushed_after c.push-4.ensures
-    (pushed_after c.write_field-2.ensures
-    (pushed_after c.push-5.ensures
-    (pushed_after c.push_number-2.ensures c.push-6.ensures))))))))
+    c.push.ensures ⨟ c.push-2.ensures ⨟ c.push_number.ensures ⨟ c.push-3.ensures ⨟ c.write_field.ensures
+    ⨟ c.push-4.ensures ⨟ c.write_field-2.ensures ⨟ c.push-5.ensures ⨟ c.push_number-2.ensures ⨟ c.push-6.ensures

@@ -5,7 +5,7 @@ use Rattle.plant_model.proofs.LayoutPaths.{path_stock-small}
 use Rattle.plant_model.proofs.LayoutStations.{last_machine-below}
 use Rattle.event_graph.specs.Network.{stations}
 use Rattle.line_graph.proofs.Sizes.{stations-graph}
-use Rattle.line_io.proofs.OutgoingLemmas.{pushed_after}
+use Rattle.line_io.proofs.OutgoingLemmas.{◌⨟◌}
 use Rattle.line_table.specs.TableText.{stage_records}
 use Rattle.line_table.proofs.StageRuns.{stocks-inside, stock-read}
 use Rattle.line_table.proofs.records.write_stage.Goals as goal
@@ -64,4 +64,4 @@ returns g c =
     let count : c.last_machine.result - c.release-release.result ≡ length (stage_at p c.args.stage).machines = omega (arith, last, at) in
     let first = rw (is, ahead, at) at c.write_station.ensures in
     let rest = rw (count, is, ahead, at) at c.write_machines.ensures in
-    pushed_after first rest
+    first ⨟ rest

@@ -1,9 +1,8 @@
 use Rattle.std.proofs.Common.{arith}
 use Rattle.plant_model.proofs.LayoutFacts.{few_stages}
 use Rattle.event_graph.specs.Table.{date_in}
-use Rattle.line_io.proofs.OutgoingLemmas.{pushed_none}
+use Rattle.line_io.proofs.OutgoingLemmas.{pushed_none, pushed_next}
 use Rattle.line_table.specs.TableText.{stage_records}
-use Rattle.line_table.proofs.TableLines.{pushed_next}
 use Rattle.line_table.proofs.records.write_stages.Goals as goal
 
 pub overflow_cast-stage : goal.overflow_cast-stage

@@ -1,10 +1,9 @@
 use Rattle.std.proofs.Common.{◌≡◌, ◌+◌, cond, Some, None, sym, ap, ◌∙◌, arith}
 use Rattle.event_graph.specs.Network.{jobs}
 use Rattle.event_graph.specs.Table.{date_in}
-use Rattle.line_io.proofs.OutgoingLemmas.{pushed_none}
+use Rattle.line_io.proofs.OutgoingLemmas.{pushed_none, pushed_next}
 use Rattle.line_table.specs.Starts.{start}
 use Rattle.line_table.specs.TableText.{start_of, job_record, station_records}
-use Rattle.line_table.proofs.TableLines.{pushed_next}
 use Rattle.line_table.proofs.records.write_station.Goals as goal
 use Rattle.line_table.proofs.records.write_station.Goals.{then-machine, else-machine}
 

@@ -1,6 +1,6 @@
 use Rattle.std.proofs.Common.{ap, ◌∙◌, arith}
 use Rattle.plant_model.specs.Line.{deliver}
-use Rattle.line_io.proofs.OutgoingLemmas.{pushed_after}
+use Rattle.line_io.proofs.OutgoingLemmas.{◌⨟◌}
 use Rattle.line_stats.proofs.PlantTables.{exists_in}
 use Rattle.line_table.specs.TableText.{table_text}
 use Rattle.line_table.proofs.records.write_table.Goals as goal
@@ -12,7 +12,7 @@ returns g c =
     let at = c.deliver.ensures.station ∙ ap deliver c.requires.numbers in
     let feed = rw is at c.write_station.ensures in
     let delivery = rw (is, at) at c.write_station-2.ensures in
-    pushed_after c.push.ensures (pushed_after feed (pushed_after c.write_stages.ensures delivery))
+    c.push.ensures ⨟ feed ⨟ c.write_stages.ensures ⨟ delivery
 
 pub write_station-requires-2-clause-station : goal.write_station-requires-2-clause-station
 write_station-requires-2-clause-station g c =

@@ -2,8 +2,8 @@ use Rattle.std.proofs.Common.{◌≡◌, ℕ, ◌<◌, ◌≤◌}
 use Rattle.line_worker.specs.Workers.{worker_at, HasGoneOn}
 use Rattle.line_workers.proofs.work.go_on_all.Given as goal
 
-abbrev pub invariant-loop-w : goal.invariant-loop-w
-invariant-loop-w g l = record {
-  went : (v : ℕ) → v < l.w → HasGoneOn (worker_at l.initial.workers v) (worker_at l.workers v);
-  stay : (v : ℕ) → l.w ≤ v → worker_at l.workers v ≡ worker_at l.initial.workers v;
+abbrev pub invariant-loop-worker : goal.invariant-loop-worker
+invariant-loop-worker g l = record {
+  went : (v : ℕ) → v < l.worker-index → HasGoneOn (worker_at l.initial.workers v) (worker_at l.workers v);
+  stay : (v : ℕ) → l.worker-index ≤ v → worker_at l.workers v ≡ worker_at l.initial.workers v;
 }

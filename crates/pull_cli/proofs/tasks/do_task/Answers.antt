@@ -8,6 +8,12 @@ returns-in-Alone g c =
     let view = g.D.Disk.shown c.args.disk.now in
     rw c.in-Alone.is (alone_does g.S.Store.tells (g.S.Store.shown c.args.store.now) (disk_over g.D.Disk.tells view view) c.in-Alone.question c.ask_alone.result refl c.ask_alone.ensures)
 
+pub returns-in-Linting : goal.returns-in-Linting
+returns-in-Linting g c =
+    let view = g.D.Disk.shown c.args.disk.now in
+    let disk : DiskOver = disk_over g.D.Disk.tells view view in
+    rw c.in-Linting.is (rw c.as_str-in-Linting.ensures at (c.lint.ensures disk refl))
+
 pub returns-in-OnPlant : goal.returns-in-OnPlant
 returns-in-OnPlant g c =
     let view = g.D.Disk.shown c.args.disk.now in

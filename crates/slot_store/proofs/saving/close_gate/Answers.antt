@@ -5,6 +5,8 @@ use Rattle.slot_store.specs.Crash.{SameContent, bytes_now}
 use Rattle.line_disk.proofs.Push.{on_ok}
 use Rattle.line_disk.proofs.Moments.{leaves_here}
 use Rattle.slot_store.proofs.Phases.{closing, closed_ready, settled_content}
+use Rattle.slot_store.specs.Layout.{start_of}
+use Rattle.slot_store.proofs.Outside.{start_low, outside_within}
 use Rattle.slot_store.proofs.saving.close_gate.Goals as goal
 
 shut : (gate : ℕ) → gate ≡ 0 → gate ≢ 1
@@ -28,3 +30,7 @@ returns-clause-closed g c = on_ok c.write_gate.result c.write_gate.ensures.gate 
 
 pub returns-clause-closed_by_zero : goal.returns-clause-closed_by_zero
 returns-clause-closed_by_zero g c = on_ok c.write_gate.result c.write_gate.ensures.gate (λ gate was_open told. gate told)
+
+pub returns-clause-outside_stays : goal.returns-clause-outside_stays
+returns-clause-outside_stays g c =
+    outside_within g.D.Disk.tells c.args.room (start_of c.args.room c.args.target.slot) 1 (g.D.Disk.shown c.args.disk.now) (g.D.Disk.shown c.write_gate.new.disk) c.write_gate.ensures.within (omega (arith, start_low c.args.room c.args.target.slot))

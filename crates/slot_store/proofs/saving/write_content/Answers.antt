@@ -7,6 +7,7 @@ use Rattle.line_disk.proofs.Push.{on_ok}
 use Rattle.slot_store.specs.Within.{WritesWithin}
 use Rattle.slot_store.proofs.Calls.{went_nowhere, went_write, went_sync, settled_by}
 use Rattle.slot_store.proofs.Phases.{staging, staged_ready}
+use Rattle.slot_store.proofs.Outside.{start_low, outside_within}
 use Rattle.slot_store.proofs.Staged.{staged, staged_after, is_staged}
 use Rattle.slot_store.proofs.saving.write_content.Given.{Over}
 use Rattle.slot_store.proofs.saving.write_content.Goals as goal
@@ -72,3 +73,18 @@ returns-clause-staged g c = on_ok c.sync.result c.sync.ensures.synced (λ synced
     (c.in_ok-write_at.ensures.written told) (c.in_ok-write_at-2.ensures.written told) (synced told)
     (ap (λ i. i + 1) c.start-start.ensures) c.number_and_length.ensures (ap (λ i. i + 16) c.start-start.ensures) in
     subst (λ i. IsStaged i c.args.room c.args.target bytes) (sym is) (is_staged (bytes_now start) c.args.room c.args.target bytes (omega arith)))
+
+pub returns-in_err-write_at-clause-outside_stays : goal.returns-in_err-write_at-clause-outside_stays
+returns-in_err-write_at-clause-outside_stays g c =
+    let here = goal.at.returns-in_err-write_at-clause-outside_stays g c in
+    outside_within g.D.Disk.tells c.args.room (start_of c.args.room c.args.target.slot + 1) (15 + c.args.room) (g.D.Disk.shown c.args.disk.now) (g.D.Disk.shown c.write_at.new.self) (λ told. named g here.After-write_at told) (omega (arith, start_low c.args.room c.args.target.slot))
+
+pub returns-in_err-write_at-2-clause-outside_stays : goal.returns-in_err-write_at-2-clause-outside_stays
+returns-in_err-write_at-2-clause-outside_stays g c =
+    let here = goal.at.returns-in_err-write_at-2-clause-outside_stays g c in
+    outside_within g.D.Disk.tells c.args.room (start_of c.args.room c.args.target.slot + 1) (15 + c.args.room) (g.D.Disk.shown c.args.disk.now) (g.D.Disk.shown c.write_at-2.new.self) (λ told. put g here.After-write_at-2 told (named g here.After-write_at told)) (omega (arith, start_low c.args.room c.args.target.slot))
+
+pub returns-clause-outside_stays : goal.returns-clause-outside_stays
+returns-clause-outside_stays g c =
+    let here = goal.at.returns-clause-outside_stays g c in
+    outside_within g.D.Disk.tells c.args.room (start_of c.args.room c.args.target.slot + 1) (15 + c.args.room) (g.D.Disk.shown c.args.disk.now) (g.D.Disk.shown c.sync.new.self) (λ told. settled g here.After-sync told (put g here.After-write_at-2 told (named g here.After-write_at told))) (omega (arith, start_low c.args.room c.args.target.slot))

@@ -31,3 +31,11 @@ returns-clause-ready g c = λ told.
       settled = subst (λ (h : Held). IsSettled h) same (c.in_ok-settle.ensures.settled told);
       target_is = subst (λ (h : Held). IsTarget h.bytes room c.target_of.result) same is;
     }
+
+pub returns-in_err-zero-clause-outside_stays : goal.returns-in_err-zero-clause-outside_stays
+returns-in_err-zero-clause-outside_stays g c = λ told i behind.
+    ap (λ (h : Held). h.bytes i) (c.read_headers.ensures.stays told).held ∙ c.settle.ensures.bytes_stay told i
+
+pub returns-clause-outside_stays : goal.returns-clause-outside_stays
+returns-clause-outside_stays g c = λ told i behind.
+    ap (λ (h : Held). h.bytes i) (c.read_headers.ensures.stays told).held ∙ c.settle.ensures.bytes_stay told i

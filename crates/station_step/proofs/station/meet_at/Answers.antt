@@ -1,10 +1,11 @@
 use Rattle.std.proofs.Common.{subst, sym, ◌∙◌, ap, ◌≡◌, ◌<◌, List, length, set, map, get_or, arith, refl}
+use Rattle.std.specs.Prelude.{None}
 use Rattle.station_step.specs.declared.ends.Inlet.{Inlet}
 use Rattle.station_step.specs.declared.ends.Outlet.{Outlet}
 use Rattle.station_step.specs.declared.input.Input.{Input}
 use Rattle.station_step.specs.declared.noted.NotedInput.{NotedInput}
 use Rattle.station_step.specs.declared.noted.NotedOutlet.{NotedOutlet}
-use Rattle.station_step.specs.Ends.{unseen_inlet, unseen_outlet, bare_outlet, HasMoreSpace, KnowsMore, AreMet}
+use Rattle.station_step.specs.Ends.{bare_inlet, unseen_inlet, unseen_outlet, bare_outlet, HasMoreSpace, KnowsMore, AreMet}
 use Rattle.station_step.specs.Input.{input_at}
 use Rattle.station_step.specs.Station.{WorkStation, IsStation, bare_station, outlet_at, with_inlet, with_outlet}
 use Rattle.station_step.specs.Kept.{IsKept}
@@ -14,6 +15,8 @@ use Rattle.station_step.proofs.Keeping.{bare-met, kept-met, met_station, station
 use Rattle.station_step.proofs.Looking.{at-set, bare-set, noted-same}
 use Rattle.station_step.proofs.Noting.{no_input, no_outlet, input-lent, outlet-lent, input-at, outlet-at, inputs-count, outlets-count, inputs-set, outlets-set, extras-stay, delays-stay}
 use Rattle.station_step.proofs.Refilling.{input_at-set}
+use Rattle.station_step.proofs.AtOnce.{readied-met}
+use Rattle.station_step.proofs.OwnQueues.{bare-unseen}
 use Rattle.station_step.proofs.station.meet_at.Goals as goal
 
 -- ---- the input that is lent
@@ -121,6 +124,7 @@ invariant_of-from c =
           (delays-stay s.outlets.items c.args.k _ (ap (λ (n : NotedOutlet). n.delay) (outlet_lent c)))
           (ap (map bare_outlet) (met_outlets_are c) ∙ bare-set (outlets c) c.args.k c.meet_ends.new.outlet (same_but_seen c))
           c.from.invariant.noted;
+      readied = c.from.invariant.readied;
     }
 
 pub invariant_of-to : goal.invariant_of-to
@@ -132,6 +136,12 @@ invariant_of-to c =
           refl
           refl
           c.to.invariant.noted;
+      readied = readied-met s.graph.value s.number (inputs c) c.args.j (met_input c) (inputs_of (met_inputs c)) s.fronts.items s.bounded s.direct s.empty_handed
+          (met_inputs_are c)
+          (there c)
+          (ap (λ (i : Inlet). (let m : Input = record { inlet = i; hand = None } in m)) (sym (bare-unseen c.meet_ends.new.inlet) ∙ ap bare_inlet (same_but_known c) ∙ bare-unseen (input_at (inputs c) c.args.j).inlet))
+          (ap (λ (i : Input). i.hand) (at c))
+          c.to.invariant.readied;
     }
 
 pub returns-clause-from : goal.returns-clause-from

@@ -1,4 +1,4 @@
-use Rattle.std.proofs.Common.{◌≡◌, ap, sym, ◌∙◌}
+use Rattle.std.proofs.Common.{◌≡◌, ap, ◌∙◌}
 use Rattle.event_graph.specs.Network.{stations}
 use Rattle.event_graph.specs.Table.{date_in}
 use Rattle.date_causes.proofs.Writable.{chain_stations, chain_small, writable}

@@ -1,11 +1,10 @@
-use Rattle.std.proofs.Common.{◌≡◌, ap, sym, ◌∙◌, length, subst, List, ℕ}
+use Rattle.std.proofs.Common.{ap, sym, ◌∙◌, length}
 use Rattle.std.proofs.lemmas.List.FromFn.{length-map-range_with_len}
-use Rattle.line_base.specs.declared.event.Parts.{Parts}
 use Rattle.event_graph.specs.Network.{stations}
 use Rattle.plant_model.specs.Graph.{graph}
 use Rattle.line_io.proofs.OutgoingLemmas.{pushed_after, writes_text}
-use Rattle.date_causes.specs.Shares.{share, shares}
-use Rattle.date_causes.specs.WhyText.{share_lines, why_text}
+use Rattle.date_causes.specs.Shares.{share}
+use Rattle.date_causes.specs.WhyText.{why_text}
 use Rattle.date_causes.proofs.writing.Causes.write.Goals as goal
 
 pub write_shares-requires : goal.write_shares-requires

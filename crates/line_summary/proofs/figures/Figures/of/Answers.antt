@@ -6,8 +6,8 @@ use Rattle.event_graph.specs.Table.{date_in}
 use Rattle.line_stats.specs.Counts.{last_date, waiting}
 use Rattle.line_summary.specs.Figures.{figures}
 use Rattle.line_summary.specs.Waits.{most_wait, worst_job}
-use Rattle.line_summary.proofs.PartSums.{jobs-graph}
 use Rattle.line_summary.proofs.figures.Figures.of.Goals as goal
+use Rattle.line_graph.proofs.Sizes.{jobs-graph}
 
 pub returns : goal.returns
 unfolding figures

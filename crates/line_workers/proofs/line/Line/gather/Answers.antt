@@ -1,8 +1,12 @@
-use Rattle.std.proofs.Common.{List, sym, subst, arith}
+use Rattle.std.proofs.Common.{◌≡◌, ◌*◌, List, length, sym, subst, arith}
 use Rattle.std.specs.Vec.{with_items}
 use Rattle.std.proofs.lemmas.List.{with_items_is}
+use Rattle.event_graph.specs.Network.{stations, jobs}
 use Rattle.line_worker.specs.Worker.{LineWorker}
-use Rattle.line_workers.specs.Line.{AreAtRest}
+use Rattle.line_worker.specs.Workers.{graph_of, room_of}
+use Rattle.line_workers.specs.Counts.{AreCounts}
+use Rattle.line_workers.specs.Line.{line_of, AreAtRest}
+use Rattle.line_workers.proofs.AllFirings.{new_counts, new_all}
 use Rattle.line_workers.proofs.Lines.{at_rest_is_line}
 use Rattle.line_workers.proofs.line.Line.gather.Goals as goal
 
@@ -10,8 +14,20 @@ pub invariant_of-result : goal.invariant_of-result
 invariant_of-result c =
     let e = c.gather_workers-made in
     let after = with_items_is c.args.workers e.new.workers (omega (arith, e.auto.workers, c.deref_mut.ensures.len)) in
-    subst (λ (l : List LineWorker). AreAtRest l e.result) (sym after) e.ensures.rest
+    let stands = e.ensures.stands in
+    let made = e.result in
+    let n = length c.deref_mut.result.now in
+    let room = room_of c.deref_mut.result.now in
+    let state = (line_of e.new.workers made).state in
+    record {
+      rest = subst (λ (l : List LineWorker). AreAtRest l made) (sym after) e.ensures.rest;
+      counts = subst (AreCounts (record { fired = made; steps = 0 })) (sym after) (new_counts room c.args.live.now state n e.new.workers made stands);
+      all =
+          subst (λ (l : List LineWorker). c.firings_of.result ≡ stations (graph_of l) * jobs (graph_of l)) (sym after) (
+          new_all room c.args.live.now state n e.new.workers made stands c.firings_of.result c.firings_of.ensures);
+      links = tt;
+    }
 
 pub returns-clause-line : goal.returns-clause-line
 returns-clause-line c =
-    at_rest_is_line (with_items c.args.workers c.gather_workers-made.new.workers).items c.gather_workers-made.result (invariant_of-result c)
+    at_rest_is_line (with_items c.args.workers c.gather_workers-made.new.workers).items c.gather_workers-made.result (invariant_of-result c).rest

@@ -5,7 +5,7 @@ use Rattle.card_queue.specs.Plain.{PlainQueue, plain_waiting}
 use Rattle.local_queues.specs.declared.tally.Tally.{Tally}
 use Rattle.local_queues.specs.Shelf.{WorkShelf, queue_at}
 use Rattle.local_queues.specs.Counts.{tally_at, seen_queue, IsTally, AreTallies, one_taken}
-use Rattle.local_queues.proofs.Queues.{TakenFrom, seen_queues, tally_there, queue-seen, take-none, take-some, take-sound, take-sources}
+use Rattle.local_queues.proofs.Queues.{TakenFrom, seen_queues, tally_there, queue-seen, one-fits, take-none, take-some, take-sound, take-sources}
 use Rattle.local_queues.proofs.shelf.Shelf.take.Goals as goal
 use Rattle.local_queues.proofs.shelf.Shelf.take.Goals.{After-index_mut-tally}
 
@@ -29,6 +29,11 @@ pub front-requires-clause-began : goal.front-requires-clause-began
 front-requires-clause-began c =
     let from = (goal.at.front-requires-clause-began c).After-index_mut-tally in
     omega (arith, (sound from).began, ap length c.as_slice.ensures.value)
+
+pub front-requires-clause-small : goal.front-requires-clause-small
+front-requires-clause-small c =
+    let is = sound (goal.at.front-requires-clause-small c).After-index_mut-tally in
+    omega (arith, is.few, is.counted)
 
 pub front-requires-clause-there : goal.front-requires-clause-there
 front-requires-clause-there c = (sound (goal.at.front-requires-clause-there c).After-index_mut-tally).there
@@ -63,15 +68,14 @@ returns-in_err-token-clause-none c =
     subst (λ (answer : Option ℕ). IsNone answer ↔ (plain_waiting (queue_at queues k) ≡ [])) (sym c.from_residual.ensures)
     (take-none queues k c.requires empty).none
 
+front : (c : After-index_mut-tally) (firsts : List ℕ) (token : ℕ) → firsts ≡ c.self.inside.firsts.items → IsFront c firsts (token ∷ []) → token ∷ [] ≡ take 1 (plain_waiting (seen_queue c.self.inside.firsts.items c.self.inside.room.value c.self.inside.logs.items (tally_at c.self.inside.queues.items c.args.k)))
+front c firsts token firsts_are is = told c firsts (token ∷ []) firsts_are is
+
 pub note_take-requires : goal.note_take-requires
 note_take-requires c =
     let s = c.self.inside in
     let from = (goal.at.note_take-requires c).After-index_mut-tally in
-    let is = sound from in
-    omega (arith, is.next_there, is.fits, is.counted, is.few)
-
-front : (c : After-index_mut-tally) (firsts : List ℕ) (token : ℕ) → firsts ≡ c.self.inside.firsts.items → IsFront c firsts (token ∷ []) → token ∷ [] ≡ take 1 (plain_waiting (seen_queue c.self.inside.firsts.items c.self.inside.room.value c.self.inside.logs.items (tally_at c.self.inside.queues.items c.args.k)))
-front c firsts token firsts_are is = told c firsts (token ∷ []) firsts_are is
+    omega (arith, one-fits s.firsts.items s.room.value s.logs.items (tally_at s.queues.items c.args.k) c.in_ok-token.token (c.self.invariant c.args.k (there from)) (front from c.as_slice.result.now c.in_ok-token.token c.as_slice.ensures.value c.in_ok-token.ensures), ap (λ (t : Tally). t.taken) (at from))
 
 noted : (c : After-index_mut-tally) (tally : Tally) → tally ≡ one_taken c.index_mut-tally.result.now → tally ≡ one_taken (tally_at c.self.inside.queues.items c.args.k)
 noted c tally is = is ∙ ap one_taken (sym (at c))

@@ -1,4 +1,4 @@
-use Rattle.std.proofs.Common.{◌≡◌, ◌∷◌, [], ℕ, List, length, ap, ◌∙◌, arith}
+use Rattle.std.proofs.Common.{◌≡◌, ◌+◌, ◌-◌, ◌∷◌, [], ℕ, List, length, ap, ◌∙◌, arith}
 use Rattle.std.proofs.lemmas.List.{get_or_default}
 use Rattle.line_base.specs.Roomy.{RoomyLog}
 use Rattle.std.specs.Prelude.{slice_index}
@@ -18,14 +18,14 @@ pub returns-then-self : goal.returns-then-self
 returns-then-self c room is =
     front-initial c.args.firsts.now room c.args.logs.now.items c.args.self.now is c.if-self.true
 
-pub returns-then-self-dates : goal.returns-then-self-dates
-returns-then-self-dates c room is =
-    let dates = dates_are (goal.at.returns-then-self-dates c).After-dates-dates in
-    front-none c.args.firsts.now room c.args.logs.now.items c.args.self.now is c.if-self.false (omega (arith, c.if-self-dates.true, ap length dates))
+pub returns-then-next-dates : goal.returns-then-next-dates
+returns-then-next-dates c room is =
+    let dates = dates_are (goal.at.returns-then-next-dates c).After-dates-dates in
+    front-none c.args.firsts.now room c.args.logs.now.items c.args.self.now is c.if-self.false (omega (arith, c.if-next-dates.true, ap length dates))
 
 pub returns : goal.returns
 returns c room is =
     let t = c.args.self.now in
     let dates = dates_are (goal.at.returns c).After-dates-dates in
-    ap (λ n. n ∷ []) (c.saturating_add.ensures ∙ ap (λ (l : List ℕ). later_by t.source.delay (slice_index l t.next)) dates)
-    ∙ front-date c.args.firsts.now room c.args.logs.now.items t is c.if-self.false (omega (arith, c.if-self-dates.false, ap length dates))
+    ap (λ n. n ∷ []) (c.saturating_add.ensures ∙ ap (λ (l : List ℕ). later_by t.source.delay (slice_index l (t.made + (t.taken - t.initial)))) dates)
+    ∙ front-date c.args.firsts.now room c.args.logs.now.items t is c.if-self.false (omega (arith, c.if-next-dates.false, ap length dates))

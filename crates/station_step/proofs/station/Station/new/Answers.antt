@@ -1,5 +1,5 @@
-use Rattle.std.proofs.Common.{◌≡◌, subst, sym, ap, ◌∙◌, length, List, map, ℕ}
-use Rattle.std.specs.Prelude.{Bool, true, false, IsTrue, not}
+use Rattle.std.proofs.Common.{◌≡◌, refl, zero, suc, [], ◌∷◌, subst, sym, ap, ◌∙◌, length, List, map, ℕ}
+use Rattle.std.specs.Prelude.{None, Bool, true, false, IsTrue, not}
 use Rattle.std.specs.List.{list_any}
 use Rattle.line_base.specs.declared.event.Parts.{Parts}
 use Rattle.line_base.specs.Roomy.{RoomyLog}
@@ -8,13 +8,15 @@ use Rattle.event_graph.proofs.ArcNumbers.{All-ins}
 use Rattle.station_step.specs.declared.ends.Outlet.{Outlet}
 use Rattle.station_step.specs.declared.input.Input.{Input}
 use Rattle.station_step.specs.Ends.{is_bounded, is_ring}
-use Rattle.station_step.specs.Input.{empty_handed}
+use Rattle.station_step.specs.Input.{empty_handed, input_at}
+use Rattle.station_step.specs.Fronts.{IsReadied}
+use Rattle.station_step.specs.declared.ends.Inlet.{Inlet}
 use Rattle.station_step.specs.Station.{WorkStation, IsStation, new_station}
 use Rattle.station_step.specs.Kept.{IsKept, IsFresh}
 use Rattle.station_step.specs.Noted.{IsNoted, inputs_of, outlets_of}
 use Rattle.station_step.proofs.Dates.{time-fixed}
 use Rattle.station_step.proofs.Keeping.{kept-fresh, station-new}
-use Rattle.station_step.proofs.Noting.{inputs-unnoted, extras-into}
+use Rattle.station_step.proofs.Noting.{inputs-count, inputs-unnoted, extras-into}
 use Rattle.station_step.proofs.station.Station.new.Goals as goal
 use Rattle.station_step.proofs.station.Station.new.Goals.{After-of-2}
 
@@ -24,7 +26,7 @@ made c = record {
   graph = c.of-2.result.value;
   number = c.args.t;
   inputs = inputs_of c.note_time.new.inputs.items;
-  outlets = outlets_of c.in_ok-with_delays.field-0.items;
+  outlets = outlets_of c.in_ok-outlets.outlets.items;
   log = c.of.result.value;
   made = length c.dates.result.now;
   turns = 0;
@@ -40,42 +42,64 @@ made_is c =
     let logged : RoomyLog → WorkStation = λ l. record (made c) { log = l } in
     let g = c.args.live.now.graph in
     let inputs = inputs_of c.note_time.new.inputs.items in
-    let outlets = outlets_of c.in_ok-with_delays.field-0.items in
+    let outlets = outlets_of c.in_ok-outlets.outlets.items in
     let n = length c.dates.result.now in
     ap logged c.of.ensures
     ∙ ap (λ (h : Parts). station h inputs outlets n) (c.of-2.ensures ∙ c.graph-graph.ensures.graph)
     ∙ ap (λ (l : List Input). station g l outlets n) (c.note_time.ensures.inputs ∙ ap inputs_of c.in_ok-inputs.ensures ∙ inputs-unnoted c.args.inlets.items)
-    ∙ ap (λ (l : List Outlet). station g (map empty_handed c.args.inlets.items) l n) c.in_ok-with_delays.ensures.outlets
+    ∙ ap (λ (l : List Outlet). station g (map empty_handed c.args.inlets.items) l n) c.in_ok-outlets.ensures.outlets
     ∙ ap (station g (map empty_handed c.args.inlets.items) c.args.outlets.items) (ap length c.dates.ensures)
 
 not_both : (b : Bool) → IsTrue b → IsTrue (not b) → ⊥
 not_both true is is_not = absurd (cc)
 not_both false is is_not = absurd (cc)
 
+-- a new input has an empty hand
+hands-new : (inlets : List Inlet) (k : ℕ) → (input_at (map empty_handed inlets) k).hand ≡ None
+hands-new [] k = refl
+hands-new (i ∷ inlets) zero = refl
+hands-new (i ∷ inlets) (suc k) = hands-new inlets k
+
 pub invariant_of-result : goal.invariant_of-result
 invariant_of-result c =
     let g = c.graph-graph.result.now in
     let t = c.args.t in
     let inputs = c.note_time.new.inputs.items in
-    let outlets = c.in_ok-with_delays.field-0.items in
-    let noted : IsNoted g t inputs outlets (not c.varies.result) c.in_ok-worked.worked.items c.has_bounded-bounded.result c.has_ring-rings.result =
+    let outlets = c.in_ok-outlets.outlets.items in
+    let noted : IsNoted g t inputs outlets (not c.varies-fixed.result) c.in_ok-worked.worked.items c.has_bounded-bounded.result c.has_ring-rings.result =
     record {
       extras_are = λ is job.
           c.note_time.ensures.extras
           ∙ extras-into g t job c.time.result c.as_slice-3.result.now
           (c.as_slice-3.ensures.value ∙ c.in_ok-worked.ensures)
-          (c.time.ensures.time ∙ time-fixed g t 1 job (λ varies. not_both c.varies.result (c.varies.ensures.varies.1 varies) is))
+          (c.time.ensures.time ∙ time-fixed g t 1 job (λ varies. not_both c.varies-fixed.result (c.varies-fixed.ensures.varies.1 varies) is))
           (All-ins g t);
       worked_is = c.in_ok-worked.ensures;
-      delays_are = c.in_ok-with_delays.ensures.delays;
+      delays_are = c.in_ok-outlets.ensures.delays;
       bounded_is = c.has_bounded-bounded.ensures
-          ∙ ap (list_any is_bounded) (c.as_slice.ensures.value ∙ sym c.in_ok-with_delays.ensures.outlets);
+          ∙ ap (list_any is_bounded) (c.as_slice.ensures.value ∙ sym c.in_ok-outlets.ensures.outlets);
       rings_are = c.has_ring-rings.ensures
-          ∙ ap (list_any is_ring) (c.as_slice-2.ensures.value ∙ sym c.in_ok-with_delays.ensures.outlets);
+          ∙ ap (list_any is_ring) (c.as_slice-2.ensures.value ∙ sym c.in_ok-outlets.ensures.outlets);
+    } in
+    let d = c.is_direct.result in
+    let fixed = not c.varies-fixed.result in
+    let readied : IsReadied g t (inputs_of inputs) c.in_ok-fronts.fronts.items c.has_bounded-bounded.result d true =
+    record {
+      fires = λ is.
+          let count : length c.in_ok-fronts.fronts.items ≡ length (inputs_of inputs) =
+          c.is_direct.ensures.fronts is ∙ sym (inputs-count inputs) in record {
+            each = c.in_ok-fronts.ensures.fronts count;
+            extras = λ job. c.in_ok-fronts.ensures.extras count ∙ noted.extras_are (c.is_direct.ensures.fixed is) job;
+            unbounded = c.is_direct.ensures.unbounded is;
+          };
+      hands = λ _ k low.
+          ap (λ (l : List Input). (input_at l k).hand) (c.note_time.ensures.inputs ∙ ap inputs_of c.in_ok-inputs.ensures ∙ inputs-unnoted c.args.inlets.items)
+          ∙ hands-new c.args.inlets.items k;
     } in record {
+      readied = subst (λ (h : Parts). IsReadied h t (inputs_of inputs) c.in_ok-fronts.fronts.items c.has_bounded-bounded.result d true) (sym c.of-2.ensures) readied;
       station = subst IsStation (sym (made_is c))
           (station-new c.args.live.now.graph t c.args.inlets.items c.args.outlets.items c.args.log.now c.requires.exists c.requires.an_inlet_each c.requires.an_outlet_each c.requires.few_dates c.requires.log_room c.requires.ring_room);
-      noted = subst (λ (h : Parts). IsNoted h t inputs outlets (not c.varies.result) c.in_ok-worked.worked.items c.has_bounded-bounded.result c.has_ring-rings.result) (sym c.of-2.ensures) noted;
+      noted = subst (λ (h : Parts). IsNoted h t inputs outlets (not c.varies-fixed.result) c.in_ok-worked.worked.items c.has_bounded-bounded.result c.has_ring-rings.result) (sym c.of-2.ensures) noted;
     }
 
 pub returns-clause-made : goal.returns-clause-made

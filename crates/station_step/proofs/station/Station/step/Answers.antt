@@ -11,15 +11,18 @@ use Rattle.station_step.specs.Ends.{outlet_added}
 use Rattle.station_step.specs.Station.{WorkStation, IsStation, IsSeated, StandsAt, MayPut, outlet_at, bare_input}
 use Rattle.station_step.specs.Kept.{IsKept, date_for, saturating}
 use Rattle.station_step.specs.Step.{MovesItsOwn, MovesApart}
-use Rattle.station_step.specs.Noted.{inputs_of, extras_of, outlets_of, delays_of}
+use Rattle.station_step.specs.Noted.{inputs_of, extras_of, outlets_of, delays_of, extras_into}
+use Rattle.station_step.specs.declared.fronts.Front.{Front}
+use Rattle.station_step.specs.Fronts.{front_extras, AreFronts, IsDirect, AreEmptyHanded}
+use Rattle.station_step.proofs.AtOnce.{filled, filled-count, filled-inlet, filled-full, each-filled, latest-filled, fronts-none, readied-waits, readied-emptied}
 use Rattle.station_step.specs.declared.input.Input.{Input}
 use Rattle.station_step.proofs.Dates.{delay-noted, date_for-is, latest-is}
-use Rattle.station_step.proofs.Keeping.{kept-waits, kept-fires, IsFiring, fired_station, station-fires, seated-same, own-waits, own-fires, grows-waits, grows-fires, moves-apart, moves-none, kept-alike, station-alike}
+use Rattle.station_step.proofs.Keeping.{kept-waits, kept-fires, IsFiring, fired_station, station-fires, seated-same, own-waits, own-fires, grows-waits, station-waits, grows-fires, moves-apart, moves-none, kept-alike, station-alike}
 use Rattle.station_step.proofs.Posts.{come-same, stands-same}
 use Rattle.station_step.proofs.Looking.{AreAlike, alike-looked, NonePuts-alike, noted-same, rings-same, shelf_room-alike, shelf_room-after_takes}
 use Rattle.station_step.specs.contracts.station.Station.{the_view}
 use Rattle.station_step.proofs.station.Station.step.Goals as goal
-use Rattle.station_step.proofs.station.Station.step.Goals.{After-refill, After-of}
+use Rattle.station_step.proofs.station.Station.step.Goals.{After-refill, After-of, After-of-2}
 
 -- what the refilling of the hands did to the shelf
 own_waiting : (s now : WorkStation) (noted : List Input) (old mid : List PlainQueue) → s ≡ now → noted ≡ s.inputs → OnlyTakes old mid → ((q : ℕ) → NoneTakes q noted → queue_at mid q ≡ queue_at old q) → MovesItsOwn now old mid
@@ -110,8 +113,8 @@ logs_stay c =
 pub returns-in-Empty-clause-logs : goal.returns-in-Empty-clause-logs
 returns-in-Empty-clause-logs c = logs_stay (goal.at.returns-in-Empty-clause-logs c).After-refill
 
-pub returns-in-Some-clause-logs : goal.returns-in-Some-clause-logs
-returns-in-Some-clause-logs c = logs_stay (goal.at.returns-in-Some-clause-logs c).After-refill
+pub returns-in-Some-look_all-clause-logs : goal.returns-in-Some-look_all-clause-logs
+returns-in-Some-look_all-clause-logs c = logs_stay (goal.at.returns-in-Some-look_all-clause-logs c).After-refill
 
 pub returns-then-done-jobs-clause-logs : goal.returns-then-done-jobs-clause-logs
 returns-then-done-jobs-clause-logs c =
@@ -121,8 +124,8 @@ returns-then-done-jobs-clause-logs c =
 
 -- ---- an output has no space
 
-pub returns-in-Some-clause-seated : goal.returns-in-Some-clause-seated
-returns-in-Some-clause-seated c =
+pub returns-in-Some-look_all-clause-seated : goal.returns-in-Some-look_all-clause-seated
+returns-in-Some-look_all-clause-seated c =
     let old = c.args.shelf.now.queues in
     let s = the_view c.self.inside in
     let full = inputs_of c.refill.new.inputs.items in
@@ -136,11 +139,11 @@ returns-in-Some-clause-seated c =
     c.look_all.ensures.same
     was
 
-pub returns-in-Some-clause-stands : goal.returns-in-Some-clause-stands
-returns-in-Some-clause-stands c =
+pub returns-in-Some-look_all-clause-stands : goal.returns-in-Some-look_all-clause-stands
+returns-in-Some-look_all-clause-stands c =
     let i = c.args.i in
     let s = the_view c.self.inside in
-    let stands = stands_before (goal.at.returns-in-Some-clause-stands c).After-refill in
+    let stands = stands_before (goal.at.returns-in-Some-look_all-clause-stands c).After-refill in
     let full = inputs_of c.refill.new.inputs.items in
     let looked = outlets_of c.look_all.new.outlets.items in
     stands-same i c.args.shelf.now c.refill.new.shelf s (record s { inputs = full; outlets = looked; turns = c.self.inside.turns + 1 })
@@ -148,8 +151,8 @@ returns-in-Some-clause-stands c =
     (ap (λ (l : List RoomyLog). log_on l i) c.refill.ensures.logs ∙ stands.log)
     c.refill.ensures.sources c.refill.ensures.only_takes.count refl refl c.look_all.ensures.count c.look_all.ensures.same stands
 
-pub returns-in-Some-clause-kept : goal.returns-in-Some-clause-kept
-returns-in-Some-clause-kept c =
+pub returns-in-Some-look_all-clause-kept : goal.returns-in-Some-look_all-clause-kept
+returns-in-Some-look_all-clause-kept c =
     let old = c.args.shelf.now.queues in
     let mid = c.refill.new.shelf.queues in
     let s = the_view c.self.inside in
@@ -162,30 +165,244 @@ returns-in-Some-clause-kept c =
     (kept-waits old mid s full turns c.self.invariant.station.an_input_each (c.refill.ensures.count ∙ ap length c.note_job.ensures.inputs) (each_refilled (inputs_of c.note_job.new.inputs.items) (the_view c.self.inside).inputs full c.args.shelf.now.queues c.refill.new.shelf.queues c.note_job.ensures.inputs c.refill.ensures.each) c.refill.ensures.only_takes was) in
     subst (λ (w : WorkStation). IsKept old w → IsKept mid (record s { inputs = full; outlets = looked; turns = turns })) c.self.view_is kept
 
+pub returns-in-Some-look_all-clause-moves : goal.returns-in-Some-look_all-clause-moves
+returns-in-Some-look_all-clause-moves c = moves (goal.at.returns-in-Some-look_all-clause-moves c).After-refill
+
+pub invariant_of-self-in-Some-look_all : goal.invariant_of-self-in-Some-look_all
+invariant_of-self-in-Some-look_all c =
+    let s = c.self.inside in
+    let was = the_view s in
+    let full = inputs_of c.refill.new.inputs.items in
+    let looked = outlets_of c.look_all.new.outlets.items in
+    let count = c.refill.ensures.count ∙ ap length c.note_job.ensures.inputs in
+    record {
+      station = station-waits (record was { outlets = looked }) full (s.turns + 1) count
+          (station-alike was looked (alike-looked was.outlets looked c.look_all.ensures.count c.look_all.ensures.looked) c.self.invariant.station);
+      noted = noted-same s.graph.value s.number s.inputs.items c.refill.new.inputs.items s.outlets.items c.look_all.new.outlets.items s.fixed s.worked.items s.bounded s.rings
+          (λ is. c.refill.ensures.extras ∙ c.note_job.ensures.stays is)
+          c.look_all.ensures.delays
+          c.look_all.ensures.same
+          c.self.invariant.noted;
+      readied = readied-waits s.graph.value s.number (inputs_of s.inputs.items) full s.fronts.items s.bounded s.direct s.empty_handed count
+          (c.refill.ensures.same ∙ ap (map bare_input) c.note_job.ensures.inputs)
+          c.self.invariant.readied;
+    }
+
+-- ---- the station fires at once
+
+-- what it keeps for that
+direct_is : (c : After-of) → IsDirect (the_view c.self.inside).graph c.self.inside.number (the_view c.self.inside).inputs c.self.inside.fronts.items c.self.inside.bounded
+direct_is c = c.self.invariant.readied.fires c.in-Some.ensures.direct
+
+-- its fronts as the call lends them
+fronts_are : (c : After-of) → AreFronts (the_view c.self.inside).inputs c.as_slice-fronts.result.now
+fronts_are c = subst (AreFronts (the_view c.self.inside).inputs) (sym c.as_slice-fronts.ensures.value) (direct_is c).each
+
+hands_are : (c : After-of) → AreEmptyHanded (the_view c.self.inside).inputs
+hands_are c = c.self.invariant.readied.hands c.in-Some.ensures.empty
+
+-- its inputs as they are with their hands full
+abbrev full_at_once : After-of → List Input
+full_at_once c = filled c.args.shelf.now.queues (the_view c.self.inside).inputs
+
+graph_at_once : (c : After-of) → c.graph-graph.result.now ≡ (the_view c.self.inside).graph
+graph_at_once c = c.graph-graph.ensures.graph ∙ c.requires.made_for ∙ sym (ap (λ (w : WorkStation). w.graph) c.self.view_is)
+
+-- the dates of its log, as they stood on the shelf
+dates_at_once : (c : After-of) → c.dates.result.now ≡ c.self.inside.log.value.dates
+dates_at_once c =
+    c.dates.ensures
+    ∙ ap (λ (l : RoomyLog). l.dates) (c.log.ensures ∙ c.requires.stands.log ∙ sym (ap (λ (w : WorkStation). w.log) c.self.view_is))
+
+date_at_once : (c : After-of) → c.next_date-date.result ≡ date_for (the_view c.self.inside).graph c.self.inside.number (length c.self.inside.log.value.dates + 1) (λ k. unwrap_or (input_at (full_at_once c) k).hand 0)
+date_at_once c =
+    let s = the_view c.self.inside in
+    let full = full_at_once c in
+    let token : ℕ → ℕ = λ k. unwrap_or (input_at full k).hand 0 in
+    let g = c.graph-graph.result.now in
+    let graph : g ≡ s.graph = graph_at_once c in
+    let fronts = c.as_slice-fronts.result.now in
+    let job = length c.dates.result.now + 1 in
+    let each : length full ≡ length (ins g s.number) =
+    filled-count c.args.shelf.now.queues s.inputs ∙ c.self.invariant.station.an_input_each ∙ ap (λ (h : Parts). length (ins h s.number)) (sym graph) in
+    let extras : front_extras fronts ≡ extras_into g s.number job =
+    ap (λ (l : List Front). front_extras l) c.as_slice-fronts.ensures.value ∙ (direct_is c).extras job ∙ ap (λ (h : Parts). extras_into h s.number job) (sym graph) in
+    let latest =
+    c.in-Some.ensures.date
+    ∙ latest-filled c.args.shelf.now.queues s.inputs fronts (fronts_are c)
+    ∙ latest-is g s.number job (front_extras fronts) full (length full) each extras in
+    c.next_date-date.ensures
+    ∙ date_for-is g s.number job c.in-Some.latest token latest
+    ∙ ap (λ (h : Parts). date_for h s.number job token) graph
+    ∙ ap (λ (l : List ℕ). date_for s.graph s.number (length l + 1) token) (dates_at_once c)
+
+firing_at_once : (c : After-of) → IsFiring c.args.shelf.now.queues c.count_takes.new.shelf.queues c.put_all.new.shelf.queues (the_view c.self.inside) (full_at_once c) (the_view c.self.inside).inputs (outlets_of c.put_all.new.outlets.items) c.next_date-date.result
+firing_at_once c =
+    let s = the_view c.self.inside in
+    let old = c.args.shelf.now.queues in
+    let mid = c.count_takes.new.shelf.queues in
+    let count = filled-count old s.inputs in
+    record {
+      full_count = count;
+      empty_count = sym count;
+      outlet_count = c.put_all.ensures.count;
+      refilled = each-filled old mid s.inputs c.as_slice-fronts.result.now (fronts_are c) (hands_are c) c.in-Some.ensures.there c.count_takes.ensures.each;
+      are_full = λ k low. filled-full old s.inputs k (omega (arith, low, count));
+      inlets = filled-inlet old s.inputs;
+      are_empty = λ k low. hands_are c k (omega (arith, low, count));
+      date_is = date_at_once c;
+      outlets_same = c.put_all.ensures.same;
+      got = λ k low.
+          c.put_all.ensures.each k low
+          ∙ ap (λ n. outlet_added mid (outlet_at s.outlets k) ++ saturating c.next_date-date.result n ∷ [])
+          (delay-noted s.graph s.number k (delays_of c.self.inside.outlets.items) (omega (arith, low, c.self.invariant.station.an_outlet_each)) c.self.invariant.noted.delays_are);
+      only_takes = c.count_takes.ensures.only_takes;
+      only_puts = c.put_all.ensures.only_puts;
+    }
+
+left_at_once : (c : After-of) → length (the_view c.self.inside).log.dates ≢ jobs (the_view c.self.inside).graph
+left_at_once c all =
+    c.if-done-jobs.false (ap length (dates_at_once c) ∙ all ∙ sym (ap jobs (graph_at_once c)) ∙ sym c.jobs.ensures.count)
+
+fires_at_once : (c : After-of) → IsStation (fired_station (the_view c.self.inside) (the_view c.self.inside).inputs (outlets_of c.put_all.new.outlets.items) c.next_date-date.result (c.self.inside.turns + 1))
+fires_at_once c =
+    let s = the_view c.self.inside in
+    station-fires c.args.shelf.now.queues c.count_takes.new.shelf.queues c.put_all.new.shelf.queues s (full_at_once c) s.inputs (outlets_of c.put_all.new.outlets.items) c.next_date-date.result (c.self.inside.turns + 1) c.self.invariant.station (left_at_once c) (firing_at_once c)
+
+-- its log before it and after it, as it stands on the shelf
+log_before : (c : After-of) → log_on c.count_takes.new.shelf.logs c.args.i ≡ c.self.inside.log.value
+log_before c =
+    ap (λ (l : List RoomyLog). log_on l c.args.i) c.count_takes.ensures.logs ∙ c.requires.stands.log ∙ sym (ap (λ (w : WorkStation). w.log) c.self.view_is)
+
+log_at_once : (c : After-of) → c.of.result.value ≡ with_date c.self.inside.log.value c.next_date-date.result
+log_at_once c =
+    let i = c.args.i in
+    let mid = c.count_takes.new.shelf.logs in
+    let low : i < length mid = omega (arith, c.requires.stands.there, ap length c.count_takes.ensures.logs) in
+    c.of.ensures
+    ∙ c.log-in-Some.ensures
+    ∙ ap (λ (l : List RoomyLog). log_on l i) c.put_all.ensures.logs
+    ∙ get_or-set_same mid i (with_date (log_on mid i) c.next_date-date.result) (record { dates = []; room = 0 }) low
+    ∙ ap (λ (l : RoomyLog). with_date l c.next_date-date.result) (log_before c)
+
+logs_at_once : (c : After-of) → c.put_all.new.shelf.logs ≡ set c.args.shelf.now.logs c.args.i c.of.result.value
+logs_at_once c =
+    let i = c.args.i in
+    let date = c.next_date-date.result in
+    let mid = c.count_takes.new.shelf.logs in
+    c.put_all.ensures.logs
+    ∙ ap (λ (l : RoomyLog). set mid i (with_date l date)) (log_before c)
+    ∙ ap (set mid i) (sym (log_at_once c))
+    ∙ ap (λ (l : List RoomyLog). set l i c.of.result.value) c.count_takes.ensures.logs
+
+-- the station after it, with its log as the call leaves it
+abbrev at_once : (c : After-of) → RoomyLog → WorkStation
+at_once c log = record (the_view c.self.inside) {
+  outlets = outlets_of c.put_all.new.outlets.items;
+  log = log;
+  turns = c.self.inside.turns + 1;
+}
+
+pub invariant_of-self-in-Some : goal.invariant_of-self-in-Some
+invariant_of-self-in-Some c =
+    let from = (goal.at.invariant_of-self-in-Some c).After-of in
+    let s = c.self.inside in record {
+      station = subst (λ (log : RoomyLog). IsStation (at_once from log)) (sym (log_at_once from)) (fires_at_once from);
+      noted = noted-same s.graph.value s.number s.inputs.items s.inputs.items s.outlets.items c.put_all.new.outlets.items s.fixed s.worked.items s.bounded s.rings
+          (λ is. refl)
+          c.put_all.ensures.delays
+          c.put_all.ensures.same
+          c.self.invariant.noted;
+      readied = c.self.invariant.readied;
+    }
+
+pub returns-in-Some-clause-station : goal.returns-in-Some-clause-station
+returns-in-Some-clause-station c =
+    let from = (goal.at.returns-in-Some-clause-station c).After-of in
+    subst (λ (log : RoomyLog). IsStation (at_once from log)) (sym (log_at_once from)) (fires_at_once from)
+
+pub returns-in-Some-clause-seated : goal.returns-in-Some-clause-seated
+returns-in-Some-clause-seated c =
+    let from = (goal.at.returns-in-Some-clause-seated c).After-of in
+    let old = c.args.shelf.now.queues in
+    let new = c.put_all.new.shelf.queues in
+    let was : IsSeated old (the_view c.self.inside) = subst (IsSeated old) (sym c.self.view_is) c.requires.seated in
+    seated-same old new (the_view c.self.inside) (at_once from c.of.result.value)
+    (c.put_all.ensures.only_puts.count ∙ c.count_takes.ensures.only_takes.count)
+    refl
+    c.put_all.ensures.count
+    refl
+    c.put_all.ensures.same
+    was
+
+pub returns-in-Some-clause-logs : goal.returns-in-Some-clause-logs
+returns-in-Some-clause-logs c = logs_at_once (goal.at.returns-in-Some-clause-logs c).After-of
+
+pub returns-in-Some-clause-stands : goal.returns-in-Some-clause-stands
+returns-in-Some-clause-stands c =
+    let from = (goal.at.returns-in-Some-clause-stands c).After-of in
+    let i = c.args.i in
+    let s = the_view c.self.inside in
+    let old = c.args.shelf.now in
+    let new = c.put_all.new.shelf in
+    let stands : StandsAt i old s = subst (StandsAt i old) (sym c.self.view_is) c.requires.stands in
+    let no_log : RoomyLog = record { dates = []; room = 0 } in
+    stands-same i old new s (at_once from c.of.result.value)
+    (ap length (logs_at_once from) ∙ length-set old.logs i c.of.result.value)
+    (ap (λ (l : List RoomyLog). log_on l i) (logs_at_once from) ∙ get_or-set_same old.logs i c.of.result.value no_log stands.there)
+    (c.put_all.ensures.sources ∙ c.count_takes.ensures.sources)
+    (c.put_all.ensures.only_puts.count ∙ c.count_takes.ensures.only_takes.count)
+    refl refl
+    c.put_all.ensures.count
+    c.put_all.ensures.same
+    stands
+
+pub returns-in-Some-clause-kept : goal.returns-in-Some-clause-kept
+returns-in-Some-clause-kept c =
+    let from = (goal.at.returns-in-Some-clause-kept c).After-of in
+    let old = c.args.shelf.now.queues in
+    let new = c.put_all.new.shelf.queues in
+    let s = the_view c.self.inside in
+    let kept : IsKept old s → IsKept new (at_once from (with_date c.self.inside.log.value c.next_date-date.result)) =
+    kept-fires old c.count_takes.new.shelf.queues new s (full_at_once from) s.inputs (outlets_of c.put_all.new.outlets.items) c.next_date-date.result (c.self.inside.turns + 1) c.self.invariant.station (firing_at_once from) in
+    subst (λ (w : WorkStation). IsKept old w → IsKept new (at_once from c.of.result.value)) c.self.view_is
+    (subst (λ (log : RoomyLog). IsKept old s → IsKept new (at_once from log)) (sym (log_at_once from)) kept)
+
 pub returns-in-Some-clause-moves : goal.returns-in-Some-clause-moves
-returns-in-Some-clause-moves c = moves (goal.at.returns-in-Some-clause-moves c).After-refill
+returns-in-Some-clause-moves c =
+    let from = (goal.at.returns-in-Some-clause-moves c).After-of in
+    let s = the_view c.self.inside in
+    let old = c.args.shelf.now.queues in
+    let mid = c.count_takes.new.shelf.queues in
+    let new = c.put_all.new.shelf.queues in
+    let own = own-fires s old mid new c.count_takes.ensures.only_takes
+    (λ q none. c.count_takes.ensures.others q (fronts-none q s.inputs c.as_slice-fronts.result.now (fronts_are from) none))
+    c.put_all.ensures.only_puts c.put_all.ensures.others in
+    moves-apart old new c.args.self.now
+    (subst (λ (w : WorkStation). MovesItsOwn w old new) c.self.view_is own)
+    (grows-fires old mid new c.count_takes.ensures.only_takes c.put_all.ensures.grows)
 
--- ---- the station fires
+-- ---- the station fires by its hands
 
-pub put_all-requires-clause-noted : goal.put_all-requires-clause-noted
-put_all-requires-clause-noted c =
+pub put_all-requires-2-clause-noted : goal.put_all-requires-2-clause-noted
+put_all-requires-2-clause-noted c =
     c.self.invariant.noted.rings_are ∙ rings-same (the_view c.self.inside).outlets (outlets_of c.look_all.new.outlets.items) c.look_all.ensures.same
 
-pub put_all-requires-clause-there : goal.put_all-requires-clause-there
-put_all-requires-clause-there c = omega (arith, c.requires.stands.there, ap length c.refill.ensures.logs)
+pub put_all-requires-2-clause-there : goal.put_all-requires-2-clause-there
+put_all-requires-2-clause-there c = omega (arith, c.requires.stands.there, ap length c.refill.ensures.logs)
 
-pub put_all-requires-clause-come : goal.put_all-requires-clause-come
-put_all-requires-clause-come c =
+pub put_all-requires-2-clause-come : goal.put_all-requires-2-clause-come
+put_all-requires-2-clause-come c =
     let s = the_view c.self.inside in
-    let stands = stands_before (goal.at.put_all-requires-clause-come c).After-refill in
+    let stands = stands_before (goal.at.put_all-requires-2-clause-come c).After-refill in
     come-same c.args.i (map (delay s.graph) (outs s.graph s.number)) (delays_of c.look_all.new.outlets.items) c.args.shelf.now c.refill.new.shelf s.outlets (outlets_of c.look_all.new.outlets.items)
     (c.look_all.ensures.delays ∙ c.self.invariant.noted.delays_are)
     c.refill.ensures.sources c.refill.ensures.only_takes.count c.look_all.ensures.count c.look_all.ensures.same stands.come
 
-pub put_all-requires-clause-log_room : goal.put_all-requires-clause-log_room
-put_all-requires-clause-log_room c =
+pub put_all-requires-2-clause-log_room : goal.put_all-requires-2-clause-log_room
+put_all-requires-2-clause-log_room c =
     let s = the_view c.self.inside in
-    let from = (goal.at.put_all-requires-clause-log_room c).After-refill in
+    let from = (goal.at.put_all-requires-2-clause-log_room c).After-refill in
     let graph : c.graph-graph.result.now ≡ s.graph =
     c.graph-graph.ensures.graph ∙ c.requires.made_for ∙ sym (ap (λ (w : WorkStation). w.graph) c.self.view_is) in
     let left : length s.log.dates ≢ jobs s.graph =
@@ -194,8 +411,8 @@ put_all-requires-clause-log_room c =
     ap (λ (l : List RoomyLog). log_on l c.args.i) c.refill.ensures.logs ∙ c.requires.stands.log ∙ sym (ap (λ (w : WorkStation). w.log) c.self.view_is) in
     subst (λ (l : RoomyLog). length l.dates < l.room) (sym was) (omega (arith, left, c.self.invariant.station.few_dates, c.self.invariant.station.log_room))
 
-pub put_all-requires-clause-shelf_room : goal.put_all-requires-clause-shelf_room
-put_all-requires-clause-shelf_room c k low =
+pub put_all-requires-2-clause-shelf_room : goal.put_all-requires-2-clause-shelf_room
+put_all-requires-2-clause-shelf_room c k low =
     let old = c.args.shelf.now.queues in
     let mid = c.refill.new.shelf.queues in
     let s = the_view c.self.inside in
@@ -204,40 +421,40 @@ put_all-requires-clause-shelf_room c k low =
     let graph : c.graph-graph.result.now ≡ s.graph =
     c.graph-graph.ensures.graph ∙ c.requires.made_for ∙ sym (ap (λ (w : WorkStation). w.graph) c.self.view_is) in
     let left : length s.log.dates ≢ jobs s.graph =
-    λ all. c.if-done-jobs.false (ap length (dates_are (goal.at.put_all-requires-clause-shelf_room c).After-refill) ∙ all ∙ sym (ap jobs graph) ∙ sym c.jobs.ensures.count) in
+    λ all. c.if-done-jobs.false (ap length (dates_are (goal.at.put_all-requires-2-clause-shelf_room c).After-refill) ∙ all ∙ sym (ap jobs graph) ∙ sym c.jobs.ensures.count) in
     let more : length s.log.dates < jobs s.graph = omega (arith, left, c.self.invariant.station.few_dates) in
     let may : MayPut old s = subst (MayPut old) (sym c.self.view_is) c.requires.may_put in
     shelf_room-alike mid (outlet_at s.outlets k) (outlet_at looked k) (c.look_all.ensures.looked k below).same
     (shelf_room-after_takes old mid (outlet_at s.outlets k) c.refill.ensures.only_takes (may more k below))
 
 -- the dates of its log, as they stood on the shelf
-dates_now : (c : After-of) → c.dates.result.now ≡ c.self.inside.log.value.dates
+dates_now : (c : After-of-2) → c.dates.result.now ≡ c.self.inside.log.value.dates
 dates_now c =
     c.dates.ensures
     ∙ ap (λ (l : RoomyLog). l.dates) (c.log.ensures ∙ c.requires.stands.log ∙ sym (ap (λ (w : WorkStation). w.log) c.self.view_is))
 
 -- the station when its outlets have looked
-abbrev looked_station : (c : After-of) → WorkStation
+abbrev looked_station : (c : After-of-2) → WorkStation
 looked_station c = record (the_view c.self.inside) { outlets = outlets_of c.look_all.new.outlets.items }
 
-looked_alike : (c : After-of) → AreAlike (the_view c.self.inside).outlets (outlets_of c.look_all.new.outlets.items)
+looked_alike : (c : After-of-2) → AreAlike (the_view c.self.inside).outlets (outlets_of c.look_all.new.outlets.items)
 looked_alike c = alike-looked (the_view c.self.inside).outlets (outlets_of c.look_all.new.outlets.items) c.look_all.ensures.count c.look_all.ensures.looked
 
-looks_soundly : (c : After-of) → IsStation (looked_station c)
+looks_soundly : (c : After-of-2) → IsStation (looked_station c)
 looks_soundly c = station-alike (the_view c.self.inside) (outlets_of c.look_all.new.outlets.items) (looked_alike c) c.self.invariant.station
 
 -- the delay of the arc of output k, as the station noted it
-delay_is : (c : After-of) (k : ℕ) → k < length (the_view c.self.inside).outlets → slice_index (delays_of c.look_all.new.outlets.items) k ≡ delay (the_view c.self.inside).graph (slice_index (outs (the_view c.self.inside).graph (the_view c.self.inside).number) k)
+delay_is : (c : After-of-2) (k : ℕ) → k < length (the_view c.self.inside).outlets → slice_index (delays_of c.look_all.new.outlets.items) k ≡ delay (the_view c.self.inside).graph (slice_index (outs (the_view c.self.inside).graph (the_view c.self.inside).number) k)
 delay_is c k low =
     let s = the_view c.self.inside in
     delay-noted s.graph s.number k (delays_of c.look_all.new.outlets.items) (omega (arith, low, c.self.invariant.station.an_outlet_each)) (c.look_all.ensures.delays ∙ c.self.invariant.noted.delays_are)
 
 -- as many inputs as before
-full_count : (c : After-of) → length (inputs_of c.refill.new.inputs.items) ≡ length (the_view c.self.inside).inputs
+full_count : (c : After-of-2) → length (inputs_of c.refill.new.inputs.items) ≡ length (the_view c.self.inside).inputs
 full_count c = c.refill.ensures.count ∙ ap length c.note_job.ensures.inputs
 
 -- the date of the job is what its tokens ask for
-date_is : (c : After-of) → c.next_date-date.result ≡ date_for (the_view c.self.inside).graph c.self.inside.number (length c.self.inside.log.value.dates + 1) (λ k. unwrap_or (input_at (inputs_of c.refill.new.inputs.items) k).hand 0)
+date_is : (c : After-of-2) → c.next_date-date-2.result ≡ date_for (the_view c.self.inside).graph c.self.inside.number (length c.self.inside.log.value.dates + 1) (λ k. unwrap_or (input_at (inputs_of c.refill.new.inputs.items) k).hand 0)
 date_is c =
     let s = the_view c.self.inside in
     let full = inputs_of c.refill.new.inputs.items in
@@ -250,157 +467,162 @@ date_is c =
     let latest =
     c.in-Full.ensures.date
     ∙ latest-is g s.number (length c.dates.result.now + 1) (extras_of c.refill.new.inputs.items) full (length full) each (c.refill.ensures.extras ∙ c.note_job.ensures.extras) in
-    c.next_date-date.ensures
+    c.next_date-date-2.ensures
     ∙ date_for-is g s.number (length c.dates.result.now + 1) c.in-Full.latest token latest
     ∙ ap (λ (h : Parts). date_for h s.number (length c.dates.result.now + 1) token) graph
     ∙ ap (λ (l : List ℕ). date_for s.graph s.number (length l + 1) token) (dates_now c)
 
 -- the firing, as the lemmas have it
-firing : (c : After-of) → IsFiring c.args.shelf.now.queues c.refill.new.shelf.queues c.put_all.new.shelf.queues (looked_station c) (inputs_of c.refill.new.inputs.items) (inputs_of c.empty_hands.new.inputs.items) (outlets_of c.put_all.new.outlets.items) c.next_date-date.result
+firing : (c : After-of-2) → IsFiring c.args.shelf.now.queues c.refill.new.shelf.queues c.put_all-2.new.shelf.queues (looked_station c) (inputs_of c.refill.new.inputs.items) (inputs_of c.empty_hands.new.inputs.items) (outlets_of c.put_all-2.new.outlets.items) c.next_date-date-2.result
 firing c =
     let s = the_view c.self.inside in
     let full = inputs_of c.refill.new.inputs.items in
-    let date = c.next_date-date.result in
+    let date = c.next_date-date-2.result in
     record {
       full_count = full_count c;
       empty_count = c.empty_hands.ensures.count;
-      outlet_count = c.put_all.ensures.count;
+      outlet_count = c.put_all-2.ensures.count;
       refilled = each_refilled (inputs_of c.note_job.new.inputs.items) s.inputs full c.args.shelf.now.queues c.refill.new.shelf.queues c.note_job.ensures.inputs c.refill.ensures.each;
       are_full = c.in-Full.ensures.full;
       inlets = c.empty_hands.ensures.inlets;
       are_empty = c.empty_hands.ensures.hands;
       date_is = date_is c;
-      outlets_same = c.put_all.ensures.same;
+      outlets_same = c.put_all-2.ensures.same;
       got = λ k low.
-          c.put_all.ensures.each k low
+          c.put_all-2.ensures.each k low
           ∙ ap (λ n. outlet_added c.refill.new.shelf.queues (outlet_at (outlets_of c.look_all.new.outlets.items) k) ++ saturating date n ∷ []) (delay_is c k (omega (arith, low, c.look_all.ensures.count)));
       only_takes = c.refill.ensures.only_takes;
-      only_puts = c.put_all.ensures.only_puts;
+      only_puts = c.put_all-2.ensures.only_puts;
     }
 
 -- dates were left to be made
-some_left : (c : After-of) → length (the_view c.self.inside).log.dates ≢ jobs (the_view c.self.inside).graph
+some_left : (c : After-of-2) → length (the_view c.self.inside).log.dates ≢ jobs (the_view c.self.inside).graph
 some_left c all =
     let graph : c.graph-graph.result.now ≡ (the_view c.self.inside).graph =
     c.graph-graph.ensures.graph ∙ c.requires.made_for ∙ sym (ap (λ (w : WorkStation). w.graph) c.self.view_is) in
     c.if-done-jobs.false (ap length (dates_now c) ∙ all ∙ sym (ap jobs graph) ∙ sym c.jobs.ensures.count)
 
 -- the station after it
-fires_soundly : (c : After-of) → IsStation (fired_station (the_view c.self.inside) (inputs_of c.empty_hands.new.inputs.items) (outlets_of c.put_all.new.outlets.items) c.next_date-date.result (c.self.inside.turns + 1))
+fires_soundly : (c : After-of-2) → IsStation (fired_station (the_view c.self.inside) (inputs_of c.empty_hands.new.inputs.items) (outlets_of c.put_all-2.new.outlets.items) c.next_date-date-2.result (c.self.inside.turns + 1))
 fires_soundly c =
-    station-fires c.args.shelf.now.queues c.refill.new.shelf.queues c.put_all.new.shelf.queues (looked_station c) (inputs_of c.refill.new.inputs.items) (inputs_of c.empty_hands.new.inputs.items) (outlets_of c.put_all.new.outlets.items) c.next_date-date.result (c.self.inside.turns + 1) (looks_soundly c) (some_left c) (firing c)
+    station-fires c.args.shelf.now.queues c.refill.new.shelf.queues c.put_all-2.new.shelf.queues (looked_station c) (inputs_of c.refill.new.inputs.items) (inputs_of c.empty_hands.new.inputs.items) (outlets_of c.put_all-2.new.outlets.items) c.next_date-date-2.result (c.self.inside.turns + 1) (looks_soundly c) (some_left c) (firing c)
 
 -- its log after it
-log_is : (c : After-of) → c.of.result.value ≡ with_date c.self.inside.log.value c.next_date-date.result
+log_is : (c : After-of-2) → c.of-2.result.value ≡ with_date c.self.inside.log.value c.next_date-date-2.result
 log_is c =
     let i = c.args.i in
     let was : log_on c.refill.new.shelf.logs i ≡ c.self.inside.log.value =
     ap (λ (l : List RoomyLog). log_on l i) c.refill.ensures.logs ∙ c.requires.stands.log ∙ sym (ap (λ (w : WorkStation). w.log) c.self.view_is) in
     let low : i < length c.refill.new.shelf.logs = omega (arith, c.requires.stands.there, ap length c.refill.ensures.logs) in
-    c.of.ensures
+    c.of-2.ensures
     ∙ c.log-2.ensures
-    ∙ ap (λ (l : List RoomyLog). log_on l i) c.put_all.ensures.logs
-    ∙ get_or-set_same c.refill.new.shelf.logs i (with_date (log_on c.refill.new.shelf.logs i) c.next_date-date.result) (record { dates = []; room = 0 }) low
-    ∙ ap (λ (l : RoomyLog). with_date l c.next_date-date.result) was
+    ∙ ap (λ (l : List RoomyLog). log_on l i) c.put_all-2.ensures.logs
+    ∙ get_or-set_same c.refill.new.shelf.logs i (with_date (log_on c.refill.new.shelf.logs i) c.next_date-date-2.result) (record { dates = []; room = 0 }) low
+    ∙ ap (λ (l : RoomyLog). with_date l c.next_date-date-2.result) was
 
 -- with its log as the call leaves it
-abbrev with_log : (c : After-of) → RoomyLog → WorkStation
+abbrev with_log : (c : After-of-2) → RoomyLog → WorkStation
 with_log c log = record (the_view c.self.inside) {
   inputs = inputs_of c.empty_hands.new.inputs.items;
-  outlets = outlets_of c.put_all.new.outlets.items;
+  outlets = outlets_of c.put_all-2.new.outlets.items;
   log = log;
   turns = c.self.inside.turns + 1;
 }
 
 pub invariant_of-self-2 : goal.invariant_of-self-2
 invariant_of-self-2 c =
-    let from = (goal.at.invariant_of-self-2 c).After-of in
+    let from = (goal.at.invariant_of-self-2 c).After-of-2 in
     let s = c.self.inside in record {
       station = subst (λ (log : RoomyLog). IsStation (with_log from log)) (sym (log_is from)) (fires_soundly from);
-      noted = noted-same s.graph.value s.number s.inputs.items c.empty_hands.new.inputs.items s.outlets.items c.put_all.new.outlets.items s.fixed s.worked.items s.bounded s.rings
+      noted = noted-same s.graph.value s.number s.inputs.items c.empty_hands.new.inputs.items s.outlets.items c.put_all-2.new.outlets.items s.fixed s.worked.items s.bounded s.rings
           (λ is. c.empty_hands.ensures.extras ∙ c.refill.ensures.extras ∙ c.note_job.ensures.stays is)
-          (c.put_all.ensures.delays ∙ c.look_all.ensures.delays)
-          (c.put_all.ensures.same ∙ c.look_all.ensures.same)
+          (c.put_all-2.ensures.delays ∙ c.look_all.ensures.delays)
+          (c.put_all-2.ensures.same ∙ c.look_all.ensures.same)
           c.self.invariant.noted;
+      readied = readied-emptied s.graph.value s.number (inputs_of s.inputs.items) (inputs_of c.empty_hands.new.inputs.items) s.fronts.items s.bounded s.direct s.empty_handed
+          (c.empty_hands.ensures.count ∙ full_count from)
+          (c.empty_hands.ensures.same ∙ c.refill.ensures.same ∙ ap (map bare_input) c.note_job.ensures.inputs)
+          (λ k low. c.empty_hands.ensures.hands k (omega (arith, low, c.empty_hands.ensures.count)))
+          c.self.invariant.readied;
     }
 
 pub returns-clause-station : goal.returns-clause-station
 returns-clause-station c =
-    let from = (goal.at.returns-clause-station c).After-of in
+    let from = (goal.at.returns-clause-station c).After-of-2 in
     subst (λ (log : RoomyLog). IsStation (with_log from log)) (sym (log_is from)) (fires_soundly from)
 
 pub returns-clause-seated : goal.returns-clause-seated
 returns-clause-seated c =
-    let from = (goal.at.returns-clause-seated c).After-of in
+    let from = (goal.at.returns-clause-seated c).After-of-2 in
     let old = c.args.shelf.now.queues in
-    let new = c.put_all.new.shelf.queues in
+    let new = c.put_all-2.new.shelf.queues in
     let was : IsSeated old (the_view c.self.inside) = subst (IsSeated old) (sym c.self.view_is) c.requires.seated in
-    seated-same old new (the_view c.self.inside) (with_log from c.of.result.value)
-    (c.put_all.ensures.only_puts.count ∙ c.refill.ensures.only_takes.count)
+    seated-same old new (the_view c.self.inside) (with_log from c.of-2.result.value)
+    (c.put_all-2.ensures.only_puts.count ∙ c.refill.ensures.only_takes.count)
     (c.empty_hands.ensures.count ∙ full_count from)
-    (c.put_all.ensures.count ∙ c.look_all.ensures.count)
+    (c.put_all-2.ensures.count ∙ c.look_all.ensures.count)
     (c.empty_hands.ensures.same ∙ c.refill.ensures.same ∙ ap (map bare_input) c.note_job.ensures.inputs)
-    (c.put_all.ensures.same ∙ c.look_all.ensures.same)
+    (c.put_all-2.ensures.same ∙ c.look_all.ensures.same)
     was
 
 -- the logs after it: its own is another
-logs_are : (c : After-of) → c.put_all.new.shelf.logs ≡ set c.args.shelf.now.logs c.args.i c.of.result.value
+logs_are : (c : After-of-2) → c.put_all-2.new.shelf.logs ≡ set c.args.shelf.now.logs c.args.i c.of-2.result.value
 logs_are c =
     let i = c.args.i in
-    let date = c.next_date-date.result in
+    let date = c.next_date-date-2.result in
     let was : log_on c.refill.new.shelf.logs i ≡ c.self.inside.log.value =
     ap (λ (l : List RoomyLog). log_on l i) c.refill.ensures.logs ∙ c.requires.stands.log ∙ sym (ap (λ (w : WorkStation). w.log) c.self.view_is) in
-    c.put_all.ensures.logs
+    c.put_all-2.ensures.logs
     ∙ ap (λ (l : RoomyLog). set c.refill.new.shelf.logs i (with_date l date)) was
     ∙ ap (set c.refill.new.shelf.logs i) (sym (log_is c))
-    ∙ ap (λ (l : List RoomyLog). set l i c.of.result.value) c.refill.ensures.logs
+    ∙ ap (λ (l : List RoomyLog). set l i c.of-2.result.value) c.refill.ensures.logs
 
 pub returns-clause-logs : goal.returns-clause-logs
 returns-clause-logs c =
-    let from = (goal.at.returns-clause-logs c).After-of in
+    let from = (goal.at.returns-clause-logs c).After-of-2 in
     logs_are from
 
 pub returns-clause-stands : goal.returns-clause-stands
 returns-clause-stands c =
-    let from = (goal.at.returns-clause-stands c).After-of in
+    let from = (goal.at.returns-clause-stands c).After-of-2 in
     let i = c.args.i in
     let s = the_view c.self.inside in
     let old = c.args.shelf.now in
-    let new = c.put_all.new.shelf in
+    let new = c.put_all-2.new.shelf in
     let stands : StandsAt i old s = subst (StandsAt i old) (sym c.self.view_is) c.requires.stands in
     let no_log : RoomyLog = record { dates = []; room = 0 } in
-    stands-same i old new s (with_log from c.of.result.value)
-    (ap length (logs_are from) ∙ length-set old.logs i c.of.result.value)
-    (ap (λ (l : List RoomyLog). log_on l i) (logs_are from) ∙ get_or-set_same old.logs i c.of.result.value no_log stands.there)
-    (c.put_all.ensures.sources ∙ c.refill.ensures.sources)
-    (c.put_all.ensures.only_puts.count ∙ c.refill.ensures.only_takes.count)
+    stands-same i old new s (with_log from c.of-2.result.value)
+    (ap length (logs_are from) ∙ length-set old.logs i c.of-2.result.value)
+    (ap (λ (l : List RoomyLog). log_on l i) (logs_are from) ∙ get_or-set_same old.logs i c.of-2.result.value no_log stands.there)
+    (c.put_all-2.ensures.sources ∙ c.refill.ensures.sources)
+    (c.put_all-2.ensures.only_puts.count ∙ c.refill.ensures.only_takes.count)
     refl refl
-    (c.put_all.ensures.count ∙ c.look_all.ensures.count)
-    (c.put_all.ensures.same ∙ c.look_all.ensures.same)
+    (c.put_all-2.ensures.count ∙ c.look_all.ensures.count)
+    (c.put_all-2.ensures.same ∙ c.look_all.ensures.same)
     stands
 
 pub returns-clause-kept : goal.returns-clause-kept
 returns-clause-kept c =
-    let from = (goal.at.returns-clause-kept c).After-of in
+    let from = (goal.at.returns-clause-kept c).After-of-2 in
     let old = c.args.shelf.now.queues in
-    let new = c.put_all.new.shelf.queues in
-    let kept : IsKept old (the_view c.self.inside) → IsKept new (with_log from (with_date c.self.inside.log.value c.next_date-date.result)) =
+    let new = c.put_all-2.new.shelf.queues in
+    let kept : IsKept old (the_view c.self.inside) → IsKept new (with_log from (with_date c.self.inside.log.value c.next_date-date-2.result)) =
     λ was.
-    kept-fires old c.refill.new.shelf.queues new (looked_station from) (inputs_of c.refill.new.inputs.items) (inputs_of c.empty_hands.new.inputs.items) (outlets_of c.put_all.new.outlets.items) c.next_date-date.result (c.self.inside.turns + 1) (looks_soundly from) (firing from)
+    kept-fires old c.refill.new.shelf.queues new (looked_station from) (inputs_of c.refill.new.inputs.items) (inputs_of c.empty_hands.new.inputs.items) (outlets_of c.put_all-2.new.outlets.items) c.next_date-date-2.result (c.self.inside.turns + 1) (looks_soundly from) (firing from)
     (kept-alike old (the_view c.self.inside) (outlets_of c.look_all.new.outlets.items) (looked_alike from) was) in
-    subst (λ (s : WorkStation). IsKept old s → IsKept new (with_log from c.of.result.value)) c.self.view_is
+    subst (λ (s : WorkStation). IsKept old s → IsKept new (with_log from c.of-2.result.value)) c.self.view_is
     (subst (λ (log : RoomyLog). IsKept old (the_view c.self.inside) → IsKept new (with_log from log)) (sym (log_is from)) kept)
 
 pub returns-clause-moves : goal.returns-clause-moves
 returns-clause-moves c =
-    let from = (goal.at.returns-clause-moves c).After-of in
+    let from = (goal.at.returns-clause-moves c).After-of-2 in
     let s = the_view c.self.inside in
     let old = c.args.shelf.now.queues in
     let mid = c.refill.new.shelf.queues in
-    let new = c.put_all.new.shelf.queues in
+    let new = c.put_all-2.new.shelf.queues in
     let outlets = outlets_of c.look_all.new.outlets.items in
     let taken = subst (λ (l : List Input). (q : ℕ) → NoneTakes q l → queue_at mid q ≡ queue_at old q) c.note_job.ensures.inputs c.refill.ensures.others in
-    let own = own-fires s old mid new c.refill.ensures.only_takes taken c.put_all.ensures.only_puts (λ q none. c.put_all.ensures.others q (NonePuts-alike q s.outlets outlets (looked_alike from) none)) in
+    let own = own-fires s old mid new c.refill.ensures.only_takes taken c.put_all-2.ensures.only_puts (λ q none. c.put_all-2.ensures.others q (NonePuts-alike q s.outlets outlets (looked_alike from) none)) in
     moves-apart old new c.args.self.now
     (subst (λ (w : WorkStation). MovesItsOwn w old new) c.self.view_is own)
-    (grows-fires old mid new c.refill.ensures.only_takes c.put_all.ensures.grows)
+    (grows-fires old mid new c.refill.ensures.only_takes c.put_all-2.ensures.grows)

@@ -1,4 +1,4 @@
-use Rattle.std.proofs.Common.{◌≡◌, ◌+◌, ◌-◌, ◌≤◌, ℕ, cond, sym, ap, ◌∙◌, arith}
+use Rattle.std.proofs.Common.{◌≡◌, ◌+◌, ◌-◌, ◌≤◌, cond, sym, ap, ◌∙◌, arith}
 use Rattle.line_base.specs.declared.event.Arc.{Arc}
 use Rattle.line_base.specs.declared.event.Parts.{Parts}
 use Rattle.event_graph.specs.Network.{arc, time, delay}
@@ -9,8 +9,7 @@ use Rattle.event_graph.proofs.Sizes.{delay-small}
 use Rattle.what_if.specs.Page.{graph_of, IsDate, date_at}
 use Rattle.what_if.proofs.Inputs.{delay-edited}
 use Rattle.what_if.proofs.KeptSheets.{date-early}
-use Rattle.what_if.proofs.Least.{term-reads}
-use Rattle.what_if.proofs.Terms.{term-initial}
+use Rattle.event_graph.proofs.ArcTerms.{term-later, term-initial}
 use Rattle.what_if.proofs.sheet.Sheet.term.Goals as goal
 use Rattle.what_if.proofs.sheet.Sheet.term.Goals.{After-arc-arc, After-date}
 
@@ -74,4 +73,4 @@ returns-else-n-arc c =
     ap (λ w. w + (c.date.result + c.delay.result)) worked
     ∙ ap (λ d. work g a n + (d + c.delay.result)) (date_read (goal.at.returns-else-n-arc c).After-date read)
     ∙ ap (λ d. work g a n + (date_at p from job + d)) late
-    ∙ sym (term-reads g (date_in p.dates) a n (omega (arith, c.if-n-arc.false, tokens)))
+    ∙ sym (term-later g (date_in p.dates) a n (omega (arith, c.if-n-arc.false, tokens)))

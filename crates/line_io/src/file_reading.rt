@@ -1,0 +1,113 @@
+//! How a file is read: to its end, or until it is longer than the limit.
+ghost use Rattle.std.specs.Prelude.{◌≡◌, ◌<◌, ◌≤◌, ◌↔◌, ◌+◌, ◌-◌, ◌^◌, ◌++◌, ◌∷◌, [], Some, true, length, take, min, IsTrue, IfOk, IfErr, OnOk, OnErr, IsErrOf};
+ghost use Rattle.line_io.specs.Calls.{bytes_of};
+ghost use Rattle.line_io.specs.Contents.{IsLongerThan};
+ghost use Rattle.line_io.specs.Faults.{Rose};
+ghost use Rattle.line_io.specs.RawFiles.{Named, Reads, Asks, AsksToRead, ReadsOn, SameHeld, given, given_by};
+
+use crate::faults::counted;
+use crate::raw_files::RawFiles;
+use crate::store::StoreError;
+use std::alloc::Global;
+
+/// The most bytes that one turn of reading asks for.
+const MAX_TURN: usize = 16_384;
+
+/// Reads once into the front of a buffer, and answers how many bytes there are. A refusal is a fault that is counted.
+fn read_once<F: RawFiles>(
+    files: &mut F,
+    buffer: &mut [u8],
+    most: usize,
+    faults: &mut u64,
+) -> Result<usize, StoreError>
+    requires open { (F.shown files.old).is_open ≡ true }
+    requires within { most ≤ length buffer.old }
+    ensures recorded { (F.shown files.new).asked
+        ≡ (F.shown files.old).asked ++ Reads most (given result buffer.new) ∷ [] }
+    ensures open_stays { (F.shown files.new).is_open ≡ true }
+    ensures size { length buffer.new ≡ length buffer.old }
+    ensures bound { IfOk result (λ n. n ≤ most) }
+    ensures bytes { IfOk result (λ n. IsTrue F.tells
+        → (F.shown files.old).left ≡ take n buffer.new ++ (F.shown files.new).left) }
+    ensures end { IfOk result (λ n. n ≡ 0 → 0 < most → IsTrue F.tells → (F.shown files.old).left ≡ []) }
+    ensures stays { SameHeld F.tells (F.shown files.old) (F.shown files.new) }
+    ensures failed { IfErr result (λ error. error ≡ StoreError.Failed) }
+    ensures faults_stay { OnOk result (faults.new ≡ faults.old) }
+    ensures once { OnErr result (faults.new ≡ min (faults.old + 1) (2 ^ 64 - 1)) }
+    ensures faults_stay_or_rise { faults.old ≤ faults.new }
+{
+    counted(files.read(&mut buffer[..most]), faults)
+}
+
+/// Reads the file that is open to its end, to an error, or until limit + 1 bytes were taken, and counts the bytes taken.
+fn read_to_limit<F: RawFiles>(
+    alloc: Global,
+    files: &mut F,
+    limit: u64,
+    taken: &mut u64,
+    faults: &mut u64,
+) -> Result<Vec<u8>, StoreError>
+    requires open { (F.shown files.old).is_open ≡ true }
+    requires none_taken { taken.old ≡ 0 }
+    ensures asks { Asks (F.shown files.old) (F.shown files.new) (λ calls.
+        ReadsOn limit [] calls (bytes_of result) × (taken.new ≡ length (given_by calls))) }
+    ensures bytes { IfOk result (λ v. IsTrue F.tells → v.items ≡ (F.shown files.old).left) }
+    ensures longer { IsErrOf result StoreError.TooLong → IsTrue F.tells → limit < length (F.shown files.old).left }
+    ensures stays { SameHeld F.tells (F.shown files.old) (F.shown files.new) }
+    ensures within_limit { IfOk result (λ v. length v.items ≤ limit) }
+    ensures took_them { IfOk result (λ v. taken.new ≡ length v.items) }
+    ensures too_long { IsErrOf result StoreError.TooLong ↔ (limit < taken.new) }
+    ensures one_more_at_most { taken.new ≤ limit + 1 }
+    ensures cause { IsErrOf result StoreError.Failed → Rose faults.old faults.new }
+    ensures faults_stay { OnOk result (faults.new ≡ faults.old) }
+    ensures once { faults.new ≤ faults.old + 1 }
+    ensures memory_is_no_fault { IsErrOf result StoreError.NoMemory → faults.new ≡ faults.old }
+    ensures faults_stay_or_rise { faults.old ≤ faults.new }
+{
+    let mut bytes = Vec::new(alloc);
+    let mut buffer = [0; MAX_TURN];
+    loop {
+        let left = limit - bytes.len() as u64;
+        let most = left.saturating_add(1).min(MAX_TURN as u64) as usize;
+        let count = read_once(files, &mut buffer, most, faults)?;
+        if count == 0 {
+            return Ok(bytes);
+        }
+        *taken += count as u64;
+        if count as u64 > left {
+            return Err(StoreError::TooLong);
+        }
+        bytes.extend_from_slice(&buffer[..count])?;
+    }
+}
+
+/// Opens a file and reads it to its end, to an error, or until limit + 1 bytes were taken, and counts the bytes taken.
+pub fn read_file<F: RawFiles>(
+    alloc: Global,
+    files: &mut F,
+    name: &str,
+    limit: u64,
+    taken: &mut u64,
+    faults: &mut u64,
+) -> Result<Vec<u8>, StoreError>
+    requires { taken.old ≡ 0 }
+    ensures asks { Asks (F.shown files.old) (F.shown files.new) (λ calls.
+        AsksToRead name.now limit calls (bytes_of result) × (taken.new ≡ length (given_by calls))) }
+    ensures bytes { IfOk result (λ v. IsTrue F.tells
+        → (F.shown files.old).held (Named name.now) ≡ Some v.items) }
+    ensures longer { IsErrOf result StoreError.TooLong → IsTrue F.tells
+        → IsLongerThan limit ((F.shown files.old).held (Named name.now)) }
+    ensures stays { SameHeld F.tells (F.shown files.old) (F.shown files.new) }
+    ensures within_limit { IfOk result (λ v. length v.items ≤ limit) }
+    ensures took_them { IfOk result (λ v. taken.new ≡ length v.items) }
+    ensures too_long { IsErrOf result StoreError.TooLong ↔ (limit < taken.new) }
+    ensures one_more_at_most { taken.new ≤ limit + 1 }
+    ensures cause { IsErrOf result StoreError.Failed → Rose faults.old faults.new }
+    ensures faults_stay { OnOk result (faults.new ≡ faults.old) }
+    ensures once { faults.new ≤ faults.old + 1 }
+    ensures memory_is_no_fault { IsErrOf result StoreError.NoMemory → faults.new ≡ faults.old }
+    ensures faults_stay_or_rise { faults.old ≤ faults.new }
+{
+    counted(files.open(name), faults)?;
+    read_to_limit(alloc, files, limit, taken, faults)
+}

@@ -1,0 +1,194 @@
+//! Files as the machine has them: one call of the machine a method.
+ghost use Rattle.std.specs.Prelude.{◌≡◌, ◌≢◌, ◌≤◌, ◌<◌, ◌++◌, ◌∷◌, [], Bool, Some, true, false, length, take, is_ok, is_some, IsTrue, IfOk, OnOk, OnErr};
+ghost use Rattle.line_io.specs.RawFiles.{FilesView, Named, Spare, Opens, Looks, Creates, CreatesSpare, Syncs, Renames, Removes, SameHeld, StaysOpen, StartsEmpty, Grows, GrowsByFront, Moves, by_kind, read_call, write_call};
+
+use crate::files_calls::FilesCalls;
+use std::fs::{OpenFile, OpenOptions};
+use std::io::{Read, Write};
+use std::rt::Files;
+use std::{fs, io};
+
+/// Files as the machine has them, of which one at most is open: to be read, or to be written. One call of the machine a method.
+/// Beside a file a spare one can be written, which then takes its name.
+pub trait RawFiles {
+    /// Whether what files hold is told. Of those of the machine it isn't, and clauses on contents then say nothing.
+    ghost tells: { Bool };
+
+    /// Whether a file is open, every call with its answer, and what files hold.
+    ghost shown: { Self → FilesView };
+
+    /// Opens a file, to be read from its first byte on.
+    fn open(&mut self, name: &str) -> io::Result<()>
+        ensures recorded { (shown self.new).asked ≡ (shown self.old).asked ++ Opens name.now (is_ok result) ∷ [] }
+        ensures opened { OnOk result ((shown self.new).is_open ≡ true) }
+        ensures found { OnOk result (IsTrue tells
+            → (shown self.old).held (Named name.now) ≡ Some (shown self.new).left) }
+        ensures stays { SameHeld tells (shown self.old) (shown self.new) };
+
+    /// Reads bytes of the file that is open, and answers how many there are now: 0 at its end.
+    fn read(&mut self, bytes: &mut [u8]) -> io::Result<usize>
+        requires open { (shown self.old).is_open ≡ true }
+        ensures recorded { (shown self.new).asked ≡ (shown self.old).asked ++ read_call bytes.new result ∷ [] }
+        ensures open_stays { (shown self.new).is_open ≡ true }
+        ensures bound { IfOk result (λ n. n ≤ length bytes.new) }
+        ensures bytes { IfOk result (λ n. IsTrue tells
+            → (shown self.old).left ≡ take n bytes.new ++ (shown self.new).left) }
+        ensures end { IfOk result (λ n. n ≡ 0 → 0 < length bytes.new → IsTrue tells
+            → (shown self.old).left ≡ []) }
+        ensures stays { SameHeld tells (shown self.old) (shown self.new) };
+
+    /// Whether a plain file stands at a name, and no link or device.
+    fn is_file(&mut self, name: &str) -> io::Result<bool>
+        ensures recorded { (shown self.new).asked ≡ (shown self.old).asked ++ Looks name.now (by_kind result) ∷ [] }
+        ensures stays { SameHeld tells (shown self.old) (shown self.new) };
+
+    /// Opens a file to be written, and makes it, or empties it where it is there.
+    fn create(&mut self, name: &str) -> io::Result<()>
+        ensures recorded { (shown self.new).asked ≡ (shown self.old).asked ++ Creates name.now (is_ok result) ∷ [] }
+        ensures opened { OnOk result ((shown self.new).is_open ≡ true) }
+        ensures empty { OnOk result (IsTrue tells → StartsEmpty (shown self.old) (shown self.new) (Named name.now)) }
+        ensures stays { OnErr result (SameHeld tells (shown self.old) (shown self.new)) };
+
+    /// Makes a spare file, where there is none of that name, and opens it to be written.
+    fn create_spare(&mut self, spare: &str) -> io::Result<()>
+        ensures recorded { (shown self.new).asked
+            ≡ (shown self.old).asked ++ CreatesSpare spare.now (by_kind result) ∷ [] }
+        ensures opened { OnOk result ((shown self.new).is_open ≡ true) }
+        ensures empty { OnOk result (IsTrue tells → StartsEmpty (shown self.old) (shown self.new) (Spare spare.now)) }
+        ensures stays { OnErr result (SameHeld tells (shown self.old) (shown self.new)) };
+
+    /// Writes bytes behind those that were written to the file that is open, and answers how many of them, from the first
+    /// on, were taken.
+    fn write(&mut self, bytes: &[u8]) -> io::Result<usize>
+        requires open { (shown self.old).is_open ≡ true }
+        ensures recorded { (shown self.new).asked ≡ (shown self.old).asked ++ write_call bytes.now result ∷ [] }
+        ensures open_stays { (shown self.new).is_open ≡ true }
+        ensures bound { IfOk result (λ n. n ≤ length bytes.now) }
+        ensures written { IfOk result (λ n. IsTrue tells → Grows (shown self.old) (shown self.new) (take n bytes.now)) }
+        ensures torn { OnErr result (IsTrue tells → GrowsByFront (shown self.old) (shown self.new) bytes.now) };
+
+    /// Makes what was written to the file that is open stand.
+    fn sync(&mut self) -> io::Result<()>
+        requires open { (shown self.old).is_open ≡ true }
+        ensures recorded { (shown self.new).asked ≡ (shown self.old).asked ++ Syncs (is_ok result) ∷ [] }
+        ensures stays { IsTrue tells → StaysOpen (shown self.old) (shown self.new) };
+
+    /// Gives a spare file the name of a file, whether there was one or not.
+    fn rename(&mut self, spare: &str, name: &str) -> io::Result<()>
+        ensures recorded { (shown self.new).asked
+            ≡ (shown self.old).asked ++ Renames spare.now name.now (is_ok result) ∷ [] }
+        ensures moved { OnOk result (IsTrue tells → Moves (shown self.old) (shown self.new) spare.now name.now) }
+        ensures stays { OnErr result (SameHeld tells (shown self.old) (shown self.new)) };
+
+    /// Removes a spare file.
+    fn remove(&mut self, spare: &str) -> io::Result<()>
+        ensures recorded { (shown self.new).asked ≡ (shown self.old).asked ++ Removes spare.now (is_ok result) ∷ [] }
+        ensures others_stay { IsTrue tells → (q : _) → q ≢ Spare spare.now
+            → (shown self.new).held q ≡ (shown self.old).held q };
+
+    /// Closes the file that is open.
+    fn close(&mut self)
+        ensures closed { (shown self.new).is_open ≡ false }
+        ensures asks_nothing { (shown self.new).asked ≡ (shown self.old).asked }
+        ensures stays { SameHeld tells (shown self.old) (shown self.new) };
+}
+
+/// The files of the machine, by their paths from the folder in which the program runs.
+#[derive(Drop)]
+pub struct HostFiles<R: Files + Drop> {
+    rt: R,
+    file: Option<R::File>,
+    calls: FilesCalls,
+}
+
+impl<R: Files + Drop> HostFiles<R> {
+    ghost use Rattle.std.specs.Prelude.{None};
+    ghost use Rattle.line_io.specs.HostFiles.{files_calls};
+
+    /// The runtime that opens files, or a reference to it.
+    pub fn new(rt: R) -> Self
+        ensures opens { result.rt ≡ rt }
+        ensures not_open { result.file ≡ None }
+        ensures nothing_asked { files_calls result.calls ≡ [] }
+    {
+        HostFiles {
+            rt,
+            file: None,
+            calls: FilesCalls::new(),
+        }
+    }
+}
+
+/// Keeps a file that was opened, in place of the one before.
+fn keep<F: Drop>(file: &mut Option<F>, answer: io::Result<F>) -> io::Result<()>
+    ensures same { is_ok result ≡ is_ok answer }
+    ensures opened { OnOk result (is_some file.new ≡ true) }
+{
+    *file = Some(answer?);
+    Ok(())
+}
+
+impl<R: Files + Drop> RawFiles for HostFiles<R> {
+    ghost use Rattle.line_io.specs.HostFiles.{host_files_view};
+
+    ghost tells = { false };
+
+    ghost shown = { λ host. host_files_view host.file host.calls };
+
+    fn open(&mut self, name: &str) -> io::Result<()> {
+        let answer = keep(&mut self.file, fs::open(&self.rt, name));
+        self.calls.note_open(name, answer)
+    }
+
+    fn read(&mut self, bytes: &mut [u8]) -> io::Result<usize> {
+        let answer = self.file.as_mut().unwrap().read(bytes);
+        self.calls.note_read(bytes, answer)
+    }
+
+    fn is_file(&mut self, name: &str) -> io::Result<bool> {
+        let answer = self.rt.symlink_metadata(name).map(|found| found.is_file());
+        self.calls.note_look(name, answer)
+    }
+
+    fn create(&mut self, name: &str) -> io::Result<()> {
+        let answer = keep(&mut self.file, fs::create(&self.rt, name));
+        self.calls.note_create(name, answer)
+    }
+
+    fn create_spare(&mut self, spare: &str) -> io::Result<()> {
+        let answer = keep(&mut self.file, create_new(&self.rt, spare));
+        self.calls.note_create_spare(spare, answer)
+    }
+
+    fn write(&mut self, bytes: &[u8]) -> io::Result<usize> {
+        let answer = self.file.as_mut().unwrap().write(bytes);
+        self.calls.note_write(bytes, answer)
+    }
+
+    fn sync(&mut self) -> io::Result<()> {
+        let answer = self.file.as_mut().unwrap().sync_all();
+        self.calls.note_sync(answer)
+    }
+
+    fn rename(&mut self, spare: &str, name: &str) -> io::Result<()> {
+        let answer = self.rt.rename(spare, name);
+        self.calls.note_rename(spare, name, answer)
+    }
+
+    fn remove(&mut self, spare: &str) -> io::Result<()> {
+        let answer = self.rt.remove_file(spare);
+        self.calls.note_remove(spare, answer)
+    }
+
+    fn close(&mut self) {
+        self.file = None;
+    }
+}
+
+/// Makes a file where there is none, and opens it to be written.
+fn create_new<R: Files>(rt: &R, name: &str) -> io::Result<R::File> {
+    OpenOptions::new()
+        .write(true)
+        .create_new(true)
+        .open(rt, name)
+}

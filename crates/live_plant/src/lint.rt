@@ -1,0 +1,126 @@
+//! What lint says of a plant file and of the files that it names.
+ghost use Rattle.std.specs.Prelude.{◌≡◌, ◌⊎◌, ◌≤◌, IfSome, Ok, Err, is_some, length, option_copied};
+ghost use Rattle.line_base.specs.declared.limits.TheConstants.{MAX_CHECKPOINT_BYTES};
+ghost use Rattle.plant_draft.specs.Draft.{demands_file};
+ghost use Rattle.plant_lint.specs.FileLints.{LintsFile};
+ghost use Rattle.plant_lint.specs.PlantLints.{clean_text};
+ghost use Rattle.plant_lint.specs.declared.file.FileLint.TheVariants as lint;
+ghost use Rattle.plant_model.specs.Sound.{IsSound};
+ghost use Rattle.refusals.specs.declared.refusal.Refusal.TheVariants.{NoMemory};
+ghost use Rattle.live_plant.specs.LintSteps.{IsCleanOrDead, IsDraftLint, IsFileLint, LintsDraft, LintsPlant};
+ghost use Rattle.live_plant.specs.Outside.{store_over};
+ghost use Rattle.live_plant.specs.Steps.{Makes};
+
+use crate::files::{read_file, read_named, slice_of};
+use crate::live_plant::live_graph;
+use line_base::{Items, Text};
+use line_io::Store;
+use plant_file::{Draft, read_plant};
+use plant_lint::{DraftLint, FileLint, clean_text, lint_draft, lint_file};
+use plant_model::Plant;
+use refusals::Refusal;
+use std::alloc::Global;
+
+/// A plant file that nothing is wrong with by itself.
+#[derive(Drop)]
+pub struct SoundFile {
+    /// Which keys its policy doesn't use, as lines of notes.
+    pub notes: Text,
+    /// What it says.
+    pub draft: Draft,
+}
+
+/// What lint says of a plant file and of the files that it names: that there is no fault, with notes of what may not be
+/// meant; or all faults, or a circuit without a token.
+pub fn lint_plant_file<S: Store>(
+    alloc: Global,
+    store: &mut S,
+    name: &str,
+) -> Result<Items<u8>, Refusal>
+    ensures { Makes (store_over S.tells (S.shown store.old) (S.shown store.new)) (LintsPlant name.now) result }
+{
+    let bytes = read_file(alloc, store, name)?;
+    match sound_file(alloc, bytes) {
+        Ok(file) => lint_files(alloc, store, file),
+        Err(refusal) => Err(refusal),
+    }
+}
+
+/// A plant file of these bytes, which are let go; or what is wrong with it by itself.
+fn sound_file(alloc: Global, bytes: Items<u8>) -> Result<SoundFile, Refusal>
+    ensures { IsFileLint bytes result ⊎ (result ≡ Err NoMemory) }
+{
+    match lint_file(alloc, bytes.as_slice()) {
+        Ok(FileLint::Sound { notes }) => file_with(alloc, bytes.as_slice(), notes),
+        Ok(FileLint::Refused { lines }) => Err(Refusal::Faults { lines }),
+        Err(_) => Err(Refusal::NoMemory),
+    }
+}
+
+/// The plant file of bytes of which lint has these notes. Such bytes are a draft, so only memory may be missing.
+fn file_with(alloc: Global, bytes: &[u8], notes: Text) -> Result<SoundFile, Refusal>
+    requires { LintsFile bytes.now (lint.Sound notes) }
+    ensures { IsFileLint bytes.now result ⊎ (result ≡ Err NoMemory) }
+{
+    match read_plant(alloc, bytes) {
+        Ok(draft) => Ok(SoundFile { notes, draft }),
+        Err(_) => Err(Refusal::NoMemory),
+    }
+}
+
+/// What lint says of the files that a sound plant file names.
+fn lint_files<S: Store>(alloc: Global, store: &mut S, file: SoundFile) -> Result<Items<u8>, Refusal>
+    ensures { Makes (store_over S.tells (S.shown store.old) (S.shown store.new)) (LintsDraft file) result }
+{
+    let demands = read_named(alloc, store, file.draft.demands_file())?;
+    let times = read_named(alloc, store, file.draft.times_file())?;
+    lint_bytes(alloc, file, slice_of(&demands), slice_of(&times))
+}
+
+/// The same of the bytes of these files.
+fn lint_bytes(
+    alloc: Global,
+    file: SoundFile,
+    demands: Option<&[u8]>,
+    times: Option<&[u8]>,
+) -> Result<Items<u8>, Refusal>
+    requires demands_where_used { is_some demands ≡ is_some (demands_file file.draft) }
+    requires times_where_used { is_some times ≡ is_some file.draft.times_file }
+    requires times_size { IfSome times (λ bytes. length bytes.now ≤ MAX_CHECKPOINT_BYTES) }
+    ensures { IsDraftLint file (option_copied demands.entry) (option_copied times.entry) result
+        ⊎ (result ≡ Err NoMemory) }
+{
+    let SoundFile { notes, draft } = file;
+    match lint_draft(alloc, draft, demands, times) {
+        Ok(DraftLint::Sound { plant, notes: more }) => lint_live(alloc, &plant, &notes, &more),
+        Ok(DraftLint::Refused { lines }) => Err(Refusal::Faults { lines }),
+        Err(_) => Err(Refusal::NoMemory),
+    }
+}
+
+/// That there is no fault, with the notes of the file and of the plant, where its graph is live; else a circuit without a
+/// token.
+fn lint_live(
+    alloc: Global,
+    plant: &Plant,
+    of_file: &Text,
+    of_plant: &Text,
+) -> Result<Items<u8>, Refusal>
+    requires { IsSound plant.now }
+    ensures { IsCleanOrDead plant.now (clean_text of_file.now of_plant.now) result ⊎ (result ≡ Err NoMemory) }
+{
+    match live_graph(alloc, plant) {
+        Ok(_) => clean(alloc, of_file, of_plant),
+        Err(dead) => Err(dead),
+    }
+}
+
+/// That there is no fault, with the notes of the file and of the plant.
+fn clean(alloc: Global, of_file: &Text, of_plant: &Text) -> Result<Items<u8>, Refusal>
+    ensures { (result ≡ Ok (clean_text of_file.now of_plant.now)) ⊎ (result ≡ Err NoMemory) }
+{
+    match clean_text(alloc, of_file.as_str(), of_plant.as_str()) {
+        Ok(text) => Ok(Items::from_vec(text.into_bytes())),
+        Err(_) => Err(Refusal::NoMemory),
+    }
+}

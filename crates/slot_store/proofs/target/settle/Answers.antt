@@ -1,0 +1,7 @@
+use Rattle.line_disk.specs.DiskView.{held_now}
+use Rattle.slot_store.proofs.Outside.{synced_bytes}
+use Rattle.slot_store.proofs.target.settle.Goals as goal
+
+pub returns-clause-bytes_stay : goal.returns-clause-bytes_stay
+returns-clause-bytes_stay g c =
+    synced_bytes c.sync.result g.D.Disk.tells (held_now (g.D.Disk.shown c.args.disk.now)) (held_now (g.D.Disk.shown c.sync.new.self)) c.sync.ensures.synced c.sync.ensures.stays

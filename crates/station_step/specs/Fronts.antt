@@ -1,0 +1,64 @@
+-- What a station keeps of its inputs to fire at once, where all of them are on the shelf: only the station itself reads
+-- these words.
+use Rattle.std.specs.Prelude.{◌≡◌, ◌≢◌, ℕ, ◌<◌, Bool, false, List, [], None, Some, IsTrue, map, length, slice_index, slice_index_or}
+use Rattle.line_base.specs.declared.event.Parts.{Parts}
+use Rattle.card_queue.specs.Plain.{PlainQueue, plain_waiting}
+use Rattle.local_queues.specs.Shelf.{queue_at}
+use Rattle.station_step.specs.declared.fronts.Front.{Front}
+use Rattle.station_step.specs.declared.input.Input.{Input}
+use Rattle.station_step.specs.Ends.{inlet_queue}
+use Rattle.station_step.specs.Input.{input_at}
+use Rattle.station_step.specs.Kept.{saturating}
+use Rattle.station_step.specs.Noted.{extras_into}
+
+-- the front with this number
+abbrev pub front_at : List Front → ℕ → Front
+front_at fronts k = slice_index_or fronts k (record { queue = 0; extra = 0 })
+
+-- what is noted with each: what the time of the job adds to its token
+abbrev pub front_extras : List Front → List ℕ
+front_extras fronts = map (λ (f : Front). f.extra) fronts
+
+-- the tokens that wait at a front
+abbrev pub waiting_at : List PlainQueue → List Front → ℕ → List ℕ
+waiting_at shelf fronts k = plain_waiting (queue_at shelf (front_at fronts k).queue)
+
+-- what the first of them asks of the date of the job
+abbrev pub front_asks : List PlainQueue → List Front → ℕ → ℕ
+front_asks shelf fronts k = saturating (slice_index (waiting_at shelf fronts k) 0) (front_at fronts k).extra
+
+-- each of them is at a queue of a shelf of this many, and no two at the same
+abbrev pub FrontsWithin : ℕ → List Front → Type 0
+FrontsWithin count fronts = (k : ℕ) → k < length fronts → (front_at fronts k).queue < count
+
+abbrev pub FrontsApart : List Front → Type 0
+FrontsApart fronts = (j k : ℕ) → j < k → k < length fronts → (front_at fronts j).queue ≢ (front_at fronts k).queue
+
+-- none of them is at queue q
+abbrev pub NoneAt : ℕ → List Front → Type 0
+NoneAt q fronts = (k : ℕ) → k < length fronts → (front_at fronts k).queue ≢ q
+
+-- a token waits at each of them
+abbrev pub AreAllThere : List PlainQueue → List Front → Type 0
+AreAllThere shelf fronts = (k : ℕ) → k < length fronts → waiting_at shelf fronts k ≢ []
+
+-- each input takes from a queue of the shelf, and its front is at that queue
+pub record AreFronts (inputs : List Input) (fronts : List Front) : Type 0 where
+  pub count : length fronts ≡ length inputs
+  pub queues : (k : ℕ) → k < length inputs → inlet_queue (input_at inputs k).inlet ≡ Some (front_at fronts k).queue
+
+-- station t has a front for each input, each job takes as long there, and no outlet can lack space
+pub record IsDirect (g : Parts) (t : ℕ) (inputs : List Input) (fronts : List Front) (bounded : Bool) : Type 0 where
+  pub each : AreFronts inputs fronts
+  pub extras : (job : ℕ) → front_extras fronts ≡ extras_into g t job
+  pub unbounded : bounded ≡ false
+
+-- all hands are empty
+abbrev pub AreEmptyHanded : List Input → Type 0
+AreEmptyHanded inputs = (k : ℕ) → k < length inputs → (input_at inputs k).hand ≡ None
+
+-- what a station keeps to fire at once: where it is direct, its fronts, and where it says so, all hands are empty
+pub record IsReadied (g : Parts) (t : ℕ) (inputs : List Input) (fronts : List Front)
+    (bounded direct empty : Bool) : Type 0 where
+  pub fires : IsTrue direct → IsDirect g t inputs fronts bounded
+  pub hands : IsTrue empty → AreEmptyHanded inputs
