@@ -127,4 +127,5 @@ def main():
         soak.folder.remove()
 
 
-main()
+if __name__ == "__main__":
+    main()

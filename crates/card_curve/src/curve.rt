@@ -56,15 +56,23 @@ fn keep_memory(alloc: Global) {
     drop(taken);
 }
 
-/// How many counts a thread gets at a time: more where one is soon found, so that the start of a thread is worth it.
+/// About how many dates a thread finds at a time: enough that to begin the thread is worth it.
+const DATES_EACH: usize = 640_000;
+
+/// How many counts a thread gets at a time, at most.
+const MOST_EACH: usize = 16;
+
+/// How many counts a thread gets at a time: more where one is soon found. A count takes about as long as the plant has
+/// demands and stages.
 fn counts_each(plant: &Plant) -> u32
     ensures { 1 ≤ result }
 {
-    match plant.stages.len().saturating_mul(plant.demands.len()) {
-        0..=40_000 => 4,
-        40_001..=80_000 => 2,
-        _ => 1,
-    }
+    let dates = plant
+        .stages
+        .len()
+        .saturating_mul(plant.demands.len())
+        .max(1);
+    (DATES_EACH / dates).clamp(1, MOST_EACH) as u32
 }
 
 /// How many counts are found before their rows are written: a fixed number for each worker, and one where there is one worker.

@@ -2,7 +2,7 @@
 use crate::change::Change;
 use crate::dates::row_of;
 use crate::directive::{Directive, Fault, OfRun, Row, directive_of};
-use crate::reason::{BadLine, Reason};
+use crate::reason::{BadLine, Reason, add_to, put_in, where_well};
 use crate::slots::Crash;
 use crate::variants::Variants;
 use crate::want::{After, Output, Want};
@@ -212,20 +212,20 @@ impl Run {
         match said {
             OfRun::Fault(fault) => self.faults.add(fault),
             OfRun::Crash(crash) => self.crash = Some(crash),
-            OfRun::EachFault(files) => self.each_fault = Some(files),
+            OfRun::EachFault(files) => put_in(&mut self.each_fault, Some(files)),
             OfRun::EachDiskFault(calls) => self.each_disk_fault = Some(calls),
-            OfRun::Variants(variants) => self.variants.push(variants)?,
+            OfRun::Variants(variants) => add_to(&mut self.variants, variants)?,
             OfRun::Status(status) => self.want.status = Some(status),
             OfRun::Output(output) => {
-                self.want.output = output;
+                put_in(&mut self.want.output, output);
                 self.says_output = true;
                 self.block = Some(Block::Output);
             }
             OfRun::After(after) => {
-                self.want.after.push(after)?;
+                add_to(&mut self.want.after, after)?;
                 self.block = Some(Block::After);
             }
-            OfRun::Row(row) => self.rows.push(NumberedRow { line, row })?,
+            OfRun::Row(row) => add_to(&mut self.rows, NumberedRow { line, row })?,
         }
         Ok(())
     }
@@ -292,15 +292,8 @@ impl Builder {
             Directive::Like(title) => self.begin_like(title.as_str()),
             Directive::File(change) => self.begin(Act::Change(change)),
             Directive::Command(words) => self.add_command(words),
-            Directive::Text(text) => {
-                let mut lines = text.into_bytes();
-                lines.push(b'\n')?;
-                self.add_text(&lines)
-            }
-            Directive::Dates(row) => {
-                let row = row_of(self.alloc, row.as_str())?;
-                self.add_text(&row.lines)
-            }
+            Directive::Text(text) => self.add_line(text),
+            Directive::Dates(row) => self.add_dates(row.as_str()),
             Directive::OfRun(said) => self.state(said),
         }
     }
@@ -355,10 +348,7 @@ impl Builder {
     /// Adds a step to the last case.
     fn add_to_last(&mut self, step: Step) -> Result<(), Reason> {
         match self.cases.last_mut() {
-            Some(case) => {
-                case.steps.push(step)?;
-                Ok(())
-            }
+            Some(case) => add_to(&mut case.steps, step),
             None => {
                 drop(step);
                 Err(Reason::NoCase)
@@ -379,31 +369,16 @@ impl Builder {
     fn begin_case(&mut self, title: String) -> Result<(), Reason> {
         self.close_case()?;
         let steps = Vec::new(self.alloc);
-        self.cases.push(Case { title, steps })?;
-        Ok(())
+        add_to(&mut self.cases, Case { title, steps })
     }
 
     /// Begins a case with the files of an earlier one.
     fn begin_like(&mut self, title: &str) -> Result<(), Reason> {
         self.close()?;
-        let steps = self.files_of(title)?;
-        match self.cases.last_mut() {
-            Some(case) => {
-                case.steps = steps;
-                Ok(())
-            }
+        match self.cases.split_last_mut() {
+            Some((case, earlier)) => add_files_of(&mut case.steps, earlier, title),
             None => Err(Reason::NoCase),
         }
-    }
-
-    /// The changes of files with which the case of this title begins.
-    fn files_of(&self, title: &str) -> Result<Vec<Step>, Reason> {
-        for case in self.cases.iter() {
-            if case.title.as_str() == title {
-                return first_changes(self.alloc, case);
-            }
-        }
-        Err(Reason::NoSuchCase)
     }
 
     /// Adds a command to the run of commands that stand one below the other, or begins a run.
@@ -416,13 +391,26 @@ impl Builder {
         ) = &mut self.open
         {
             if run.wants_nothing() {
-                run.commands.push(words)?;
-                return Ok(());
+                return add_to(&mut run.commands, words);
             }
         }
         let mut commands = Vec::new(self.alloc);
-        commands.push(words)?;
+        let added = add_to(&mut commands, words);
+        let commands = where_well(commands, added)?;
         self.begin(Act::Run(Run::new(self.alloc, commands)))
+    }
+
+    /// Adds a line to the text that has begun.
+    fn add_line(&mut self, text: String) -> Result<(), Reason> {
+        let mut line = text.into_bytes();
+        line.push(b'\n')?;
+        self.add_text(&line)
+    }
+
+    /// Adds the lines of a row of dates to the text that has begun.
+    fn add_dates(&mut self, row: &str) -> Result<(), Reason> {
+        let row = row_of(self.alloc, row)?;
+        self.add_text(&row.lines)
     }
 
     /// Adds lines to the text that has begun.
@@ -437,11 +425,14 @@ impl Builder {
     }
 }
 
-/// The changes of files before the first command of a case.
-fn first_changes(alloc: Global, case: &Case) -> Result<Vec<Step>, Reason> {
-    let mut steps = Vec::new(alloc);
-    add_first_changes(&mut steps, &case.steps)?;
-    Ok(steps)
+/// Adds the changes of files with which the earlier case of this title begins.
+fn add_files_of(changes: &mut Vec<Step>, earlier: &[Case], title: &str) -> Result<(), Reason> {
+    for case in earlier {
+        if case.title.as_str() == title {
+            return add_first_changes(changes, &case.steps);
+        }
+    }
+    Err(Reason::NoSuchCase)
 }
 
 /// Adds the changes of files before the first command of some steps.
@@ -451,10 +442,8 @@ fn add_first_changes(changes: &mut Vec<Step>, steps: &[Step]) -> Result<(), Reas
             return Ok(());
         };
         let act = Act::Change(change.clone()?);
-        changes.push(Step {
-            line: step.line,
-            act,
-        })?;
+        let line = step.line;
+        add_to(changes, Step { line, act })?;
     }
     Ok(())
 }

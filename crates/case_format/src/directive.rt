@@ -1,6 +1,6 @@
 //! The lines of a case file.
 use crate::change::{Change, change_of};
-use crate::reason::Reason;
+use crate::reason::{Reason, add_to, where_well, with};
 use crate::slots::Crash;
 use crate::variants::{Kind, Variants, variants_of};
 use crate::want::{After, Output, Want, want_of};
@@ -166,20 +166,22 @@ fn of_run(alloc: Global, word: &str, words: &mut Words) -> Result<OfRun, Reason>
 
 /// The row that stands behind `with`.
 fn row_of(alloc: Global, words: &mut Words) -> Result<Row, Reason> {
-    let mut row = Row {
-        changes: Vec::new(alloc),
-        want: Want::nothing(alloc),
-    };
-    read_row(alloc, &mut row, words)?;
-    Ok(row)
+    let changes = changes_of(alloc, words)?;
+    let (changes, want) = with(changes, gives_of(alloc, words))?;
+    Ok(Row { changes, want })
 }
 
-/// Reads the changes of a row, and what it gives.
-fn read_row(alloc: Global, row: &mut Row, words: &mut Words) -> Result<(), Reason> {
-    add_changes(alloc, &mut row.changes, words)?;
+/// The changes of a row.
+fn changes_of(alloc: Global, words: &mut Words) -> Result<Vec<Change>, Reason> {
+    let mut changes = Vec::new(alloc);
+    let added = add_changes(alloc, &mut changes, words);
+    where_well(changes, added)
+}
+
+/// What is wanted behind `gives`.
+fn gives_of(alloc: Global, words: &mut Words) -> Result<Want, Reason> {
     words.expect_word("gives")?;
-    row.want = want_of(alloc, words)?;
-    Ok(())
+    want_of(alloc, words)
 }
 
 /// Adds the changes of a row, with `and` between two of them.
@@ -195,8 +197,7 @@ fn add_changes(alloc: Global, changes: &mut Vec<Change>, words: &mut Words) -> R
 
 /// Adds the change that the next words are.
 fn add_change(alloc: Global, changes: &mut Vec<Change>, words: &mut Words) -> Result<(), Reason> {
-    changes.push(change_of(alloc, words)?)?;
-    Ok(())
+    add_to(changes, change_of(alloc, words)?)
 }
 
 /// The output that stands behind `output`.

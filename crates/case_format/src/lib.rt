@@ -17,7 +17,7 @@ pub use change::{Change, Edit, apply, held, put, put_copy, read_file, split_arou
 pub use dates::DateRow;
 pub use directive::Row;
 pub use draws::Recipe;
-pub use reason::{BadLine, Reason};
+pub use reason::{BadLine, Reason, put_in, where_well, with};
 pub use slots::{Crash, Slots};
 pub use variants::{Kind, Variants, is_answer};
 pub use want::{After, Output, Want};

@@ -77,6 +77,38 @@ pub struct BadLine {
     pub reason: Reason,
 }
 
+/// A value, where what was done with it ended well; where not, it is let go here.
+pub fn where_well<T: Drop>(value: T, ended: Result<(), Reason>) -> Result<T, Reason> {
+    match ended {
+        Ok(()) => Ok(value),
+        Err(reason) => {
+            drop(value);
+            Err(reason)
+        }
+    }
+}
+
+/// Both values, where the second was made; where not, the first is let go here.
+pub fn with<T: Drop, U>(value: T, made: Result<U, Reason>) -> Result<(T, U), Reason> {
+    match made {
+        Ok(other) => Ok((value, other)),
+        Err(reason) => {
+            drop(value);
+            Err(reason)
+        }
+    }
+}
+
+/// Adds a value to a list.
+pub fn add_to<T: Drop>(list: &mut Vec<T>, value: T) -> Result<(), Reason> {
+    Ok(list.push(value)?)
+}
+
+/// Puts a value in the place of another, which is let go here.
+pub fn put_in<T: Drop>(place: &mut T, value: T) {
+    *place = value;
+}
+
 impl From<AllocError> for Reason {
     fn from(_: AllocError) -> Self {
         Reason::NoMemory

@@ -1,5 +1,5 @@
 //! What the two slots of a disk hold, from one command of a case to the next.
-use crate::reason::Reason;
+use crate::reason::{Reason, where_well, with};
 use line_disk::{Disk, DiskError, MemDisk};
 use slot_store::MAX_ROOM;
 use std::alloc::{AllocError, Global};
@@ -58,10 +58,15 @@ impl Slots {
             failing.saturating_add(FILLING)
         };
         let mut disk = MemDisk::new(alloc, vec![in alloc; failing]?);
-        fill(&mut disk, 0, &self.zero)?;
-        fill(&mut disk, START_OF_ONE, &self.one)?;
-        disk.sync()?;
-        Ok(disk)
+        let filled = self.fill(&mut disk);
+        where_well(disk, filled)
+    }
+
+    /// Writes the slots to a disk.
+    fn fill(&self, disk: &mut MemDisk) -> Result<(), Reason> {
+        fill(disk, 0, &self.zero)?;
+        fill(disk, START_OF_ONE, &self.one)?;
+        Ok(disk.sync()?)
     }
 
     /// The slots as a command leaves them, or as a crash during one of its calls does.
@@ -74,8 +79,15 @@ impl Slots {
             return Err(Reason::NoSuchCall);
         }
         let mut left = disk.crash(call, pick)?;
-        let zero = slot_at(alloc, &mut left, 0)?;
-        let one = slot_at(alloc, &mut left, START_OF_ONE)?;
+        let slots = Slots::held_by(alloc, &mut left);
+        drop(left);
+        slots
+    }
+
+    /// The slots that a disk holds.
+    fn held_by(alloc: Global, disk: &mut MemDisk) -> Result<Self, Reason> {
+        let zero = slot_at(alloc, disk, 0)?;
+        let (zero, one) = with(zero, slot_at(alloc, disk, START_OF_ONE))?;
         Ok(Slots { zero, one })
     }
 

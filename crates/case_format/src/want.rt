@@ -1,6 +1,6 @@
 //! What is wanted of a run.
 use crate::dates::{DateRow, row_of};
-use crate::reason::Reason;
+use crate::reason::{Reason, add_to, where_well};
 use crate::words::Words;
 use std::alloc::Global;
 
@@ -99,13 +99,19 @@ fn line_of(alloc: Global, words: &mut Words) -> Result<Vec<u8>, Reason> {
 /// The rows of the words that are left, with a colon between two of them.
 fn rows_of(alloc: Global, words: &mut Words) -> Result<Vec<DateRow>, Reason> {
     let mut rows = Vec::new(alloc);
+    let read = read_rows(alloc, &mut rows, words);
+    where_well(rows, read)
+}
+
+/// Adds the rows of the words that are left.
+fn read_rows(alloc: Global, rows: &mut Vec<DateRow>, words: &mut Words) -> Result<(), Reason> {
     for _ in 0..words.len() {
         if words.len() == 0 {
             break;
         }
-        rows.push(next_row(alloc, words)?)?;
+        add_to(rows, next_row(alloc, words)?)?;
     }
-    Ok(rows)
+    Ok(())
 }
 
 /// The row of the words up to the next colon.

@@ -1,5 +1,5 @@
 //! The words of a line of a case file, which spaces part: bare ones, and texts in quotes.
-use crate::reason::Reason;
+use crate::reason::{Reason, add_to, where_well};
 use std::alloc::Global;
 
 /// The words of a line that are left, the next one last.
@@ -37,28 +37,26 @@ enum Mode {
 
 /// The words of a line, as far as it has been read.
 #[derive(Drop)]
-struct Reading {
+struct Reading<'a> {
     alloc: Global,
-    tokens: Vec<Token>,
+    tokens: &'a mut Vec<Token>,
     /// The bytes of the word that is being read.
     bytes: Vec<u8>,
     mode: Mode,
 }
 
-/// The words of a line, the last one first.
-fn tokens_of(alloc: Global, line: &str) -> Result<Vec<Token>, Reason> {
+/// Adds the words of a line.
+fn read_tokens(alloc: Global, tokens: &mut Vec<Token>, line: &str) -> Result<(), Reason> {
     let mut reading = Reading {
         alloc,
-        tokens: Vec::new(alloc),
+        tokens,
         bytes: Vec::new(alloc),
         mode: Mode::Between,
     };
-    reading.read_line(line)?;
-    reading.tokens.reverse();
-    Ok(reading.tokens)
+    reading.read_line(line)
 }
 
-impl Reading {
+impl<'a> Reading<'a> {
     /// Reads a line to its end.
     fn read_line(&mut self, line: &str) -> Result<(), Reason> {
         for byte in line.bytes() {
@@ -123,8 +121,7 @@ impl Reading {
         let Ok(word) = String::from_utf8(bytes) else {
             return Err(Reason::BadText);
         };
-        self.tokens.push(Token::Word(word))?;
-        Ok(())
+        add_to(self.tokens, Token::Word(word))
     }
 
     /// The bytes of the word that ends here.
@@ -137,7 +134,7 @@ impl Reading {
     fn read_in_text(&mut self, quote: u8, byte: u8) -> Result<(), Reason> {
         if byte == quote {
             let bytes = self.ended();
-            self.tokens.push(Token::Text(bytes))?;
+            add_to(self.tokens, Token::Text(bytes))?;
         } else if byte == b'\\' {
             self.mode = Mode::Escape(quote);
         } else {
@@ -182,10 +179,11 @@ fn digit_of(byte: u8) -> Result<u8, Reason> {
 impl Words {
     /// The words of a line.
     pub fn of(alloc: Global, line: &str) -> Result<Self, Reason> {
-        Ok(Words {
-            alloc,
-            tokens: tokens_of(alloc, line)?,
-        })
+        let mut tokens = Vec::new(alloc);
+        let read = read_tokens(alloc, &mut tokens, line);
+        let mut tokens = where_well(tokens, read)?;
+        tokens.reverse();
+        Ok(Words { alloc, tokens })
     }
 
     /// How many words are left.
@@ -229,10 +227,16 @@ impl Words {
     /// The names that are left.
     pub fn names(&mut self) -> Result<Vec<String>, Reason> {
         let mut names = Vec::new(self.alloc);
+        let read = self.read_names(&mut names);
+        where_well(names, read)
+    }
+
+    /// Adds the names that are left.
+    fn read_names(&mut self, names: &mut Vec<String>) -> Result<(), Reason> {
         for _ in 0..self.tokens.len() {
-            names.push(self.name()?)?;
+            add_to(names, self.name()?)?;
         }
-        Ok(names)
+        Ok(())
     }
 
     /// The number that the next word is.

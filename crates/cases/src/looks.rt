@@ -16,8 +16,12 @@ use std::alloc::{AllocError, Global};
 fn plant_of(alloc: Global, bytes: &[u8]) -> Result<Plant, Reason>
     ensures { IfOk result IsSound }
 {
-    let Ok(draft) = read_plant(alloc, bytes) else {
-        return Err(Reason::NoPlant);
+    let draft = match read_plant(alloc, bytes) {
+        Ok(draft) => draft,
+        Err(error) => {
+            drop(error);
+            return Err(Reason::NoPlant);
+        }
     };
     if draft.demands_file().is_some() || draft.times_file().is_some() {
         drop(draft);
@@ -25,7 +29,10 @@ fn plant_of(alloc: Global, bytes: &[u8]) -> Result<Plant, Reason>
     }
     match complete_draft(alloc, draft, None, None) {
         Ok(plant) => Ok(plant),
-        Err(_) => Err(Reason::NoPlant),
+        Err(error) => {
+            drop(error);
+            Err(Reason::NoPlant)
+        }
     }
 }
 
@@ -83,8 +90,15 @@ fn circuit_lines(alloc: Global, plant: &Plant) -> Result<Vec<u8>, Reason>
     requires { IsSound plant.now }
 {
     let circuits = circuits_in(alloc, plant)?;
+    let lines = lines_of(alloc, circuits.as_slice());
+    drop(circuits);
+    Ok(lines?)
+}
+
+/// The lines of card circuits.
+fn lines_of(alloc: Global, circuits: &[CardCircuit]) -> Result<Vec<u8>, AllocError> {
     let mut text = String::new(alloc);
-    write_circuits(&mut text, circuits.as_slice())?;
+    write_circuits(&mut text, circuits)?;
     Ok(text.into_bytes())
 }
 

@@ -4,7 +4,7 @@ use crate::looks::{arcs_of, circuits_of};
 use crate::told::{Told, add_came, add_changed, add_variant};
 use case_format::{
     Act, After, BadLine, Case, Change, Crash, Faults, NumberedRow, Output, Reason, Run, Slots,
-    Step, Variants, apply, held, is_answer, put, put_copy,
+    Step, Variants, apply, held, is_answer, put, put_copy, put_in, where_well, with,
 };
 use line_disk::MemDisk;
 use line_io::{Files, MemSink, MemStore, Store};
@@ -350,17 +350,6 @@ impl Failing {
     }
 }
 
-/// A value, where what was done with it ended well; where not, it is let go here.
-fn where_well<T: Drop>(value: T, ended: Result<(), Reason>) -> Result<T, Reason> {
-    match ended {
-        Ok(()) => Ok(value),
-        Err(reason) => {
-            drop(value);
-            Err(reason)
-        }
-    }
-}
-
 /// The files, where the one of this name holds these bytes.
 fn files_with(files: &Files, name: &String, bytes: Vec<u8>) -> Result<Files, Reason> {
     let mut changed = files.clone()?;
@@ -387,8 +376,10 @@ fn attempt_of<'a>(run: &'a Run, line: u64, words: &'a [String], found: &'a Found
 fn leave(found: &mut Found, left: Option<Left>) -> Result<(), Reason> {
     match left {
         Some(Left { files, slots }) => {
-            found.slots = slots;
-            put_all(&mut found.files, &files)
+            put_in(&mut found.slots, slots);
+            let ended = put_all(&mut found.files, &files);
+            drop(files);
+            ended
         }
         None => Ok(()),
     }
@@ -518,9 +509,10 @@ struct Memory {
 impl Memory {
     /// What a command finds.
     fn of(alloc: Global, attempt: &Attempt) -> Result<Self, Reason> {
-        let sink = sink_of(alloc, attempt.faults)?;
-        let store = store_of(alloc, attempt.files, attempt.faults)?;
-        let disk = attempt.slots.disk(alloc, attempt.faults.disk)?;
+        let faults = attempt.faults;
+        let sink = sink_of(alloc, faults)?;
+        let (sink, store) = with(sink, store_of(alloc, attempt.files, faults))?;
+        let ((sink, store), disk) = with((sink, store), attempt.slots.disk(alloc, faults.disk))?;
         Ok(Memory { store, sink, disk })
     }
 
@@ -540,7 +532,8 @@ impl Memory {
     /// What a command leaves to those below.
     fn left(&self, alloc: Global, attempt: &Attempt) -> Result<Left, Reason> {
         let slots = Slots::left_on(alloc, &self.disk, attempt.crash)?;
-        let files = wanted_files(alloc, self.store.files(), attempt.after)?;
+        let files = wanted_files(alloc, self.store.files(), attempt.after);
+        let (slots, files) = with(slots, files)?;
         Ok(Left { files, slots })
     }
 }

@@ -27,7 +27,6 @@ use Rattle.commands.proofs.Stops.{reported_caused}
 use Rattle.commands.specs.Reports.{IsReport, IsNoCheckpoint, IsResumed}
 use Rattle.commands.specs.Saving.{NamesStationOf, IsResumeRefusal, IsResumedOf, ResumesSaved, ResumesSlots as SlotsResume}
 use Rattle.answers.specs.declared.answer.Answer.{Answer}
-use Rattle.slot_store.specs.Crash.{bytes_now}
 
 -- ---- a text
 
@@ -120,14 +119,14 @@ module _ (tells : Bool) (old new : DiskView) (p : Plant) (loaded : Loaded tells 
   slots_fault rose = slots_do (Err Disk) (λ store. rose) (inr (inl refl))
 
   module _ (g : Parts) (same : g ≡ graph p) where
-    pub slots_nothing : ResumesSlots tells (bytes_now old) most_checkpoint_bytes g (Err resume_error.NothingSaved) → DoesOnDisk (disk_over tells old new) (SlotsResume p) (Err NothingSaved)
+    pub slots_nothing : ResumesSlots tells old new most_checkpoint_bytes g (Err resume_error.NothingSaved) → DoesOnDisk (disk_over tells old new) (SlotsResume p) (Err NothingSaved)
     slots_nothing of = slots_do (Err NothingSaved) (λ store. tt)
-        (inl (record { saved = of.saved; known = of.told; answers = saved_nothing p g of.saved of.answers }))
+        (inl (record { saved = of.saved; known = of.told; read = of.read tt; answers = saved_nothing p g of.saved of.answers }))
 
-    pub slots_report : (d : Dates) (answer : Result Answer Refusal) → ResumesSlots tells (bytes_now old) most_checkpoint_bytes g (Ok d) → IsReport p answer ⊎ (answer ≡ Err NoMemory) → DoesOnDisk (disk_over tells old new) (SlotsResume p) answer
+    pub slots_report : (d : Dates) (answer : Result Answer Refusal) → ResumesSlots tells old new most_checkpoint_bytes g (Ok d) → IsReport p answer ⊎ (answer ≡ Err NoMemory) → DoesOnDisk (disk_over tells old new) (SlotsResume p) answer
     slots_report d answer of is = slots_do answer (λ store. reported_caused store (disk_over tells old new) p answer is)
         (⊎_elim
-        (λ (report : IsReport p answer). inl (record { saved = of.saved; known = of.told; answers = saved_resumes p g of.saved d answer same of.answers report }))
+        (λ (report : IsReport p answer). inl (record { saved = of.saved; known = of.told; read = of.read tt; answers = saved_resumes p g of.saved d answer same of.answers report }))
         (λ (none : answer ≡ Err NoMemory). inr (inr none))
         is)
 
@@ -143,14 +142,14 @@ module _ (tells : Bool) (old new : DiskView) (p : Plant) (loaded : Loaded tells 
         refusal_caused (error.PlaceDate a token have need) = tt
         refusal_caused error.NoMemory = tt
 
-    pub slots_refuse : (e : CheckpointError) (refusal : Refusal) → ResumesSlots tells (bytes_now old) most_checkpoint_bytes g (Err (Checkpoint e)) → (refusal ≡ NoMemory) ⊎ (refusal ≡ checkpoint_refusal g e) → DoesOnDisk (disk_over tells old new) (SlotsResume p) (Err refusal)
+    pub slots_refuse : (e : CheckpointError) (refusal : Refusal) → ResumesSlots tells old new most_checkpoint_bytes g (Err (Checkpoint e)) → (refusal ≡ NoMemory) ⊎ (refusal ≡ checkpoint_refusal g e) → DoesOnDisk (disk_over tells old new) (SlotsResume p) (Err refusal)
     slots_refuse e refusal of is = slots_do (Err refusal) (λ store. checkpoint_caused e refusal store (disk_over tells old new) is)
         (⊎_elim
-        (λ (answers : IsResumedOf p of.saved (Err refusal)). inl (record { saved = of.saved; known = of.told; answers = answers }))
+        (λ (answers : IsResumedOf p of.saved (Err refusal)). inl (record { saved = of.saved; known = of.told; read = of.read tt; answers = answers }))
         (λ (none : refused_with refusal ≡ Err NoMemory). inr (inr none))
         (saved_refuses p g of.saved e refusal same of.answers is))
 
-    pub slots_refused : (e : ResumeError) (refusal : Refusal) → ResumesSlots tells (bytes_now old) most_checkpoint_bytes g (Err e) → (e ≡ resume_error.DiskFault → Rose old.faults new.faults) → IsResumeRefusal g e refusal → DoesOnDisk (disk_over tells old new) (SlotsResume p) (Err refusal)
+    pub slots_refused : (e : ResumeError) (refusal : Refusal) → ResumesSlots tells old new most_checkpoint_bytes g (Err e) → (e ≡ resume_error.DiskFault → Rose old.faults new.faults) → IsResumeRefusal g e refusal → DoesOnDisk (disk_over tells old new) (SlotsResume p) (Err refusal)
     slots_refused resume_error.NothingSaved refusal of rose is = subst (λ (r : Refusal). DoesOnDisk (disk_over tells old new) (SlotsResume p) (Err r)) (sym is) (slots_nothing of)
     slots_refused resume_error.DiskFault refusal of rose is = subst (λ (r : Refusal). DoesOnDisk (disk_over tells old new) (SlotsResume p) (Err r)) (sym is) (slots_fault (rose refl))
     slots_refused resume_error.NoMemory refusal of rose is = subst (λ (r : Refusal). DoesOnDisk (disk_over tells old new) (SlotsResume p) (Err r)) (sym is) slots_no_memory

@@ -29,7 +29,9 @@ use Rattle.slot_store.specs.Crash.{bytes_now}
 use Rattle.slot_store.specs.declared.error.SlotError.{SlotError}
 use Rattle.slot_store.specs.declared.error.SlotError.TheVariants as slot_error
 use Rattle.slot_store.specs.Layout.{content}
+use Rattle.slot_store.specs.Loads.{HasLoaded, answer_finding}
 use Rattle.live_plant.specs.Actions.{DiskOver, Action}
+use Rattle.commands.specs.FirstEnd.{IsDoneFirst, IsFirstEnd}
 use Rattle.commands.specs.Reports.{IsReport, IsResumed}
 use Rattle.commands.specs.declared.task.DiskQuestion.{DiskQuestion}
 use Rattle.commands.specs.declared.task.DiskQuestion.TheVariants as disk_question
@@ -58,26 +60,29 @@ abbrev pub SavesText : List ℕ → List ℕ → ℕ → Action Answer
 SavesText file bytes count asked disk answer =
     (disk.new ≡ disk.old) × (WritesText file bytes count asked answer ⊎ AsksNothing asked answer)
 
--- the run stopped in a state from which it may be resumed, at n firings or soon after, and its text, which is no longer than a
--- checkpoint may be, was written to the file
-pub record Stops (p : Plant) (n : ℕ) (file : List ℕ) (asked : Asked) (answer : Result Answer Refusal) : Type 0 where
+-- the run of this many workers stopped in a state from which it may be resumed, at the first burst's end with n firings, and its
+-- text, which is no longer than a checkpoint may be, was written to the file
+pub record Stops (p : Plant) (workers n : ℕ) (file : List ℕ) (asked : Asked) (answer : Result Answer Refusal) : Type 0 where
   pub state : State
   pub resumed : MayBeResumed (graph p) state
+  pub first_end : IsFirstEnd (graph p) n workers state
   pub stop : IsStopAt (graph p) n 0 (fired state)
   pub fits : length (text Differences (graph p) state) ≤ most_checkpoint_bytes
   pub saved : WritesText file (text Differences (graph p) state) (fired state) asked answer
 
--- the run answered its end before it was stopped, and nothing was written to the store
-pub record Ends (p : Plant) (n : ℕ) (asked : Asked) (answer : Result Answer Refusal) : Type 0 where
+-- the run of this many workers answered its end, since at no burst's end before that n firings were made, and nothing was written
+-- to the store
+pub record Ends (p : Plant) (workers n : ℕ) (asked : Asked) (answer : Result Answer Refusal) : Type 0 where
   pub nothing : asked ≡ none_asked
+  pub first : IsDoneFirst (graph p) n workers
   pub short : IsShort (graph p) n 0
   pub report : IsReport p answer
 
--- `run --stop-after N --save FILE`
-pub record RunsUntil (p : Plant) (n : ℕ) (file : List ℕ) (asked : Asked) (disk : DiskOver)
+-- `run --stop-after N --save FILE --workers W`
+pub record RunsUntil (p : Plant) (workers n : ℕ) (file : List ℕ) (asked : Asked) (disk : DiskOver)
     (answer : Result Answer Refusal) : Type 0 where
   pub untouched : disk.new ≡ disk.old
-  pub answers : Stops p n file asked answer ⊎ (Ends p n asked answer ⊎ AsksNothing asked answer)
+  pub answers : Stops p workers n file asked answer ⊎ (Ends p workers n asked answer ⊎ AsksNothing asked answer)
 
 -- from the start of the plant's graph on, a save was due at each burst's end at which n firings were made since the save
 -- before or the start, and not all; the disk holds the state of the last of them, and is as before where there was none
@@ -111,10 +116,11 @@ abbrev pub IsResumedOf : Plant → Option (List ℕ) → Result Answer Refusal �
 IsResumedOf p None answer = answer ≡ Err NothingSaved
 IsResumedOf p (Some bytes) answer = IsResumed p bytes answer
 
--- what the slots hold is resumed, as the disk reads where it tells, and else as it was read
+-- What the slots hold is resumed: what the reads of this call found, and where the disk tells it, what it holds.
 pub record ResumesSaved (p : Plant) (disk : DiskOver) (answer : Result Answer Refusal) : Type 0 where
   pub saved : Option (List ℕ)
   pub known : IsTrue disk.tells → content (bytes_now disk.old) most_checkpoint_bytes ≡ saved
+  pub read : HasLoaded most_checkpoint_bytes disk.old disk.new (answer_finding saved)
   pub answers : IsResumedOf p saved answer
 
 -- `resume --slots`

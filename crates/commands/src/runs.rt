@@ -12,6 +12,7 @@ ghost use Rattle.line_runs.specs.Store.{text_of};
 ghost use Rattle.line_runs.specs.Table.{IsLeastOf};
 ghost use Rattle.plant_model.specs.Graph.{graph};
 ghost use Rattle.commands.specs.Answers.{IsSummary};
+ghost use Rattle.commands.specs.FirstEnd.{EndsAtFirst};
 ghost use Rattle.commands.specs.Reports.{IsReport, IsResumed};
 ghost use Rattle.commands.specs.Saving.{AnswersWrite, RunsUntil, SavesText};
 ghost use Rattle.live_plant.specs.Actions.{DoesOnStore};
@@ -183,7 +184,8 @@ fn standing_table_of<R: Threads + Wait + Sync, G: Gate>(
 }
 
 /// Runs a live plant by as many workers until as many firings are made, and saves the state in
-/// which it stops; or to its end, where all firings are made first.
+/// which it stops, at the first burst's end with as many; or to its end, where all firings are made
+/// before such a burst's end.
 pub fn run_until<R: Threads + Sync, G: Gate, S: Store>(
     rt: &R,
     alloc: Global,
@@ -196,7 +198,7 @@ pub fn run_until<R: Threads + Sync, G: Gate, S: Store>(
     requires plant { IsLivePlant line }
     requires workers { AreWorkers workers }
     ensures { DoesOnStore (store_over S.tells (S.shown store.old) (S.shown store.new))
-        (RunsUntil line.plant stop.after stop.save) result }
+        (RunsUntil line.plant workers stop.after stop.save) result }
 {
     match outcome_of(rt, alloc, &line.live, workers, stop.after, gate) {
         Ok(outcome) => end_run(alloc, line, outcome, workers, stop, store),
@@ -219,6 +221,7 @@ fn outcome_of<R: Threads + Sync, G: Gate>(
     requires workers { AreWorkers workers }
     ensures well { IfOk result (EndsWell live.now.graph) }
     ensures count { IfOk result (CountsWell live.now.graph firings 0) }
+    ensures first { IfOk result (EndsAtFirst live.now.graph firings workers) }
 {
     let work = Line::prepare(alloc, live, workers)?;
     Ok(line_runs::run_until(rt, live, work, firings, gate))
@@ -236,8 +239,9 @@ fn end_run<S: Store>(
     requires plant { IsLivePlant line }
     requires well { EndsWell line.live.graph outcome }
     requires count { CountsWell line.live.graph stop.after 0 outcome }
+    requires first { EndsAtFirst line.live.graph stop.after workers outcome }
     ensures { DoesOnStore (store_over S.tells (S.shown store.old) (S.shown store.new))
-        (RunsUntil line.plant stop.after stop.save) result }
+        (RunsUntil line.plant workers stop.after stop.save) result }
 {
     match outcome {
         Outcome::Finished(table) => report_of(alloc, line, table, workers),

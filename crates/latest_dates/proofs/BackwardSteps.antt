@@ -1,11 +1,11 @@
 -- One step of the pass from the last date to the first.
-use Rattle.std.proofs.Common.{◌≡◌, ◌≢◌, ℕ, ◌+◌, ◌<◌, ◌≤◌, List, length, set, sym, ap, ◌∙◌, subst, arith, inl, inr}
-use Rattle.std.specs.Prelude.{Option, None}
+use Rattle.std.proofs.Common.{◌≡◌, ◌≢◌, ℕ, zero, suc, ◌+◌, ◌-◌, ◌*◌, ◌<◌, ◌≤◌, List, [], ◌++◌, length, take, drop, set, sym, ap, ◌∙◌, subst, append-nil, arith, inl, inr}
+use Rattle.std.specs.Prelude.{Option, None, slice_index}
 use Rattle.std.proofs.lemmas.Bool.{cases_lt}
 use Rattle.std.proofs.lemmas.Grind.{get_or-set_at}
-use Rattle.std.proofs.lemmas.List.{get_or-set_other}
+use Rattle.std.proofs.lemmas.List.{get_or-set_other, drop_all, take_all}
 use Rattle.line_base.specs.declared.event.Parts.{Parts}
-use Rattle.event_graph.specs.Network.{arc, delay, IsGraph, StartsAt}
+use Rattle.event_graph.specs.Network.{stations, arc, delay, IsGraph, StartsAt}
 use Rattle.event_graph.specs.Table.{Table, date_in}
 use Rattle.event_graph.specs.Term.{work}
 use Rattle.event_graph.specs.Solves.{Solves}
@@ -15,11 +15,12 @@ use Rattle.what_if.specs.Page.{IsDate, slot}
 use Rattle.what_if.proofs.SlotOrder.{slot-station, slot-rank}
 use Rattle.latest_dates.specs.Latest.{LatestTable, earliest_bound}
 use Rattle.latest_dates.specs.Laws.{IsServed}
+use Rattle.latest_dates.specs.Pass.{AreLatestFrom}
 use Rattle.latest_dates.specs.Found.{IsInTime, LeavesTime, place, latest_in}
 use Rattle.latest_dates.proofs.Places.{place-station, place-job}
 use Rattle.latest_dates.proofs.FromLast.{reader, reads-later}
 use Rattle.latest_dates.proofs.EarliestBounds.{AgreesAfter, earliest_bound-same, term-sent}
-use Rattle.latest_dates.proofs.NoneLater.{AreLatestFrom, none_later}
+use Rattle.latest_dates.proofs.NoneLater.{none_later}
 use Rattle.latest_dates.proofs.Solving.{no_later-less}
 
 -- the run solves the graph, and serves where no job waits longer than it may
@@ -33,6 +34,30 @@ served d may least in_time n one inside =
 pub run_serves : (d : Dates) (g : Parts) (may : ℕ) → IsLeastTable d → d.graph ≡ g → IsInTime g (date_in d.rows) may → IsServed g may (date_in d.rows)
 run_serves d g may least same in_time =
     subst (λ h. IsServed h may (date_in d.rows)) same (served d may least (subst (λ h. IsInTime h (date_in d.rows) may) (sym same) in_time))
+
+-- the slots from a job on are those of the job, and of later ones
+pub job_start : (n width : ℕ) → 1 ≤ n → n * width ≡ (n - 1) * width + (width - 0)
+job_start zero width one = absurd (omega arith)
+job_start (suc n) width one =
+    let before : suc n - 1 ≡ n = omega arith in
+    omega (arith, ap (λ k. k * width) before)
+
+pub no_slot_left : (n width : ℕ) → (n - 0) * width ≡ n * width
+no_slot_left n width =
+    let same : n - 0 ≡ n = omega arith in
+    ap (λ k. k * width) same
+
+-- what a list that was lent as a slice has afterwards
+pub lent_back : (new items : List (Option ℕ)) (len : ℕ) → len ≡ length items → length new ≡ length items → take len (new ++ drop (length new) items) ≡ new
+lent_back new items len all same =
+    ap (λ l. take len (new ++ l)) (drop_all (length new) items (omega arith))
+    ∙ ap (take len) (append-nil new)
+    ∙ take_all len new (omega arith)
+
+-- the slot of a job at a station by its rank
+pub slot_above : (l : LiveGraph) (t n rank : ℕ) → slice_index l.ranks t ≡ rank → slot l t n ≡ (n - 1) * stations l.graph + rank
+unfolding slot
+slot_above l t n rank is = ap (λ k. (n - 1) * stations l.graph + k) is
 
 module _ (l : LiveGraph) (up : IsUpward l.graph l.ranks) (graph : IsGraph l.graph) (may : ℕ) where
   -- the latest dates that a date is bounded by leave time for what the arcs add

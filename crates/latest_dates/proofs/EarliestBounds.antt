@@ -1,8 +1,7 @@
 -- What bounds a date, and what its earliest bound is by that.
-use Rattle.std.proofs.Common.{◌≡◌, ℕ, ◌+◌, ◌-◌, ◌<◌, ◌≤◌, leb, ltb, eqb, get_or, sym, ap, ◌∙◌, subst, arith, inl, inr}
+use Rattle.std.proofs.Common.{◌≡◌, ℕ, ◌+◌, ◌-◌, ◌<◌, ◌≤◌, leb, ltb, eqb, get_or, sym, ap, ◌∙◌, arith, inl, inr}
 use Rattle.std.specs.Prelude.{Option, None, Some}
 use Rattle.std.proofs.lemmas.Bool.{cases_lt, cond-true, cond-false, le-leb, lt-leb, lt-ltb, le-ltb, eq-eqb, ne_eqb}
-use Rattle.line_base.specs.declared.event.Arc.{Arc}
 use Rattle.line_base.specs.declared.event.Parts.{Parts}
 use Rattle.event_graph.specs.Network.{stations, jobs, arc, demand, delay, outs, StartsAt}
 use Rattle.event_graph.specs.Table.{Table}
@@ -94,14 +93,3 @@ term-sent g z a n one =
 pub term-initial : (g : Parts) (z : Table) (a n : ℕ) → n ≤ (arc g a).tokens → term g z a n ≡ work g a n
 term-initial g z a n initial =
     omega (arith, cond-false (ltb (arc g a).tokens n) (z (arc g a).from (n - (arc g a).tokens) + delay g a) 0 (le-ltb (arc g a).tokens n initial))
-
--- a bound as it is computed: by a copy of the arc, and the latest date at its end
-pub bound-made : (g : Parts) (y : LatestTable) (n a : ℕ) (x : Arc) (o : Option ℕ) → x ≡ arc g a → n + x.tokens ≤ jobs g → o ≡ y x.to (n + x.tokens) → put_by g a (n + x.tokens) o ≡ bound g y n a
-bound-made g y n a x o is inside at =
-    let within : n + (arc g a).tokens ≤ jobs g = subst (λ (z : Arc). n + z.tokens ≤ jobs g) is inside in
-    ap (put_by g a (n + x.tokens)) at
-    ∙ ap (λ (z : Arc). put_by g a (n + z.tokens) (y z.to (n + z.tokens))) is
-    ∙ sym (bound-read g y n a within)
-
-pub bound-missing : (g : Parts) (y : LatestTable) (n a : ℕ) (x : Arc) → x ≡ arc g a → jobs g < n + x.tokens → None ≡ bound g y n a
-bound-missing g y n a x is past = sym (bound-past g y n a (subst (λ (z : Arc). jobs g < n + z.tokens) is past))

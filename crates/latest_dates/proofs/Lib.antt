@@ -3,6 +3,7 @@ pub mod Places
 pub mod FromLast
 pub mod Earliest
 pub mod EarliestBounds
+pub mod ArcBounds
 pub mod NoneLater
 pub mod Solving
 pub mod Unbounded

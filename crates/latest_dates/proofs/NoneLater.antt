@@ -1,5 +1,5 @@
 -- No table that solves the graph and serves is later than the latest dates.
-use Rattle.std.proofs.Common.{◌≡◌, ℕ, ◌+◌, ◌-◌, ◌≤◌, sym, ap, subst, arith, inl, inr}
+use Rattle.std.proofs.Common.{ℕ, ◌+◌, ◌-◌, ◌≤◌, sym, ap, subst, arith, inl, inr}
 use Rattle.std.specs.Prelude.{Option, None, Some}
 use Rattle.std.proofs.lemmas.Bool.{cases_lt, cases_eq}
 use Rattle.line_base.specs.declared.event.Parts.{Parts}
@@ -9,15 +9,11 @@ use Rattle.event_graph.specs.Term.{work}
 use Rattle.event_graph.specs.Solves.{Solves}
 use Rattle.live_check.specs.Order.{LiveGraph, IsUpward}
 use Rattle.what_if.specs.Page.{IsDate, slot}
-use Rattle.latest_dates.specs.Latest.{LatestTable, promised, put_by, bound, earliest_bound, IsNoLater}
+use Rattle.latest_dates.specs.Latest.{LatestTable, promised, put_by, bound, IsNoLater}
 use Rattle.latest_dates.specs.Laws.{IsServed}
+use Rattle.latest_dates.specs.Pass.{AreLatestFrom}
 use Rattle.latest_dates.proofs.FromLast.{OfReaders, from_last}
 use Rattle.latest_dates.proofs.EarliestBounds.{bound-read, bound-past, promised-last, promised-other, no_later-bounds, term-sent}
-
--- each date from a slot on is the earliest of all that bounds it
-abbrev pub AreLatestFrom : LiveGraph → ℕ → LatestTable → ℕ → Type 0
-AreLatestFrom l may y at =
-    (t n : ℕ) → IsDate l.graph t n → at ≤ slot l t n → y t n ≡ earliest_bound l.graph may y t n
 
 -- a token that is put in time for a date is put in time for every later one
 late_put : (g : Parts) (a m date least : ℕ) (o : Option ℕ) → work g a m + (date + delay g a) ≤ least → IsNoLater (Some least) o → IsNoLater (Some date) (put_by g a m o)

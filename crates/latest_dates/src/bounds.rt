@@ -1,11 +1,13 @@
 //! What bounds the date of a job at a station. None takes memory.
 ghost use Rattle.std.specs.Prelude.{◌≡◌, ℕ, ◌^◌, ◌<◌, ◌≤◌};
 ghost use Rattle.event_graph.specs.Network.{arc_count, jobs, StartsAt};
+ghost use Rattle.latest_dates.specs.ArcBounds.{AreBoundsOf};
 ghost use Rattle.latest_dates.specs.Found.{place, latest_in, HasDates, LeavesTime};
 ghost use Rattle.latest_dates.specs.Latest.{promised, bound, earliest_bound};
 ghost use Rattle.what_if.specs.Page.{IsDate};
 ghost use Rattle.what_if.specs.Sheet.{date_count};
 
+use crate::arc_bounds::{ArcBound, added};
 use crate::latest_date::LatestDate;
 use event_graph::Graph;
 use live_check::Live;
@@ -42,29 +44,39 @@ fn promised(graph: &Graph, wait: u64, t: u32, n: u32) -> LatestDate
 }
 
 /// How late job `n` may be at the start of arc `a`, by the job that takes its token at the arc's end, if there is one.
-fn bound(dates: &[LatestDate], live: &Live, a: u32, n: u32) -> LatestDate
+fn bound(dates: &[LatestDate], bounds: &[ArcBound], live: &Live, a: u32, n: u32) -> LatestDate
     requires arc { a < arc_count live.now.graph }
     requires from_one { 1 ≤ n }
     requires job { n ≤ jobs live.now.graph }
     requires places { HasDates live.now dates.now }
+    requires bounds { AreBoundsOf live.now.graph bounds.now }
     requires time { LeavesTime live.now.graph (latest_in live.now dates.now) n a }
     ensures { result ≡ bound live.now.graph (latest_in live.now dates.now) n a }
 {
     let graph = live.graph();
-    let arc = graph.arc(a);
+    let arc = bounds[a as usize];
     let job = n + arc.tokens;
     if job > graph.jobs() {
         return LatestDate::none();
     }
-    let added = graph.delay(a) + graph.work(a, job);
-    latest_at(dates, live, arc.to, job).less(added)
+    let added = added(graph, arc.added, a, job);
+    let place = arc.first + (job as usize - 1);
+    dates[place].less(added)
 }
 
 /// The earliest of all that bounds job `n` at station `t`. It takes one look at each arc out of the station.
-pub fn earliest_bound(dates: &[LatestDate], live: &Live, wait: u64, t: u32, n: u32) -> LatestDate
+pub fn earliest_bound(
+    dates: &[LatestDate],
+    bounds: &[ArcBound],
+    live: &Live,
+    wait: u64,
+    t: u32,
+    n: u32,
+) -> LatestDate
     requires date { IsDate live.now.graph t n }
     requires small { wait < 2 ^ 63 }
     requires places { HasDates live.now dates.now }
+    requires bounds { AreBoundsOf live.now.graph bounds.now }
     requires time { (a : ℕ) → StartsAt live.now.graph t a
         → LeavesTime live.now.graph (latest_in live.now dates.now) n a }
     ensures { result ≡ earliest_bound live.now.graph wait (latest_in live.now dates.now) t n }
@@ -73,7 +85,7 @@ pub fn earliest_bound(dates: &[LatestDate], live: &Live, wait: u64, t: u32, n: u
     let outs = graph.outs(t);
     let mut earliest = promised(graph, wait, t, n);
     for a in outs {
-        let bound = bound(dates, live, *a, n);
+        let bound = bound(dates, bounds, live, *a, n);
         earliest = earliest.earlier(bound);
     }
     earliest

@@ -1,6 +1,7 @@
 //! How late each job may be at each station, where every customer waits at most so long.
 #![tactic(auto)]
 
+mod arc_bounds;
 mod bounds;
 mod error;
 mod latest;

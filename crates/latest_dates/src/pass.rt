@@ -1,17 +1,42 @@
-ghost use Rattle.std.specs.Prelude.{◌≡◌, ◌^◌, ◌<◌, IfOk};
+ghost use Rattle.std.specs.Prelude.{◌≡◌, ◌-◌, ◌*◌, ◌^◌, ◌<◌, ◌≤◌, IfOk};
+ghost use Rattle.event_graph.specs.Network.{stations, jobs};
 ghost use Rattle.event_graph.specs.Table.{date_in};
+ghost use Rattle.latest_dates.specs.ArcBounds.{AreBoundsOf};
 ghost use Rattle.latest_dates.specs.Found.{latest_in, HasDates, IsInTime, NoneIsBefore};
 ghost use Rattle.latest_dates.specs.Latest.{AreLatest};
+ghost use Rattle.latest_dates.specs.Pass.{AreLatestFrom, IsServable};
 
+use crate::arc_bounds::{ArcBound, arc_bounds};
 use crate::bounds::{earliest_bound, place};
 use crate::latest_date::LatestDate;
 use line_core::Table;
 use live_check::Live;
 use std::alloc::{AllocError, Global};
-use what_if::date_at_slot;
+
+/// Finds the latest dates of job `n`, where those of later jobs are found. It goes against the order of the stations.
+fn find_job(dates: &mut [LatestDate], bounds: &[ArcBound], live: &Live, wait: u64, n: u32)
+    requires from_one { 1 ≤ n }
+    requires job { n ≤ jobs live.now.graph }
+    requires small { wait < 2 ^ 63 }
+    requires bounds { AreBoundsOf live.now.graph bounds.now }
+    requires servable { IsServable live.now.graph wait }
+    requires places { HasDates live.now dates.old }
+    requires later { AreLatestFrom live.now wait (latest_in live.now dates.old) (n * stations live.now.graph) }
+    ensures places { HasDates live.now dates.new }
+    ensures latest { AreLatestFrom live.now wait (latest_in live.now dates.new)
+        ((n - 1) * stations live.now.graph) }
+{
+    let graph = live.graph();
+    let stations = graph.stations();
+    for above in 0..stations {
+        let t = live.station_at(stations - 1 - above);
+        let latest = earliest_bound(dates, bounds, live, wait, t, n);
+        dates[place(graph, t, n)] = latest;
+    }
+}
 
 /// The latest dates of a run in which no job waits longer than `wait`, station by station. It goes once from the last
-/// date to the first, by job and then by the rank of the station, and takes memory for the dates alone.
+/// date to the first, by job and then by the rank of the station, and takes memory for the dates and the arcs alone.
 ///
 /// Source of the rule: Baccelli, Cohen, Olsder and Quadrat, Synchronization and Linearity, backward equations.
 pub fn latest_of(
@@ -32,12 +57,12 @@ pub fn latest_of(
     // For its clause that the dates are the least solution.
     let _least = table.stations();
     let graph = live.graph();
-    let count = graph.stations() * graph.jobs();
+    let jobs = graph.jobs();
+    let count = graph.stations() * jobs;
+    let bounds = arc_bounds(alloc, graph)?;
     let mut dates = vec![in alloc; LatestDate::none(); count as usize]?;
-    for behind in 0..count {
-        let (t, n) = date_at_slot(live, count - 1 - behind);
-        let latest = earliest_bound(&dates, live, wait, t, n);
-        dates[place(graph, t, n)] = latest;
+    for behind in 0..jobs {
+        find_job(&mut dates, &bounds, live, wait, jobs - behind);
     }
     Ok(dates)
 }

@@ -160,7 +160,9 @@ fn lines_each(graph: &Graph, table: &Table, portions: u32) -> u32
     ensures { 1 ≤ result }
 {
     let lines = graph.stations() * graph.jobs();
-    let most = fitting_lines(graph, table).saturating_mul(portions).max(1);
+    let most = fitting_lines(graph, table, portions)
+        .saturating_mul(portions)
+        .max(1);
     let shares = lines.div_ceil(most).saturating_mul(portions).max(1);
     lines.div_ceil(shares).max(1)
 }

@@ -3,8 +3,8 @@
 
 mod dates;
 mod laws;
-mod line_end;
-mod line_start;
+pub mod line_end;
+pub mod line_start;
 mod observed;
 mod portion;
 mod report;

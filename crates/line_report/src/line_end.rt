@@ -34,14 +34,24 @@ fn short_count(n: u64) -> usize
     }
 }
 
+/// Writes a number in decimal from `at` on, and answers where it ends.
+pub fn write_number(room: &mut [u8], at: usize, n: u64) -> usize
+    requires { at + MAX_DIGITS ≤ length room.old }
+    ensures written { take result room.new ≡ take at room.old ++ decimal n }
+    ensures end { result ≤ at + MAX_DIGITS }
+{
+    let end = at + digit_count(n);
+    let _ = write_digits(n, room, end);
+    end
+}
+
 /// Writes a date and a line feed from `at` on, and answers where they end.
 pub fn write_end(room: &mut [u8], at: usize, date: Date) -> usize
     requires { at + MAX_DIGITS < length room.old }
     ensures written { take result room.new ≡ take at room.old ++ (decimal date ++ codes "\n") }
     ensures end { result ≤ at + MAX_DIGITS + 1 }
 {
-    let end = at + digit_count(date);
-    let _ = write_digits(date, room, end);
+    let end = write_number(room, at, date);
     room[end] = b'\n';
     end + 1
 }

@@ -14,8 +14,11 @@ use line_core::Table;
 use std::alloc::{AllocError, Global};
 use std::marker::Model;
 
-/// The bytes that a portion has room for.
+/// The bytes that a portion has room for where one thread formats all lines.
 const ROOM: usize = 262_144;
+
+/// The bytes that a portion has room for where several threads do: to begin them takes about as long as to fill `ROOM`.
+const ROOM_OF_THREADS: usize = 1_048_576;
 
 /// The most bytes of a line, and of what writing it may change behind it.
 const MAX_LINE: usize = WIDTH + MAX_DIGITS + 1;
@@ -120,9 +123,14 @@ fn write_lines(room: &mut [u8], graph: &Graph, table: &Table, from: u32, to: u32
     }
 }
 
-/// How many lines of the dates fit into a portion, or about that many: each as long as the longest label with the greatest
-/// number of a job, and as the last date of the last station.
-pub fn fitting_lines(graph: &Graph, table: &Table) -> u32
+/// The bytes that each of this many portions has room for.
+fn room_of(portions: u32) -> usize {
+    if portions > 1 { ROOM_OF_THREADS } else { ROOM }
+}
+
+/// How many lines of the dates fit into each of this many portions, or about that many: each as long as the longest label
+/// with the greatest number of a job, and as the last date of the last station.
+pub fn fitting_lines(graph: &Graph, table: &Table, portions: u32) -> u32
     requires { table.now.graph ≡ graph.now }
 {
     let mut longest = 0;
@@ -137,14 +145,15 @@ pub fn fitting_lines(graph: &Graph, table: &Table) -> u32
         .saturating_add(job)
         .saturating_add(digits.format(last).len())
         .saturating_add(3);
-    ((ROOM - MAX_LINE) / line) as u32
+    let most = room_of(portions).saturating_sub(MAX_LINE) / line;
+    u32::try_from(most).unwrap_or(u32::MAX)
 }
 
 impl Portion {
-    /// No lines yet. The other calls take no memory.
-    pub fn new(alloc: Global) -> Result<Portion, AllocError> {
+    /// One of this many portions, without lines yet. The other calls take no memory.
+    pub fn new(alloc: Global, portions: u32) -> Result<Portion, AllocError> {
         Ok(Portion {
-            room: vec![in alloc; 0; ROOM]?,
+            room: vec![in alloc; 0; room_of(portions)]?,
             filled: 0,
             end: 0,
         })

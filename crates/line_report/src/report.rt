@@ -78,9 +78,9 @@ fn portions_for(alloc: Global, workers: u32) -> Result<Vec<Portion>, AllocError>
     ensures { IfOk result (λ portions. 0 < length portions.items) }
 {
     let mut portions = Vec::new(alloc);
-    portions.push(Portion::new(alloc)?)?;
+    portions.push(Portion::new(alloc, workers)?)?;
     for _ in 1..workers {
-        portions.push(Portion::new(alloc)?)?;
+        portions.push(Portion::new(alloc, workers)?)?;
     }
     Ok(portions)
 }
@@ -88,7 +88,7 @@ fn portions_for(alloc: Global, workers: u32) -> Result<Vec<Portion>, AllocError>
 impl Report {
     /// The report of a sound plant, its live graph, and a table of that graph, to be written by as many workers, which are
     /// one at least. It takes all memory that writing takes: the numbers of the stations, room for one piece of the text,
-    /// and for each worker 256 KiB.
+    /// and for the one worker 256 KiB, or for each of several 1 MiB.
     pub fn new(
         alloc: Global,
         plant: Plant,

@@ -4,10 +4,12 @@ use Rattle.line_base.specs.declared.event.Parts.{Parts}
 use Rattle.line_core.specs.Run.{Dates}
 use Rattle.checkpoint.specs.declared.error.CheckpointError.{CheckpointError}
 use Rattle.checkpoint.specs.declared.error.CheckpointError.TheVariants as Text
-use Rattle.line_disk.specs.DiskView.{Image}
+use Rattle.line_disk.specs.DiskView.{DiskView}
 use Rattle.slot_store.specs.declared.error.SlotError.{SlotError}
 use Rattle.slot_store.specs.declared.error.SlotError.TheVariants as Slot
+use Rattle.slot_store.specs.Crash.{bytes_now}
 use Rattle.slot_store.specs.Layout.{content}
+use Rattle.slot_store.specs.Loads.{HasLoaded, answer_finding}
 use Rattle.line_runs.specs.declared.error.ResumeError.{ResumeError}
 use Rattle.line_runs.specs.declared.error.ResumeError.TheVariants.{NothingSaved, Checkpoint, DiskFault, NoMemory}
 use Rattle.line_runs.specs.Resume.{Resumes}
@@ -49,10 +51,20 @@ abbrev pub AnswersSaved : Parts → Option (List ℕ) → Result Dates ResumeErr
 AnswersSaved g None answer = AnswersNothing answer
 AnswersSaved g (Some bytes) answer = AnswersText g bytes answer
 
--- the answer is that to what the slots hold, where the disk tells it, and to what was read where it
--- doesn't
-pub record ResumesSlots (tells : Bool) (image : Image) (room : ℕ) (g : Parts)
+-- The answer came of a load that found a content or no slot open. Where the disk failed, or memory ran out, no load
+-- may have.
+abbrev pub IsOfLoad : Result Dates ResumeError → Type 0
+IsOfLoad (Ok d) = ⊤
+IsOfLoad (Err NothingSaved) = ⊤
+IsOfLoad (Err (Checkpoint error)) = ⊤
+IsOfLoad (Err DiskFault) = ⊥
+IsOfLoad (Err NoMemory) = ⊥
+
+-- The answer is that to what the slots hold, where the disk tells it; and of every disk it is that to what the reads of
+-- this call found.
+pub record ResumesSlots (tells : Bool) (old new : DiskView) (room : ℕ) (g : Parts)
     (answer : Result Dates ResumeError) : Type 0 where
   pub saved : Option (List ℕ)
-  pub told : IsTrue tells → content image room ≡ saved
+  pub told : IsTrue tells → content (bytes_now old) room ≡ saved
+  pub read : IsOfLoad answer → HasLoaded room old new (answer_finding saved)
   pub answers : AnswersSaved g saved answer

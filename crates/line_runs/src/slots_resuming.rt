@@ -2,7 +2,6 @@ ghost use Rattle.std.specs.Prelude.{◌≡◌, ℕ, ◌≤◌, IsTrue, IsErrOf};
 ghost use Rattle.line_disk.specs.DiskView.{Stays};
 ghost use Rattle.line_io.specs.Faults.{Rose};
 ghost use Rattle.line_runs.specs.ResumeSlots.{AnswersLoad, ResumesSlots};
-ghost use Rattle.slot_store.specs.Crash.{bytes_now};
 ghost use Rattle.slot_store.specs.declared.error.SlotError.TheVariants.{TooLong};
 
 use crate::error::ResumeError;
@@ -40,7 +39,7 @@ pub fn resume_slots<R: Threads + Sync, G: Gate, D: Disk>(
 ) -> Result<Table, ResumeError>
     requires some { 1 ≤ workers }
     requires few { workers ≤ 16 }
-    ensures resumes { ResumesSlots D.tells (bytes_now (D.shown disk.old)) MAX_ROOM
+    ensures resumes { ResumesSlots D.tells (D.shown disk.old) (D.shown disk.new) MAX_ROOM
         live.now.graph result }
     ensures stays { IsTrue D.tells → Stays (D.shown disk.old) (D.shown disk.new) }
     ensures disk_fault { IsErrOf result ResumeError.DiskFault

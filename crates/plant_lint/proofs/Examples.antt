@@ -1,11 +1,10 @@
 -- The definitions at small files, against lines that were written by hand.
-use Rattle.std.specs.Prelude.{◌≡◌, ℕ, pos, List, [], ◌∷◌, ◌++◌, Some, codes, refl}
+use Rattle.std.specs.Prelude.{◌≡◌, ℕ, pos, List, [], ◌∷◌, ◌++◌, codes, refl}
 use Rattle.std.specs.Fmt.{digits}
 use Rattle.toml.specs.Data.{Data, string, integer, array, table, no_items, item, no_members, member}
 use Rattle.plant_lint.specs.FileLints.{lint_of_tree}
 use Rattle.plant_lint.specs.declared.file.FileLint.TheVariants.{Refused, Sound}
 use Rattle.plant_lint.specs.Positions.{position_line}
-use Rattle.plant_lint.specs.PlantNotes.{dates_note}
 use Rattle.plant_lint.specs.Texts.{fault_lines}
 use Rattle.plant_lint.specs.Trees.{walk_faults, tree_faults}
 use Rattle.plant_lint.specs.Unused.{unused_lines}
@@ -66,10 +65,3 @@ first_line = refl
 next_line : position_line (codes "a = 1\nb") ≡ codes "line 2 column 2: not toml\n"
 unfolding digits
 next_line = refl
-
--- dates that look like the numbers of jobs
-job_numbers : dates_note (Some (codes "orders.csv")) (1 ∷ 2 ∷ 3 ∷ []) ≡ codes "note: orders.csv counts up by one\n"
-job_numbers = refl
-
-two_dates : dates_note (Some (codes "orders.csv")) (1 ∷ 2 ∷ []) ≡ []
-two_dates = refl

@@ -2,8 +2,6 @@
 use Rattle.std.proofs.Common.{◌≡◌, ℕ, suc, ◌+◌, ◌<◌, ◌≤◌, List, ◌∷◌, ◌++◌, length, get_or, drop, sym, ap, ◌∙◌, add-one, append_assoc, append-nil}
 use Rattle.std.proofs.lemmas.List.{drop_all}
 use Rattle.std.proofs.Math.Seq.{drop-cons}
-use Rattle.plant_model.specs.declared.error.PlantError.{PlantError}
-use Rattle.plant_model.specs.Refusals.{each_from, each}
 use Rattle.plant_lint.specs.Faults.{all_from, all_of}
 
 -- what is given for the elements below number i is added
@@ -29,19 +27,3 @@ gathers f xs i x old mid new h below is here =
 pub gathered_all : {X A : Type 0} (f : ℕ → X → List A) (xs : List X) (i : ℕ) (old new : List A) → Gathered f xs i old new → length xs ≤ i → new ≡ old ++ all_of f xs
 gathered_all f xs i old new h past =
     sym (append-nil new) ∙ ap (λ left. new ++ all_from f i left) (sym (drop_all i xs past)) ∙ sym h.rest
-
--- what is refused of the elements below number i is added
-pub record Collected {X : Type 0} (f : ℕ → X → List PlantError) (xs : List X) (i : ℕ) (old new : List PlantError)
-    : Type 0 where
-  pub rest : old ++ each f xs ≡ new ++ each_from f i (drop i xs)
-
--- what is refused of the next element is added too
-pub collects : {X : Type 0} (f : ℕ → X → List PlantError) (xs : List X) (i : ℕ) (x : X) (old mid new : List PlantError) → Collected f xs i old mid → i < length xs → x ≡ get_or xs i x → new ≡ mid ++ f i x → Collected f xs (i + 1) old new
-collects f xs i x old mid new h below is here =
-    record {
-      rest =
-          h.rest
-          ∙ ap (λ left. mid ++ each_from f i left) (drop-here xs i x below is)
-          ∙ sym (append_assoc mid (f i x) (each_from f (i + 1) (drop (i + 1) xs)))
-          ∙ ap (λ start. start ++ each_from f (i + 1) (drop (i + 1) xs)) (sym here);
-    }

@@ -5,7 +5,6 @@ pub mod LineLists
 pub mod Gathering
 pub mod NoToml
 pub mod Later
-pub mod Ranges
 pub mod Refusals
 pub mod SeenNames
 pub mod SoundFiles

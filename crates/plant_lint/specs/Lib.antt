@@ -5,7 +5,6 @@ pub mod Texts
 pub mod Positions
 pub mod Unused
 pub mod FileLints
-pub mod PlantNotes
 pub mod PlantLints
 pub mod Records
 pub mod DraftLints

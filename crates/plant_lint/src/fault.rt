@@ -8,7 +8,7 @@ use std::alloc::AllocError;
 use std::fmt;
 
 /// What is wanted at the place of a refusal.
-#[derive(Debug, Drop)]
+#[derive(Drop)]
 pub enum Wants {
     /// The refusal says all.
     Nothing,
@@ -43,7 +43,7 @@ pub enum Wants {
 }
 
 /// What is wrong with a plant file at one place, and what is wanted there.
-#[derive(Debug, Drop)]
+#[derive(Drop)]
 pub struct Fault {
     /// The refusal.
     pub error: PlantError,

@@ -13,7 +13,7 @@ use std::alloc::{AllocError, Global};
 use toml::Value;
 
 /// What lint says of the bytes of a plant file by themselves.
-#[derive(Debug, Drop)]
+#[derive(Drop)]
 pub enum FileLint {
     /// Where the file stops being TOML, or what is wrong with it.
     Refused { lines: Text },

@@ -1,7 +1,6 @@
 //! Every fault of a plant file, with what is wanted there, and what may not be meant.
 #![tactic(auto)]
 
-mod cards;
 mod draft;
 mod fault;
 mod file;
@@ -9,24 +8,19 @@ mod flow;
 mod laws;
 mod lines;
 mod names;
-mod notes;
 mod plant;
 mod position;
 mod records;
 mod seen;
-mod sizes;
 mod tree;
 mod unused;
 mod values;
 mod walk;
-mod whole;
 
 pub use draft::{DraftLint, lint_draft};
 pub use fault::{Fault, Wants};
 pub use file::{FileLint, lint_file};
 pub use laws::faults_are_refusals;
 pub use lines::lines_of;
-pub use notes::plant_notes;
 pub use plant::{clean_text, lint_plant};
 pub use tree::faults_of_tree;
-pub use whole::refusals_of_plant;

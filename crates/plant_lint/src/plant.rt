@@ -7,10 +7,9 @@ ghost use Rattle.plant_lint.specs.PlantLints.{lint_of_plant, clean_text};
 use crate::fault::{Fault, Wants};
 use crate::file::FileLint;
 use crate::lines::lines_of;
-use crate::notes::plant_notes;
-use crate::whole::refusals_of_plant;
 use line_base::Text;
 use plant_model::{Plant, PlantError};
+use plant_refusals::{plant_notes, refusals_of_plant};
 use std::alloc::{AllocError, Global};
 
 /// What lint says of a plant whose parts are right, and whose dates stand in this file, if they stand in one: all that is

@@ -153,7 +153,7 @@ fn saying_of(status: u8) -> Saying {
 
 /// Whether there is a command `lint`, which tells all that is wrong with a plant file.
 fn has_lint(alloc: Global) -> Result<bool, AllocError> {
-    is_command(alloc, &[], "lint a.toml")
+    is_command(alloc, &[], &["lint", "a.toml"])
 }
 
 /// What is said of a plant file that is refused, to `lint` or to another command.
@@ -183,7 +183,7 @@ fn words_advice(alloc: Global, words: &[String]) -> Result<String, AllocError> {
     let Some(word) = words.first() else {
         return String::from_str(alloc, "'pull --help' lists the commands");
     };
-    if is_command(alloc, &words[..1], "--help")? {
+    if is_command(alloc, &words[..1], &["--help"])? {
         format!(in alloc; "'pull help {word}' shows its words, 'pull --help' lists the commands")
     } else {
         String::from_str(alloc, "'pull --help' lists the commands")
@@ -218,25 +218,25 @@ fn first_unusable(alloc: Global, words: &[String]) -> Result<Option<usize>, Allo
 
 /// Words behind which each command can end: one of them makes a command of any words with which one begins, but for the
 /// counts of `curve`, of which the second is at least the first.
-const ENDS: [&str; 18] = [
-    "",
-    "--help",
-    "a.toml",
-    "0",
-    "1",
-    "a 1",
-    "0 0",
-    "10000000000000000",
-    "--slots",
-    "1 --slots",
-    "--every 1",
-    "1 --every 1",
-    "--save a.ckpt",
-    "0 --save a.ckpt",
-    "1 --save a.ckpt",
-    "--stop-after 0",
-    "a.ckpt --stop-after 0",
-    "1 --stop-after 0",
+const ENDS: [&[&str]; 18] = [
+    &[],
+    &["--help"],
+    &["a.toml"],
+    &["0"],
+    &["1"],
+    &["a", "1"],
+    &["0", "0"],
+    &["10000000000000000"],
+    &["--slots"],
+    &["1", "--slots"],
+    &["--every", "1"],
+    &["1", "--every", "1"],
+    &["--save", "a.ckpt"],
+    &["0", "--save", "a.ckpt"],
+    &["1", "--save", "a.ckpt"],
+    &["--stop-after", "0"],
+    &["a.ckpt", "--stop-after", "0"],
+    &["1", "--stop-after", "0"],
 ];
 
 /// Whether a command begins with these words.
@@ -247,23 +247,46 @@ fn begins_command(alloc: Global, words: &[String]) -> Result<bool, AllocError> {
         }
     }
     match words.last() {
-        Some(word) => is_command(alloc, words, word),
+        Some(word) => is_command(alloc, words, &[word.as_str()]),
         None => Ok(false),
     }
 }
 
-/// Whether words are a command, with the words of a line behind them.
-fn is_command(alloc: Global, words: &[String], end: &str) -> Result<bool, AllocError> {
+/// Whether words are a command, with these behind them.
+fn is_command(alloc: Global, words: &[String], end: &[&str]) -> Result<bool, AllocError> {
     let mut all = Vec::new(alloc);
+    let answer = match add_words(alloc, &mut all, words, end) {
+        Ok(()) => are_command(alloc, all.as_slice()),
+        Err(error) => Err(error),
+    };
+    drop(all);
+    answer
+}
+
+/// Adds words, and these behind them.
+fn add_words(
+    alloc: Global,
+    all: &mut Vec<String>,
+    words: &[String],
+    end: &[&str],
+) -> Result<(), AllocError> {
     for word in words {
-        all.push(word.clone()?)?;
+        add_word(all, word.clone()?)?;
     }
-    for word in end.split(' ') {
-        if !word.is_empty() {
-            all.push(String::from_str(alloc, word)?)?;
-        }
+    for word in end {
+        add_word(all, String::from_str(alloc, word)?)?;
     }
-    match read_words(alloc, all.as_slice()) {
+    Ok(())
+}
+
+/// Adds a word.
+fn add_word(all: &mut Vec<String>, word: String) -> Result<(), AllocError> {
+    Ok(all.push(word)?)
+}
+
+/// Whether words are a command.
+fn are_command(alloc: Global, words: &[String]) -> Result<bool, AllocError> {
+    match read_words(alloc, words) {
         Ok(command) => {
             drop(command);
             Ok(true)

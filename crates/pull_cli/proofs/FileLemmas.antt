@@ -69,7 +69,7 @@ module _ (store : StoreOver) (sink : SinkOver) (disk : DiskOver) (answer : Resul
     pub plant : Plant
     pub read : IsPlantRead plant name store
     pub after : List Read
-    pub stops : Stops plant stop.after stop.save (record asks { reads = after }) answer
+    pub stops : Stops plant workers stop.after stop.save (record asks { reads = after }) answer
 
   none_written : asks.writes ≡ [] → (q : List ℕ) → store.new.files q ≡ store.old.files q
   none_written none = subst (Changes store) none changes known
@@ -80,14 +80,14 @@ module _ (store : StoreOver) (sink : SinkOver) (disk : DiskOver) (answer : Resul
   on_unwritten next (Err refusal) after on go = unwritten asks after on.0
 
   -- a run that is asked to stop
-  until_writes : (name : List ℕ) (workers : ℕ) (stop : Stop) (p : Plant) (after : List Read) → IsPlantRead p name store → RunsUntil p stop.after stop.save (record asks { reads = after }) disk answer → (asks.writes ≡ []) ⊎ StopsIn (command.Run name workers (Some stop))
+  until_writes : (name : List ℕ) (workers : ℕ) (stop : Stop) (p : Plant) (after : List Read) → IsPlantRead p name store → RunsUntil p workers stop.after stop.save (record asks { reads = after }) disk answer → (asks.writes ≡ []) ⊎ StopsIn (command.Run name workers (Some stop))
   until_writes name workers stop p after read runs =
       ⊎_elim
       (λ stops. inr (record { name = name; workers = workers; stop = stop; is = refl; plant = p; read = read; after = after; stops = stops }))
       (λ whole. inl (⊎_elim (λ ended_first. unwritten asks after ended_first.nothing) (λ wanting. unwritten asks after wanting.0) whole))
       runs.answers
 
-  stop_writes : (name : List ℕ) (workers : ℕ) (stop : Stop) (between : Result Plant Refusal) (before after : List Read) → asks.reads ≡ before ++ after → OfPlantNamed store.tells store.old.files name before between → DoesOn (λ p. RunsUntil p stop.after stop.save) between (record asks { reads = after }) disk answer → (asks.writes ≡ []) ⊎ StopsIn (command.Run name workers (Some stop))
+  stop_writes : (name : List ℕ) (workers : ℕ) (stop : Stop) (between : Result Plant Refusal) (before after : List Read) → asks.reads ≡ before ++ after → OfPlantNamed store.tells store.old.files name before between → DoesOn (λ p. RunsUntil p workers stop.after stop.save) between (record asks { reads = after }) disk answer → (asks.writes ≡ []) ⊎ StopsIn (command.Run name workers (Some stop))
   stop_writes name workers stop (Ok p) before after split first on =
       until_writes name workers stop p after (plant_read store asks asked name p before after split first) on
   stop_writes name workers stop (Err refusal) before after split first on = inl (unwritten asks after on.0)
@@ -143,6 +143,8 @@ module _ (store : StoreOver) (sink : SinkOver) (disk : DiskOver) (answer : Resul
         read = s.read;
         state = s.stops.state;
         stopped = s.stops.resumed;
+        workers = s.workers;
+        first_end = s.stops.first_end;
         count = s.stops.stop;
         leaves = says.0;
         says = says.1;

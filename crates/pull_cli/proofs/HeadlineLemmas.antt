@@ -198,8 +198,8 @@ module _ (store : StoreOver) (sink : SinkOver) (disk : DiskOver) (answer : Resul
   write_done file count (Err store_error.TooLong) answers = absurd answers
   write_done file count (Err store_error.NoMemory) answers = absurd (no_refusal sink answer NoMemory ended answers)
 
-  has_saved : (p : Plant) (stop : Stop) (after : List Read) → Stops p stop.after stop.save (record asks { reads = after }) answer → HasSaved p stop store sink
-  has_saved p stop after stops =
+  has_saved : (p : Plant) (workers : ℕ) (stop : Stop) (after : List Read) → Stops p workers stop.after stop.save (record asks { reads = after }) answer → HasSaved p stop store sink
+  has_saved p workers stop after stops =
       let bytes = text Differences (graph p) stops.state in
       let done = write_done stop.save (fired stops.state) stops.saved.given stops.saved.answers in
       let one : asks.writes ≡ write_of stop.save bytes (Ok tt) ∷ [] =
@@ -207,6 +207,8 @@ module _ (store : StoreOver) (sink : SinkOver) (disk : DiskOver) (answer : Resul
       record {
         state = stops.state;
         stopped = stops.resumed;
+        workers = workers;
+        first_end = stops.first_end;
         fits = stops.fits;
         asked = ap (λ (a : Asked). a.writes) asked ∙ ap (λ (writes : List Write). store.old.asked.writes ++ writes) one;
         saved = (subst (Changes store) one changes).leaves;
@@ -214,10 +216,10 @@ module _ (store : StoreOver) (sink : SinkOver) (disk : DiskOver) (answer : Resul
         resumes = text_resumes p stops.state stops.resumed;
       }
 
-  stop_well : (p : Plant) (stop : Stop) (after : List Read) → Stops p stop.after stop.save (record asks { reads = after }) answer ⊎ (EndsFirst p stop.after (record asks { reads = after }) answer ⊎ AsksNothing (record asks { reads = after }) answer) → HasReported p sink ⊎ HasSaved p stop store sink
-  stop_well p stop after (inl stops) = inr (has_saved p stop after stops)
-  stop_well p stop after (inr (inl whole)) = inl (report_written p sink answer ended whole.report)
-  stop_well p stop after (inr (inr wanting)) = absurd (no_refusal sink answer NoMemory ended wanting.1)
+  stop_well : (p : Plant) (workers : ℕ) (stop : Stop) (after : List Read) → Stops p workers stop.after stop.save (record asks { reads = after }) answer ⊎ (EndsFirst p workers stop.after (record asks { reads = after }) answer ⊎ AsksNothing (record asks { reads = after }) answer) → HasReported p sink ⊎ HasSaved p stop store sink
+  stop_well p workers stop after (inl stops) = inr (has_saved p workers stop after stops)
+  stop_well p workers stop after (inr (inl whole)) = inl (report_written p sink answer ended whole.report)
+  stop_well p workers stop after (inr (inr wanting)) = absurd (no_refusal sink answer NoMemory ended wanting.1)
 
   -- a run to the end
   run_well : (plant name : List ℕ) → plant ≡ name → Plainly (Then (OfPlantNamed store.tells store.old.files plant) (λ p. Settles (IsReport p))) asks disk answer → Reports name store sink
@@ -248,7 +250,7 @@ module _ (store : StoreOver) (sink : SinkOver) (disk : DiskOver) (answer : Resul
   -- and one that is told to
   of_stop : (name : List ℕ) (workers : ℕ) (stop : Stop) → OfCommand store.tells store.old.files (command.Run name workers (Some stop)) asks disk answer → ReportsOrSaves name stop store sink
   of_stop name workers stop does =
-      let of = then_holds name (λ p. HasReported p sink ⊎ HasSaved p stop store sink) (λ p. RunsUntil p stop.after stop.save) does (λ p after on. stop_well p stop after on.answers) in
+      let of = then_holds name (λ p. HasReported p sink ⊎ HasSaved p stop store sink) (λ p. RunsUntil p workers stop.after stop.save) does (λ p after on. stop_well p workers stop after on.answers) in
       record { plant = of.plant; read = of.read; done = of.holds }
 
   -- what the words ask for

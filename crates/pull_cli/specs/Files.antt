@@ -1,6 +1,7 @@
 -- Which file a call may change: FILE of a run that is asked to stop, and no other.
 use Rattle.std.specs.Prelude.{◌≡◌, ◌≢◌, ◌⊎◌, ℕ, List, IsTrue, Option, Some, None}
 use Rattle.checkpoint.specs.Text.{text}
+use Rattle.commands.specs.FirstEnd.{IsFirstEnd}
 use Rattle.checkpoint.specs.declared.format.Format.TheVariants.{Differences}
 use Rattle.command_line.specs.Words.{command_of}
 use Rattle.command_line.specs.declared.command.Command.{Command}
@@ -29,13 +30,15 @@ abbrev pub LeavesSaved : ℕ → Option (List ℕ) → Option (List ℕ) → Lis
 LeavesSaved status old new bytes =
     ((status ≡ 0) × (new ≡ Some bytes)) ⊎ (((status ≡ 5) ⊎ (status ≡ 6)) × IsTorn old new bytes)
 
--- The run of this plant file stopped at N firings or soon after, in a state from which it may be resumed, and left
--- this of FILE. With status 0 it wrote that it stopped.
+-- The run of this plant file stopped at the first burst's end with N firings, in a state from which it may be resumed, and
+-- left this of FILE. With status 0 it wrote that it stopped.
 pub record StopsAndSaves (name : List ℕ) (stop : Stop) (store : StoreOver) (sink : SinkOver) (status : ℕ) : Type 0 where
   pub plant : Plant
   pub read : IsPlantRead plant name store
   pub state : State
   pub stopped : MayBeResumed (graph plant) state
+  pub workers : ℕ
+  pub first_end : IsFirstEnd (graph plant) stop.after workers state
   pub count : IsStopAt (graph plant) stop.after 0 (fired state)
   pub leaves : LeavesSaved status (store.old.files stop.save) (store.new.files stop.save)
       (text Differences (graph plant) state)

@@ -11,6 +11,7 @@ use Rattle.checkpoint.specs.declared.format.Format.TheVariants.{Differences}
 use Rattle.command_line.specs.Words.{command_of}
 use Rattle.command_line.specs.declared.command.Command.TheVariants.{Run}
 use Rattle.command_line.specs.declared.command.Stop.{Stop}
+use Rattle.commands.specs.FirstEnd.{IsFirstEnd}
 use Rattle.commands.specs.Reports.{IsReport, IsResumed}
 use Rattle.event_graph.specs.State.{State}
 use Rattle.line_base.specs.Limits.{most_checkpoint_bytes}
@@ -29,11 +30,13 @@ use Rattle.pull_cli.specs.RunReports.{IsPlantRead, HasReported}
 abbrev pub ResumesToReport : Plant → List ℕ → Type 0
 ResumesToReport p bytes = (answer : Result Answer Refusal) → IsResumed p bytes answer → IsReport p answer
 
--- "has saved a state that firings reach, in which every circuit holds its initial number of tokens"; its text is no longer
--- than a checkpoint may be
+-- "has saved a state that firings reach, in which every circuit holds its initial number of tokens"; it is the state at the
+-- first burst's end with N firings, and its text is no longer than a checkpoint may be
 pub record HasSaved (p : Plant) (stop : Stop) (store : StoreOver) (sink : SinkOver) : Type 0 where
   pub state : State
   pub stopped : MayBeResumed (graph p) state
+  pub workers : ℕ
+  pub first_end : IsFirstEnd (graph p) stop.after workers state
   pub fits : length (text Differences (graph p) state) ≤ most_checkpoint_bytes
   pub asked : store.new.asked.writes
       ≡ store.old.asked.writes ++ write_of stop.save (text Differences (graph p) state) (Ok tt) ∷ []

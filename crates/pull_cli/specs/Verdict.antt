@@ -34,7 +34,7 @@ OfTask tells files (OnPlant plant question) =
 OfTask tells files (OnFile plant file question) =
     Plainly (Then (OfPlantNamed tells files plant) (λ p. AsksWith file (AnswersOfFile question p)))
 OfTask tells files (Stopping plant workers stop) =
-    ThenDoes (OfPlantNamed tells files plant) (λ p. RunsUntil p stop.after stop.save)
+    ThenDoes (OfPlantNamed tells files plant) (λ p. RunsUntil p workers stop.after stop.save)
 OfTask tells files (OnDisk plant question) = ThenDoes (OfPlantNamed tells files plant) (DoesOnSlots question)
 
 -- what a command does

@@ -1,6 +1,10 @@
+pub mod Alike
 pub mod FileNames
+pub mod OverFiles
 pub mod ResumeEnds
 pub mod ResumeStops
 pub mod Resuming
+pub mod ResumingRecorded
 pub mod ShortFiles
 pub mod SoundFiles
+pub mod Verdicts

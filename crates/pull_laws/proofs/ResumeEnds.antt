@@ -63,7 +63,7 @@ live_of : (name : List ℕ) (reads : List Read) (p : Plant) → OfLivePlant name
 live_of name reads p steps = live_on steps.between steps.after p steps.goes_on
 
 -- no circuit of a live plant is dead
-not_dead : (p : Plant) (labels : List (List ℕ)) → IsLive (graph p) → AreDead (graph p) labels → ⊥
+pub not_dead : (p : Plant) (labels : List (List ℕ)) → IsLive (graph p) → AreDead (graph p) labels → ⊥
 not_dead p labels live dead = let some = live dead.arcs dead.dead.circuit in omega (arith, some, dead.dead.empty)
 
 no_error : (W : Result Plant PlantError) (p : Plant) (error : PlantError) → W ≡ Ok p → W ≡ Err error → ⊥

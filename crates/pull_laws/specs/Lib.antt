@@ -1,1 +1,4 @@
+pub mod Recorded
 pub mod Resuming
+pub mod ResumingRecorded
+pub mod Verdicts

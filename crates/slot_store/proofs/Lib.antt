@@ -2,6 +2,7 @@ pub mod Bytes
 pub mod Calls
 pub mod Chosen
 pub mod Contents
+pub mod Loads
 pub mod Near
 pub mod Outside
 pub mod Phases

@@ -1,5 +1,6 @@
 pub mod Crash
 pub mod Errors
 pub mod Layout
+pub mod Loads
 pub mod Within
 pub mod Limits

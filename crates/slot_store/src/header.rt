@@ -4,6 +4,7 @@ ghost use Rattle.line_disk.specs.DiskView.{Stays, held_now};
 ghost use Rattle.line_io.specs.Faults.{Rose};
 ghost use Rattle.slot_store.specs.Crash.{bytes_now};
 ghost use Rattle.slot_store.specs.Layout.{start_of, header_of_bytes, header_at, is_open, next, newer_header};
+ghost use Rattle.slot_store.specs.Loads.{ReadsHead, ReadsHeads};
 ghost use Rattle.slot_store.specs.declared.header.Slot.TheVariants.{Zero, One};
 
 use line_disk::{Disk, DiskError};
@@ -81,6 +82,7 @@ fn read_header<D: Disk>(disk: &mut D, alloc: Global, start: u64) -> Result<Heade
     requires { start ≤ 2 ^ 33 }
     ensures header { IfOk result (λ header. IsTrue D.tells
         → header ≡ header_at (held_now (D.shown disk.old)).bytes start) }
+    ensures read { ReadsHead start (D.shown disk.old) (D.shown disk.new) result }
     ensures stays { IsTrue D.tells → Stays (D.shown disk.old) (D.shown disk.new) }
     ensures cause { IsErrOf result DiskError.Failed
         → Rose (D.shown disk.old).faults (D.shown disk.new).faults }
@@ -101,6 +103,7 @@ pub fn read_headers<D: Disk>(
         → heads.0 ≡ header_at (bytes_now (D.shown disk.old)) (start_of room Zero)) }
     ensures one { IfOk result (λ heads. IsTrue D.tells
         → heads.1 ≡ header_at (bytes_now (D.shown disk.old)) (start_of room One)) }
+    ensures read { ReadsHeads room (D.shown disk.old) (D.shown disk.new) result }
     ensures stays { IsTrue D.tells → Stays (D.shown disk.old) (D.shown disk.new) }
     ensures cause { IsErrOf result DiskError.Failed
         → Rose (D.shown disk.old).faults (D.shown disk.new).faults }

@@ -24,6 +24,7 @@ impl<'a, D: Disk> Slots<'a, D> {
     ghost use Rattle.line_io.specs.Faults.{Rose};
     ghost use Rattle.slot_store.specs.Crash.{IsOldOrNew, IsSaved, bytes_now};
     ghost use Rattle.slot_store.specs.Layout.{content};
+    ghost use Rattle.slot_store.specs.Loads.{HasLoaded, items_of};
     ghost use Rattle.slot_store.specs.Within.{OutsideStays};
     ghost use Rattle.slot_store.specs.declared.error.SlotError.TheVariants.{TooLong};
 
@@ -82,6 +83,8 @@ impl<'a, D: Disk> Slots<'a, D> {
             → content (bytes_now (D.shown self.old.disk.now)) self.old.room ≡ Some v.items) }
         ensures none_saved { IsErrOf result SlotError.NoneSaved → IsTrue D.tells
             → content (bytes_now (D.shown self.old.disk.now)) self.old.room ≡ None }
+        ensures read { HasLoaded self.old.room (D.shown self.old.disk.now) (D.shown self.new.disk.now)
+            (items_of result) }
         ensures stays { IsTrue D.tells
             → Stays (D.shown self.old.disk.now) (D.shown self.new.disk.now) }
         ensures disk_fault { IsErrOf result SlotError.DiskFault

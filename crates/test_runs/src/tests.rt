@@ -2,6 +2,7 @@ mod counting_gate;
 mod got;
 mod held_gate;
 mod kept;
+mod noting_gate;
 mod of_line_runs;
 mod of_line_workers;
 mod of_pull_cli;

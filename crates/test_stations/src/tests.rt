@@ -1,6 +1,5 @@
 mod got;
 mod of_big_plant;
-mod of_card_sizing;
 mod of_cycle_time;
 mod of_station_step;
 mod of_token_shelf;

@@ -227,13 +227,12 @@ fn numbers_go_out_where_they_stand(rt: HostRuntime) {
     number_goes_out_anywhere(&rt, alloc, u64::MAX, greatest);
 }
 
-/// This many bytes, of which neighbours differ.
-fn numbered(rt: &impl Abort, alloc: Global, len: u32) -> Vec<u8> {
-    let mut bytes = Vec::new(alloc);
-    for n in 0..len {
-        got(rt, bytes.push((n % 251) as u8));
-    }
-    bytes
+/// 40,000 bytes, of which those at one place in two pieces of 4,096 bytes differ.
+fn long_bytes(rt: &impl Abort, alloc: Global) -> Vec<u8> {
+    got(
+        rt,
+        b"0123456789abcdefghijklmno".as_slice().repeat(alloc, 1_600),
+    )
 }
 
 /// What a store of the machine reads of a file.
@@ -243,7 +242,10 @@ fn read_of<R: std::rt::Files + AllocGlobal + Drop>(
     name: &str,
     limit: u64,
 ) -> Result<Vec<u8>, StoreError> {
-    FileStore::new(rt).read(alloc, name, limit)
+    let mut store = FileStore::new(rt);
+    let bytes = store.read(alloc, name, limit);
+    drop(store);
+    bytes
 }
 
 #[test]
@@ -256,7 +258,7 @@ fn a_file_of_the_machine_is_written_and_read(rt: HostRuntime) {
     let folder = got(&rt, std::env::temp_dir(&rt));
     let path = got(&rt, folder.join(alloc, own.as_str()));
     let name = got(&rt, path.as_path().to_str().ok_or("not text"));
-    let bytes = numbered(&rt, alloc, 40_000);
+    let bytes = long_bytes(&rt, alloc);
     got(&rt, FileStore::new(&rt).write(name, &bytes));
     assert!(rt; got(&rt, read_of(&rt, alloc, name, 40_000)) == bytes);
     got(&rt, FileStore::new(&rt).write(name, b"shorter"));

@@ -12,7 +12,13 @@ use test_samples::{live_of, two_stages};
 /// The report of the two stages, to be written by as many workers.
 fn report_of_two_stages(rt: &impl Abort, alloc: Global, workers: u32) -> Result<Report, Fail> {
     let plant = two_stages(alloc)?;
-    let live = live_of(alloc, &plant)?;
+    let live = match live_of(alloc, &plant) {
+        Ok(live) => live,
+        Err(fail) => {
+            drop(plant);
+            return Err(fail);
+        }
+    };
     let state = run(alloc, &live).expect(rt, "memory");
     let table = state.into_table(&live);
     Ok(got(rt, Report::new(alloc, plant, live, table, workers)))
@@ -40,33 +46,39 @@ fn written<R: Abort + Threads + Sync>(
     (whole, written)
 }
 
+/// Asserts that a report is written from its beginning by as many workers, after a put of it has failed.
+fn begins_anew<R: Abort + Threads + Sync>(rt: &R, alloc: Global, workers: u32) -> Result<(), Fail> {
+    let mut report = report_of_two_stages(rt, alloc, workers)?;
+    let torn = written(rt, alloc, &mut report, 1, 10);
+    // The second put is to fail, so the report is one put.
+    let whole = written(rt, alloc, &mut report, 2, 0);
+    drop(report);
+    is_torn(rt, &torn);
+    is_whole(rt, &whole);
+    Ok(())
+}
+
+/// Asserts that the first ten bytes went out.
+fn is_torn(rt: &impl Abort, (whole, text): &(bool, Vec<u8>)) {
+    same(rt, *whole, false);
+    same(rt, text.as_slice(), b"feed 1 0\nf".as_slice());
+}
+
+/// Asserts that all of the report went out.
+fn is_whole(rt: &impl Abort, (whole, text): &(bool, Vec<u8>)) {
+    same(rt, (*whole, text.len()), (true, 252));
+    let ends = text.starts_with(b"feed 1 0\nfeed 2 2\n") && text.ends_with(b"waiting 9\nlast 15\n");
+    assert!(rt; ends);
+}
+
 #[test]
 fn a_report_begins_anew(rt: HostRuntime) -> Result<(), Fail> {
-    let mut report = report_of_two_stages(&rt, rt.alloc(), 1)?;
-    let (whole, torn) = written(&rt, rt.alloc(), &mut report, 1, 10);
-    same(&rt, whole, false);
-    same(&rt, torn.as_slice(), b"feed 1 0\nf".as_slice());
-    // The second put is to fail, so the report is one put.
-    let (whole, text) = written(&rt, rt.alloc(), &mut report, 2, 0);
-    same(&rt, (whole, text.len()), (true, 252));
-    assert!(rt; text.starts_with(b"feed 1 0\nfeed 2 2\n"));
-    assert!(rt; text.ends_with(b"waiting 9\nlast 15\n"));
-    drop(report);
-    Ok(())
+    begins_anew(&rt, rt.alloc(), 1)
 }
 
 #[test]
 fn several_workers_write_the_same_report(rt: HostRuntime) -> Result<(), Fail> {
-    let mut report = report_of_two_stages(&rt, rt.alloc(), 3)?;
-    let (whole, torn) = written(&rt, rt.alloc(), &mut report, 1, 10);
-    same(&rt, whole, false);
-    same(&rt, torn.as_slice(), b"feed 1 0\nf".as_slice());
-    let (whole, text) = written(&rt, rt.alloc(), &mut report, 2, 0);
-    same(&rt, (whole, text.len()), (true, 252));
-    assert!(rt; text.starts_with(b"feed 1 0\nfeed 2 2\n"));
-    assert!(rt; text.ends_with(b"waiting 9\nlast 15\n"));
-    drop(report);
-    Ok(())
+    begins_anew(&rt, rt.alloc(), 3)
 }
 
 #[test]

@@ -53,7 +53,7 @@ fn has_log(rt: &impl Abort, live: &Live, state: &State, t: u32, dates: &[Date])
 }
 
 /// All dates of the two stages, by station.
-pub const ALL_DATES: [(u32, [Date; 3]); 6] = [
+const ALL_DATES: [(u32, [Date; 3]); 6] = [
     (0, [0, 2, 4]),
     (1, [0, 5, 10]),
     (2, [3, 8, 13]),

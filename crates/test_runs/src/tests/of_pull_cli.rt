@@ -1,6 +1,8 @@
 use crate::tests::counting_gate::CountingGate;
 use crate::tests::got::got;
 use crate::tests::held_gate::HeldGate;
+use crate::tests::kept::kept;
+use crate::tests::noting_gate::NotingGate;
 use crate::tests::pair_gate::PairGate;
 use crate::tests::same::same;
 use line_disk::MemDisk;
@@ -96,7 +98,7 @@ fn stages_store(
     got(rt, store_of(alloc, "a.toml", file.as_str()))
 }
 
-/// The status of the top call over a store and a sink, through a gate. What its contract says is let go here.
+/// The status of the top call over a store, a sink and a disk, through a gate. What its contract says is let go here.
 fn status_of<R: Threads + Wait + Sync, G: Gate>(
     rt: &R,
     alloc: Global,
@@ -104,15 +106,13 @@ fn status_of<R: Threads + Wait + Sync, G: Gate>(
     store: &mut MemStore,
     sink: &mut MemSink,
     gate: &G,
+    disk: &mut MemDisk,
 ) -> u8 {
-    let mut disk = MemDisk::new(alloc, Vec::new(alloc));
-    let status = pull(rt, alloc, words, store, sink, gate, &mut disk);
-    drop(disk);
-    status
+    pull(rt, alloc, words, store, sink, gate, disk)
 }
 
-/// Does what the words of a line ask for over a store, through a gate, and asserts that it ends well. Answers what it
-/// wrote.
+/// Does what the words of a line ask for over a store and a new disk, through a gate, and asserts that it ends well.
+/// Answers what it wrote.
 fn written<R: Abort + Threads + Wait + Sync, G: Gate>(
     rt: &R,
     alloc: Global,
@@ -120,9 +120,25 @@ fn written<R: Abort + Threads + Wait + Sync, G: Gate>(
     store: &mut MemStore,
     gate: &G,
 ) -> Vec<u8> {
+    let mut disk = MemDisk::new(alloc, Vec::new(alloc));
+    let report = written_over(rt, alloc, line, store, gate, &mut disk);
+    drop(disk);
+    report
+}
+
+/// Does what the words of a line ask for over a store and a disk, through a gate, and asserts that it ends well.
+/// Answers what it wrote.
+fn written_over<R: Abort + Threads + Wait + Sync, G: Gate>(
+    rt: &R,
+    alloc: Global,
+    line: &str,
+    store: &mut MemStore,
+    gate: &G,
+    disk: &mut MemDisk,
+) -> Vec<u8> {
     let words = got(rt, words_of(alloc, line));
     let mut sink = got(rt, MemSink::new(alloc, 100_000, Vec::new(alloc), 0));
-    let status = status_of(rt, alloc, &words, store, &mut sink, gate);
+    let status = status_of(rt, alloc, &words, store, &mut sink, gate, disk);
     drop(words);
     same(rt, status, 0);
     let report = got(rt, Vec::from_slice(alloc, sink.written()));
@@ -130,23 +146,59 @@ fn written<R: Abort + Threads + Wait + Sync, G: Gate>(
     report
 }
 
-// Worker 1 begins when worker 0 has made all of its first burst. With room for one token the feed has then reached a
-// stop, and most of its demands are left for later bursts; without a bound each pass lets it fire.
+/// How often the feed steps at the least and at the most in a run of two workers, of which the second begins when the
+/// first has made all of its first burst. It makes forty firings. Without a bound each step is one, and so with room
+/// for forty tokens; with room for one token it has then reached a stop, and most of its firings are left for later
+/// bursts.
+const FEEDS: [(&str, u64, u64); 3] = [
+    ("run a.toml --workers 2", 40, 40),
+    ("run a.toml --room 40 --workers 2", 40, 40),
+    ("run a.toml --room 1 --workers 2", 55, u64::MAX),
+];
+
 #[test]
 fn a_bounded_ring_holds_the_feed_back(rt: HostRuntime) {
     let alloc = rt.alloc();
     let mut store = stages_store(&rt, alloc, BASE_STOCK, FORTY_DEMANDS, ONE_PART);
-    let free = HeldGate::new(1, PASSES);
-    let report = written(&rt, alloc, "run a.toml --workers 2", &mut store, &free);
-    same(&rt, free.has_missed(), false);
-    same(&rt, free.feeds(), 40);
-    let bounded = HeldGate::new(1, PASSES);
-    let line = "run a.toml --room 1 --workers 2";
-    let same_report = written(&rt, alloc, line, &mut store, &bounded);
+    let whole = written(&rt, alloc, "run a.toml", &mut store, &FreeGate);
+    for (line, least, most) in FEEDS {
+        let gate = HeldGate::new(1, PASSES);
+        let report = written(&rt, alloc, line, &mut store, &gate);
+        same(&rt, gate.has_missed(), false);
+        let feeds = gate.feeds();
+        same(&rt, least <= feeds && feeds <= most, true);
+        same(&rt, report.as_slice(), whole.as_slice());
+        drop(report);
+    }
+    drop(whole);
     drop(store);
-    same(&rt, bounded.has_missed(), false);
-    assert!(rt; bounded.feeds() >= 55);
-    same(&rt, same_report, report);
+}
+
+/// What three workers do, two of six stations each, and how many steps they make together at the least: a run makes 240
+/// firings, and the states that are saved have 191 of them at the most in the file, 225 in the slots.
+const BY_THREE: [(&str, u64); 8] = [
+    ("run a.toml --workers 3", 240),
+    ("run a.toml --room 1 --workers 3", 240),
+    ("run a.toml --stand --workers 3", 240),
+    ("run a.toml --stop-after 96 --save c.ckpt --workers 3", 96),
+    ("resume a.toml c.ckpt --workers 3", 49),
+    ("run a.toml --every 130 --slots --workers 3", 240),
+    ("resume a.toml --slots --workers 3", 15),
+    ("big 7 --workers 3", 100_000),
+];
+
+#[test]
+fn as_many_workers_are_at_work_as_are_asked_for(rt: HostRuntime) {
+    let alloc = rt.alloc();
+    let mut store = stages_store(&rt, alloc, KANBAN, FORTY_DEMANDS, ONE_CARD);
+    let disk = got(&rt, kept(alloc, MemDisk::new(alloc, Vec::new(alloc))));
+    for (line, steps) in BY_THREE {
+        let gate = NotingGate::new();
+        drop(written_over(&rt, alloc, line, &mut store, &gate, disk));
+        same(&rt, gate.greatest(), 2);
+        same(&rt, gate.passes() >= steps, true);
+    }
+    drop(store);
 }
 
 /// The end of the report of the two stages with a card each and forty demands: a part is delivered every five.

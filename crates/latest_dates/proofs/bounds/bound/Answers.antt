@@ -1,72 +1,65 @@
-use Rattle.std.proofs.Common.{◌≡◌, ℕ, ◌+◌, ◌-◌, ◌≤◌, Some, None, refl, sym, ap, ◌∙◌, subst, arith}
-use Rattle.std.specs.Prelude.{Option, option_map}
-use Rattle.line_base.specs.declared.event.Arc.{Arc}
+use Rattle.std.proofs.Common.{◌≡◌, ℕ, ◌+◌, ◌-◌, ◌≤◌, None, get_or, refl, ap, ◌∙◌, arith}
+use Rattle.std.specs.Prelude.{Option}
+use Rattle.std.proofs.lemmas.List.{get_or_read}
 use Rattle.line_base.specs.declared.event.Parts.{Parts}
-use Rattle.event_graph.specs.Network.{arc, jobs, delay}
+use Rattle.event_graph.specs.Network.{jobs, arc, delay}
 use Rattle.event_graph.specs.Term.{work}
-use Rattle.event_graph.proofs.Sizes.{delay-small}
-use Rattle.latest_dates.specs.Found.{latest_in, LeavesTime}
-use Rattle.latest_dates.specs.Latest.{LatestTable, IsNoLater, put_by}
-use Rattle.latest_dates.proofs.EarliestBounds.{bound-made, bound-missing}
+use Rattle.latest_dates.specs.declared.arc_bounds.ArcBound.{ArcBound}
+use Rattle.latest_dates.specs.ArcBounds.{IsBoundOf}
+use Rattle.latest_dates.specs.Found.{latest_in}
+use Rattle.what_if.specs.Page.{IsDate}
+use Rattle.latest_dates.proofs.Places.{place-below}
+use Rattle.latest_dates.proofs.ArcBounds.{place-read, leaves-kept, bound-kept, bound-none}
 use Rattle.latest_dates.proofs.bounds.bound.Goals as goal
-use Rattle.latest_dates.proofs.bounds.bound.Goals.{After-arc-arc, After-latest_at}
+use Rattle.latest_dates.proofs.bounds.bound.Goals.{After-graph-graph}
 
-arc_is : (c : After-arc-arc) → c.arc-arc.result ≡ arc c.args.live.now.graph c.args.a
-arc_is c = c.arc-arc.ensures.arc ∙ ap (λ (h : Parts). arc h c.args.a) c.graph-graph.ensures.graph
+-- the arc as it is kept
+abbrev kept : After-graph-graph → ArcBound
+kept c = get_or c.args.bounds.now c.args.a (record { first = 0; tokens = 0; added = None })
+
+is_kept : (c : After-graph-graph) → IsBoundOf c.args.live.now.graph c.args.a (kept c)
+is_kept c =
+    c.requires.bounds.each c.args.a (record { first = 0; tokens = 0; added = None }) (omega (arith, c.requires.bounds.one_for_each, c.requires.arc))
 
 pub returns-then-job-jobs : goal.returns-then-job-jobs
 returns-then-job-jobs c =
-    let g = c.args.live.now.graph in
+    let live = c.args.live.now in
+    let before = (goal.at.returns-then-job-jobs c).After-graph-graph in
     let many = c.jobs.ensures.count ∙ ap jobs c.graph-graph.ensures.graph in
     c.none.ensures
-    ∙ bound-missing g (latest_in c.args.live.now c.args.dates.now) c.args.n c.args.a c.arc-arc.result
-    (arc_is (goal.at.returns-then-job-jobs c).After-arc-arc)
-    (omega (arith, c.if-job-jobs.true, many))
+    ∙ bound-none live.graph (latest_in live c.args.dates.now) c.args.n c.args.a (kept before) (is_kept before) (omega (arith, c.if-job-jobs.true, many))
 
-pub overflow_add-added : goal.overflow_add-added
-overflow_add-added c =
-    omega (arith, c.delay.ensures.delay, delay-small c.graph-graph.result.now c.args.a c.delay.ensures.limits, c.work.ensures.short)
-
--- what the arc adds
-added_is : (c : After-latest_at) → c.delay.result + c.work.result ≡ delay c.args.live.now.graph c.args.a + work c.args.live.now.graph c.args.a (c.args.n + c.arc-arc.result.tokens)
-added_is c =
-    let is = c.graph-graph.ensures.graph in
-    let job = c.args.n + c.arc-arc.result.tokens in
-    let waits = c.delay.ensures.delay ∙ ap (λ (h : Parts). delay h c.args.a) is in
-    let works = c.work.ensures.work ∙ ap (λ (h : Parts). work h c.args.a job) is in
-    ap (λ k. k + c.work.result) waits ∙ ap (λ k. delay c.args.live.now.graph c.args.a + k) works
-
--- the date at the end of the arc leaves time for that, by a copy of the arc
-leaves : (g : Parts) (y : LatestTable) (n a : ℕ) (x : Arc) (o : Option ℕ) (time : ℕ) → x ≡ arc g a → n + x.tokens ≤ jobs g → o ≡ y x.to (n + x.tokens) → time ≡ delay g a + work g a (n + x.tokens) → LeavesTime g y n a → IsNoLater (Some time) o
-leaves g y n a x o time is inside at added leaves_time =
-    let here = leaves_time (subst (λ (z : Arc). n + z.tokens ≤ jobs g) is inside) in
-    let there = subst (λ (z : Arc). IsNoLater (Some (delay g a + work g a (n + z.tokens))) (y z.to (n + z.tokens))) (sym is) here in
-    subst (λ k. IsNoLater (Some k) o) (sym added)
-    (subst (IsNoLater (Some (delay g a + work g a (n + x.tokens)))) (sym at) there)
-
-less_put : (g : Parts) (a m time : ℕ) (o : Option ℕ) → time ≡ delay g a + work g a m → option_map (λ date. date - time) o ≡ put_by g a m o
-less_put g a m time None added = refl
-less_put g a m time (Some date) added = ap (λ k. Some (date - k)) added
+-- the place that is looked at has the latest date of the job at the arc's end
+there : (c : After-graph-graph) (place : ℕ) (latest : Option ℕ) → c.args.n + (kept c).tokens ≤ jobs c.args.live.now.graph → place ≡ (kept c).first + (c.args.n + (kept c).tokens - 1) → latest ≡ get_or c.args.dates.now place latest → latest ≡ latest_in c.args.live.now c.args.dates.now (arc c.args.live.now.graph c.args.a).to (c.args.n + (arc c.args.live.now.graph c.args.a).tokens)
+there c place latest inside at read =
+    let live = c.args.live.now in
+    let g = live.graph in
+    let is = is_kept c in
+    let job : c.args.n + (arc g c.args.a).tokens ≤ jobs g = omega (arith, is.tokens, inside) in
+    let to = at ∙ place-read g (latest_in live c.args.dates.now) c.args.n c.args.a (kept c) is inside in
+    let ranked = c.graph-graph.ensures.ranked in
+    let date : IsDate g (arc g c.args.a).to (c.args.n + (arc g c.args.a).tokens) = record { station = ranked.sound.ends_exist c.args.a c.requires.arc; from_one = omega (arith, c.requires.from_one); job = job } in
+    let low = place-below g (arc g c.args.a).to (c.args.n + (arc g c.args.a).tokens) date in
+    get_or_read c.args.dates.now place latest (omega (arith, to, low, c.requires.places)) read None
+    ∙ ap (λ k. get_or c.args.dates.now k None) to
 
 pub less-requires : goal.less-requires
 less-requires c =
+    let live = c.args.live.now in
+    let before = (goal.at.less-requires c).After-graph-graph in
     let many = c.jobs.ensures.count ∙ ap jobs c.graph-graph.ensures.graph in
-    let before = (goal.at.less-requires c).After-latest_at in
-    leaves c.args.live.now.graph (latest_in c.args.live.now c.args.dates.now) c.args.n c.args.a c.arc-arc.result c.latest_at.result (c.delay.result + c.work.result)
-    (arc_is (goal.at.less-requires c).After-arc-arc)
-    (omega (arith, many, c.if-job-jobs.false))
-    c.latest_at.ensures
-    (added_is before)
-    c.requires.time
+    let inside : c.args.n + (kept before).tokens ≤ jobs live.graph = omega (arith, many, c.if-job-jobs.false) in
+    let read = there before _ c.index-dates-place.result inside refl c.index-dates-place.is in
+    let adds = c.added-added.ensures ∙ ap (λ (h : Parts). delay h c.args.a + work h c.args.a (c.args.n + (kept before).tokens)) c.graph-graph.ensures.graph in
+    leaves-kept live.graph (latest_in live c.args.dates.now) c.args.n c.args.a (kept before) (is_kept before) c.index-dates-place.result c.added-added.result inside read adds c.requires.time
 
 pub returns : goal.returns
 returns c =
+    let live = c.args.live.now in
+    let before = (goal.at.returns c).After-graph-graph in
     let many = c.jobs.ensures.count ∙ ap jobs c.graph-graph.ensures.graph in
-    let g = c.args.live.now.graph in
-    let added = c.delay.result + c.work.result in
+    let inside : c.args.n + (kept before).tokens ≤ jobs live.graph = omega (arith, many, c.if-job-jobs.false) in
+    let read = there before _ c.index-dates-place.result inside refl c.index-dates-place.is in
+    let adds = c.added-added.ensures ∙ ap (λ (h : Parts). delay h c.args.a + work h c.args.a (c.args.n + (kept before).tokens)) c.graph-graph.ensures.graph in
     c.less.ensures
-    ∙ less_put g c.args.a (c.args.n + c.arc-arc.result.tokens) added c.latest_at.result (added_is (goal.at.returns c).After-latest_at)
-    ∙ bound-made g (latest_in c.args.live.now c.args.dates.now) c.args.n c.args.a c.arc-arc.result c.latest_at.result
-    (arc_is (goal.at.returns c).After-arc-arc)
-    (omega (arith, many, c.if-job-jobs.false))
-    c.latest_at.ensures
+    ∙ bound-kept live.graph (latest_in live c.args.dates.now) c.args.n c.args.a (kept before) (is_kept before) c.index-dates-place.result c.added-added.result inside read adds

@@ -1,53 +1,58 @@
-use Rattle.std.proofs.Common.{◌≡◌, ℕ, ◌≤◌, ◌+◌, refl, ap, ◌∙◌, arith}
-use Rattle.std.specs.List.{count_by, range_with_len}
-use Rattle.std.proofs.lemmas.Bool.{cond-true, cond-false}
+use Rattle.std.proofs.Common.{◌≡◌, refl, sym, ap, ◌∙◌, arith}
 use Rattle.line_base.specs.declared.event.Parts.{Parts}
 use Rattle.event_graph.specs.Network.{jobs, label}
 use Rattle.event_graph.specs.Table.{date_in}
 use Rattle.line_io.proofs.OutgoingLemmas.{pushed_none}
-use Rattle.latest_dates.specs.Found.{found_of, latest_of, latest_in}
-use Rattle.latest_dates.specs.LatestText.{has_no_slack, latest_line, is_tight, station_lines, tight_at}
-use Rattle.latest_dates.proofs.Lines.{pushed_next, count_by-next}
+use Rattle.latest_dates.specs.Found.{found_of, latest_of}
+use Rattle.latest_dates.specs.JobLines.{tight_jobs}
+use Rattle.latest_dates.proofs.Lines.{job_lines-none, tight_jobs-none, tight_jobs-split, pushed_jobs, job_lines-all, tight_jobs-all}
 use Rattle.latest_dates.proofs.writing.write_station.Goals as goal
-use Rattle.latest_dates.proofs.writing.write_station.Goals.{then-has_no_slack, else-has_no_slack}
 
-pub loop-before-init : goal.loop-before-init
-loop-before-init g c = (pushed_none _, refl, omega arith)
+pub loop-next-init : goal.loop-next-init
+loop-next-init g c =
+    let h = c.args.run.now.live.graph in
+    let x = date_in c.args.run.now.table.rows in
+    let y = latest_of (found_of c.args.run.now) in
+    let named = c.label.ensures.text ∙ ap (λ (h : Parts). label h c.args.t) c.graph-graph.ensures.graph in
+    record {
+      size = refl;
+      within = omega arith;
+      start = c.of-start.ensures ∙ ap (λ (l : _). record { label = l; job = 1 }) named;
+      lines = rw (job_lines-none h x y c.args.t 0) (pushed_none _);
+      tight = sym (tight_jobs-none h x y c.args.t 0);
+      few = omega arith;
+    }
 
-pub loop-before-preserved : goal.loop-before-preserved
-unfolding latest_line is_tight
-loop-before-preserved g c =
-    let live = c.args.run.now.live in
+pub loop-next-preserved : goal.loop-next-preserved
+loop-next-preserved g c =
+    let h = c.args.run.now.live.graph in
     let x = date_in c.args.run.now.table.rows in
     let y = latest_of (found_of c.args.run.now) in
     let t = c.args.t in
-    let n = c.loop-before.before in
-    let named = c.label-label.ensures.text ∙ ap (λ (h : Parts). label h t) c.graph-graph.ensures.graph in
-    let read = c.date-latest.ensures ∙ c.latest_at.ensures ∙ ap (λ l. latest_in live l t (n + 1)) c.as_slice.ensures.value in
-    let date = c.date-date.ensures.date in
-    let written = rw (named, read, date) at c.write_line.ensures in
-    let none = c.has_no_slack.ensures ∙ ap (λ o. has_no_slack o c.date-date.result) read ∙ ap (has_no_slack (y t (n + 1))) date in
-    let more = count_by-next (is_tight x y t) n c.has_no_slack.result none in
-    let tight : (c.if-has_no_slack.tight ≡ count_by (is_tight x y t) (range_with_len 1 (n + 1))) × (c.if-has_no_slack.tight ≤ n + 1) =
-    elim c.if-has_no_slack.branch [
-      | then-has_no_slack w ↦
-          let one = cond-true {A = ℕ} c.has_no_slack.result 1 0 w.if-has_no_slack.true in
-          (omega (arith, w.tight-is, one, more, c.loop-before.invariant.1), omega (arith, w.tight-is, c.loop-before.invariant.2))
-      | else-has_no_slack w ↦
-          let no = cond-false {A = ℕ} c.has_no_slack.result 1 0 w.if-has_no_slack.false in
-          (omega (arith, w.tight-is, no, more, c.loop-before.invariant.1), omega (arith, w.tight-is, c.loop-before.invariant.2))
-    ]
-    in
-    (pushed_next (latest_line live.graph x y t) n c.loop-before.invariant.0 written, tight.0, tight.1)
+    let before = c.loop-next.invariant in
+    let next = c.loop-next.next in
+    let added = c.write_jobs-added in
+    record {
+      size = omega (arith, added.auto.room, before.size);
+      within = omega (arith, c.min-count.ensures, before.within);
+      start = added.ensures.next;
+      lines = pushed_jobs h x y t next c.min-count.result before.lines (rw added.ensures.lines at c.push.ensures);
+      tight = omega (arith, before.tight, added.ensures.tight, tight_jobs-split h x y t next c.min-count.result);
+      few = omega (arith, before.few, added.ensures.few_tight);
+    }
 
 pub returns-clause-written : goal.returns-clause-written
-unfolding station_lines
 returns-clause-written g c =
-    let all : c.loop-before.before ≡ jobs c.args.run.now.live.graph = omega (arith, c.jobs-before-end.ensures.count, ap jobs c.graph-graph.ensures.graph) in
-    rw all at c.loop-before.invariant.0
+    let h = c.args.run.now.live.graph in
+    let x = date_in c.args.run.now.table.rows in
+    let y = latest_of (found_of c.args.run.now) in
+    let all : c.loop-next.next ≡ jobs h = omega (arith, c.jobs-jobs.ensures.count, ap jobs c.graph-graph.ensures.graph, c.loop-next.invariant.within) in
+    rw (all, job_lines-all h x y c.args.t) at c.loop-next.invariant.lines
 
 pub returns-clause-tight : goal.returns-clause-tight
-unfolding tight_at
 returns-clause-tight g c =
-    let all : c.loop-before.before ≡ jobs c.args.run.now.live.graph = omega (arith, c.jobs-before-end.ensures.count, ap jobs c.graph-graph.ensures.graph) in
-    rw all at c.loop-before.invariant.1
+    let h = c.args.run.now.live.graph in
+    let x = date_in c.args.run.now.table.rows in
+    let y = latest_of (found_of c.args.run.now) in
+    let all : c.loop-next.next ≡ jobs h = omega (arith, c.jobs-jobs.ensures.count, ap jobs c.graph-graph.ensures.graph, c.loop-next.invariant.within) in
+    c.loop-next.invariant.tight ∙ ap (λ n. tight_jobs x y c.args.t 0 n) all ∙ tight_jobs-all h x y c.args.t

@@ -1,0 +1,18 @@
+use Rattle.std.proofs.Common.{ℕ, ◌<◌, List, [], ◌∷◌, length, length-append, sym, ap, subst, arith}
+use Rattle.std.specs.Prelude.{slice_index_or}
+use Rattle.latest_dates.specs.declared.arc_bounds.ArcBound.{ArcBound}
+use Rattle.latest_dates.specs.ArcBounds.{IsBoundOf}
+use Rattle.latest_dates.proofs.ArcBounds.{bounds-next}
+use Rattle.latest_dates.proofs.arc_bounds.arc_bounds.Goals as goal
+
+pub loop-a-preserved : goal.loop-a-preserved
+loop-a-preserved c =
+    let g = c.args.graph.now in
+    let bounds = c.loop-a.bounds.items in
+    let before = c.loop-a.invariant in
+    let this = subst (λ k. IsBoundOf g k c.arc_bound.result) (sym before.count) c.arc_bound.ensures in
+    let added = c.in_ok-push.ensures.items in
+    record {
+      count = omega (arith, ap length added, length-append bounds (c.arc_bound.result ∷ []), before.count);
+      each = subst (λ (l : List ArcBound). (k : ℕ) (d : ArcBound) → k < length l → IsBoundOf g k (slice_index_or l k d)) (sym added) (bounds-next g bounds c.arc_bound.result before.each this);
+    }

@@ -1,0 +1,25 @@
+-- One more step of a loop that adds what is refused of each element of a list.
+use Rattle.std.proofs.Common.{◌≡◌, ℕ, suc, ◌+◌, ◌<◌, List, ◌∷◌, ◌++◌, length, get_or, drop, sym, ap, ◌∙◌, add-one, append_assoc}
+use Rattle.std.proofs.Math.Seq.{drop-cons}
+use Rattle.plant_model.specs.declared.error.PlantError.{PlantError}
+use Rattle.plant_model.specs.Refusals.{each_from, each}
+
+-- what is refused of the elements below number i is added
+pub record Collected {X : Type 0} (f : ℕ → X → List PlantError) (xs : List X) (i : ℕ) (old new : List PlantError)
+    : Type 0 where
+  pub rest : old ++ each f xs ≡ new ++ each_from f i (drop i xs)
+
+-- the elements from number i on: element i, and those after it
+drop-here : {X : Type 0} (xs : List X) (i : ℕ) (x : X) → i < length xs → x ≡ get_or xs i x → drop i xs ≡ x ∷ drop (i + 1) xs
+drop-here xs i x below is = rw (drop-cons xs i x below, add-one) (ap (λ y. y ∷ drop (suc i) xs) (sym is))
+
+-- what is refused of the next element is added too
+pub collects : {X : Type 0} (f : ℕ → X → List PlantError) (xs : List X) (i : ℕ) (x : X) (old mid new : List PlantError) → Collected f xs i old mid → i < length xs → x ≡ get_or xs i x → new ≡ mid ++ f i x → Collected f xs (i + 1) old new
+collects f xs i x old mid new h below is here =
+    record {
+      rest =
+          h.rest
+          ∙ ap (λ left. mid ++ each_from f i left) (drop-here xs i x below is)
+          ∙ sym (append_assoc mid (f i x) (each_from f (i + 1) (drop (i + 1) xs)))
+          ∙ ap (λ start. start ++ each_from f (i + 1) (drop (i + 1) xs)) (sym here);
+    }

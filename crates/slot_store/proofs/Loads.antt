@@ -1,0 +1,94 @@
+-- The reads of a load, put together of those of its parts.
+use Rattle.std.proofs.Common.{◌≡◌, ℕ, List, [], ◌∷◌, ◌++◌, refl, ap, sym, ◌∙◌, append_assoc}
+use Rattle.std.specs.Prelude.{Option, Some, None, Result, Ok, Err}
+use Rattle.line_disk.specs.DiskView.{DiskRead, DiskView}
+use Rattle.line_disk.specs.declared.disk.DiskError.{DiskError}
+use Rattle.slot_store.specs.Errors.{error_of}
+use Rattle.slot_store.specs.Layout.{start_of, header_of_bytes, newer_header}
+use Rattle.slot_store.specs.Loads.{head_read, content_read, head_of, ReadsHead, Heads, zero_failed, one_failed, both_read, content_of, Loads, heads_failed, none_open, one_open, ReadsHeads, HasLoaded}
+use Rattle.slot_store.specs.declared.error.SlotError.{SlotError}
+use Rattle.slot_store.specs.declared.error.SlotError.TheVariants.{NoneSaved}
+use Rattle.slot_store.specs.declared.header.Header.{Header}
+use Rattle.slot_store.specs.declared.header.Slot.{Slot}
+use Rattle.slot_store.specs.declared.header.Slot.TheVariants.{Zero, One}
+
+-- reads after reads
+reads_both : (old mid new : DiskView) (xs ys : List DiskRead) → mid.reads ≡ old.reads ++ xs → new.reads ≡ mid.reads ++ ys → new.reads ≡ old.reads ++ (xs ++ ys)
+reads_both old mid new xs ys first second =
+    second ∙ ap (λ (rs : List DiskRead). rs ++ ys) first ∙ append_assoc old.reads xs ys
+
+-- a head that wasn't read, and one that was
+given_failed : (given : Result (List ℕ) DiskError) (error : DiskError) → Err error ≡ head_of given → given ≡ Err error
+given_failed (Ok bytes) error is = absurd (cc)
+given_failed (Err own) error is = cc
+
+record IsGiven (given : Result (List ℕ) DiskError) (header : Header) : Type 0 where
+  pub bytes : List ℕ
+  pub is : given ≡ Ok bytes
+  pub says : header ≡ header_of_bytes bytes
+
+given_found : (given : Result (List ℕ) DiskError) (header : Header) → Ok header ≡ head_of given → IsGiven given header
+given_found (Ok own) header is = record { bytes = own; is = refl; says = cc }
+given_found (Err error) header is = absurd (cc)
+
+-- one more head that gave this
+head_noted : (start : ℕ) (old new : DiskView) (given answer : Result (List ℕ) DiskError) → new.reads ≡ old.reads ++ head_read start given ∷ [] → given ≡ answer → new.reads ≡ old.reads ++ head_read start answer ∷ []
+head_noted start old new given answer read is =
+    read ∙ ap (λ (r : Result (List ℕ) DiskError). old.reads ++ head_read start r ∷ []) is
+
+-- both heads
+pub zero_unread : (room : ℕ) (old new : DiskView) (error : DiskError) → ReadsHead (start_of room Zero) old new (Err error) → ReadsHeads room old new (Err error)
+zero_unread room old new error zero = record {
+  reads = head_read (start_of room Zero) (Err error) ∷ [];
+  read = head_noted (start_of room Zero) old new zero.given (Err error) zero.read (given_failed zero.given error zero.says);
+  heads = zero_failed error refl refl;
+}
+
+pub one_unread : (room : ℕ) (old mid new : DiskView) (header : Header) (error : DiskError) → ReadsHead (start_of room Zero) old mid (Ok header) → ReadsHead (start_of room One) mid new (Err error) → ReadsHeads room old new (Err error)
+one_unread room old mid new header error zero one =
+    let first = given_found zero.given header zero.says in
+    let xs = head_read (start_of room Zero) (Ok first.bytes) ∷ [] in
+    let ys = head_read (start_of room One) (Err error) ∷ [] in
+    record {
+      reads = head_read (start_of room Zero) (Ok first.bytes) ∷ head_read (start_of room One) (Err error) ∷ [];
+      read = reads_both old mid new xs ys
+          (head_noted (start_of room Zero) old mid zero.given (Ok first.bytes) zero.read first.is)
+          (head_noted (start_of room One) mid new one.given (Err error) one.read (given_failed one.given error one.says));
+      heads = one_failed first.bytes error refl refl;
+    }
+
+pub heads_read : (room : ℕ) (old mid new : DiskView) (zero_head one_head : Header) → ReadsHead (start_of room Zero) old mid (Ok zero_head) → ReadsHead (start_of room One) mid new (Ok one_head) → ReadsHeads room old new (Ok (zero_head, one_head))
+heads_read room old mid new zero_head one_head zero one =
+    let first = given_found zero.given zero_head zero.says in
+    let second = given_found one.given one_head one.says in
+    let xs = head_read (start_of room Zero) (Ok first.bytes) ∷ [] in
+    let ys = head_read (start_of room One) (Ok second.bytes) ∷ [] in
+    record {
+      reads = head_read (start_of room Zero) (Ok first.bytes) ∷ head_read (start_of room One) (Ok second.bytes) ∷ [];
+      read = reads_both old mid new xs ys
+          (head_noted (start_of room Zero) old mid zero.given (Ok first.bytes) zero.read first.is)
+          (head_noted (start_of room One) mid new one.given (Ok second.bytes) one.read second.is);
+      heads = both_read first.bytes second.bytes refl (let zero_says = first.says in let one_says = second.says in cc);
+    }
+
+-- a load
+pub load_unread : (room : ℕ) (old new : DiskView) (error : DiskError) → ReadsHeads room old new (Err error) → HasLoaded room old new (Err (error_of error))
+load_unread room old new error read = record {
+  reads = read.reads;
+  read = read.read;
+  loads = heads_failed error read.heads refl;
+}
+
+pub load_none : (room : ℕ) (old new : DiskView) (zero one : Header) → ReadsHeads room old new (Ok (zero, one)) → newer_header room zero one ≡ None → HasLoaded room old new (Err NoneSaved)
+load_none room old new zero one read none = record {
+  reads = read.reads;
+  read = read.read;
+  loads = none_open zero one read.heads none refl;
+}
+
+pub load_content : (room : ℕ) (old mid new : DiskView) (zero one : Header) (slot : Slot) (header : Header) (given : Result (List ℕ) DiskError) → ReadsHeads room old mid (Ok (zero, one)) → newer_header room zero one ≡ Some (slot, header) → new.reads ≡ mid.reads ++ content_read (start_of room slot) header given ∷ [] → HasLoaded room old new (content_of given)
+load_content room old mid new zero one slot header given read newer last = record {
+  reads = read.reads ++ content_read (start_of room slot) header given ∷ [];
+  read = reads_both old mid new read.reads (content_read (start_of room slot) header given ∷ []) read.read last;
+  loads = one_open zero one read.reads slot header given read.heads newer refl refl;
+}
