@@ -1,6 +1,5 @@
 """Runs each file of mistakes/ and compares the status, the first line and the message that names the cause with the table
-of mistakes/README.md. Run it in mistakes/, with PULL naming the program. Prints what differs, and ends with status 1
-where anything does."""
+of mistakes/README.md, with PULL naming the program. Prints what differs, and ends with status 1 where anything does."""
 
 import os
 import re
@@ -50,6 +49,8 @@ def faults_of(name, status, line, message):
 
 
 def main():
+    os.environ["PULL"] = os.path.abspath(os.environ["PULL"])
+    os.chdir(os.path.join(os.path.dirname(os.path.abspath(__file__)), "mistakes"))
     with open("README.md", encoding="utf-8") as file:
         rows = [it.groups() for it in map(ROW.match, file.read().splitlines()) if it]
     wrong = 0

@@ -11,10 +11,10 @@ ghost use Rattle.card_curve.specs.declared.curve.CurveError.{CurveError};
 use crate::point::{Point, point_at};
 use crate::rows::write_row;
 use card_sizing::lowest_count;
+use fan_out::for_each_mut;
 use line_io::{Outgoing, Sink};
 use plant_model::Plant;
 use std::alloc::{AllocError, Global};
-use std::thread;
 use std::thread::Threads;
 use thiserror::Error;
 
@@ -104,7 +104,7 @@ fn find_points<R: Threads + Sync>(
     ensures number { length points.new ≡ length points.old }
     ensures points { HavePoints plant.now first points.new }
 {
-    thread::for_each_mut(
+    for_each_mut(
         rt,
         points,
         workers as usize,

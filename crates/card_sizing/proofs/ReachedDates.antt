@@ -5,7 +5,7 @@ use Rattle.std.proofs.lemmas.Bool.{cases_lt, ne_eqb, cond-true, cond-false, lt-l
 use Rattle.line_base.specs.declared.event.Parts.{Parts}
 use Rattle.event_graph.specs.Network.{stations, jobs, arc, arc_count, demand, delay, ins, IsGraph}
 use Rattle.event_graph.specs.Table.{Table, date_in}
-use Rattle.event_graph.specs.Term.{term}
+use Rattle.event_graph.specs.Term.{token_date, term}
 use Rattle.event_graph.specs.Solves.{Solves}
 use Rattle.event_graph.specs.Least.{IsLeast}
 use Rattle.event_graph.specs.State.{State, log, place}
@@ -32,6 +32,13 @@ not_refused r t (Empty a) can empty =
     ne_eqb (length (place r.state (get_or (ins r.graph t) k d))) 0 (λ none. let some = can.tokens _ at.0 at.1 in absurd (omega (arith, some, none)))) in
     let found = empty.1 in
     absurd cc
+
+-- the date of a token that another job put, and of one of the start
+token_date-put : (g : Parts) (y : Table) (a n : ℕ) → (arc g a).tokens < n → token_date g y a n ≡ y (arc g a).from (n - (arc g a).tokens) + delay g a
+token_date-put g y a n put = cond-true (ltb (arc g a).tokens n) _ 0 (lt-ltb (arc g a).tokens n put)
+
+token_date-start : (g : Parts) (y : Table) (a n : ℕ) → n ≤ (arc g a).tokens → token_date g y a n ≡ 0
+token_date-start g y a n start = cond-false (ltb (arc g a).tokens n) _ 0 (le-ltb (arc g a).tokens n start)
 
 module _ (g : Parts) (s : State) (graph : IsGraph g) (some : 1 ≤ stations g) (reached : Reached g s) (x : Table) (least : IsLeast g x) where
   c : IsConsistent g s
@@ -67,40 +74,25 @@ module _ (g : Parts) (s : State) (graph : IsGraph g) (some : 1 ≤ stations g) (
   -- a term over the joined table, by where its token comes from
   term-new : (a n : ℕ) → a < arc_count g → term g joined a n ≤ term g x a n
   term-new a n there =
-      let tokens = (arc g a).tokens in
-      let from = (arc g a).from in
       ⊎_elim
       (λ put.
-      let passes = lt-ltb tokens n put in
-      let mine = cond-true (ltb tokens n) (joined from (n - tokens) + delay g a) 0 passes in
-      let yours = cond-true (ltb tokens n) (x from (n - tokens) + delay g a) 0 passes in
-      let below = joined-le from (n - tokens) (graph.starts_exist a there) (omega arith) in
-      omega (arith, mine, yours, below))
-      (λ start.
-      let mine = cond-false (ltb tokens n) (joined from (n - tokens) + delay g a) 0 (le-ltb tokens n start) in
-      omega (arith, mine))
-      (cases_lt tokens n)
+      let below = joined-le (arc g a).from (n - (arc g a).tokens) (graph.starts_exist a there) (omega arith) in
+      omega (arith, token_date-put g joined a n put, token_date-put g x a n put, below))
+      (λ start. omega (arith, token_date-start g joined a n start))
+      (cases_lt (arc g a).tokens n)
 
   -- one into a station that has made the job takes a date of the state
   term-old : (a n : ℕ) → a < arc_count g → n ≤ length (log s (arc g a).to) → term g joined a n ≡ term g (date_in s.logs) a n
   term-old a n there old =
-      let tokens = (arc g a).tokens in
-      let from = (arc g a).from in
+      let y = date_in s.logs in
       ⊎_elim
       (λ put.
-      let passes = lt-ltb tokens n put in
-      let mine = cond-true (ltb tokens n) (joined from (n - tokens) + delay g a) 0 passes in
-      let its = cond-true (ltb tokens n) (date_in s.logs from (n - tokens) + delay g a) 0 passes in
       let taken = c.tokens_suffice a there in
-      let made : n - tokens ≤ length (log s from) = omega (arith, taken, length-all_tokens g s a) in
-      let same = joined-old from (n - tokens) made in
-      omega (arith, mine, its, same))
-      (λ start.
-      let none = le-ltb tokens n start in
-      let mine = cond-false (ltb tokens n) (joined from (n - tokens) + delay g a) 0 none in
-      let its = cond-false (ltb tokens n) (date_in s.logs from (n - tokens) + delay g a) 0 none in
-      omega (arith, mine, its))
-      (cases_lt tokens n)
+      let made : n - (arc g a).tokens ≤ length (log s (arc g a).from) = omega (arith, taken, length-all_tokens g s a) in
+      let same = joined-old (arc g a).from (n - (arc g a).tokens) made in
+      omega (arith, token_date-put g joined a n put, token_date-put g y a n put, same))
+      (λ start. omega (arith, token_date-start g joined a n start, token_date-start g y a n start))
+      (cases_lt (arc g a).tokens n)
 
   feed_solved : (n : ℕ) → 1 ≤ n → n ≤ jobs g → demand g n ≤ joined 0 n
   feed_solved zero from_one within = absurd (omega arith)

@@ -1,5 +1,5 @@
 -- The steps of the search for the least count, and its ends.
-use Rattle.std.proofs.Common.{◌≡◌, ℕ, zero, suc, ◌+◌, ◌-◌, ◌^◌, ◌<◌, ◌≤◌, true, length, refl, subst, arith}
+use Rattle.std.proofs.Common.{◌≡◌, ℕ, zero, suc, ◌+◌, ◌-◌, ◌^◌, ◌<◌, ◌≤◌, true, length, refl, sym, subst, arith}
 use Rattle.std.proofs.Math.Nat.{pow-succ'}
 use Rattle.std.proofs.lemmas.List.Elements.{All-filter, filter_passes}
 use Rattle.line_base.specs.declared.limits.TheConstants.{MAX_CARDS}
@@ -83,7 +83,7 @@ fails_by_job p may (Dead labels) fails live = absurd (dead_not_live (graph p) la
 -- ---- tries
 
 -- one try more, after which at most half of the range is left
-pub try_taken : (most tries range rest : ℕ) → HasTriesLeft most tries range → 1 ≤ range → rest + rest ≤ range → HasTriesLeft most (tries + 1) rest
+try_taken : (most tries range rest : ℕ) → HasTriesLeft most tries range → 1 ≤ range → rest + rest ≤ range → HasTriesLeft most (tries + 1) rest
 try_taken most tries range rest has some half = by_left has.left has.all has.halved
   where
     by_left : (left : ℕ) → tries + left ≡ most → range < 2 ^ left → HasTriesLeft most (tries + 1) rest
@@ -91,3 +91,8 @@ try_taken most tries range rest has some half = by_left has.left has.all has.hal
     by_left (suc left) all small =
         let twice = pow-succ' 2 left in
         record { left = left; all = omega arith; halved = omega (arith, twice) }
+
+-- the same, as the tries are counted
+pub try_counted : (most tries counted range rest : ℕ) → counted ≡ tries + 1 → HasTriesLeft most tries range → 1 ≤ range → rest + rest ≤ range → HasTriesLeft most counted rest
+try_counted most tries counted range rest is has some half =
+    subst (λ (n : ℕ). HasTriesLeft most n rest) (sym is) (try_taken most tries range rest has some half)

@@ -1,21 +1,21 @@
 -- A plant with a count of cards for each stage, under kanban and extended kanban, and what it is that the counts serve.
 -- Source: Dallery and Liberopoulos 2000, for what a stage's cards and its stock are.
-use Rattle.std.specs.Prelude.{◌≡◌, ℕ, ◌<◌, ◌≤◌, Bool, true, false, ◌==◌, List, map, length, slice_index, slice_set}
+use Rattle.std.specs.Prelude.{◌≡◌, ℕ, ◌<◌, ◌≤◌, Bool, false, List, map, length, slice_index, slice_set}
 use Rattle.line_base.specs.Limits.{most_cards}
 use Rattle.plant_model.specs.declared.plant.Policy.{Policy}
 use Rattle.plant_model.specs.declared.plant.Policy.TheVariants.{Kanban, Conwip, BaseStock, Extended}
 use Rattle.plant_model.specs.Stages.{Stage}
 use Rattle.plant_model.specs.declared.plant.Plant.{Plant}
 use Rattle.plant_model.specs.Line.{stage_at, stage_numbers}
+use Rattle.card_sizing.specs.Sized.{has_count_under}
 use Rattle.card_sizing.specs.Serving.{IsInTime}
 
--- whether each stage has a count of cards: not under CONWIP and base stock, and not under kanban with a loop, whose
--- cards stand against those of its stages
+-- whether each stage has a count of cards: where one count says how many the plant has, but under CONWIP
 abbrev pub has_counts_under : Policy → Plant → Bool
-has_counts_under Kanban p = length p.loops == 0
 has_counts_under (Conwip _) p = false
-has_counts_under BaseStock p = false
-has_counts_under Extended p = true
+has_counts_under Kanban p = has_count_under Kanban p
+has_counts_under BaseStock p = has_count_under BaseStock p
+has_counts_under Extended p = has_count_under Extended p
 
 abbrev pub has_stage_counts : Plant → Bool
 has_stage_counts p = has_counts_under p.policy p

@@ -6,9 +6,10 @@ ghost use Rattle.card_sizing.specs.Trying.{Tells, ShowsItsCircuit, NamesItsCircu
 ghost use Rattle.line_base.specs.Limits.{most_cards};
 ghost use Rattle.plant_model.specs.Sound.{IsSound};
 
+use crate::late_job::LateJob;
 use crate::sized::sized_plant;
 use crate::sizing::Below;
-use crate::waits::{LateJob, first_late};
+use crate::waits::first_late;
 use line_base::{Items, Label};
 use line_core::State;
 use line_graph::{dead_labels, graph_of};

@@ -7,16 +7,10 @@ ghost use Rattle.event_graph.specs.Table.{Table};
 ghost use Rattle.line_core.specs.Round.{HasFired};
 ghost use Rattle.line_core.specs.Run.{IsReached};
 
+use crate::late_job::LateJob;
 use line_core::{State, fire_each};
 use live_check::Live;
 use plant_model::FEED;
-
-/// A job, and how long it waits for its delivery, in the plant's unit.
-#[derive(Clone, Copy)]
-pub struct LateJob {
-    pub job: u32,
-    pub wait: u64,
-}
 
 /// How long the job waits that every station made last.
 fn last_wait(state: &State, live: &Live, done: u32) -> u64

@@ -28,8 +28,9 @@ topic_of word =
     else if bytes_eq word (codes "big") then Some topic.Big
     else None
 
-abbrev pub lint_lines : List (List ℕ)
-lint_lines =
+-- the lines of the screen of each command
+abbrev pub screen_lines : Topic → List (List ℕ)
+screen_lines topic.Lint =
     codes "pull lint PLANT"
     ∷ codes ""
     ∷ codes "Writes all that is wrong with the plant file PLANT and with the files that it names, a line each, 200 at"
@@ -47,9 +48,7 @@ lint_lines =
     ∷ codes ""
     ∷ status.done
     ∷ status.of_plants
-
-abbrev pub check_lines : List (List ℕ)
-check_lines =
+screen_lines topic.Check =
     codes "pull check PLANT"
     ∷ codes ""
     ∷ codes "Writes how large the line of the plant file PLANT is, and its card circuits, each with its number of"
@@ -62,9 +61,7 @@ check_lines =
     ∷ codes ""
     ∷ status.done
     ∷ status.of_plants
-
-abbrev pub summary_lines : List (List ℕ)
-summary_lines =
+screen_lines topic.Summary =
     codes "pull summary PLANT"
     ∷ codes ""
     ∷ codes "Writes the run of a plant in some twenty lines: throughput, waits, backlog, what is in process, on its"
@@ -87,9 +84,7 @@ summary_lines =
     ∷ codes ""
     ∷ status.done
     ∷ status.of_plants
-
-abbrev pub run_lines : List (List ℕ)
-run_lines =
+screen_lines topic.Run =
     codes "pull run PLANT [--workers W]"
     ∷ codes "pull run PLANT --room B [--workers W]"
     ∷ codes "pull run PLANT --stand [--workers W]"
@@ -134,9 +129,7 @@ run_lines =
     ∷ status.done
     ∷ status.disk_failed
     ∷ status.of_plants
-
-abbrev pub table_lines : List (List ℕ)
-table_lines =
+screen_lines topic.Table =
     codes "pull table PLANT"
     ∷ codes ""
     ∷ codes "Writes every date of a run as csv: the station, the job, the customer whom the part serves, when the"
@@ -165,9 +158,7 @@ table_lines =
     ∷ codes ""
     ∷ status.done
     ∷ status.of_plants
-
-abbrev pub why_lines : List (List ℕ)
-why_lines =
+screen_lines topic.Why =
     codes "pull why PLANT LABEL JOB"
     ∷ codes ""
     ∷ codes "Writes the chain of causes of the date of a job at a station, each line with the time that it adds to"
@@ -185,9 +176,7 @@ why_lines =
     ∷ status.done
     ∷ status.no_date
     ∷ status.of_plants
-
-abbrev pub chart_lines : List (List ℕ)
-chart_lines =
+screen_lines topic.Chart =
     codes "pull chart PLANT [FROM TO]"
     ∷ codes ""
     ∷ codes "Writes a picture of the run as SVG: a lane for each server of each machine with a bar for each job, and"
@@ -200,9 +189,7 @@ chart_lines =
     ∷ status.done
     ∷ status.too_large
     ∷ status.of_plants
-
-abbrev pub cards_lines : List (List ℕ)
-cards_lines =
+screen_lines topic.Cards =
     codes "pull cards PLANT WAIT"
     ∷ codes "pull cards PLANT WAIT --each"
     ∷ codes ""
@@ -223,9 +210,7 @@ cards_lines =
     ∷ status.no_count
     ∷ status.no_single_count
     ∷ status.of_plants
-
-abbrev pub curve_lines : List (List ℕ)
-curve_lines =
+screen_lines topic.Curve =
     codes "pull curve PLANT FROM TO [--workers W]"
     ∷ codes ""
     ∷ codes "Writes what each number of cards from FROM to TO gives: the last date, the throughput, the waits and"
@@ -242,9 +227,7 @@ curve_lines =
     ∷ status.done
     ∷ status.no_single_count
     ∷ status.of_plants
-
-abbrev pub latest_lines : List (List ℕ)
-latest_lines =
+screen_lines topic.Latest =
     codes "pull latest PLANT WAIT"
     ∷ codes ""
     ∷ codes "Writes the latest date of each job at each station with which no job waits longer than WAIT, 0 to"
@@ -271,9 +254,7 @@ latest_lines =
     ∷ status.done
     ∷ status.late
     ∷ status.of_plants
-
-abbrev pub cycle_lines : List (List ℕ)
-cycle_lines =
+screen_lines topic.Cycle =
     codes "pull cycle PLANT"
     ∷ codes ""
     ∷ codes "Writes how fast the line can go in the long run: the cycle time, a circuit of stations that holds it,"
@@ -291,9 +272,7 @@ cycle_lines =
     ∷ status.done
     ∷ status.varying
     ∷ status.of_plants
-
-abbrev pub whatif_lines : List (List ℕ)
-whatif_lines =
+screen_lines topic.WhatIf =
     codes "pull whatif PLANT EDITS"
     ∷ codes ""
     ∷ codes "Writes each date that changes when the lines of the file EDITS are followed, the old one before the new"
@@ -313,9 +292,7 @@ whatif_lines =
     ∷ status.done
     ∷ status.not_edited
     ∷ status.of_plants
-
-abbrev pub replay_lines : List (List ℕ)
-replay_lines =
+screen_lines topic.Replay =
     codes "pull replay PLANT SCHEDULE"
     ∷ codes ""
     ∷ codes "Writes the report of a plant whose stations work in the order of the file SCHEDULE, the label of a"
@@ -335,9 +312,7 @@ replay_lines =
     ∷ status.done
     ∷ status.not_replayed
     ∷ status.of_plants
-
-abbrev pub resume_lines : List (List ℕ)
-resume_lines =
+screen_lines topic.Resume =
     codes "pull resume PLANT FILE [--workers W]"
     ∷ codes "pull resume PLANT --slots [--workers W]"
     ∷ codes ""
@@ -358,9 +333,7 @@ resume_lines =
     ∷ status.disk_failed
     ∷ status.nothing_saved
     ∷ status.of_plants
-
-abbrev pub big_lines : List (List ℕ)
-big_lines =
+screen_lines topic.Big =
     codes "pull big SEED [--workers W]"
     ∷ codes ""
     ∷ codes "Runs the large plant that is drawn from a seed, 0 to 18,446,744,073,709,551,615, and writes its"
@@ -390,24 +363,6 @@ big_lines =
     ∷ codes ""
     ∷ status.done
     ∷ status.of_no_file
-
--- the lines of the screen of each command
-abbrev pub screen_lines : Topic → List (List ℕ)
-screen_lines topic.Lint = lint_lines
-screen_lines topic.Check = check_lines
-screen_lines topic.Summary = summary_lines
-screen_lines topic.Run = run_lines
-screen_lines topic.Table = table_lines
-screen_lines topic.Why = why_lines
-screen_lines topic.Chart = chart_lines
-screen_lines topic.Cards = cards_lines
-screen_lines topic.Curve = curve_lines
-screen_lines topic.Latest = latest_lines
-screen_lines topic.Cycle = cycle_lines
-screen_lines topic.WhatIf = whatif_lines
-screen_lines topic.Replay = replay_lines
-screen_lines topic.Resume = resume_lines
-screen_lines topic.Big = big_lines
 
 -- the screen of a command
 unfoldable pub screen : Topic → List ℕ

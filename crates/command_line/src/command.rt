@@ -5,7 +5,6 @@ use crate::file_name::FileName;
 use crate::screens::Topic;
 use line_base::Text;
 use std::alloc::AllocError;
-use thiserror::Error;
 
 /// Where a run stops before its end: at the first burst's end where this many firings are made.
 #[derive(Debug, Drop)]
@@ -173,13 +172,11 @@ pub enum Command {
 }
 
 /// Why words gave no command.
-#[derive(Clone, Copy, Debug, PartialEq, Eq, Error)]
+#[derive(Clone, Copy, Debug, PartialEq, Eq)]
 pub enum WordsError {
     /// The words are no command.
-    #[error("the words are no command")]
     Usage,
     /// Memory ran out.
-    #[error("out of memory")]
     NoMemory,
 }
 

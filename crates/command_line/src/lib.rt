@@ -11,6 +11,7 @@ mod number;
 mod options;
 mod screens;
 mod settings;
+mod statuses;
 mod usage;
 mod words;
 

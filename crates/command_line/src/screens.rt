@@ -1,6 +1,7 @@
 ghost use Rattle.std.specs.Prelude.{◌≡◌};
 ghost use Rattle.command_line.specs.Screens.{screen, help_text, topic_of};
 
+use crate::statuses::with_statuses;
 use crate::usage::{USAGE, usage_is_that_of_the_definitions};
 
 /// A command that has a screen of its own, named by its first word.
@@ -121,7 +122,8 @@ fn screens_are_those_of_the_definitions()
 {}
 
 /// `help lint`.
-const LINT: &str = "\
+const LINT: &str = with_statuses!(
+    "\
 pull lint PLANT
 
 Writes all that is wrong with the plant file PLANT and with the files that it names, a line each, 200 at
@@ -137,19 +139,13 @@ plant: missing: stage[2].machine[1].time
 plant: out of range: stage[1].cards wants 0 to 10000
 plant: out of range: stage[2].cards wants 0 to 10000
 
-status 0   done
-status 1   the words are no UTF-8
-status 2   the words are no command
-status 3   the plant is refused
-status 4   the plant has a circuit without a token
-status 5   a file can't be read or written
-status 6   the output can't be written
-status 9   out of memory
-status 10  a file is longer than 64 MiB, or a checkpoint longer than 160 MiB
 ";
+    0 of_plants
+);
 
 /// `help check`.
-const CHECK: &str = "\
+const CHECK: &str = with_statuses!(
+    "\
 pull check PLANT
 
 Writes how large the line of the plant file PLANT is, and its card circuits, each with its number of
@@ -160,19 +156,13 @@ live 6 stations 11 arcs 3 jobs
 circuit stage cut 1
 circuit stage weld 1
 
-status 0   done
-status 1   the words are no UTF-8
-status 2   the words are no command
-status 3   the plant is refused
-status 4   the plant has a circuit without a token
-status 5   a file can't be read or written
-status 6   the output can't be written
-status 9   out of memory
-status 10  a file is longer than 64 MiB, or a checkpoint longer than 160 MiB
 ";
+    0 of_plants
+);
 
 /// `help summary`.
-const SUMMARY: &str = "\
+const SUMMARY: &str = with_statuses!(
+    "\
 pull summary PLANT
 
 Writes the run of a plant in some twenty lines: throughput, waits, backlog, what is in process, on its
@@ -193,19 +183,13 @@ machine cut.saw servers 1 busy 0.600
 machine weld.torch servers 1 busy 1.000
 busiest weld.torch
 
-status 0   done
-status 1   the words are no UTF-8
-status 2   the words are no command
-status 3   the plant is refused
-status 4   the plant has a circuit without a token
-status 5   a file can't be read or written
-status 6   the output can't be written
-status 9   out of memory
-status 10  a file is longer than 64 MiB, or a checkpoint longer than 160 MiB
 ";
+    0 of_plants
+);
 
 /// `help run`.
-const RUN: &str = "\
+const RUN: &str = with_statuses!(
+    "\
 pull run PLANT [--workers W]
 pull run PLANT --room B [--workers W]
 pull run PLANT --stand [--workers W]
@@ -247,20 +231,13 @@ peak weld 1 of 1
 waiting 9
 last 15
 
-status 0   done
-status 12  the slots can't be read or written
-status 1   the words are no UTF-8
-status 2   the words are no command
-status 3   the plant is refused
-status 4   the plant has a circuit without a token
-status 5   a file can't be read or written
-status 6   the output can't be written
-status 9   out of memory
-status 10  a file is longer than 64 MiB, or a checkpoint longer than 160 MiB
 ";
+    0 12 of_plants
+);
 
 /// `help table`.
-const TABLE: &str = "\
+const TABLE: &str = with_statuses!(
+    "\
 pull table PLANT
 
 Writes every date of a run as csv: the station, the job, the customer whom the part serves, when the
@@ -287,19 +264,13 @@ deliver,1,1,,0
 deliver,2,2,,5
 deliver,3,3,,10
 
-status 0   done
-status 1   the words are no UTF-8
-status 2   the words are no command
-status 3   the plant is refused
-status 4   the plant has a circuit without a token
-status 5   a file can't be read or written
-status 6   the output can't be written
-status 9   out of memory
-status 10  a file is longer than 64 MiB, or a checkpoint longer than 160 MiB
 ";
+    0 of_plants
+);
 
 /// `help why`.
-const WHY: &str = "\
+const WHY: &str = with_statuses!(
+    "\
 pull why PLANT LABEL JOB
 
 Writes the chain of causes of the date of a job at a station, each line with the time that it adds to
@@ -314,20 +285,13 @@ weld.torch 2 10 part 5
 deliver 3 10 part 0
 share weld.torch 10
 
-status 0   done
-status 18  no station has the label, or there are fewer jobs
-status 1   the words are no UTF-8
-status 2   the words are no command
-status 3   the plant is refused
-status 4   the plant has a circuit without a token
-status 5   a file can't be read or written
-status 6   the output can't be written
-status 9   out of memory
-status 10  a file is longer than 64 MiB, or a checkpoint longer than 160 MiB
 ";
+    0 18 of_plants
+);
 
 /// `help chart`.
-const CHART: &str = "\
+const CHART: &str = with_statuses!(
+    "\
 pull chart PLANT [FROM TO]
 
 Writes a picture of the run as SVG: a lane for each server of each machine with a bar for each job, and
@@ -337,20 +301,13 @@ $ pull chart two-stage.toml > two-stage.svg
 $ grep -c job two-stage.svg
 6
 
-status 0   done
-status 20  the picture has more than 20,000 bars and lanes
-status 1   the words are no UTF-8
-status 2   the words are no command
-status 3   the plant is refused
-status 4   the plant has a circuit without a token
-status 5   a file can't be read or written
-status 6   the output can't be written
-status 9   out of memory
-status 10  a file is longer than 64 MiB, or a checkpoint longer than 160 MiB
 ";
+    0 20 of_plants
+);
 
 /// `help cards`.
-const CARDS: &str = "\
+const CARDS: &str = with_statuses!(
+    "\
 pull cards PLANT WAIT
 pull cards PLANT WAIT --each
 
@@ -367,21 +324,13 @@ cards cut 1 below dead cut cut.saw weld
 cards weld 2 below job 3 waits 6
 total 3
 
-status 0   done
-status 13  no count of cards keeps the wait
-status 17  the plant has no single count of cards
-status 1   the words are no UTF-8
-status 2   the words are no command
-status 3   the plant is refused
-status 4   the plant has a circuit without a token
-status 5   a file can't be read or written
-status 6   the output can't be written
-status 9   out of memory
-status 10  a file is longer than 64 MiB, or a checkpoint longer than 160 MiB
 ";
+    0 13 17 of_plants
+);
 
 /// `help curve`.
-const CURVE: &str = "\
+const CURVE: &str = with_statuses!(
+    "\
 pull curve PLANT FROM TO [--workers W]
 
 Writes what each number of cards from FROM to TO gives: the last date, the throughput, the waits and
@@ -395,20 +344,13 @@ cards 1 last 15 throughput 0.200 wait mean 3.000 most 6 wip mean 2.000
 cards 2 last 15 throughput 0.200 wait mean 0.333 most 1 wip mean 4.000
 cards 3 last 15 throughput 0.200 wait mean 0.000 most 0 wip mean 6.000
 
-status 0   done
-status 17  the plant has no single count of cards
-status 1   the words are no UTF-8
-status 2   the words are no command
-status 3   the plant is refused
-status 4   the plant has a circuit without a token
-status 5   a file can't be read or written
-status 6   the output can't be written
-status 9   out of memory
-status 10  a file is longer than 64 MiB, or a checkpoint longer than 160 MiB
 ";
+    0 17 of_plants
+);
 
 /// `help latest`.
-const LATEST: &str = "\
+const LATEST: &str = with_statuses!(
+    "\
 pull latest PLANT WAIT
 
 Writes the latest date of each job at each station with which no job waits longer than WAIT, 0 to
@@ -432,20 +374,13 @@ deliver 2 5 slack 0
 deliver 3 10 slack 0
 tight 7
 
-status 0   done
-status 19  a job waits longer than it may
-status 1   the words are no UTF-8
-status 2   the words are no command
-status 3   the plant is refused
-status 4   the plant has a circuit without a token
-status 5   a file can't be read or written
-status 6   the output can't be written
-status 9   out of memory
-status 10  a file is longer than 64 MiB, or a checkpoint longer than 160 MiB
 ";
+    0 19 of_plants
+);
 
 /// `help cycle`.
-const CYCLE: &str = "\
+const CYCLE: &str = with_statuses!(
+    "\
 pull cycle PLANT
 
 Writes how fast the line can go in the long run: the cycle time, a circuit of stations that holds it,
@@ -460,20 +395,13 @@ potential cell.a 6
 potential cell.b 14
 potential deliver 0
 
-status 0   done
-status 8   a machine has a list of times, and so the plant no cycle time
-status 1   the words are no UTF-8
-status 2   the words are no command
-status 3   the plant is refused
-status 4   the plant has a circuit without a token
-status 5   a file can't be read or written
-status 6   the output can't be written
-status 9   out of memory
-status 10  a file is longer than 64 MiB, or a checkpoint longer than 160 MiB
 ";
+    0 8 of_plants
+);
 
 /// `help whatif`.
-const WHATIF: &str = "\
+const WHATIF: &str = with_statuses!(
+    "\
 pull whatif PLANT EDITS
 
 Writes each date that changes when the lines of the file EDITS are followed, the old one before the new
@@ -490,20 +418,13 @@ weld.torch 3 15 18
 deliver 3 10 13
 changed 6
 
-status 0   done
-status 16  the edits can't be followed
-status 1   the words are no UTF-8
-status 2   the words are no command
-status 3   the plant is refused
-status 4   the plant has a circuit without a token
-status 5   a file can't be read or written
-status 6   the output can't be written
-status 9   out of memory
-status 10  a file is longer than 64 MiB, or a checkpoint longer than 160 MiB
 ";
+    0 16 of_plants
+);
 
 /// `help replay`.
-const REPLAY: &str = "\
+const REPLAY: &str = with_statuses!(
+    "\
 pull replay PLANT SCHEDULE
 
 Writes the report of a plant whose stations work in the order of the file SCHEDULE, the label of a
@@ -520,20 +441,13 @@ $ pull replay two-stage.toml order.txt | tail -2
 waiting 9
 last 15
 
-status 0   done
-status 11  the schedule can't be followed
-status 1   the words are no UTF-8
-status 2   the words are no command
-status 3   the plant is refused
-status 4   the plant has a circuit without a token
-status 5   a file can't be read or written
-status 6   the output can't be written
-status 9   out of memory
-status 10  a file is longer than 64 MiB, or a checkpoint longer than 160 MiB
 ";
+    0 11 of_plants
+);
 
 /// `help resume`.
-const RESUME: &str = "\
+const RESUME: &str = with_statuses!(
+    "\
 pull resume PLANT FILE [--workers W]
 pull resume PLANT --slots [--workers W]
 
@@ -549,22 +463,13 @@ $ pull resume two-stage.toml a.ckpt | tail -2
 waiting 9
 last 15
 
-status 0   done
-status 7   the checkpoint is of no run of the plant
-status 12  the slots can't be read or written
-status 14  nothing is saved in the slots
-status 1   the words are no UTF-8
-status 2   the words are no command
-status 3   the plant is refused
-status 4   the plant has a circuit without a token
-status 5   a file can't be read or written
-status 6   the output can't be written
-status 9   out of memory
-status 10  a file is longer than 64 MiB, or a checkpoint longer than 160 MiB
 ";
+    0 7 12 14 of_plants
+);
 
 /// `help big`.
-const BIG: &str = "\
+const BIG: &str = with_statuses!(
+    "\
 pull big SEED [--workers W]
 
 Runs the large plant that is drawn from a seed, 0 to 18,446,744,073,709,551,615, and writes its
@@ -592,9 +497,6 @@ peak s12 3 of 7
 waiting 8986122
 last 38078
 
-status 0   done
-status 1   the words are no UTF-8
-status 2   the words are no command
-status 6   the output can't be written
-status 9   out of memory
 ";
+    0 of_no_file
+);

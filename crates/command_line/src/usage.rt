@@ -1,8 +1,11 @@
 ghost use Rattle.std.specs.Prelude.{◌≡◌};
 ghost use Rattle.command_line.specs.Usage.{usage};
 
+use crate::statuses::with_statuses;
+
 /// What `--help` shows.
-pub const USAGE: &str = "\
+pub const USAGE: &str = with_statuses!(
+    "\
 pull lint PLANT                            writes all that is wrong with a plant file, or what may not be meant
 pull check PLANT                           writes whether the plant is live, and its card circuits
 pull summary PLANT                         writes waits, mean stock and backlog, and how busy each machine is
@@ -30,27 +33,9 @@ pull --version                             writes the name and version
 
 run, resume, curve and big take --workers W too, from 1 to 16; it is 1 where it isn't given
 
-status 0   done
-status 1   the words are no UTF-8
-status 2   the words are no command
-status 3   the plant is refused
-status 4   the plant has a circuit without a token
-status 5   a file can't be read or written
-status 6   the output can't be written
-status 7   the checkpoint is of no run of the plant
-status 8   a machine has a list of times, and so the plant no cycle time
-status 9   out of memory
-status 10  a file is longer than 64 MiB, or a checkpoint longer than 160 MiB
-status 11  the schedule can't be followed
-status 12  the slots can't be read or written
-status 13  no count of cards keeps the wait
-status 14  nothing is saved in the slots
-status 16  the edits can't be followed
-status 17  the plant has no single count of cards
-status 18  no station has the label, or there are fewer jobs
-status 19  a job waits longer than it may
-status 20  the picture has more than 20,000 bars and lanes
 ";
+    0 1 2 3 4 5 6 7 8 9 10 11 12 13 14 16 17 18 19 20
+);
 
 /// The text is that of the definitions.
 pub fn usage_is_that_of_the_definitions()

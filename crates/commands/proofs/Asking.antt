@@ -3,7 +3,7 @@ use Rattle.std.proofs.Common.{◌≡◌, ◌⊎◌, ◌<◌, ◌≤◌, ℕ, Boo
 use Rattle.std.specs.Prelude.{Option, None, Some, Result, Ok, Err, IfOk, IfSome, map, sum}
 use Rattle.std.proofs.lemmas.Bool.{true_from_ne_false}
 use Rattle.std.specs.declared.alloc.AllocError.{AllocError}
-use Rattle.card_sizing.specs.Counted.{ServeEach, NoneServesLess}
+use Rattle.card_sizing.specs.Counted.{has_stage_counts, ServeEach, NoneServesLess}
 use Rattle.card_sizing.specs.Each.{counts_of, names_of, HaveReasons, IsEachRefusal}
 use Rattle.card_sizing.specs.declared.each.EachSizing.{EachSizing}
 use Rattle.card_sizing.specs.Sizing.{NoneServesBelow, IsBelow, IsSizingRefusal}
@@ -224,9 +224,13 @@ cards_refused p wait error refusal why is = inl (inr (record { error = error; wh
 abbrev sizes_each : EachSizing → Result EachSizing SizingError
 sizes_each each = Ok each
 
-pub each_found : (p : Plant) (wait : ℕ) (each : EachSizing) (text : List ℕ) → ServeEach p wait (counts_of each.stages) → NoneServesLess p wait (counts_of each.stages) → HaveReasons p wait (counts_of each.stages) each.stages (length p.stages) → names_of each.stages ≡ map (λ s. s.name) p.stages → each.total ≡ sum (counts_of each.stages) → text ≡ each_cards_text each → OrNoMemory (IsCardsEach p wait) (wrote text)
-each_found p wait each text serves least below named total is = inl (inl (record {
+pub no_each_refusal : (each : EachSizing) → sizes_each each ≡ Err NoSingleCount → ⊥
+no_each_refusal each is = cc
+
+pub each_found : (p : Plant) (wait : ℕ) (each : EachSizing) (text : List ℕ) → (has_stage_counts p ≡ false → ⊥) → ServeEach p wait (counts_of each.stages) → NoneServesLess p wait (counts_of each.stages) → HaveReasons p wait (counts_of each.stages) each.stages (length p.stages) → names_of each.stages ≡ map (λ s. s.name) p.stages → each.total ≡ sum (counts_of each.stages) → text ≡ each_cards_text each → OrNoMemory (IsCardsEach p wait) (wrote text)
+each_found p wait each text counted serves least below named total is = inl (inl (record {
   each = each;
+  counted = true_from_ne_false (has_stage_counts p) counted;
   serves = serves;
   least = least;
   below = below;

@@ -10,7 +10,7 @@ use Rattle.card_sizing.specs.Sized.{has_single_count}
 use Rattle.card_sizing.specs.Serving.{Serves, IsFirstLate}
 use Rattle.card_sizing.specs.declared.sizing.Sizing.{Sizing}
 use Rattle.card_sizing.specs.declared.sizing.SizingError.{SizingError}
-use Rattle.card_sizing.specs.Counted.{ServeEach, NoneServesLess}
+use Rattle.card_sizing.specs.Counted.{has_stage_counts, ServeEach, NoneServesLess}
 use Rattle.card_sizing.specs.Each.{counts_of, names_of, HaveReasons, IsEachRefusal}
 use Rattle.card_sizing.specs.declared.each.EachSizing.{EachSizing}
 use Rattle.answers.specs.CardsText.{cards_text}
@@ -109,9 +109,11 @@ pub record IsUnsized (p : Plant) (wait : ℕ) (answer : Result Answer Refusal) :
 abbrev pub IsCards : Plant → ℕ → Result Answer Refusal → Type 0
 IsCards p wait answer = IsSized p wait answer ⊎ IsUnsized p wait answer
 
--- the counts serve, and with one card less at any one stage they don't, or the count is the stage's least, and why
+-- each stage has a count of cards; these counts serve, and with one card less at any one stage they don't, or the count is
+-- the stage's least, and why
 pub record IsSizedEach (p : Plant) (wait : ℕ) (answer : Result Answer Refusal) : Type 0 where
   pub each : EachSizing
+  pub counted : IsTrue (has_stage_counts p)
   pub serves : ServeEach p wait (counts_of each.stages)
   pub least : NoneServesLess p wait (counts_of each.stages)
   pub below : HaveReasons p wait (counts_of each.stages) each.stages (length p.stages)

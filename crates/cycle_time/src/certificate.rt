@@ -1,8 +1,10 @@
-ghost use Rattle.std.specs.Prelude.{◌≡◌};
+ghost use Rattle.std.specs.Prelude.{◌≡◌, ◌≤◌, ◌^◌, map, pos, All, IfOk};
+ghost use Rattle.cycle_time.specs.Ratio.{Holds};
 ghost use Rattle.cycle_time.specs.declared.certificate.CycleError.{CycleError};
 
+use crate::ratio::Ratio;
 use line_base::Items;
-use std::alloc::AllocError;
+use std::alloc::{AllocError, Global};
 use thiserror::Error;
 
 /// The cycle time of an event graph, with what shows that no circuit has a greater ratio of time to tokens.
@@ -38,4 +40,34 @@ impl From<AllocError> for CycleError {
     fn from(_: AllocError) -> Self {
         CycleError::NoMemory
     }
+}
+
+/// The numbers as signed ones.
+fn signed(alloc: Global, numbers: &[u128]) -> Result<Vec<i128>, AllocError>
+    requires { All (λ n. n ≤ 10 ^ 24) numbers.now }
+    ensures { IfOk result (λ v. v.items ≡ map pos numbers.now) }
+{
+    let mut all = Vec::with_capacity(alloc, numbers.len())?;
+    for n in numbers {
+        all.push(*n as i128)?;
+    }
+    Ok(all)
+}
+
+/// A ratio with potentials.
+pub fn certified(
+    alloc: Global,
+    ratio: Ratio,
+    potentials: &[u128],
+) -> Result<Certificate, AllocError>
+    requires { All (λ n. n ≤ 10 ^ 24) potentials.now }
+    ensures { IfOk result (Holds ratio potentials.now) }
+{
+    let potentials = signed(alloc, potentials)?;
+    Ok(Certificate {
+        time: ratio.time,
+        cards: ratio.cards,
+        circuit: Items::from_vec(ratio.circuit),
+        potentials: Items::from_vec(potentials),
+    })
 }

@@ -1,9 +1,12 @@
 ghost use Rattle.std.specs.List.{Contains};
 ghost use Rattle.std.specs.Prelude.{◌≡◌, ◌≢◌, ℕ, ◌+◌, ◌*◌, ◌<◌, ◌≤◌, length, All, AllPairs, IsTrue, ◌↔◌};
+ghost use Rattle.cycle_time.specs.Ratio.{IsRatio};
 ghost use Rattle.event_graph.specs.Circuit.{IsWalk, IsCircuit, starting_stations, tokens_on, time_along};
+ghost use Rattle.event_graph.specs.Live.{IsLive};
 ghost use Rattle.event_graph.specs.Network.{arc_count, delay};
 ghost use Rattle.event_graph.specs.Term.{work};
 
+use crate::ratio::{Ratio, gcd};
 use event_graph::Graph;
 
 /// Whether the arcs lead from this station, one after the other, back to it.
@@ -101,4 +104,23 @@ pub fn tokens_of(graph: &Graph, arcs: &[u32]) -> u64
         tokens += u64::from(all[*a as usize].tokens);
     }
     tokens
+}
+
+/// The ratio of a circuit of a live graph.
+pub fn ratio_of(graph: &Graph, circuit: Vec<u32>) -> Ratio
+    requires circuit { IsCircuit graph.now circuit.items }
+    requires live { IsLive graph.now }
+    requires few { length circuit.items ≤ 512 }
+    requires exist { All (λ a. a < arc_count graph.now) circuit.items }
+    ensures kept { result.circuit.items ≡ circuit.items }
+    ensures ratio { IsRatio graph.now result }
+{
+    let time = time_of(graph, &circuit);
+    let tokens = tokens_of(graph, &circuit);
+    let divisor = gcd(time, tokens);
+    Ratio {
+        time: time / divisor,
+        cards: tokens / divisor,
+        circuit,
+    }
 }

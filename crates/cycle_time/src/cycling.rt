@@ -1,71 +1,29 @@
-ghost use Rattle.std.specs.Prelude.{◌≡◌, ◌<◌, ◌≤◌, ◌^◌, map, pos, length, All, IfOk, OnOk, IfErr, MatchOption};
+ghost use Rattle.std.specs.Prelude.{IfOk, OnOk, IfErr};
 ghost use Rattle.cycle_time.specs.Certificate.{NoneVaries, SaysWhy};
 ghost use Rattle.cycle_time.specs.CycleTime.{IsCycleTime};
-ghost use Rattle.cycle_time.specs.Ratio.{IsRatio, Holds};
-ghost use Rattle.event_graph.specs.Faults.{IsFirst};
-ghost use Rattle.event_graph.specs.Network.{stations};
-ghost use Rattle.event_graph.specs.Varying.{Varies};
+ghost use Rattle.cycle_time.specs.Ratio.{IsRatio};
 
-use crate::certificate::{Certificate, CycleError};
+use crate::certificate::{Certificate, CycleError, certified};
+use crate::circuit::ratio_of;
 use crate::finding::{Found, search};
 use crate::ratio::Ratio;
+use crate::varying::first_varying;
 use crate::weights::Weighing;
-use event_graph::Graph;
-use line_base::Items;
 use live_check::Live;
 use std::alloc::{AllocError, Global};
-
-/// The first station with a list of times.
-fn first_varying(graph: &Graph) -> Option<u32>
-    ensures { MatchOption result (NoneVaries graph.now)
-        (IsFirst (Varies graph.now) (stations graph.now)) }
-{
-    for t in 0..graph.stations() {
-        if graph.varies(t) {
-            return Some(t);
-        }
-    }
-    None
-}
 
 /// The ratio of some circuit, or 0 over 1 where there is none.
 fn some_ratio(alloc: Global, live: &Live) -> Result<Ratio, AllocError>
     ensures { IfOk result (IsRatio live.now.graph) }
 {
     match search(alloc, live, Weighing::PerArc)? {
-        Found::Circuit(circuit) => Ok(Ratio::of(live.graph(), circuit)),
+        Found::Circuit(circuit) => Ok(ratio_of(live.graph(), circuit)),
         Found::Potentials(_) => Ok(Ratio {
             time: 0,
             cards: 1,
             circuit: Vec::new(alloc),
         }),
     }
-}
-
-/// The numbers as signed ones.
-fn signed(alloc: Global, numbers: &[u128]) -> Result<Vec<i128>, AllocError>
-    requires { All (λ n. n ≤ 10 ^ 24) numbers.now }
-    ensures { IfOk result (λ v. v.items ≡ map pos numbers.now) }
-{
-    let mut all = Vec::with_capacity(alloc, numbers.len())?;
-    for n in numbers {
-        all.push(*n as i128)?;
-    }
-    Ok(all)
-}
-
-/// A ratio with potentials.
-fn certified(alloc: Global, ratio: Ratio, potentials: &[u128]) -> Result<Certificate, AllocError>
-    requires { All (λ n. n ≤ 10 ^ 24) potentials.now }
-    ensures { IfOk result (Holds ratio potentials.now) }
-{
-    let potentials = signed(alloc, potentials)?;
-    Ok(Certificate {
-        time: ratio.time,
-        cards: ratio.cards,
-        circuit: Items::from_vec(ratio.circuit),
-        potentials: Items::from_vec(potentials),
-    })
 }
 
 /// The certificate of the greatest ratio: from the ratio of some circuit on, each search finds a circuit with a greater one,
@@ -82,7 +40,7 @@ fn certificate_of(alloc: Global, live: &Live) -> Result<Certificate, AllocError>
             cards: best.cards,
         };
         match search(alloc, live, weighing)? {
-            Found::Circuit(circuit) => best = Ratio::of(graph, circuit),
+            Found::Circuit(circuit) => best = ratio_of(graph, circuit),
             Found::Potentials(potentials) => return certified(alloc, best, &potentials),
         }
     }

@@ -10,6 +10,7 @@ mod finding;
 mod laws;
 mod ratio;
 mod tree;
+mod varying;
 mod weights;
 
 pub use acceptance::accept;

@@ -1,6 +1,7 @@
 //! Why a date is what it is: the chain of its causes.
 #![tactic(auto)]
 
+mod caused;
 mod chain;
 mod kind;
 mod laws;
@@ -10,6 +11,7 @@ mod shares;
 mod terms;
 mod writing;
 
+pub use caused::Causes;
 pub use chain::causes;
 pub use kind::{ArcKind, kind_of};
 pub use laws::{
@@ -18,4 +20,3 @@ pub use laws::{
 };
 pub use link::{Cause, Link};
 pub use named::{NoDate, station_of};
-pub use writing::Causes;

@@ -8,10 +8,10 @@ ghost use Rattle.line_report.specs.ReportText.{line, date_lines};
 
 use crate::portion::{Portion, fitting_lines};
 use event_graph::Graph;
+use fan_out::for_each_mut;
 use line_base::Date;
 use line_core::Table;
 use line_io::{Outgoing, Sink};
-use std::thread;
 use std::thread::Threads;
 
 /// Writes the date of a job at the station with this label.
@@ -109,7 +109,7 @@ fn fill_portions<R: Threads + Sync>(
     ensures shares { HaveShares graph.now (date_in table.now.rows) from to each portions.new }
 {
     let threads = portions.len();
-    thread::for_each_mut(
+    for_each_mut(
         rt,
         portions,
         threads,

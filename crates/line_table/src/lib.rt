@@ -5,6 +5,7 @@ mod laws;
 mod records;
 mod run;
 mod starts;
+mod stocks;
 mod table;
 
 pub use laws::{parts_serve_behind_stock, starts_and_dates};

@@ -4,7 +4,8 @@ ghost use Rattle.line_stats.specs.PlantDates.{AreLeastDates, AreOfPlant, Stays};
 ghost use Rattle.line_table.specs.DateTable.{text_of};
 
 use crate::records::write_table;
-use crate::run::{PlantRun, path_stocks};
+use crate::run::PlantRun;
+use crate::stocks::path_stocks;
 use line_core::Table;
 use line_io::{Failed, Outgoing, Sink};
 use live_check::Live;

@@ -1,12 +1,12 @@
 -- Sweep after sweep of a burst.
-use Rattle.std.proofs.Common.{◌≡◌, ℕ, ◌+◌, ◌<◌, ◌≤◌, ◌^◌, min, length, add-zero, refl, ap, ◌∙◌, sym, subst, arith, ⊎_elim, inl, inr}
+use Rattle.std.proofs.Common.{◌≡◌, ◌⊎◌, ℕ, suc, ◌+◌, ◌<◌, ◌≤◌, ◌^◌, min, length, add-zero, refl, ap, ◌∙◌, sym, subst, arith, ⊎_elim, inl, inr}
 use Rattle.std.proofs.lemmas.Bool.{cases_eq}
 use Rattle.event_graph.specs.Network.{jobs}
 use Rattle.live_check.specs.Order.{LiveGraph}
 use Rattle.station_step.specs.Step.{IsReady}
 use Rattle.line_worker.specs.Team.{member}
 use Rattle.line_worker.specs.Worker.{LineWorker, IsWorker, with_team}
-use Rattle.line_worker.specs.Work.{dates_of, HasSwept, AllDone, TurnsBelow, IsAlone, HasBurst, HasBurstAlone, IsBursting}
+use Rattle.line_worker.specs.Work.{dates_of, SteppedInOrder, HasSwept, AllDone, TurnsBelow, IsAlone, HasSweptOn, SweepsLead, none, more, AreOfBurst, HasBurst, HasBurstAlone, IsBursting}
 use Rattle.line_worker.specs.Workers.{HasDoneBurst, IsReadyFor, MayGoOn, IsAtWork}
 use Rattle.line_worker.proofs.Alone.{all-stations}
 use Rattle.line_worker.proofs.Working.{idle_team, then_team, dates-le}
@@ -22,6 +22,7 @@ bursting_begins c = record {
   undone = λ some done. absurd (omega arith);
   few = λ times alone le. omega arith;
   alone = λ times alone le. subst (IsAlone c) (sym (add-zero times)) alone;
+  lead = none;
 }
 
 module _ (old now : LineWorker) (sweeps : ℕ) (inv : IsBursting old now sweeps) (is : IsWorker now) where
@@ -34,7 +35,7 @@ module _ (old now : LineWorker) (sweeps : ℕ) (inv : IsBursting old now sweeps)
       let some : 0 < length now.team.stations = omega (arith, all-stations now is alone.one, is.ranked.limits.some_station) in
       sym (alone.fired 0 some) ∙ done 0 some
 
-  module _ (next : LineWorker) (undone : AllDone now.target now.team → ⊥) (is_next : IsWorker next) (frame : next ≡ with_team now next.team) (swept : HasSwept now.team next.team) (rounds : (times : ℕ) → IsAlone now times → times < jobs now.live.graph → IsAlone next (times + 1)) where
+  module _ (next : LineWorker) (undone : AllDone now.target now.team → ⊥) (is_next : IsWorker next) (frame : next ≡ with_team now next.team) (swept : HasSwept now.team next.team) (in_order : SteppedInOrder now.order now.team next.team) (rounds : (times : ℕ) → IsAlone now times → times < jobs now.live.graph → IsAlone next (times + 1)) where
     within : (i : ℕ) → i < length old.team.stations → i < length now.team.stations
     within i low = omega (arith, low, inv.worked.count)
 
@@ -66,6 +67,17 @@ module _ (old now : LineWorker) (sweeps : ℕ) (inv : IsBursting old now sweeps)
         (λ apart. omega (arith, inv.few times alone le))
         (cases_eq (times + sweeps) old.target)
 
+    leads-on : SweepsLead old.order old.target old.team (sweeps + 1) next.team
+    leads-on =
+        let order-same = ap (λ (c : LineWorker). c.order) inv.frame in
+        let swept_on : HasSweptOn old.order old.target now.team next.team =
+        record {
+          undone = λ done. undone (subst (λ n. AllDone n now.team) (sym target-same) done);
+          in_order = subst (λ order. SteppedInOrder order now.team next.team) order-same in_order;
+        } in
+        let counted : suc sweeps ≡ sweeps + 1 = omega arith in
+        subst (λ n. SweepsLead old.order old.target old.team n next.team) counted (more sweeps now.team next.team inv.lead swept_on)
+
     pub bursting_goes_on : IsBursting old next (sweeps + 1)
     bursting_goes_on = record {
       begins = λ none. absurd (omega arith);
@@ -80,6 +92,7 @@ module _ (old now : LineWorker) (sweeps : ℕ) (inv : IsBursting old now sweeps)
           let less : times + sweeps < jobs now.live.graph = omega (arith, few-more times alone le, target-same, is.target) in
           let again : times + sweeps + 1 ≡ times + (sweeps + 1) = omega arith in
           subst (IsAlone next) again (rounds (times + sweeps) (inv.alone times alone le) less);
+      lead = leads-on;
     }
 
   -- the end, where all are done
@@ -112,6 +125,10 @@ module _ (old now : LineWorker) (sweeps : ℕ) (inv : IsBursting old now sweeps)
         alone = subst (IsAlone now) most (inv.alone times alone le);
         turns = λ i low. omega (arith, inv.turned i low, most);
       }
+
+-- the sweeps of a burst, where all are done or 16 were made
+pub sweeps_at_end : (old now : LineWorker) (sweeps : ℕ) → IsBursting old now sweeps → sweeps ≤ 16 → AllDone old.target now.team ⊎ (sweeps ≡ 16) → (count : ℕ) × AreOfBurst old.order old.target old.team now.team count
+sweeps_at_end old now sweeps inv few ended = (sweeps, record { few = few; lead = inv.lead; ended = ended })
 
 -- the end before 16 sweeps, where all are done
 pub burst_when_done : (old now : LineWorker) (sweeps : ℕ) → IsBursting old now sweeps → IsWorker now → sweeps ≤ 16 → AllDone now.target now.team → HasBurst old.target old.team now.team
@@ -178,6 +195,7 @@ module _ (old now : LineWorker) (sweeps : ℕ) (work : IsAtWork old now sweeps) 
           same = record { worker = is; frame = inv.frame };
           burst = burst_when_done old now sweeps inv is few done;
           alone = alone_at_end old now sweeps inv is few done;
+          sweeps = sweeps_at_end old now sweeps inv few (inl (λ i low. done i low ∙ target-same old now sweeps inv is));
         };
         done = done;
       }))
@@ -185,10 +203,10 @@ module _ (old now : LineWorker) (sweeps : ℕ) (work : IsAtWork old now sweeps) 
       work
 
   -- and else it makes a sweep
-  pub at_work_sweeps : IsWorker now → (next : LineWorker) → (AllDone now.target now.team → ⊥) → IsWorker next → next ≡ with_team now next.team → HasSwept now.team next.team → ((times : ℕ) → IsAlone now times → times < jobs now.live.graph → IsAlone next (times + 1)) → IsAtWork old next (sweeps + 1)
-  at_work_sweeps is next undone is_next frame swept rounds =
+  pub at_work_sweeps : IsWorker now → (next : LineWorker) → (AllDone now.target now.team → ⊥) → IsWorker next → next ≡ with_team now next.team → HasSwept now.team next.team → SteppedInOrder now.order now.team next.team → ((times : ℕ) → IsAlone now times → times < jobs now.live.graph → IsAlone next (times + 1)) → IsAtWork old next (sweeps + 1)
+  at_work_sweeps is next undone is_next frame swept in_order rounds =
       ⊎_elim
-      (λ inv. inl (bursting_goes_on old now sweeps inv is next undone is_next frame swept rounds))
+      (λ inv. inl (bursting_goes_on old now sweeps inv is next undone is_next frame swept in_order rounds))
       (λ ended. absurd (undone ended.done))
       work
 
@@ -204,6 +222,7 @@ at_work_in_full old now work =
       same = record { worker = inv.worker (omega arith); frame = inv.frame };
       burst = burst_in_full old now 16 inv refl;
       alone = alone_in_full old now 16 inv refl;
+      sweeps = sweeps_at_end old now 16 inv (omega arith) (inr refl);
     })
     (λ ended. ended.worked)
     work

@@ -195,6 +195,17 @@ module _ (g : Parts) (begun : State) (first : ℕ) (team : WorkTeam) (is : IsTea
         turn = ap (λ (s : WorkStation). s.turns) at ∙ step.turn;
         fires = λ ready. ap dates_of at ∙ step.fires ready;
         ready = λ j low apart ready. step.ready (member team.stations j) (is.apart i j there low (λ e. apart (sym e))) ready;
+        moves = step.own;
+        kept = λ j low was.
+            let Kept : WorkStation → Type 0 = IsKept shelf in
+            ⊎_elim
+            (λ same.
+            let Keeps : ℕ → Type 0 = λ k. IsKept team.shelf (member team.stations k) → IsKept shelf (member (set team.stations i after) k) in
+            subst Keeps (sym same) (λ kept. subst Kept (sym at) (step.kept kept)) was)
+            (λ apart.
+            subst Kept (sym (other g begun first team is i there shelf after step.same j apart)) (
+            step.others (member team.stations j) (is.members j low).station (is.apart i j there low (λ e. apart (sym e))) was))
+            (cases_eq j i);
       }
 
 -- a worker with another team of as many stations

@@ -1,15 +1,15 @@
 -- Going over the stations of a team in an order that lists each once.
-use Rattle.std.proofs.Common.{◌≡◌, ◌≢◌, ℕ, ◌+◌, ◌<◌, ◌≤◌, ◌⊎◌, eqb, inl, inr, List, length, get_or, refl, ap, ◌∙◌, sym, subst, arith, ⊎_elim}
+use Rattle.std.proofs.Common.{◌≡◌, ◌≢◌, ℕ, ◌+◌, ◌<◌, ◌≤◌, ◌⊎◌, eqb, inl, inr, List, [], ◌∷◌, ◌++◌, take, length, get_or, refl, ap, ◌∙◌, sym, subst, arith, ⊎_elim}
 use Rattle.std.specs.List.{AllPairs}
 use Rattle.std.proofs.lemmas.Bool.{cases_lt, cases_eq, eqb-true}
-use Rattle.std.proofs.lemmas.List.{get_or_default, get_or-set_other, length-set}
+use Rattle.std.proofs.lemmas.List.{get_or_default, get_or-set_other, length-set, take_all, take_more}
 use Rattle.std.proofs.lemmas.List.Sums.{passes_at_first}
 use Rattle.station_step.specs.Station.{WorkStation}
 use Rattle.station_step.specs.Step.{IsReady}
 use Rattle.line_worker.specs.Team.{WorkTeam, member, no_station}
 use Rattle.line_worker.specs.Teams.{place_in}
 use Rattle.line_worker.specs.Worker.{IsOrder}
-use Rattle.line_worker.specs.Work.{dates_of, HasWorked, SteppedAt, IsSweeping, HasSwept}
+use Rattle.line_worker.specs.Work.{dates_of, HasWorked, SteppedAt, SteppedInOrder, IsSweeping, HasSwept}
 use Rattle.line_worker.proofs.Places.{place_in-at}
 use Rattle.line_worker.proofs.Working.{idle_team, then_worked, then_shelf}
 
@@ -28,6 +28,23 @@ module _ (places : List ℕ) (first count : ℕ) (order : List ℕ) (is : IsOrde
   -- at the place of a station stands that station
   pub listed-at_place : (i : ℕ) → i < count → get_or order (place_in order i) 0 ≡ i
   listed-at_place i low = eqb-true _ i (passes_at_first (λ x. eqb x i) order 0 (is.listed i low))
+
+-- one more turn, after those in this order
+stepped_more : (order : List ℕ) (i : ℕ) (old now next : WorkTeam) → SteppedInOrder order old now → SteppedAt i now next → SteppedInOrder (order ++ i ∷ []) old next
+stepped_more [] i old now next same stepped = (next, (subst (λ (team : WorkTeam). SteppedAt i team next) same stepped, refl))
+stepped_more (first ∷ order) i old now next (then, (turn, rest)) stepped =
+    (then, (turn, stepped_more order i then now next rest stepped))
+
+-- after the stations before place p comes the one at p
+pub stepped_next : (order : List ℕ) (p : ℕ) → p < length order → (old now next : WorkTeam) → SteppedInOrder (take p order) old now → SteppedAt (get_or order p 0) now next → SteppedInOrder (take (p + 1) order) old next
+stepped_next order p low old now next so_far stepped =
+    subst (λ listed. SteppedInOrder listed old next) (sym (take_more order p 0 low)) (
+    stepped_more (take p order) (get_or order p 0) old now next so_far stepped)
+
+-- and at the end all have made their turn
+pub stepped_all : (order : List ℕ) (p : ℕ) → p ≡ length order → (old now : WorkTeam) → SteppedInOrder (take p order) old now → SteppedInOrder order old now
+stepped_all order p done old now so_far =
+    subst (λ listed. SteppedInOrder listed old now) (take_all p order (omega (arith, done))) so_far
 
 pub sweeping_begins : (order : List ℕ) (team : WorkTeam) → IsSweeping order team team 0
 sweeping_begins order team = record {

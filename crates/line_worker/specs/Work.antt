@@ -1,10 +1,11 @@
 -- What stations do at work: the dates of a log stay, and more come behind them.
-use Rattle.std.specs.Prelude.{◌≡◌, ◌≢◌, ℕ, ◌+◌, ◌<◌, ◌≤◌, ◌⊎◌, min, List, [], ◌∷◌, take, length, slice_set, sum_by}
+use Rattle.std.specs.Prelude.{◌≡◌, ◌≢◌, ℕ, suc, ◌+◌, ◌<◌, ◌≤◌, ◌⊎◌, min, List, [], ◌∷◌, take, length, slice_set, sum_by}
 use Rattle.card_queue.specs.Plain.{PlainQueue}
 use Rattle.event_graph.specs.Network.{arc_count}
 use Rattle.local_queues.specs.Shelf.{queue_at, unused}
+use Rattle.station_step.specs.Kept.{IsKept}
 use Rattle.station_step.specs.Station.{WorkStation, bare_station}
-use Rattle.station_step.specs.Step.{IsReady}
+use Rattle.station_step.specs.Step.{IsReady, MovesItsOwn}
 use Rattle.line_worker.specs.Team.{WorkTeam, member}
 use Rattle.line_worker.specs.Teams.{place_in, team_at, IsJoined}
 use Rattle.line_worker.specs.Worker.{LineWorker, IsWorker, with_team}
@@ -43,7 +44,8 @@ pub record TeamWorked (old new : WorkTeam) : Type 0 where
   pub shelf : IsSameShelf old.shelf new.shelf
   pub each : (i : ℕ) → i < length old.stations → HasWorked (member old.stations i) (member new.stations i)
 
--- station i has made one turn, and no other any; it fired if it was ready, and every other station that was ready is
+-- station i has made one turn, and no other any; it fired if it was ready, and every other station that was ready is;
+-- it moved tokens of its own queues alone, and each station keeps what it kept
 pub record SteppedAt (i : ℕ) (old new : WorkTeam) : Type 0 where
   pub only : new.stations ≡ slice_set old.stations i (member new.stations i)
   pub shelf : IsSameShelf old.shelf new.shelf
@@ -53,6 +55,14 @@ pub record SteppedAt (i : ℕ) (old new : WorkTeam) : Type 0 where
       dates_of (member new.stations i) ≡ dates_of (member old.stations i) + 1
   pub ready : (j : ℕ) → j < length old.stations → j ≢ i → IsReady old.shelf (member old.stations j) →
       IsReady new.shelf (member old.stations j)
+  pub moves : MovesItsOwn (member old.stations i) old.shelf new.shelf
+  pub kept : (j : ℕ) → j < length old.stations → IsKept old.shelf (member old.stations j) →
+      IsKept new.shelf (member new.stations j)
+
+-- the stations with these numbers have made one turn each, one after the other
+abbrev pub SteppedInOrder : List ℕ → WorkTeam → WorkTeam → Type 0
+SteppedInOrder [] old new = new ≡ old
+SteppedInOrder (i ∷ order) old new = (next : WorkTeam) × (SteppedAt i old next × SteppedInOrder order next new)
 
 -- the stations at the first p places of the order have made one turn each, and those that were ready fired
 pub record IsSweeping (order : List ℕ) (old now : WorkTeam) (p : ℕ) : Type 0 where
@@ -95,6 +105,23 @@ turns_made team = sum_by turns_of team.stations
 abbrev pub AllDone : ℕ → WorkTeam → Type 0
 AllDone target team = (i : ℕ) → i < length team.stations → dates_of (member team.stations i) ≡ target
 
+-- one sweep in this order, before which some station had not made this many dates
+pub record HasSweptOn (order : List ℕ) (target : ℕ) (old new : WorkTeam) : Type 0 where
+  pub undone : ¬ AllDone target old
+  pub in_order : SteppedInOrder order old new
+
+-- this many such sweeps lead from the first team to the other
+pub data SweepsLead (order : List ℕ) (target : ℕ) (old : WorkTeam) : ℕ → WorkTeam → Type 0 where
+  none : SweepsLead order target old 0 old
+  more : (sweeps : ℕ) (now new : WorkTeam) → SweepsLead order target old sweeps now → HasSweptOn order target now new →
+      SweepsLead order target old (suc sweeps) new
+
+-- this many sweeps are those of a burst: they end where all stations are done, and else are as many as a burst has
+pub record AreOfBurst (order : List ℕ) (target : ℕ) (old new : WorkTeam) (sweeps : ℕ) : Type 0 where
+  pub few : sweeps ≤ most_sweeps
+  pub lead : SweepsLead order target old sweeps new
+  pub ended : AllDone target new ⊎ (sweeps ≡ most_sweeps)
+
 -- each station has made as many turns as a burst has sweeps, or fewer where all are done, and none where all were, and
 -- all of them as many; each that was ready fired
 pub record HasBurst (target : ℕ) (old new : WorkTeam) : Type 0 where
@@ -131,3 +158,4 @@ pub record IsBursting (old now : LineWorker) (sweeps : ℕ) : Type 0 where
   pub undone : 0 < sweeps → ¬ AllDone old.target old.team
   pub few : (times : ℕ) → IsAlone old times → times ≤ old.target → times + sweeps ≤ old.target
   pub alone : (times : ℕ) → IsAlone old times → times ≤ old.target → IsAlone now (times + sweeps)
+  pub lead : SweepsLead old.order old.target old.team sweeps now.team

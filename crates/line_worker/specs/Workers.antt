@@ -7,7 +7,7 @@ use Rattle.live_check.specs.Order.{LiveGraph}
 use Rattle.line_worker.specs.Team.{no_station}
 use Rattle.line_worker.specs.Teams.{IsJoined, AreOfRoom}
 use Rattle.line_worker.specs.Worker.{LineWorker, IsWorker, with_team, teams_of}
-use Rattle.line_worker.specs.Work.{most_sweeps, HasBurst, HasBurstAlone, IsAlone, AllDone, TurnsBelow, IsBursting}
+use Rattle.line_worker.specs.Work.{most_sweeps, SteppedInOrder, AreOfBurst, HasBurst, HasBurstAlone, IsAlone, AllDone, TurnsBelow, IsBursting}
 
 -- stands for a worker past the end of a list
 abbrev pub no_worker : LineWorker
@@ -70,6 +70,7 @@ pub record HasDoneBurst (old new : LineWorker) : Type 0 where
   pub same : IsSameWorker old new
   pub burst : HasBurst old.target old.team new.team
   pub alone : (times : ℕ) → IsAlone old times → times ≤ old.target → HasBurstAlone times old new
+  pub sweeps : (count : ℕ) × AreOfBurst old.order old.target old.team new.team count
 
 -- the worker is of the line that was made for this, and may work for a burst
 pub record IsReadyFor (live : LiveGraph) (c : LineWorker) : Type 0 where
@@ -94,3 +95,8 @@ pub record MayGoOn (live : LiveGraph) (c : LineWorker) : Type 0 where
 abbrev pub HasGoneOn : LineWorker → LineWorker → Type 0
 HasGoneOn before after =
     (old : LineWorker) (sweeps : ℕ) → sweeps < most_sweeps → IsAtWork old before sweeps → IsAtWork old after (sweeps + 1)
+
+-- the worker made one sweep in its order where some station of it was not done, and else is as it was
+pub record HasSweptIfUndone (old new : LineWorker) : Type 0 where
+  pub swept : ¬ AllDone old.target old.team → SteppedInOrder old.order old.team new.team
+  pub stays : AllDone old.target old.team → new ≡ old

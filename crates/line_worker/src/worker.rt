@@ -8,12 +8,12 @@ ghost use Rattle.station_step.specs.Input.{input_at};
 ghost use Rattle.station_step.specs.Station.{outlet_at};
 ghost use Rattle.line_worker.specs.Cleared.{cleared_worker};
 ghost use Rattle.line_worker.specs.Worker.{IsWorker, with_team};
-ghost use Rattle.line_worker.specs.Workers.{IsSameWorker, HasDoneBurst, IsReadyFor, MayGoOn, HasGoneOn};
+ghost use Rattle.line_worker.specs.Workers.{IsSameWorker, HasDoneBurst, IsReadyFor, MayGoOn, HasGoneOn, HasSweptIfUndone};
 ghost use Rattle.line_worker.specs.Logs.{log_of, copy_of};
 ghost use Rattle.line_worker.specs.Meeting.{OutletMet, InletMet};
 ghost use Rattle.line_worker.specs.Share.{first_of};
 ghost use Rattle.line_worker.specs.Team.{member, IsTeam};
-ghost use Rattle.line_worker.specs.Work.{dates_of, turns_of, dates_made, turns_made, SteppedAt, HasSwept, AllDone, TurnsBelow, IsAlone};
+ghost use Rattle.line_worker.specs.Work.{dates_of, turns_of, dates_made, turns_made, SteppedAt, SteppedInOrder, HasSwept, AllDone, TurnsBelow, IsAlone};
 
 use crate::counts::{all_done, dates_made, most_turns, turns_made};
 use crate::gate::Gate;
@@ -174,6 +174,7 @@ impl Worker {
         ensures worker { IsWorker self.new }
         ensures frame { self.new ≡ with_team self.old self.new.team }
         ensures swept { HasSwept self.old.team self.new.team }
+        ensures in_order { SteppedInOrder self.old.order self.old.team self.new.team }
         ensures fired { dates_made self.new.team ≡ dates_made self.old.team + result }
 
         // The one worker of its line fires each of its stations, where all have made as many dates.
@@ -192,7 +193,8 @@ impl Worker {
     /// Goes on with a burst: one more sweep, or none where all stations of the worker are done.
     pub fn go_on<G: Gate>(&mut self, live: &Live, gate: &G)
         requires ready { MayGoOn live.now self.old }
-        ensures { HasGoneOn self.old self.new }
+        ensures gone_on { HasGoneOn self.old self.new }
+        ensures swept { HasSweptIfUndone self.old self.new }
     {
         if !self.done() {
             self.sweep(live, gate);

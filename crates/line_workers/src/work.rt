@@ -2,9 +2,9 @@ ghost use Rattle.std.specs.Prelude.{ℕ, ◌<◌, ◌≤◌, ◌↔◌, length, 
 ghost use Rattle.line_worker.specs.Workers.{worker_at, HasDoneBurst, IsReadyFor, MayGoOn, HasGoneOn};
 
 use crate::pace::{Pace, PacedGate, Waits};
+use fan_out::for_each_mut;
 use line_worker::{Gate, SWEEPS, Worker};
 use live_check::Live;
-use std::thread;
 use std::thread::Threads;
 
 /// Lets each worker go on with a burst, one after the other.
@@ -46,7 +46,7 @@ fn work_at_once<R: Threads + Sync, G: Gate>(
     // A worker that sweeps before the workers up the line have put their tokens, or those down the line
     // their cards, spends its sweeps blocked. So the workers keep pace.
     let waits = Waits::new(threads as u64);
-    thread::for_each_mut(
+    for_each_mut(
         rt,
         workers,
         threads,

@@ -3,3 +3,4 @@ pub mod FileReads
 pub mod PlantsOfFiles
 pub mod StepLemmas
 pub mod LintReads
+pub mod TwoFiles

@@ -5,7 +5,7 @@ use Rattle.line_base.specs.declared.event.Parts.{Parts}
 use Rattle.plant_file.specs.Finish.{plant_of_bytes}
 use Rattle.plant_lint.specs.DraftLints.{LintsDraft as LintsDraftOf, lint_of_draft}
 use Rattle.plant_lint.specs.PlantLints.{clean_text}
-use Rattle.plant_lint.specs.declared.draft.DraftLint.{DraftLint}
+use Rattle.plant_lint.specs.declared.draft_lint.DraftLint.{DraftLint}
 use Rattle.plant_lint.specs.declared.file.FileLint.{FileLint}
 use Rattle.plant_lint.specs.declared.file.FileLint.TheVariants as lint
 use Rattle.plant_model.specs.declared.plant.Plant.{Plant}
@@ -15,7 +15,7 @@ use Rattle.refusals.specs.declared.refusal.Refusal.TheVariants.{Faults, Dead, No
 use Rattle.live_plant.proofs.StepLemmas.{NeedsNoCause}
 use Rattle.live_plant.specs.LintSteps.{IsRefusedWith, IsFileLint, IsCleanOrDead, IsSaid, IsDraftLint}
 use Rattle.live_plant.specs.PlantSteps.{IsDeadRefusal}
-use Rattle.live_plant.specs.declared.lint.SoundFile.{SoundFile}
+use Rattle.live_plant.specs.declared.sound_file.SoundFile.{SoundFile}
 
 said_needs_none : (said : FileLint) (refusal : Refusal) → IsRefusedWith said refusal → NeedsNoCause refusal
 said_needs_none (lint.Refused lines) refusal is = subst NeedsNoCause (sym is) tt

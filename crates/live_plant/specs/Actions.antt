@@ -94,8 +94,8 @@ HasCause store disk writes other = ⊤
 
 -- A store and a disk over a call that takes an action: what this call asked of the store is what the action asks, and
 -- nothing else; each read fits its file; the files are changed by the writes alone; and a refusal has its cause.
-pub record Does {A : Type 0} (store : StoreOver) (disk : DiskOver) (action : Asked → DiskOver → Result A Refusal → Type 0)
-    (answer : Result A Refusal) : Type 0 where
+pub record Does {A : Type 0} (store : StoreOver) (disk : DiskOver)
+    (action : Asked → DiskOver → Result A Refusal → Type 0) (answer : Result A Refusal) : Type 0 where
   pub asks : Asked
   pub asked : store.new.asked ≡ with_asked store.old.asked asks
   pub of_files : All (IsOfFile store) asks.reads
@@ -112,5 +112,6 @@ abbrev pub DoesOnStore : {A : Type 0} → StoreOver → (Asked → DiskOver → 
 DoesOnStore store action answer = (disk : DiskOver) → disk.new ≡ disk.old → Does store disk action answer
 
 -- a action that leaves every store
-abbrev pub DoesOnDisk : {A : Type 0} → DiskOver → (Asked → DiskOver → Result A Refusal → Type 0) → Result A Refusal → Type 0
+abbrev pub DoesOnDisk : {A : Type 0} → DiskOver → (Asked → DiskOver → Result A Refusal → Type 0) → Result A Refusal
+    → Type 0
 DoesOnDisk disk action answer = (tells : Bool) (view : StoreView) → Does (store_over tells view view) disk action answer

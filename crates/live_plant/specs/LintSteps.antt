@@ -16,7 +16,7 @@ use Rattle.refusals.specs.declared.refusal.Refusal.{Refusal}
 use Rattle.refusals.specs.declared.refusal.Refusal.TheVariants.{Faults}
 use Rattle.live_plant.specs.PlantSteps.{IsDeadRefusal}
 use Rattle.live_plant.specs.Steps.{Step, Settles, LooksAt, LooksAtNamed, Then}
-use Rattle.live_plant.specs.declared.lint.SoundFile.{SoundFile}
+use Rattle.live_plant.specs.declared.sound_file.SoundFile.{SoundFile}
 
 -- a file of which something is said is refused with these lines
 abbrev pub IsRefusedWith : FileLint → Refusal → Type 0

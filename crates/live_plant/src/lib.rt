@@ -6,7 +6,9 @@
 mod files;
 mod lint;
 mod live_plant;
+mod sound_file;
 
 pub use files::{read_file, read_plant_files};
-pub use lint::{SoundFile, lint_plant_file};
+pub use lint::lint_plant_file;
 pub use live_plant::{LivePlant, live_graph, live_plant_of, read_live_plant};
+pub use sound_file::SoundFile;

@@ -13,6 +13,7 @@ ghost use Rattle.live_plant.specs.Steps.{Makes};
 
 use crate::files::{read_file, read_named, slice_of};
 use crate::live_plant::live_graph;
+use crate::sound_file::SoundFile;
 use line_base::{Items, Text};
 use line_io::Store;
 use plant_file::{Draft, read_plant};
@@ -20,15 +21,6 @@ use plant_lint::{DraftLint, FileLint, clean_text, lint_draft, lint_file};
 use plant_model::Plant;
 use refusals::Refusal;
 use std::alloc::Global;
-
-/// A plant file that nothing is wrong with by itself.
-#[derive(Drop)]
-pub struct SoundFile {
-    /// Which keys its policy doesn't use, as lines of notes.
-    pub notes: Text,
-    /// What it says.
-    pub draft: Draft,
-}
 
 /// What lint says of a plant file and of the files that it names: that there is no fault, with notes of what may not be
 /// meant; or all faults, or a circuit without a token.

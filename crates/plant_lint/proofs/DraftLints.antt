@@ -11,8 +11,8 @@ use Rattle.plant_model.specs.declared.error.PlantError.{PlantError}
 use Rattle.demand_feed.specs.Dates.{dates_of}
 use Rattle.demand_feed.specs.Rows.{Held}
 use Rattle.demand_feed.specs.Times.{times_of}
-use Rattle.plant_lint.specs.declared.draft.DraftLint.{DraftLint}
-use Rattle.plant_lint.specs.declared.draft.DraftLint.TheVariants as draft
+use Rattle.plant_lint.specs.declared.draft_lint.DraftLint.{DraftLint}
+use Rattle.plant_lint.specs.declared.draft_lint.DraftLint.TheVariants as draft
 use Rattle.plant_lint.specs.declared.fault.Fault.{Fault}
 use Rattle.plant_lint.specs.declared.fault.Wants.{Wants}
 use Rattle.plant_lint.specs.declared.file.FileLint.TheVariants.{Sound}

@@ -1,27 +1,17 @@
 -- One more step of a loop that gathers what a function gives for each of a list.
-use Rattle.std.proofs.Common.{◌≡◌, ℕ, suc, ◌+◌, ◌<◌, ◌≤◌, List, ◌∷◌, ◌++◌, length, get_or, drop, sym, ap, ◌∙◌, add-one, append_assoc, append-nil}
+use Rattle.std.proofs.Common.{◌≡◌, refl, ℕ, ◌+◌, ◌<◌, ◌≤◌, List, ◌++◌, length, get_or, drop, sym, ap, ◌∙◌, append-nil}
 use Rattle.std.proofs.lemmas.List.{drop_all}
-use Rattle.std.proofs.Math.Seq.{drop-cons}
+use Rattle.plant_refusals.proofs.Collecting.{one_more}
 use Rattle.plant_lint.specs.Faults.{all_from, all_of}
 
 -- what is given for the elements below number i is added
 pub record Gathered {X A : Type 0} (f : ℕ → X → List A) (xs : List X) (i : ℕ) (old new : List A) : Type 0 where
   pub rest : old ++ all_of f xs ≡ new ++ all_from f i (drop i xs)
 
--- the elements from number i on: element i, and those after it
-drop-here : {X : Type 0} (xs : List X) (i : ℕ) (x : X) → i < length xs → x ≡ get_or xs i x → drop i xs ≡ x ∷ drop (i + 1) xs
-drop-here xs i x below is = rw (drop-cons xs i x below, add-one) (ap (λ y. y ∷ drop (suc i) xs) (sym is))
-
 -- what is given for the next element is added too
 pub gathers : {X A : Type 0} (f : ℕ → X → List A) (xs : List X) (i : ℕ) (x : X) (old mid new : List A) → Gathered f xs i old mid → i < length xs → x ≡ get_or xs i x → new ≡ mid ++ f i x → Gathered f xs (i + 1) old new
 gathers f xs i x old mid new h below is here =
-    record {
-      rest =
-          h.rest
-          ∙ ap (λ left. mid ++ all_from f i left) (drop-here xs i x below is)
-          ∙ sym (append_assoc mid (f i x) (all_from f (i + 1) (drop (i + 1) xs)))
-          ∙ ap (λ start. start ++ all_from f (i + 1) (drop (i + 1) xs)) (sym here);
-    }
+    record { rest = one_more (all_from f) xs i x (f i x) (all_of f xs) old mid new (λ rest. refl) h.rest below is here }
 
 -- what is given for all is added
 pub gathered_all : {X A : Type 0} (f : ℕ → X → List A) (xs : List X) (i : ℕ) (old new : List A) → Gathered f xs i old new → length xs ≤ i → new ≡ old ++ all_of f xs

@@ -5,8 +5,8 @@ use Rattle.plant_draft.specs.Draft.{demands_file}
 use Rattle.plant_file.specs.Finish.{plant_of_bytes}
 use Rattle.plant_model.specs.declared.plant.Plant.{Plant}
 use Rattle.plant_model.specs.Sound.{IsSound}
-use Rattle.plant_lint.specs.declared.draft.DraftLint.{DraftLint}
-use Rattle.plant_lint.specs.declared.draft.DraftLint.TheVariants as draft
+use Rattle.plant_lint.specs.declared.draft_lint.DraftLint.{DraftLint}
+use Rattle.plant_lint.specs.declared.draft_lint.DraftLint.TheVariants as draft
 use Rattle.plant_lint.specs.declared.fault.Fault.{Fault}
 use Rattle.plant_lint.specs.declared.file.FileLint.{FileLint}
 use Rattle.plant_lint.specs.declared.file.FileLint.TheVariants.{Refused, Sound}

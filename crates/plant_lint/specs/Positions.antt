@@ -27,4 +27,5 @@ column_after before = count_by begins_character (last_line before) + 1
 -- the line of a file that is no TOML, where the reader's error begins behind these bytes
 abbrev pub position_line : List ℕ → List ℕ
 position_line before =
-    codes "line " ++ (decimal (line_after before) ++ (codes " column " ++ (decimal (column_after before) ++ codes ": not toml\n")))
+    codes "line " ++ (decimal (line_after before)
+    ++ (codes " column " ++ (decimal (column_after before) ++ codes ": not toml\n")))

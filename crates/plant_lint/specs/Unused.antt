@@ -27,7 +27,8 @@ unused_at_top top =
 abbrev pub unused_in_stage : Bool → Bool → ℕ → Data → List ℕ
 unused_in_stage with_cards without_stock i s =
     unused_if (not with_cards) (InStage i) (codes "card_time") s
-    ++ (unused_if (not with_cards) (InStage i) (codes "cards") s ++ unused_if without_stock (InStage i) (codes "stock") s)
+    ++ (unused_if (not with_cards) (InStage i) (codes "cards") s
+    ++ unused_if without_stock (InStage i) (codes "stock") s)
 
 -- the policy is kanban, under which a stage starts with its cards
 abbrev pub is_kanban : Data → Bool

@@ -8,6 +8,7 @@ ghost use Rattle.plant_lint.specs.Texts.{fault_lines};
 ghost use Rattle.plant_model.specs.Refusals.{all_feeds_not_later, whole_refusals};
 ghost use Rattle.plant_model.specs.Sound.{IsSound};
 
+use crate::draft_lint::DraftLint;
 use crate::fault::Fault;
 use crate::file::FileLint;
 use crate::lines::lines_of;
@@ -18,15 +19,6 @@ use plant_draft::Draft;
 use plant_file::assemble_plant;
 use plant_model::Plant;
 use std::alloc::{AllocError, Global};
-
-/// What lint says of a draft and of the bytes of the files that it names.
-#[derive(Drop)]
-pub enum DraftLint {
-    /// What is wrong with its files, or with its plant as a whole.
-    Refused { lines: Text },
-    /// Nothing is; the plant, and its notes.
-    Sound { plant: Plant, notes: Text },
-}
 
 /// What lint says of a draft and of the bytes of the files that it names: the first bad record of each, and where none is
 /// bad, all that is wrong with its plant as a whole. Where nothing is, the plant is handed on with its notes.

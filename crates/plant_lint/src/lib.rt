@@ -2,6 +2,7 @@
 #![tactic(auto)]
 
 mod draft;
+mod draft_lint;
 mod fault;
 mod file;
 mod flow;
@@ -17,7 +18,8 @@ mod unused;
 mod values;
 mod walk;
 
-pub use draft::{DraftLint, lint_draft};
+pub use draft::lint_draft;
+pub use draft_lint::DraftLint;
 pub use fault::{Fault, Wants};
 pub use file::{FileLint, lint_file};
 pub use laws::faults_are_refusals;

@@ -1,5 +1,5 @@
 -- One more step of a loop that adds what is refused of each element of a list.
-use Rattle.std.proofs.Common.{◌≡◌, ℕ, suc, ◌+◌, ◌<◌, List, ◌∷◌, ◌++◌, length, get_or, drop, sym, ap, ◌∙◌, add-one, append_assoc}
+use Rattle.std.proofs.Common.{◌≡◌, refl, ℕ, suc, ◌+◌, ◌<◌, List, ◌∷◌, ◌++◌, length, get_or, drop, sym, ap, ◌∙◌, add-one, append_assoc}
 use Rattle.std.proofs.Math.Seq.{drop-cons}
 use Rattle.plant_model.specs.declared.error.PlantError.{PlantError}
 use Rattle.plant_model.specs.Refusals.{each_from, each}
@@ -13,13 +13,16 @@ pub record Collected {X : Type 0} (f : ℕ → X → List PlantError) (xs : List
 drop-here : {X : Type 0} (xs : List X) (i : ℕ) (x : X) → i < length xs → x ≡ get_or xs i x → drop i xs ≡ x ∷ drop (i + 1) xs
 drop-here xs i x below is = rw (drop-cons xs i x below, add-one) (ap (λ y. y ∷ drop (suc i) xs) (sym is))
 
+-- where what is added from number i on begins with what is added for element i, what is added for those after it is left
+pub one_more : {X A : Type 0} (from : ℕ → List X → List A) (xs : List X) (i : ℕ) (x : X) (here all old mid new : List A) → ((rest : List X) → from i (x ∷ rest) ≡ here ++ from (i + 1) rest) → old ++ all ≡ mid ++ from i (drop i xs) → i < length xs → x ≡ get_or xs i x → new ≡ mid ++ here → old ++ all ≡ new ++ from (i + 1) (drop (i + 1) xs)
+one_more from xs i x here all old mid new step before below is added =
+    before
+    ∙ ap (λ left. mid ++ from i left) (drop-here xs i x below is)
+    ∙ ap (λ items. mid ++ items) (step (drop (i + 1) xs))
+    ∙ sym (append_assoc mid here (from (i + 1) (drop (i + 1) xs)))
+    ∙ ap (λ start. start ++ from (i + 1) (drop (i + 1) xs)) (sym added)
+
 -- what is refused of the next element is added too
 pub collects : {X : Type 0} (f : ℕ → X → List PlantError) (xs : List X) (i : ℕ) (x : X) (old mid new : List PlantError) → Collected f xs i old mid → i < length xs → x ≡ get_or xs i x → new ≡ mid ++ f i x → Collected f xs (i + 1) old new
 collects f xs i x old mid new h below is here =
-    record {
-      rest =
-          h.rest
-          ∙ ap (λ left. mid ++ each_from f i left) (drop-here xs i x below is)
-          ∙ sym (append_assoc mid (f i x) (each_from f (i + 1) (drop (i + 1) xs)))
-          ∙ ap (λ start. start ++ each_from f (i + 1) (drop (i + 1) xs)) (sym here);
-    }
+    record { rest = one_more (each_from f) xs i x (f i x) (each f xs) old mid new (λ rest. refl) h.rest below is here }

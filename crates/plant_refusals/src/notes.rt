@@ -12,7 +12,8 @@ use std::alloc::{AllocError, Global};
 /// by one.
 #[tactic(auto, unfolding(crate::specs::PlantNotes::plant_notes))]
 pub fn plant_notes(alloc: Global, file: Option<&str>, plant: &Plant) -> Result<String, AllocError>
-    ensures { IfOk result (λ text. string_bytes text ≡ plant_notes (option_map (λ name. name.now) file.entry) plant.now) }
+    ensures { IfOk result
+        (λ text. string_bytes text ≡ plant_notes (option_map (λ name. name.now) file.entry) plant.now) }
 {
     let mut text = String::new(alloc);
     add_stock(&mut text, plant)?;

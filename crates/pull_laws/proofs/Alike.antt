@@ -1,10 +1,11 @@
 -- Steps that are made twice over the same files answer alike, but for what nobody's words and files decide.
 use Rattle.std.proofs.Common.{◌≡◌, ◌⊎◌, ℕ, Bool, List, [], ◌++◌, length, refl, sym, ◌∙◌, subst, inl, inr}
-use Rattle.std.specs.Prelude.{Option, Some, None, Result, Ok, Err, IsTrue, All}
+use Rattle.std.specs.Prelude.{Option, Some, None, Result, Ok, Err, IsTrue, All, ⊤}
 use Rattle.std.proofs.Math.Seq.{take-append_seam}
 use Rattle.std.proofs.lemmas.List.Elements.{All-head, All-take}
-use Rattle.line_io.specs.Calls.{Read}
+use Rattle.line_io.specs.Calls.{Read, none_asked}
 use Rattle.line_io.specs.Contents.{Contents, IsLongerThan}
+use Rattle.line_io.specs.StoreView.{StoreView}
 use Rattle.line_io.specs.declared.store.StoreError.{StoreError}
 use Rattle.line_io.specs.declared.store.StoreError.TheVariants as store_error
 use Rattle.event_graph.specs.Live.{IsLive}
@@ -12,18 +13,22 @@ use Rattle.plant_draft.specs.Draft.{demands_file}
 use Rattle.plant_draft.specs.Reading.{reading}
 use Rattle.plant_draft.specs.declared.draft.DraftPlant.{DraftPlant}
 use Rattle.plant_file.specs.Finish.{completed}
+use Rattle.plant_file.specs.PlantOfFiles.{bytes_at}
 use Rattle.plant_model.specs.declared.plant.Plant.{Plant}
 use Rattle.plant_model.specs.Graph.{graph}
+use Rattle.plant_model.specs.Sound.{IsSound}
 use Rattle.refusals.specs.Refusal.{status_of}
 use Rattle.refusals.specs.declared.refusal.Refusal.{Refusal}
 use Rattle.refusals.specs.declared.refusal.Refusal.TheVariants.{Dead, NoMemory, StoreFault, TooLong}
-use Rattle.live_plant.specs.Outside.{limit_of, Fits}
+use Rattle.live_plant.specs.Outside.{limit_of, Fits, store_over}
 use Rattle.live_plant.specs.PlantSteps.{or_refused, OfDraft, OfBytes, OfPlantFile, IsLiveOrDead, OfLivePlant}
 use Rattle.live_plant.specs.Steps.{Step, Settles, Gives, AnswersRead, LooksAt, LooksAtNamed, Then}
-use Rattle.live_plant.proofs.PlantsOfFiles.{then_leads}
+use Rattle.live_plant.proofs.PlantsOfFiles.{then_leads, of_live_plant}
 use Rattle.pull_laws.specs.Verdicts.{IsFree}
+use Rattle.pull_laws.proofs.FileNames.{reading_sound}
 use Rattle.pull_laws.proofs.ResumeEnds.{not_dead}
 use Rattle.pull_laws.proofs.ShortFiles.{IsShort, short_bytes}
+use Rattle.pull_laws.proofs.SoundFiles.{plant_of-sound}
 
 -- a read of files that are told gave what its file holds
 abbrev pub IsHeld : Bool → Contents → Read → Type 0
@@ -75,6 +80,21 @@ like_itself : {A : Type 0} (answer : Result A Refusal) → Fit (λ x y. x ≡ y)
 like_itself (Ok x) = refl
 like_itself (Err refusal) = refl
 
+-- so are two that are one
+pub gives_alike : {A : Type 0} (want one other : Result A Refusal) → one ≡ want → other ≡ want → AreAlike (λ (x y : A). x ≡ y) one other
+gives_alike {A} want one other is also =
+    subst (λ (a : Result A Refusal). AreAlike (λ (x y : A). x ≡ y) a other) (sym is)
+    (subst (λ (b : Result A Refusal). AreAlike (λ (x y : A). x ≡ y) want b) (sym also) (inr (inr (like_itself want))))
+
+-- the refusal of a dead circuit
+pub dead_status : (p : Plant) (refusal : Refusal) → IsLiveOrDead p (Err refusal) → status_of refusal ≡ 4
+dead_status p (Dead labels) is = refl
+dead_status p other is = absurd is
+
+pub live_not_dead : (p : Plant) (refusal : Refusal) → IsLive (graph p) → IsLiveOrDead p (Err refusal) → ⊥
+live_not_dead p (Dead labels) live is = not_dead p labels live is
+live_not_dead p other live is = absurd is
+
 -- the read of a file: its bytes, or that it is too long, or a free refusal
 pub record IsRead (files : Contents) (name : List ℕ) (bytes : List ℕ) : Type 0 where
   pub short : IsShort files name
@@ -112,6 +132,33 @@ one_content o xs ys is also = cc
 pub all_of_front : {X : Type 0} (P : X → Type 0) (xs ys : List X) → All P (xs ++ ys) → All P xs
 all_of_front P xs ys all = subst (All P) (take-append_seam xs ys) (All-take P (length xs) (xs ++ ys) all)
 
+-- a sound plant with a live graph
+pub record IsSoundAndLive (p : Plant) : Type 0 where
+  pub sound : IsSound p
+  pub live : IsLive (graph p)
+
+-- so is the plant that is answered over files that are told
+abbrev IsLiveIn : Result Plant Refusal → Type 0
+IsLiveIn (Ok p) = IsLive (graph p)
+IsLiveIn (Err refusal) = ⊤
+
+settled_live : (x p : Plant) → IsLiveOrDead x (Ok p) ⊎ (◌≡◌ {A = Result Plant Refusal} (Ok p) (Err NoMemory)) → IsLive (graph p)
+settled_live x p (inl is) = subst (λ (v : Plant). IsLive (graph v)) (sym is.0) is.1
+settled_live x p (inr none) = absurd (cc)
+
+plant_live : (tells : Bool) (files : Contents) (name : List ℕ) (reads : List Read) (p : Plant) → OfLivePlant name reads (Ok p) → All (IsHeld tells files) reads → IsLive (graph p)
+plant_live tells files name reads p steps all =
+    then_leads (OfPlantFile name) (λ v. Settles (IsLiveOrDead v)) (IsHeld tells files) IsLiveIn reads (Ok p) steps all (λ refusal before held stops. tt) (λ x before after held rest answers on. settled_live x p on.1)
+
+pub plant_known : (tells : Bool) (files : Contents) → IsTrue tells → (name : List ℕ) (reads : List Read) (p : Plant) → OfLivePlant name reads (Ok p) → All (IsHeld tells files) reads → IsSoundAndLive p
+plant_known tells files known name reads p steps all =
+    let view : StoreView = record { files = files; read_faults = λ q. 0; write_faults = λ q. 0; taken = 0; asked = none_asked } in
+    let is = of_live_plant (store_over tells view view) known name reads (Ok p) steps all in
+    record {
+      sound = plant_of-sound name files p (reading_sound (bytes_at files name)) is;
+      live = plant_live tells files name reads p steps all;
+    }
+
 -- stores that tell the same files
 module _ (tells_one : Bool) (files_one : Contents) (known_one : IsTrue tells_one) (tells_other : Bool) (files_other : Contents) (known_other : IsTrue tells_other) (same : (q : List ℕ) → files_one q ≡ files_other q) where
   -- a step that answers alike over both
@@ -119,8 +166,9 @@ module _ (tells_one : Bool) (files_one : Contents) (known_one : IsTrue tells_one
   Agrees {A} E step =
       (reads more : List Read) (one other : Result A Refusal) → step reads one → All (IsHeld tells_one files_one) reads → step more other → All (IsHeld tells_other files_other) more → AreAlike E one other
 
-  pub then_agrees : {A B : Type 0} (F : B → B → Type 0) (first : Step A) (next : A → Step B) → Agrees (λ x y. x ≡ y) first → ((x : A) → Agrees F (next x)) → Agrees F (Then first next)
-  then_agrees {A} {B} F first next agrees go reads more one other both all both_other all_other =
+  -- a next step may rest on what is known of the value of the first
+  pub then_agrees_where : {A B : Type 0} (K : A → Type 0) (F : B → B → Type 0) (first : Step A) (next : A → Step B) → Agrees (λ x y. x ≡ y) first → ((before : List Read) (x : A) → first before (Ok x) → All (IsHeld tells_one files_one) before → K x) → ((x : A) → K x → Agrees F (next x)) → Agrees F (Then first next)
+  then_agrees_where {A} {B} K F first next agrees knows go reads more one other both all both_other all_other =
       then_leads first next (IsHeld tells_one files_one) (λ (a : Result B Refusal). AreAlike F a other) reads one both all
       (λ refusal before held stops.
       then_leads first next (IsHeld tells_other files_other) (λ (b : Result B Refusal). AreAlike F (Err refusal) b) more other both_other all_other
@@ -134,7 +182,11 @@ module _ (tells_one : Bool) (files_one : Contents) (known_one : IsTrue tells_one
       second_free {A = A} {B = B} x also F one (agrees before early (Ok x) (Err also) answers held stops_too held_early))
       (λ y early late held_early held_late answers_too on_too.
       let is : x ≡ y = same_value x y (agrees before early (Ok x) (Ok y) answers held answers_too held_early) in
-      go x after late one other on rest (subst (λ (v : A). next v late other) (sym is) on_too) held_late))
+      go x (knows before x answers held) after late one other on rest (subst (λ (v : A). next v late other) (sym is) on_too) held_late))
+
+  pub then_agrees : {A B : Type 0} (F : B → B → Type 0) (first : Step A) (next : A → Step B) → Agrees (λ x y. x ≡ y) first → ((x : A) → Agrees F (next x)) → Agrees F (Then first next)
+  then_agrees {A} {B} F first next agrees go =
+      then_agrees_where {A = A} {B = B} (λ x. ⊤) F first next agrees (λ before x answers held. tt) (λ x known. go x)
 
   -- what settles
   settled : {A : Type 0} (E : A → A → Type 0) (P : Result A Refusal → Type 0) (one other : Result A Refusal) → (P one → P other → AreAlike E one other) → P one ⊎ (one ≡ Err NoMemory) → P other ⊎ (other ≡ Err NoMemory) → AreAlike E one other
@@ -144,11 +196,6 @@ module _ (tells_one : Bool) (files_one : Contents) (known_one : IsTrue tells_one
 
   pub settles_agrees : {A : Type 0} (E : A → A → Type 0) (P : Result A Refusal → Type 0) → ((one other : Result A Refusal) → P one → P other → AreAlike E one other) → Agrees E (Settles P)
   settles_agrees E P alike reads more one other is all also all_other = settled E P one other (alike one other) is.1 also.1
-
-  gives_alike : {A : Type 0} (want one other : Result A Refusal) → one ≡ want → other ≡ want → AreAlike (λ (x y : A). x ≡ y) one other
-  gives_alike {A} want one other is also =
-      subst (λ (a : Result A Refusal). AreAlike (λ (x y : A). x ≡ y) a other) (sym is)
-      (subst (λ (b : Result A Refusal). AreAlike (λ (x y : A). x ≡ y) want b) (sym also) (inr (inr (like_itself want))))
 
   gives_agrees : {A : Type 0} (want : Result A Refusal) → Agrees (λ (x y : A). x ≡ y) (Gives want)
   gives_agrees {A} want = settles_agrees (λ (x y : A). x ≡ y) (λ answer. answer ≡ want) (gives_alike want)
@@ -166,7 +213,7 @@ module _ (tells_one : Bool) (files_one : Contents) (known_one : IsTrue tells_one
   look_agrees name reads more one other looks all looks_too all_other =
       said_alike name one other (look_says tells_one files_one known_one name reads one looks all) (look_says tells_other files_other known_other name more other looks_too all_other)
 
-  named_agrees : (name : Option (List ℕ)) → Agrees (λ (x y : Option (List ℕ)). x ≡ y) (LooksAtNamed name)
+  pub named_agrees : (name : Option (List ℕ)) → Agrees (λ (x y : Option (List ℕ)). x ≡ y) (LooksAtNamed name)
   named_agrees None = gives_agrees {A = Option (List ℕ)} (Ok None)
   named_agrees (Some name) =
       then_agrees {A = List ℕ} {B = Option (List ℕ)} (λ (x y : Option (List ℕ)). x ≡ y) (LooksAt name) (λ bytes. Gives (Ok (Some bytes))) (look_agrees name)
@@ -187,14 +234,6 @@ module _ (tells_one : Bool) (files_one : Contents) (known_one : IsTrue tells_one
       then_agrees {A = List ℕ} {B = Plant} (λ (x y : Plant). x ≡ y) (LooksAt name) (λ bytes. Then (OfBytes bytes) OfDraft) (look_agrees name)
       (λ bytes.
       then_agrees {A = DraftPlant} {B = Plant} (λ (x y : Plant). x ≡ y) (OfBytes bytes) OfDraft (gives_agrees {A = DraftPlant} (or_refused (reading bytes))) draft_agrees)
-
-  dead_status : (p : Plant) (refusal : Refusal) → IsLiveOrDead p (Err refusal) → status_of refusal ≡ 4
-  dead_status p (Dead labels) is = refl
-  dead_status p other is = absurd is
-
-  live_not_dead : (p : Plant) (refusal : Refusal) → IsLive (graph p) → IsLiveOrDead p (Err refusal) → ⊥
-  live_not_dead p (Dead labels) live is = not_dead p labels live is
-  live_not_dead p other live is = absurd is
 
   live_alike : (p : Plant) (one other : Result Plant Refusal) → IsLiveOrDead p one → IsLiveOrDead p other → AreAlike (λ (x y : Plant). x ≡ y) one other
   live_alike p (Ok x) (Ok y) is also = inr (inr (is.0 ∙ sym also.0))

@@ -1,5 +1,10 @@
 pub mod Alike
+pub mod AnswersAlike
+pub mod CardsAlike
+pub mod DatesAlike
+pub mod EditsAlike
 pub mod FileNames
+pub mod LintsAlike
 pub mod OverFiles
 pub mod ResumeEnds
 pub mod ResumeStops

@@ -19,11 +19,12 @@ pub fn resuming_writes_that_same_report()
 
 /// The law *Verdict*, on the calls of `pull` over stores that tell their files: words have at most one
 /// verdict over files, and every call for these words over these files ends with it, or has failed: a
-/// file couldn't be read or written, the sink failed, or memory ran out. So two calls end with one
-/// status, where neither has failed; and *Completeness*: where one ends with status 0, every call does
-/// that hasn't failed.
+/// file couldn't be read or written, the sink or the disk failed, or memory ran out. So two calls end
+/// with one status, where neither has failed; and *Completeness*: where one ends with status 0, every
+/// call does that hasn't failed.
 ///
-/// It speaks of words that are no command, and of the commands that `AreDecided` names.
+/// It speaks of all words. For `resume --slots` the disk too is one that tells what it holds, and the
+/// verdict is that over what is saved in its slots.
 ///
 /// It runs nothing: its contract is the law.
 pub fn calls_end_with_the_verdict()

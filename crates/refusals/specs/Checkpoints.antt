@@ -17,7 +17,8 @@ has_date have need = codes " has date " ++ (decimal have ++ (codes ", needs " ++
 abbrev pub checkpoint_refusal : Parts → CheckpointError → Refusal
 checkpoint_refusal g (error.Line number) = NotReached (codes "checkpoint: line " ++ decimal number)
 checkpoint_refusal g (error.Count t have limit) =
-    NotReached (codes "checkpoint: " ++ (label g t ++ (codes " has " ++ (decimal have ++ (codes " of " ++ decimal limit)))))
+    NotReached (codes "checkpoint: " ++ (label g t
+    ++ (codes " has " ++ (decimal have ++ (codes " of " ++ decimal limit)))))
 checkpoint_refusal g (error.Marking a have need) =
     NotReached (codes "checkpoint: place " ++ (decimal a ++ (codes " has "
     ++ (decimal have ++ (codes " tokens, needs " ++ signed_decimal need)))))

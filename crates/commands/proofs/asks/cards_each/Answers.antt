@@ -1,5 +1,5 @@
 use Rattle.std.proofs.lemmas.Result.{err_from_is_err_and}
-use Rattle.commands.proofs.Asking.{each_found, each_refused}
+use Rattle.commands.proofs.Asking.{each_found, each_refused, no_each_refusal}
 use Rattle.commands.proofs.asks.cards_each.Goals as goal
 
 pub least_each-requires-clause-live : goal.least_each-requires-clause-live
@@ -13,4 +13,4 @@ returns-in_err-each c =
 pub returns : goal.returns
 returns c =
     let asked = c.in_ok-each.ensures in
-    each_found c.args.line.now.plant c.args.wait c.in_ok-each.each c.in_ok-text.text asked.serves asked.least asked.below asked.named asked.total c.in_ok-text.ensures
+    each_found c.args.line.now.plant c.args.wait c.in_ok-each.each c.in_ok-text.text (λ none. no_each_refusal c.in_ok-each.each (asked.no_single_count.1 none)) asked.serves asked.least asked.below asked.named asked.total c.in_ok-text.ensures

@@ -8,7 +8,7 @@ use Rattle.cycle_time.proofs.cycling.certificate_of.Goals as goal
 pub loop-best-smaller : goal.loop-best-smaller
 loop-best-smaller c =
     let heavy = rw c.in-Circuit.is at c.in_ok-circuit.ensures in
-    heavier_falls c.args.live.now.graph c.loop-best.best c.of-best.result c.in-Circuit.circuit.items c.loop-best.invariant (rw c.graph-graph.ensures.graph at c.of-best.ensures.ratio) heavy c.of-best.ensures.kept
+    heavier_falls c.args.live.now.graph c.loop-best.best c.ratio_of-best.result c.in-Circuit.circuit.items c.loop-best.invariant (rw c.graph-graph.ensures.graph at c.ratio_of-best.ensures.ratio) heavy c.ratio_of-best.ensures.kept
 
 pub returns-in-Potentials : goal.returns-in-Potentials
 returns-in-Potentials c =

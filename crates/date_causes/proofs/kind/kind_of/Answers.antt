@@ -28,36 +28,31 @@ overflow_sub-first_loop c = omega (arith, count c)
 
 pub returns-then-a-first_loop : goal.returns-then-a-first_loop
 returns-then-a-first_loop c =
-    let p = c.args.plant.now in
     let at = goal.at.returns-then-a-first_loop c in
-    card_kind p c.args.a c.arc-arc.result (kind_at p c.args.a) (like at.After-arc-arc) c.if-arc-eq-FEED.false
+    card_kind c.args.plant.now c.args.a c.arc-arc.result _ (like at.After-arc-arc) c.if-arc-eq-FEED.false
     (omega (arith, first at.After-policy_arc, c.if-a-policy_arc.true))
     (omega (arith, count at.After-arcs, c.if-a-first_loop.true))
 
 pub returns-else-a-first_loop : goal.returns-else-a-first_loop
 returns-else-a-first_loop c =
-    let p = c.args.plant.now in
     let at = goal.at.returns-else-a-first_loop c in
-    loop_kind p c.args.a c.arc-arc.result (kind_at p c.args.a) (like at.After-arc-arc) c.if-arc-eq-FEED.false
+    loop_kind c.args.plant.now c.args.a c.arc-arc.result _ (like at.After-arc-arc) c.if-arc-eq-FEED.false
     (omega (arith, count at.After-arcs, c.if-a-first_loop.false))
 
 pub returns-then-arc : goal.returns-then-arc
 returns-then-arc c =
-    let p = c.args.plant.now in
     let at = goal.at.returns-then-arc c in
-    part_kind p c.args.a c.arc-arc.result (kind_at p c.args.a) (like at.After-arc-arc) c.if-arc-eq-FEED.false
+    part_kind c.args.plant.now c.args.a c.arc-arc.result _ (like at.After-arc-arc) c.if-arc-eq-FEED.false
     (omega (arith, first at.After-policy_arc, c.if-a-policy_arc.false)) c.if-arc.true
 
 pub returns-then-arc-2 : goal.returns-then-arc-2
 returns-then-arc-2 c =
-    let p = c.args.plant.now in
     let at = goal.at.returns-then-arc-2 c in
-    server_kind p c.args.a c.arc-arc.result (kind_at p c.args.a) (like at.After-arc-arc) c.if-arc-eq-FEED.false
+    server_kind c.args.plant.now c.args.a c.arc-arc.result _ (like at.After-arc-arc) c.if-arc-eq-FEED.false
     (omega (arith, first at.After-policy_arc, c.if-a-policy_arc.false)) c.if-arc.false c.if-arc-2.true
 
 pub returns-else-arc-2 : goal.returns-else-arc-2
 returns-else-arc-2 c =
-    let p = c.args.plant.now in
     let at = goal.at.returns-else-arc-2 c in
-    order_kind p c.args.a c.arc-arc.result (kind_at p c.args.a) (like at.After-arc-arc) c.if-arc-eq-FEED.false
+    order_kind c.args.plant.now c.args.a c.arc-arc.result _ (like at.After-arc-arc) c.if-arc-eq-FEED.false
     (omega (arith, first at.After-policy_arc, c.if-a-policy_arc.false)) c.if-arc.false c.if-arc-2.false

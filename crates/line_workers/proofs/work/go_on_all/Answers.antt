@@ -15,7 +15,7 @@ loop-worker-preserved g c =
     let at = get_or_default now w c.worker-item.result no_worker low ∙ c.loop-worker.invariant.stay w (omega arith) in
     let went : HasGoneOn (worker_at old w) (worker_at (set now w new) w) =
     subst (HasGoneOn (worker_at old w)) (sym (get_or-set_same now w new no_worker low)) (
-    subst (λ (worker : LineWorker). HasGoneOn worker new) at c.go_on.ensures) in
+    subst (λ (worker : LineWorker). HasGoneOn worker new) at c.go_on.ensures.gone_on) in
     record {
       went = λ v before.
           ⊎_elim

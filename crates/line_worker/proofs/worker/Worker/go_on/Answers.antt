@@ -2,11 +2,11 @@ use Rattle.std.proofs.Common.{true≢false, refl, sym, arith}
 use Rattle.line_worker.proofs.Bursting.{at_work_done, at_work_sweeps}
 use Rattle.line_worker.proofs.worker.Worker.go_on.Goals as goal
 
-pub returns-then-not-done : goal.returns-then-not-done
-returns-then-not-done g c old sweeps more work =
+pub returns-then-not-done-clause-gone_on : goal.returns-then-not-done-clause-gone_on
+returns-then-not-done-clause-gone_on g c old sweeps more work =
     let e = c.sweep.ensures in
-    at_work_sweeps old c.args.self.now sweeps work c.done.ensures.worker c.sweep.new.self (λ all. true≢false (sym (c.if-not-done.ensures.done.1 all))) e.worker e.frame e.swept e.alone
+    at_work_sweeps old c.args.self.now sweeps work c.done.ensures.worker c.sweep.new.self (λ all. true≢false (sym (c.if-not-done.ensures.done.1 all))) e.worker e.frame e.swept e.in_order e.alone
 
-pub returns-else-not-done : goal.returns-else-not-done
-returns-else-not-done g c old sweeps more work =
+pub returns-else-not-done-clause-gone_on : goal.returns-else-not-done-clause-gone_on
+returns-else-not-done-clause-gone_on g c old sweeps more work =
     at_work_done old c.args.self.now sweeps work (omega (arith, more)) c.done.ensures.worker (c.if-not-done.ensures.done.0 refl)

@@ -1,7 +1,7 @@
 use Rattle.std.proofs.Common.{ℕ, ◌≡◌, ◌+◌, ◌<◌, List, length, get_or, sym, ap, ◌∙◌, subst, arith}
 use Rattle.line_worker.specs.Worker.{LineWorker, IsWorker, with_team}
 use Rattle.line_worker.specs.Work.{SteppedAt, IsSweeping, IsAlone}
-use Rattle.line_worker.proofs.Sweeping.{sweeping_goes_on}
+use Rattle.line_worker.proofs.Sweeping.{stepped_next, stepped_all, sweeping_goes_on}
 use Rattle.line_worker.proofs.Alone.{alone_goes_on, alone_swept}
 use Rattle.line_worker.proofs.worker.Worker.sweep.Goals as goal
 use Rattle.line_worker.proofs.worker.Worker.sweep.Goals.{then-turn, else-turn}
@@ -21,6 +21,7 @@ loop-place-preserved g c =
       worker = c.turn.ensures.worker;
       frame = c.turn.ensures.frame ∙ ap (λ (w : LineWorker). with_team w next.team) inv.frame;
       sweeping = sweeping_goes_on old.live.ranks old.first old.order old.team now.team next.team c.loop-place.place is.in_order inv.sweeping low stepped;
+      in_order = stepped_next old.order c.loop-place.place low old.team now.team next.team inv.in_order stepped;
       made =
           elim c.if-turn.branch [
             | then-turn w ↦ omega (arith, inv.made, w.fired-is, w.if-turn.ensures.fired)
@@ -47,3 +48,10 @@ returns-clause-alone g c =
     let swept = alone_swept old is times alone more now.team is_now (subst (IsSweeping old.order old.team now.team) done inv.sweeping)
     (λ i low_i early. inv.alone times alone more i low_i (omega (arith, done, early))) in
     subst (λ (w : LineWorker). IsAlone w (times + 1)) (sym inv.frame) swept
+
+pub returns-clause-in_order : goal.returns-clause-in_order
+returns-clause-in_order g c =
+    let old = c.args.self.now in
+    let now = c.loop-place.self in
+    let done : c.loop-place.place ≡ length old.order = omega (arith, c.loop-place-test.false, c.loop-place.auto.place-end, c.len-place-end.ensures, ap (λ (w : LineWorker). length w.order) c.self.view_is) in
+    stepped_all old.order c.loop-place.place done old.team now.team c.loop-place.invariant.in_order

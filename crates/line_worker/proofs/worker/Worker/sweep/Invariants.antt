@@ -1,9 +1,9 @@
-use Rattle.std.proofs.Common.{◌≡◌, ℕ, ◌+◌, ◌<◌, ◌≤◌, length}
+use Rattle.std.proofs.Common.{◌≡◌, ℕ, ◌+◌, ◌<◌, ◌≤◌, length, take}
 use Rattle.event_graph.specs.Network.{jobs}
 use Rattle.line_worker.specs.Team.{member}
 use Rattle.line_worker.specs.Teams.{place_in}
 use Rattle.line_worker.specs.Worker.{IsWorker, with_team}
-use Rattle.line_worker.specs.Work.{dates_of, dates_made, IsSweeping, IsAlone}
+use Rattle.line_worker.specs.Work.{dates_of, dates_made, SteppedInOrder, IsSweeping, IsAlone}
 use Rattle.line_worker.proofs.worker.Worker.sweep.Given as goal
 
 abbrev pub invariant-loop-place : goal.invariant-loop-place
@@ -11,6 +11,7 @@ invariant-loop-place g l = record {
   worker : IsWorker l.self;
   frame : l.self ≡ with_team l.initial.self l.self.team;
   sweeping : IsSweeping l.initial.self.order l.initial.self.team l.self.team l.place;
+  in_order : SteppedInOrder (take l.place l.initial.self.order) l.initial.self.team l.self.team;
   made : dates_made l.self.team ≡ dates_made l.initial.self.team + l.fired;
   few : l.fired ≤ l.place;
   alone : (times : ℕ) → IsAlone l.initial.self times → times < jobs l.initial.self.live.graph →

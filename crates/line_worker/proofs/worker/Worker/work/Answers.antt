@@ -13,7 +13,7 @@ go_on-requires-clause-ready g c κs h =
 
 pub loop-sweep-preserved : goal.loop-sweep-preserved
 loop-sweep-preserved g c =
-    c.go_on.ensures c.args.self.now c.loop-sweep._sweep (omega (arith, c.loop-sweep-test.true)) c.loop-sweep.invariant
+    c.go_on.ensures.gone_on c.args.self.now c.loop-sweep._sweep (omega (arith, c.loop-sweep-test.true)) c.loop-sweep.invariant
 
 pub returns : goal.returns
 returns g c =
