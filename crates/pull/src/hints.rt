@@ -9,36 +9,123 @@ const NO_COMMAND: u8 = 2;
 /// The status of a plant file that is refused.
 const REFUSED: u8 = 3;
 
-/// What is said of a status.
-#[derive(Clone, Copy)]
-struct Saying {
-    /// Which status it is.
-    what: &'static str,
-    /// What to do next, as far as the name of the plant file.
-    next: &'static str,
-    /// What stands behind that name, where it is named.
-    behind: Option<&'static str>,
-}
+/// Of each status which it is, and what to do next, where the name of the plant file goes in the place of `{}`.
+const SAYINGS: [(u8, &str, &str); 18] = [
+    (1, "a word is no UTF-8", "write it in UTF-8"),
+    (
+        REFUSED,
+        "the plant file is refused",
+        "'pull lint {}' tells more",
+    ),
+    (
+        4,
+        "the plant can't move",
+        "the stations that are named wait for each other: give one of them a card or a server",
+    ),
+    (
+        5,
+        "a file can't be read or written",
+        "see that it is in this folder, and that you may read and write it",
+    ),
+    (
+        6,
+        "the output can't be written",
+        "see that there is room for it, and that its reader goes on",
+    ),
+    (
+        7,
+        "the checkpoint is of no run of the plant",
+        "resume with the plant file that was run, or run it anew",
+    ),
+    (
+        8,
+        "a machine has a list of times, and so the plant no cycle time",
+        "'pull summary {}' tells how busy each machine is",
+    ),
+    (
+        9,
+        "out of memory",
+        "end other programs, or ask for less at once",
+    ),
+    (
+        10,
+        "a file is too long",
+        "a plant, a table, a schedule or edits have at most 64 MiB, a checkpoint 160 MiB",
+    ),
+    (
+        11,
+        "the schedule can't be followed",
+        "mend the line that is named, or add what is missing",
+    ),
+    (
+        12,
+        "the slots can't be read or written",
+        "see that you may read and write pull.slots in this folder",
+    ),
+    (
+        13,
+        "no number of cards keeps the wait",
+        "'pull cycle {}' tells what holds the line",
+    ),
+    (
+        14,
+        "nothing is saved in the slots",
+        "'pull run {} --every 1000 --slots' saves",
+    ),
+    (
+        16,
+        "the edits can't be followed",
+        "mend the line that is named",
+    ),
+    (
+        17,
+        "the plant has no single number of cards",
+        "change its cards or its stock, and ask 'pull summary {}'",
+    ),
+    (
+        18,
+        "no station has the label, or there are fewer jobs",
+        "'pull run {}' lists all stations and jobs",
+    ),
+    (
+        19,
+        "a job waits longer than it may",
+        "give a longer wait, or ask 'pull cards {} WAIT' how many cards keep it",
+    ),
+    (
+        20,
+        "the picture is too large",
+        "give a shorter span of dates: 'pull chart {} FROM TO'",
+    ),
+];
 
 /// The line for a status that isn't 0, of a command of these words.
 pub fn hint(alloc: Global, status: u8, words: &[String]) -> Result<String, AllocError> {
     if status == NO_COMMAND {
         return words_hint(alloc, words);
     }
-    let saying = if status == REFUSED {
-        refused_saying(asks_lint(words), has_lint(alloc)?)
-    } else {
-        saying_of(status)
-    };
-    let what = saying.what;
-    let next = saying.next;
-    match saying.behind {
-        Some(behind) => {
+    let (what, next) = saying_of(status, asks_lint(words));
+    match next.split_once("{}") {
+        Some((before, behind)) => {
             let plant = plant_of(words);
-            format!(in alloc; "pull: status {status}, {what}; {next}{plant}{behind}")
+            format!(in alloc; "pull: status {status}, {what}; {before}{plant}{behind}")
         }
         None => format!(in alloc; "pull: status {status}, {what}; {next}"),
     }
+}
+
+/// Which status it is, and what to do next. It is another thing where `lint` has told already what is wrong.
+fn saying_of(status: u8, asks_lint: bool) -> (&'static str, &'static str) {
+    for (of, what, next) in &SAYINGS {
+        if *of == status {
+            return if status == REFUSED && asks_lint {
+                (*what, "mend what the lines name, and ask again")
+            } else {
+                (*what, *next)
+            };
+        }
+    }
+    ("it is not done", "'pull --help' lists all statuses")
 }
 
 /// Whether the command is `lint`.
@@ -54,120 +141,6 @@ fn plant_of(words: &[String]) -> &str {
     match words.get(1) {
         Some(word) => word.as_str(),
         None => "PLANT",
-    }
-}
-
-/// Advice without the name of the plant file.
-fn advice(what: &'static str, next: &'static str) -> Saying {
-    Saying {
-        what,
-        next,
-        behind: None,
-    }
-}
-
-/// Advice in which the name of the plant file stands.
-fn with_plant(what: &'static str, next: &'static str, behind: &'static str) -> Saying {
-    Saying {
-        what,
-        next,
-        behind: Some(behind),
-    }
-}
-
-/// What is said of a status.
-fn saying_of(status: u8) -> Saying {
-    match status {
-        1 => advice("a word is no UTF-8", "write it in UTF-8"),
-        4 => advice(
-            "the plant can't move",
-            "the stations that are named wait for each other: give one of them a card or a server",
-        ),
-        5 => advice(
-            "a file can't be read or written",
-            "see that it is in this folder, and that you may read and write it",
-        ),
-        6 => advice(
-            "the output can't be written",
-            "see that there is room for it, and that its reader goes on",
-        ),
-        7 => advice(
-            "the checkpoint is of no run of the plant",
-            "resume with the plant file that was run, or run it anew",
-        ),
-        8 => with_plant(
-            "a machine has a list of times, and so the plant no cycle time",
-            "'pull summary ",
-            "' tells how busy each machine is",
-        ),
-        9 => advice(
-            "out of memory",
-            "end other programs, or ask for less at once",
-        ),
-        10 => advice(
-            "a file is too long",
-            "a plant, a table, a schedule or edits have at most 64 MiB, a checkpoint 160 MiB",
-        ),
-        11 => advice(
-            "the schedule can't be followed",
-            "mend the line that is named, or add what is missing",
-        ),
-        12 => advice(
-            "the slots can't be read or written",
-            "see that you may read and write pull.slots in this folder",
-        ),
-        13 => with_plant(
-            "no number of cards keeps the wait",
-            "'pull cycle ",
-            "' tells what holds the line",
-        ),
-        14 => with_plant(
-            "nothing is saved in the slots",
-            "'pull run ",
-            " --every 1000 --slots' saves",
-        ),
-        16 => advice("the edits can't be followed", "mend the line that is named"),
-        17 => with_plant(
-            "the plant has no single number of cards",
-            "change its cards or its stock, and ask 'pull summary ",
-            "'",
-        ),
-        18 => with_plant(
-            "no station has the label, or there are fewer jobs",
-            "'pull run ",
-            "' lists all stations and jobs",
-        ),
-        19 => with_plant(
-            "a job waits longer than it may",
-            "give a longer wait, or ask 'pull cards ",
-            " WAIT' how many cards keep it",
-        ),
-        20 => with_plant(
-            "the picture is too large",
-            "give a shorter span of dates: 'pull chart ",
-            " FROM TO'",
-        ),
-        _ => advice("it is not done", "'pull --help' lists all statuses"),
-    }
-}
-
-/// Whether there is a command `lint`, which tells all that is wrong with a plant file.
-fn has_lint(alloc: Global) -> Result<bool, AllocError> {
-    is_command(alloc, &[], &["lint", "a.toml"])
-}
-
-/// What is said of a plant file that is refused, to `lint` or to another command.
-fn refused_saying(asks_lint: bool, has_lint: bool) -> Saying {
-    let what = "the plant file is refused";
-    if asks_lint {
-        advice(what, "mend what the lines name, and ask again")
-    } else if has_lint {
-        with_plant(what, "'pull lint ", "' tells more")
-    } else {
-        advice(
-            what,
-            "mend what the line names; docs/GUIDE.md shows how a plant file is written",
-        )
     }
 }
 

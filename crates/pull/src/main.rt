@@ -4,12 +4,15 @@
 mod hints;
 
 use hints::hint;
-use line_disk::FileDisk;
-use line_io::{FileStore, StdSink};
+use line_disk::{Disk, FileDisk};
+use line_io::{FileStore, Sink, StdSink, Store};
 use line_workers::FreeGate;
 use pull_cli::pull;
+use std::alloc::Global;
 use std::process::ExitCode;
 use std::rt::Env;
+use std::sync::Wait;
+use std::thread::Threads;
 use std::{env, fs, io};
 
 /// The status where the machine doesn't hand over the words, as where one is no UTF-8. The top call never answers it.
@@ -37,6 +40,18 @@ fn end<R: Eprint + AllocGlobal>(rt: &R, status: u8, words: &[String]) -> ExitCod
     status.into()
 }
 
+/// The status of the top call. What its contract says is let go here.
+fn status_of<R: Threads + Wait + Sync, S: Store, K: Sink, D: Disk>(
+    rt: &R,
+    alloc: Global,
+    words: &[String],
+    store: &mut S,
+    sink: &mut K,
+    disk: &mut D,
+) -> u8 {
+    pull(rt, alloc, words, store, sink, &FreeGate, disk)
+}
+
 fn main(rt: HostRuntime) -> ExitCode {
     // Where the program is started without standard input, output or error, the file that is opened
     // next gets its number. These get it first, and can only be read: a write to standard output
@@ -54,14 +69,7 @@ fn main(rt: HostRuntime) -> ExitCode {
     let mut store = FileStore::new(&rt);
     let mut sink = StdSink::new(rt.stdout());
     let mut disk = FileDisk::new(&rt);
-    let status = pull(
-        &rt,
-        rt.alloc(),
-        words.as_slice(),
-        &mut store,
-        &mut sink,
-        &FreeGate,
-        &mut disk,
-    );
-    end(&rt, status, words.as_slice())
+    let words = words.as_slice();
+    let status = status_of(&rt, rt.alloc(), words, &mut store, &mut sink, &mut disk);
+    end(&rt, status, words)
 }

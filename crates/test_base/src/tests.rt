@@ -1,9 +1,7 @@
 mod got;
 mod mem_files;
 mod of_card_queue;
-mod of_command_words;
 mod of_file_store;
-mod of_line_base;
 mod of_line_io;
 mod of_room_ring;
 mod same;

@@ -1,10 +1,7 @@
 mod got;
-mod of_circuit_sums;
-mod of_demand_feed;
+mod of_cycle_time;
 mod of_event_graph;
-mod of_line_core;
 mod of_line_report;
-mod of_live_check;
-mod of_plant_file;
 mod of_plant_model;
+mod of_what_if;
 mod same;

@@ -6,6 +6,5 @@ mod noting_gate;
 mod of_line_runs;
 mod of_line_workers;
 mod of_pull_cli;
-mod of_standing_line;
 mod pair_gate;
 mod same;

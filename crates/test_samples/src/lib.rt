@@ -36,58 +36,8 @@ pub const ONE_CARD: &str = "cards = 1";
 /// What is said of a stage with one part in stock.
 pub const ONE_PART: &str = "stock = 1";
 
-/// What is said of a stage with one card and a way to the next stage, and a way back for the card.
-const ONE_CARD_APART: &str = "cards = 1\ntravel = 4\ncard_time = 1";
-
-/// The start of the two stages with three demands, as it is saved, in format 2.
-pub const START: &str = "\
-pull-checkpoint 2
-delays 0
-station feed 0
-station cut 0
-station cut.saw 0
-station weld 0
-station weld.torch 0
-station deliver 0
-place 0 0
-place 1 1 0
-place 2 1 0
-place 3 1 0
-place 4 0
-place 5 1 0
-place 6 1 0
-place 7 1 0
-place 8 0
-place 9 0
-place 10 0
-end
-";
-
-/// The checkpoint of the two stages after the firings feed, deliver, weld, cut, cut.saw, in format 1.
-pub const FIVE_FIRINGS: &str = "\
-pull-checkpoint 1
-station feed 1 0
-station cut 1 0
-station cut.saw 1 3
-station weld 1 0
-station weld.torch 0
-station deliver 1 0
-place 0 0
-place 1 1 3
-place 2 1 3
-place 3 1 3
-place 4 1 0
-place 5 1 0
-place 6 1 0
-place 7 0
-place 8 0
-place 9 0
-place 10 0
-end
-";
-
 /// The plant of a plant file that names no other file.
-pub fn plant_of(alloc: Global, file: &str) -> Result<Plant, Fail>
+fn plant_of(alloc: Global, file: &str) -> Result<Plant, Fail>
     ensures { IfOk result IsSound }
 {
     let draft = read_plant(alloc, file.as_bytes())?;
@@ -142,34 +92,23 @@ fn leaked(alloc: Global, live: Live) -> Result<&'static Live, AllocError> {
     Ok(Box::leak(Box::new(alloc, live)?))
 }
 
-/// The live graph of the plant of a plant file.
-pub fn live_of_file(alloc: Global, file: &str) -> Result<&'static Live, Fail> {
-    let plant = plant_of(alloc, file)?;
+/// The live graph of the two stages under kanban with a card each and these demands.
+fn live_of_stages(alloc: Global, demands: &str) -> Result<&'static Live, Fail> {
+    let file = stages_file(alloc, KANBAN, demands, ONE_CARD, ONE_CARD)?;
+    let plant = plant_of(alloc, file.as_str())?;
     let live = live_of(alloc, &plant);
     drop(plant);
     Ok(leaked(alloc, live?)?)
 }
 
-/// The live graph of the two stages under kanban with these demands, where the second has a card and this is said of the
-/// first.
-fn live_of_stages(alloc: Global, demands: &str, cut: &str) -> Result<&'static Live, Fail> {
-    let file = stages_file(alloc, KANBAN, demands, cut, ONE_CARD)?;
-    live_of_file(alloc, file.as_str())
-}
-
 /// The live graph of the two stages.
 pub fn live_stages(alloc: Global) -> Result<&'static Live, Fail> {
-    live_of_stages(alloc, THREE_DEMANDS, ONE_CARD)
+    live_of_stages(alloc, THREE_DEMANDS)
 }
 
 /// The live graph of the two stages with forty demands.
 pub fn live_forty_jobs(alloc: Global) -> Result<&'static Live, Fail> {
-    live_of_stages(alloc, FORTY_DEMANDS, ONE_CARD)
-}
-
-/// The live graph of the two stages with ways between them.
-pub fn live_stages_apart(alloc: Global) -> Result<&'static Live, Fail> {
-    live_of_stages(alloc, THREE_DEMANDS, ONE_CARD_APART)
+    live_of_stages(alloc, FORTY_DEMANDS)
 }
 
 /// The live graph of two stations, a feed whose tokens come 4 later, and a station that gives its token back to itself

@@ -1,5 +1,4 @@
 mod new_disk;
-mod of_checkpoint;
 mod of_file_disk;
 mod of_line_disk;
 mod of_slot_store;

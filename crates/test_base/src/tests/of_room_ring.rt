@@ -2,7 +2,7 @@ ghost use Rattle.std.specs.Prelude.{◌≡◌, []};
 
 use crate::tests::same::same;
 use line_base::Date;
-use room_ring::{Full, RoomPut, RoomTake, meet, room_ring};
+use room_ring::{Full, RoomPut, RoomTake, room_ring};
 use std::process::Abort;
 use std::test::Fail;
 use std::thread;
@@ -26,35 +26,6 @@ fn a_full_ring_refuses_until_a_token_is_taken(rt: HostRuntime) -> Result<(), Fai
     gives(&rt, &mut take, &[5, 7]);
     same(&rt, put.space(), 0);
     same(&rt, put.look(), 2);
-    drop(put);
-    drop(take);
-    Ok(())
-}
-
-#[test]
-fn a_token_taken_is_room_for_another_after_a_meeting(rt: HostRuntime) -> Result<(), Fail> {
-    let (mut put, mut take) = room_ring(rt.alloc(), &[0], 2)?;
-    same(&rt, put.put(4), Ok(()));
-    same(&rt, put.put(9), Err(Full));
-    same(&rt, take.take(), Some(0));
-    meet(&mut put, &mut take);
-    same(&rt, put.put(9), Ok(()));
-    meet(&mut put, &mut take);
-    gives(&rt, &mut take, &[4, 9]);
-    drop(put);
-    drop(take);
-    Ok(())
-}
-
-#[test]
-fn a_meeting_tells_both_ends(rt: HostRuntime) -> Result<(), Fail> {
-    let (mut put, mut take) = room_ring(rt.alloc(), &[1, 2], 3)?;
-    same(&rt, put.put(3), Ok(()));
-    same(&rt, take.take(), Some(1));
-    same(&rt, take.known(), 1);
-    meet(&mut put, &mut take);
-    same(&rt, take.known(), 2);
-    same(&rt, put.space(), 1);
     drop(put);
     drop(take);
     Ok(())

@@ -73,28 +73,6 @@ fn is_whole(rt: &impl Abort, (whole, text): &(bool, Vec<u8>)) {
 
 #[test]
 fn a_report_begins_anew(rt: HostRuntime) -> Result<(), Fail> {
-    begins_anew(&rt, rt.alloc(), 1)
-}
-
-#[test]
-fn several_workers_write_the_same_report(rt: HostRuntime) -> Result<(), Fail> {
+    begins_anew(&rt, rt.alloc(), 1)?;
     begins_anew(&rt, rt.alloc(), 3)
-}
-
-#[test]
-fn a_summary_tells_the_sizes_and_the_sum_of_the_dates(rt: HostRuntime) -> Result<(), Fail> {
-    let mut report = report_of_two_stages(&rt, rt.alloc(), 1)?;
-    let mut sink = got(
-        &rt,
-        MemSink::new(rt.alloc(), 1_000, Vec::new(rt.alloc()), 0),
-    );
-    assert!(rt; report.write_summary(&mut sink).is_ok());
-    let sizes = "stations 6\njobs 3\nfirings 18\nsum 105\n";
-    let rest = "peak cut 1 of 1\npeak weld 1 of 1\nwaiting 9\nlast 15\n";
-    assert!(rt; sink.written().starts_with(sizes.as_bytes()));
-    assert!(rt; sink.written().ends_with(rest.as_bytes()));
-    same(&rt, sink.written().len(), sizes.len() + rest.len());
-    drop(sink);
-    drop(report);
-    Ok(())
 }

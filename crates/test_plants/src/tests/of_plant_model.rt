@@ -7,8 +7,6 @@ use plant_check::check;
 use plant_model::{Machine, Plant, Policy, Stage};
 use std::alloc::Global;
 use std::process::Abort;
-use std::test::Fail;
-use test_samples::two_stages;
 
 /// What may differ from the sound plant: stage `cut`, which feeds stage `weld`, with a machine `m` each.
 #[derive(Clone, Copy)]
@@ -68,12 +66,9 @@ fn numbers_of(rt: &impl Abort, alloc: Global, numbers: &[u64]) -> Items<u64> {
     Items::from_vec(got(rt, Vec::from_slice(alloc, numbers)))
 }
 
-/// The text of the refusal of these parts, or `sound`.
-fn said_of(rt: &impl Abort, alloc: Global, parts: &Parts) -> String {
-    let plant = plant_of(rt, alloc, parts);
-    let checked = check(alloc, &plant);
-    drop(plant);
-    match checked {
+/// The text of the refusal of a plant, or `sound`.
+fn said_of(rt: &impl Abort, alloc: Global, plant: &Plant) -> String {
+    match check(alloc, plant) {
         Ok(()) => got(rt, String::from_str(alloc, "sound")),
         Err(error) => {
             let text = format!(in alloc; "{error}");
@@ -83,74 +78,59 @@ fn said_of(rt: &impl Abort, alloc: Global, parts: &Parts) -> String {
     }
 }
 
-/// Asserts what is said of these parts.
-fn says(rt: &impl Abort, alloc: Global, parts: &Parts, line: &str) {
-    same(rt, said_of(rt, alloc, parts).as_str(), line);
-}
-
-#[test]
-fn a_sound_plant_is_accepted(rt: HostRuntime) {
-    says(&rt, rt.alloc(), &SOUND, "sound");
-}
-
-#[test]
-fn names_are_refused_at_their_place(rt: HostRuntime) {
-    let bad = Parts {
-        names: [b"cut", b"feed"],
-        ..SOUND
-    };
-    says(&rt, rt.alloc(), &bad, "bad name: stage[2].name");
-    let twice = Parts {
-        names: [b"cut", b"cut"],
-        ..SOUND
-    };
-    says(&rt, rt.alloc(), &twice, "name twice: stage[2].name");
-}
-
-#[test]
-fn numbers_are_refused_at_their_place(rt: HostRuntime) {
-    let late = Parts {
-        times: &[3, 1_000_000_001],
-        ..SOUND
-    };
-    says(
-        &rt,
-        rt.alloc(),
-        &late,
+/// Each of these parts, and what is said of their plant.
+const SAID: [(Parts, &str); 7] = [
+    (SOUND, "sound"),
+    (
+        Parts {
+            names: [b"cut", b"feed"],
+            ..SOUND
+        },
+        "bad name: stage[2].name",
+    ),
+    (
+        Parts {
+            names: [b"cut", b"cut"],
+            ..SOUND
+        },
+        "name twice: stage[2].name",
+    ),
+    (
+        Parts {
+            times: &[3, 1_000_000_001],
+            ..SOUND
+        },
         "out of range: stage[1].machine[1].times[2]",
-    );
-    let empty = Parts {
-        demands: &[],
-        ..SOUND
-    };
-    says(&rt, rt.alloc(), &empty, "out of range: demands");
-}
-
-#[test]
-fn stages_that_feed_wrongly_are_refused_at_their_place(rt: HostRuntime) {
-    let own = Parts {
-        feeds: Some(0),
-        ..SOUND
-    };
-    says(
-        &rt,
-        rt.alloc(),
-        &own,
+    ),
+    (
+        Parts {
+            demands: &[],
+            ..SOUND
+        },
+        "out of range: demands",
+    ),
+    (
+        Parts {
+            feeds: Some(0),
+            ..SOUND
+        },
         "feeds no later stage: stage[1].feeds",
-    );
-    let none = Parts {
-        feeds: None,
-        ..SOUND
-    };
-    says(&rt, rt.alloc(), &none, "two final stages: stage[1]");
-}
+    ),
+    (
+        Parts {
+            feeds: None,
+            ..SOUND
+        },
+        "two final stages: stage[1]",
+    ),
+];
 
 #[test]
-fn a_sound_plant_tells_its_line(rt: HostRuntime) -> Result<(), Fail> {
-    let plant = two_stages(rt.alloc())?;
-    assert!(rt; plant.stages.len() == 2);
-    same(&rt, [plant.next(0), plant.next(1)], [Some(1), None]);
-    same(&rt, [plant.starting(0), plant.starting(1)], [1, 1]);
-    drop(plant);
-    Ok(())
+fn plants_are_refused_at_their_first_fault(rt: HostRuntime) {
+    for (parts, line) in &SAID {
+        let plant = plant_of(&rt, rt.alloc(), parts);
+        let said = said_of(&rt, rt.alloc(), &plant);
+        drop(plant);
+        same(&rt, said.as_str(), *line);
+    }
 }

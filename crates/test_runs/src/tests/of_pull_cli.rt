@@ -45,29 +45,13 @@ end
 
 /// The report of the two stages with a card each and three demands.
 const REPORT: &str = "\
-feed 1 0
-feed 2 2
-feed 3 4
-cut 1 0
-cut 2 5
-cut 3 10
-cut.saw 1 3
-cut.saw 2 8
-cut.saw 3 13
-weld 1 0
-weld 2 5
-weld 3 10
-weld.torch 1 5
-weld.torch 2 10
-weld.torch 3 15
-deliver 1 0
-deliver 2 5
-deliver 3 10
-peak cut 1 of 1
-peak weld 1 of 1
-waiting 9
-last 15
-";
+  feed 1 0\nfeed 2 2\nfeed 3 4\n\
+  cut 1 0\ncut 2 5\ncut 3 10\n\
+  cut.saw 1 3\ncut.saw 2 8\ncut.saw 3 13\n\
+  weld 1 0\nweld 2 5\nweld 3 10\n\
+  weld.torch 1 5\nweld.torch 2 10\nweld.torch 3 15\n\
+  deliver 1 0\ndeliver 2 5\ndeliver 3 10\n\
+  peak cut 1 of 1\npeak weld 1 of 1\nwaiting 9\nlast 15\n";
 
 /// The words of a line.
 fn words_of(alloc: Global, line: &str) -> Result<Vec<String>, AllocError> {

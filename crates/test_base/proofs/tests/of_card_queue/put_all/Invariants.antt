@@ -3,7 +3,6 @@ use Rattle.test_base.proofs.tests.of_card_queue.put_all.Given as goal
 
 abbrev pub invariant-loop-n : goal.invariant-loop-n
 invariant-loop-n l = record {
-  ring : l.put.ring ≡ l.initial.put.ring;
   room : l.put.room ≡ l.initial.put.room;
   added : length l.put.added ≡ length l.initial.put.added + l.n;
 }

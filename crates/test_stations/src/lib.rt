@@ -1,7 +1,0 @@
-//! What no case file reaches, of single stations and of what is asked of a graph: each public call once, with its answer
-//! compared. There is a module of `tests` for each crate below, named `of_` and the crate; the other crates are in `calls`,
-//! `test_plants`, `test_runs` and `test_saving`.
-#![tactic(auto)]
-
-#[cfg(test)]
-mod tests;
