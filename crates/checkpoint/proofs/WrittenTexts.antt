@@ -1,32 +1,65 @@
 -- Texts that are written part by part: what is written, with what is left, is the whole.
-use Rattle.std.proofs.Common.{◌≡◌, ℕ, ◌+◌, ◌<◌, ◌≤◌, List, [], ◌∷◌, ◌++◌, length, drop, get_or, cond, filter, sym, ap, ◌∙◌, refl, append_assoc, append-nil, map-id, arith}
+use Rattle.std.proofs.Common.{◌≡◌, ℕ, suc, ◌+◌, ◌-◌, ◌<◌, ◌≤◌, List, [], ◌∷◌, ◌++◌, length, drop, get_or, cond, filter, sym, ap, ◌∙◌, refl, append_assoc, append-nil, arith}
 use Rattle.std.specs.Prelude.{codes, decimal, nat_lt, Result, Ok, Err, is_ok, IfOk, ⊤}
 use Rattle.std.proofs.lemmas.Bool.{lt-ltb, le-ltb}
 use Rattle.std.specs.List.{flat_map, range_with_len}
 use Rattle.std.proofs.lemmas.List.{drop_more, get_or-drop, drop-drop, drop_all}
 use Rattle.std.proofs.lemmas.List.Concat.{flat_map-append}
 use Rattle.std.proofs.lemmas.List.Elements.{filter-append}
-use Rattle.std.proofs.lemmas.List.FromFn.{map-range_with_len_more, get_or-map-range_with_len, length-map-range_with_len}
+use Rattle.std.proofs.lemmas.List.FromFn.{get_or-map-range_with_len, length-map-range_with_len}
 use Rattle.line_core.specs.Parts.{list_at}
 use Rattle.checkpoint.specs.declared.format.Format.{Format}
+use Rattle.checkpoint.specs.declared.format.Format.TheVariants.{Differences}
 use Rattle.line_base.specs.declared.event.Parts.{Parts}
 use Rattle.line_base.proofs.RangeLists.{range-more}
 use Rattle.event_graph.specs.Network.{arc_count, delay, stations, label}
 use Rattle.checkpoint.specs.Text.{date_word, date_words, dates_text, delayed_arcs, delay_words, delays_line, station_words, place_words, station_lines, place_lines, Line, Fixed, Dated, filled}
+use Rattle.checkpoint.specs.Writing.{date_before, words_from}
 
--- one more date
-pub words_step : (format : Format) (written spaced dated whole : List ℕ) (before date : ℕ) (dates : List ℕ) → written ++ date_words format before (date ∷ dates) ≡ whole → spaced ≡ written ++ codes " " → dated ≡ spaced ++ date_word format before date → dated ++ date_words format date dates ≡ whole
-unfolding date_words
-words_step format written spaced dated whole before date dates h space word =
-    ap (λ l. l ++ date_words format date dates) (word ∙ ap (λ l. l ++ date_word format before date) space)
-    ∙ append_assoc (written ++ codes " ") (date_word format before date) (date_words format date dates)
-    ∙ append_assoc written (codes " ") (date_word format before date ++ date_words format date dates)
-    ∙ h
+-- the word of a date that is earlier than the one before it
+pub word-earlier : (before date : ℕ) → date < before → date_word Differences before date ≡ codes "-" ++ decimal (before - date)
+word-earlier before date early =
+    ap (λ b. cond b (codes "-" ++ decimal (before - date)) (decimal (date - before))) (lt-ltb date before early)
+
+-- and of one that isn't
+pub word-later : (before date : ℕ) → before ≤ date → date_word Differences before date ≡ decimal (date - before)
+word-later before date late =
+    ap (λ b. cond b (codes "-" ++ decimal (before - date)) (decimal (date - before))) (le-ltb date before late)
+
+-- the words of all dates
+pub words_from-all : (dates : List ℕ) → words_from dates 0 ≡ date_words Differences 0 dates
+unfolding words_from
+words_from-all dates = refl
 
 -- no date is left
-pub words_end : (format : Format) (written whole : List ℕ) (before : ℕ) → written ++ date_words format before [] ≡ whole → written ≡ whole
-unfolding date_words
-words_end format written whole before h = sym (append-nil written) ∙ h
+pub words_from-none : (dates : List ℕ) (k : ℕ) → length dates ≤ k → words_from dates k ≡ []
+unfolding words_from date_words
+words_from-none dates k past = ap (date_words Differences (date_before dates k)) (drop_all k dates past)
+
+-- the next date follows this one
+before-next : (dates : List ℕ) (k : ℕ) → date_before dates (k + 1) ≡ get_or dates k 0
+before-next dates k =
+    let next : k + 1 ≡ suc k = omega arith in
+    ap (date_before dates) next
+
+-- the word of date number k, and those of the dates behind it
+pub words_from-next : (dates : List ℕ) (k j : ℕ) → k + 1 ≡ j → k < length dates → words_from dates k ≡ codes " " ++ (date_word Differences (date_before dates k) (get_or dates k 0) ++ words_from dates j)
+unfolding words_from date_words
+words_from-next dates k j next low =
+    let word = date_word Differences (date_before dates k) (get_or dates k 0) in
+    ap (date_words Differences (date_before dates k)) (drop_more dates k 0 low)
+    ∙ ap (λ b. codes " " ++ (word ++ date_words Differences b (drop (k + 1) dates))) (sym (before-next dates k))
+    ∙ ap (λ n. codes " " ++ (word ++ words_from dates n)) next
+
+-- one more word is written in front of those of the dates behind it
+pub words_before : (dates : List ℕ) (k j to before : ℕ) (ended worded spaced : List ℕ) → k + 1 ≡ j → k < length dates → before ≡ date_before dates k → ended ++ words_from dates to ≡ words_from dates j → worded ≡ date_word Differences before (get_or dates k 0) ++ ended → spaced ≡ codes " " ++ worded → spaced ++ words_from dates to ≡ words_from dates k
+words_before dates k j to before ended worded spaced next low is rest word space =
+    let last = words_from dates to in
+    let text = date_word Differences (date_before dates k) (get_or dates k 0) in
+    ap (λ l. l ++ last) (space ∙ ap (λ l. codes " " ++ l) (word ∙ ap (λ b. date_word Differences b (get_or dates k 0) ++ ended) is))
+    ∙ append_assoc (codes " ") (text ++ ended) last
+    ∙ ap (λ l. codes " " ++ l) (append_assoc text ended last ∙ ap (λ l. text ++ l) rest)
+    ∙ sym (words_from-next dates k j next low)
 
 -- the number of the dates, their words, and the end of the line
 pub dates_written : (format : Format) (start counted written ended : List ℕ) (dates : List ℕ) → counted ≡ start ++ decimal (length dates) → written ≡ counted ++ date_words format 0 dates → ended ≡ written ++ codes "\n" → ended ≡ start ++ dates_text format dates
@@ -36,10 +69,6 @@ dates_written format start counted written ended dates count words end =
     ∙ ap (λ l. l ++ codes "\n") (words ∙ ap (λ l. l ++ date_words format 0 dates) count)
     ∙ append_assoc (start ++ decimal (length dates)) (date_words format 0 dates) (codes "\n")
     ∙ append_assoc start (decimal (length dates)) (date_words format 0 dates ++ codes "\n")
-
--- the words of the dates from number i on
-pub words_at : (format : Format) (before : ℕ) (dates : List ℕ) (i : ℕ) → i < length dates → date_words format before (drop i dates) ≡ date_words format before (get_or dates i 0 ∷ drop (i + 1) dates)
-words_at format before dates i low = ap (date_words format before) (drop_more dates i 0 low)
 
 -- the lines from number k on, where this one has dates
 pub filled_at : (format : Format) (lns : List Line) (lists : List (List ℕ)) (k : ℕ) (words : List ℕ) → k < length lns → get_or lns k (Fixed []) ≡ Dated words → filled format (drop k lns) (drop k lists) ≡ words ++ (dates_text format (list_at lists k) ++ filled format (drop (k + 1) lns) (drop (k + 1) lists))

@@ -9,6 +9,7 @@ mod log;
 mod read;
 mod reader;
 mod tokens;
+mod word_room;
 mod words;
 mod writer;
 

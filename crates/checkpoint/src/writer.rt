@@ -1,64 +1,56 @@
-ghost use Rattle.std.specs.Prelude.{◌≡◌, ◌≢◌, true, false, ◌++◌, ◌<◌, [], length, map, decimal, IfOk};
-ghost use Rattle.checkpoint.specs.Text.{date_word, dates_text, delayed_arcs, delays_line, two_words, station_lines, place_lines, filled, text};
+ghost use Rattle.std.specs.Prelude.{◌≡◌, ◌≢◌, true, false, ◌++◌, ◌<◌, [], length, decimal, IfOk};
+ghost use Rattle.checkpoint.specs.Text.{dates_text, delayed_arcs, delays_line, two_words, station_lines, place_lines, filled, text};
 ghost use Rattle.checkpoint.specs.declared.format.Format.TheVariants.{Differences};
 ghost use Rattle.event_graph.specs.Network.{stations, arc_count};
+ghost use Rattle.line_core.specs.Run.{IsReached};
 
-use event_graph::{Graph, Marking};
-use line_base::{Date, digits};
+use crate::word_room::put_words;
+use event_graph::Graph;
+use itoa::Buffer;
+use line_base::Date;
 use line_core::{State, Tokens};
 use live_check::Live;
 use std::alloc::{AllocError, Global};
+
+/// About how many bytes the line of a station or of an arc takes beside the dates of its log.
+const LIKELY_LINE: usize = 128;
 
 /// Writes a number in decimal at the end of a text.
 fn put_number(text: &mut Vec<u8>, number: u64) -> Result<(), AllocError>
     ensures { IfOk result (λ _. text.new.items ≡ text.old.items ++ decimal number) }
 {
-    let mut buffer = [0; 40];
-    let count = digits(u128::from(number), &mut buffer);
-    text.extend_from_slice(&buffer[..count as usize])
+    let mut digits = Buffer::new();
+    text.extend_from_slice(digits.format(number).as_bytes())
 }
 
-/// Writes the word of a date that follows another one at the end of a text.
-fn put_date(text: &mut Vec<u8>, before: Date, date: Date) -> Result<(), AllocError>
-    ensures { IfOk result
-        (λ _. text.new.items ≡ text.old.items ++ date_word Differences before date) }
-{
-    if date < before {
-        text.extend_from_slice(b"-")?;
-        return put_number(text, before - date);
-    }
-    put_number(text, date - before)
-}
-
-/// Writes how many dates a log has, the dates, and the end of the line.
+/// Writes how many dates there are, the dates, and the end of the line.
 fn put_log(text: &mut Vec<u8>, dates: &[Date]) -> Result<(), AllocError>
     ensures { IfOk result
         (λ _. text.new.items ≡ text.old.items ++ dates_text Differences dates.now) }
 {
     put_number(text, dates.len() as u64)?;
-    let mut before = 0;
-    for date in dates {
-        text.extend_from_slice(b" ")?;
-        put_date(text, before, *date)?;
-        before = *date;
-    }
+    put_words(text, dates)?;
     text.extend_from_slice(b"\n")
 }
 
-/// Writes how many tokens a place has, their dates, and the end of the line.
-fn put_tokens(text: &mut Vec<u8>, count: u32, tokens: Tokens) -> Result<(), AllocError>
-    requires { count ≡ length tokens }
+/// Puts the dates of tokens into a list, in place of those that were there.
+fn gather(dates: &mut Vec<Date>, tokens: Tokens) -> Result<(), AllocError>
+    ensures { IfOk result (λ _. dates.new.items ≡ tokens.entry) }
+{
+    dates.clear();
+    for date in tokens {
+        dates.push(date)?;
+    }
+    Ok(())
+}
+
+/// Writes how many tokens a place has, their dates, and the end of the line. The dates are gathered in a list first.
+fn put_tokens(text: &mut Vec<u8>, dates: &mut Vec<Date>, tokens: Tokens) -> Result<(), AllocError>
     ensures { IfOk result
         (λ _. text.new.items ≡ text.old.items ++ dates_text Differences tokens.entry) }
 {
-    put_number(text, u64::from(count))?;
-    let mut before = 0;
-    for date in tokens {
-        text.extend_from_slice(b" ")?;
-        put_date(text, before, date)?;
-        before = date;
-    }
-    text.extend_from_slice(b"\n")
+    gather(dates, tokens)?;
+    put_log(text, dates.as_slice())
 }
 
 /// How many arcs have a delay above 0.
@@ -125,25 +117,48 @@ fn put_stations(text: &mut Vec<u8>, graph: &Graph, state: &State) -> Result<(), 
 /// Writes a line for each arc: its number, and its place.
 fn put_places(
     text: &mut Vec<u8>,
+    alloc: Global,
     live: &Live,
     state: &State,
-    marking: &Marking,
 ) -> Result<(), AllocError>
-    requires made_for { live.now.graph ≡ state.now.graph }
-    requires lengths { marking.now ≡ map (λ tokens. length tokens) state.now.state.places }
-    requires a_place_each { length state.now.state.places ≡ arc_count live.now.graph }
+    requires { live.now.graph ≡ state.now.graph }
     ensures { IfOk result (λ _. text.new.items
         ≡ text.old.items
         ++ filled Differences (place_lines live.now.graph) state.now.state.places) }
 {
-    let counts = marking.as_slice();
+    let mut dates = Vec::new(alloc);
     for a in 0..live.graph().arcs().len() as u32 {
         text.extend_from_slice(b"place ")?;
         put_number(text, u64::from(a))?;
         text.extend_from_slice(b" ")?;
-        put_tokens(text, counts[a as usize], state.place(live, a))?;
+        put_tokens(text, &mut dates, state.place(live, a))?;
     }
     Ok(())
+}
+
+/// About how many digits the differences of a log's dates have: each as many as the mean one.
+fn likely_digits(dates: &[Date]) -> usize {
+    let last = dates.last().copied().unwrap_or(0);
+    let mean = last / (dates.len() as u64).max(1);
+    let mut digits = Buffer::new();
+    digits.format(mean).len().saturating_mul(dates.len())
+}
+
+/// About how many bytes the text of a state takes, so that it is seldom moved as it grows. For each date that is the space,
+/// its digits, and one more.
+fn likely_size(graph: &Graph, state: &State) -> usize
+    requires { state.now.graph ≡ graph.now }
+    ensures reached { IsReached state.now }
+{
+    let lines = graph.arcs().len().saturating_add(graph.stations() as usize);
+    let dates = state.fired() as usize;
+    let mut size = lines
+        .saturating_mul(LIKELY_LINE)
+        .saturating_add(dates.saturating_mul(2));
+    for t in 0..graph.stations() {
+        size = size.saturating_add(likely_digits(state.log(t)));
+    }
+    size
 }
 
 /// The text of a state in format 2: the number of the format, the delays of the arcs, the log of each station, the place
@@ -154,13 +169,12 @@ pub fn write_state(alloc: Global, live: &Live, state: &State) -> Result<Vec<u8>,
     ensures text { IfOk result
         (λ bytes. bytes.items ≡ text Differences state.now.graph state.now.state) }
 {
-    let marking = state.marking(live)?;
     let graph = live.graph();
-    let mut text = Vec::new(alloc);
+    let mut text = Vec::with_capacity(alloc, likely_size(graph, state))?;
     text.extend_from_slice(b"pull-checkpoint 2\n")?;
     put_delays(&mut text, graph)?;
     put_stations(&mut text, graph, state)?;
-    put_places(&mut text, live, state, &marking)?;
+    put_places(&mut text, alloc, live, state)?;
     text.extend_from_slice(b"end\n")?;
     Ok(text)
 }

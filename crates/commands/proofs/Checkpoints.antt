@@ -16,9 +16,11 @@ module _ (line : LivePlant) (is : IsLivePlant line) where
   pub fits_limit : FitsLimit (graph line.plant)
   fits_limit =
       let g = graph line.plant in
-      texts_fit g (IsGraph-graph line.plant is.sound) (IsWithinLimits-graph line.plant is.sound) (few_arcs-graph line.plant is.sound)
+      texts_fit g (IsGraph-graph line.plant is.sound) (IsWithinLimits-graph line.plant is.sound)
+      (few_arcs-graph line.plant is.sound)
       (short_labels g is.labels)
 
   -- so a slot has room for each
   pub never_too_long : (have : ℕ) → HasTooLongState (graph line.plant) most_checkpoint_bytes have → ⊥
-  never_too_long have long = omega (arith, long.over.have_is, long.over.over, fits_limit Differences long.state long.reached)
+  never_too_long have long =
+      omega (arith, long.over.have_is, long.over.over, fits_limit Differences long.state long.reached)

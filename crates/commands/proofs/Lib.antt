@@ -1,6 +1,12 @@
 pub mod Actions
-pub mod Asking
+pub mod CardAnswers
 pub mod Checkpoints
+pub mod CycleAnswers
+pub mod DateAnswers
+pub mod EditAnswers
+pub mod LeastTables
+pub mod OrNoMemory
 pub mod Resumings
+pub mod ScheduleAnswers
 pub mod SlotRuns
 pub mod Stops

@@ -1,5 +1,6 @@
 -- A run of a plant that goes on from what was saved.
-use Rattle.std.proofs.Common.{◌≡◌, ◌⊎◌, ℕ, ◌≤◌, Bool, List, [], Option, None, Some, IsTrue, refl, ap, sym, ◌∙◌, subst, inl, inr, ⊎_elim}
+use Rattle.std.proofs.Common.{◌≡◌, ◌⊎◌, ℕ, ◌≤◌, Bool, List, [], Option, None, Some, IsTrue, refl, ap, sym, ◌∙◌, subst}
+use Rattle.std.proofs.Common.{inl, inr, ⊎_elim}
 use Rattle.std.specs.Prelude.{Result, Ok, Err, IfErr}
 use Rattle.checkpoint.specs.declared.error.CheckpointError.{CheckpointError}
 use Rattle.checkpoint.specs.declared.error.CheckpointError.TheVariants as error
@@ -25,7 +26,8 @@ use Rattle.live_plant.specs.Outside.{StoreOver}
 use Rattle.commands.proofs.Actions.{uses_disk}
 use Rattle.commands.proofs.Stops.{reported_caused}
 use Rattle.commands.specs.Reports.{IsReport, IsNoCheckpoint, IsResumed}
-use Rattle.commands.specs.Saving.{NamesStationOf, IsResumeRefusal, IsResumedOf, ResumesSaved, ResumesSlots as SlotsResume}
+use Rattle.commands.specs.Saving.{NamesStationOf, IsResumeRefusal, IsResumedOf, ResumesSaved}
+use Rattle.commands.specs.Saving.{ResumesSlots as SlotsResume}
 use Rattle.answers.specs.declared.answer.Answer.{Answer}
 
 -- ---- a text
@@ -51,7 +53,9 @@ refused_names g bytes e resumes = names_station g bytes e resumes.refused
 abbrev pub refused_with : Refusal → Result Answer Refusal
 refused_with refusal = Err refusal
 
-no_checkpoint : (p : Plant) (bytes : List ℕ) (e : CheckpointError) (answer : Result Answer Refusal) → Resumes (graph p) bytes (Err e) → IsRefusal e → answer ≡ Err (checkpoint_refusal (graph p) e) → IsNoCheckpoint p bytes answer
+no_checkpoint : (p : Plant) (bytes : List ℕ) (e : CheckpointError) (answer : Result Answer Refusal) →
+    Resumes (graph p) bytes (Err e) → IsRefusal e → answer ≡ Err (checkpoint_refusal (graph p) e) →
+    IsNoCheckpoint p bytes answer
 no_checkpoint p bytes e answer resumes is says = record {
   error = e;
   tells = resumes.refused;
@@ -60,17 +64,23 @@ no_checkpoint p bytes e answer resumes is says = record {
 }
 
 -- a text is refused
-pub refuses : (p : Plant) (g : Parts) (bytes : List ℕ) (e : CheckpointError) (refusal : Refusal) → g ≡ graph p → Resumes g bytes (Err e) → (refusal ≡ NoMemory) ⊎ (refusal ≡ checkpoint_refusal g e) → IsResumed p bytes (Err refusal) ⊎ (refused_with refusal ≡ Err NoMemory)
+pub refuses : (p : Plant) (g : Parts) (bytes : List ℕ) (e : CheckpointError) (refusal : Refusal) → g ≡ graph p →
+    Resumes g bytes (Err e) → (refusal ≡ NoMemory) ⊎ (refusal ≡ checkpoint_refusal g e) →
+    IsResumed p bytes (Err refusal) ⊎ (refused_with refusal ≡ Err NoMemory)
 refuses p g bytes e refusal same resumes (inl none) = inr (ap refused_with none)
 refuses p g bytes e refusal same resumes (inr is) =
-    let says : refusal ≡ checkpoint_refusal (graph p) e = subst (λ (h : Parts). refusal ≡ checkpoint_refusal h e) same is in
+    let says : refusal ≡ checkpoint_refusal (graph p) e =
+    subst (λ (h : Parts). refusal ≡ checkpoint_refusal h e) same is in
     ⊎_elim
     (λ (none : e ≡ error.NoMemory). inr (ap refused_with (says ∙ ap (checkpoint_refusal (graph p)) none)))
-    (λ (other : IsRefusal e). inl (inr (no_checkpoint p bytes e (refused_with refusal) (subst (λ (h : Parts). Resumes h bytes (Err e)) same resumes) other (ap refused_with says))))
+    (λ (other : IsRefusal e). inl (inr (no_checkpoint p bytes e (refused_with refusal)
+    (subst (λ (h : Parts). Resumes h bytes (Err e)) same resumes) other (ap refused_with says))))
     (refusal_or_none e)
 
 -- a text is resumed
-pub resumes : (p : Plant) (g : Parts) (bytes : List ℕ) (d : Dates) (answer : Result Answer Refusal) → g ≡ graph p → Resumes g bytes (Ok d) → IsReport p answer ⊎ (answer ≡ Err NoMemory) → IsResumed p bytes answer ⊎ (answer ≡ Err NoMemory)
+pub resumes : (p : Plant) (g : Parts) (bytes : List ℕ) (d : Dates) (answer : Result Answer Refusal) → g ≡ graph p →
+    Resumes g bytes (Ok d) → IsReport p answer ⊎ (answer ≡ Err NoMemory) →
+    IsResumed p bytes answer ⊎ (answer ≡ Err NoMemory)
 resumes p g bytes d answer same of_text (inl report) =
     inl (inl (subst (λ (h : Parts). IsCheckpoint h bytes) same of_text.reached, report))
 resumes p g bytes d answer same of_text (inr none) = inr none
@@ -78,25 +88,32 @@ resumes p g bytes d answer same of_text (inr none) = inr none
 -- ---- slots
 
 -- what was saved, where a line went on from it
-saved_resumes : (p : Plant) (g : Parts) (saved : Option (List ℕ)) (d : Dates) (answer : Result Answer Refusal) → g ≡ graph p → AnswersSaved g saved (Ok d) → IsReport p answer → IsResumedOf p saved answer
+saved_resumes : (p : Plant) (g : Parts) (saved : Option (List ℕ)) (d : Dates) (answer : Result Answer Refusal) →
+    g ≡ graph p → AnswersSaved g saved (Ok d) → IsReport p answer → IsResumedOf p saved answer
 saved_resumes p g None d answer same answers report = absurd answers
-saved_resumes p g (Some bytes) d answer same answers report = inl (subst (λ (h : Parts). IsCheckpoint h bytes) same answers.reached, report)
+saved_resumes p g (Some bytes) d answer same answers report =
+    inl (subst (λ (h : Parts). IsCheckpoint h bytes) same answers.reached, report)
 
 -- the table of slots
 pub slots_least : (g : Parts) (saved : Option (List ℕ)) (d : Dates) → AnswersSaved g saved (Ok d) → IsLeastOf g d
 slots_least g None d answers = absurd answers
 slots_least g (Some bytes) d answers = answers.least
 
-pub saved_names : (g : Parts) (saved : Option (List ℕ)) (e : CheckpointError) → AnswersSaved g saved (Err (Checkpoint e)) → NamesStation g e
+pub saved_names : (g : Parts) (saved : Option (List ℕ)) (e : CheckpointError) →
+    AnswersSaved g saved (Err (Checkpoint e)) → NamesStation g e
 saved_names g None e answers = absurd answers
 saved_names g (Some bytes) e answers = refused_names g bytes e answers
 
-saved_refuses : (p : Plant) (g : Parts) (saved : Option (List ℕ)) (e : CheckpointError) (refusal : Refusal) → g ≡ graph p → AnswersSaved g saved (Err (Checkpoint e)) → (refusal ≡ NoMemory) ⊎ (refusal ≡ checkpoint_refusal g e) → IsResumedOf p saved (Err refusal) ⊎ (refused_with refusal ≡ Err NoMemory)
+saved_refuses : (p : Plant) (g : Parts) (saved : Option (List ℕ)) (e : CheckpointError) (refusal : Refusal) →
+    g ≡ graph p → AnswersSaved g saved (Err (Checkpoint e)) →
+    (refusal ≡ NoMemory) ⊎ (refusal ≡ checkpoint_refusal g e) →
+    IsResumedOf p saved (Err refusal) ⊎ (refused_with refusal ≡ Err NoMemory)
 saved_refuses p g None e refusal same answers is = absurd answers
 saved_refuses p g (Some bytes) e refusal same answers is = refuses p g bytes e refusal same answers is
 
 -- nothing is saved
-saved_nothing : (p : Plant) (g : Parts) (saved : Option (List ℕ)) → AnswersSaved g saved (Err resume_error.NothingSaved) → IsResumedOf p saved (Err NothingSaved)
+saved_nothing : (p : Plant) (g : Parts) (saved : Option (List ℕ)) →
+    AnswersSaved g saved (Err resume_error.NothingSaved) → IsResumedOf p saved (Err NothingSaved)
 saved_nothing p g None answers = refl
 saved_nothing p g (Some bytes) answers = absurd answers
 
@@ -106,7 +123,10 @@ pub record Loaded (tells : Bool) (old new : DiskView) : Type 0 where
   pub faults : old.faults ≤ new.faults
 
 module _ (tells : Bool) (old new : DiskView) (p : Plant) (loaded : Loaded tells old new) where
-  slots_do : (answer : Result Answer Refusal) → ((store : StoreOver) → IfErr answer (HasCause store (disk_over tells old new) [])) → ResumesSaved p (disk_over tells old new) answer ⊎ ((answer ≡ Err Disk) ⊎ (answer ≡ Err NoMemory)) → DoesOnDisk (disk_over tells old new) (SlotsResume p) answer
+  slots_do : (answer : Result Answer Refusal) →
+      ((store : StoreOver) → IfErr answer (HasCause store (disk_over tells old new) [])) →
+      ResumesSaved p (disk_over tells old new) answer ⊎ ((answer ≡ Err Disk) ⊎ (answer ≡ Err NoMemory)) →
+      DoesOnDisk (disk_over tells old new) (SlotsResume p) answer
   slots_do answer caused answers =
       uses_disk (disk_over tells old new) (SlotsResume p) answer loaded.faults caused
       (record { nothing = refl; stays = loaded.stays; answers = answers })
@@ -119,18 +139,32 @@ module _ (tells : Bool) (old new : DiskView) (p : Plant) (loaded : Loaded tells 
   slots_fault rose = slots_do (Err Disk) (λ store. rose) (inr (inl refl))
 
   module _ (g : Parts) (same : g ≡ graph p) where
-    pub slots_nothing : ResumesSlots tells old new most_checkpoint_bytes g (Err resume_error.NothingSaved) → DoesOnDisk (disk_over tells old new) (SlotsResume p) (Err NothingSaved)
+    pub slots_nothing : ResumesSlots tells old new most_checkpoint_bytes g (Err resume_error.NothingSaved) →
+        DoesOnDisk (disk_over tells old new) (SlotsResume p) (Err NothingSaved)
     slots_nothing of = slots_do (Err NothingSaved) (λ store. tt)
-        (inl (record { saved = of.saved; known = of.told; read = of.read tt; answers = saved_nothing p g of.saved of.answers }))
+        (inl (record {
+          saved = of.saved;
+          known = of.told;
+          read = of.read tt;
+          answers = saved_nothing p g of.saved of.answers;
+        }))
 
-    pub slots_report : (d : Dates) (answer : Result Answer Refusal) → ResumesSlots tells old new most_checkpoint_bytes g (Ok d) → IsReport p answer ⊎ (answer ≡ Err NoMemory) → DoesOnDisk (disk_over tells old new) (SlotsResume p) answer
+    pub slots_report : (d : Dates) (answer : Result Answer Refusal) →
+        ResumesSlots tells old new most_checkpoint_bytes g (Ok d) → IsReport p answer ⊎ (answer ≡ Err NoMemory) →
+        DoesOnDisk (disk_over tells old new) (SlotsResume p) answer
     slots_report d answer of is = slots_do answer (λ store. reported_caused store (disk_over tells old new) p answer is)
         (⊎_elim
-        (λ (report : IsReport p answer). inl (record { saved = of.saved; known = of.told; read = of.read tt; answers = saved_resumes p g of.saved d answer same of.answers report }))
+        (λ (report : IsReport p answer). inl (record {
+          saved = of.saved;
+          known = of.told;
+          read = of.read tt;
+          answers = saved_resumes p g of.saved d answer same of.answers report;
+        }))
         (λ (none : answer ≡ Err NoMemory). inr (inr none))
         is)
 
-    checkpoint_caused : (e : CheckpointError) (refusal : Refusal) (store : StoreOver) (disk : DiskOver) → (refusal ≡ NoMemory) ⊎ (refusal ≡ checkpoint_refusal g e) → HasCause store disk [] refusal
+    checkpoint_caused : (e : CheckpointError) (refusal : Refusal) (store : StoreOver) (disk : DiskOver) →
+        (refusal ≡ NoMemory) ⊎ (refusal ≡ checkpoint_refusal g e) → HasCause store disk [] refusal
     checkpoint_caused e refusal store disk (inl none) = subst (HasCause store disk []) (sym none) tt
     checkpoint_caused e refusal store disk (inr is) = subst (HasCause store disk []) (sym is) (refusal_caused e)
       where
@@ -142,21 +176,39 @@ module _ (tells : Bool) (old new : DiskView) (p : Plant) (loaded : Loaded tells 
         refusal_caused (error.PlaceDate a token have need) = tt
         refusal_caused error.NoMemory = tt
 
-    pub slots_refuse : (e : CheckpointError) (refusal : Refusal) → ResumesSlots tells old new most_checkpoint_bytes g (Err (Checkpoint e)) → (refusal ≡ NoMemory) ⊎ (refusal ≡ checkpoint_refusal g e) → DoesOnDisk (disk_over tells old new) (SlotsResume p) (Err refusal)
-    slots_refuse e refusal of is = slots_do (Err refusal) (λ store. checkpoint_caused e refusal store (disk_over tells old new) is)
+    pub slots_refuse : (e : CheckpointError) (refusal : Refusal) →
+        ResumesSlots tells old new most_checkpoint_bytes g (Err (Checkpoint e)) →
+        (refusal ≡ NoMemory) ⊎ (refusal ≡ checkpoint_refusal g e) →
+        DoesOnDisk (disk_over tells old new) (SlotsResume p) (Err refusal)
+    slots_refuse e refusal of is =
+        slots_do (Err refusal) (λ store. checkpoint_caused e refusal store (disk_over tells old new) is)
         (⊎_elim
-        (λ (answers : IsResumedOf p of.saved (Err refusal)). inl (record { saved = of.saved; known = of.told; read = of.read tt; answers = answers }))
+        (λ (answers : IsResumedOf p of.saved (Err refusal)). inl (record {
+          saved = of.saved;
+          known = of.told;
+          read = of.read tt;
+          answers = answers;
+        }))
         (λ (none : refused_with refusal ≡ Err NoMemory). inr (inr none))
         (saved_refuses p g of.saved e refusal same of.answers is))
 
-    pub slots_refused : (e : ResumeError) (refusal : Refusal) → ResumesSlots tells old new most_checkpoint_bytes g (Err e) → (e ≡ resume_error.DiskFault → Rose old.faults new.faults) → IsResumeRefusal g e refusal → DoesOnDisk (disk_over tells old new) (SlotsResume p) (Err refusal)
-    slots_refused resume_error.NothingSaved refusal of rose is = subst (λ (r : Refusal). DoesOnDisk (disk_over tells old new) (SlotsResume p) (Err r)) (sym is) (slots_nothing of)
-    slots_refused resume_error.DiskFault refusal of rose is = subst (λ (r : Refusal). DoesOnDisk (disk_over tells old new) (SlotsResume p) (Err r)) (sym is) (slots_fault (rose refl))
-    slots_refused resume_error.NoMemory refusal of rose is = subst (λ (r : Refusal). DoesOnDisk (disk_over tells old new) (SlotsResume p) (Err r)) (sym is) slots_no_memory
+    pub slots_refused : (e : ResumeError) (refusal : Refusal) →
+        ResumesSlots tells old new most_checkpoint_bytes g (Err e) →
+        (e ≡ resume_error.DiskFault → Rose old.faults new.faults) → IsResumeRefusal g e refusal →
+        DoesOnDisk (disk_over tells old new) (SlotsResume p) (Err refusal)
+    slots_refused resume_error.NothingSaved refusal of rose is =
+        subst (λ (r : Refusal). DoesOnDisk (disk_over tells old new) (SlotsResume p) (Err r)) (sym is)
+        (slots_nothing of)
+    slots_refused resume_error.DiskFault refusal of rose is =
+        subst (λ (r : Refusal). DoesOnDisk (disk_over tells old new) (SlotsResume p) (Err r)) (sym is)
+        (slots_fault (rose refl))
+    slots_refused resume_error.NoMemory refusal of rose is =
+        subst (λ (r : Refusal). DoesOnDisk (disk_over tells old new) (SlotsResume p) (Err r)) (sym is) slots_no_memory
     slots_refused (Checkpoint e) refusal of rose is = slots_refuse e refusal of is
 
 -- the station that an error of slots names
-pub slots_name : (g : Parts) (saved : Option (List ℕ)) (e : ResumeError) → AnswersSaved g saved (Err e) → NamesStationOf g e
+pub slots_name : (g : Parts) (saved : Option (List ℕ)) (e : ResumeError) → AnswersSaved g saved (Err e) →
+    NamesStationOf g e
 slots_name g saved resume_error.NothingSaved answers = tt
 slots_name g saved resume_error.DiskFault answers = tt
 slots_name g saved resume_error.NoMemory answers = tt

@@ -1,5 +1,6 @@
 -- A run of a plant that is asked to stop.
-use Rattle.std.proofs.Common.{◌≡◌, ◌⊎◌, ℕ, ◌<◌, ◌≤◌, Bool, List, [], length, refl, ap, sym, ◌∙◌, subst, inl, inr, arith, mul-pos, mul-zero}
+use Rattle.std.proofs.Common.{◌≡◌, ◌⊎◌, ℕ, ◌<◌, ◌≤◌, Bool, List, [], length, refl, ap, sym, ◌∙◌, subst, inl, inr, arith}
+use Rattle.std.proofs.Common.{mul-pos, mul-zero}
 use Rattle.std.specs.Prelude.{Result, Ok, Err, IfErr}
 use Rattle.std.proofs.lemmas.List.Folds.{sum_by-replicate}
 use Rattle.checkpoint.specs.declared.format.Format.TheVariants.{Differences}
@@ -57,24 +58,41 @@ pub fired_at_start : (g : Parts) (begun : State) → begun ≡ start g → fired
 fired_at_start g begun is = ap fired is ∙ none_fired g
 
 -- a run from the start that wasn't stopped
-pub short_of : (p : Plant) (g : Parts) (n : ℕ) → IsSound p → g ≡ graph p → (0 < all_firings g → IsShort g n 0) → IsShort (graph p) n 0
+pub short_of : (p : Plant) (g : Parts) (n : ℕ) → IsSound p → g ≡ graph p → (0 < all_firings g → IsShort g n 0) →
+    IsShort (graph p) n 0
 short_of p g n sound same counts =
-    subst (λ (h : Parts). (0 < all_firings h → IsShort h n 0) → IsShort (graph p) n 0) (sym same) (λ of. of (some_firings p sound)) counts
+    subst (λ (h : Parts). (0 < all_firings h → IsShort h n 0) → IsShort (graph p) n 0) (sym same)
+    (λ of. of (some_firings p sound)) counts
 
 -- ---- the first burst's end
 
 -- a run of a new line at the start ends at the first burst's end with n firings
-pub ends_at_first : (live : LiveGraph) (n workers : ℕ) (first : WorkLine) (o : Outcome) → Stands live (start live.graph) workers first → EndsFirst n first o → EndsAtFirst live.graph n workers o
+pub ends_at_first : (live : LiveGraph) (n workers : ℕ) (first : WorkLine) (o : Outcome) →
+    Stands live (start live.graph) workers first → EndsFirst n first o → EndsAtFirst live.graph n workers o
 ends_at_first live n workers first (Finished d) stands ends = record {
   last = ends.last;
-  led = record { live = live; graph_is = refl; first = first; begins = stands; count = ends.count; bursts = ends.bursts };
+  led = record {
+    live = live;
+    graph_is = refl;
+    first = first;
+    begins = stands;
+    count = ends.count;
+    bursts = ends.bursts;
+  };
   done = ends.done;
 }
 ends_at_first live n workers first (Stopped r) stands ends =
     let same : r.state ≡ ends.last.state = ap (λ (run : Run). run.state) ends.state in
     record {
       last = ends.last;
-      led = record { live = live; graph_is = refl; first = first; begins = stands; count = ends.count; bursts = ends.bursts };
+      led = record {
+        live = live;
+        graph_is = refl;
+        first = first;
+        begins = stands;
+        count = ends.count;
+        bursts = ends.bursts;
+      };
       state_is = same;
       enough = subst (λ (s : State). n ≤ fired s) (sym same) ends.enough;
     }
@@ -82,48 +100,81 @@ ends_at_first live n workers first (Stopped r) stands ends =
 -- ---- what comes of it
 
 -- a report needs no cause
-pub report_caused : (store : StoreOver) (disk : DiskOver) (p : Plant) (answer : Result Answer Refusal) → IsReport p answer → IfErr answer (HasCause store disk [])
+pub report_caused : (store : StoreOver) (disk : DiskOver) (p : Plant) (answer : Result Answer Refusal) →
+    IsReport p answer → IfErr answer (HasCause store disk [])
 report_caused store disk p (Ok output) is = tt
 report_caused store disk p (Err refusal) is = absurd is.written
 
-pub reported_caused : (store : StoreOver) (disk : DiskOver) (p : Plant) (answer : Result Answer Refusal) → IsReport p answer ⊎ (answer ≡ Err NoMemory) → IfErr answer (HasCause store disk [])
+pub reported_caused : (store : StoreOver) (disk : DiskOver) (p : Plant) (answer : Result Answer Refusal) →
+    IsReport p answer ⊎ (answer ≡ Err NoMemory) → IfErr answer (HasCause store disk [])
 reported_caused store disk p answer (inl is) = report_caused store disk p answer is
 reported_caused store disk p answer (inr none) = no_memory_caused store disk [] answer none
 
-end_answers : (p : Plant) (workers n : ℕ) (file : List ℕ) (answer : Result Answer Refusal) (disk : DiskOver) → disk.new ≡ disk.old → IsShort (graph p) n 0 → IsDoneFirst (graph p) n workers → IsReport p answer ⊎ (answer ≡ Err NoMemory) → RunsUntil p workers n file none_asked disk answer
+end_answers : (p : Plant) (workers n : ℕ) (file : List ℕ) (answer : Result Answer Refusal) (disk : DiskOver) →
+    disk.new ≡ disk.old → IsShort (graph p) n 0 → IsDoneFirst (graph p) n workers →
+    IsReport p answer ⊎ (answer ≡ Err NoMemory) → RunsUntil p workers n file none_asked disk answer
 end_answers p workers n file answer disk same short first (inl report) = record {
   untouched = same;
   answers = inr (inl (record { nothing = refl; first = first; short = short; report = report }));
 }
-end_answers p workers n file answer disk same short first (inr none) = record { untouched = same; answers = inr (inr (refl, none)) }
+end_answers p workers n file answer disk same short first (inr none) = record {
+  untouched = same;
+  answers = inr (inr (refl, none));
+}
 
 -- the run answered its end
-pub ends_run : (tells : Bool) (view : StoreView) (p : Plant) (workers n : ℕ) (file : List ℕ) (answer : Result Answer Refusal) → IsShort (graph p) n 0 → IsDoneFirst (graph p) n workers → IsReport p answer ⊎ (answer ≡ Err NoMemory) → DoesOnStore (store_over tells view view) (RunsUntil p workers n file) answer
+pub ends_run : (tells : Bool) (view : StoreView) (p : Plant) (workers n : ℕ) (file : List ℕ)
+    (answer : Result Answer Refusal) → IsShort (graph p) n 0 → IsDoneFirst (graph p) n workers →
+    IsReport p answer ⊎ (answer ≡ Err NoMemory) →
+    DoesOnStore (store_over tells view view) (RunsUntil p workers n file) answer
 ends_run tells view p workers n file answer short first is =
     leaves_store tells view (RunsUntil p workers n file) answer
     (λ disk. reported_caused (store_over tells view view) disk p answer is)
     (λ disk same. end_answers p workers n file answer disk same short first is)
 
 -- there was no memory for the run
-pub runs_not : (tells : Bool) (view : StoreView) (p : Plant) (workers n : ℕ) (file : List ℕ) (answer : Result Answer Refusal) → answer ≡ Err NoMemory → DoesOnStore (store_over tells view view) (RunsUntil p workers n file) answer
+pub runs_not : (tells : Bool) (view : StoreView) (p : Plant) (workers n : ℕ) (file : List ℕ)
+    (answer : Result Answer Refusal) → answer ≡ Err NoMemory →
+    DoesOnStore (store_over tells view view) (RunsUntil p workers n file) answer
 runs_not tells view p workers n file answer none =
     leaves_store tells view (RunsUntil p workers n file) answer
     (λ disk. no_memory_caused (store_over tells view view) disk [] answer none)
     (λ disk same. record { untouched = same; answers = inr (inr (refl, none)) })
 
-stop_answers : (p : Plant) (workers n : ℕ) (file : List ℕ) (state : State) (asked : Asked) (disk : DiskOver) (answer : Result Answer Refusal) → FitsLimit (graph p) → MayBeResumed (graph p) state → IsStopAt (graph p) n 0 (fired state) → IsFirstEnd (graph p) n workers state → disk.new ≡ disk.old → WritesText file (text Differences (graph p) state) (fired state) asked answer ⊎ AsksNothing asked answer → RunsUntil p workers n file asked disk answer
+stop_answers : (p : Plant) (workers n : ℕ) (file : List ℕ) (state : State) (asked : Asked) (disk : DiskOver)
+    (answer : Result Answer Refusal) → FitsLimit (graph p) → MayBeResumed (graph p) state →
+    IsStopAt (graph p) n 0 (fired state) → IsFirstEnd (graph p) n workers state → disk.new ≡ disk.old →
+    WritesText file (text Differences (graph p) state) (fired state) asked answer ⊎ AsksNothing asked answer →
+    RunsUntil p workers n file asked disk answer
 stop_answers p workers n file state asked disk answer fits resumed stop first same (inl writes) = record {
   untouched = same;
-  answers = inl (record { state = state; resumed = resumed; first_end = first; stop = stop; fits = fits Differences state resumed.reached; saved = writes });
+  answers = inl (record {
+    state = state;
+    resumed = resumed;
+    first_end = first;
+    stop = stop;
+    fits = fits Differences state resumed.reached;
+    saved = writes;
+  });
 }
-stop_answers p workers n file state asked disk answer fits resumed stop first same (inr none) = record { untouched = same; answers = inr (inr none) }
+stop_answers p workers n file state asked disk answer fits resumed stop first same (inr none) = record {
+  untouched = same;
+  answers = inr (inr none);
+}
 
 -- the run was stopped, and its state saved
-pub stops_run : (store : StoreOver) (p : Plant) (workers n : ℕ) (file : List ℕ) (r : Run) (answer : Result Answer Refusal) → FitsLimit (graph p) → r.graph ≡ graph p → MayBeResumed (graph p) r.state → IsStopAt (graph p) n 0 (fired r.state) → IsFirstEnd (graph p) n workers r.state → DoesOnStore store (SavesText file (text_of r) (fired r.state)) answer → DoesOnStore store (RunsUntil p workers n file) answer
+pub stops_run : (store : StoreOver) (p : Plant) (workers n : ℕ) (file : List ℕ) (r : Run)
+    (answer : Result Answer Refusal) → FitsLimit (graph p) → r.graph ≡ graph p → MayBeResumed (graph p) r.state →
+    IsStopAt (graph p) n 0 (fired r.state) → IsFirstEnd (graph p) n workers r.state →
+    DoesOnStore store (SavesText file (text_of r) (fired r.state)) answer →
+    DoesOnStore store (RunsUntil p workers n file) answer
 stops_run store p workers n file r answer fits same resumed stop first saved =
     let of_plant : DoesOnStore store (SavesText file (text Differences (graph p) r.state) (fired r.state)) answer =
-    subst (λ (g : Parts). DoesOnStore store (SavesText file (text Differences g r.state) (fired r.state)) answer) same saved in
+    subst (λ (g : Parts). DoesOnStore store (SavesText file (text Differences g r.state) (fired r.state)) answer) same
+    saved in
     λ disk still.
-    does_also store disk (SavesText file (text Differences (graph p) r.state) (fired r.state)) (RunsUntil p workers n file) answer
-    (λ asked answers. stop_answers p workers n file r.state asked disk answer fits resumed stop first answers.0 answers.1)
+    does_also store disk (SavesText file (text Differences (graph p) r.state) (fired r.state))
+    (RunsUntil p workers n file) answer
+    (λ asked answers. stop_answers p workers n file r.state asked disk answer fits resumed stop first answers.0
+    answers.1)
     (of_plant disk still)

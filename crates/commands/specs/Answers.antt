@@ -1,5 +1,5 @@
--- What is answered to each question, where no file is written and no disk touched: exactly which bytes are written, or the
--- refusal. `NoMemory` may be answered in place of it; where a question is asked, that is said.
+-- What is answered to each question, where no file is written and no disk touched: exactly which bytes are written, or
+-- the refusal. `NoMemory` may be answered in place of it; where a question is asked, that is said.
 use Rattle.std.specs.Prelude.{◌≡◌, ◌⊎◌, ◌<◌, ◌≤◌, ℕ, List, map, sum, length, Option, Some, Result, Ok, Err}
 use Rattle.answers.specs.Answer.{version}
 use Rattle.command_line.specs.Screens.{help_text}
@@ -9,7 +9,6 @@ use Rattle.card_sizing.specs.Sizing.{NoneServesBelow, IsBelow, IsSizingRefusal}
 use Rattle.card_sizing.specs.Sized.{has_single_count}
 use Rattle.card_sizing.specs.Serving.{Serves, IsFirstLate}
 use Rattle.card_sizing.specs.declared.sizing.Sizing.{Sizing}
-use Rattle.card_sizing.specs.declared.sizing.SizingError.{SizingError}
 use Rattle.card_sizing.specs.Counted.{has_stage_counts, ServeEach, NoneServesLess}
 use Rattle.card_sizing.specs.Each.{counts_of, names_of, HaveReasons, IsEachRefusal}
 use Rattle.card_sizing.specs.declared.each.EachSizing.{EachSizing}
@@ -29,7 +28,6 @@ use Rattle.answers.specs.CycleText.{IsCycleText}
 use Rattle.cycle_time.specs.CycleTime.{IsCycleTime}
 use Rattle.cycle_time.specs.Certificate.{NoneVaries, SaysWhy}
 use Rattle.cycle_time.specs.declared.certificate.Certificate.{Certificate}
-use Rattle.cycle_time.specs.declared.certificate.CycleError.{CycleError}
 use Rattle.event_graph.specs.Least.{IsLeast}
 use Rattle.event_graph.specs.Network.{jobs}
 use Rattle.event_graph.specs.State.{State}
@@ -62,6 +60,13 @@ use Rattle.commands.specs.declared.task.FileQuestion.TheVariants as file
 use Rattle.commands.specs.declared.task.PlantQuestion.{PlantQuestion}
 use Rattle.commands.specs.declared.task.PlantQuestion.TheVariants as of_plant
 
+-- there is none, and an error says why: its refusal is answered
+pub record IsRefusedFor {E : Type 0} (IsReason : E → Type 0) (refusal_of : E → Refusal)
+    (answer : Result Answer Refusal) : Type 0 where
+  pub error : E
+  pub why : IsReason error
+  pub says : answer ≡ Err (refusal_of error)
+
 -- `replay`: the report at the end of a schedule that can be followed, and its refusal at any other
 abbrev pub IsEnd : Plant → Result State ReplayError → Result Answer Refusal → Type 0
 IsEnd p (Ok end) answer = IsReport p answer
@@ -80,15 +85,9 @@ pub record IsCycle (p : Plant) (answer : Result Answer Refusal) : Type 0 where
   pub certified : IsCycleText (graph p) certificate text
   pub written : Writes text answer
 
--- no cycle time, and why
-pub record IsNoCycle (p : Plant) (answer : Result Answer Refusal) : Type 0 where
-  pub error : CycleError
-  pub why : SaysWhy (graph p) error
-  pub says : answer ≡ Err (cycle_refusal (graph p) error)
-
--- `cycle`
+-- `cycle`: the cycle time, or none
 abbrev pub IsCycled : Plant → Result Answer Refusal → Type 0
-IsCycled p answer = IsCycle p answer ⊎ IsNoCycle p answer
+IsCycled p answer = IsCycle p answer ⊎ IsRefusedFor (SaysWhy (graph p)) (cycle_refusal (graph p)) answer
 
 -- the plant has a single count of cards, and this is the least that serves, with why it can't be one less
 pub record IsSized (p : Plant) (wait : ℕ) (answer : Result Answer Refusal) : Type 0 where
@@ -99,18 +98,12 @@ pub record IsSized (p : Plant) (wait : ℕ) (answer : Result Answer Refusal) : T
   pub below : IsBelow p wait sizing.cards sizing.below
   pub written : Writes (cards_text sizing) answer
 
--- no count, and why
-pub record IsUnsized (p : Plant) (wait : ℕ) (answer : Result Answer Refusal) : Type 0 where
-  pub error : SizingError
-  pub why : IsSizingRefusal p wait error
-  pub says : answer ≡ Err (sizing_refusal error)
-
--- `cards`
+-- `cards`: the least count, or none
 abbrev pub IsCards : Plant → ℕ → Result Answer Refusal → Type 0
-IsCards p wait answer = IsSized p wait answer ⊎ IsUnsized p wait answer
+IsCards p wait answer = IsSized p wait answer ⊎ IsRefusedFor (IsSizingRefusal p wait) sizing_refusal answer
 
--- each stage has a count of cards; these counts serve, and with one card less at any one stage they don't, or the count is
--- the stage's least, and why
+-- each stage has a count of cards; these counts serve, and with one card less at any one stage they don't, or the
+-- count is the stage's least, and why
 pub record IsSizedEach (p : Plant) (wait : ℕ) (answer : Result Answer Refusal) : Type 0 where
   pub each : EachSizing
   pub counted : IsTrue (has_stage_counts p)
@@ -121,15 +114,9 @@ pub record IsSizedEach (p : Plant) (wait : ℕ) (answer : Result Answer Refusal)
   pub total : each.total ≡ sum (counts_of each.stages)
   pub written : Writes (each_cards_text each) answer
 
--- no counts, and why
-pub record IsUnsizedEach (p : Plant) (wait : ℕ) (answer : Result Answer Refusal) : Type 0 where
-  pub error : SizingError
-  pub why : IsEachRefusal p wait error
-  pub says : answer ≡ Err (sizing_refusal error)
-
--- `cards --each`
+-- `cards --each`: the least counts, or none
 abbrev pub IsCardsEach : Plant → ℕ → Result Answer Refusal → Type 0
-IsCardsEach p wait answer = IsSizedEach p wait answer ⊎ IsUnsizedEach p wait answer
+IsCardsEach p wait answer = IsSizedEach p wait answer ⊎ IsRefusedFor (IsEachRefusal p wait) sizing_refusal answer
 
 -- the plant has a single count of cards, and its curve is written from one count to another; or it has none
 abbrev pub IsCurve : Plant → ℕ → ℕ → Result Answer Refusal → Type 0

@@ -1,4 +1,5 @@
--- Where a run ends that is to stop at n firings: at the first burst's end with n firings, from the start of the graph on.
+-- Where a run ends that is to stop at n firings: at the first burst's end with n firings, from the start of the graph
+-- on.
 use Rattle.std.specs.Prelude.{◌≡◌, ℕ, ◌≤◌}
 use Rattle.event_graph.specs.State.{State, start}
 use Rattle.line_base.specs.declared.event.Parts.{Parts}
@@ -9,8 +10,8 @@ use Rattle.line_runs.specs.declared.stop.Outcome.TheVariants.{Finished, Stopped}
 use Rattle.line_workers.specs.Line.{WorkLine, Stands}
 use Rattle.live_check.specs.Order.{LiveGraph}
 
--- a new line of this many workers stood at the start of the graph, and bursts led it on to this line; before each of them fewer
--- than n firings were made
+-- a new line of this many workers stood at the start of the graph, and bursts led it on to this line; before each of
+-- them fewer than n firings were made
 pub record IsLedBelow (g : Parts) (n workers : ℕ) (last : WorkLine) : Type 0 where
   pub live : LiveGraph
   pub graph_is : live.graph ≡ g
@@ -19,8 +20,8 @@ pub record IsLedBelow (g : Parts) (n workers : ℕ) (last : WorkLine) : Type 0 w
   pub count : ℕ
   pub bursts : BurstsBelow n first count last
 
--- the first burst's end with n firings, or the start where n is 0: in this state n firings are made, and at every burst's end
--- before it there were fewer
+-- the first burst's end with n firings, or the start where n is 0: in this state n firings are made, and at every
+-- burst's end before it there were fewer
 pub record IsFirstEnd (g : Parts) (n workers : ℕ) (s : State) : Type 0 where
   pub last : WorkLine
   pub led : IsLedBelow g n workers last

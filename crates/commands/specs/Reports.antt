@@ -1,5 +1,5 @@
--- What a run of a plant answers: the report, over the least solution of the plant's graph; and what a run answers that is
--- resumed from a text.
+-- What a run of a plant answers: the report, over the least solution of the plant's graph; and what a run answers that
+-- is resumed from a text.
 use Rattle.std.specs.Prelude.{◌≡◌, ◌⊎◌, ℕ, List, Result, Ok, Err}
 use Rattle.checkpoint.specs.Answers.{Tells}
 use Rattle.checkpoint.specs.declared.error.CheckpointError.{CheckpointError}

@@ -1,6 +1,7 @@
--- What a command answers that saves states: into a file where it stops, or into the slots of a disk on the way; and what
--- goes on from slots.
-use Rattle.std.specs.Prelude.{◌≡◌, ◌⊎◌, ℕ, ◌+◌, ◌*◌, ◌≤◌, List, [], ◌∷◌, length, IsTrue, Option, Some, None, Result, Ok, Err, ⊤}
+-- What a command answers that saves states: into a file where it stops, or into the slots of a disk on the way; and
+-- what goes on from slots.
+use Rattle.std.specs.Prelude.{◌≡◌, ◌⊎◌, ℕ, ◌+◌, ◌*◌, ◌≤◌, List, [], ◌∷◌, length, IsTrue, Option, Some, None, Result, Ok}
+use Rattle.std.specs.Prelude.{Err, ⊤}
 use Rattle.checkpoint.specs.declared.format.Format.TheVariants.{Differences}
 use Rattle.checkpoint.specs.Text.{text}
 use Rattle.event_graph.specs.Network.{stations}
@@ -60,9 +61,10 @@ abbrev pub SavesText : List ℕ → List ℕ → ℕ → Action Answer
 SavesText file bytes count asked disk answer =
     (disk.new ≡ disk.old) × (WritesText file bytes count asked answer ⊎ AsksNothing asked answer)
 
--- the run of this many workers stopped in a state from which it may be resumed, at the first burst's end with n firings, and its
--- text, which is no longer than a checkpoint may be, was written to the file
-pub record Stops (p : Plant) (workers n : ℕ) (file : List ℕ) (asked : Asked) (answer : Result Answer Refusal) : Type 0 where
+-- the run of this many workers stopped in a state from which it may be resumed, at the first burst's end with n
+-- firings, and its text, which is no longer than a checkpoint may be, was written to the file
+pub record Stops (p : Plant) (workers n : ℕ) (file : List ℕ) (asked : Asked)
+    (answer : Result Answer Refusal) : Type 0 where
   pub state : State
   pub resumed : MayBeResumed (graph p) state
   pub first_end : IsFirstEnd (graph p) n workers state
@@ -70,8 +72,8 @@ pub record Stops (p : Plant) (workers n : ℕ) (file : List ℕ) (asked : Asked)
   pub fits : length (text Differences (graph p) state) ≤ most_checkpoint_bytes
   pub saved : WritesText file (text Differences (graph p) state) (fired state) asked answer
 
--- the run of this many workers answered its end, since at no burst's end before that n firings were made, and nothing was written
--- to the store
+-- the run of this many workers answered its end, since at no burst's end before that n firings were made, and nothing
+-- was written to the store
 pub record Ends (p : Plant) (workers n : ℕ) (asked : Asked) (answer : Result Answer Refusal) : Type 0 where
   pub nothing : asked ≡ none_asked
   pub first : IsDoneFirst (graph p) n workers
@@ -84,8 +86,9 @@ pub record RunsUntil (p : Plant) (workers n : ℕ) (file : List ℕ) (asked : As
   pub untouched : disk.new ≡ disk.old
   pub answers : Stops p workers n file asked answer ⊎ (Ends p workers n asked answer ⊎ AsksNothing asked answer)
 
--- from the start of the plant's graph on, a save was due at each burst's end at which n firings were made since the save
--- before or the start, and not all; the disk holds the state of the last of them, and is as before where there was none
+-- from the start of the plant's graph on, a save was due at each burst's end at which n firings were made since the
+-- save before or the start, and not all; the disk holds the state of the last of them, and is as before where there was
+-- none
 pub record SavesOnTheWay (p : Plant) (n : ℕ) (disk : DiskOver) : Type 0 where
   pub first : WorkLine
   pub begun : first.state ≡ start (graph p)
@@ -102,8 +105,8 @@ pub record Saves (p : Plant) (n : ℕ) (disk : DiskOver) (answer : Result Answer
   pub late : IsTrue disk.tells → n + 16 * stations (graph p) ≤ all_firings (graph p)
       → IsLateState (graph p) n most_checkpoint_bytes (held_now disk.new)
 
--- `run --every N --slots`: at any moment the slots hold what a crash could have left before, or the text of a state of the
--- plant from which it may be resumed; the run answers its end, or the disk failed, or there was no memory
+-- `run --every N --slots`: at any moment the slots hold what a crash could have left before, or the text of a state of
+-- the plant from which it may be resumed; the run answers its end, or the disk failed, or there was no memory
 pub record RunsWithSlots (p : Plant) (n : ℕ) (asked : Asked) (disk : DiskOver)
     (answer : Result Answer Refusal) : Type 0 where
   pub nothing : asked ≡ none_asked
@@ -146,7 +149,8 @@ abbrev pub IsResumeRefusal : Parts → ResumeError → Refusal → Type 0
 IsResumeRefusal g resume_error.NothingSaved refusal = refusal ≡ NothingSaved
 IsResumeRefusal g resume_error.DiskFault refusal = refusal ≡ Disk
 IsResumeRefusal g resume_error.NoMemory refusal = refusal ≡ NoMemory
-IsResumeRefusal g (resume_error.Checkpoint error) refusal = (refusal ≡ NoMemory) ⊎ (refusal ≡ checkpoint_refusal g error)
+IsResumeRefusal g (resume_error.Checkpoint error) refusal =
+    (refusal ≡ NoMemory) ⊎ (refusal ≡ checkpoint_refusal g error)
 
 -- each question about a live plant and the slots of a disk
 abbrev pub DoesOnSlots : DiskQuestion → Plant → Action Answer

@@ -8,7 +8,7 @@ ghost use Rattle.live_plant.specs.Actions.{disk_over, DoesOnDisk};
 ghost use Rattle.live_plant.specs.LivePlant.{IsLivePlant};
 ghost use Rattle.slot_store.specs.declared.error.SlotError.TheVariants.{TooLong};
 
-use crate::runs::report_of;
+use crate::reports::report_of;
 use answers::Answer;
 use event_graph::Graph;
 use line_disk::Disk;

@@ -13,7 +13,8 @@ use Rattle.card_sizing.specs.declared.sizing.SizingError.TheVariants as sizing
 use Rattle.checkpoint.specs.declared.error.CheckpointError.{CheckpointError}
 use Rattle.checkpoint.specs.declared.error.CheckpointError.TheVariants as checkpoint
 use Rattle.command_line.specs.Screens.{help_text}
-use Rattle.commands.specs.Answers.{AnswersAlone, AnswersOfPlant, AnswersOfFile, IsEnd, IsCycled, IsCards, IsCardsEach, IsCurve, IsLatest, IsWhy, IsChart, picture_of, IsWhatIf}
+use Rattle.commands.specs.Answers.{AnswersAlone, AnswersOfPlant, AnswersOfFile, IsEnd, IsCycled, IsCards, IsCardsEach}
+use Rattle.commands.specs.Answers.{IsCurve, IsLatest, IsWhy, IsChart, picture_of, IsWhatIf}
 use Rattle.commands.specs.Reports.{Writes, WritesOfLeast, IsResumed}
 use Rattle.commands.specs.declared.task.AloneQuestion.{AloneQuestion}
 use Rattle.commands.specs.declared.task.AloneQuestion.TheVariants as alone
@@ -50,7 +51,8 @@ abbrev pub NeedsNone : Result Answer Refusal → Type 0
 NeedsNone answer = IfErr answer NeedsNoCause
 
 -- an answer that is this refusal
-says : (refusal : Refusal) → NeedsNoCause refusal → (answer : Result Answer Refusal) → answer ≡ Err refusal → NeedsNone answer
+says : (refusal : Refusal) → NeedsNoCause refusal → (answer : Result Answer Refusal) → answer ≡ Err refusal →
+    NeedsNone answer
 says refusal none answer is = subst NeedsNone (sym is) none
 
 -- a text that is written
@@ -58,7 +60,8 @@ of_text : (text : List ℕ) (answer : Result Answer Refusal) → Writes text ans
 of_text text (Ok done) is = tt
 of_text text (Err refusal) is = absurd is
 
-pub of_least : (p : Plant) (text : (ℕ → ℕ → ℕ) → List ℕ) (answer : Result Answer Refusal) → WritesOfLeast p text answer → NeedsNone answer
+pub of_least : (p : Plant) (text : (ℕ → ℕ → ℕ) → List ℕ) (answer : Result Answer Refusal) →
+    WritesOfLeast p text answer → NeedsNone answer
 of_least p text (Ok done) is = tt
 of_least p text (Err refusal) is = absurd is.written
 
@@ -69,7 +72,8 @@ schedule_needs_none g (replay.Empty line a) = tt
 schedule_needs_none g (replay.Unfinished t have) = tt
 schedule_needs_none g replay.NoMemory = tt
 
-pub of_end : (p : Plant) (end : Result State ReplayError) (answer : Result Answer Refusal) → IsEnd p end answer → NeedsNone answer
+pub of_end : (p : Plant) (end : Result State ReplayError) (answer : Result Answer Refusal) → IsEnd p end answer →
+    NeedsNone answer
 of_end p (Ok state) answer is = of_least p (report p) answer is
 of_end p (Err error) answer is = says (schedule_refusal (graph p) error) (schedule_needs_none (graph p) error) answer is
 
@@ -81,7 +85,8 @@ checkpoint_needs_none g (checkpoint.Date t job have need) = tt
 checkpoint_needs_none g (checkpoint.PlaceDate a token have need) = tt
 checkpoint_needs_none g checkpoint.NoMemory = tt
 
-pub of_resumed : (p : Plant) (bytes : List ℕ) (answer : Result Answer Refusal) → IsResumed p bytes answer → NeedsNone answer
+pub of_resumed : (p : Plant) (bytes : List ℕ) (answer : Result Answer Refusal) → IsResumed p bytes answer →
+    NeedsNone answer
 of_resumed p bytes answer (inl both) = of_least p (report p) answer both.1
 of_resumed p bytes answer (inr other) =
     says (checkpoint_refusal (graph p) other.error) (checkpoint_needs_none (graph p) other.error) answer other.says
@@ -104,17 +109,22 @@ pub of_cards : (p : Plant) (wait : ℕ) (answer : Result Answer Refusal) → IsC
 of_cards p wait answer (inl found) = of_text (cards_text found.sizing) answer found.written
 of_cards p wait answer (inr unfit) = says (sizing_refusal unfit.error) (sizing_needs_none unfit.error) answer unfit.says
 
-pub of_chart : (p : Plant) (window : Option (ℕ × ℕ)) (answer : Result Answer Refusal) → IsChart p window answer → NeedsNone answer
+pub of_chart : (p : Plant) (window : Option (ℕ × ℕ)) (answer : Result Answer Refusal) → IsChart p window answer →
+    NeedsNone answer
 of_chart p window answer (inl drawn) = of_text (text_of (picture_of p drawn.rows window)) answer drawn.written
-of_chart p window answer (inr large) = says (TooLarge (bars_and_lanes (picture_of p large.rows window))) tt answer large.says
+of_chart p window answer (inr large) =
+    says (TooLarge (bars_and_lanes (picture_of p large.rows window))) tt answer large.says
 
-pub of_why : (p : Plant) (label : List ℕ) (job : ℕ) (answer : Result Answer Refusal) → IsWhy p label job answer → NeedsNone answer
+pub of_why : (p : Plant) (label : List ℕ) (job : ℕ) (answer : Result Answer Refusal) → IsWhy p label job answer →
+    NeedsNone answer
 of_why p label job answer (inl caused) = of_text (why_text p caused.chained.links) answer caused.chained.written
 of_why p label job answer (inr unnamed) = says (NoDate label job) tt answer unnamed.says
 
-pub of_cards_each : (p : Plant) (wait : ℕ) (answer : Result Answer Refusal) → IsCardsEach p wait answer → NeedsNone answer
+pub of_cards_each : (p : Plant) (wait : ℕ) (answer : Result Answer Refusal) → IsCardsEach p wait answer →
+    NeedsNone answer
 of_cards_each p wait answer (inl found) = of_text (each_cards_text found.each) answer found.written
-of_cards_each p wait answer (inr unfit) = says (sizing_refusal unfit.error) (sizing_needs_none unfit.error) answer unfit.says
+of_cards_each p wait answer (inr unfit) =
+    says (sizing_refusal unfit.error) (sizing_needs_none unfit.error) answer unfit.says
 
 pub of_curve : (p : Plant) (from to : ℕ) (answer : Result Answer Refusal) → IsCurve p from to answer → NeedsNone answer
 of_curve p from to answer (inl found) = subst NeedsNone (sym found.1) tt
@@ -124,7 +134,8 @@ pub of_latest : (g : Parts) (wait : ℕ) (answer : Result Answer Refusal) → Is
 of_latest g wait answer (inl found) = of_text (latest_text g (date_in found.rows) found.dates) answer found.written
 of_latest g wait answer (inr late) = says (Late late.job late.waits) tt answer late.says
 
-pub of_what_if : (p : Plant) (edits : List ℕ) (answer : Result Answer Refusal) → IsWhatIf p edits answer → NeedsNone answer
+pub of_what_if : (p : Plant) (edits : List ℕ) (answer : Result Answer Refusal) → IsWhatIf p edits answer →
+    NeedsNone answer
 of_what_if p edits answer (inl change) = of_text (changes_text change.page) answer change.written
 of_what_if p edits answer (inr refused) = says (NotEdited refused.line) tt answer refused.says
 
@@ -134,7 +145,8 @@ alone_caused (alone.Help topic) answer is = of_text (help_text topic) answer is
 alone_caused alone.Version answer is = of_text version answer is
 alone_caused (alone.Big seed workers) answer is = of_least (big_plant seed) (summary (big_plant seed)) answer is
 
-pub plant_caused : (q : PlantQuestion) (p : Plant) (answer : Result Answer Refusal) → AnswersOfPlant q p answer → NeedsNone answer
+pub plant_caused : (q : PlantQuestion) (p : Plant) (answer : Result Answer Refusal) → AnswersOfPlant q p answer →
+    NeedsNone answer
 plant_caused (of_plant.Run workers) p answer is = of_least p (report p) answer is
 plant_caused (of_plant.RunRoom room workers) p answer is = of_least p (report p) answer is
 plant_caused of_plant.Check p answer is = of_text (check_text p) answer is
@@ -148,7 +160,8 @@ plant_caused of_plant.Summary p answer is = of_least p (summary_text p) answer i
 plant_caused (of_plant.Chart window) p answer is = of_chart p window answer is
 plant_caused of_plant.Table p answer is = of_least p (table_text p) answer is
 
-pub file_caused : (q : FileQuestion) (p : Plant) (bytes : List ℕ) (answer : Result Answer Refusal) → AnswersOfFile q p bytes answer → NeedsNone answer
+pub file_caused : (q : FileQuestion) (p : Plant) (bytes : List ℕ) (answer : Result Answer Refusal) →
+    AnswersOfFile q p bytes answer → NeedsNone answer
 file_caused (file.Resume workers) p bytes answer is = of_resumed p bytes answer is
 file_caused file.Replay p bytes answer is = of_end p (follow (graph p) bytes) answer is
 file_caused file.WhatIf p bytes answer is = of_what_if p bytes answer is

@@ -15,13 +15,21 @@ use Rattle.pull_cli.proofs.FileLemmas.{files_of}
 use Rattle.pull_cli.proofs.HeadlineLemmas.{reports_of, stops_of}
 
 -- the four clauses of the top call
-pub record Ended (words : List (List ℕ)) (store : StoreOver) (sink : SinkOver) (disk : DiskOver) (status : ℕ) : Type 0 where
+pub record Ended (words : List (List ℕ)) (store : StoreOver) (sink : SinkOver) (disk : DiskOver)
+    (status : ℕ) : Type 0 where
   pub ends : Ends words store sink disk status
   pub reports : RunReports words store sink status
   pub stops : StopsAndResumes words store sink status
   pub files : FilesStay words store sink status
 
-pub ended : {words : List (List ℕ)} {store : StoreOver} {disk : DiskOver} {answer : Result Answer Refusal} {status : ℕ} (sink : SinkOver) → Does store disk (OfWords store.tells store.old.files (command_of words)) answer → Finishes sink answer status → Ended words store sink disk status
+pub ended : {words : List (List ℕ)} {store : StoreOver} {disk : DiskOver} {answer : Result Answer Refusal} {status : ℕ}
+    (sink : SinkOver) → Does store disk (OfWords store.tells store.old.files (command_of words)) answer →
+    Finishes sink answer status → Ended words store sink disk status
 ended {words} {store} {disk} {answer} {status} sink does finishes =
     let ends : Ends words store sink disk status = record { answer = answer; does = does; finishes = finishes } in
-    record { ends = ends; reports = reports_of words store sink disk status ends; stops = stops_of words store sink disk status ends; files = files_of words store sink disk status ends }
+    record {
+      ends = ends;
+      reports = reports_of words store sink disk status ends;
+      stops = stops_of words store sink disk status ends;
+      files = files_of words store sink disk status ends;
+    }

@@ -1,5 +1,6 @@
 -- Which file a call has changed, by what it answered.
-use Rattle.std.proofs.Common.{◌≡◌, ◌≢◌, ◌⊎◌, ℕ, List, [], ◌∷◌, ◌++◌, refl, ap, sym, ◌∙◌, subst, append-nil, inl, inr, ⊎_elim, arith}
+use Rattle.std.proofs.Common.{◌≡◌, ◌≢◌, ◌⊎◌, ℕ, List, [], ◌∷◌, ◌++◌, refl, ap, sym, ◌∙◌, subst, append-nil, inl, inr}
+use Rattle.std.proofs.Common.{⊎_elim, arith}
 use Rattle.std.specs.Prelude.{Option, Some, None, Result, Ok, Err, IsTrue}
 use Rattle.checkpoint.specs.Text.{text}
 use Rattle.checkpoint.specs.declared.format.Format.TheVariants.{Differences}
@@ -39,12 +40,14 @@ abbrev pub SaysOfFile : SinkOver → ℕ → Option (List ℕ) → Option (List 
 SaysOfFile sink status old new bytes count =
     LeavesSaved status old new bytes × (status ≡ 0 → PutsAll sink.old sink.new (answer_bytes (Stopped count)))
 
-stop_says : (sink : SinkOver) (status count : ℕ) (old new : Option (List ℕ)) (bytes : List ℕ) → Writes sink (answer_bytes (Stopped count)) 0 status → new ≡ Some bytes → SaysOfFile sink status old new bytes count
+stop_says : (sink : SinkOver) (status count : ℕ) (old new : Option (List ℕ)) (bytes : List ℕ) →
+    Writes sink (answer_bytes (Stopped count)) 0 status → new ≡ Some bytes → SaysOfFile sink status old new bytes count
 stop_says sink status count old new bytes (inl all) is = (inl (all.0, is), λ zero. all.1)
 stop_says sink status count old new bytes (inr broke) is =
     (inr (inr broke.0, inr (bytes, [], sym (append-nil bytes), is)), λ zero. absurd (omega (arith, broke.0, zero)))
 
-fault_says : (sink : SinkOver) (status count : ℕ) (file : List ℕ) (old new : Option (List ℕ)) (bytes : List ℕ) → WritesRefusal sink (StoreFault file) status → IsTorn old new bytes → SaysOfFile sink status old new bytes count
+fault_says : (sink : SinkOver) (status count : ℕ) (file : List ℕ) (old new : Option (List ℕ)) (bytes : List ℕ) →
+    WritesRefusal sink (StoreFault file) status → IsTorn old new bytes → SaysOfFile sink status old new bytes count
 fault_says sink status count file old new bytes (inl (inl all)) torn =
     let five : status ≡ 5 = all.0 in
     (inr (inl five, torn), λ zero. absurd (omega (arith, five, zero)))
@@ -53,13 +56,16 @@ fault_says sink status count file old new bytes (inl (inr broke)) torn =
 fault_says sink status count file old new bytes (inr wanting) torn = absurd (wanting.1 tt)
 
 -- a status of a call that may have written FILE
-no_other_status : (status : ℕ) (old new : Option (List ℕ)) (bytes : List ℕ) → status ≢ 0 → status ≢ 5 → status ≢ 6 → LeavesSaved status old new bytes → ⊥
+no_other_status : (status : ℕ) (old new : Option (List ℕ)) (bytes : List ℕ) → status ≢ 0 → status ≢ 5 → status ≢ 6 →
+    LeavesSaved status old new bytes → ⊥
 no_other_status status old new bytes not_0 not_5 not_6 (inl done) = not_0 done.0
 no_other_status status old new bytes not_0 not_5 not_6 (inr (inl five, torn)) = not_5 five
 no_other_status status old new bytes not_0 not_5 not_6 (inr (inr six, torn)) = not_6 six
 
 -- a call that answered this and ended with this status, which asked this of the store, and whose files are told
-module _ (store : StoreOver) (sink : SinkOver) (disk : DiskOver) (answer : Result Answer Refusal) (status : ℕ) (ended : Finishes sink answer status) (asks : Asked) (asked : store.new.asked ≡ with_asked store.old.asked asks) (changes : Changes store asks.writes) (known : IsTrue store.tells) where
+module _ (store : StoreOver) (sink : SinkOver) (disk : DiskOver) (answer : Result Answer Refusal) (status : ℕ)
+    (ended : Finishes sink answer status) (asks : Asked) (asked : store.new.asked ≡ with_asked store.old.asked asks)
+    (changes : Changes store asks.writes) (known : IsTrue store.tells) where
   -- a run stopped, and wrote its state
   record StopsIn (c : Command) : Type 0 where
     pub name : List ℕ
@@ -75,19 +81,37 @@ module _ (store : StoreOver) (sink : SinkOver) (disk : DiskOver) (answer : Resul
   none_written none = subst (Changes store) none changes known
 
   -- a step, and then a action that writes nothing
-  on_unwritten : (next : Plant → Action Answer) (between : Result Plant Refusal) (after : List Read) → DoesOn next between (record asks { reads = after }) disk answer → ((p : Plant) → next p (record asks { reads = after }) disk answer → asks.writes ≡ []) → asks.writes ≡ []
+  on_unwritten : (next : Plant → Action Answer) (between : Result Plant Refusal) (after : List Read) →
+      DoesOn next between (record asks { reads = after }) disk answer →
+      ((p : Plant) → next p (record asks { reads = after }) disk answer → asks.writes ≡ []) → asks.writes ≡ []
   on_unwritten next (Ok p) after on go = go p on
   on_unwritten next (Err refusal) after on go = unwritten asks after on.0
 
   -- a run that is asked to stop
-  until_writes : (name : List ℕ) (workers : ℕ) (stop : Stop) (p : Plant) (after : List Read) → IsPlantRead p name store → RunsUntil p workers stop.after stop.save (record asks { reads = after }) disk answer → (asks.writes ≡ []) ⊎ StopsIn (command.Run name workers (Some stop))
+  until_writes : (name : List ℕ) (workers : ℕ) (stop : Stop) (p : Plant) (after : List Read) →
+      IsPlantRead p name store → RunsUntil p workers stop.after stop.save (record asks { reads = after }) disk answer →
+      (asks.writes ≡ []) ⊎ StopsIn (command.Run name workers (Some stop))
   until_writes name workers stop p after read runs =
       ⊎_elim
-      (λ stops. inr (record { name = name; workers = workers; stop = stop; is = refl; plant = p; read = read; after = after; stops = stops }))
-      (λ whole. inl (⊎_elim (λ ended_first. unwritten asks after ended_first.nothing) (λ wanting. unwritten asks after wanting.0) whole))
+      (λ stops. inr (record {
+        name = name;
+        workers = workers;
+        stop = stop;
+        is = refl;
+        plant = p;
+        read = read;
+        after = after;
+        stops = stops;
+      }))
+      (λ whole. inl (⊎_elim (λ ended_first. unwritten asks after ended_first.nothing)
+      (λ wanting. unwritten asks after wanting.0) whole))
       runs.answers
 
-  stop_writes : (name : List ℕ) (workers : ℕ) (stop : Stop) (between : Result Plant Refusal) (before after : List Read) → asks.reads ≡ before ++ after → OfPlantNamed store.tells store.old.files name before between → DoesOn (λ p. RunsUntil p workers stop.after stop.save) between (record asks { reads = after }) disk answer → (asks.writes ≡ []) ⊎ StopsIn (command.Run name workers (Some stop))
+  stop_writes : (name : List ℕ) (workers : ℕ) (stop : Stop) (between : Result Plant Refusal)
+      (before after : List Read) → asks.reads ≡ before ++ after →
+      OfPlantNamed store.tells store.old.files name before between →
+      DoesOn (λ p. RunsUntil p workers stop.after stop.save) between (record asks { reads = after }) disk answer →
+      (asks.writes ≡ []) ⊎ StopsIn (command.Run name workers (Some stop))
   stop_writes name workers stop (Ok p) before after split first on =
       until_writes name workers stop p after (plant_read store asks asked name p before after split first) on
   stop_writes name workers stop (Err refusal) before after split first on = inl (unwritten asks after on.0)
@@ -97,37 +121,48 @@ module _ (store : StoreOver) (sink : SinkOver) (disk : DiskOver) (answer : Resul
   writes_of (command.Run plant workers (Some stop)) does =
       stop_writes plant workers stop does.between does.before does.after does.split does.answers does.does_on
   writes_of (command.RunSlots plant every workers) does =
-      inl (on_unwritten (λ p. RunsWithSlots p every) does.between does.after does.does_on (λ p on. unwritten asks does.after on.nothing))
+      inl (on_unwritten (λ p. RunsWithSlots p every) does.between does.after does.does_on
+      (λ p on. unwritten asks does.after on.nothing))
   writes_of (command.ResumeSlots plant workers) does =
-      inl (on_unwritten ResumesSlots does.between does.after does.does_on (λ p on. unwritten asks does.after on.nothing))
+      inl (on_unwritten ResumesSlots does.between does.after does.does_on
+      (λ p on. unwritten asks does.after on.nothing))
   writes_of (command.Run plant workers None) does = inl does.unwritten
   writes_of other does = inl does.unwritten
 
-  writes_of_words : (c : Command) → OfWords store.tells store.old.files (Some c) asks disk answer → (asks.writes ≡ []) ⊎ StopsIn c
+  writes_of_words : (c : Command) → OfWords store.tells store.old.files (Some c) asks disk answer →
+      (asks.writes ≡ []) ⊎ StopsIn c
   writes_of_words c (inl does) = writes_of c does
   writes_of_words c (inr wanting) = inl (ap (λ (a : Asked). a.writes) wanting.0)
 
   -- files but the one in which the run saves
-  others_of : (c : Command) → (asks.writes ≡ []) ⊎ StopsIn c → (q : List ℕ) → save_of (Some c) ≢ Some q → store.new.files q ≡ store.old.files q
+  others_of : (c : Command) → (asks.writes ≡ []) ⊎ StopsIn c → (q : List ℕ) → save_of (Some c) ≢ Some q →
+      store.new.files q ≡ store.old.files q
   others_of c (inl none) q other = none_written none q
   others_of c (inr s) q other =
       let bytes = text Differences (graph s.plant) s.stops.state in
       let given = s.stops.saved.given in
-      let one : asks.writes ≡ write_of s.stop.save bytes given ∷ [] = ap (λ (a : Asked). a.writes) s.stops.saved.writes in
+      let one : asks.writes ≡ write_of s.stop.save bytes given ∷ [] =
+      ap (λ (a : Asked). a.writes) s.stops.saved.writes in
       let wrote : WritesOne store (write_of s.stop.save bytes given) = subst (Changes store) one changes in
       let saves : save_of (Some c) ≡ Some s.stop.save = ap (λ (k : Command). save_of (Some k)) s.is in
       wrote.others_stay known q (λ same. other (saves ∙ ap (λ (n : List ℕ). Some n) (sym same)))
 
-  others : (w : Option Command) → OfWords store.tells store.old.files w asks disk answer → (q : List ℕ) → save_of w ≢ Some q → store.new.files q ≡ store.old.files q
+  others : (w : Option Command) → OfWords store.tells store.old.files w asks disk answer → (q : List ℕ) →
+      save_of w ≢ Some q → store.new.files q ≡ store.old.files q
   others None of q other = none_written (ap (λ (a : Asked). a.writes) of.0) q
   others (Some c) of q other = others_of c (writes_of_words c of) q other
 
   -- and that one
-  left : (file bytes : List ℕ) (count : ℕ) (given : Result (Unit {0}) StoreError) → LeavesFile store.tells store.old.files store.new.files file bytes given → AnswersWrite file count given answer → (store.new.files file ≡ store.old.files file) ⊎ SaysOfFile sink status (store.old.files file) (store.new.files file) bytes count
+  left : (file bytes : List ℕ) (count : ℕ) (given : Result (Unit {0}) StoreError) →
+      LeavesFile store.tells store.old.files store.new.files file bytes given → AnswersWrite file count given answer →
+      (store.new.files file ≡ store.old.files file) ⊎ SaysOfFile sink status (store.old.files file)
+      (store.new.files file) bytes count
   left file bytes count (Ok done) leaves answers =
-      inr (stop_says sink status count (store.old.files file) (store.new.files file) bytes (subst (λ (r : Result Answer Refusal). Finishes sink r status) answers ended) (leaves known))
+      inr (stop_says sink status count (store.old.files file) (store.new.files file) bytes
+      (subst (λ (r : Result Answer Refusal). Finishes sink r status) answers ended) (leaves known))
   left file bytes count (Err store_error.Failed) leaves answers =
-      inr (fault_says sink status count file (store.old.files file) (store.new.files file) bytes (subst (λ (r : Result Answer Refusal). Finishes sink r status) answers ended) (leaves known))
+      inr (fault_says sink status count file (store.old.files file) (store.new.files file) bytes
+      (subst (λ (r : Result Answer Refusal). Finishes sink r status) answers ended) (leaves known))
   left file bytes count (Err store_error.TooLong) leaves answers = absurd answers
   left file bytes count (Err store_error.NoMemory) leaves answers = inl (leaves known)
 
@@ -135,7 +170,8 @@ module _ (store : StoreOver) (sink : SinkOver) (disk : DiskOver) (answer : Resul
   saved_in c s =
       let bytes = text Differences (graph s.plant) s.stops.state in
       let given = s.stops.saved.given in
-      let one : asks.writes ≡ write_of s.stop.save bytes given ∷ [] = ap (λ (a : Asked). a.writes) s.stops.saved.writes in
+      let one : asks.writes ≡ write_of s.stop.save bytes given ∷ [] =
+      ap (λ (a : Asked). a.writes) s.stops.saved.writes in
       let wrote : WritesOne store (write_of s.stop.save bytes given) = subst (Changes store) one changes in
       ⊎_elim (λ same. inl same)
       (λ says. inr (record {
@@ -151,37 +187,51 @@ module _ (store : StoreOver) (sink : SinkOver) (disk : DiskOver) (answer : Resul
       }))
       (left s.stop.save bytes (fired s.stops.state) given wrote.leaves s.stops.saved.answers)
 
-  saved_so : (name : List ℕ) (workers : ℕ) (stop : Stop) → (asks.writes ≡ []) ⊎ StopsIn (command.Run name workers (Some stop)) → StaysOrSaves name stop store sink status
+  saved_so : (name : List ℕ) (workers : ℕ) (stop : Stop) →
+      (asks.writes ≡ []) ⊎ StopsIn (command.Run name workers (Some stop)) → StaysOrSaves name stop store sink status
   saved_so name workers stop (inl none) = inl (none_written none stop.save)
   saved_so name workers stop (inr s) =
       let same_name : s.name ≡ name = let is = s.is in cc in
       let same_stop : s.stop ≡ stop = let is = s.is in cc in
       subst (λ (n : List ℕ). StaysOrSaves n stop store sink status) same_name
-      (subst (λ (t : Stop). StaysOrSaves s.name t store sink status) same_stop (saved_in (command.Run name workers (Some stop)) s))
+      (subst (λ (t : Stop). StaysOrSaves s.name t store sink status) same_stop
+      (saved_in (command.Run name workers (Some stop)) s))
 
-  saved : (w : Option Command) → OfWords store.tells store.old.files w asks disk answer → (name : List ℕ) (workers : ℕ) (stop : Stop) → w ≡ Some (command.Run name workers (Some stop)) → StaysOrSaves name stop store sink status
+  saved : (w : Option Command) → OfWords store.tells store.old.files w asks disk answer →
+      (name : List ℕ) (workers : ℕ) (stop : Stop) → w ≡ Some (command.Run name workers (Some stop)) →
+      StaysOrSaves name stop store sink status
   saved w of name workers stop is =
       saved_so name workers stop
-      (writes_of_words (command.Run name workers (Some stop)) (subst (λ (o : Option Command). OfWords store.tells store.old.files o asks disk answer) is of))
+      (writes_of_words (command.Run name workers (Some stop))
+      (subst (λ (o : Option Command). OfWords store.tells store.old.files o asks disk answer) is of))
 
-  stays : (name : List ℕ) (stop : Stop) → status ≢ 0 → status ≢ 5 → status ≢ 6 → StaysOrSaves name stop store sink status → store.new.files stop.save ≡ store.old.files stop.save
+  stays : (name : List ℕ) (stop : Stop) → status ≢ 0 → status ≢ 5 → status ≢ 6 →
+      StaysOrSaves name stop store sink status → store.new.files stop.save ≡ store.old.files stop.save
   stays name stop not_0 not_5 not_6 (inl same) = same
   stays name stop not_0 not_5 not_6 (inr s) =
-      absurd (no_other_status status (store.old.files stop.save) (store.new.files stop.save) (text Differences (graph s.plant) s.state) not_0 not_5 not_6 s.leaves)
+      absurd (no_other_status status (store.old.files stop.save) (store.new.files stop.save)
+      (text Differences (graph s.plant) s.state) not_0 not_5 not_6 s.leaves)
 
-  file_of : (w : Option Command) → OfWords store.tells store.old.files w asks disk answer → (q : List ℕ) → save_of w ≡ Some q → status ≢ 0 → status ≢ 5 → status ≢ 6 → store.new.files q ≡ store.old.files q
+  file_of : (w : Option Command) → OfWords store.tells store.old.files w asks disk answer → (q : List ℕ) →
+      save_of w ≡ Some q → status ≢ 0 → status ≢ 5 → status ≢ 6 → store.new.files q ≡ store.old.files q
   file_of (Some (command.Run name workers (Some stop))) of q is not_0 not_5 not_6 =
       let same : stop.save ≡ q = cc in
       subst (λ (f : List ℕ). store.new.files f ≡ store.old.files f) same
-      (stays name stop not_0 not_5 not_6 (saved_so name workers stop (writes_of_words (command.Run name workers (Some stop)) of)))
+      (stays name stop not_0 not_5 not_6 (saved_so name workers stop
+      (writes_of_words (command.Run name workers (Some stop)) of)))
   file_of other of q is not_0 not_5 not_6 = absurd (cc)
 
 -- the files, by how the call ends
-pub files_of : (words : List (List ℕ)) (store : StoreOver) (sink : SinkOver) (disk : DiskOver) (status : ℕ) → Ends words store sink disk status → FilesStay words store sink status
+pub files_of : (words : List (List ℕ)) (store : StoreOver) (sink : SinkOver) (disk : DiskOver) (status : ℕ) →
+    Ends words store sink disk status → FilesStay words store sink status
 files_of words store sink disk status ends =
     let did = ends.does in
     record {
-      others_stay = λ known q other. others store sink disk ends.answer status ends.finishes did.asks did.asked did.changes known (command_of words) did.answers q other;
-      file_stays = λ known q is not_0 not_5 not_6. file_of store sink disk ends.answer status ends.finishes did.asks did.asked did.changes known (command_of words) did.answers q is not_0 not_5 not_6;
-      stays_or_saves = λ known name workers stop is. saved store sink disk ends.answer status ends.finishes did.asks did.asked did.changes known (command_of words) did.answers name workers stop is;
+      others_stay = λ known q other. others store sink disk ends.answer status ends.finishes did.asks did.asked
+          did.changes known (command_of words) did.answers q other;
+      file_stays = λ known q is not_0 not_5 not_6. file_of store sink disk ends.answer status ends.finishes did.asks
+          did.asked did.changes known (command_of words) did.answers q is not_0 not_5 not_6;
+      stays_or_saves = λ known name workers stop is.
+          saved store sink disk ends.answer status ends.finishes did.asks did.asked did.changes known
+          (command_of words) did.answers name workers stop is;
     }

@@ -19,7 +19,10 @@ use Rattle.plant_model.specs.Graph.{graph}
 use Rattle.refusals.specs.Checkpoints.{checkpoint_refusal}
 use Rattle.refusals.specs.Refusal.{status_of, text_of}
 use Rattle.refusals.specs.declared.refusal.Refusal.{Refusal}
-use Rattle.refusals.specs.declared.refusal.Refusal.TheVariants.{Usage, Refused, Faults, Dead, StoreFault, NotReached, Varying, NoMemory, TooLong, NotFollowed, Disk, NoCount, NothingSaved, NotEdited, NoSingleCount, NoDate, Late, TooLarge}
+use Rattle.refusals.specs.declared.refusal.Refusal.TheVariants.{Usage, Refused, Faults, Dead, StoreFault, NotReached}
+use Rattle.refusals.specs.declared.refusal.Refusal.TheVariants.{Varying, NoMemory, TooLong, NotFollowed, Disk, NoCount}
+use Rattle.refusals.specs.declared.refusal.Refusal.TheVariants.{NothingSaved, NotEdited, NoSingleCount, NoDate, Late}
+use Rattle.refusals.specs.declared.refusal.Refusal.TheVariants.{TooLarge}
 use Rattle.live_plant.specs.Actions.{Action, DiskOver, Plainly, DoesOn, ThenDoes, with_asked, Changes}
 use Rattle.live_plant.specs.Outside.{StoreOver, SinkOver}
 use Rattle.live_plant.specs.PlantSteps.{OfPlantNamed}
@@ -28,7 +31,8 @@ use Rattle.commands.specs.Reports.{IsReport, IsResumed, IsNoCheckpoint}
 use Rattle.line_report.specs.ReportText.{report}
 use Rattle.event_graph.specs.Table.{date_in}
 use Rattle.answers.specs.Answer.{answer_bytes}
-use Rattle.commands.specs.Saving.{AsksNothing, AnswersWrite, Ends as EndsFirst, IsResumedOf, ResumesSaved, ResumesSlots, RunsUntil, RunsWithSlots, Saves, Stops}
+use Rattle.commands.specs.Saving.{AsksNothing, AnswersWrite, Ends as EndsFirst, IsResumedOf, ResumesSaved, ResumesSlots}
+use Rattle.commands.specs.Saving.{RunsUntil, RunsWithSlots, Saves, Stops}
 use Rattle.answers.specs.declared.answer.Answer.{Answer}
 use Rattle.answers.specs.declared.answer.Answer.TheVariants.{Stopped}
 use Rattle.pull_cli.specs.Ends.{Ends, Finishes, Writes, WritesRefusal}
@@ -38,7 +42,8 @@ use Rattle.pull_cli.specs.StopsAndResumes.{ResumesToReport, HasSaved, ReportsOrS
 use Rattle.pull_cli.specs.Verdict.{OfCommand, OfWords}
 
 -- bytes that a call wrote which ends with status 0: all of them, and their status is 0
-zero_writes : (sink : SinkOver) (bytes : List ℕ) (good : ℕ) → Writes sink bytes good 0 → (good ≡ 0) × PutsAll sink.old sink.new bytes
+zero_writes : (sink : SinkOver) (bytes : List ℕ) (good : ℕ) → Writes sink bytes good 0 →
+    (good ≡ 0) × PutsAll sink.old sink.new bytes
 zero_writes sink bytes good (inl all) = (sym all.0, all.1)
 zero_writes sink bytes good (inr broke) = absurd (omega (arith, broke.0))
 
@@ -70,21 +75,25 @@ not_refused sink refusal (inr memory) =
     let nine = zero_writes sink (text_of NoMemory) (status_of NoMemory) memory.2 in omega (arith, nine.0)
 
 -- so none was written
-no_refusal : (sink : SinkOver) (answer : Result Answer Refusal) (refusal : Refusal) → Finishes sink answer 0 → answer ≡ Err refusal → ⊥
+no_refusal : (sink : SinkOver) (answer : Result Answer Refusal) (refusal : Refusal) → Finishes sink answer 0 →
+    answer ≡ Err refusal → ⊥
 no_refusal sink answer refusal ended is =
     not_refused sink refusal (subst (λ (r : Result Answer Refusal). Finishes sink r 0) is ended)
 
 -- a report that was written
-report_written : (p : Plant) (sink : SinkOver) (answer : Result Answer Refusal) → Finishes sink answer 0 → IsReport p answer → HasReported p sink
+report_written : (p : Plant) (sink : SinkOver) (answer : Result Answer Refusal) → Finishes sink answer 0 →
+    IsReport p answer → HasReported p sink
 report_written p sink (Ok done) ended is = record {
   rows = is.rows;
   least = is.least;
-  written = (zero_writes sink (report p (date_in is.rows)) 0 (whole sink (report p (date_in is.rows)) done 0 is.written ended)).1;
+  written = (zero_writes sink (report p (date_in is.rows)) 0
+      (whole sink (report p (date_in is.rows)) done 0 is.written ended)).1;
 }
 report_written p sink (Err refusal) ended is = absurd is.written
 
 -- the text of a state that firings reach is a checkpoint
-text_is_checkpoint : (p : Plant) (s : State) → MayBeResumed (graph p) s → IsCheckpoint (graph p) (text Differences (graph p) s)
+text_is_checkpoint : (p : Plant) (s : State) → MayBeResumed (graph p) s →
+    IsCheckpoint (graph p) (text Differences (graph p) s)
 text_is_checkpoint p s resumed = record {
   state = s;
   reached = resumed.reached;
@@ -97,13 +106,22 @@ text_resumes p s resumed answer (inl both) = both.1
 text_resumes p s resumed answer (inr other) = absurd (other.none (text_is_checkpoint p s resumed))
 
 -- steps that write nothing, as a step and then a action that writes nothing
-on_plainly : {A B : Type 0} (next : A → Step B) (between : Result A Refusal) (asked : Asked) (after : List Read) (disk : DiskOver) (answer : Result B Refusal) → asked.writes ≡ [] → disk.new ≡ disk.old → GoesOn next between after answer → DoesOn (λ x. Plainly (next x)) between (record asked { reads = after }) disk answer
+on_plainly : {A B : Type 0} (next : A → Step B) (between : Result A Refusal) (asked : Asked) (after : List Read)
+    (disk : DiskOver) (answer : Result B Refusal) → asked.writes ≡ [] → disk.new ≡ disk.old →
+    GoesOn next between after answer → DoesOn (λ x. Plainly (next x)) between
+    (record asked { reads = after }) disk answer
 on_plainly next (Ok x) asked after disk answer unwritten untouched on =
     record { unwritten = unwritten; untouched = untouched; answers = on }
-on_plainly next (Err refusal) asked after disk answer unwritten untouched on =
-    (ap (λ (reads : List Read). record { reads = reads; writes = asked.writes }) on.0 ∙ ap (λ (writes : List Write). record { reads = []; writes = writes }) unwritten, untouched, on.1)
+on_plainly next (Err refusal) asked after disk answer unwritten untouched on = (
+  ap (λ (reads : List Read). record { reads = reads; writes = asked.writes }) on.0 ∙
+      ap (λ (writes : List Write). record { reads = []; writes = writes }) unwritten,
+  untouched,
+  on.1,
+)
 
-plainly_then : {A B : Type 0} (first : Step A) (next : A → Step B) (asked : Asked) (disk : DiskOver) (answer : Result B Refusal) → Plainly (Then first next) asked disk answer → ThenDoes first (λ x. Plainly (next x)) asked disk answer
+plainly_then : {A B : Type 0} (first : Step A) (next : A → Step B) (asked : Asked) (disk : DiskOver)
+    (answer : Result B Refusal) → Plainly (Then first next) asked disk answer →
+    ThenDoes first (λ x. Plainly (next x)) asked disk answer
 plainly_then first next asked disk answer plain =
     let steps = plain.answers in
     record {
@@ -112,11 +130,14 @@ plainly_then first next asked disk answer plain =
       split = steps.split;
       between = steps.between;
       answers = steps.answers;
-      does_on = on_plainly next steps.between asked steps.after disk answer plain.unwritten plain.untouched steps.goes_on;
+      does_on = on_plainly next steps.between asked steps.after disk answer plain.unwritten plain.untouched
+          steps.goes_on;
     }
 
 -- what a call read first, where that is the live plant of this plant file
-pub plant_read : (store : StoreOver) (asks : Asked) → store.new.asked ≡ with_asked store.old.asked asks → (name : List ℕ) (p : Plant) (before after : List Read) → asks.reads ≡ before ++ after → OfPlantNamed store.tells store.old.files name before (Ok p) → IsPlantRead p name store
+pub plant_read : (store : StoreOver) (asks : Asked) → store.new.asked ≡ with_asked store.old.asked asks →
+    (name : List ℕ) (p : Plant) (before after : List Read) → asks.reads ≡ before ++ after →
+    OfPlantNamed store.tells store.old.files name before (Ok p) → IsPlantRead p name store
 plant_read store asks asked name p before after split answered = record {
   reads = before;
   more = after;
@@ -126,28 +147,44 @@ plant_read store asks asked name p before after split answered = record {
 }
 
 -- a call that answered this and ended with status 0, which asked this of the store
-module _ (store : StoreOver) (sink : SinkOver) (disk : DiskOver) (answer : Result Answer Refusal) (ended : Finishes sink answer 0) (asks : Asked) (asked : store.new.asked ≡ with_asked store.old.asked asks) (changes : Changes store asks.writes) where
+module _ (store : StoreOver) (sink : SinkOver) (disk : DiskOver) (answer : Result Answer Refusal)
+    (ended : Finishes sink answer 0) (asks : Asked) (asked : store.new.asked ≡ with_asked store.old.asked asks)
+    (changes : Changes store asks.writes) where
   -- a plant that was read, of which this holds
   record OfRead (name : List ℕ) (P : Plant → Type 0) : Type 0 where
     pub plant : Plant
     pub read : IsPlantRead plant name store
     pub holds : P plant
 
-  on_read : (name : List ℕ) (P : Plant → Type 0) (next : Plant → Action Answer) (between : Result Plant Refusal) (before after : List Read) → asks.reads ≡ before ++ after → OfPlantNamed store.tells store.old.files name before between → DoesOn next between (record asks { reads = after }) disk answer → ((p : Plant) → next p (record asks { reads = after }) disk answer → P p) → OfRead name P
+  on_read : (name : List ℕ) (P : Plant → Type 0) (next : Plant → Action Answer) (between : Result Plant Refusal)
+      (before after : List Read) → asks.reads ≡ before ++ after →
+      OfPlantNamed store.tells store.old.files name before between →
+      DoesOn next between (record asks { reads = after }) disk answer →
+      ((p : Plant) → next p (record asks { reads = after }) disk answer → P p) → OfRead name P
   on_read name P next (Ok p) before after split first on go =
       record { plant = p; read = plant_read store asks asked name p before after split first; holds = go p on }
   on_read name P next (Err refusal) before after split first on go = absurd (no_refusal sink answer refusal ended on.2)
 
   -- by what was done with the plant
-  then_holds : (name : List ℕ) (P : Plant → Type 0) (next : Plant → Action Answer) → ThenDoes (OfPlantNamed store.tells store.old.files name) next asks disk answer → ((p : Plant) (after : List Read) → next p (record asks { reads = after }) disk answer → P p) → OfRead name P
+  then_holds : (name : List ℕ) (P : Plant → Type 0) (next : Plant → Action Answer) →
+      ThenDoes (OfPlantNamed store.tells store.old.files name) next asks disk answer →
+      ((p : Plant) (after : List Read) → next p (record asks { reads = after }) disk answer → P p) → OfRead name P
   then_holds name P next both go =
-      on_read name P next both.between both.before both.after both.split both.answers both.does_on (λ p on. go p both.after on)
+      on_read name P next both.between both.before both.after both.split both.answers both.does_on
+      (λ p on. go p both.after on)
 
   -- a run has reported
-  then_reports : (plant name : List ℕ) → plant ≡ name → (next : Plant → Action Answer) → ThenDoes (OfPlantNamed store.tells store.old.files plant) next asks disk answer → ((p : Plant) (after : List Read) → next p (record asks { reads = after }) disk answer → HasReported p sink) → Reports name store sink
+  then_reports : (plant name : List ℕ) → plant ≡ name → (next : Plant → Action Answer) →
+      ThenDoes (OfPlantNamed store.tells store.old.files plant) next asks disk answer →
+      ((p : Plant) (after : List Read) → next p (record asks { reads = after }) disk answer → HasReported p sink) →
+      Reports name store sink
   then_reports plant name same next both go =
       let of = then_holds plant (λ p. HasReported p sink) next both go in
-      subst (λ (n : List ℕ). Reports n store sink) same (record { plant = of.plant; read = of.read; reported = of.holds })
+      subst (λ (n : List ℕ). Reports n store sink) same (record {
+        plant = of.plant;
+        read = of.read;
+        reported = of.holds;
+      })
 
   -- what settles on a report
   settled_reported : (p : Plant) → IsReport p answer ⊎ (answer ≡ Err NoMemory) → HasReported p sink
@@ -163,15 +200,19 @@ module _ (store : StoreOver) (sink : SinkOver) (disk : DiskOver) (answer : Resul
   resumed_reported p bytes (inl both) = report_written p sink answer ended both.1
   resumed_reported p bytes (inr other) = absurd (not_checkpoint p bytes other)
 
-  settled_resumed : (p : Plant) (bytes : List ℕ) → IsResumed p bytes answer ⊎ (answer ≡ Err NoMemory) → HasReported p sink
+  settled_resumed : (p : Plant) (bytes : List ℕ) → IsResumed p bytes answer ⊎ (answer ≡ Err NoMemory) →
+      HasReported p sink
   settled_resumed p bytes (inl is) = resumed_reported p bytes is
   settled_resumed p bytes (inr wanting) = absurd (no_refusal sink answer NoMemory ended wanting)
 
-  file_on : (p : Plant) (name : List ℕ) (between : Result (List ℕ) Refusal) (before after : List Read) → LooksAt name before between → GoesOn (λ bytes. Settles (IsResumed p bytes)) between after answer → HasReported p sink
+  file_on : (p : Plant) (name : List ℕ) (between : Result (List ℕ) Refusal) (before after : List Read) →
+      LooksAt name before between → GoesOn (λ bytes. Settles (IsResumed p bytes)) between after answer →
+      HasReported p sink
   file_on p name (Ok bytes) before after first on = settled_resumed p bytes on.1
   file_on p name (Err refusal) before after first on = absurd (no_refusal sink answer refusal ended on.1)
 
-  file_resumed : (p : Plant) (name : List ℕ) (reads : List Read) → Then (LooksAt name) (λ bytes. Settles (IsResumed p bytes)) reads answer → HasReported p sink
+  file_resumed : (p : Plant) (name : List ℕ) (reads : List Read) →
+      Then (LooksAt name) (λ bytes. Settles (IsResumed p bytes)) reads answer → HasReported p sink
   file_resumed p name reads steps = file_on p name steps.between steps.before steps.after steps.answers steps.goes_on
 
   slots_content : (p : Plant) (saved : Option (List ℕ)) → IsResumedOf p saved answer → HasReported p sink
@@ -183,27 +224,33 @@ module _ (store : StoreOver) (sink : SinkOver) (disk : DiskOver) (answer : Resul
   no_disk (inl failed) = no_refusal sink answer Disk ended failed
   no_disk (inr wanting) = no_refusal sink answer NoMemory ended wanting
 
-  slots_resumed : (p : Plant) → ResumesSaved p disk answer ⊎ ((answer ≡ Err Disk) ⊎ (answer ≡ Err NoMemory)) → HasReported p sink
+  slots_resumed : (p : Plant) → ResumesSaved p disk answer ⊎ ((answer ≡ Err Disk) ⊎ (answer ≡ Err NoMemory)) →
+      HasReported p sink
   slots_resumed p (inl saved) = slots_content p saved.saved saved.answers
   slots_resumed p (inr failed) = absurd (no_disk failed)
 
-  slots_saved : (p : Plant) (n : ℕ) → Saves p n disk answer ⊎ ((answer ≡ Err Disk) ⊎ (answer ≡ Err NoMemory)) → HasReported p sink
+  slots_saved : (p : Plant) (n : ℕ) → Saves p n disk answer ⊎ ((answer ≡ Err Disk) ⊎ (answer ≡ Err NoMemory)) →
+      HasReported p sink
   slots_saved p n (inl saves) = report_written p sink answer ended saves.report
   slots_saved p n (inr failed) = absurd (no_disk failed)
 
   -- what stopped
-  write_done : (file : List ℕ) (count : ℕ) (given : Result (Unit {0}) StoreError) → AnswersWrite file count given answer → (given ≡ Ok tt) × (answer ≡ Ok (Stopped count))
+  write_done : (file : List ℕ) (count : ℕ) (given : Result (Unit {0}) StoreError) →
+      AnswersWrite file count given answer → (given ≡ Ok tt) × (answer ≡ Ok (Stopped count))
   write_done file count (Ok done) answers = (refl, answers)
-  write_done file count (Err store_error.Failed) answers = absurd (no_refusal sink answer (StoreFault file) ended answers)
+  write_done file count (Err store_error.Failed) answers =
+      absurd (no_refusal sink answer (StoreFault file) ended answers)
   write_done file count (Err store_error.TooLong) answers = absurd answers
   write_done file count (Err store_error.NoMemory) answers = absurd (no_refusal sink answer NoMemory ended answers)
 
-  has_saved : (p : Plant) (workers : ℕ) (stop : Stop) (after : List Read) → Stops p workers stop.after stop.save (record asks { reads = after }) answer → HasSaved p stop store sink
+  has_saved : (p : Plant) (workers : ℕ) (stop : Stop) (after : List Read) →
+      Stops p workers stop.after stop.save (record asks { reads = after }) answer → HasSaved p stop store sink
   has_saved p workers stop after stops =
       let bytes = text Differences (graph p) stops.state in
       let done = write_done stop.save (fired stops.state) stops.saved.given stops.saved.answers in
       let one : asks.writes ≡ write_of stop.save bytes (Ok tt) ∷ [] =
-      ap (λ (a : Asked). a.writes) stops.saved.writes ∙ ap (λ (given : Result (Unit {0}) StoreError). write_of stop.save bytes given ∷ []) done.0 in
+      ap (λ (a : Asked). a.writes) stops.saved.writes ∙
+      ap (λ (given : Result (Unit {0}) StoreError). write_of stop.save bytes given ∷ []) done.0 in
       record {
         state = stops.state;
         stopped = stops.resumed;
@@ -212,23 +259,31 @@ module _ (store : StoreOver) (sink : SinkOver) (disk : DiskOver) (answer : Resul
         fits = stops.fits;
         asked = ap (λ (a : Asked). a.writes) asked ∙ ap (λ (writes : List Write). store.old.asked.writes ++ writes) one;
         saved = (subst (Changes store) one changes).leaves;
-        written = (zero_writes sink (answer_bytes (Stopped (fired stops.state))) 0 (subst (λ (r : Result Answer Refusal). Finishes sink r 0) done.1 ended)).1;
+        written = (zero_writes sink (answer_bytes (Stopped (fired stops.state))) 0
+            (subst (λ (r : Result Answer Refusal). Finishes sink r 0) done.1 ended)).1;
         resumes = text_resumes p stops.state stops.resumed;
       }
 
-  stop_well : (p : Plant) (workers : ℕ) (stop : Stop) (after : List Read) → Stops p workers stop.after stop.save (record asks { reads = after }) answer ⊎ (EndsFirst p workers stop.after (record asks { reads = after }) answer ⊎ AsksNothing (record asks { reads = after }) answer) → HasReported p sink ⊎ HasSaved p stop store sink
+  stop_well : (p : Plant) (workers : ℕ) (stop : Stop) (after : List Read) →
+      Stops p workers stop.after stop.save (record asks { reads = after }) answer ⊎
+      (EndsFirst p workers stop.after (record asks { reads = after }) answer ⊎
+      AsksNothing (record asks { reads = after }) answer) → HasReported p sink ⊎ HasSaved p stop store sink
   stop_well p workers stop after (inl stops) = inr (has_saved p workers stop after stops)
   stop_well p workers stop after (inr (inl whole)) = inl (report_written p sink answer ended whole.report)
   stop_well p workers stop after (inr (inr wanting)) = absurd (no_refusal sink answer NoMemory ended wanting.1)
 
   -- a run to the end
-  run_well : (plant name : List ℕ) → plant ≡ name → Plainly (Then (OfPlantNamed store.tells store.old.files plant) (λ p. Settles (IsReport p))) asks disk answer → Reports name store sink
+  run_well : (plant name : List ℕ) → plant ≡ name →
+      Plainly (Then (OfPlantNamed store.tells store.old.files plant) (λ p. Settles (IsReport p))) asks disk answer →
+      Reports name store sink
   run_well plant name same does =
-      then_reports plant name same (λ p. Plainly (Settles (IsReport p))) (plainly_then (OfPlantNamed store.tells store.old.files plant) (λ p. Settles (IsReport p)) asks disk answer does)
+      then_reports plant name same (λ p. Plainly (Settles (IsReport p)))
+      (plainly_then (OfPlantNamed store.tells store.old.files plant) (λ p. Settles (IsReport p)) asks disk answer does)
       (λ p after on. settled_reported p on.answers.1)
 
   -- each command that runs a plant and isn't asked to stop
-  of_run : (c : Command) (name : List ℕ) → run_of c ≡ Some name → OfCommand store.tells store.old.files c asks disk answer → Reports name store sink
+  of_run : (c : Command) (name : List ℕ) → run_of c ≡ Some name →
+      OfCommand store.tells store.old.files c asks disk answer → Reports name store sink
   of_run (command.Run plant workers None) name is does =
       let same : plant ≡ name = cc in run_well plant name same does
   of_run (command.RunRoom plant room workers) name is does =
@@ -240,7 +295,9 @@ module _ (store : StoreOver) (sink : SinkOver) (disk : DiskOver) (answer : Resul
       then_reports plant name same (λ p. RunsWithSlots p every) does (λ p after on. slots_saved p every on.answers)
   of_run (command.Resume plant saved workers) name is does =
       let same : plant ≡ name = cc in
-      then_reports plant name same (λ p. Plainly (Then (LooksAt saved) (λ bytes. Settles (IsResumed p bytes)))) (plainly_then (OfPlantNamed store.tells store.old.files plant) (λ p. Then (LooksAt saved) (λ bytes. Settles (IsResumed p bytes))) asks disk answer does)
+      then_reports plant name same (λ p. Plainly (Then (LooksAt saved) (λ bytes. Settles (IsResumed p bytes))))
+      (plainly_then (OfPlantNamed store.tells store.old.files plant)
+      (λ p. Then (LooksAt saved) (λ bytes. Settles (IsResumed p bytes))) asks disk answer does)
       (λ p after on. file_resumed p saved after on.answers)
   of_run (command.ResumeSlots plant workers) name is does =
       let same : plant ≡ name = cc in
@@ -248,27 +305,37 @@ module _ (store : StoreOver) (sink : SinkOver) (disk : DiskOver) (answer : Resul
   of_run other name is does = absurd (cc)
 
   -- and one that is told to
-  of_stop : (name : List ℕ) (workers : ℕ) (stop : Stop) → OfCommand store.tells store.old.files (command.Run name workers (Some stop)) asks disk answer → ReportsOrSaves name stop store sink
+  of_stop : (name : List ℕ) (workers : ℕ) (stop : Stop) →
+      OfCommand store.tells store.old.files (command.Run name workers (Some stop)) asks disk answer →
+      ReportsOrSaves name stop store sink
   of_stop name workers stop does =
-      let of = then_holds name (λ p. HasReported p sink ⊎ HasSaved p stop store sink) (λ p. RunsUntil p workers stop.after stop.save) does (λ p after on. stop_well p workers stop after on.answers) in
+      let of =
+      then_holds name (λ p. HasReported p sink ⊎ HasSaved p stop store sink)
+      (λ p. RunsUntil p workers stop.after stop.save) does (λ p after on. stop_well p workers stop after on.answers) in
       record { plant = of.plant; read = of.read; done = of.holds }
 
   -- what the words ask for
-  done_whole : (c : Command) → OfWords store.tells store.old.files (Some c) asks disk answer → OfCommand store.tells store.old.files c asks disk answer
+  done_whole : (c : Command) → OfWords store.tells store.old.files (Some c) asks disk answer →
+      OfCommand store.tells store.old.files c asks disk answer
   done_whole c (inl does) = does
   done_whole c (inr wanting) = absurd (no_refusal sink answer NoMemory ended wanting.2)
 
 -- both halves of the headline follow from how the call ends
-pub reports_of : (words : List (List ℕ)) (store : StoreOver) (sink : SinkOver) (disk : DiskOver) (status : ℕ) → Ends words store sink disk status → RunReports words store sink status
+pub reports_of : (words : List (List ℕ)) (store : StoreOver) (sink : SinkOver) (disk : DiskOver) (status : ℕ) →
+    Ends words store sink disk status → RunReports words store sink status
 reports_of words store sink disk status ends c name is runs zero =
     let ended = subst (Finishes sink ends.answer) zero ends.finishes in
     let does = ends.does in
     of_run store sink disk ends.answer ended does.asks does.asked does.changes c name runs
-    (done_whole store sink disk ends.answer ended does.asks does.asked does.changes c (subst (λ (o : Option Command). OfWords store.tells store.old.files o does.asks disk ends.answer) is does.answers))
+    (done_whole store sink disk ends.answer ended does.asks does.asked does.changes c
+    (subst (λ (o : Option Command). OfWords store.tells store.old.files o does.asks disk ends.answer) is does.answers))
 
-pub stops_of : (words : List (List ℕ)) (store : StoreOver) (sink : SinkOver) (disk : DiskOver) (status : ℕ) → Ends words store sink disk status → StopsAndResumes words store sink status
+pub stops_of : (words : List (List ℕ)) (store : StoreOver) (sink : SinkOver) (disk : DiskOver) (status : ℕ) →
+    Ends words store sink disk status → StopsAndResumes words store sink status
 stops_of words store sink disk status ends name workers stop is zero =
     let ended = subst (Finishes sink ends.answer) zero ends.finishes in
     let does = ends.does in
     of_stop store sink disk ends.answer ended does.asks does.asked does.changes name workers stop
-    (done_whole store sink disk ends.answer ended does.asks does.asked does.changes (command.Run name workers (Some stop)) (subst (λ (o : Option Command). OfWords store.tells store.old.files o does.asks disk ends.answer) is does.answers))
+    (done_whole store sink disk ends.answer ended does.asks does.asked does.changes
+    (command.Run name workers (Some stop)) (subst (λ (o : Option Command).
+    OfWords store.tells store.old.files o does.asks disk ends.answer) is does.answers))

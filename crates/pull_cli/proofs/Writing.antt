@@ -8,24 +8,29 @@ use Rattle.refusals.specs.Refusal.{status_of, text_of}
 use Rattle.refusals.specs.declared.refusal.Refusal.TheVariants.{NoMemory}
 use Rattle.answers.specs.Answer.{answer_bytes, BytesArePut, IsPut}
 use Rattle.answers.specs.declared.answer.Answer.{Answer}
-use Rattle.answers.specs.declared.answer.Answer.TheVariants.{Help, Version, Text, Stopped, Reported, Summarized, Caused, Summary, Drawn, Dates, Latest, Curved, Changed}
+use Rattle.answers.specs.declared.answer.Answer.TheVariants.{Help, Version, Text, Stopped, Reported, Summarized, Caused}
+use Rattle.answers.specs.declared.answer.Answer.TheVariants.{Summary, Drawn, Dates, Latest, Curved, Changed}
 use Rattle.answers.specs.declared.unwritten.Unwritten.TheVariants as unwritten
 use Rattle.commands.specs.Reports.{Writes as Answers}
 use Rattle.pull_cli.specs.Ends.{Finishes, IsStatusAfter, Writes}
 
-pub writes : {old new : SinkView} (bytes : List ℕ) (written : Result (Unit {0}) Failed) (good status : ℕ) → WritesText old new bytes written → IsStatusAfter written good status → Writes (sink_over old new) bytes good status
+pub writes : {old new : SinkView} (bytes : List ℕ) (written : Result (Unit {0}) Failed) (good status : ℕ) →
+    WritesText old new bytes written → IsStatusAfter written good status → Writes (sink_over old new) bytes good status
 writes bytes (Ok done) good status text is = inl (is, text.written)
 writes bytes (Err failed) good status text is = inr (is, text.cause, text.front)
 
 -- bytes that were put, all of them or a prefix
-all_put : {old new : SinkView} (bytes : List ℕ) (done : Unit {0}) → BytesArePut bytes old new (Ok done) → Writes (sink_over old new) bytes 0 0
+all_put : {old new : SinkView} (bytes : List ℕ) (done : Unit {0}) → BytesArePut bytes old new (Ok done) →
+    Writes (sink_over old new) bytes 0 0
 all_put bytes done put = inl (refl, put.text.written)
 
-prefix_put : {old new : SinkView} (bytes : List ℕ) → BytesArePut bytes old new (Err unwritten.Failed) → Writes (sink_over old new) bytes 0 6
+prefix_put : {old new : SinkView} (bytes : List ℕ) → BytesArePut bytes old new (Err unwritten.Failed) →
+    Writes (sink_over old new) bytes 0 6
 prefix_put bytes put = inr (refl, put.text.cause, put.text.front)
 
 -- an answer that was written whole
-pub done : (old new : SinkView) (answer : Answer) (unit : Unit {0}) → IsPut answer old new (Ok unit) → Finishes (sink_over old new) (Ok answer) 0
+pub done : (old new : SinkView) (answer : Answer) (unit : Unit {0}) → IsPut answer old new (Ok unit) →
+    Finishes (sink_over old new) (Ok answer) 0
 done old new (Help topic) unit put = all_put (answer_bytes (Help topic)) unit put
 done old new Version unit put = all_put (answer_bytes Version) unit put
 done old new (Text text) unit put = all_put (answer_bytes (Text text)) unit put
@@ -41,7 +46,8 @@ done old new (Changed changes) unit put = all_put (answer_bytes (Changed changes
 done old new (Curved counts) unit put = inl (refl, put)
 
 -- one behind which the sink failed
-pub failed : (old new : SinkView) (answer : Answer) → IsPut answer old new (Err unwritten.Failed) → Finishes (sink_over old new) (Ok answer) 6
+pub failed : (old new : SinkView) (answer : Answer) → IsPut answer old new (Err unwritten.Failed) →
+    Finishes (sink_over old new) (Ok answer) 6
 failed old new (Help topic) put = prefix_put (answer_bytes (Help topic)) put
 failed old new Version put = prefix_put (answer_bytes Version) put
 failed old new (Text text) put = prefix_put (answer_bytes (Text text)) put
@@ -57,7 +63,10 @@ failed old new (Changed changes) put = prefix_put (answer_bytes (Changed changes
 failed old new (Curved counts) put = inr (inl (refl, put))
 
 -- one for which memory ran out, which is a curve
-pub cut_short : (old between new : SinkView) (answer : Answer) (status : ℕ) → IsPut answer old between (Err unwritten.NoMemory) → Writes (sink_over between new) (text_of NoMemory) (status_of NoMemory) status → Finishes (sink_over old new) (Ok answer) status
+pub cut_short : (old between new : SinkView) (answer : Answer) (status : ℕ) →
+    IsPut answer old between (Err unwritten.NoMemory) →
+    Writes (sink_over between new) (text_of NoMemory) (status_of NoMemory) status →
+    Finishes (sink_over old new) (Ok answer) status
 cut_short old between new (Help topic) status put line = absurd (put.memory refl)
 cut_short old between new Version status put line = absurd (put.memory refl)
 cut_short old between new (Text text) status put line = absurd (put.memory refl)
@@ -70,10 +79,15 @@ cut_short old between new (Drawn chart) status put line = absurd (put.memory ref
 cut_short old between new (Dates dates) status put line = absurd (put.memory refl)
 cut_short old between new (Latest latest) status put line = absurd (put.memory refl)
 cut_short old between new (Changed changes) status put line = absurd (put.memory refl)
-cut_short old between new (Curved counts) status put line = inr (inr (record { between = between; rows = put; line = line }))
+cut_short old between new (Curved counts) status put line = inr (inr (record {
+  between = between;
+  rows = put;
+  line = line;
+}))
 
 -- an answer with this text
-pub whole : (sink : SinkOver) (text : List ℕ) (answer : Answer) (status : ℕ) → Answers text (Ok answer) → Finishes sink (Ok answer) status → Writes sink text 0 status
+pub whole : (sink : SinkOver) (text : List ℕ) (answer : Answer) (status : ℕ) → Answers text (Ok answer) →
+    Finishes sink (Ok answer) status → Writes sink text 0 status
 whole sink text (Help topic) status is ended = subst (λ (bytes : List ℕ). Writes sink bytes 0 status) is ended
 whole sink text Version status is ended = subst (λ (bytes : List ℕ). Writes sink bytes 0 status) is ended
 whole sink text (Text own) status is ended = subst (λ (bytes : List ℕ). Writes sink bytes 0 status) is ended

@@ -33,12 +33,13 @@ abbrev pub IsWrittenInParts : Refusal → Type 0
 IsWrittenInParts (StoreFault file) = ⊤
 IsWrittenInParts other = ⊥
 
--- a refusal was written, or that there is no memory where there was none for its line; a line that is known beforehand or is
--- written in parts needs none
+-- a refusal was written, or that there is no memory where there was none for its line; a line that is known beforehand
+-- or is written in parts needs none
 abbrev pub WritesRefusal : SinkOver → Refusal → ℕ → Type 0
 WritesRefusal sink refusal status =
     Writes sink (text_of refusal) (status_of refusal) status
-    ⊎ ((IsFixed refusal → ⊥) × (IsWrittenInParts refusal → ⊥) × Writes sink (text_of NoMemory) (status_of NoMemory) status)
+    ⊎ ((IsFixed refusal → ⊥) × (IsWrittenInParts refusal → ⊥)
+    × Writes sink (text_of NoMemory) (status_of NoMemory) status)
 
 -- the rows of some first counts of a curve were written, and then that there is no memory for the next one
 pub record IsCutShort (sink : SinkOver) (c : Counts) (status : ℕ) : Type 0 where
@@ -46,8 +47,8 @@ pub record IsCutShort (sink : SinkOver) (c : Counts) (status : ℕ) : Type 0 whe
   pub rows : CurveIsPut c sink.old between (Err unwritten.NoMemory)
   pub line : Writes (sink_over between sink.new) (text_of NoMemory) (status_of NoMemory) status
 
--- the rows of a curve were written, with status 0, or some prefix where the sink failed, or those of some first counts where
--- memory ran out
+-- the rows of a curve were written, with status 0, or some prefix where the sink failed, or those of some first counts
+-- where memory ran out
 abbrev pub FinishesCurve : SinkOver → Counts → ℕ → Type 0
 FinishesCurve sink c status =
     ((status ≡ 0) × CurveIsPut c sink.old sink.new (Ok tt))
@@ -60,8 +61,8 @@ Finishes sink (Ok (Curved counts)) status = FinishesCurve sink counts status
 Finishes sink (Ok answer) status = Writes sink (answer_bytes answer) 0 status
 Finishes sink (Err refusal) status = WritesRefusal sink refusal status
 
--- The call ends with this status: the words ask for, and answer, what the verdict says over the bytes that were read; and
--- that was written to the sink.
+-- The call ends with this status: the words ask for, and answer, what the verdict says over the bytes that were read;
+-- and that was written to the sink.
 pub record Ends (words : List (List ℕ)) (store : StoreOver) (sink : SinkOver) (disk : DiskOver)
     (status : ℕ) : Type 0 where
   pub answer : Result Answer Refusal

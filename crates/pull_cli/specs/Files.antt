@@ -30,8 +30,8 @@ abbrev pub LeavesSaved : ℕ → Option (List ℕ) → Option (List ℕ) → Lis
 LeavesSaved status old new bytes =
     ((status ≡ 0) × (new ≡ Some bytes)) ⊎ (((status ≡ 5) ⊎ (status ≡ 6)) × IsTorn old new bytes)
 
--- The run of this plant file stopped at the first burst's end with N firings, in a state from which it may be resumed, and
--- left this of FILE. With status 0 it wrote that it stopped.
+-- The run of this plant file stopped at the first burst's end with N firings, in a state from which it may be resumed,
+-- and left this of FILE. With status 0 it wrote that it stopped.
 pub record StopsAndSaves (name : List ℕ) (stop : Stop) (store : StoreOver) (sink : SinkOver) (status : ℕ) : Type 0 where
   pub plant : Plant
   pub read : IsPlantRead plant name store
@@ -49,8 +49,8 @@ abbrev pub StaysOrSaves : List ℕ → Stop → StoreOver → SinkOver → ℕ �
 StaysOrSaves name stop store sink status =
     (store.new.files stop.save ≡ store.old.files stop.save) ⊎ StopsAndSaves name stop store sink status
 
--- Where files are told, every file is as it was but FILE of a run that is asked to stop, and with a status other than 0,
--- 5 and 6 FILE too; and FILE is as it was where the run didn't stop.
+-- Where files are told, every file is as it was but FILE of a run that is asked to stop, and with a status other than
+-- 0, 5 and 6 FILE too; and FILE is as it was where the run didn't stop.
 pub record FilesStay (words : List (List ℕ)) (store : StoreOver) (sink : SinkOver) (status : ℕ) : Type 0 where
   pub others_stay : IsTrue store.tells → (q : List ℕ) → save_of (command_of words) ≢ Some q
       → store.new.files q ≡ store.old.files q

@@ -1,5 +1,6 @@
--- The first half of the headline. For every plant file, number of workers and interleaving of their steps, a run that isn't
--- told to stop and ends with status 0 has written exactly the report of the least solution of the policy's equations.
+-- The first half of the headline. For every plant file, number of workers and interleaving of their steps, a run that
+-- isn't told to stop and ends with status 0 has written exactly the report of the least solution of the policy's
+-- equations.
 use Rattle.std.specs.Prelude.{◌≡◌, ℕ, List, ◌++◌, IsTrue, Option, Some, None, Ok}
 use Rattle.command_line.specs.Words.{command_of}
 use Rattle.command_line.specs.declared.command.Command.{Command}

@@ -1,7 +1,7 @@
--- The second half of the headline. For every plant file, number of workers and interleaving of their steps, a run that is
--- told to stop and ends with status 0 has written the report too, or, if it was stopped before all firings were made, has
--- saved a state that firings reach, in which every circuit holds its initial number of tokens, and resuming it writes that
--- same report.
+-- The second half of the headline. For every plant file, number of workers and interleaving of their steps, a run that
+-- is told to stop and ends with status 0 has written the report too, or, if it was stopped before all firings were
+-- made, has saved a state that firings reach, in which every circuit holds its initial number of tokens, and resuming
+-- it writes that same report.
 use Rattle.std.specs.Prelude.{◌≡◌, ◌⊎◌, ℕ, ◌≤◌, List, [], ◌∷◌, ◌++◌, length, IsTrue, Some, Result, Ok}
 use Rattle.answers.specs.Answer.{answer_bytes}
 use Rattle.answers.specs.declared.answer.Answer.{Answer}
@@ -25,13 +25,13 @@ use Rattle.plant_model.specs.declared.plant.Plant.{Plant}
 use Rattle.refusals.specs.declared.refusal.Refusal.{Refusal}
 use Rattle.pull_cli.specs.RunReports.{IsPlantRead, HasReported}
 
--- "resuming it writes that same report": whatever resuming these bytes answers, but for out of memory, is the report over
--- the least solution, of which a graph has one
+-- "resuming it writes that same report": whatever resuming these bytes answers, but for out of memory, is the report
+-- over the least solution, of which a graph has one
 abbrev pub ResumesToReport : Plant → List ℕ → Type 0
 ResumesToReport p bytes = (answer : Result Answer Refusal) → IsResumed p bytes answer → IsReport p answer
 
--- "has saved a state that firings reach, in which every circuit holds its initial number of tokens"; it is the state at the
--- first burst's end with N firings, and its text is no longer than a checkpoint may be
+-- "has saved a state that firings reach, in which every circuit holds its initial number of tokens"; it is the state at
+-- the first burst's end with N firings, and its text is no longer than a checkpoint may be
 pub record HasSaved (p : Plant) (stop : Stop) (store : StoreOver) (sink : SinkOver) : Type 0 where
   pub state : State
   pub stopped : MayBeResumed (graph p) state

@@ -1,5 +1,5 @@
--- The verdict: what a command reads, in which order, and what it answers over the bytes that its reads gave; which file it
--- writes, and what it does with a disk. The files are looked at in the order in which they stand here, and the first
+-- The verdict: what a command reads, in which order, and what it answers over the bytes that its reads gave; which file
+-- it writes, and what it does with a disk. The files are looked at in the order in which they stand here, and the first
 -- refusal ends the command.
 use Rattle.std.specs.Prelude.{◌≡◌, ◌⊎◌, Bool, List, ℕ, Option, Some, None, Result, Err}
 use Rattle.answers.specs.declared.answer.Answer.{Answer}
@@ -41,8 +41,8 @@ OfTask tells files (OnDisk plant question) = ThenDoes (OfPlantNamed tells files 
 abbrev pub OfCommand : Bool → Contents → Command → Action Answer
 OfCommand tells files command = OfTask tells files (task_of command)
 
--- Words that are no command ask for nothing, and the answer is the usage. A command does and answers what stands above, or
--- there is no memory before anything was asked.
+-- Words that are no command ask for nothing, and the answer is the usage. A command does and answers what stands above,
+-- or there is no memory before anything was asked.
 abbrev pub OfWords : Bool → Contents → Option Command → Action Answer
 OfWords tells files None asked disk answer = (asked ≡ none_asked) × (disk.new ≡ disk.old) × (answer ≡ Err Usage)
 OfWords tells files (Some command) asked disk answer =

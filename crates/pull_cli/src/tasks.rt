@@ -1,20 +1,18 @@
-//! What each task answers: the live plant is read, and then the further file, and what is asked is asked of them.
+//! What each task answers: the live plant is read, and then the further file, and what is asked is asked of them. A
+//! refusal of a reading is that of the task.
 ghost use Rattle.command_line.specs.Ranges.{AreWorkers};
 ghost use Rattle.command_line.specs.declared.command.Command.TheVariants as command;
-ghost use Rattle.commands.specs.Task.{IsDiskInRange, IsFileInRange, IsPlantInRange, IsTaskInRange};
-ghost use Rattle.commands.specs.declared.task.Task.TheVariants as task;
+ghost use Rattle.commands.specs.Answers.{AnswersOfFile};
+ghost use Rattle.commands.specs.Task.{IsFileInRange, IsTaskInRange};
 ghost use Rattle.live_plant.specs.Actions.{disk_over, DoesOnStore};
 ghost use Rattle.live_plant.specs.LivePlant.{IsLivePlant};
 ghost use Rattle.live_plant.specs.Outside.{store_over};
 ghost use Rattle.live_plant.specs.Steps.{Makes};
-ghost use Rattle.commands.specs.Answers.{AnswersOfFile};
-ghost use Rattle.pull_cli.specs.Verdict.{AsksWith, OfCommand, OfTask, TaskDoes};
+ghost use Rattle.pull_cli.specs.Verdict.{AsksWith, OfCommand, TaskDoes};
 
 use answers::Answer;
-use command_line::Stop;
 use commands::{
-    DiskQuestion, FileQuestion, PlantQuestion, Task, ask_alone, ask_disk, ask_file, ask_plant,
-    run_standing, run_until,
+    FileQuestion, Task, ask_alone, ask_disk, ask_file, ask_plant, run_standing, run_until,
 };
 use line_disk::Disk;
 use line_io::Store;
@@ -40,81 +38,34 @@ pub fn do_task<R: Threads + Sync, S: Store, G: Gate, D: Disk>(
 {
     match task {
         Task::Alone { question } => ask_alone(rt, alloc, question, gate),
+        Task::Linting { plant } => {
+            let text = lint_plant_file(alloc, store, plant.as_str())?;
+            Ok(Answer::Text { text })
+        }
         Task::OnPlant { plant, question } => {
-            on_plant(rt, alloc, plant.as_str(), question, store, gate)
+            let line = read_live_plant(alloc, store, plant.as_str())?;
+            ask_plant(rt, alloc, line, question, gate)
         }
         Task::OnFile {
             plant,
             file,
             question,
-        } => on_file(
-            rt,
-            alloc,
-            plant.as_str(),
-            file.as_str(),
-            question,
-            store,
-            gate,
-        ),
+        } => {
+            let line = read_live_plant(alloc, store, plant.as_str())?;
+            ask_with(rt, alloc, line, file.as_str(), question, store, gate)
+        }
         Task::Stopping {
             plant,
             workers,
             stop,
-        } => until_stop(rt, alloc, plant.as_str(), workers, stop, store, gate),
-        Task::OnDisk { plant, question } => {
-            on_disk(rt, alloc, plant.as_str(), question, store, gate, disk)
+        } => {
+            let line = read_live_plant(alloc, store, plant.as_str())?;
+            run_until(rt, alloc, line, workers, stop, gate, store)
         }
-        Task::Linting { plant } => lint(alloc, plant.as_str(), store),
-    }
-}
-
-/// What lint answers of a plant file.
-fn lint<S: Store>(alloc: Global, plant: &str, store: &mut S) -> Result<Answer, Refusal>
-    ensures { DoesOnStore (store_over S.tells (S.shown store.old) (S.shown store.new))
-        (OfTask S.tells (S.shown store.old).files (task.Linting plant.now)) result }
-{
-    match lint_plant_file(alloc, store, plant) {
-        Ok(text) => Ok(Answer::Text { text }),
-        Err(refusal) => Err(refusal),
-    }
-}
-
-/// What is answered about the live plant of a plant file.
-fn on_plant<R: Threads + Sync, S: Store, G: Gate>(
-    rt: &R,
-    alloc: Global,
-    plant: &str,
-    question: PlantQuestion,
-    store: &mut S,
-    gate: &G,
-) -> Result<Answer, Refusal>
-    requires range { IsPlantInRange question }
-    ensures { DoesOnStore (store_over S.tells (S.shown store.old) (S.shown store.new))
-        (OfTask S.tells (S.shown store.old).files (task.OnPlant plant.now question)) result }
-{
-    match read_live_plant(alloc, store, plant) {
-        Ok(line) => ask_plant(rt, alloc, line, question, gate),
-        Err(refusal) => Err(refusal),
-    }
-}
-
-/// What is answered about the live plant of a plant file, and the bytes of a further file.
-fn on_file<R: Threads + Sync, S: Store, G: Gate>(
-    rt: &R,
-    alloc: Global,
-    plant: &str,
-    file: &str,
-    question: FileQuestion,
-    store: &mut S,
-    gate: &G,
-) -> Result<Answer, Refusal>
-    requires range { IsFileInRange question }
-    ensures { DoesOnStore (store_over S.tells (S.shown store.old) (S.shown store.new))
-        (OfTask S.tells (S.shown store.old).files (task.OnFile plant.now file.now question)) result }
-{
-    match read_live_plant(alloc, store, plant) {
-        Ok(line) => ask_with(rt, alloc, line, file, question, store, gate),
-        Err(refusal) => Err(refusal),
+        Task::OnDisk { plant, question } => {
+            let line = read_live_plant(alloc, store, plant.as_str())?;
+            ask_disk(rt, alloc, line, question, gate, disk)
+        }
     }
 }
 
@@ -135,47 +86,10 @@ fn ask_with<R: Threads + Sync, S: Store, G: Gate>(
 {
     match read_file(alloc, store, file) {
         Ok(bytes) => ask_file(rt, alloc, line, bytes.as_slice(), question, gate),
-        Err(refusal) => Err(refusal),
-    }
-}
-
-/// What a run of the live plant of a plant file answers that is asked to stop.
-fn until_stop<R: Threads + Sync, S: Store, G: Gate>(
-    rt: &R,
-    alloc: Global,
-    plant: &str,
-    workers: u32,
-    stop: Stop,
-    store: &mut S,
-    gate: &G,
-) -> Result<Answer, Refusal>
-    requires range { AreWorkers workers }
-    ensures { DoesOnStore (store_over S.tells (S.shown store.old) (S.shown store.new))
-        (OfTask S.tells (S.shown store.old).files (task.Stopping plant.now workers stop)) result }
-{
-    match read_live_plant(alloc, store, plant) {
-        Ok(line) => run_until(rt, alloc, line, workers, stop, gate, store),
-        Err(refusal) => Err(refusal),
-    }
-}
-
-/// What is answered about the live plant of a plant file, and the slots of a disk.
-fn on_disk<R: Threads + Sync, S: Store, G: Gate, D: Disk>(
-    rt: &R,
-    alloc: Global,
-    plant: &str,
-    question: DiskQuestion,
-    store: &mut S,
-    gate: &G,
-    disk: &mut D,
-) -> Result<Answer, Refusal>
-    requires range { IsDiskInRange question }
-    ensures { TaskDoes (store_over S.tells (S.shown store.old) (S.shown store.new))
-        (disk_over D.tells (D.shown disk.old) (D.shown disk.new)) (task.OnDisk plant.now question) result }
-{
-    match read_live_plant(alloc, store, plant) {
-        Ok(line) => ask_disk(rt, alloc, line, question, gate, disk),
-        Err(refusal) => Err(refusal),
+        Err(refusal) => {
+            drop(line);
+            Err(refusal)
+        }
     }
 }
 
@@ -192,8 +106,6 @@ pub fn stand_plant<R: Threads + Wait + Sync, S: Store, G: Gate>(
     ensures { DoesOnStore (store_over S.tells (S.shown store.old) (S.shown store.new))
         (OfCommand S.tells (S.shown store.old).files (command.RunStand plant.now workers)) result }
 {
-    match read_live_plant(alloc, store, plant) {
-        Ok(line) => run_standing(rt, alloc, line, workers, gate),
-        Err(refusal) => Err(refusal),
-    }
+    let line = read_live_plant(alloc, store, plant)?;
+    run_standing(rt, alloc, line, workers, gate)
 }

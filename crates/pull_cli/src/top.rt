@@ -183,10 +183,8 @@ fn done_or_stood<R: Threads + Wait + Sync, S: Store, G: Gate, D: Disk>(
         (disk_over D.tells (D.shown disk.old) (D.shown disk.new))
         (OfWords S.tells (S.shown store.old).files (command_of (texts words.now))) result }
 {
-    match command_in(alloc, words) {
-        Ok(command) => do_or_stand(rt, alloc, command, store, gate, disk),
-        Err(refusal) => Err(refusal),
-    }
+    let command = command_in(alloc, words)?;
+    do_or_stand(rt, alloc, command, store, gate, disk)
 }
 
 /// What the words answer, by bursts.
@@ -202,10 +200,8 @@ fn result_of<R: Threads + Sync, S: Store, G: Gate, D: Disk>(
         (disk_over D.tells (D.shown disk.old) (D.shown disk.new))
         (OfWords S.tells (S.shown store.old).files (command_of (texts words.now))) result }
 {
-    match command_in(alloc, words) {
-        Ok(command) => do_task(rt, alloc, task_of(command), store, gate, disk),
-        Err(refusal) => Err(refusal),
-    }
+    let command = command_in(alloc, words)?;
+    do_task(rt, alloc, task_of(command), store, gate, disk)
 }
 
 /// The command that the words are, or the refusal where there is none, or no memory for it.

@@ -1,12 +1,14 @@
 -- The status of `latest`, `why` and `chart` is decided by the plant: a graph has one least solution.
-use Rattle.std.proofs.Common.{◌≡◌, ◌+◌, ◌-◌, ◌<◌, ◌≤◌, ℕ, Bool, true, false, cond, ltb, List, [], ◌∷◌, ◌++◌, length, get_or, refl, ap, sym, ◌∙◌, subst, inl, inr, ⊎_elim, arith}
+use Rattle.std.proofs.Common.{◌≡◌, ◌+◌, ◌-◌, ◌<◌, ◌≤◌, ℕ, Bool, true, false, cond, ltb, List, [], ◌∷◌, ◌++◌, length}
+use Rattle.std.proofs.Common.{get_or, refl, ap, sym, ◌∙◌, subst, inl, inr, ⊎_elim, arith}
 use Rattle.std.specs.Prelude.{Option, Some, Result, filter, map}
 use Rattle.std.specs.List.{All, find, flat_map, range_with_len}
 use Rattle.std.proofs.lemmas.Bool.{cases_lt, le-ltb}
 use Rattle.std.proofs.lemmas.List.Elements.{All-head, All-tail, All-filter}
 use Rattle.std.proofs.lemmas.Slice.Eq.{bytes_eq-Decides}
 use Rattle.answers.specs.declared.answer.Answer.{Answer}
-use Rattle.commands.specs.Answers.{IsLatestOf, IsLateJob, IsLatest, IsCausedBy, IsNoDate, IsWhy, picture_of, IsPictured, IsTooLarge, IsChart}
+use Rattle.commands.specs.Answers.{IsLatestOf, IsLateJob, IsLatest, IsCausedBy, IsNoDate, IsWhy, picture_of, IsPictured}
+use Rattle.commands.specs.Answers.{IsTooLarge, IsChart}
 use Rattle.date_causes.specs.Chain.{IsChain, demanded, started, led}
 use Rattle.date_causes.specs.Named.{HasNoDate}
 use Rattle.date_causes.specs.WhyText.{why_text}
@@ -42,7 +44,12 @@ use Rattle.pull_laws.proofs.AnswersAlike.{Ends, text_done, refused_alike, ways_a
 -- a graph has one least solution
 one_least : (g : Parts) (x y : Table) → IsLeast g x → IsLeast g y → IsSameTable g x y
 one_least g x y least_x least_y t n there one within =
-    omega (arith, least_x.least y least_y.solves t n there one within, least_y.least x least_x.solves t n there one within)
+    omega (
+      arith,
+      least_x.least y least_y.solves t n there one within,
+      least_y.least x least_x.solves t n there one
+          within,
+    )
 
 -- ---- `latest`
 
@@ -57,7 +64,8 @@ module _ (p : Plant) (wait : ℕ) where
       let feed = same 0 not.job (omega arith) first.from_one first.exists in
       omega (arith, last, feed, first.waits, first.longer, is.in_time not.job first.from_one first.exists)
 
-  pub latest_alike : (one other : Result Answer Refusal) → IsLatest (graph p) wait one → IsLatest (graph p) wait other → Ends one other
+  pub latest_alike : (one other : Result Answer Refusal) → IsLatest (graph p) wait one → IsLatest (graph p) wait other →
+      Ends one other
   latest_alike =
       ways_alike (IsLatestOf (graph p) wait) (IsLateJob (graph p) wait)
       (λ a is. text_done (latest_text (graph p) (date_in is.rows) is.dates) a is.written)
@@ -85,7 +93,8 @@ chain_job g x _ _ _ (started l link is) = link.job
 chain_job g x _ _ _ (led links l a link is before) = link.job
 
 module _ (p : Plant) (name : List ℕ) (job : ℕ) where
-  has_date : (station : ℕ) → station_with (graph p) name ≡ Some station → job ≤ jobs (graph p) → HasNoDate (graph p) name job → ⊥
+  has_date : (station : ℕ) → station_with (graph p) name ≡ Some station → job ≤ jobs (graph p) →
+      HasNoDate (graph p) name job → ⊥
   has_date station named within (inl none) =
       let g = graph p in
       let passes = find_passes (is_label_of g name) (range_with_len 0 (stations g)) station named in
@@ -98,7 +107,8 @@ module _ (p : Plant) (name : List ℕ) (job : ℕ) where
       (λ a is. text_done (why_text p is.chained.links) a is.chained.written)
       (λ a b is not.
       let chained = is.chained in
-      absurd (has_date is.station is.named (chain_job (graph p) (date_in chained.rows) is.station job chained.links chained.chain) not.none))
+      absurd (has_date is.station is.named (chain_job (graph p)
+      (date_in chained.rows) is.station job chained.links chained.chain) not.none))
       (λ a b not nor. refused_alike 18 (NoDate name job) (NoDate name job) a b not.says nor.says (inr refl) (inr refl))
 
 -- ---- `chart`
@@ -122,8 +132,10 @@ module _ (g : Parts) (graph_is : IsGraph g) (x y : Table) (same : IsSameTable g 
       (λ later.
       ap (λ (d : ℕ). cond (ltb (arc g a).tokens n) (d + delay g a) 0)
       (same (arc g a).from (n - (arc g a).tokens) there (omega arith) (omega arith)))
-      (λ early. ap (λ (b : Bool). cond b (x (arc g a).from (n - (arc g a).tokens) + delay g a) 0) (le-ltb (arc g a).tokens n early)
-      ∙ sym (ap (λ (b : Bool). cond b (y (arc g a).from (n - (arc g a).tokens) + delay g a) 0) (le-ltb (arc g a).tokens n early)))
+      (λ early. ap (λ (b : Bool). cond b (x (arc g a).from (n - (arc g a).tokens) + delay g a) 0)
+      (le-ltb (arc g a).tokens n early)
+      ∙ sym (ap (λ (b : Bool). cond b (y (arc g a).from (n - (arc g a).tokens) + delay g a) 0)
+      (le-ltb (arc g a).tokens n early)))
       (cases_lt (arc g a).tokens n)
 
   start-same : (t n : ℕ) → n ≤ jobs g → start g x t n ≡ start g y t n
@@ -141,16 +153,20 @@ module _ (g : Parts) (graph_is : IsGraph g) (x y : Table) (same : IsSameTable g 
   machine_bars-same w m =
       ap (λ (bs : List Bar). filter (meets w) bs)
       (map-alike (bar g x m) (bar g y m) (job_numbers g)
-      (All-numbers _ 1 (jobs g) (λ n one low. ap (λ (from : ℕ). record (bar g x m n) { start = from }) (start-same m.station n (omega arith)))))
+      (All-numbers _ 1 (jobs g) (λ n one low. ap (λ (from : ℕ). record (bar g x m n) { start = from })
+      (start-same m.station n (omega arith)))))
 
 module _ (p : Plant) (sound : IsSound p) (window : Option (ℕ × ℕ)) where
   bars-same : (x y : Table) → IsSameTable (graph p) x y → (w : Window) → bars p x w ≡ bars p y w
   unfolding bars
   bars-same x y same w =
       let g = graph p in
-      flat_map-alike (machine_bars g x w) (machine_bars g y w) (machines p) (machine_bars-same g (IsGraph-graph p sound) x y same w)
+      flat_map-alike (machine_bars g x w) (machine_bars g y w) (machines p)
+      (machine_bars-same g (IsGraph-graph p sound) x y same w)
 
-  bars_and_lanes-same : (rows others : List (List ℕ)) → IsLeast (graph p) (date_in rows) → IsLeast (graph p) (date_in others) → bars_and_lanes (picture_of p rows window) ≡ bars_and_lanes (picture_of p others window)
+  bars_and_lanes-same : (rows others : List (List ℕ)) → IsLeast (graph p) (date_in rows) →
+      IsLeast (graph p) (date_in others) → bars_and_lanes (picture_of p rows window) ≡ bars_and_lanes
+      (picture_of p others window)
   bars_and_lanes-same rows others least least_too =
       let g = graph p in
       let x = date_in rows in
@@ -160,10 +176,18 @@ module _ (p : Plant) (sound : IsSound p) (window : Option (ℕ × ℕ)) where
       ap (λ (d : ℕ). length (bars p x (window_of window d)) + lane_count p) last
       ∙ ap (λ (bs : List Bar). length bs + lane_count p) (bars-same x y same (window_of window (last_date g y)))
 
-  pub charts_alike : (one other : Result Answer Refusal) → IsChart p window one → IsChart p window other → Ends one other
+  pub charts_alike : (one other : Result Answer Refusal) → IsChart p window one → IsChart p window other →
+      Ends one other
   charts_alike =
       ways_alike (IsPictured p window) (IsTooLarge p window)
       (λ a is. text_done (text_of (picture_of p is.rows window)) a is.written)
-      (λ a b is not. absurd (omega (arith, is.small, not.large, bars_and_lanes-same is.rows not.rows is.least not.least)))
+      (λ a b is not. absurd (omega (
+        arith,
+        is.small,
+        not.large,
+        bars_and_lanes-same is.rows not.rows is.least
+            not.least,
+      )))
       (λ a b not nor.
-      refused_alike 20 (TooLarge (bars_and_lanes (picture_of p not.rows window))) (TooLarge (bars_and_lanes (picture_of p nor.rows window))) a b not.says nor.says (inr refl) (inr refl))
+      refused_alike 20 (TooLarge (bars_and_lanes (picture_of p not.rows window)))
+      (TooLarge (bars_and_lanes (picture_of p nor.rows window))) a b not.says nor.says (inr refl) (inr refl))

@@ -1,6 +1,7 @@
--- What a draft that was read says of names and limits: it names no checkpoint, so files that differ in checkpoints alone have one
--- plant; and it is sound.
-use Rattle.std.proofs.Common.{◌≡◌, ℕ, Bool, true, false, not, ◌&&◌, List, [], ◌∷◌, refl, ap, ◌∙◌, subst, codes, arith, if◌then◌else◌}
+-- What a draft that was read says of names and limits: it names no checkpoint, so files that differ in checkpoints
+-- alone have one plant; and it is sound.
+use Rattle.std.proofs.Common.{◌≡◌, ℕ, Bool, true, false, not, ◌&&◌, List, [], ◌∷◌, refl, ap, ◌∙◌, subst, codes, arith}
+use Rattle.std.proofs.Common.{if◌then◌else◌}
 use Rattle.std.specs.Prelude.{Option, Some, None, Result, Ok, Err, IfSome, unwrap_or}
 use Rattle.std.specs.Option.{option_map_or}
 use Rattle.line_base.specs.Text.{is_file_name, is_checkpoint_name}
@@ -9,7 +10,8 @@ use Rattle.plant_model.specs.declared.error.PlantError.TheVariants.{NotToml}
 use Rattle.plant_model.specs.declared.place.FileTable.TheVariants.{Top}
 use Rattle.plant_model.proofs.NoRefusals.{append-nil_left, append-nil_right, each-none, refuse_if-none}
 use Rattle.toml.specs.Data.{Data, get}
-use Rattle.plant_keys.specs.declared.keys.Class.TheVariants.{UnknownKeys, MissingKeys, WrongTypes, BadNames, OutOfRanges}
+use Rattle.plant_keys.specs.declared.keys.Class.TheVariants.{UnknownKeys, MissingKeys, WrongTypes, BadNames}
+use Rattle.plant_keys.specs.declared.keys.Class.TheVariants.{OutOfRanges}
 use Rattle.plant_keys.specs.declared.keys.Kind.TheVariants.{StageText, FileName}
 use Rattle.plant_keys.specs.Keys.{Key, optional, top_keys, has_column}
 use Rattle.plant_keys.specs.Readers.{has, text_of, text_at}
@@ -19,7 +21,8 @@ use Rattle.plant_draft.specs.declared.draft.DraftDemands.TheVariants.{Given, Fil
 use Rattle.plant_draft.specs.declared.draft.DraftPlant.{DraftPlant}
 use Rattle.plant_draft.specs.Draft.{file_of, demands_file, IsSoundDraft}
 use Rattle.plant_draft.proofs.SoundDrafts.{sound_draft}
-use Rattle.plant_draft.specs.Reading.{column_at, draft_of, tree_refusals, draft_or_first, tree_of, tree_reading, reading}
+use Rattle.plant_draft.specs.Reading.{column_at, draft_of, tree_refusals, draft_or_first, tree_of, tree_reading}
+use Rattle.plant_draft.specs.Reading.{reading}
 use Rattle.plant_file.specs.Finish.{completed}
 use Rattle.plant_file.specs.PlantOfFiles.{Contents, bytes_at, bytes_of, plant_of_reading, plant_of}
 
@@ -41,9 +44,12 @@ not_false true h = refl
 not_false false h = absurd (cc)
 
 -- the text at a key for a file's name, where no name is bad
-named_plain : (place : List ℕ) (o : Option Data) → option_map_or (value_refusals BadNames FileName place) o [] ≡ [] → IsPlain (option_map_or text_of o [])
+named_plain : (place : List ℕ) (o : Option Data) → option_map_or (value_refusals BadNames FileName place) o [] ≡ [] →
+    IsPlain (option_map_or text_of o [])
 named_plain place None h = refl
-named_plain place (Some v) h = file_is_plain (text_of v) (not_false (is_file_name (text_of v)) (refuse_if-none (not (is_file_name (text_of v))) _ h))
+named_plain place (Some v) h =
+    file_is_plain (text_of v) (not_false (is_file_name (text_of v))
+    (refuse_if-none (not (is_file_name (text_of v))) _ h))
 
 no_key : Key
 no_key = optional [] StageText
@@ -53,7 +59,8 @@ pub record NamesNoCheckpoint (d : DraftPlant) : Type 0 where
   pub demands : IfSome (demands_file d) IsPlain
   pub times : IfSome d.times_file IsPlain
 
-demands_plain : (given : Bool) (dates name : List ℕ) (column : ℕ) → IsPlain name → IfSome (file_of (if given then Given dates else File name column)) IsPlain
+demands_plain : (given : Bool) (dates name : List ℕ) (column : ℕ) → IsPlain name →
+    IfSome (file_of (if given then Given dates else File name column)) IsPlain
 demands_plain true dates name column plain = tt
 demands_plain false dates name column plain = plain
 
@@ -69,7 +76,8 @@ bad_names : (top : Data) → tree_refusals top ≡ [] → walk BadNames top ≡ 
 unfolding tree_refusals
 bad_names top h =
     append-nil_left (walk BadNames top) _
-    (append-nil_right (walk WrongTypes top) _ (append-nil_right (walk MissingKeys top) _ (append-nil_right (walk UnknownKeys top) _ h)))
+    (append-nil_right (walk WrongTypes top) _ (append-nil_right (walk MissingKeys top) _
+    (append-nil_right (walk UnknownKeys top) _ h)))
 
 draft_names : (top : Data) → walk BadNames top ≡ [] → NamesNoCheckpoint (draft_of top)
 draft_names top h =
@@ -77,8 +85,10 @@ draft_names top h =
     let demands = each-none (λ _ k. key_refusals BadNames Top top k) (top_keys top) 4 no_key (omega arith) keys in
     let times = each-none (λ _ k. key_refusals BadNames Top top k) (top_keys top) 9 no_key (omega arith) keys in
     record {
-      demands = demands_plain (has (codes "demands") top) _ (text_at (codes "demands_file") top) (column_at (codes "demands_column") top) (named_plain _ (get (codes "demands_file") top) demands);
-      times = times_plain (has_column top) (text_at (codes "times_file") top) (named_plain _ (get (codes "times_file") top) times);
+      demands = demands_plain (has (codes "demands") top) _ (text_at (codes "demands_file") top)
+          (column_at (codes "demands_column") top) (named_plain _ (get (codes "demands_file") top) demands);
+      times = times_plain (has_column top) (text_at (codes "times_file") top)
+          (named_plain _ (get (codes "times_file") top) times);
     }
 
 -- a draft that is answered is the draft, and nothing is refused
@@ -90,7 +100,8 @@ same_draft : (rs : List PlantError) (draft d : DraftPlant) → draft_or_first rs
 same_draft [] draft d is = cc
 same_draft (r ∷ rs) draft d is = absurd (cc)
 
-tree_names : (o : Option Data) (d : DraftPlant) → option_map_or tree_reading o (Err NotToml) ≡ Ok d → NamesNoCheckpoint d
+tree_names : (o : Option Data) (d : DraftPlant) → option_map_or tree_reading o (Err NotToml) ≡ Ok d →
+    NamesNoCheckpoint d
 tree_names None d is = absurd (cc)
 tree_names (Some top) d is =
     subst NamesNoCheckpoint (same_draft (tree_refusals top) (draft_of top) d is)
@@ -116,7 +127,8 @@ tree_sound top h =
     (append-nil_left (feeds_not_later_in (draft_of top).stages) _ rest)
     (append-nil_right (feeds_not_later_in (draft_of top).stages) _ rest)
 
-answered_sound : (rs : List PlantError) (draft d : DraftPlant) → (rs ≡ [] → IsSoundDraft draft) → draft_or_first rs draft ≡ Ok d → IsSoundDraft d
+answered_sound : (rs : List PlantError) (draft d : DraftPlant) → (rs ≡ [] → IsSoundDraft draft) →
+    draft_or_first rs draft ≡ Ok d → IsSoundDraft d
 answered_sound [] draft d sound is = let same : draft ≡ d = cc in subst IsSoundDraft same (sound refl)
 answered_sound (r ∷ rs) draft d sound is = absurd (cc)
 
@@ -133,7 +145,8 @@ module _ (a b : Contents) (agree : (q : List ℕ) → IsPlain q → a q ≡ b q)
   bytes_same None plain = refl
   bytes_same (Some name) plain = ap (λ (o : Option (List ℕ)). Some (unwrap_or o [])) (agree name plain)
 
-  reading_same : (r : Result DraftPlant PlantError) → ((d : DraftPlant) → r ≡ Ok d → NamesNoCheckpoint d) → plant_of_reading a r ≡ plant_of_reading b r
+  reading_same : (r : Result DraftPlant PlantError) → ((d : DraftPlant) → r ≡ Ok d → NamesNoCheckpoint d) →
+      plant_of_reading a r ≡ plant_of_reading b r
   reading_same (Ok d) names =
       let own = names d refl in
       ap (λ (o : Option (List ℕ)). completed d o (bytes_of a d.times_file)) (bytes_same (demands_file d) own.demands)

@@ -1,6 +1,7 @@
 -- A call over a store that doesn't tell its files ends as over files from which its reads were answered.
-use Rattle.std.proofs.Common.{◌≡◌, ◌≢◌, ◌⊎◌, ℕ, ◌≤◌, true, false, if◌then◌else◌, List, [], ◌∷◌, ◌++◌, length, refl, ap, sym, ◌∙◌, subst, inl, inr}
-use Rattle.std.specs.Prelude.{Option, Some, None, Bool, Result, Ok, Err, IfErr, IsTrue, All}
+use Rattle.std.proofs.Common.{◌≡◌, ◌≢◌, ℕ, true, if◌then◌else◌, List, [], ◌∷◌, ◌++◌, length, refl, ap}
+use Rattle.std.proofs.Common.{sym, ◌∙◌, subst, inl, inr}
+use Rattle.std.specs.Prelude.{Option, Some, None, Bool, Result, Ok, Err, IfErr, All}
 use Rattle.std.specs.Str.{bytes_eq}
 use Rattle.std.proofs.Math.Seq.{take-append_seam}
 use Rattle.std.proofs.lemmas.Bool.{false_from_ne_true}
@@ -25,7 +26,7 @@ use Rattle.live_plant.specs.Outside.{StoreOver, Fits, IsOfFile}
 use Rattle.live_plant.specs.PlantSteps.{OfPlantNamed}
 use Rattle.live_plant.specs.Steps.{Step, Then}
 use Rattle.live_plant.proofs.PlantsOfFiles.{of_live_plant}
-use Rattle.pull_cli.specs.Verdict.{OfTask, OfCommand, OfWords}
+use Rattle.pull_cli.specs.Verdict.{OfTask, OfWords}
 use Rattle.pull_laws.specs.Recorded.{IsAnswer, IsReadOf, ReadsFrom, with_file, telling, over_files, HasEnded}
 use Rattle.pull_laws.specs.Resuming.{Call}
 
@@ -48,10 +49,12 @@ pub one_asked : (old one other : Asked) → with_asked old one ≡ with_asked ol
 one_asked old one other same =
     let reads = append_cancel_left old.reads one.reads other.reads (ap (λ (a : Asked). a.reads) same) in
     let writes = append_cancel_left old.writes one.writes other.writes (ap (λ (a : Asked). a.writes) same) in
-    ap (λ (rs : List Read). record one { reads = rs }) reads ∙ ap (λ (ws : List Write). record other { writes = ws }) writes
+    ap (λ (rs : List Read). record one { reads = rs }) reads ∙
+    ap (λ (ws : List Write). record other { writes = ws }) writes
 
 -- an answer over files of which it can be one, that was no longer than it may be
-answer_fits : (tells : Bool) (own files : Contents) (name : List ℕ) (answer : Result (List ℕ) StoreError) → Fits tells own name answer → IsAnswer name (files name) answer → Fits true files name answer
+answer_fits : (tells : Bool) (own files : Contents) (name : List ℕ) (answer : Result (List ℕ) StoreError) →
+    Fits tells own name answer → IsAnswer name (files name) answer → Fits true files name answer
 answer_fits tells own files name (Ok bytes) fits is = (fits.0, λ known. is)
 answer_fits tells own files name (Err store_error.TooLong) fits is = λ known. is
 answer_fits tells own files name (Err store_error.Failed) fits is = tt
@@ -71,45 +74,56 @@ module _ (store : StoreOver) (before after : Contents) where
   reads_fit [] fits answers = All-nil Held
   reads_fit (r ∷ rs) fits answers =
       All-cons Held r rs
-      (answer_fits store.tells own before r.name r.answer (All-head (IsOfFile store) r rs fits) (All-head (IsReadOf before) r rs answers))
+      (answer_fits store.tells own before r.name r.answer (All-head (IsOfFile store) r rs fits)
+      (All-head (IsReadOf before) r rs answers))
       (reads_fit rs (All-tail (IsOfFile store) r rs fits) (All-tail (IsReadOf before) r rs answers))
 
-  -- the plant that is named
-  plant_named : (name : List ℕ) (reads : List Read) (answer : Result Plant Refusal) → OfPlantNamed store.tells own name reads answer → All Held reads → OfPlantNamed true before name reads answer
-  plant_named name reads answer of held = record {
+  -- the plant that is named by the first of some reads
+  plant_named : (name : List ℕ) (first rest reads : List Read) (answer : Result Plant Refusal) →
+      OfPlantNamed store.tells own name first answer → reads ≡ first ++ rest → All Held reads →
+      OfPlantNamed true before name first answer
+  plant_named name first rest reads answer of split held = record {
     answers = of.answers;
-    of_files = λ known. of_live_plant told known name reads answer of.answers held;
+    of_files = λ known.
+        of_live_plant told known name first answer of.answers (all_front Held first rest (subst (All Held) split held));
   }
 
-  plant_then : {A : Type 0} (next : Plant → Step A) (name : List ℕ) (reads : List Read) (answer : Result A Refusal) → Then (OfPlantNamed store.tells own name) next reads answer → All Held reads → Then (OfPlantNamed true before name) next reads answer
+  plant_then : {A : Type 0} (next : Plant → Step A) (name : List ℕ) (reads : List Read) (answer : Result A Refusal) →
+      Then (OfPlantNamed store.tells own name) next reads answer → All Held reads →
+      Then (OfPlantNamed true before name) next reads answer
   plant_then next name reads answer steps held = record {
     before = steps.before;
     after = steps.after;
     split = steps.split;
     between = steps.between;
-    answers = plant_named name steps.before steps.between steps.answers (all_front Held steps.before steps.after (subst (All Held) steps.split held));
+    answers = plant_named name steps.before steps.after reads steps.between steps.answers steps.split held;
     goes_on = steps.goes_on;
   }
 
-  plant_plainly : {A : Type 0} (next : Plant → Step A) (name : List ℕ) (asks : Asked) (disk : DiskOver) (answer : Result A Refusal) → Plainly (Then (OfPlantNamed store.tells own name) next) asks disk answer → All Held asks.reads → Plainly (Then (OfPlantNamed true before name) next) asks disk answer
+  plant_plainly : {A : Type 0} (next : Plant → Step A) (name : List ℕ) (asks : Asked) (disk : DiskOver)
+      (answer : Result A Refusal) → Plainly (Then (OfPlantNamed store.tells own name) next) asks disk answer →
+      All Held asks.reads → Plainly (Then (OfPlantNamed true before name) next) asks disk answer
   plant_plainly next name asks disk answer does held = record {
     unwritten = does.unwritten;
     untouched = does.untouched;
     answers = plant_then next name asks.reads answer does.answers held;
   }
 
-  plant_does : {A : Type 0} (next : Plant → Action A) (name : List ℕ) (asks : Asked) (disk : DiskOver) (answer : Result A Refusal) → ThenDoes (OfPlantNamed store.tells own name) next asks disk answer → All Held asks.reads → ThenDoes (OfPlantNamed true before name) next asks disk answer
+  plant_does : {A : Type 0} (next : Plant → Action A) (name : List ℕ) (asks : Asked) (disk : DiskOver)
+      (answer : Result A Refusal) → ThenDoes (OfPlantNamed store.tells own name) next asks disk answer →
+      All Held asks.reads → ThenDoes (OfPlantNamed true before name) next asks disk answer
   plant_does next name asks disk answer does held = record {
     before = does.before;
     after = does.after;
     split = does.split;
     between = does.between;
-    answers = plant_named name does.before does.between does.answers (all_front Held does.before does.after (subst (All Held) does.split held));
+    answers = plant_named name does.before does.after asks.reads does.between does.answers does.split held;
     does_on = does.does_on;
   }
 
   -- what each task does
-  task_does : (task : Task) (asks : Asked) (disk : DiskOver) (answer : Result Answer Refusal) → OfTask store.tells own task asks disk answer → All Held asks.reads → OfTask true before task asks disk answer
+  task_does : (task : Task) (asks : Asked) (disk : DiskOver) (answer : Result Answer Refusal) →
+      OfTask store.tells own task asks disk answer → All Held asks.reads → OfTask true before task asks disk answer
   task_does (Alone question) asks disk answer does held = does
   task_does (Linting plant) asks disk answer does held = does
   task_does (OnPlant plant question) asks disk answer does held = plant_plainly _ plant asks disk answer does held
@@ -117,23 +131,29 @@ module _ (store : StoreOver) (before after : Contents) where
   task_does (Stopping plant workers stop) asks disk answer does held = plant_does _ plant asks disk answer does held
   task_does (OnDisk plant question) asks disk answer does held = plant_does _ plant asks disk answer does held
 
-  words_do : (asked : Option Command) (asks : Asked) (disk : DiskOver) (answer : Result Answer Refusal) → OfWords store.tells own asked asks disk answer → All Held asks.reads → OfWords true before asked asks disk answer
+  words_do : (asked : Option Command) (asks : Asked) (disk : DiskOver) (answer : Result Answer Refusal) →
+      OfWords store.tells own asked asks disk answer → All Held asks.reads → OfWords true before asked asks disk answer
   words_do None asks disk answer does held = does
-  words_do (Some command) asks disk answer (inl does) held = inl (task_does (task_of command) asks disk answer does held)
+  words_do (Some command) asks disk answer (inl does) held =
+      inl (task_does (task_of command) asks disk answer does held)
   words_do (Some command) asks disk answer (inr wanting) held = inr wanting
 
   -- the cause of a refusal is in the counts, which are the same
-  same_cause : (disk : DiskOver) (writes : List Write) (refusal : Refusal) → HasCause store disk writes refusal → HasCause told disk writes refusal
+  same_cause : (disk : DiskOver) (writes : List Write) (refusal : Refusal) → HasCause store disk writes refusal →
+      HasCause told disk writes refusal
   same_cause disk writes (StoreFault file) cause = cause
   same_cause disk writes (TooLong file) cause = cause
   same_cause disk writes Disk cause = cause
   same_cause disk writes other cause = tt
 
-  causes : (disk : DiskOver) (writes : List Write) (answer : Result Answer Refusal) → IfErr answer (HasCause store disk writes) → IfErr answer (HasCause told disk writes)
+  causes : (disk : DiskOver) (writes : List Write) (answer : Result Answer Refusal) →
+      IfErr answer (HasCause store disk writes) → IfErr answer (HasCause told disk writes)
   causes disk writes (Ok output) cause = tt
   causes disk writes (Err refusal) cause = same_cause disk writes refusal cause
 
-  words_told : (asked : Option Command) (disk : DiskOver) (answer : Result Answer Refusal) (does : Does store disk (OfWords store.tells own asked) answer) → All (IsReadOf before) does.asks.reads → Changes told does.asks.writes → Does told disk (OfWords true before asked) answer
+  words_told : (asked : Option Command) (disk : DiskOver) (answer : Result Answer Refusal)
+      (does : Does store disk (OfWords store.tells own asked) answer) → All (IsReadOf before) does.asks.reads →
+      Changes told does.asks.writes → Does told disk (OfWords true before asked) answer
   words_told asked disk answer does answers changes =
       let held = reads_fit does.asks.reads does.of_files answers in
       record {
@@ -149,12 +169,14 @@ module _ (store : StoreOver) (before after : Contents) where
       }
 
 -- what a call has asked, by how it ended and as it is told
-pub asks_told : (call : Call) (files : Contents) (ends : HasEnded call) (reads : ReadsFrom files call.store) → reads.asks ≡ ends.does.asks
+pub asks_told : (call : Call) (files : Contents) (ends : HasEnded call) (reads : ReadsFrom files call.store) →
+    reads.asks ≡ ends.does.asks
 asks_told call files ends reads =
     one_asked call.store.old.asked reads.asks ends.does.asks (sym reads.told ∙ ends.does.asked)
 
 -- so a call ends as over the files
-pub ends_over_files : (call : Call) (before after : Contents) (reads : ReadsFrom before call.store) → HasEnded call → Changes (telling before after call.store) reads.asks.writes → HasEnded (over_files before after call)
+pub ends_over_files : (call : Call) (before after : Contents) (reads : ReadsFrom before call.store) → HasEnded call →
+    Changes (telling before after call.store) reads.asks.writes → HasEnded (over_files before after call)
 ends_over_files call before after reads ends changes =
     let same = asks_told call before ends reads in
     record {

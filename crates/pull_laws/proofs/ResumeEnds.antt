@@ -1,5 +1,6 @@
 -- How a call ends that resumes what a run has saved.
-use Rattle.std.proofs.Common.{◌≡◌, ◌⊎◌, ℕ, ◌≤◌, Bool, true, if◌then◌else◌, List, [], ◌++◌, length, ap, sym, ◌∙◌, subst, inl, inr, arith}
+use Rattle.std.proofs.Common.{◌≡◌, ◌⊎◌, ℕ, ◌≤◌, Bool, true, if◌then◌else◌, List, [], ◌++◌, length, ap, sym, ◌∙◌, subst}
+use Rattle.std.proofs.Common.{inl, inr, arith}
 use Rattle.std.specs.Prelude.{Option, Some, Result, Ok, Err, IfErr, All, Any, ⊤}
 use Rattle.std.proofs.Math.Seq.{take-append_seam}
 use Rattle.std.proofs.lemmas.List.{append_cancel_left}
@@ -33,7 +34,8 @@ use Rattle.answers.specs.declared.answer.Answer.{Answer}
 use Rattle.pull_cli.specs.Ends.{Finishes, Writes, WritesRefusal}
 use Rattle.pull_cli.specs.StopsAndResumes.{ResumesToReport}
 use Rattle.pull_cli.proofs.Writing.{whole}
-use Rattle.pull_laws.specs.Resuming.{Call, files_before, HasFailedRead, HasStopped, IsResumedBy, EndsResumed, reported, unread, unwritten, no_memory}
+use Rattle.pull_laws.specs.Resuming.{Call, files_before, HasFailedRead, HasStopped, IsResumedBy, EndsResumed, reported}
+use Rattle.pull_laws.specs.Resuming.{unread, unwritten, no_memory}
 use Rattle.pull_cli.specs.Verdict.{OfWords}
 use Rattle.pull_laws.proofs.ResumeStops.{look_stops, plant_stops}
 use Rattle.command_line.proofs.ResumeWords.{names_files}
@@ -48,14 +50,16 @@ GivesReport p (Err NoMemory) = ⊤
 GivesReport p (Err other) = ⊥
 
 -- a plant that was read is live
-live_settled : (q p : Plant) → IsLiveOrDead q (Ok p) ⊎ (◌≡◌ {A = Result Plant Refusal} (Ok p) (Err NoMemory)) → IsLive (graph p)
+live_settled : (q p : Plant) → IsLiveOrDead q (Ok p) ⊎ (◌≡◌ {A = Result Plant Refusal} (Ok p) (Err NoMemory)) →
+    IsLive (graph p)
 live_settled q p (inl live) = subst (λ (v : Plant). IsLive (graph v)) (sym live.0) live.1
 live_settled q p (inr none) = absurd (cc)
 
 no_plant : (p : Plant) (refusal : Refusal) → ◌≡◌ {A = Result Plant Refusal} (Ok p) (Err refusal) → ⊥
 no_plant p refusal is = cc
 
-live_on : (between : Result Plant Refusal) (after : List Read) (p : Plant) → GoesOn (λ q. Settles (IsLiveOrDead q)) between after (Ok p) → IsLive (graph p)
+live_on : (between : Result Plant Refusal) (after : List Read) (p : Plant) →
+    GoesOn (λ q. Settles (IsLiveOrDead q)) between after (Ok p) → IsLive (graph p)
 live_on (Ok q) after p on = live_settled q p on.1
 live_on (Err refusal) after p on = absurd (no_plant p refusal on.1)
 
@@ -85,12 +89,14 @@ report_answers : (p : Plant) (answer : Result Answer Refusal) → IsReport p ans
 report_answers p (Ok output) is = is
 report_answers p (Err refusal) is = absurd is.written
 
-settled_answers : (p : Plant) (bytes : List ℕ) (answer : Result Answer Refusal) → ResumesToReport p bytes → IsResumed p bytes answer ⊎ (answer ≡ Err NoMemory) → GivesReport p answer
+settled_answers : (p : Plant) (bytes : List ℕ) (answer : Result Answer Refusal) → ResumesToReport p bytes →
+    IsResumed p bytes answer ⊎ (answer ≡ Err NoMemory) → GivesReport p answer
 settled_answers p bytes answer resumes (inl is) = report_answers p answer (resumes answer is)
 settled_answers p bytes answer resumes (inr none) = subst (GivesReport p) (sym none) tt
 
 -- what a checkpoint may have is the limit of its file
-few_bytes : (name bytes : List ℕ) → is_checkpoint_name name ≡ true → length bytes ≤ most_checkpoint_bytes → length bytes ≤ limit_of name
+few_bytes : (name bytes : List ℕ) → is_checkpoint_name name ≡ true → length bytes ≤ most_checkpoint_bytes →
+    length bytes ≤ limit_of name
 few_bytes name bytes checkpoint few =
     subst (λ (b : Bool). length bytes ≤ (if b then most_checkpoint_bytes else most_file_bytes)) (sym checkpoint) few
 
@@ -99,13 +105,16 @@ one_content : (o : Option (List ℕ)) (xs ys : List ℕ) → o ≡ Some xs → o
 one_content o xs ys is also = cc
 
 -- how a call ends by what it answered
-wrote : (p : Plant) (call : Call) (bytes : List ℕ) (good : ℕ) → (call.status ≡ good → EndsResumed p call) → Writes call.sink bytes good call.status → EndsResumed p call
+wrote : (p : Plant) (call : Call) (bytes : List ℕ) (good : ℕ) → (call.status ≡ good → EndsResumed p call) →
+    Writes call.sink bytes good call.status → EndsResumed p call
 wrote p call bytes good ends (inl all) = ends all.0
 wrote p call bytes good ends (inr broke) = unwritten broke.0 broke.1
 
-wrote_refusal : (p : Plant) (call : Call) (refusal : Refusal) → (call.status ≡ status_of refusal → EndsResumed p call) → WritesRefusal call.sink refusal call.status → EndsResumed p call
+wrote_refusal : (p : Plant) (call : Call) (refusal : Refusal) → (call.status ≡ status_of refusal → EndsResumed p call) →
+    WritesRefusal call.sink refusal call.status → EndsResumed p call
 wrote_refusal p call refusal ends (inl own) = wrote p call (text_of refusal) (status_of refusal) ends own
-wrote_refusal p call refusal ends (inr memory) = wrote p call (text_of NoMemory) (status_of NoMemory) (λ nine. no_memory nine) memory.2
+wrote_refusal p call refusal ends (inr memory) =
+    wrote p call (text_of NoMemory) (status_of NoMemory) (λ nine. no_memory nine) memory.2
 
 -- no write failed where there was none
 no_failed_write : (file : List ℕ) → Any (IsFailedWrite file) [] → ⊥
@@ -116,13 +125,15 @@ fault_of : (call : Call) (file : List ℕ) → HasCause call.store call.disk [] 
 fault_of call file (inl read) = read
 fault_of call file (inr written) = absurd (no_failed_write file written.0)
 
-by_refusal : (p : Plant) (call : Call) (refusal : Refusal) → HasCause call.store call.disk [] refusal → GivesReport p (Err refusal) → WritesRefusal call.sink refusal call.status → EndsResumed p call
+by_refusal : (p : Plant) (call : Call) (refusal : Refusal) → HasCause call.store call.disk [] refusal →
+    GivesReport p (Err refusal) → WritesRefusal call.sink refusal call.status → EndsResumed p call
 by_refusal p call (StoreFault file) cause answers wrote_it =
     wrote_refusal p call (StoreFault file) (λ five. unread file five (fault_of call file cause)) wrote_it
 by_refusal p call NoMemory cause answers wrote_it = wrote_refusal p call NoMemory (λ nine. no_memory nine) wrote_it
 by_refusal p call other cause answers wrote_it = absurd answers
 
-module _ (p : Plant) (name : List ℕ) (stop : Stop) (first second : Call) (stopped : HasStopped p name stop first) (resumed : IsResumedBy name stop first second) where
+module _ (p : Plant) (name : List ℕ) (stop : Stop) (first second : Call) (stopped : HasStopped p name stop first)
+    (resumed : IsResumedBy name stop first second) where
   abbrev Held : Read → Type 0
   Held = IsOfFile second.store
 
@@ -139,7 +150,8 @@ module _ (p : Plant) (name : List ℕ) (stop : Stop) (first second : Call) (stop
   saved_short : IsShort (files_before second) stop.save
   saved_short =
       let names = names_files second.words name stop.save resumed.workers resumed.calls.asked in
-      short_bytes (files_before second) stop.save bytes saved_there (few_bytes stop.save bytes names.1 stopped.saved.fits)
+      short_bytes (files_before second) stop.save bytes saved_there
+      (few_bytes stop.save bytes names.1 stopped.saved.fits)
 
   -- and the files of the plant, which the first call has read, are no longer than they may be
   first_short : IsShortPlant (files_before first) name
@@ -147,54 +159,71 @@ module _ (p : Plant) (name : List ℕ) (stop : Stop) (first second : Call) (stop
       let does = stopped.calls.ends.does in
       let reads = stopped.read.reads in
       let whole : does.asks.reads ≡ reads ++ stopped.read.more =
-      append_cancel_left first.store.old.asked.reads does.asks.reads (reads ++ stopped.read.more) (sym (ap (λ (a : Asked). a.reads) does.asked) ∙ stopped.read.asked)
+      append_cancel_left first.store.old.asked.reads does.asks.reads (reads ++ stopped.read.more)
+      (sym (ap (λ (a : Asked). a.reads) does.asked) ∙ stopped.read.asked)
       in
       let held = subst (All (IsOfFile first.store)) whole does.of_files in
       plant_short first.store stopped.calls.known name reads p stopped.read.answers
-      (subst (All (IsOfFile first.store)) (take-append_seam reads stopped.read.more) (All-take (IsOfFile first.store) (length reads) (reads ++ stopped.read.more) held))
+      (subst (All (IsOfFile first.store)) (take-append_seam reads stopped.read.more)
+      (All-take (IsOfFile first.store) (length reads) (reads ++ stopped.read.more) held))
 
   second_short : IsShortPlant (files_before second) name
   second_short =
-      same_short (files_before second) (files_before first) (same_files p name stop first stopped second resumed) name (plant_plain p name stop first stopped second resumed) first_short
+      same_short (files_before second) (files_before first) (same_files p name stop first stopped second resumed) name
+      (plant_plain p name stop first stopped second resumed) first_short
 
   -- the file is read
-  of_file : (reads : List Read) (answer : Result Answer Refusal) → Then (LooksAt stop.save) (λ found. Settles (IsResumed p found)) reads answer → All Held reads → Reports answer
+  of_file : (reads : List Read) (answer : Result Answer Refusal) →
+      Then (LooksAt stop.save) (λ found. Settles (IsResumed p found)) reads answer → All Held reads → Reports answer
   of_file reads answer steps all =
       then_leads (LooksAt stop.save) (λ found. Settles (IsResumed p found)) Held Reports reads answer steps all
       (λ refusal before fits stops.
-      look_stops second.store resumed.calls.known (λ (r : Refusal). Reports (Err r)) (λ file. tt) tt stop.save saved_short before refusal stops fits)
+      look_stops second.store resumed.calls.known (λ (r : Refusal). Reports (Err r))
+      (λ file. tt) tt stop.save saved_short before refusal stops fits)
       (λ found before after fits rest looks on.
       settled_answers p found answer
-      (subst (ResumesToReport p) (one_content (files_before second stop.save) found bytes (looked second.store resumed.calls.known stop.save before found looks fits) saved_there) stopped.saved.resumes)
+      (subst (ResumesToReport p) (one_content (files_before second stop.save) found bytes
+      (looked second.store resumed.calls.known stop.save before found looks fits) saved_there) stopped.saved.resumes)
       on.1)
 
   -- the plant is read, and then the file
-  of_plant : (reads : List Read) (answer : Result Answer Refusal) → Then (OfPlantNamed second.store.tells (files_before second) name) (λ q. Then (LooksAt stop.save) (λ found. Settles (IsResumed q found))) reads answer → All Held reads → Reports answer
+  of_plant : (reads : List Read) (answer : Result Answer Refusal) →
+      Then (OfPlantNamed second.store.tells (files_before second) name)
+      (λ q. Then (LooksAt stop.save) (λ found. Settles (IsResumed q found))) reads answer → All Held reads →
+      Reports answer
   of_plant reads answer steps all =
       let W = plant_of name (files_before second) in
       let is : W ≡ Ok p = second_plant p name stop first stopped second resumed in
       let live = live_of name stopped.read.reads p stopped.read.answers in
-      then_leads (OfPlantNamed second.store.tells (files_before second) name) (λ q. Then (LooksAt stop.save) (λ found. Settles (IsResumed q found))) Held Reports reads answer steps all
+      then_leads (OfPlantNamed second.store.tells (files_before second) name)
+      (λ q. Then (LooksAt stop.save) (λ found. Settles (IsResumed q found))) Held Reports reads answer steps all
       (λ refusal before fits stops.
-      plant_stops second.store resumed.calls.known (λ (r : Refusal). IsOfPlant W (Err r) → Reports (Err r)) (λ file said. tt) (λ said. tt)
+      plant_stops second.store resumed.calls.known (λ (r : Refusal). IsOfPlant W (Err r) → Reports (Err r))
+      (λ file said. tt) (λ said. tt)
       (not_refused p live W is) (not_dead_plant p live W is)
       name second_short before refusal stops.answers fits (stops.of_files resumed.calls.known))
       (λ q before after fits rest first_steps next.
       of_file after answer
-      (subst (λ (v : Plant). Then (LooksAt stop.save) (λ found. Settles (IsResumed v found)) after answer) (same_as p live W is q (first_steps.of_files resumed.calls.known)) next)
+      (subst (λ (v : Plant). Then (LooksAt stop.save) (λ found. Settles (IsResumed v found)) after answer)
+      (same_as p live W is q (first_steps.of_files resumed.calls.known)) next)
       rest)
 
   -- how the call ends
-  of_answer : (answer : Result Answer Refusal) → Reports answer → IfErr answer (HasCause second.store second.disk []) → Finishes second.sink answer second.status → EndsResumed p second
+  of_answer : (answer : Result Answer Refusal) → Reports answer → IfErr answer (HasCause second.store second.disk []) →
+      Finishes second.sink answer second.status → EndsResumed p second
   of_answer (Ok output) answers cause wrote_it =
       let text = report p (date_in answers.rows) in
-      wrote p second text 0 (λ zero. reported zero (second_reports p name stop first stopped second resumed zero)) (whole second.sink text output second.status answers.written wrote_it)
+      wrote p second text 0 (λ zero. reported zero (second_reports p name stop first stopped second resumed zero))
+      (whole second.sink text output second.status answers.written wrote_it)
   of_answer (Err refusal) answers cause wrote_it = by_refusal p second refusal cause answers wrote_it
 
   abbrev Resumes : Asked → Result Answer Refusal → Type 0
-  Resumes asks answer = OfWords second.store.tells (files_before second) (Some (Resume name stop.save resumed.workers)) asks second.disk answer
+  Resumes asks answer =
+      OfWords second.store.tells (files_before second)
+      (Some (Resume name stop.save resumed.workers)) asks second.disk answer
 
-  of_words : (asks : Asked) (answer : Result Answer Refusal) → All Held asks.reads → Resumes asks answer → Reports answer
+  of_words : (asks : Asked) (answer : Result Answer Refusal) → All Held asks.reads → Resumes asks answer →
+      Reports answer
   of_words asks answer all (inl does) = of_plant asks.reads answer does.answers all
   of_words asks answer all (inr wanting) = subst Reports (sym wanting.2) tt
 
@@ -209,8 +238,10 @@ module _ (p : Plant) (name : List ℕ) (stop : Stop) (first second : Call) (stop
       let ends = resumed.calls.ends in
       let does = ends.does in
       let resumes : Resumes does.asks ends.answer =
-      subst (λ (o : Option Command). OfWords second.store.tells (files_before second) o does.asks second.disk ends.answer) resumed.calls.asked does.answers
+      subst (λ (o : Option Command). OfWords second.store.tells
+      (files_before second) o does.asks second.disk ends.answer) resumed.calls.asked does.answers
       in
       of_answer ends.answer (of_words does.asks ends.answer does.of_files resumes)
-      (subst (λ (ws : List Write). IfErr ends.answer (HasCause second.store second.disk ws)) (unwritten_files does.asks ends.answer resumes) does.caused)
+      (subst (λ (ws : List Write). IfErr ends.answer (HasCause second.store second.disk ws))
+      (unwritten_files does.asks ends.answer resumes) does.caused)
       ends.finishes

@@ -1,32 +1,34 @@
--- Resuming what a run has written reports its plant, by what both calls have read: the law over files that are told holds over the
--- files from which the reads were answered.
-use Rattle.std.proofs.Common.{◌≡◌, ◌≢◌, ℕ, List, [], ◌∷◌, ◌++◌, refl, ap, sym, ◌∙◌, subst, inl, inr}
-use Rattle.std.specs.Prelude.{Option, Some, None, Result, Ok, All}
+-- Resuming what a run has written reports its plant, by what both calls have read: the law over files that are told
+-- holds over the files from which the reads were answered.
+use Rattle.std.proofs.Common.{◌≡◌, ℕ, List, [], ◌∷◌, ◌++◌, refl, ap, sym, ◌∙◌, subst, inl, inr}
+use Rattle.std.specs.Prelude.{Option, Some, None, Ok, All}
 use Rattle.std.proofs.lemmas.List.{append_cancel_left}
-use Rattle.answers.specs.declared.answer.Answer.{Answer}
 use Rattle.command_line.specs.declared.command.Command.{Command}
 use Rattle.command_line.specs.declared.command.Command.TheVariants.{Resume, Run}
 use Rattle.command_line.specs.declared.command.Stop.{Stop}
-use Rattle.line_io.specs.Calls.{Read, Write, Asked, write_of}
+use Rattle.line_io.specs.Calls.{Write, Asked, write_of}
 use Rattle.line_io.specs.Contents.{Contents}
 use Rattle.plant_model.specs.declared.plant.Plant.{Plant}
-use Rattle.refusals.specs.declared.refusal.Refusal.{Refusal}
 use Rattle.live_plant.specs.Actions.{Changes}
-use Rattle.live_plant.specs.Outside.{StoreOver, IsOfFile}
+use Rattle.live_plant.specs.Outside.{IsOfFile}
 use Rattle.live_plant.proofs.PlantsOfFiles.{of_live_plant}
 use Rattle.pull_cli.specs.RunReports.{IsPlantRead}
 use Rattle.pull_cli.specs.StopsAndResumes.{HasSaved}
 use Rattle.pull_cli.specs.Verdict.{OfWords}
-use Rattle.pull_laws.specs.Recorded.{IsReadOf, ReadsFrom, with_file, telling, over_files, HasEnded}
-use Rattle.pull_laws.specs.Resuming.{Call, CallsFor, HasStopped, IsResumedBy, IsWholeRun, EndsResumed, WroteTheSame, reported, unread, unwritten, no_memory}
+use Rattle.pull_laws.specs.Recorded.{ReadsFrom, with_file, telling, over_files, HasEnded}
+use Rattle.pull_laws.specs.Resuming.{Call, CallsFor, HasStopped, IsResumedBy, EndsResumed, WroteTheSame}
+use Rattle.pull_laws.specs.Resuming.{reported, unread, unwritten, no_memory}
 use Rattle.pull_laws.specs.ResumingRecorded.{EndsFor, SavesState, bytes_saved, ResumesWhatWasRead, RunsWhole}
-use Rattle.pull_laws.proofs.OverFiles.{all_front, with_file-named, with_file-other, one_asked, reads_fit, asks_told, ends_over_files}
+use Rattle.pull_laws.proofs.OverFiles.{all_front, with_file-named, with_file-other, reads_fit, asks_told}
+use Rattle.pull_laws.proofs.OverFiles.{ends_over_files}
 use Rattle.pull_laws.proofs.ResumeEnds.{ends_resumed}
 use Rattle.pull_laws.proofs.Resuming.{writes_the_same}
 
 -- a call that writes no file, over files that stay
 abbrev pub WritesNone : Command → Type 0
-WritesNone command = (call : Call) (ends : HasEnded call) → OfWords call.store.tells call.store.old.files (Some command) ends.does.asks call.disk ends.answer → ends.does.asks.writes ≡ []
+WritesNone command =
+    (call : Call) (ends : HasEnded call) → OfWords call.store.tells call.store.old.files
+    (Some command) ends.does.asks call.disk ends.answer → ends.does.asks.writes ≡ []
 
 resume_writes_none : (name save : List ℕ) (workers : ℕ) → WritesNone (Resume name save workers)
 resume_writes_none name save workers call ends (inl does) = does.unwritten
@@ -36,14 +38,19 @@ run_writes_none : (name : List ℕ) (workers : ℕ) → WritesNone (Run name wor
 run_writes_none name workers call ends (inl does) = does.unwritten
 run_writes_none name workers call ends (inr wanting) = ap (λ (a : Asked). a.writes) wanting.0
 
-none_changed : (call : Call) (files : Contents) (writes : List Write) → writes ≡ [] → Changes (telling files files call.store) writes
+none_changed : (call : Call) (files : Contents) (writes : List Write) → writes ≡ [] →
+    Changes (telling files files call.store) writes
 none_changed call files writes none = subst (Changes (telling files files call.store)) (sym none) (λ known q. refl)
 
-calls_over_files : (command : Command) → WritesNone command → (call : Call) (files : Contents) → EndsFor command call → ReadsFrom files call.store → CallsFor command (over_files files files call)
+calls_over_files : (command : Command) → WritesNone command → (call : Call) (files : Contents) → EndsFor command call →
+    ReadsFrom files call.store → CallsFor command (over_files files files call)
 calls_over_files command none call files calls reads =
     let ends = calls.ends in
-    let does = subst (λ (o : Option Command). OfWords call.store.tells call.store.old.files o ends.does.asks call.disk ends.answer) calls.asked ends.does.answers in
-    let unwritten_asks : reads.asks.writes ≡ [] = ap (λ (a : Asked). a.writes) (asks_told call files ends reads) ∙ none call ends does in
+    let does =
+    subst (λ (o : Option Command). OfWords call.store.tells call.store.old.files o ends.does.asks call.disk ends.answer)
+    calls.asked ends.does.answers in
+    let unwritten_asks : reads.asks.writes ≡ [] =
+    ap (λ (a : Asked). a.writes) (asks_told call files ends reads) ∙ none call ends does in
     record {
       asked = calls.asked;
       known = refl;
@@ -51,14 +58,16 @@ calls_over_files command none call files calls reads =
     }
 
 -- how the call ends is in its status, its sink and its counts
-same_end : (p : Plant) (call : Call) (before after : Contents) → EndsResumed p (over_files before after call) → EndsResumed p call
+same_end : (p : Plant) (call : Call) (before after : Contents) → EndsResumed p (over_files before after call) →
+    EndsResumed p call
 same_end p call before after (reported zero has) = reported zero has
 same_end p call before after (unread file five rose) = unread file five rose
 same_end p call before after (unwritten six rose) = unwritten six rose
 same_end p call before after (no_memory nine) = no_memory nine
 
 -- the call that has saved, over the files that it has read
-module _ (p : Plant) (name : List ℕ) (stop : Stop) (first : Call) (saves : SavesState p name stop first) (files : Contents) (reads : ReadsFrom files first.store) where
+module _ (p : Plant) (name : List ℕ) (stop : Stop) (first : Call) (saves : SavesState p name stop first)
+    (files : Contents) (reads : ReadsFrom files first.store) where
   abbrev bytes : List ℕ
   bytes = bytes_saved saves
 
@@ -93,7 +102,8 @@ module _ (p : Plant) (name : List ℕ) (stop : Stop) (first : Call) (saves : Sav
       let same = asks_told first files ends reads in
       let fits = subst (λ (a : Asked). All (IsOfFile first.store) a.reads) (sym same) ends.does.of_files in
       all_front (IsOfFile told.store) saves.read.reads saves.read.more
-      (subst (All (IsOfFile told.store)) plant_reads (reads_fit first.store files left reads.asks.reads fits reads.answers))
+      (subst (All (IsOfFile told.store)) plant_reads
+      (reads_fit first.store files left reads.asks.reads fits reads.answers))
 
   plant_read : IsPlantRead p name told.store
   plant_read = record {
@@ -131,7 +141,8 @@ module _ (p : Plant) (name : List ℕ) (stop : Stop) (first : Call) (saves : Sav
   }
 
 -- the call that resumes it
-module _ (p : Plant) (name : List ℕ) (stop : Stop) (first second : Call) (saves : SavesState p name stop first) (resumes : ResumesWhatWasRead name stop (bytes_saved saves) first second) where
+module _ (p : Plant) (name : List ℕ) (stop : Stop) (first second : Call) (saves : SavesState p name stop first)
+    (resumes : ResumesWhatWasRead name stop (bytes_saved saves) first second) where
   abbrev found : Contents
   found = resumes.files
 
@@ -150,7 +161,8 @@ module _ (p : Plant) (name : List ℕ) (stop : Stop) (first second : Call) (save
   resumed : IsResumedBy name stop first_told second_told
   resumed = record {
     workers = resumes.workers;
-    calls = calls_over_files (Resume name stop.save resumes.workers) (resume_writes_none name stop.save resumes.workers) second stays resumes.calls resumes.second_reads;
+    calls = calls_over_files (Resume name stop.save resumes.workers)
+        (resume_writes_none name stop.save resumes.workers) second stays resumes.calls resumes.second_reads;
     over = λ q. refl;
   }
 
@@ -158,12 +170,14 @@ module _ (p : Plant) (name : List ℕ) (stop : Stop) (first second : Call) (save
   ends_resumed_recorded =
       same_end p second stays stays (ends_resumed p name stop first_told second_told stopped resumed)
 
-  pub writes_the_same_recorded : second.status ≡ 0 → (whole : Call) → RunsWhole name found whole → WroteTheSame second whole
+  pub writes_the_same_recorded : second.status ≡ 0 → (whole : Call) → RunsWhole name found whole →
+      WroteTheSame second whole
   writes_the_same_recorded zero whole runs =
       writes_the_same p name stop first_told stopped second_told resumed zero (over_files found found whole)
       (record {
         workers = runs.workers;
-        calls = calls_over_files (Run name runs.workers None) (run_writes_none name runs.workers) whole found runs.calls runs.reads;
+        calls = calls_over_files (Run name runs.workers None)
+            (run_writes_none name runs.workers) whole found runs.calls runs.reads;
         status = runs.status;
         over = λ q. refl;
       })

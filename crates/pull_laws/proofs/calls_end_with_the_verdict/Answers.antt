@@ -5,7 +5,8 @@ pub returns-clause-one : goal.returns-clause-one
 returns-clause-one c = λ words files saved one other is also. one_verdict words files saved one other is also
 
 pub returns-clause-verdict : goal.returns-clause-verdict
-returns-clause-verdict c = λ words files saved status call is over. ends_with_verdict words files saved status call is over
+returns-clause-verdict c =
+    λ words files saved status call is over. ends_with_verdict words files saved status call is over
 
 pub returns-clause-alike : goal.returns-clause-alike
 returns-clause-alike c = λ words files saved one other over also. end_alike words files saved one other over also

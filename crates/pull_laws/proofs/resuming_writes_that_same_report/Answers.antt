@@ -7,4 +7,5 @@ returns-clause-reports c = ends_resumed
 
 pub returns-clause-same : goal.returns-clause-same
 returns-clause-same c =
-    λ p name stop first second whole stopped resumed zero run. writes_the_same p name stop first stopped second resumed zero whole run
+    λ p name stop first second whole stopped resumed zero run.
+    writes_the_same p name stop first stopped second resumed zero whole run

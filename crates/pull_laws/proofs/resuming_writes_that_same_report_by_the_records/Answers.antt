@@ -6,4 +6,5 @@ returns-clause-reports c = ends_resumed_recorded
 
 pub returns-clause-same : goal.returns-clause-same
 returns-clause-same c =
-    λ p name stop first second whole saves resumes zero run. writes_the_same_recorded p name stop first second saves resumes zero whole run
+    λ p name stop first second whole saves resumes zero run.
+    writes_the_same_recorded p name stop first second saves resumes zero whole run

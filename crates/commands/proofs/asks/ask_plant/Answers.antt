@@ -5,7 +5,7 @@ pub returns-in-Run : goal.returns-in-Run
 returns-in-Run g c = rw c.in-Run.is c.run_whole.ensures
 
 pub returns-in-RunRoom : goal.returns-in-RunRoom
-returns-in-RunRoom g c = rw c.in-RunRoom.is c.run_with_room.ensures
+returns-in-RunRoom g c = rw c.in-RunRoom.is c.run_whole-in-RunRoom.ensures
 
 pub returns-in-CardsEach : goal.returns-in-CardsEach
 returns-in-CardsEach g c = rw c.in-CardsEach.is c.cards_each.ensures

@@ -7,11 +7,13 @@ use Rattle.commands.proofs.runs.resume.Goals as goal
 
 pub checkpoint_refusal-refusal-requires : goal.checkpoint_refusal-refusal-requires
 checkpoint_refusal-refusal-requires g c =
-    subst (λ (h : Parts). NamesStation h c.in-Err.error) (sym c.graph.ensures.graph) (refused_names c.args.line.live.graph c.args.bytes.now c.in-Err.error c.in-Err.ensures)
+    subst (λ (h : Parts). NamesStation h c.in-Err.error) (sym c.graph.ensures.graph)
+    (refused_names c.args.line.live.graph c.args.bytes.now c.in-Err.error c.in-Err.ensures)
 
 pub returns-in-Err : goal.returns-in-Err
 returns-in-Err g c =
     let live = c.args.line.live in
     let refusal = c.checkpoint_refusal-refusal.result in
     refuses c.args.line.plant live.graph c.args.bytes.now c.in-Err.error refusal c.requires.plant.graph c.in-Err.ensures
-    (subst (λ (h : Parts). (refusal ≡ NoMemory) ⊎ (refusal ≡ checkpoint_refusal h c.in-Err.error)) c.graph.ensures.graph c.checkpoint_refusal-refusal.ensures)
+    (subst (λ (h : Parts). (refusal ≡ NoMemory) ⊎ (refusal ≡ checkpoint_refusal h c.in-Err.error)) c.graph.ensures.graph
+    c.checkpoint_refusal-refusal.ensures)

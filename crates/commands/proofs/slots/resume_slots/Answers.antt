@@ -14,21 +14,31 @@ report_of-requires-clause-table g c =
 pub resume_refusal-refusal-requires : goal.resume_refusal-refusal-requires
 resume_refusal-refusal-requires g c =
     let of = c.in-Err.ensures.resumes in
-    subst (λ (h : Parts). NamesStationOf h c.in-Err.error) (sym c.graph.ensures.graph) (slots_name c.args.line.live.graph of.saved c.in-Err.error of.answers)
+    subst (λ (h : Parts). NamesStationOf h c.in-Err.error) (sym c.graph.ensures.graph)
+    (slots_name c.args.line.live.graph of.saved c.in-Err.error of.answers)
 
 pub returns-in-Ok : goal.returns-in-Ok
 returns-in-Ok g c =
     let old = g.D.Disk.shown c.args.disk.now in
     let new = g.D.Disk.shown c.resume_slots.new.disk in
-    let loaded : Loaded g.D.Disk.tells old new = record { stays = c.resume_slots.ensures.stays; faults = c.resume_slots.ensures.faults_stay_or_rise } in
-    slots_report g.D.Disk.tells old new c.args.line.plant loaded c.args.line.live.graph c.requires.plant.graph c.in-Ok.table c.report_of.result c.in-Ok.ensures.resumes c.report_of.ensures
+    let loaded : Loaded g.D.Disk.tells old new = record {
+      stays = c.resume_slots.ensures.stays;
+      faults = c.resume_slots.ensures.faults_stay_or_rise;
+    } in
+    slots_report g.D.Disk.tells old new c.args.line.plant loaded c.args.line.live.graph c.requires.plant.graph
+    c.in-Ok.table c.report_of.result c.in-Ok.ensures.resumes c.report_of.ensures
 
 pub returns-in-Err : goal.returns-in-Err
 returns-in-Err g c =
     let old = g.D.Disk.shown c.args.disk.now in
     let new = g.D.Disk.shown c.resume_slots.new.disk in
-    let loaded : Loaded g.D.Disk.tells old new = record { stays = c.resume_slots.ensures.stays; faults = c.resume_slots.ensures.faults_stay_or_rise } in
+    let loaded : Loaded g.D.Disk.tells old new = record {
+      stays = c.resume_slots.ensures.stays;
+      faults = c.resume_slots.ensures.faults_stay_or_rise;
+    } in
     let refusal = c.resume_refusal-refusal.result in
-    slots_refused g.D.Disk.tells old new c.args.line.plant loaded c.args.line.live.graph c.requires.plant.graph c.in-Err.error refusal c.in-Err.ensures.resumes
+    slots_refused g.D.Disk.tells old new c.args.line.plant loaded c.args.line.live.graph c.requires.plant.graph
+    c.in-Err.error refusal c.in-Err.ensures.resumes
     (λ is. c.in-Err.ensures.disk_fault (ap (λ (error : ResumeError). Err error) is))
-    (subst (λ (h : Parts). IsResumeRefusal h c.in-Err.error refusal) c.graph.ensures.graph c.resume_refusal-refusal.ensures)
+    (subst (λ (h : Parts). IsResumeRefusal h c.in-Err.error refusal) c.graph.ensures.graph
+    c.resume_refusal-refusal.ensures)

@@ -25,8 +25,11 @@ returns-in-Ok g c =
     let line = c.args.line in
     let same = c.requires.plant.graph in
     let new = g.D.Disk.shown c.run_with_slots.new.disk in
-    let kept = kept_of line.plant line.live.graph same c.run_with_slots.ensures.any_moment c.run_with_slots.ensures.faults_stay_or_rise in
-    let on : SavesOnTheWay line.plant c.args.every (disk_over g.D.Disk.tells (g.D.Disk.shown c.args.disk.now) new) = record {
+    let kept =
+    kept_of line.plant line.live.graph same c.run_with_slots.ensures.any_moment
+    c.run_with_slots.ensures.faults_stay_or_rise in
+    let on : SavesOnTheWay line.plant c.args.every (disk_over g.D.Disk.tells (g.D.Disk.shown c.args.disk.now) new)
+    = record {
       first = c.args.work;
       begun = c.requires.begun ∙ ap start same;
       made_for = ap (λ (v : LiveGraph). v.graph) (sym c.requires.made_for) ∙ same;
@@ -34,12 +37,16 @@ returns-in-Ok g c =
       saves = c.in-Ok.ensures.saves;
     } in
     run_saves g.D.Disk.tells (g.D.Disk.shown c.args.disk.now) new line.plant c.args.every kept c.report_of.result on
-    (late_of g.D.Disk.tells new line.plant line.live.graph c.args.every c.args.work.state same c.requires.begun c.in-Ok.ensures.late)
+    (late_of g.D.Disk.tells new line.plant line.live.graph c.args.every c.args.work.state same c.requires.begun
+    c.in-Ok.ensures.late)
     c.report_of.ensures
 
 pub returns-in-Err : goal.returns-in-Err
 returns-in-Err g c =
     let line = c.args.line in
-    let kept = kept_of line.plant line.live.graph c.requires.plant.graph c.run_with_slots.ensures.any_moment c.run_with_slots.ensures.faults_stay_or_rise in
-    run_fails g.D.Disk.tells (g.D.Disk.shown c.args.disk.now) (g.D.Disk.shown c.run_with_slots.new.disk) line.plant c.args.every kept c.in-Err.error c.slot_refusal.result
+    let kept =
+    kept_of line.plant line.live.graph c.requires.plant.graph c.run_with_slots.ensures.any_moment
+    c.run_with_slots.ensures.faults_stay_or_rise in
+    run_fails g.D.Disk.tells (g.D.Disk.shown c.args.disk.now)
+    (g.D.Disk.shown c.run_with_slots.new.disk) line.plant c.args.every kept c.in-Err.error c.slot_refusal.result
     (λ is. c.in-Err.ensures.disk_fault (ap (λ (error : SlotError). Err error) is)) c.slot_refusal.ensures

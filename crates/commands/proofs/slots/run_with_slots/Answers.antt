@@ -8,4 +8,5 @@ use Rattle.commands.proofs.slots.run_with_slots.Goals as goal
 pub returns-in-Err : goal.returns-in-Err
 returns-in-Err g c =
     let view = g.D.Disk.shown c.args.disk.now in
-    run_no_memory g.D.Disk.tells view view c.args.line.plant c.args.every (kept_at_first g.D.Disk.tells view (graph c.args.line.plant)) (Err NoMemory) refl
+    run_no_memory g.D.Disk.tells view view c.args.line.plant c.args.every
+    (kept_at_first g.D.Disk.tells view (graph c.args.line.plant)) (Err NoMemory) refl

@@ -3,9 +3,9 @@ use Rattle.pull_cli.proofs.tasks.ask_with.Goals as goal
 
 pub returns-in-Ok : goal.returns-in-Ok
 returns-in-Ok g c =
-    file_answered g.S.Store.tells (g.S.Store.shown c.args.store.now) (g.S.Store.shown c.read_file.new.store) c.args.file.now c.args.question c.args.line.plant c.in-Ok.bytes c.ask_file.result
-    c.in-Ok.ensures.makes (rw c.as_slice.ensures at c.ask_file.ensures)
+    file_answered c.args.file.now c.args.question c.args.line.plant c.in-Ok.bytes c.ask_file.result
+    c.in-Ok.ensures.makes
+    (rw c.as_slice.ensures at c.ask_file.ensures)
 
 pub returns-in-Err : goal.returns-in-Err
-returns-in-Err g c =
-    no_file g.S.Store.tells (g.S.Store.shown c.args.store.now) (g.S.Store.shown c.read_file.new.store) c.args.file.now c.args.question c.args.line.plant c.in-Err.refusal c.in-Err.ensures.makes
+returns-in-Err g c = no_file c.args.file.now c.args.question c.args.line.plant c.in-Err.refusal c.in-Err.ensures.makes

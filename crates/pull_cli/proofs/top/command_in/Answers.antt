@@ -11,4 +11,5 @@ returns-in-Err-Usage-clause-none c = rw (c.in-Err-Usage.ensures.usage.0 (ap Err 
 pub returns-in-Err-NoMemory-clause-none : goal.returns-in-Err-NoMemory-clause-none
 returns-in-Err-NoMemory-clause-none c =
     memory_answers (command_of (texts c.args.words.now))
-    (λ none. memory_is_no_usage c.in-Err-NoMemory.field-0 (Err c.in-Err-NoMemory.field-0) c.in-Err-NoMemory.field-0-is refl (c.in-Err-NoMemory.ensures.usage.1 none))
+    (λ none. memory_is_no_usage c.in-Err-NoMemory.field-0
+    (Err c.in-Err-NoMemory.field-0) c.in-Err-NoMemory.field-0-is refl (c.in-Err-NoMemory.ensures.usage.1 none))

@@ -1,9 +1,0 @@
-use Rattle.std.proofs.Common.{refl}
-use Rattle.std.specs.Prelude.{Err}
-use Rattle.refusals.specs.declared.refusal.Refusal.TheVariants.{NoMemory}
-use Rattle.commands.proofs.Stops.{runs_not}
-use Rattle.commands.proofs.runs.run_until.Goals as goal
-
-pub returns-in-Err : goal.returns-in-Err
-returns-in-Err g c =
-    runs_not g.S.Store.tells (g.S.Store.shown c.args.store.now) c.args.line.plant c.args.workers c.args.stop.after c.args.stop.save (Err NoMemory) refl
