@@ -3,6 +3,7 @@ ghost use Rattle.std.specs.List.{flat_map};
 ghost use Rattle.std.specs.Prelude.{◌≡◌, ◌++◌, IfOk, OnOk};
 ghost use Rattle.answers.specs.CardsText.{spaced, job_words, dead_words, below_words, cards_text};
 
+use crate::words::add_number;
 use card_sizing::{Below, Sizing};
 use line_base::{Items, Label};
 use std::alloc::{AllocError, Global};
@@ -11,30 +12,31 @@ use std::alloc::{AllocError, Global};
 pub fn cards_text(alloc: Global, sizing: &Sizing) -> Result<Items<u8>, AllocError>
     ensures { IfOk result (λ text. text ≡ cards_text sizing.now) }
 {
-    let cards = sizing.cards;
-    let mut text = format!(in alloc; "cards {cards}\nbelow ")?.into_bytes();
-    add_below(alloc, &mut text, &sizing.below)?;
+    let mut text = Vec::new(alloc);
+    add_number(&mut text, b"cards ", sizing.cards)?;
+    text.extend_from_slice(b"\nbelow ")?;
+    add_below(&mut text, &sizing.below)?;
     text.push(b'\n')?;
     Ok(Items::from_vec(text))
 }
 
 /// Adds why a count can't be one less.
-pub(crate) fn add_below(alloc: Global, text: &mut Vec<u8>, below: &Below) -> Result<(), AllocError>
+pub(crate) fn add_below(text: &mut Vec<u8>, below: &Below) -> Result<(), AllocError>
     ensures { OnOk result (text.new.items ≡ text.old.items ++ below_words below.now) }
 {
     match below {
         Below::Lowest => text.extend_from_slice(b"none"),
-        Below::Job { job, wait } => add_job(alloc, text, *job, *wait),
+        Below::Job { job, wait } => add_job(text, *job, *wait),
         Below::Dead { labels } => add_dead(text, labels.as_slice()),
     }
 }
 
 /// Adds the job that waits longer than it may, and how long it waits.
-fn add_job(alloc: Global, text: &mut Vec<u8>, job: u32, wait: u64) -> Result<(), AllocError>
+fn add_job(text: &mut Vec<u8>, job: u32, wait: u64) -> Result<(), AllocError>
     ensures { OnOk result (text.new.items ≡ text.old.items ++ job_words job wait) }
 {
-    let words = format!(in alloc; "job {job} waits {wait}")?;
-    text.extend_from_slice(words.as_bytes())
+    add_number(text, b"job ", job)?;
+    add_number(text, b" waits ", wait)
 }
 
 /// Adds the labels of the stations of a circuit without a token.
@@ -42,8 +44,7 @@ fn add_dead(text: &mut Vec<u8>, labels: &[Label]) -> Result<(), AllocError>
     ensures { OnOk result (text.new.items ≡ text.old.items ++ dead_words labels.now) }
 {
     text.extend_from_slice(b"dead")?;
-    add_labels(text, labels)?;
-    Ok(())
+    add_labels(text, labels)
 }
 
 /// Adds labels, each with a space before it.

@@ -115,11 +115,14 @@ impl Changes {
         requires { live ≡ sheet.live }
         ensures { IfOk result (λ changes. changes ≡ sheet) }
     {
-        Ok(Changes {
-            live,
-            sheet,
-            out: Outgoing::new(alloc)?,
-        })
+        match Outgoing::new(alloc) {
+            Ok(out) => Ok(Changes { live, sheet, out }),
+            Err(none) => {
+                drop(live);
+                drop(sheet);
+                Err(none)
+            }
+        }
     }
 
     /// Writes the lines to the sink, from the first on, in pieces of 4,096 bytes and a last one that may be shorter. After

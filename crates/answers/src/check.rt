@@ -1,9 +1,11 @@
-ghost use Rattle.std.specs.Prelude.{◌≡◌, ◌++◌, IfOk, OnOk, string_bytes};
+ghost use Rattle.std.specs.List.{flat_map};
+ghost use Rattle.std.specs.Prelude.{◌≡◌, ◌++◌, IfOk, OnOk};
 ghost use Rattle.circuit_sums.specs.Circuits.{loop_at};
 ghost use Rattle.plant_model.specs.Graph.{graph as graph_of};
 ghost use Rattle.plant_model.specs.Sound.{IsSound};
 ghost use Rattle.answers.specs.CheckText.{name_of, kind_words, circuit_line, live_line, check_text};
 
+use crate::words::{add_number, add_words};
 use circuit_sums::{CardCircuit, CircuitKind, card_circuits};
 use event_graph::Graph;
 use line_base::Items;
@@ -17,37 +19,43 @@ pub fn check_text(alloc: Global, plant: &Plant, graph: &Graph) -> Result<Items<u
     ensures { IfOk result (λ text. text ≡ check_text plant.now) }
 {
     let circuits = card_circuits(alloc, plant, graph)?;
-    let mut text = live_line(alloc, graph)?.into_bytes();
-    for circuit in circuits.as_slice() {
-        add_circuit(alloc, &mut text, plant, circuit)?;
-    }
+    let mut text = Vec::new(alloc);
+    add_live(&mut text, graph)?;
+    add_circuits(&mut text, plant, circuits.as_slice())?;
     Ok(Items::from_vec(text))
 }
 
-/// How many stations, arcs and jobs a live graph has.
-fn live_line(alloc: Global, graph: &Graph) -> Result<String, AllocError>
-    ensures { IfOk result (λ text. string_bytes text ≡ live_line graph.now) }
+/// Adds how many stations, arcs and jobs a live graph has.
+fn add_live(text: &mut Vec<u8>, graph: &Graph) -> Result<(), AllocError>
+    ensures { OnOk result (text.new.items ≡ text.old.items ++ live_line graph.now) }
 {
-    let stations = graph.stations();
-    let arcs = graph.arcs().len();
-    let jobs = graph.jobs();
-    format!(in alloc; "live {stations} stations {arcs} arcs {jobs} jobs\n")
+    add_number(text, b"live ", graph.stations())?;
+    add_number(text, b" stations ", graph.arcs().len())?;
+    add_number(text, b" arcs ", graph.jobs())?;
+    text.extend_from_slice(b" jobs\n")
+}
+
+/// Adds the lines of card circuits.
+fn add_circuits(
+    text: &mut Vec<u8>,
+    plant: &Plant,
+    circuits: &[CardCircuit],
+) -> Result<(), AllocError>
+    ensures { OnOk result (text.new.items ≡ text.old.items ++ flat_map (circuit_line plant.now) circuits.now) }
+{
+    for circuit in circuits {
+        add_circuit(text, plant, circuit)?;
+    }
+    Ok(())
 }
 
 /// Adds the line of a card circuit.
-fn add_circuit(
-    alloc: Global,
-    text: &mut Vec<u8>,
-    plant: &Plant,
-    circuit: &CardCircuit,
-) -> Result<(), AllocError>
+fn add_circuit(text: &mut Vec<u8>, plant: &Plant, circuit: &CardCircuit) -> Result<(), AllocError>
     ensures { OnOk result (text.new.items ≡ text.old.items ++ circuit_line plant.now circuit.now) }
 {
     add_kind(text, plant, circuit.kind)?;
-    let number = circuit.number;
-    let cards = format!(in alloc; " {number}\n")?;
-    text.extend_from_slice(cards.as_bytes())?;
-    Ok(())
+    add_number(text, b" ", circuit.number)?;
+    text.extend_from_slice(b"\n")
 }
 
 /// Adds whose cards go round a circuit.
@@ -59,15 +67,6 @@ fn add_kind(text: &mut Vec<u8>, plant: &Plant, kind: CircuitKind) -> Result<(), 
         CircuitKind::Conwip(stage) => add_words(text, b"circuit conwip ", name_of(plant, stage)),
         CircuitKind::CardLoop(number) => add_loop(text, plant, number),
     }
-}
-
-/// Adds words and a name.
-fn add_words(text: &mut Vec<u8>, words: &[u8], name: &[u8]) -> Result<(), AllocError>
-    ensures { OnOk result (text.new.items ≡ text.old.items ++ (words.now ++ name.now)) }
-{
-    text.extend_from_slice(words)?;
-    text.extend_from_slice(name)?;
-    Ok(())
 }
 
 /// Adds the names of the first and the last stage of a loop.

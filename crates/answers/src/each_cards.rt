@@ -4,6 +4,7 @@ ghost use Rattle.std.specs.Prelude.{◌≡◌, ◌++◌, IfOk, OnOk};
 ghost use Rattle.answers.specs.EachCardsText.{stage_line, each_cards_text};
 
 use crate::cards::add_below;
+use crate::words::{add_number, add_words};
 use card_sizing::{EachSizing, StageSizing};
 use line_base::Items;
 use std::alloc::{AllocError, Global};
@@ -13,34 +14,30 @@ use std::alloc::{AllocError, Global};
 pub fn each_cards_text(alloc: Global, each: &EachSizing) -> Result<Items<u8>, AllocError>
     ensures { IfOk result (λ text. text ≡ each_cards_text each.now) }
 {
-    let total = each.total;
-    let last = format!(in alloc; "total {total}\n")?;
     let mut text = Vec::new(alloc);
-    add_stages(alloc, &mut text, each.stages.as_slice())?;
-    text.extend_from_slice(last.as_bytes())?;
+    add_stages(&mut text, each.stages.as_slice())?;
+    add_number(&mut text, b"total ", each.total)?;
+    text.push(b'\n')?;
     Ok(Items::from_vec(text))
 }
 
 /// Adds the lines of stages.
-fn add_stages(alloc: Global, text: &mut Vec<u8>, stages: &[StageSizing]) -> Result<(), AllocError>
+fn add_stages(text: &mut Vec<u8>, stages: &[StageSizing]) -> Result<(), AllocError>
     ensures { OnOk result (text.new.items ≡ text.old.items ++ flat_map stage_line stages.now) }
 {
     for stage in stages {
-        add_stage(alloc, text, stage)?;
+        add_stage(text, stage)?;
     }
     Ok(())
 }
 
 /// Adds the line of a stage.
-fn add_stage(alloc: Global, text: &mut Vec<u8>, stage: &StageSizing) -> Result<(), AllocError>
+fn add_stage(text: &mut Vec<u8>, stage: &StageSizing) -> Result<(), AllocError>
     ensures { OnOk result (text.new.items ≡ text.old.items ++ stage_line stage.now) }
 {
-    let cards = stage.cards;
-    let count = format!(in alloc; " {cards} below ")?;
-    text.extend_from_slice(b"cards ")?;
-    text.extend_from_slice(stage.stage.text())?;
-    text.extend_from_slice(count.as_bytes())?;
-    add_below(alloc, text, &stage.below)?;
-    text.push(b'\n')?;
-    Ok(())
+    add_words(text, b"cards ", stage.stage.text())?;
+    add_number(text, b" ", stage.cards)?;
+    text.extend_from_slice(b" below ")?;
+    add_below(text, &stage.below)?;
+    text.extend_from_slice(b"\n")
 }

@@ -12,6 +12,7 @@ mod cycle;
 mod each_cards;
 mod lines;
 mod unwritten;
+mod words;
 
 pub use answer::{Answer, VERSION};
 pub use cards::cards_text;

@@ -11,21 +11,18 @@ ghost use Rattle.card_curve.specs.declared.curve.CurveError.{CurveError};
 use crate::point::{Point, point_at};
 use crate::rows::write_row;
 use card_sizing::lowest_count;
-use fan_out::for_each_mut;
+use line_base::for_each_mut;
 use line_io::{Outgoing, Sink};
 use plant_model::Plant;
 use std::alloc::{AllocError, Global};
 use std::thread::Threads;
-use thiserror::Error;
 
 /// Why a curve ends early.
-#[derive(Clone, Copy, Debug, PartialEq, Eq, Error)]
+#[derive(Clone, Copy)]
 pub enum CurveError {
     /// Memory ran out.
-    #[error("memory")]
     NoMemory,
     /// The sink refused a piece.
-    #[error("the sink failed")]
     Failed,
 }
 

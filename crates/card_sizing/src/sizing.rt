@@ -4,7 +4,6 @@ ghost use Rattle.card_sizing.specs.declared.sizing.SizingError.{SizingError};
 
 use line_base::{Items, Label};
 use std::alloc::AllocError;
-use thiserror::Error;
 
 /// The least count of cards that serves, and why one less doesn't.
 #[derive(Drop)]
@@ -31,17 +30,14 @@ pub enum Below {
 }
 
 /// Why there is no count of cards to answer.
-#[derive(Clone, Copy, Debug, PartialEq, Eq, Error)]
+#[derive(Clone, Copy)]
 pub enum SizingError {
     /// The plant has no single count of cards: it runs by base stock, or by kanban with a loop.
-    #[error("no single count")]
     NoSingleCount,
     /// With 10,000 cards this job, counted from 1, is the first that waits longer than it may. Its wait is in the
     /// plant's unit.
-    #[error("no count: job {job} waits {wait}")]
     NoCount { job: u32, wait: u64 },
     /// Memory ran out.
-    #[error("memory")]
     NoMemory,
 }
 

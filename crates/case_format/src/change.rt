@@ -1,156 +1,163 @@
 //! What a case does to the files of its store.
-use crate::draws::{Recipe, plant_of};
-use crate::reason::Reason;
-use crate::words::{Token, Words};
+use crate::draws::add_plant;
+use crate::lines::{is_comment, line_at};
+use crate::reason::{Reason, put_in, where_well, with};
+use crate::text::{add_lines, add_numbered, split_around};
+use crate::words::{Words, add_bytes, add_text, bytes_of};
 use line_base::MAX_FILE_BYTES;
 use line_io::{Files, Store};
 use memchr::memmem;
 use std::alloc::Global;
 
-/// A change of a file.
-#[derive(Clone, Drop)]
-pub struct Change {
-    /// The name of the file.
-    pub name: String,
-    /// What becomes of it; none where it goes away.
-    pub edit: Option<Edit>,
-}
-
-impl Change {
-    /// The text to which lines may be added, if it has one.
-    pub fn text(&mut self) -> Option<&mut Vec<u8>> {
-        match &mut self.edit {
-            Some(Edit::Hold(text)) => Some(text),
-            _ => None,
-        }
-    }
-}
-
-/// What becomes of a file that stays.
-#[derive(Clone, Drop)]
-pub enum Edit {
-    /// It holds these bytes.
-    Hold(Vec<u8>),
-    /// It holds what a file in the folder of the case files holds.
-    Copy(String),
-    /// It holds this many spaces.
-    Spaces(u32),
-    /// It holds a plant that is drawn.
-    Draw(Recipe),
-    /// In the place of the first of these texts it has the other one, this many times over.
-    Replace {
-        old: Vec<u8>,
-        new: Vec<u8>,
-        times: u32,
-    },
-    /// It ends behind the first of these texts.
-    CutAfter(Vec<u8>),
-}
-
-/// The change that the next words are: the name of a file and what becomes of it.
-pub fn change_of(alloc: Global, words: &mut Words) -> Result<Change, Reason> {
-    let name = words.name()?;
-    let edit = match words.next() {
-        None => Some(Edit::Hold(Vec::new(alloc))),
-        Some(Token::Text(text)) => Some(edit_of_text(text, words)?),
-        Some(Token::Word(word)) => edit_of_word(word.as_str(), words)?,
-    };
-    Ok(Change { name, edit })
-}
-
-/// The edit that begins with a text.
-fn edit_of_text(text: Vec<u8>, words: &mut Words) -> Result<Edit, Reason> {
-    if !words.passes("->") {
-        return Ok(Edit::Hold(text));
-    }
-    let new = words.text()?;
-    let times = if words.passes("times") {
-        words.number()?
-    } else {
-        1
-    };
-    Ok(Edit::Replace {
-        old: text,
-        new,
-        times,
-    })
-}
-
-/// The edit that begins with a word; none where the file goes away.
-fn edit_of_word(word: &str, words: &mut Words) -> Result<Option<Edit>, Reason> {
-    Ok(Some(match word {
-        "gone" => return Ok(None),
-        "from" => Edit::Copy(words.name()?),
-        "spaces" => Edit::Spaces(words.number()?),
-        "drawn" => Edit::Draw(recipe_of(words)?),
-        "cut" => Edit::CutAfter(end_of(words)?),
-        _ => return Err(Reason::NoDirective),
-    }))
-}
-
-/// The text that stands behind `cut`.
-fn end_of(words: &mut Words) -> Result<Vec<u8>, Reason> {
-    words.expect_word("after")?;
-    words.text()
-}
-
-/// The recipe that the next words are.
-fn recipe_of(words: &mut Words) -> Result<Recipe, Reason> {
-    let stages = words.number()?;
-    let machines = words.number()?;
-    let demands = words.number()?;
-    Ok(Recipe {
-        stages,
-        machines,
-        demands,
-    })
-}
-
-/// Makes a change in some files. Others are read from the folder of the case files.
-pub fn apply<S: Store>(
+/// Makes the change of the line `file ..`, below which these lines stand.
+pub fn change_file<S: Store>(
     alloc: Global,
-    change: &Change,
+    words: Words,
+    below: &[&str],
     files: &mut Files,
     folder: &mut S,
 ) -> Result<(), Reason> {
-    match &change.edit {
-        Some(edit) => {
-            let bytes = edited(alloc, change.name.as_str(), edit, files, folder)?;
-            put(files, &change.name, bytes)
-        }
-        None => {
-            let _ = files.remove(change.name.as_str());
-            Ok(())
-        }
-    }
+    let mut words = words;
+    change(alloc, &mut words, below, files, folder)?;
+    words.expect_end()
 }
 
-/// Puts a file among others, in the place of one of its name.
-pub fn put(files: &mut Files, name: &String, bytes: Vec<u8>) -> Result<(), Reason> {
-    let _ = files.insert(name.clone()?, bytes)?;
+/// Makes the changes of a row of a table, with `and` between two of them, and passes over the word `gives`.
+pub fn change_all<S: Store>(
+    alloc: Global,
+    words: &mut Words,
+    files: &mut Files,
+    folder: &mut S,
+) -> Result<(), Reason> {
+    change(alloc, words, &[], files, folder)?;
+    for _ in 0..words.rest().len() {
+        if !words.passes("and") {
+            break;
+        }
+        change(alloc, words, &[], files, folder)?;
+    }
+    words.expect_word("gives")
+}
+
+/// Makes the changes before the first command of the case of this title.
+pub fn begin_like<S: Store>(
+    alloc: Global,
+    lines: &[&str],
+    title: &str,
+    files: &mut Files,
+    folder: &mut S,
+) -> Result<(), Reason> {
+    for index in 0..lines.len() {
+        let (line, below) = line_at(&*lines, index);
+        if line.strip_prefix("case ") == Some(title) {
+            return change_first(alloc, below, files, folder);
+        }
+    }
+    Err(Reason::NoSuchCase)
+}
+
+/// Makes the changes before the first command of a case.
+fn change_first<S: Store>(
+    alloc: Global,
+    lines: &[&str],
+    files: &mut Files,
+    folder: &mut S,
+) -> Result<(), Reason> {
+    for index in 0..lines.len() {
+        let (line, below) = line_at(&*lines, index);
+        let mut words = Words::of(line);
+        match words.word() {
+            "file" => change_file(alloc, words, below, files, folder)?,
+            "|" | ":" => {}
+            "$" => break,
+            _ if is_comment(line) => {}
+            _ => return Err(Reason::NoSuchCase),
+        }
+    }
     Ok(())
 }
 
-/// Puts a file that holds the same bytes as another one among others, in the place of one of its name.
-pub fn put_copy(files: &mut Files, name: &String, bytes: &Vec<u8>) -> Result<(), Reason> {
-    put(files, name, bytes.clone()?)
+/// The files that a command is to leave: those that it finds, with the changes of the lines `after ..` among these.
+pub fn wanted_files<S: Store>(
+    alloc: Global,
+    lines: &[&str],
+    found: &Files,
+    left: &Files,
+    folder: &mut S,
+) -> Result<Files, Reason> {
+    let mut wanted = found.clone()?;
+    let changed = change_after(alloc, lines, &mut wanted, left, folder);
+    where_well(wanted, changed)
 }
 
-/// What the file of this name holds after an edit.
-fn edited<S: Store>(
+/// Makes the changes of the lines `after ..` among these.
+fn change_after<S: Store>(
     alloc: Global,
-    name: &str,
-    edit: &Edit,
-    files: &Files,
+    lines: &[&str],
+    wanted: &mut Files,
+    left: &Files,
     folder: &mut S,
-) -> Result<Vec<u8>, Reason> {
-    match edit {
-        Edit::Hold(bytes) => Ok(bytes.clone()?),
-        Edit::Copy(file) => read_file(alloc, folder, file.as_str()),
-        Edit::Spaces(count) => Ok(vec![in alloc; b' '; *count as usize]?),
-        Edit::Draw(recipe) => Ok(plant_of(alloc, *recipe)?.into_bytes()),
-        Edit::Replace { old, new, times } => replaced(alloc, held(files, name)?, old, new, *times),
-        Edit::CutAfter(text) => cut_after(alloc, held(files, name)?, text),
+) -> Result<(), Reason> {
+    for index in 0..lines.len() {
+        let (line, below) = line_at(&*lines, index);
+        let mut words = Words::of(line);
+        if words.passes("after") && !takes_anything(alloc, words, wanted, left)? {
+            change_file(alloc, words, below, wanted, folder)?;
+        }
+    }
+    Ok(())
+}
+
+/// Whether a file may hold anything. It is then wanted to hold what it does, and to be there.
+fn takes_anything(
+    alloc: Global,
+    words: Words,
+    wanted: &mut Files,
+    left: &Files,
+) -> Result<bool, Reason> {
+    let mut words = words;
+    let name = words.name();
+    let anything = words.passes("anything");
+    if anything {
+        put(alloc, wanted, name, held(left, name).to_vec(alloc)?)?;
+    }
+    Ok(anything)
+}
+
+/// Changes the file that the next words name, as the words behind the name and the lines below them say.
+fn change<S: Store>(
+    alloc: Global,
+    words: &mut Words,
+    below: &[&str],
+    files: &mut Files,
+    folder: &mut S,
+) -> Result<(), Reason> {
+    let name = words.name();
+    if words.passes("gone") {
+        let _ = files.remove(name);
+        return Ok(());
+    }
+    let bytes = content_of(alloc, words, below, held(files, name), folder)?;
+    put(alloc, files, name, bytes)
+}
+
+/// Puts a file among others, in the place of one of its name.
+pub fn put(alloc: Global, files: &mut Files, name: &str, bytes: Vec<u8>) -> Result<(), Reason> {
+    let (bytes, name) = with(bytes, name_of(alloc, name))?;
+    let _ = files.insert(name, bytes)?;
+    Ok(())
+}
+
+/// A name of its own.
+fn name_of(alloc: Global, name: &str) -> Result<String, Reason> {
+    Ok(String::from_str(alloc, name)?)
+}
+
+/// What a file holds; nothing where it isn't there.
+pub fn held<'a>(files: &'a Files, name: &str) -> &'a [u8] {
+    match files.get(name) {
+        Some(bytes) => bytes.as_slice(),
+        None => &[],
     }
 }
 
@@ -162,69 +169,117 @@ pub fn read_file<S: Store>(alloc: Global, folder: &mut S, name: &str) -> Result<
     }
 }
 
-/// What a file holds.
-pub fn held<'a>(files: &'a Files, name: &str) -> Result<&'a [u8], Reason> {
-    match files.get(name) {
-        Some(bytes) => Ok(bytes.as_slice()),
-        None => Err(Reason::NoSuchFile),
-    }
-}
-
-/// What stands before and behind the first of these texts.
-pub fn split_around<'a>(bytes: &'a [u8], text: &[u8]) -> Option<(&'a [u8], &'a [u8])> {
-    let at = memmem::find(bytes, text)?;
-    let (front, rest) = bytes.split_at_checked(at)?;
-    Some((front, rest.strip_prefix(text)?))
-}
-
-/// The bytes with a text this many times over in the place of another.
-fn replaced(
+/// What the next words, and the lines below them, make of a file that holds these bytes.
+pub fn content_of<S: Store>(
     alloc: Global,
-    bytes: &[u8],
-    old: &[u8],
-    new: &[u8],
-    times: u32,
+    words: &mut Words,
+    below: &[&str],
+    held: &[u8],
+    folder: &mut S,
 ) -> Result<Vec<u8>, Reason> {
-    let (front, back) = split_around(bytes, old).ok_or(Reason::NoSuchText)?;
-    let mut edited = front.to_vec(alloc)?;
-    add_times(alloc, &mut edited, new, times)?;
-    edited.extend_from_slice(back)?;
-    Ok(edited)
+    let mut bytes = Vec::new(alloc);
+    let added = add_content(alloc, &mut bytes, words, held, folder);
+    let bytes = where_well(bytes, added)?;
+    with_lines(bytes, below)
 }
 
-/// Adds a text this many times over, in which the number from 1 stands in the place of `{}`.
-fn add_times(alloc: Global, bytes: &mut Vec<u8>, text: &[u8], times: u32) -> Result<(), Reason> {
-    for number in 1..=times {
-        add_numbered(alloc, bytes, text, number)?;
-    }
-    Ok(())
+/// The bytes, with the text behind them that these lines begin with.
+fn with_lines(mut bytes: Vec<u8>, below: &[&str]) -> Result<Vec<u8>, Reason> {
+    let added = add_lines(&mut bytes, below);
+    where_well(bytes, added)
 }
 
-/// Adds a text, in which the number stands in the place of `{}`.
-fn add_numbered(
+/// Adds what the next words make of a file that holds these bytes.
+fn add_content<S: Store>(
     alloc: Global,
     bytes: &mut Vec<u8>,
-    text: &[u8],
-    number: u32,
+    words: &mut Words,
+    held: &[u8],
+    folder: &mut S,
 ) -> Result<(), Reason> {
-    let Some((front, back)) = split_around(text, b"{}") else {
-        return Ok(bytes.extend_from_slice(text)?);
-    };
-    bytes.extend_from_slice(front)?;
-    add_digits(alloc, bytes, number)?;
-    bytes.extend_from_slice(back)?;
-    Ok(())
+    if let Some(text) = words.quoted() {
+        add_quoted(alloc, bytes, text, words, held)
+    } else if words.passes("from") {
+        add_file(alloc, bytes, words.name(), folder)
+    } else if words.passes("cut") {
+        words.expect_word("after")?;
+        add_up_to(alloc, bytes, held, words.name())
+    } else if words.passes("spaces") {
+        put_spaces(alloc, bytes, words.number()?)
+    } else if words.passes("drawn") {
+        add_plant(bytes, words)
+    } else {
+        Ok(())
+    }
 }
 
-/// Adds the digits of a number.
-fn add_digits(alloc: Global, bytes: &mut Vec<u8>, number: u32) -> Result<(), Reason> {
-    let digits = format!(in alloc; "{number}")?;
-    Ok(bytes.extend_from_slice(digits.as_bytes())?)
+/// Adds what a file of the folder of the case files holds.
+fn add_file<S: Store>(
+    alloc: Global,
+    bytes: &mut Vec<u8>,
+    name: &str,
+    folder: &mut S,
+) -> Result<(), Reason> {
+    let file = read_file(alloc, folder, name)?;
+    add_bytes(bytes, &file)
+}
+
+/// Adds the bytes up to the end of the first of these texts.
+fn add_up_to(alloc: Global, bytes: &mut Vec<u8>, held: &[u8], text: &str) -> Result<(), Reason> {
+    let text = bytes_of(alloc, text)?;
+    match up_to(held, &text) {
+        Some(part) => add_bytes(bytes, part),
+        None => Err(Reason::NoSuchText),
+    }
 }
 
 /// The bytes up to the end of the first of these texts.
-fn cut_after(alloc: Global, bytes: &[u8], text: &[u8]) -> Result<Vec<u8>, Reason> {
-    let (_, back) = split_around(bytes, text).ok_or(Reason::NoSuchText)?;
-    let cut = bytes.strip_suffix(back).unwrap_or(bytes);
-    Ok(cut.to_vec(alloc)?)
+fn up_to<'a>(bytes: &'a [u8], text: &[u8]) -> Option<&'a [u8]> {
+    let at = memmem::find(bytes, text)?;
+    bytes.get(..at.saturating_add(text.len()))
+}
+
+/// Puts this many spaces there.
+fn put_spaces(alloc: Global, bytes: &mut Vec<u8>, count: u32) -> Result<(), Reason> {
+    put_in(bytes, vec![in alloc; b' '; count as usize]?);
+    Ok(())
+}
+
+/// Adds a text, or what a file holds with another text in the place of the first such text.
+fn add_quoted(
+    alloc: Global,
+    bytes: &mut Vec<u8>,
+    text: &str,
+    words: &mut Words,
+    held: &[u8],
+) -> Result<(), Reason> {
+    if !words.passes("->") {
+        return add_text(bytes, text);
+    }
+    let new = words.quoted().ok_or(Reason::NoDirective)?;
+    let times = if words.passes("times") {
+        words.number()?
+    } else {
+        1
+    };
+    let old = bytes_of(alloc, text)?;
+    let (old, new) = with(old, bytes_of(alloc, new))?;
+    add_replaced(bytes, held, &old, &new, times)
+}
+
+/// Adds these bytes, with a text this many times over in the place of another, and in each the number from 1 in the
+/// place of `{}`.
+fn add_replaced(
+    bytes: &mut Vec<u8>,
+    held: &[u8],
+    old: &[u8],
+    new: &[u8],
+    times: u32,
+) -> Result<(), Reason> {
+    let (front, back) = split_around(held, old).ok_or(Reason::NoSuchText)?;
+    add_bytes(bytes, front)?;
+    for number in 1..=times {
+        add_numbered(bytes, new, number)?;
+    }
+    add_bytes(bytes, back)
 }

@@ -1,82 +1,75 @@
-//! Plants that are drawn: serial lines of any size, the same for the same recipe.
+//! Plants that are drawn: serial lines of any size, the same for the same numbers.
 use crate::reason::Reason;
-use big_plant::Generator;
-use std::alloc::{AllocError, Global};
+use crate::text::add_numbered;
+use crate::words::{Words, add_bytes};
 
-/// What a drawn plant is to have.
-#[derive(Clone, Copy)]
-pub struct Recipe {
-    /// The stages, each of which feeds the next.
-    pub stages: u32,
-    /// The machines of each stage.
-    pub machines: u32,
-    /// The demands.
-    pub demands: u32,
+/// The draws of a plant, each from the state that the one before left.
+#[derive(Drop)]
+struct Draws {
+    state: u64,
 }
 
-/// The first state of every plant's draws.
-const SEED: u64 = 7;
-
-/// The file of the plant of a recipe, under extended kanban. The draws are made in this order: for each demand, how much
-/// later it comes than the one before, below 30; for each stage its stock, below 4, and how many cards more than its stock and
-/// one, below 4; for each of its machines how many servers more than one, below 3, and how much more than one its time, below
-/// 20.
-pub fn plant_of(alloc: Global, recipe: Recipe) -> Result<String, Reason> {
-    let mut text = String::new(alloc);
-    write_plant(&mut text, recipe)?;
-    Ok(text)
+impl Draws {
+    /// The next draw, below this bound.
+    fn below(&mut self, bound: u32) -> u32 {
+        self.state = self
+            .state
+            .wrapping_mul(6_364_136_223_846_793_005)
+            .wrapping_add(1_442_695_040_888_963_407);
+        let upper = u32::try_from(self.state >> 33).unwrap_or(0);
+        upper.checked_rem(bound).unwrap_or(0)
+    }
 }
 
-/// Writes the file of the plant of a recipe.
-fn write_plant(text: &mut String, recipe: Recipe) -> Result<(), AllocError> {
-    let mut draws = Generator::new(SEED);
-    write_demands(text, &mut draws, recipe.demands)?;
-    for stage in 1..=recipe.stages {
-        write_stage(text, &mut draws, stage, recipe)?;
+/// Adds the file of a plant under extended kanban, of as many stages, machines a stage and demands as the next
+/// words say. For each demand it is drawn how much later it comes than the one before, below 30; for each stage its
+/// stock, below 4, and how many cards more than its stock and one, below 4; for each of its machines how many
+/// servers more than one, below 3, and how much more than one its time, below 20.
+pub fn add_plant(bytes: &mut Vec<u8>, words: &mut Words) -> Result<(), Reason> {
+    let stages = words.number()?;
+    let machines = words.number()?;
+    let mut draws = Draws { state: 7 };
+    add_demands(bytes, &mut draws, words.number()?)?;
+    for stage in 1..=stages {
+        add_stage(bytes, &mut draws, stage, stages)?;
+        for machine in 1..=machines {
+            add_machine(bytes, &mut draws, machine)?;
+        }
     }
     Ok(())
 }
 
-/// Writes the policy, and the dates of this many demands.
-fn write_demands(text: &mut String, draws: &mut Generator, demands: u32) -> Result<(), AllocError> {
-    text.push_str("policy = \"extended\"\ndemands = [")?;
-    let mut date = 0u64;
-    for job in 0..demands {
-        date = date.saturating_add(u64::from(draws.draw_below(30)));
-        let separator = if job == 0 { "" } else { ", " };
-        write!(text, "{separator}{date}")?;
+/// Adds the policy, and the dates of this many demands.
+fn add_demands(bytes: &mut Vec<u8>, draws: &mut Draws, demands: u32) -> Result<(), Reason> {
+    add_bytes(bytes, b"policy = \"extended\"\ndemands = [")?;
+    let mut date = 0u32;
+    for _ in 0..demands {
+        date = date.saturating_add(draws.below(30));
+        add_numbered(bytes, b"{}, ", date)?;
     }
-    text.push_str("]\n")
+    add_bytes(bytes, b"]\n")
 }
 
-/// Writes a stage, counted from 1, and its machines.
-fn write_stage(
-    text: &mut String,
-    draws: &mut Generator,
+/// Adds a stage, counted from 1, without its machines.
+fn add_stage(
+    bytes: &mut Vec<u8>,
+    draws: &mut Draws,
     stage: u32,
-    recipe: Recipe,
-) -> Result<(), AllocError> {
-    let stock = draws.draw_below(4);
-    let more = draws.draw_below(4);
-    let cards = stock.saturating_add(1).saturating_add(more);
-    write!(text, "\n[[stage]]\nname = \"s{stage}\"\n")?;
-    if stage < recipe.stages {
-        let next = stage + 1;
-        write!(text, "feeds = \"s{next}\"\n")?;
+    stages: u32,
+) -> Result<(), Reason> {
+    let stock = draws.below(4);
+    let cards = draws.below(4).saturating_add(stock).saturating_add(1);
+    add_numbered(bytes, b"\n[[stage]]\nname = \"s{}\"\n", stage)?;
+    if stage < stages {
+        add_numbered(bytes, b"feeds = \"s{}\"\n", stage + 1)?;
     }
-    write!(text, "cards = {cards}\nstock = {stock}\n")?;
-    for machine in 1..=recipe.machines {
-        write_machine(text, draws, machine)?;
-    }
-    Ok(())
+    add_numbered(bytes, b"cards = {}\n", cards)?;
+    add_numbered(bytes, b"stock = {}\n", stock)
 }
 
-/// Writes a machine, counted from 1.
-fn write_machine(text: &mut String, draws: &mut Generator, machine: u32) -> Result<(), AllocError> {
-    let servers = draws.draw_below(3).saturating_add(1);
-    let time = draws.draw_below(20).saturating_add(1);
-    write!(
-        text,
-        "[[stage.machine]]\nname = \"m{machine}\"\nservers = {servers}\ntime = {time}\n"
-    )
+/// Adds a machine, counted from 1.
+fn add_machine(bytes: &mut Vec<u8>, draws: &mut Draws, machine: u32) -> Result<(), Reason> {
+    add_numbered(bytes, b"[[stage.machine]]\nname = \"m{}\"\n", machine)?;
+    add_numbered(bytes, b"servers = {}\n", draws.below(3).saturating_add(1))?;
+    add_numbered(bytes, b"time = {}\n", draws.below(20).saturating_add(1))
 }

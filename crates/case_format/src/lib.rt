@@ -1,23 +1,24 @@
-//! Case files: the cases that their lines are, and what the lines name of files, of slots of a disk, and of variants.
+//! Case files: what their lines say of files, of commands, and of what is wanted of these. Lines are read as they
+//! are run, and words and texts are borrowed from the file.
 #![tactic(auto)]
 
-mod case;
 mod change;
-mod dates;
-mod directive;
 mod draws;
+mod lines;
+mod output;
 mod reason;
+mod run;
 mod slots;
+mod text;
 mod variants;
-mod want;
 mod words;
 
-pub use case::{Act, Case, Faults, NumberedRow, Run, Step, cases_of};
-pub use change::{Change, Edit, apply, held, put, put_copy, read_file, split_around};
-pub use dates::DateRow;
-pub use directive::Row;
-pub use draws::Recipe;
-pub use reason::{BadLine, Reason, put_in, where_well, with};
+pub use change::{begin_like, change_all, change_file, held, put, read_file, wanted_files};
+pub use lines::{belongs, check_head, line_at, lines_of};
+pub use output::{Want, fits};
+pub use reason::{Reason, put_in, where_well, with};
+pub use run::{Each, Faults, Run, each_of, run_of};
 pub use slots::{Crash, Slots};
-pub use variants::{Kind, Variants, is_answer};
-pub use want::{After, Output, Want};
+pub use text::add_numbered;
+pub use variants::{Kind, is_answer};
+pub use words::{Words, command_words};

@@ -6,7 +6,7 @@ use std::fmt;
 pub enum Reason {
     /// Its words say nothing that a case file says.
     NoDirective,
-    /// A quoted text has no end, a word has a quote in it, or an escape is none.
+    /// An escape is none, or a word is no text.
     BadText,
     /// A number is wanted.
     BadNumber,
@@ -14,10 +14,8 @@ pub enum Reason {
     NoCase,
     /// No earlier case of the file has the title.
     NoSuchCase,
-    /// It stands before the first command of its case.
+    /// It belongs to no command or file before it.
     NoCommand,
-    /// It adds to a text, and none stands before it.
-    NoText,
     /// Nothing is wanted of the command that stands there: no status, no row and no variant.
     NothingWanted,
     /// Of the command that stands there something is wanted that only a run to a status shows, and no status is.
@@ -47,8 +45,7 @@ impl Reason {
             Reason::BadNumber => "a number is wanted",
             Reason::NoCase => "no case has begun",
             Reason::NoSuchCase => "no earlier case has this title",
-            Reason::NoCommand => "no command stands before it",
-            Reason::NoText => "no text stands before it",
+            Reason::NoCommand => "nothing stands before it that it belongs to",
             Reason::NothingWanted => "nothing is wanted of the command",
             Reason::NoStatus => "no status is wanted of the command",
             Reason::NoLastCommand => "a case ends here without a command",
@@ -66,15 +63,6 @@ impl fmt::Display for Reason {
     fn fmt<W: fmt::Write>(&self, f: &mut fmt::Formatter<W>) -> fmt::Result {
         f.write_str(self.words())
     }
-}
-
-/// A line of a case file that can't be followed.
-#[derive(Clone, Copy)]
-pub struct BadLine {
-    /// Its number, counted from 1.
-    pub line: u64,
-    /// Why not.
-    pub reason: Reason,
 }
 
 /// A value, where what was done with it ended well; where not, it is let go here.

@@ -1,8 +1,10 @@
 //! What the two slots of a disk hold, from one command of a case to the next.
 use crate::reason::{Reason, where_well, with};
+use crate::text::add_numbered;
+use crate::words::add_bytes;
 use line_disk::{Disk, DiskError, MemDisk};
 use slot_store::MAX_ROOM;
-use std::alloc::{AllocError, Global};
+use std::alloc::Global;
 
 /// The bytes of a slot before its content.
 const HEADER: u32 = 16;
@@ -91,13 +93,18 @@ impl Slots {
         Ok(Slots { zero, one })
     }
 
-    /// What the slots hold, as a text: for each a line with its gate, its number and its length, and its content where the
-    /// gate is open.
-    pub fn text(&self, alloc: Global) -> Result<Vec<u8>, AllocError> {
+    /// What the slots hold, as a text: for each a line with its gate, its number and its length, and its content
+    /// where the gate is open.
+    pub fn text(&self, alloc: Global) -> Result<Vec<u8>, Reason> {
         let mut text = Vec::new(alloc);
-        add_slot(alloc, &mut text, 0, &self.zero)?;
-        add_slot(alloc, &mut text, 1, &self.one)?;
-        Ok(text)
+        let added = self.add_to_text(&mut text);
+        where_well(text, added)
+    }
+
+    /// Adds what both slots hold.
+    fn add_to_text(&self, text: &mut Vec<u8>) -> Result<(), Reason> {
+        add_slot(text, 0, &self.zero)?;
+        add_slot(text, 1, &self.one)
     }
 }
 
@@ -136,21 +143,16 @@ fn kept_length(head: &[u8]) -> u32 {
 }
 
 /// Adds what a slot holds.
-fn add_slot(alloc: Global, text: &mut Vec<u8>, slot: u32, bytes: &[u8]) -> Result<(), AllocError> {
-    let mut head = String::new(alloc);
-    write_head(&mut head, slot, bytes)?;
-    text.extend_from_slice(head.as_bytes())?;
-    text.extend_from_slice(shown(bytes))
-}
-
-/// Writes the gate, the number and the length that the head of a slot tells.
-fn write_head(text: &mut String, slot: u32, bytes: &[u8]) -> Result<(), AllocError> {
+fn add_slot(text: &mut Vec<u8>, slot: u32, bytes: &[u8]) -> Result<(), Reason> {
     let (gate, number) = match bytes {
         &[gate, number, ..] => (gate, number),
         _ => (0, 0),
     };
-    write!(text, "slot {slot} gate {gate}")?;
-    write!(text, " number {number} length {}\n", kept_length(bytes))
+    add_numbered(text, b"slot {}", slot)?;
+    add_numbered(text, b" gate {}", u32::from(gate))?;
+    add_numbered(text, b" number {}", u32::from(number))?;
+    add_numbered(text, b" length {}\n", kept_length(bytes))?;
+    add_bytes(text, shown(bytes))
 }
 
 /// The content of a slot whose gate is open; nothing of any other.

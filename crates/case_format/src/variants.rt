@@ -1,20 +1,11 @@
 //! The variants of a file, and what must hold of a command over each of them.
 use crate::reason::Reason;
-use crate::words::Words;
 use memchr::memchr;
 use std::alloc::Global;
 
-/// What is turned in a byte, one after the other: its lowest bit, the one of a digit against a space, and its highest.
+/// What is turned in a byte, one after the other: its lowest bit, the one of a digit against a space, and its
+/// highest.
 const TURNS: [u8; 3] = [1, 16, 128];
-
-/// All variants of a file of one kind.
-#[derive(Drop)]
-pub struct Variants {
-    /// The name of the file.
-    pub file: String,
-    /// Their kind.
-    pub kind: Kind,
-}
 
 /// A kind of variants.
 #[derive(Clone, Copy)]
@@ -49,18 +40,8 @@ impl Kind {
     }
 }
 
-/// The variants that the words behind `each` are: `prefix of FILE`, or `byte of FILE changed`.
-pub fn variants_of(kind: Kind, words: &mut Words) -> Result<Variants, Reason> {
-    words.expect_word("of")?;
-    let file = words.name()?;
-    if let Kind::Byte = kind {
-        words.expect_word("changed")?;
-    }
-    Ok(Variants { file, kind })
-}
-
-/// Whether a command may end with this status and have written this: with 0 a text that ends in a line feed, with any other
-/// the one line of it.
+/// Whether a command may end with this status and have written this: with 0 a text that ends in a line feed, with
+/// any other the one line of it.
 pub fn is_answer(status: u8, written: &[u8]) -> bool {
     match front_of(status) {
         Some(front) => written.starts_with(front) && is_line(written),

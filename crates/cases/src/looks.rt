@@ -36,8 +36,8 @@ fn plant_of(alloc: Global, bytes: &[u8]) -> Result<Plant, Reason>
     }
 }
 
-/// The arcs of a plant's graph in order, a line each: its number, the stations at its start and its end, its tokens, whether
-/// it is worked, and its delay.
+/// The arcs of a plant's graph in order, a line each: its number, the stations at its start and its end, its
+/// tokens, whether it is worked, and its delay.
 pub fn arcs_of(alloc: Global, bytes: &[u8]) -> Result<Vec<u8>, Reason> {
     let graph = graph_for(alloc, bytes)?;
     let lines = arc_lines(alloc, &graph);

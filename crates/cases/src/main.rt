@@ -1,12 +1,12 @@
 //! Runs the cases of the case files, and prints a line for each.
 #![tactic(auto)]
 
-mod compare;
+mod came;
 mod looks;
 mod runner;
 mod told;
 
-use case_format::{BadLine, Case, Reason, cases_of, read_file};
+use case_format::{Reason, check_head, line_at, lines_of, read_file};
 use line_io::{FileStore, Sink, StdSink, Store, put_all};
 use runner::run_case;
 use std::alloc::{AllocError, Global};
@@ -66,88 +66,67 @@ fn run_file<R: Threads + Wait + Sync, S: Store, K: Sink>(
     folder: &mut S,
     sink: &mut K,
 ) -> Result<bool, Reason> {
-    match file_cases(alloc, name, folder)? {
-        Ok(cases) => {
-            let ran = run_cases(rt, alloc, name, &cases, folder, sink);
-            drop(cases);
-            ran
-        }
-        Err(bad) => report_bad_line(alloc, name, bad, sink),
-    }
-}
-
-/// The cases of a file.
-fn file_cases<S: Store>(
-    alloc: Global,
-    name: &str,
-    folder: &mut S,
-) -> Result<Result<Vec<Case>, BadLine>, Reason> {
     let text = text_of(alloc, folder, name)?;
-    Ok(cases_of(alloc, text.as_str()))
+    let lines = lines_of(alloc, text.as_str())?;
+    let ran = run_cases(rt, alloc, name, &lines, folder, sink);
+    drop(lines);
+    ran
 }
 
-/// Prints which line of a file, or of a case, can't be followed, and why.
-fn report_bad_line<K: Sink>(
-    alloc: Global,
-    place: &str,
-    bad: BadLine,
-    sink: &mut K,
-) -> Result<bool, Reason> {
-    let line = format!(in alloc; "{place}, line {}: {}\n", bad.line, bad.reason)?;
-    print(sink, line.as_bytes())?;
-    Ok(false)
-}
-
-/// Runs cases in order.
+/// Runs the cases of the lines of a file in order.
 fn run_cases<R: Threads + Wait + Sync, S: Store, K: Sink>(
     rt: &R,
     alloc: Global,
     name: &str,
-    cases: &[Case],
+    lines: &[&str],
     folder: &mut S,
     sink: &mut K,
 ) -> Result<bool, Reason> {
+    check_head(lines)?;
     let mut all_well = true;
-    for case in cases {
-        all_well &= report(rt, alloc, name, case, folder, sink)?;
+    for index in 0..lines.len() {
+        let (line, below) = line_at(&*lines, index);
+        if let Some(title) = line.strip_prefix("case ") {
+            let told = run_case(rt, alloc, lines, below, folder);
+            let reported = report(alloc, name, title, &told, sink);
+            drop(told);
+            all_well &= reported?;
+        }
     }
     Ok(all_well)
 }
 
-/// Runs a case, and prints its line, or what came in full.
-fn report<R: Threads + Wait + Sync, S: Store, K: Sink>(
-    rt: &R,
+/// Prints the line of a case that was run, with what is told of it. Answers whether it did what is wanted.
+fn report<K: Sink>(
     alloc: Global,
     name: &str,
-    case: &Case,
-    folder: &mut S,
+    title: &str,
+    told: &Told,
     sink: &mut K,
 ) -> Result<bool, Reason> {
-    let place = format!(in alloc; "{name}: {}", case.title)?;
-    match run_case(rt, alloc, case, folder) {
-        Ok(told) => report_told(place, &told, sink),
-        Err(broken) => report_bad_line(alloc, place.as_str(), broken, sink),
-    }
-}
-
-/// Prints the line of a case that was run, which begins with its place, and what is told of it.
-fn report_told<K: Sink>(mut line: String, told: &Told, sink: &mut K) -> Result<bool, Reason> {
-    let well = told.text.is_empty();
-    write_outcome(&mut line, well, told.runs)?;
+    let mut line = format!(in alloc; "{name}: {title}")?;
+    let well = write_outcome(&mut line, told)?;
     print(sink, line.as_bytes())?;
     print(sink, &told.text)?;
     Ok(well)
 }
 
 /// Writes whether a case did what is wanted, and how many runs over variants there were, where there were any.
-fn write_outcome(line: &mut String, well: bool, runs: u64) -> Result<(), AllocError> {
-    if !well {
-        line.push_str(" FAILED\n")
-    } else if runs == 0 {
-        line.push_str(" ok\n")
+/// Answers whether it did.
+fn write_outcome(line: &mut String, told: &Told) -> Result<bool, AllocError> {
+    let mut well = false;
+    if let Some(reason) = told.stopped {
+        write!(line, ", line {}: {reason}\n", told.line)?;
+    } else if !told.text.is_empty() {
+        line.push_str(" FAILED\n")?;
+    } else if told.runs == 0 {
+        line.push_str(" ok\n")?;
+        well = true;
     } else {
-        write!(line, " ok, {runs} runs\n")
+        write!(line, " ok, {} runs\n", told.runs)?;
+        well = true;
     }
+    Ok(well)
 }
 
 /// Prints some bytes.

@@ -1,59 +1,37 @@
 //! Runs a case, and tells what came that isn't wanted.
-use crate::compare::{has_files, has_output};
-use crate::looks::{arcs_of, circuits_of};
-use crate::told::{Told, add_came, add_changed, add_variant};
+use crate::came::{Came, call};
+use crate::told::Told;
 use case_format::{
-    Act, After, BadLine, Case, Change, Crash, Faults, NumberedRow, Output, Reason, Run, Slots,
-    Step, Variants, apply, held, is_answer, put, put_copy, put_in, where_well, with,
+    Each, Faults, Kind, Reason, Run, Slots, Want, Words, begin_like, belongs, change_all,
+    change_file, command_words, each_of, fits, held, is_answer, line_at, put, put_in, run_of,
+    wanted_files, where_well,
 };
-use line_disk::MemDisk;
-use line_io::{Files, MemSink, MemStore, Store};
-use line_workers::FreeGate;
-use pull_cli::pull;
+use line_io::{Files, Store};
 use std::alloc::Global;
 use std::sync::Wait;
 use std::thread::Threads;
 
 /// What a command finds: the files of the store, and the slots of the disk.
 #[derive(Drop)]
-struct Found {
-    files: Files,
-    slots: Slots,
+pub struct Found {
+    pub files: Files,
+    pub slots: Slots,
 }
 
-/// A command that is tried over files and slots.
+/// A command that is tried over files and slots, and what is wanted of it.
 #[derive(Clone, Copy)]
-struct Attempt<'a> {
-    /// The line of the case.
-    line: u64,
-    words: &'a [String],
-    files: &'a Files,
-    slots: &'a Slots,
-    faults: Faults,
-    /// The crash that is left to the commands below.
-    crash: Option<Crash>,
-    status: u8,
-    output: &'a Output,
-    after: &'a [After],
-}
-
-/// What came of a command.
-#[derive(Drop)]
-pub struct Came {
-    pub status: u8,
-    pub written: Vec<u8>,
-    /// What is told of the files where they are not those that are wanted.
-    pub changed: Vec<u8>,
-    /// What the commands below find; nothing where it is what this one found.
-    left: Option<Left>,
-}
-
-/// What a command leaves to those below.
-#[derive(Drop)]
-struct Left {
-    /// The files of which something is wanted, as the command leaves them.
-    files: Files,
-    slots: Slots,
+pub struct Attempt<'a> {
+    /// The line that asks for it.
+    pub asked: &'a str,
+    /// The number of the variant of a file over which it is run, counted from 0: any answer is wanted of it then.
+    pub variant: Option<usize>,
+    pub words: &'a [String],
+    pub files: &'a Files,
+    pub slots: &'a Slots,
+    pub faults: Faults,
+    pub want: Want<'a>,
+    /// The lines that say which files change.
+    pub after: &'a [&'a str],
 }
 
 /// What each step of a case runs on.
@@ -66,239 +44,287 @@ struct Bench<'a, R, S> {
     told: &'a mut Told,
 }
 
-/// What is told of a case.
+/// What is told of the case of a file of these lines that begins above the second ones.
 pub fn run_case<R: Threads + Wait + Sync, S: Store>(
     rt: &R,
     alloc: Global,
-    case: &Case,
+    lines: &[&str],
+    below: &[&str],
     folder: &mut S,
-) -> Result<Told, BadLine> {
+) -> Told {
     let mut found = Found {
         files: Files::new(alloc),
         slots: Slots::blank(alloc),
     };
-    let mut told = Told {
-        text: Vec::new(alloc),
-        runs: 0,
-    };
+    let mut told = Told::new(alloc);
     let mut bench = Bench {
         rt,
         alloc,
         folder,
         told: &mut told,
     };
-    let ran = bench.run_steps(&case.steps, &mut found);
+    let ran = bench.run_steps(lines, below, &mut found);
     drop(found);
-    ran?;
-    Ok(told)
+    told.stopped = ran.err();
+    told
 }
 
 impl<'a, R: Threads + Wait + Sync, S: Store> Bench<'a, R, S> {
-    /// Runs the steps of a case in order.
-    fn run_steps(&mut self, steps: &[Step], found: &mut Found) -> Result<(), BadLine> {
-        for step in steps {
-            if let Err(reason) = self.run_step(step, found) {
-                return Err(BadLine {
-                    line: step.line,
-                    reason,
-                });
+    /// Runs the steps of a case in order, up to the next case. The last is to be a command.
+    fn run_steps(&mut self, all: &[&str], lines: &[&str], found: &mut Found) -> Result<(), Reason> {
+        let mut opener = "case";
+        for index in 0..lines.len() {
+            let (line, below) = line_at(&*lines, index);
+            if line.starts_with("case ") {
+                break;
+            }
+            if let Some(word) = self.run_step(all, line, below, opener, found)? {
+                opener = word;
             }
         }
-        Ok(())
-    }
-
-    /// Runs a step.
-    fn run_step(&mut self, step: &Step, found: &mut Found) -> Result<(), Reason> {
-        match &step.act {
-            Act::Change(change) => apply(self.alloc, change, &mut found.files, self.folder),
-            Act::Run(run) => self.run_commands(run, step.line, found),
+        if opener == "$" {
+            Ok(())
+        } else {
+            Err(Reason::NoLastCommand)
         }
     }
 
-    /// Runs commands one after the other over what each finds.
-    fn run_commands(&mut self, run: &Run, line: u64, found: &mut Found) -> Result<(), Reason> {
-        for words in run.commands.iter() {
-            let attempt = attempt_of(run, line, words, found);
-            for row in run.rows.iter() {
-                self.run_row(&attempt, row)?;
-            }
-            for variants in run.variants.iter() {
-                self.run_variants(&attempt, variants)?;
-            }
-            if run.want.status.is_some() {
-                let left = self.run_command(run, &attempt)?;
-                leave(found, left)?;
-            }
-        }
-        Ok(())
-    }
-
-    /// Runs a command over each variant of a file.
-    fn run_variants(&mut self, attempt: &Attempt, variants: &Variants) -> Result<(), Reason> {
-        let file = variants.file.as_str();
-        let whole = held(attempt.files, file)?;
-        for number in 0..variants.kind.count(whole.len()) {
-            if !self.run_variant(attempt, variants, whole, number)? {
-                add_variant(self.alloc, self.told, file, number)?;
-            }
-        }
-        Ok(())
-    }
-
-    /// Runs a command over the variant of this number of a file that holds these bytes, and tells what came where it is
-    /// no answer. Answers whether it is one.
-    fn run_variant(
+    /// Runs the step that begins with a line, if one does, and answers its first word.
+    fn run_step<'b>(
         &mut self,
-        attempt: &Attempt,
-        variants: &Variants,
-        whole: &[u8],
-        number: usize,
-    ) -> Result<bool, Reason> {
-        let variant = variants.kind.variant(self.alloc, whole, number)?;
-        let files = files_with(attempt.files, &variants.file, variant)?;
-        let answers = self.answers(attempt, &files);
-        drop(files);
-        answers
-    }
-
-    /// Runs a command over these files, and tells what came where it is no answer. Answers whether it is one.
-    fn answers(&mut self, attempt: &Attempt, files: &Files) -> Result<bool, Reason> {
-        let attempt = Attempt { files, ..*attempt };
-        let came = call(self.rt, self.alloc, &attempt)?;
-        self.told.runs = self.told.runs.saturating_add(1);
-        let fits = is_answer(came.status, &came.written) && came.changed.is_empty();
-        let judged = self.judged(&attempt, &came, fits);
-        drop(came);
-        judged
-    }
-
-    /// Tells what came of an attempt where it doesn't fit. Answers whether it fits.
-    fn judged(&mut self, attempt: &Attempt, came: &Came, fits: bool) -> Result<bool, Reason> {
-        if !fits {
-            add_came(self.alloc, self.told, attempt.line, attempt.words, came)?;
+        all: &[&str],
+        line: &'b str,
+        below: &[&str],
+        opener: &str,
+        found: &mut Found,
+    ) -> Result<Option<&'b str>, Reason> {
+        let mut words = Words::of(line);
+        let word = words.word();
+        self.told.line = all.len().saturating_sub(below.len());
+        match word {
+            "file" => change_file(self.alloc, words, below, &mut found.files, self.folder)?,
+            "like" => self.begin_like(all, words.rest(), found)?,
+            "$" => self.run_command(line, words, below, found)?,
+            _ if belongs(line, opener) => return Ok(None),
+            _ => return Err(Reason::NoCommand),
         }
-        Ok(fits)
+        Ok(Some(word))
     }
 
-    /// Tries a command, and then with each fault in turn. Answers what it leaves.
-    fn run_command(&mut self, run: &Run, attempt: &Attempt) -> Result<Option<Left>, Reason> {
+    /// Begins with the files of the case of this title.
+    fn begin_like(&mut self, all: &[&str], title: &str, found: &mut Found) -> Result<(), Reason> {
+        begin_like(self.alloc, all, title, &mut found.files, self.folder)
+    }
+
+    /// Runs a command over what it finds.
+    fn run_command(
+        &mut self,
+        line: &str,
+        words: Words,
+        below: &[&str],
+        found: &mut Found,
+    ) -> Result<(), Reason> {
+        let run = run_of(&*below)?;
+        let words = command_words(self.alloc, words)?;
+        let ran = self.run_words(line, &words, &run, found);
+        drop(words);
+        ran
+    }
+
+    /// Runs the words of a command over what it finds: over the rows and the variants, with each fault in turn, and
+    /// then to its status.
+    fn run_words(
+        &mut self,
+        line: &str,
+        words: &[String],
+        run: &Run,
+        found: &mut Found,
+    ) -> Result<(), Reason> {
+        let attempt = Attempt {
+            asked: line,
+            variant: None,
+            words,
+            files: &found.files,
+            slots: &found.slots,
+            faults: run.faults,
+            want: Want::Lines(run.status.unwrap_or(0), run.lines),
+            after: run.lines,
+        };
+        for line in run.lines {
+            self.run_line(&attempt, *line)?;
+        }
+        if run.status.is_some() {
+            let left = self.run_to_status(&attempt, run)?;
+            put_in(found, left);
+        }
+        Ok(())
+    }
+
+    /// Runs a command to its status. Answers what it leaves.
+    fn run_to_status(&mut self, attempt: &Attempt, run: &Run) -> Result<Found, Reason> {
         let came = self.tried(attempt)?;
-        match self.fail_in_turn(run, attempt, &came.written) {
-            Ok(()) => Ok(came.left),
-            Err(reason) => {
-                drop(came);
-                Err(reason)
-            }
+        let left = came.left(self.alloc, run.crash);
+        drop(came);
+        left
+    }
+
+    /// Makes the runs of a command for which a line below it asks.
+    fn run_line(&mut self, attempt: &Attempt, line: &str) -> Result<(), Reason> {
+        let attempt = Attempt {
+            asked: line,
+            ..*attempt
+        };
+        let mut words = Words::of(line);
+        match words.word() {
+            "with" => self.run_row(&attempt, words),
+            "each" => self.run_each(&attempt, each_of(words.rest())?),
+            _ => Ok(()),
         }
     }
 
     /// Runs a command over the files of a row of a table.
-    fn run_row(&mut self, attempt: &Attempt, numbered: &NumberedRow) -> Result<(), Reason> {
-        let changes = numbered.row.changes.as_slice();
-        let files = changed_files(self.alloc, attempt.files, changes, self.folder)?;
-        let checked = self.check_row(attempt, numbered, &files);
+    fn run_row(&mut self, attempt: &Attempt, words: Words) -> Result<(), Reason> {
+        let mut files = attempt.files.clone()?;
+        let ran = self.run_changed(attempt, words, &mut files);
         drop(files);
-        checked
+        ran
     }
 
-    /// Runs a command over these files, which are those of a row of a table.
-    fn check_row(
+    /// Changes files as the words of a row say, and runs a command over them.
+    fn run_changed(
         &mut self,
         attempt: &Attempt,
-        numbered: &NumberedRow,
-        files: &Files,
+        mut words: Words,
+        files: &mut Files,
     ) -> Result<(), Reason> {
-        let want = &numbered.row.want;
-        self.check_attempt(&Attempt {
-            line: numbered.line,
+        change_all(self.alloc, &mut words, files, self.folder)?;
+        self.check(&Attempt {
             files,
-            crash: None,
-            status: want.status.unwrap_or(0),
-            output: &want.output,
-            after: &want.after,
+            want: Want::Row(words.rest()),
+            after: &[],
             ..*attempt
         })
     }
 
-    /// Makes the calls of the store and of the disk fail in turn, and the first put, where a run is to have it so.
-    /// Without a fault all of this was written.
-    fn fail_in_turn(&mut self, run: &Run, attempt: &Attempt, whole: &[u8]) -> Result<(), Reason> {
-        if let Some(calls) = run.each_disk_fault {
-            self.fail_disk(attempt, calls)?;
+    /// Makes the runs of a line that begins with `each`.
+    fn run_each(&mut self, attempt: &Attempt, each: Each) -> Result<(), Reason> {
+        match each {
+            Each::Variant(kind, file) => self.run_variants(attempt, kind, file),
+            Each::DiskFault(calls) => self.fail_disk(attempt, calls),
+            Each::Fault(names) => {
+                self.fail_store(attempt, names)?;
+                self.fail_puts(attempt)
+            }
         }
-        if let Some(names) = &run.each_fault {
-            self.fail_store(attempt, names)?;
-            let nothing = Output::Whole(Vec::new(self.alloc));
-            self.fail_put(attempt, 0, nothing)?;
-            let front = Output::Front(5, whole.to_vec(self.alloc)?);
-            self.fail_put(attempt, 5, front)?;
+    }
+
+    /// Runs a command over each variant of a file.
+    fn run_variants(&mut self, attempt: &Attempt, kind: Kind, file: &str) -> Result<(), Reason> {
+        let whole = held(attempt.files, file);
+        for number in 0..kind.count(whole.len()) {
+            let variant = kind.variant(self.alloc, whole, number)?;
+            self.run_variant(attempt, file, variant, number)?;
         }
         Ok(())
     }
 
+    /// Runs a command over files in which this one holds these bytes.
+    fn run_variant(
+        &mut self,
+        attempt: &Attempt,
+        file: &str,
+        bytes: Vec<u8>,
+        number: usize,
+    ) -> Result<(), Reason> {
+        self.told.runs = self.told.runs.saturating_add(1);
+        let mut files = files_with(self.alloc, attempt.files, file, bytes)?;
+        let checked = self.check_variant(attempt, &mut files, number);
+        drop(files);
+        checked
+    }
+
+    /// Runs a command over these files, which are a variant.
+    fn check_variant(
+        &mut self,
+        attempt: &Attempt,
+        files: &mut Files,
+        variant: usize,
+    ) -> Result<(), Reason> {
+        self.check(&Attempt {
+            variant: Some(variant),
+            files,
+            ..*attempt
+        })
+    }
+
     /// Makes each call of the store fail in turn, which are of these files, then one more.
-    fn fail_store(&mut self, attempt: &Attempt, names: &[String]) -> Result<(), Reason> {
-        let mut store = 1u32;
-        for name in names {
-            let line = format!(in self.alloc; "store: {name}\n")?;
-            self.try_stopping(attempt, Failing::Store(store), 5, line.into_bytes())?;
-            store = store.saturating_add(1);
+    fn fail_store(&mut self, attempt: &Attempt, names: &str) -> Result<(), Reason> {
+        let mut faults = attempt.faults;
+        faults.store = 1;
+        for name in names.split_whitespace() {
+            self.fail_file(attempt, faults, name)?;
+            faults.store = faults.store.saturating_add(1);
         }
-        self.try_failing(attempt, Failing::Store(store))
+        self.check(&Attempt { faults, ..*attempt })
+    }
+
+    /// Makes a call of the store fail, which is of this file.
+    fn fail_file(&mut self, attempt: &Attempt, faults: Faults, name: &str) -> Result<(), Reason> {
+        let line = format!(in self.alloc; "store: {name}\n")?;
+        let failed = self.fail(attempt, faults, Want::Bytes(5, line.as_bytes()));
+        drop(line);
+        failed
     }
 
     /// Makes each call of the disk fail in turn, then one more.
     fn fail_disk(&mut self, attempt: &Attempt, calls: u32) -> Result<(), Reason> {
-        for disk in 1..=calls {
-            let line = b"disk\n".to_vec(self.alloc)?;
-            self.try_stopping(attempt, Failing::Disk(disk), 12, line)?;
+        let mut faults = attempt.faults;
+        faults.disk = 1;
+        for _ in 0..calls {
+            self.fail(attempt, faults, Want::Bytes(12, b"disk\n"))?;
+            faults.disk = faults.disk.saturating_add(1);
         }
-        self.try_failing(attempt, Failing::Disk(calls.saturating_add(1)))
+        self.check(&Attempt { faults, ..*attempt })
     }
 
-    /// Makes the first put fail, which keeps this many bytes, after which this was written.
-    fn fail_put(&mut self, attempt: &Attempt, keep: u32, output: Output) -> Result<(), Reason> {
-        let failed = Attempt {
-            status: 6,
-            output: &output,
+    /// Makes a call fail where the command is to change no file.
+    fn fail(&mut self, attempt: &Attempt, faults: Faults, want: Want) -> Result<(), Reason> {
+        self.check(&Attempt {
+            faults,
+            want,
+            after: &[],
             ..*attempt
-        };
-        let tried = self.try_failing(&failed, Failing::Put { keep });
-        drop(output);
-        tried
+        })
     }
 
-    /// Makes a call fail where the command is to stop with this status and this output, and to change no file.
-    fn try_stopping(
-        &mut self,
-        attempt: &Attempt,
-        failing: Failing,
-        status: u8,
-        written: Vec<u8>,
-    ) -> Result<(), Reason> {
-        let output = Output::Whole(written);
-        let stopped = Attempt {
-            status,
-            output: &output,
-            after: &attempt.after[..0],
-            ..*attempt
+    /// Makes the first put fail, which keeps 0 or 5 bytes.
+    fn fail_puts(&mut self, attempt: &Attempt) -> Result<(), Reason> {
+        let came = call(self.rt, self.alloc, attempt)?;
+        let whole = came.written();
+        let failed = match self.fail_put(attempt, 0, whole) {
+            Ok(()) => self.fail_put(attempt, 5, whole),
+            Err(reason) => Err(reason),
         };
-        let tried = self.try_failing(&stopped, failing);
-        drop(output);
-        tried
+        drop(came);
+        failed
     }
 
-    /// Makes a call fail. No command below finds what this one leaves.
-    fn try_failing(&mut self, attempt: &Attempt, failing: Failing) -> Result<(), Reason> {
-        self.check_attempt(&Attempt {
-            faults: failing.among(attempt.faults),
-            crash: None,
+    /// Makes the first put fail, which keeps this many bytes of all that is to be written.
+    fn fail_put(&mut self, attempt: &Attempt, keep: u32, whole: &[u8]) -> Result<(), Reason> {
+        let kept = whole.get(..keep as usize).unwrap_or(whole);
+        self.check(&Attempt {
+            faults: Faults {
+                put: 1,
+                keep: Some(keep),
+                ..attempt.faults
+            },
+            want: Want::Bytes(6, kept),
             ..*attempt
         })
     }
 
     /// Tries a command, and lets go what comes of it; it is told where it isn't wanted.
-    fn check_attempt(&mut self, attempt: &Attempt) -> Result<(), Reason> {
+    fn check(&mut self, attempt: &Attempt) -> Result<(), Reason> {
         drop(self.tried(attempt)?);
         Ok(())
     }
@@ -306,276 +332,41 @@ impl<'a, R: Threads + Wait + Sync, S: Store> Bench<'a, R, S> {
     /// What comes of an attempt; it is told where it isn't wanted.
     fn tried(&mut self, attempt: &Attempt) -> Result<Came, Reason> {
         let came = call(self.rt, self.alloc, attempt)?;
-        match self.is_wanted(attempt, &came) {
-            Ok(_) => Ok(came),
-            Err(reason) => {
-                drop(came);
-                Err(reason)
-            }
+        let judged = self.judge(attempt, &came);
+        where_well(came, judged)
+    }
+
+    /// Tells what came of an attempt where it isn't wanted.
+    fn judge(&mut self, attempt: &Attempt, came: &Came) -> Result<(), Reason> {
+        if self.has_output(attempt, came)? && self.has_files(attempt, came)? {
+            Ok(())
+        } else {
+            self.told.add(attempt, came)
         }
     }
 
-    /// Whether what came of an attempt is what is wanted; it is told where it isn't.
-    fn is_wanted(&mut self, attempt: &Attempt, came: &Came) -> Result<bool, Reason> {
-        let fits = attempt.status == came.status
-            && has_output(self.alloc, &came.written, attempt.output, self.folder)?
-            && came.changed.is_empty();
-        self.judged(attempt, came, fits)
-    }
-}
-
-/// A call that fails.
-#[derive(Clone, Copy)]
-enum Failing {
-    /// The call of the store of this number.
-    Store(u32),
-    /// The call of the disk of this number.
-    Disk(u32),
-    /// The first put, which keeps this many bytes of its piece.
-    Put { keep: u32 },
-}
-
-impl Failing {
-    /// These faults, with this one among them.
-    fn among(self, faults: Faults) -> Faults {
-        match self {
-            Failing::Store(store) => Faults { store, ..faults },
-            Failing::Disk(disk) => Faults { disk, ..faults },
-            Failing::Put { keep } => Faults {
-                put: 1,
-                keep,
-                ..faults
-            },
+    /// Whether the status and what was written are what is wanted.
+    fn has_output(&mut self, attempt: &Attempt, came: &Came) -> Result<bool, Reason> {
+        let written = came.written();
+        match attempt.variant {
+            Some(_) => Ok(is_answer(came.status, written)),
+            None => fits(self.alloc, came.status, written, attempt.want, self.folder),
         }
+    }
+
+    /// Whether the files are those that are wanted.
+    fn has_files(&mut self, attempt: &Attempt, came: &Came) -> Result<bool, Reason> {
+        let left = came.files();
+        let wanted = wanted_files(self.alloc, attempt.after, attempt.files, left, self.folder)?;
+        let same = wanted == *left;
+        drop(wanted);
+        Ok(same)
     }
 }
 
 /// The files, where the one of this name holds these bytes.
-fn files_with(files: &Files, name: &String, bytes: Vec<u8>) -> Result<Files, Reason> {
+fn files_with(alloc: Global, files: &Files, name: &str, bytes: Vec<u8>) -> Result<Files, Reason> {
     let mut changed = files.clone()?;
-    let ended = put(&mut changed, name, bytes);
+    let ended = put(alloc, &mut changed, name, bytes);
     where_well(changed, ended)
-}
-
-/// The attempt at a command of a run.
-fn attempt_of<'a>(run: &'a Run, line: u64, words: &'a [String], found: &'a Found) -> Attempt<'a> {
-    Attempt {
-        line,
-        words,
-        files: &found.files,
-        slots: &found.slots,
-        faults: run.faults,
-        crash: run.crash,
-        status: run.want.status.unwrap_or(0),
-        output: &run.want.output,
-        after: &run.want.after,
-    }
-}
-
-/// Goes on with what a command leaves.
-fn leave(found: &mut Found, left: Option<Left>) -> Result<(), Reason> {
-    match left {
-        Some(Left { files, slots }) => {
-            put_in(&mut found.slots, slots);
-            let ended = put_all(&mut found.files, &files);
-            drop(files);
-            ended
-        }
-        None => Ok(()),
-    }
-}
-
-/// Puts files among others, in the place of those of the same names.
-fn put_all(files: &mut Files, others: &Files) -> Result<(), Reason> {
-    for (name, bytes) in others.iter() {
-        put_copy(files, name, bytes)?;
-    }
-    Ok(())
-}
-
-/// The files with these changes.
-fn changed_files<S: Store>(
-    alloc: Global,
-    files: &Files,
-    changes: &[Change],
-    folder: &mut S,
-) -> Result<Files, Reason> {
-    let mut changed = files.clone()?;
-    let ended = apply_all(alloc, changes, &mut changed, folder);
-    where_well(changed, ended)
-}
-
-/// Makes changes in some files.
-fn apply_all<S: Store>(
-    alloc: Global,
-    changes: &[Change],
-    files: &mut Files,
-    folder: &mut S,
-) -> Result<(), Reason> {
-    for change in changes {
-        apply(alloc, change, files, folder)?;
-    }
-    Ok(())
-}
-
-/// Runs a command: a look, or the top call.
-fn call<R: Threads + Wait + Sync>(
-    rt: &R,
-    alloc: Global,
-    attempt: &Attempt,
-) -> Result<Came, Reason> {
-    match look_of(alloc, attempt)? {
-        Some(text) => Ok(looked(alloc, text)),
-        None => pulled(rt, alloc, attempt),
-    }
-}
-
-/// What a look at the slots or at a plant shows; none where the words are no look.
-fn look_of(alloc: Global, attempt: &Attempt) -> Result<Option<Vec<u8>>, Reason> {
-    match attempt.words {
-        [program] if program.as_str() == "slots" => Ok(Some(attempt.slots.text(alloc)?)),
-        [program, name] => plant_look(alloc, program.as_str(), attempt.files, name.as_str()),
-        _ => Ok(None),
-    }
-}
-
-/// What a look of this name at the plant of a file shows; none where there is no such look.
-fn plant_look(
-    alloc: Global,
-    look: &str,
-    files: &Files,
-    name: &str,
-) -> Result<Option<Vec<u8>>, Reason> {
-    match look {
-        "arcs" => Ok(Some(arcs_of(alloc, held(files, name)?)?)),
-        "circuits" => Ok(Some(circuits_of(alloc, held(files, name)?)?)),
-        _ => Ok(None),
-    }
-}
-
-/// What comes of a look.
-fn looked(alloc: Global, written: Vec<u8>) -> Came {
-    Came {
-        status: 0,
-        written,
-        changed: Vec::new(alloc),
-        left: None,
-    }
-}
-
-/// The status of the top call. What its contract says is let go here.
-fn status_of<R: Threads + Wait + Sync>(
-    rt: &R,
-    alloc: Global,
-    words: &[String],
-    store: &mut MemStore,
-    sink: &mut MemSink,
-    disk: &mut MemDisk,
-) -> u8 {
-    pull(rt, alloc, words, store, sink, &FreeGate, disk)
-}
-
-/// Runs the top call over files, a sink and a disk in memory.
-fn pulled<R: Threads + Wait + Sync>(
-    rt: &R,
-    alloc: Global,
-    attempt: &Attempt,
-) -> Result<Came, Reason> {
-    let Some((_, words)) = attempt.words.split_first() else {
-        return Err(Reason::NoDirective);
-    };
-    let mut memory = Memory::of(alloc, attempt)?;
-    let status = status_of(
-        rt,
-        alloc,
-        words,
-        &mut memory.store,
-        &mut memory.sink,
-        &mut memory.disk,
-    );
-    let came = memory.came(alloc, attempt, status);
-    drop(memory);
-    came
-}
-
-/// The files, the sink and the disk of a command.
-#[derive(Drop)]
-struct Memory {
-    store: MemStore,
-    sink: MemSink,
-    disk: MemDisk,
-}
-
-impl Memory {
-    /// What a command finds.
-    fn of(alloc: Global, attempt: &Attempt) -> Result<Self, Reason> {
-        let faults = attempt.faults;
-        let sink = sink_of(alloc, faults)?;
-        let (sink, store) = with(sink, store_of(alloc, attempt.files, faults))?;
-        let ((sink, store), disk) = with((sink, store), attempt.slots.disk(alloc, faults.disk))?;
-        Ok(Memory { store, sink, disk })
-    }
-
-    /// What came of a command that ended with this status.
-    fn came(&self, alloc: Global, attempt: &Attempt, status: u8) -> Result<Came, Reason> {
-        let written = self.sink.written().to_vec(alloc)?;
-        let changed = changed_text(alloc, attempt, self.store.files())?;
-        let left = self.left(alloc, attempt)?;
-        Ok(Came {
-            status,
-            written,
-            changed,
-            left: Some(left),
-        })
-    }
-
-    /// What a command leaves to those below.
-    fn left(&self, alloc: Global, attempt: &Attempt) -> Result<Left, Reason> {
-        let slots = Slots::left_on(alloc, &self.disk, attempt.crash)?;
-        let files = wanted_files(alloc, self.store.files(), attempt.after);
-        let (slots, files) = with(slots, files)?;
-        Ok(Left { files, slots })
-    }
-}
-
-/// What is told of the files that a command leaves; nothing where they are those that are wanted.
-fn changed_text(alloc: Global, attempt: &Attempt, files: &Files) -> Result<Vec<u8>, Reason> {
-    let mut changed = Vec::new(alloc);
-    if !has_files(files, attempt.files, attempt.after) {
-        add_changed(&mut changed, attempt.files, files)?;
-    }
-    Ok(changed)
-}
-
-/// A sink with these faults.
-fn sink_of(alloc: Global, faults: Faults) -> Result<MemSink, Reason> {
-    let failing = vec![in alloc; faults.put]?;
-    Ok(MemSink::new(alloc, faults.room, failing, faults.keep)?)
-}
-
-/// A store of these files, with these faults.
-fn store_of(alloc: Global, files: &Files, faults: Faults) -> Result<MemStore, Reason> {
-    let failing = vec![in alloc; faults.store]?;
-    let files = files.clone()?;
-    Ok(match faults.tear {
-        None => MemStore::new(alloc, files, failing),
-        Some(keep) => MemStore::torn(alloc, files, failing, keep),
-    })
-}
-
-/// The files of which something is wanted, as they are.
-fn wanted_files(alloc: Global, files: &Files, after: &[After]) -> Result<Files, Reason> {
-    let mut wanted = Files::new(alloc);
-    let ended = put_wanted(&mut wanted, files, after);
-    where_well(wanted, ended)
-}
-
-/// Puts the files of which something is wanted among others.
-fn put_wanted(wanted: &mut Files, files: &Files, after: &[After]) -> Result<(), Reason> {
-    for file in after {
-        if let Some(bytes) = files.get(file.name.as_str()) {
-            put_copy(wanted, &file.name, bytes)?;
-        }
-    }
-    Ok(())
 }

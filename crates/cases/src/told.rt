@@ -1,73 +1,71 @@
 //! What is said of a command that does something that isn't wanted.
-use crate::runner::Came;
+use crate::came::Came;
+use crate::runner::Attempt;
+use case_format::{Reason, add_numbered};
 use line_io::Files;
 use std::alloc::{AllocError, Global};
 
 /// What is told of a case.
 #[derive(Drop)]
 pub struct Told {
+    /// The number of the line of the step that is run.
+    pub line: usize,
+    /// Why this line can't be followed, if it can't.
+    pub stopped: Option<Reason>,
     /// What came that isn't wanted; nothing where all is.
     pub text: Vec<u8>,
     /// How many runs over variants there were.
-    pub runs: u64,
+    pub runs: u32,
 }
 
-/// Adds what came of the command in this line of a case: its status, all that it wrote, and
-/// what is told of the files.
-pub fn add_came(
-    alloc: Global,
-    told: &mut Told,
-    line: u64,
-    words: &[String],
-    came: &Came,
-) -> Result<(), AllocError> {
-    let mut head = String::new(alloc);
-    write_head(&mut head, line, words, came.status)?;
-    told.text.extend_from_slice(head.as_bytes())?;
-    told.text.extend_from_slice(&came.written)?;
-    told.text.extend_from_slice(&came.changed)
-}
-
-/// Writes the command in a line of a case, and the status that it ended with.
-fn write_head(
-    text: &mut String,
-    line: u64,
-    words: &[String],
-    status: u8,
-) -> Result<(), AllocError> {
-    write!(text, "line {line}: $")?;
-    for word in words {
-        write!(text, " {word}")?;
+impl Told {
+    /// Nothing is told so far.
+    pub fn new(alloc: Global) -> Self {
+        Told {
+            line: 0,
+            stopped: None,
+            text: Vec::new(alloc),
+            runs: 0,
+        }
     }
-    write!(text, "\nstatus {status}\n")
+
+    /// Adds what came of an attempt: its status, all that it wrote, and the files that changed.
+    pub fn add(&mut self, attempt: &Attempt, came: &Came) -> Result<(), Reason> {
+        self.add_head(attempt, came.status)?;
+        self.text.extend_from_slice(came.written())?;
+        Ok(add_changed(&mut self.text, attempt.files, came.files())?)
+    }
+
+    /// Adds the line of the command, the line below it that asks for the attempt, and the status that it ended with.
+    fn add_head(&mut self, attempt: &Attempt, status: u8) -> Result<(), Reason> {
+        add_numbered(&mut self.text, b"line {}: ", as_u32(self.line))?;
+        self.text.extend_from_slice(attempt.asked.as_bytes())?;
+        if let Some(number) = attempt.variant {
+            add_numbered(&mut self.text, b", variant {}", as_u32(number))?;
+        }
+        add_numbered(&mut self.text, b"\nstatus {}\n", u32::from(status))
+    }
 }
 
-/// Adds which variant of a file it was, counted from 0.
-pub fn add_variant(
-    alloc: Global,
-    told: &mut Told,
-    file: &str,
-    number: usize,
-) -> Result<(), AllocError> {
-    let text = format!(in alloc; "variant {number} of {file}\n")?;
-    told.text.extend_from_slice(text.as_bytes())
+/// A number, or the greatest that is shown.
+fn as_u32(number: usize) -> u32 {
+    u32::try_from(number).unwrap_or(u32::MAX)
 }
 
-/// Adds that the files are not those that are wanted, and those that changed.
-pub fn add_changed(told: &mut Vec<u8>, before: &Files, files: &Files) -> Result<(), AllocError> {
-    told.extend_from_slice(b"the files are not those that are wanted\n")?;
+/// Adds the files that are others than before.
+fn add_changed(text: &mut Vec<u8>, before: &Files, files: &Files) -> Result<(), AllocError> {
     for (name, bytes) in files.iter() {
         if before.get(name.as_str()) != Some(bytes) {
-            add_file(told, name.as_str(), bytes)?;
+            add_file(text, name.as_str(), bytes)?;
         }
     }
     Ok(())
 }
 
 /// Adds the name of a file and what it holds.
-fn add_file(told: &mut Vec<u8>, name: &str, bytes: &[u8]) -> Result<(), AllocError> {
-    told.extend_from_slice(b"after ")?;
-    told.extend_from_slice(name.as_bytes())?;
-    told.push(b'\n')?;
-    told.extend_from_slice(bytes)
+fn add_file(text: &mut Vec<u8>, name: &str, bytes: &[u8]) -> Result<(), AllocError> {
+    text.extend_from_slice(b"after ")?;
+    text.extend_from_slice(name.as_bytes())?;
+    text.push(b'\n')?;
+    text.extend_from_slice(bytes)
 }

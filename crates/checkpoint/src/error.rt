@@ -2,20 +2,17 @@ ghost use Rattle.std.specs.Prelude.{◌≡◌};
 ghost use Rattle.checkpoint.specs.Refusals.{of_state_error};
 
 use line_core::StateError;
-use thiserror::Error;
 
 /// Why bytes are no checkpoint of a state that firings reach. Lines, jobs and tokens are counted from 1, stations and arcs
 /// from 0, dates are in the plant's unit.
-#[derive(Clone, Copy, Debug, PartialEq, Eq, Error)]
+#[derive(Clone, Copy)]
 pub enum CheckpointError {
     /// This line, the first such, is not of the form.
-    #[error("line {number} is no line of a checkpoint")]
     Line {
         /// Which line.
         number: u64,
     },
     /// The log of this station, the first such, has more dates than there are jobs.
-    #[error("station {station} has {have} dates of {limit}")]
     Count {
         /// Which station.
         station: u32,
@@ -25,7 +22,6 @@ pub enum CheckpointError {
         limit: u64,
     },
     /// The place of this arc, the first such, has another number of tokens than the logs leave there.
-    #[error("arc {arc} has {have} tokens, needs {need}")]
     Marking {
         /// Which arc.
         arc: u32,
@@ -35,7 +31,6 @@ pub enum CheckpointError {
         need: i64,
     },
     /// This date, the first such, isn't the one that the equations of the graph give over the logs.
-    #[error("job {job} of station {station} has date {have}, needs {need}")]
     Date {
         /// Which station.
         station: u32,
@@ -47,7 +42,6 @@ pub enum CheckpointError {
         need: u64,
     },
     /// This token, the first such, isn't the one that the logs leave on the arc.
-    #[error("token {token} of arc {arc} has date {have}, needs {need}")]
     PlaceDate {
         /// Which arc.
         arc: u32,
@@ -59,7 +53,6 @@ pub enum CheckpointError {
         need: u64,
     },
     /// Memory ran out.
-    #[error("memory ran out")]
     NoMemory,
 }
 

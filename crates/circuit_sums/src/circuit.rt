@@ -1,7 +1,7 @@
 use line_base::Items;
 
 /// Whose cards go round a card circuit. Stages and loops are numbered from 0, in the order of the plant.
-#[derive(Clone, Copy, Debug, PartialEq, Eq)]
+#[derive(Clone, Copy)]
 pub enum CircuitKind {
     /// Those of a stage, under kanban and extended kanban.
     Stage(u32),

@@ -1,5 +1,5 @@
--- Options one after the other, each as a step on what was given before it: two steps may be exchanged, and an option that was
--- given before gives nothing.
+-- Options one after the other, each as a step on what was given before it: two steps may be exchanged, and an option
+-- that was given before gives nothing.
 use Rattle.std.proofs.Common.{refl, sym, ◌∙◌, ap, ◌≡◌, ℕ, Bool, true, false, not, List, [], ◌∷◌, Option, Some, None, option_map, option_and_then, if◌then◌else◌}
 use Rattle.std.specs.Str.{bytes_eq}
 use Rattle.line_base.specs.Limits.{most_workers}

@@ -1,5 +1,5 @@
--- The laws on options: they stand in any order, each at most once, and nothing else stands behind the operands of a command
--- that takes them.
+-- The laws on options: they stand in any order, each at most once, and nothing else stands behind the operands of a
+-- command that takes them.
 use Rattle.std.specs.Prelude.{◌≡◌, ℕ, true, List, [], ◌∷◌, ◌++◌, flat_map, codes, Option, None, IsPermutation, ⊤}
 use Rattle.line_base.specs.Text.{is_checkpoint_name}
 use Rattle.command_line.specs.Words.{command_of}

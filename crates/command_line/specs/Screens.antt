@@ -1,6 +1,6 @@
--- Which words name a command that has a screen of its own, and what `help COMMAND` shows of it, line by line: the words of
--- the command, what it writes, its options, an example, and the statuses that it may end with, its own ones before those
--- that it shares. The plants of the examples are those of the folder `examples`.
+-- Which words name a command that has a screen of its own, and what `help COMMAND` shows of it, line by line: the words
+-- of the command, what it writes, its options, an example, and the statuses that it may end with, its own ones before
+-- those that it shares. The plants of the examples are those of the folder `examples`.
 use Rattle.std.specs.Prelude.{ℕ, List, ◌∷◌, codes, if◌then◌else◌, Option, Some, None}
 use Rattle.std.specs.Str.{bytes_eq}
 use Rattle.command_line.specs.Statuses as status

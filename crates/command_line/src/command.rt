@@ -7,7 +7,7 @@ use line_base::Text;
 use std::alloc::AllocError;
 
 /// Where a run stops before its end: at the first burst's end where this many firings are made.
-#[derive(Debug, Drop)]
+#[derive(Drop)]
 pub struct Stop {
     /// The firings, 0 to 1,000,000.
     pub after: u64,
@@ -172,7 +172,7 @@ pub enum Command {
 }
 
 /// Why words gave no command.
-#[derive(Clone, Copy, Debug, PartialEq, Eq)]
+#[derive(Clone, Copy)]
 pub enum WordsError {
     /// The words are no command.
     Usage,

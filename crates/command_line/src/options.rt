@@ -1,7 +1,8 @@
 ghost use Rattle.std.specs.Prelude.{◌≡◌, codes, option_map, IfSome, Some, string_bytes};
 ghost use Rattle.std.specs.List.{list_any};
 ghost use Rattle.std.specs.Str.{bytes_eq};
-ghost use Rattle.command_line.specs.Options.{seen, none_given, once, with_flag, with_value, options_after, takes_no_value, has_stand, texts};
+ghost use Rattle.command_line.specs.Options.{seen, none_given, once, with_flag, with_value, options_after};
+ghost use Rattle.command_line.specs.Options.{takes_no_value, has_stand, texts};
 ghost use Rattle.command_line.specs.Ranges.{AreInRange};
 
 use crate::first::first_word;
@@ -138,8 +139,8 @@ fn once<T: Copy>(before: Option<T>, value: Option<T>) -> Option<T>
     }
 }
 
-/// The options that words add to those that are given. No option is taken twice, so it is at most eight calls deep, however
-/// many words there are.
+/// The options that words add to those that are given. No option is taken twice, so it is at most eight calls deep,
+/// however many words there are.
 #[tactic(auto, unfolding(crate::specs::Options::options_after))]
 fn options_after<'a>(given: Options<'a>, words: &'a [String]) -> Option<Options<'a>>
     requires range { AreInRange given }

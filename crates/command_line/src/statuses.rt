@@ -1,5 +1,5 @@
-/// A text, and behind it the lines of these statuses that the program ends with, each by its number. `of_plants` are those of
-/// every command that asks a plant, beside its own; `of_no_file` those of a command that reads no file.
+/// A text, and behind it the lines of these statuses that the program ends with, each by its number. `of_plants` are
+/// those of every command that asks a plant, beside its own; `of_no_file` those of a command that reads no file.
 macro_rules! with_statuses {
     ($text:literal; $($status:tt)*) => {
         with_statuses!(@lines [$text] $($status)*)
@@ -38,13 +38,17 @@ macro_rules! with_statuses {
         with_statuses!(@lines [$($line)* "status 7   the checkpoint is of no run of the plant\n"] $($rest)*)
     };
     (@lines [$($line:literal)*] 8 $($rest:tt)*) => {
-        with_statuses!(@lines [$($line)* "status 8   a machine has a list of times, and so the plant no cycle time\n"] $($rest)*)
+        with_statuses!(@lines
+            [$($line)* "status 8   a machine has a list of times, and so the plant no cycle time\n"]
+            $($rest)*)
     };
     (@lines [$($line:literal)*] 9 $($rest:tt)*) => {
         with_statuses!(@lines [$($line)* "status 9   out of memory\n"] $($rest)*)
     };
     (@lines [$($line:literal)*] 10 $($rest:tt)*) => {
-        with_statuses!(@lines [$($line)* "status 10  a file is longer than 64 MiB, or a checkpoint longer than 160 MiB\n"] $($rest)*)
+        with_statuses!(@lines
+            [$($line)* "status 10  a file is longer than 64 MiB, or a checkpoint longer than 160 MiB\n"]
+            $($rest)*)
     };
     (@lines [$($line:literal)*] 11 $($rest:tt)*) => {
         with_statuses!(@lines [$($line)* "status 11  the schedule can't be followed\n"] $($rest)*)

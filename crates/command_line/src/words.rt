@@ -5,7 +5,12 @@ ghost use Rattle.command_line.specs.Ranges.{IsInRange};
 ghost use Rattle.line_base.specs.Limits.{most_cards};
 ghost use Rattle.command_line.specs.Settings.{settings_seen, asked};
 ghost use Rattle.command_line.specs.ReadAs.{IsReadAs};
-ghost use Rattle.command_line.specs.Words.{alone, asking, run_command, resume_command, resume_slots_command, with_options, one_file, after_big, after_resume, cards_command, each_command, after_cards, after_counts, after_curve, latest_command, after_latest, why_command, after_why, window_command, after_chart, plant_command, after_plant_word, help_of, after_help, is_help, after_word, command_of};
+ghost use Rattle.command_line.specs.Words.{alone, asking, run_command, resume_command, resume_slots_command};
+ghost use Rattle.command_line.specs.Words.{with_options, one_file, after_big, after_resume, cards_command};
+ghost use Rattle.command_line.specs.Words.{each_command, after_cards, after_counts, after_curve, latest_command};
+ghost use Rattle.command_line.specs.Words.{after_latest, why_command, after_why, window_command, after_chart};
+ghost use Rattle.command_line.specs.Words.{plant_command, after_plant_word, help_of, after_help, is_help, after_word};
+ghost use Rattle.command_line.specs.Words.{command_of};
 
 use crate::command::{Command, Stop, WordsError};
 use crate::file_name::FileName;

@@ -60,10 +60,26 @@ pub fn ask_plant<R: Threads + Sync, G: Gate>(
         PlantQuestion::RunRoom { room, workers } => {
             run_whole(rt, alloc, line, workers, Some(room), gate)
         }
-        PlantQuestion::Check => check(alloc, &line),
-        PlantQuestion::Cycle => cycle_of(alloc, &line),
-        PlantQuestion::Cards { wait } => cards(alloc, &line, wait),
-        PlantQuestion::CardsEach { wait } => cards_each(alloc, &line, wait),
+        PlantQuestion::Check => {
+            let answer = check(alloc, &line);
+            drop(line);
+            answer
+        }
+        PlantQuestion::Cycle => {
+            let answer = cycle_of(alloc, &line);
+            drop(line);
+            answer
+        }
+        PlantQuestion::Cards { wait } => {
+            let answer = cards(alloc, &line, wait);
+            drop(line);
+            answer
+        }
+        PlantQuestion::CardsEach { wait } => {
+            let answer = cards_each(alloc, &line, wait);
+            drop(line);
+            answer
+        }
         PlantQuestion::Curve { from, to, workers } => curve(line, from, to, workers),
         PlantQuestion::Latest { wait } => latest(alloc, line, wait),
         PlantQuestion::Why { label, job } => why(alloc, line, label, job),

@@ -5,7 +5,6 @@ ghost use Rattle.cycle_time.specs.declared.certificate.CycleError.{CycleError};
 use crate::ratio::Ratio;
 use line_base::Items;
 use std::alloc::{AllocError, Global};
-use thiserror::Error;
 
 /// The cycle time of an event graph, with what shows that no circuit has a greater ratio of time to tokens.
 ///
@@ -24,13 +23,11 @@ pub struct Certificate {
 }
 
 /// Why a graph has no cycle time.
-#[derive(Clone, Copy, Debug, PartialEq, Eq, Error)]
+#[derive(Clone, Copy)]
 pub enum CycleError {
     /// This station, the first such, has a list of times.
-    #[error("varying: station {station}")]
     Varying { station: u32 },
     /// Memory ran out.
-    #[error("memory")]
     NoMemory,
 }
 

@@ -1,20 +1,18 @@
--- What `Causes` holds is of one plant, with the links placed in its graph and their shares.
+-- A chain of causes can be written: its links are placed in the graph, and what they add is no late date.
 use Rattle.std.proofs.Common.{◌≡◌, ℕ, ◌<◌, List, get_or, refl, sym, ap, ◌∙◌, subst, arith}
 use Rattle.std.specs.List.{All}
 use Rattle.line_base.specs.declared.event.Parts.{Parts}
 use Rattle.event_graph.specs.Network.{stations}
 use Rattle.event_graph.specs.Table.{Table, date_in}
 use Rattle.plant_model.specs.declared.plant.Plant.{Plant}
-use Rattle.plant_model.specs.Graph.{graph}
-use Rattle.plant_model.specs.Sound.{IsSound}
-use Rattle.live_check.specs.Order.{LiveGraph}
 use Rattle.line_core.specs.Run.{Dates, IsLeastTable}
 use Rattle.date_causes.specs.declared.link.Cause.{Cause}
 use Rattle.date_causes.specs.declared.link.Cause.TheVariants.{DemandDate, Start, Along}
 use Rattle.date_causes.specs.declared.link.Link.{Link}
 use Rattle.date_causes.specs.Chain.{IsLed, IsLink, IsChain, NamesArc}
 use Rattle.date_causes.specs.Shares.{shares, total}
-use Rattle.date_causes.specs.Caused.{IsPlaced, IsWritable}
+use Rattle.date_causes.specs.declared.writing.Chain.{Chain}
+use Rattle.date_causes.specs.Caused.{IsPlaced, IsOfPlant, IsWritable}
 use Rattle.date_causes.proofs.Chains.{caused_by, chain_links, chain_sums}
 
 -- a link is placed
@@ -40,12 +38,11 @@ pub chain_small : (table : Dates) (g : Parts) (t n : ℕ) (links listed : List L
 chain_small table g t n links listed least chain same =
     omega (arith, ap total same, chain_sums g (date_in table.rows) t n links chain, least.early t n)
 
-pub writable : (p numbers : Plant) (live : LiveGraph) (x : Table) (t n : ℕ) (links listed : List Link) (held : List ℕ) (count : ℕ) → IsSound p → numbers ≡ p → live.graph ≡ graph p → IsChain live.graph x t n links → listed ≡ links → count ≡ stations live.graph → held ≡ shares listed count → IsWritable p numbers live links held
-writable p numbers live x t n links listed held count sound same of_plant chain list is sums =
+-- so the chain can be written
+pub writable : (p : Plant) (g : Parts) (x : Table) (t n count : ℕ) (listed : List Link) (chain : Chain) → IsOfPlant p chain.numbers g → IsChain g x t n chain.links → listed ≡ chain.links → count ≡ stations g → chain.shares.items ≡ shares listed count → IsWritable p g chain
+writable p g x t n count listed chain of_plant is_chain list is sums =
     record {
-      sound = sound;
-      numbers_are = same;
-      live_graph = of_plant;
-      placed = subst (λ (g : Parts). All (IsPlaced g) links) of_plant (chain_placed live.graph x t n links chain);
-      held_are = sums ∙ ap (λ ls. shares ls count) list ∙ ap (shares links) (is ∙ ap stations of_plant);
+      of_plant = of_plant;
+      placed = chain_placed g x t n chain.links is_chain;
+      shares_are = sums ∙ ap (λ ls. shares ls count) list ∙ ap (shares chain.links) is;
     }

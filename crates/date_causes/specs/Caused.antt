@@ -9,6 +9,7 @@ use Rattle.event_graph.specs.Table.{date_in}
 use Rattle.live_check.specs.Order.{LiveGraph}
 use Rattle.line_core.specs.Run.{Dates}
 use Rattle.date_causes.specs.declared.link.Link.{Link}
+use Rattle.date_causes.specs.declared.writing.Chain.{Chain}
 use Rattle.date_causes.specs.Chain.{IsChain, HasArc}
 use Rattle.date_causes.specs.Shares.{shares}
 use Rattle.date_causes.specs.WhyText.{why_text}
@@ -37,16 +38,15 @@ pub record IsPlaced (g : Parts) (l : Link) : Type 0 where
   pub station : l.station < stations g
   pub arc : HasArc g l
 
--- what `Causes` holds is of one sound plant, with the links placed in its graph and their shares
-pub record IsWritable (p numbers : Plant) (live : LiveGraph) (links : List Link) (held : List ℕ) : Type 0 where
-  pub sound : IsSound p
-  pub numbers_are : numbers ≡ p
-  pub live_graph : live.graph ≡ graph p
-  pub placed : All (IsPlaced (graph p)) links
-  pub held_are : held ≡ shares links (stations (graph p))
-
 -- the plant is sound, and the numbers and the graph are its own
 pub record IsOfPlant (p numbers : Plant) (g : Parts) : Type 0 where
   pub sound : IsSound p
   pub numbers_are : numbers ≡ p
   pub graph_is : g ≡ graph p
+
+-- the chain can be written: the numbers and the graph are those of a sound plant, the links are placed in the graph,
+-- and the shares are theirs
+pub record IsWritable (p : Plant) (g : Parts) (chain : Chain) : Type 0 where
+  pub of_plant : IsOfPlant p chain.numbers g
+  pub placed : All (IsPlaced g) chain.links
+  pub shares_are : chain.shares.items ≡ shares chain.links (stations g)

@@ -1,14 +1,15 @@
-ghost use Rattle.std.specs.Prelude.{◌≡◌, ◌<◌, ◌≤◌, IfOk};
-ghost use Rattle.date_causes.specs.Caused.{text_of, AreOfPlant, IsChainOf};
+ghost use Rattle.std.specs.Prelude.{◌≡◌, ◌<◌, ◌≤◌, false, IfOk};
+ghost use Rattle.date_causes.specs.Caused.{text_of, AreOfPlant, IsChainOf, IsWritable};
+ghost use Rattle.date_causes.specs.Chain.{IsChain};
 ghost use Rattle.event_graph.specs.Network.{stations, jobs};
+ghost use Rattle.event_graph.specs.Table.{date_in};
+ghost use Rattle.line_io.specs.Outgoing.{emptied};
 ghost use Rattle.line_io.specs.SinkView.{WritesText};
 ghost use Rattle.plant_model.specs.Graph.{graph};
 
 use crate::chain::causes;
-use crate::link::Link;
 use crate::shares::shares_of;
-use crate::writing::{write_links, write_shares};
-use line_base::Items;
+use crate::writing::{Chain, write_chain};
 use line_core::Table;
 use line_io::{Failed, Outgoing, Sink};
 use live_check::Live;
@@ -20,10 +21,8 @@ use std::marker::Model;
 #[derive(Drop)]
 pub struct Causes {
     plant: Plant,
-    numbers: LineNumbers,
     live: Live,
-    links: Items<Link>,
-    shares: Vec<u64>,
+    chain: Chain,
     out: Outgoing,
 }
 
@@ -34,10 +33,40 @@ impl Model for Causes {
 
     ghost Value = { Caused };
 
-    ghost view = { λ c. record { plant = c.plant; links = c.links } };
+    ghost view = { λ c. record { plant = c.plant; links = c.chain.links } };
 
-    ghost invariant = { λ c. IsWritable c.plant c.numbers c.live c.links c.shares.items
-        × (c.out ≡ emptied false) };
+    ghost invariant = { λ c. IsWritable c.plant c.live.graph c.chain × (c.out ≡ emptied false) };
+}
+
+/// The chain of causes of the date of job `n` at station `t`, and room for one piece of its text.
+fn chain_of(
+    alloc: Global,
+    plant: &Plant,
+    live: &Live,
+    table: &Table,
+    t: u32,
+    n: u32,
+) -> Result<(Chain, Outgoing), AllocError>
+    requires of_plant { AreOfPlant plant.now live.now table.now }
+    requires station { t < stations live.now.graph }
+    requires from_one { 1 ≤ n }
+    requires job { n ≤ jobs live.now.graph }
+    ensures chain { IfOk result (λ r. IsChain live.now.graph (date_in table.now.rows) t n r.0.links) }
+    ensures writable { IfOk result (λ r. IsWritable plant.now live.now.graph r.0) }
+    ensures out { IfOk result (λ r. r.1 ≡ emptied false) }
+{
+    // For its clause that the dates are the least solution, and so none is late.
+    let _least = table.stations();
+    let out = Outgoing::new(alloc)?;
+    let numbers = LineNumbers::of(alloc, plant)?;
+    let links = causes(alloc, live, table, t, n)?;
+    let shares = shares_of(alloc, links.as_slice(), live.graph().stations())?;
+    let chain = Chain {
+        links,
+        shares,
+        numbers,
+    };
+    Ok((chain, out))
 }
 
 impl Causes {
@@ -58,39 +87,30 @@ impl Causes {
         ensures plant { IfOk result (λ causes. causes.plant ≡ plant) }
         ensures chain { IfOk result (IsChainOf table.now t n) }
     {
-        // For its clause that the dates are the least solution, and so none is late.
-        let _least = table.stations();
-        let links = causes(alloc, &live, table, t, n)?;
-        let numbers = LineNumbers::of(alloc, &plant)?;
-        let shares = shares_of(alloc, links.as_slice(), live.graph().stations())?;
-        Ok(Causes {
-            plant,
-            numbers,
-            live,
-            links,
-            shares,
-            out: Outgoing::new(alloc)?,
-        })
+        match chain_of(alloc, &plant, &live, table, t, n) {
+            Ok((chain, out)) => Ok(Causes {
+                plant,
+                live,
+                chain,
+                out,
+            }),
+            Err(none) => {
+                drop(plant);
+                drop(live);
+                Err(none)
+            }
+        }
     }
 
     /// Writes the chain to the sink, from its beginning, a line a date, and then the share of each station that adds more
-    /// than 0, in pieces of 4,096 bytes and a last one that may be shorter. After `Failed` a front of it was written. It
+    /// than 0, in pieces of 4,096 bytes and a last one that may be shorter. After `Failed` a prefix of it was written. It
     /// takes no memory.
     pub fn write<K: Sink>(&mut self, sink: &mut K) -> Result<(), Failed>
         ensures puts { WritesText (K.shown sink.old) (K.shown sink.new) (text_of self.old) result }
         ensures same { self.new ≡ self.old }
     {
         let graph = self.live.graph();
-        let links = self.links.as_slice();
-        write_links(
-            &mut self.out,
-            sink,
-            &self.plant,
-            &self.numbers,
-            graph,
-            links,
-        );
-        write_shares(&mut self.out, sink, graph, self.shares.as_slice());
+        write_chain(&mut self.out, sink, &self.plant, graph, &self.chain);
         self.out.finish(sink)
     }
 }

@@ -7,7 +7,7 @@ use event_graph::Graph;
 use plant_model::{FEED, LineNumbers, Plant};
 
 /// What an arc of a plant's graph stands for.
-#[derive(Clone, Copy, Debug, PartialEq, Eq)]
+#[derive(Clone, Copy)]
 pub enum ArcKind {
     /// A part comes from the machine or the stage before.
     Part,

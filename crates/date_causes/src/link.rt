@@ -1,7 +1,7 @@
 use line_base::Date;
 
 /// What makes a date as late as it is. Arcs are numbered from 0.
-#[derive(Clone, Copy, Debug, PartialEq, Eq)]
+#[derive(Clone, Copy)]
 pub enum Cause {
     /// The date at which the job is demanded: of the feed.
     DemandDate,
@@ -12,7 +12,7 @@ pub enum Cause {
 }
 
 /// One date of a chain of causes. Stations are counted from 0, jobs from 1, dates are in the plant's unit.
-#[derive(Clone, Copy, Debug, PartialEq, Eq)]
+#[derive(Clone, Copy)]
 pub struct Link {
     pub station: u32,
     pub job: u32,

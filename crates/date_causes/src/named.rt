@@ -4,11 +4,9 @@ ghost use Rattle.event_graph.specs.Network.{stations, jobs};
 ghost use Rattle.line_core.specs.Schedule.{station_with};
 
 use event_graph::Graph;
-use thiserror::Error;
 
 /// There is no such date: no station has the label, or there are fewer jobs.
-#[derive(Clone, Copy, Debug, PartialEq, Eq, Error)]
-#[error("no date")]
+#[derive(Clone, Copy)]
 pub struct NoDate;
 
 /// The first station with this label.

@@ -1,16 +1,28 @@
 ghost use Rattle.std.specs.List.{flat_map};
 ghost use Rattle.std.specs.Prelude.{◌≡◌, length, All};
-ghost use Rattle.date_causes.specs.Caused.{IsOfPlant, IsPlaced};
+ghost use Rattle.date_causes.specs.Caused.{IsOfPlant, IsPlaced, IsWritable};
 ghost use Rattle.date_causes.specs.Chain.{HasArc};
-ghost use Rattle.date_causes.specs.WhyText.{cause_word, link_words, link_line, share_words, share_lines};
+ghost use Rattle.date_causes.specs.WhyText.{cause_word, link_words, link_line, share_words, share_lines, why_text};
 ghost use Rattle.event_graph.specs.Network.{stations};
 ghost use Rattle.line_io.specs.Outgoing.{Pushed, stream};
 
 use crate::kind::{kind_of, word_of};
 use crate::link::{Cause, Link};
 use event_graph::Graph;
+use line_base::Items;
 use line_io::{Outgoing, Sink};
 use plant_model::{LineNumbers, Plant};
+
+/// A chain of causes, with what its text takes beside the plant and the plant's graph.
+#[derive(Drop)]
+pub struct Chain {
+    /// The chain, from its beginning on.
+    pub links: Items<Link>,
+    /// What the links add at each station.
+    pub shares: Vec<u64>,
+    /// The numbers of the plant's arcs.
+    pub numbers: LineNumbers,
+}
 
 /// Writes the line of a link at the station with this label, whose cause has this word.
 fn write_words<K: Sink>(out: &mut Outgoing, sink: &mut K, label: &[u8], link: Link, cause: &[u8])
@@ -43,7 +55,7 @@ fn cause_word(plant: &Plant, numbers: &LineNumbers, graph: &Graph, link: Link) -
 }
 
 /// Writes the lines of all links.
-pub fn write_links<K: Sink>(
+fn write_links<K: Sink>(
     out: &mut Outgoing,
     sink: &mut K,
     plant: &Plant,
@@ -78,7 +90,7 @@ fn write_share<K: Sink>(out: &mut Outgoing, sink: &mut K, label: &[u8], sum: u64
 }
 
 /// Writes the lines of the shares of all stations.
-pub fn write_shares<K: Sink>(out: &mut Outgoing, sink: &mut K, graph: &Graph, shares: &[u64])
+fn write_shares<K: Sink>(out: &mut Outgoing, sink: &mut K, graph: &Graph, shares: &[u64])
     requires { length shares.now ≡ stations graph.now }
     ensures { Pushed (stream (K.shown sink.old) out.old) (stream (K.shown sink.new) out.new)
         (share_lines graph.now shares.now) }
@@ -86,4 +98,21 @@ pub fn write_shares<K: Sink>(out: &mut Outgoing, sink: &mut K, graph: &Graph, sh
     for t in 0..graph.stations() {
         write_share(out, sink, graph.label(t), shares[t as usize]);
     }
+}
+
+/// Writes the whole text.
+pub fn write_chain<K: Sink>(
+    out: &mut Outgoing,
+    sink: &mut K,
+    plant: &Plant,
+    graph: &Graph,
+    chain: &Chain,
+)
+    requires { IsWritable plant.now graph.now chain.now }
+    ensures { Pushed (stream (K.shown sink.old) out.old) (stream (K.shown sink.new) out.new)
+        (why_text plant.now chain.now.links) }
+{
+    let links = chain.links.as_slice();
+    write_links(out, sink, plant, &chain.numbers, graph, links);
+    write_shares(out, sink, graph, chain.shares.as_slice());
 }

@@ -19,7 +19,7 @@ use std::alloc::{AllocError, Global};
 const MOST_SHOWN: usize = 60;
 
 /// The first field of a bad record that is no number within its limit.
-#[derive(Debug, Drop)]
+#[derive(Drop)]
 pub struct BadField {
     /// Its column, counted from 1.
     pub column: u32,

@@ -2,22 +2,17 @@ ghost use Rattle.std.specs.Prelude.{◌≡◌};
 ghost use Rattle.event_graph.specs.declared.error.GraphError.{GraphError};
 
 use std::alloc::AllocError;
-use thiserror::Error;
 
 /// Why parts give no graph.
-#[derive(Clone, Copy, Debug, PartialEq, Eq, Error)]
+#[derive(Clone, Copy, Debug, PartialEq, Eq)]
 pub enum GraphError {
     /// The arc starts or ends at a station that isn't there.
-    #[error("arc {arc} names no station")]
     EndOutOfRange { arc: u32 },
     /// The arc enters the feed.
-    #[error("arc {arc} enters the feed")]
     FeedInput { arc: u32 },
     /// The station isn't the feed, and no arc enters it.
-    #[error("no arc enters station {station}")]
     NoInput { station: u32 },
     /// Memory ran out.
-    #[error("memory")]
     NoMemory,
 }
 

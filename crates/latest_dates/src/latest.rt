@@ -1,7 +1,8 @@
-ghost use Rattle.std.specs.Prelude.{◌≡◌, ◌^◌, ◌<◌, IfOk, IfErr, OnOk};
+ghost use Rattle.std.specs.Prelude.{◌≡◌, ◌^◌, ◌<◌, false, IfOk, IfErr, OnOk};
 ghost use Rattle.event_graph.specs.Table.{date_in};
 ghost use Rattle.latest_dates.specs.Found.{latest_in, HasDates, NoneIsBefore, IsFound, IsInTime, IsLatestRefusal, text_of};
 ghost use Rattle.latest_dates.specs.Latest.{AreLatest};
+ghost use Rattle.line_io.specs.Outgoing.{emptied};
 ghost use Rattle.line_io.specs.SinkView.{WritesText};
 
 use crate::error::LatestError;
@@ -36,30 +37,33 @@ impl Model for Latest {
     ghost invariant = { λ latest. IsRun latest.run × (latest.out ≡ emptied false) };
 }
 
-/// The latest dates of a run, or the first job that waits longer than `wait`.
+/// The latest dates of a run, and room for one piece of their text; or the first job that waits longer than `wait`.
 fn dates_of(
     alloc: Global,
     live: &Live,
     table: &Table,
     wait: u64,
-) -> Result<Vec<LatestDate>, LatestError>
+) -> Result<(Vec<LatestDate>, Outgoing), LatestError>
     requires of_graph { table.now.graph ≡ live.now.graph }
     requires small { wait < 2 ^ 63 }
     ensures in_time { OnOk result (IsInTime live.now.graph (date_in table.now.rows) wait) }
-    ensures places { IfOk result (λ dates. HasDates live.now dates.items) }
+    ensures places { IfOk result (λ made. HasDates live.now made.0.items) }
     ensures latest { IfOk result
-        (λ dates. AreLatest live.now.graph wait (latest_in live.now dates.items)) }
+        (λ made. AreLatest live.now.graph wait (latest_in live.now made.0.items)) }
     ensures not_before { IfOk result
-        (λ dates. NoneIsBefore live.now.graph (date_in table.now.rows) (latest_in live.now dates.items)) }
+        (λ made. NoneIsBefore live.now.graph (date_in table.now.rows) (latest_in live.now made.0.items)) }
+    ensures room { IfOk result (λ made. made.1 ≡ emptied false) }
     ensures refused { IfErr result (IsLatestRefusal live.now.graph (date_in table.now.rows) wait) }
 {
-    match first_late(live.graph(), table, wait) {
-        Some(late) => Err(LatestError::Late {
+    if let Some(late) = first_late(live.graph(), table, wait) {
+        return Err(LatestError::Late {
             job: late.job,
             wait: late.wait,
-        }),
-        None => Ok(latest_of(alloc, live, table, wait)?),
+        });
     }
+    let out = Outgoing::new(alloc)?;
+    let dates = latest_of(alloc, live, table, wait)?;
+    Ok((dates, out))
 }
 
 /// How late each job may be at each station, so that every customer waits at most `wait`, over a run of a live graph.
@@ -87,24 +91,29 @@ pub fn latest_dates(
 {
     // For its clause that the dates are the least solution.
     let _least = table.stations();
-    let dates = dates_of(alloc, &live, &table, wait)?;
-    let run = LatestRun {
-        live,
-        table,
-        wait,
-        dates,
-    };
-    Ok(Latest {
-        run,
-        out: Outgoing::new(alloc)?,
-    })
+    match dates_of(alloc, &live, &table, wait) {
+        Ok((dates, out)) => Ok(Latest {
+            run: LatestRun {
+                live,
+                table,
+                wait,
+                dates,
+            },
+            out,
+        }),
+        Err(error) => {
+            drop(live);
+            drop(table);
+            Err(error)
+        }
+    }
 }
 
 impl Latest {
     /// Writes the latest dates to the sink, a line for each station but the feed and each job, in order:
     /// `LABEL N LATEST slack S`, with S the time from the run's date to the latest, or `LABEL N none` where nothing
     /// bounds it; then `tight K`, how many have a slack of 0. It goes out in pieces of 4,096 bytes and a last one that
-    /// may be shorter. After `Failed` a front of it was written. It takes no memory.
+    /// may be shorter. After `Failed` a prefix of it was written. It takes no memory.
     pub fn write<K: Sink>(&mut self, sink: &mut K) -> Result<(), Failed>
         ensures puts { WritesText (K.shown sink.old) (K.shown sink.new) (text_of self.old) result }
         ensures same { self.new ≡ self.old }

@@ -1,3 +1,4 @@
 pub mod SendProofs
+pub mod SharedParts
 pub mod Numbers
 pub mod RangeLists

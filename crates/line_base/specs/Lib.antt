@@ -1,4 +1,5 @@
 pub mod Times
 pub mod Roomy
+pub mod Shared
 pub mod Text
 pub mod Limits

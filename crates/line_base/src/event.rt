@@ -3,7 +3,7 @@ use crate::name::Label;
 use crate::times::{Date, Times};
 
 /// An arc of a timed event graph, from one station to another, which holds tokens at the start.
-#[derive(Clone, Copy, Debug, PartialEq, Eq)]
+#[derive(Clone, Copy)]
 pub struct Arc {
     /// The station at its start, numbered from 0.
     pub from: u32,

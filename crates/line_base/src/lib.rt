@@ -1,5 +1,5 @@
 //! What every other crate of `pull` stands on: the limits of a plant, names, labels, texts and numbers as text, job times,
-//! lists of dates with room taken beforehand, and the parts of an event graph.
+//! lists of dates with room taken beforehand, the parts of an event graph, and work that is shared among threads.
 #![tactic(auto)]
 
 mod event;
@@ -8,6 +8,7 @@ mod limits;
 mod log;
 mod name;
 mod number;
+mod sharing;
 mod text;
 mod times;
 mod transcript;
@@ -22,6 +23,7 @@ pub use limits::{
 pub use log::{Log, Logs, Places};
 pub use name::{Label, Name, NameError, is_checkpoint_name, is_file_name, is_name};
 pub use number::{digits, number_of};
+pub use sharing::for_each_mut;
 pub use text::Text;
 pub use times::{Date, Times};
 pub use transcript::Transcript;

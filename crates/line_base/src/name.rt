@@ -4,7 +4,6 @@ ghost use Rattle.line_base.specs.Text.{is_between, is_letter, is_name_byte, is_f
 
 use std::alloc::{AllocError, Global};
 use std::marker::Model;
-use thiserror::Error;
 
 /// The name of a stage or of a machine: 1 to 24 characters of `a-z 0-9 _ -`, the first a letter.
 #[derive(Drop)]
@@ -24,13 +23,11 @@ impl Model for Name {
 }
 
 /// Why a text gave no name.
-#[derive(Clone, Copy, Debug, PartialEq, Eq, Error)]
+#[derive(Clone, Copy)]
 pub enum NameError {
     /// The text breaks the rule of names.
-    #[error("a name is 1 to 24 characters of a-z 0-9 _ -, the first a letter")]
     BadName,
     /// Memory ran out.
-    #[error("out of memory")]
     NoMemory,
 }
 

@@ -5,6 +5,7 @@ pub mod LaneFacts
 pub mod BarsApart
 pub mod OneBar
 pub mod ChartLines
+pub mod Interleaved
 pub mod FirstAfter
 pub mod AxisFacts
 pub mod AxisSteps

@@ -37,8 +37,9 @@ head_text end =
     numbered (codes "<svg xmlns=\"http://www.w3.org/2000/svg\" width=\"1200\" height=\"") (end + 30)
     ++ (codes "\" font-family=\"sans-serif\" font-size=\"11\">\n"
     ++ (codes "<style>.c0{fill:#4477aa}.c1{fill:#66ccee}.c2{fill:#228833}.c3{fill:#ccbb44}.c4{fill:#ee6677}"
-    ++ (codes ".c5{fill:#aa3377}.g{stroke:#ccc}.n{fill:#ddd}.p{fill:#999}.e{text-anchor:end}.m{text-anchor:middle}</style>\n"
-    ++ codes "<rect width=\"100%\" height=\"100%\" fill=\"white\"/>\n")))
+    ++ (codes ".c5{fill:#aa3377}.g{stroke:#ccc}.n{fill:#ddd}.p{fill:#999}"
+    ++ (codes ".e{text-anchor:end}.m{text-anchor:middle}</style>\n"
+    ++ codes "<rect width=\"100%\" height=\"100%\" fill=\"white\"/>\n"))))
 
 -- 2: a date of the axis
 unfoldable pub axis_line : Window → ℕ → ℕ → List ℕ
@@ -53,14 +54,18 @@ axis_line w end d =
 unfoldable pub axis_text : Window → ℕ → List ℕ
 axis_text w end = flat_map (axis_line w end) (multiples (axis_step (span w)) w)
 
+-- how the name of a lane or an area begins, at this height
+abbrev pub name_begin : ℕ → List ℕ
+name_begin y = numbered (codes "<text class=\"e\" x=\"164\" y=\"") y ++ codes "\">"
+
 -- 3: the name of lane k of a machine: its label, and the number of the lane where there are several
 abbrev pub lane_number : ℕ → ℕ → List ℕ
 lane_number count k = if nat_lt 1 count then numbered (codes " ") (k + 1) else []
 
 unfoldable pub lane_line : Parts → Lanes → ℕ → List ℕ
 lane_line g m k =
-    numbered (codes "<text class=\"e\" x=\"164\" y=\"") (52 + 16 * (m.first + k))
-    ++ (codes "\">" ++ (label g m.station ++ (lane_number m.count k ++ codes "</text>\n")))
+    name_begin (52 + 16 * (m.first + k))
+    ++ (label g m.station ++ (lane_number m.count k ++ codes "</text>\n"))
 
 unfoldable pub lane_lines : Parts → Lanes → List ℕ
 lane_lines g m = flat_map (lane_line g m) (range_with_len 0 m.count)
@@ -113,8 +118,7 @@ class_path class f w =
 -- the name of an area at this height and its greatest count, and its field in the units of the plant, turned upright
 unfoldable pub area_head : List ℕ → ℕ → ℕ → Window → List ℕ
 area_head name y most w =
-    numbered (codes "<text class=\"e\" x=\"164\" y=\"") (y + 16)
-    ++ (codes "\">"
+    name_begin (y + 16)
     ++ (name
     ++ (numbered (codes "</text><text class=\"e\" x=\"164\" y=\"") (y + 30)
     ++ (numbered (codes "\">most ") most
@@ -123,7 +127,7 @@ area_head name y most w =
     ++ (numbered (codes " 0 ") (span w)
     ++ (numbered (codes " ") most
     ++ (numbered (codes "\" preserveAspectRatio=\"none\"><g transform=\"translate(0 ") most
-    ++ codes ") scale(1 -1)\">")))))))))
+    ++ codes ") scale(1 -1)\">"))))))))
 
 -- the area of stage i: its parts, and on top those in process or on their way
 unfoldable pub stage_area : Plant → Table → Window → ℕ → List ℕ

@@ -5,5 +5,6 @@ pub mod Areas
 pub mod Counts
 pub mod Axis
 pub mod ChartText
+pub mod Interleaved
 pub mod Picture
 pub mod Laws

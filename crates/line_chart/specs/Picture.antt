@@ -5,7 +5,7 @@ use Rattle.plant_model.specs.declared.plant.Plant.{Plant}
 use Rattle.plant_model.specs.Graph.{graph}
 use Rattle.plant_model.specs.Sound.{IsSound}
 use Rattle.event_graph.specs.Table.{date_in}
-use Rattle.line_core.specs.Run.{IsLeastTable}
+use Rattle.line_core.specs.Run.{Dates, IsLeastTable}
 use Rattle.line_stats.specs.PlantDates.{AreOfPlant}
 use Rattle.line_chart.specs.declared.window.Window.{Window}
 use Rattle.line_chart.specs.declared.error.ChartError.{ChartError}
@@ -60,6 +60,17 @@ pub record IsOfRun (run : ChartRun) : Type 0 where
   pub window : IsWindow run.window
   pub lanes : run.lanes ≡ lane_count run.plant
   pub small : run.lanes ≤ 5_120_000
+
+-- the picture of a run
+abbrev pub picture_of : ChartRun → Picture
+picture_of run = record { plant = run.plant; rows = run.table.rows; window = run.window }
+
+-- a run of this plant, with this table and this window
+pub record IsRunOf (p : Plant) (d : Dates) (w : Window) (run : ChartRun) : Type 0 where
+  pub of_run : IsOfRun run
+  pub plant : run.plant ≡ p
+  pub table : run.table ≡ d
+  pub window : run.window ≡ w
 
 -- a picture that is written stays as it was
 pub record Stays (old new : Picture) : Type 0 where

@@ -1,10 +1,10 @@
 //! The areas of a picture.
 ghost use Rattle.std.specs.List.{flat_map};
-ghost use Rattle.std.specs.Prelude.{◌≡◌, ◌<◌, ◌≤◌, ◌+◌, ◌*◌, length, codes};
+ghost use Rattle.std.specs.Prelude.{◌≡◌, ◌<◌, ◌≤◌, ◌+◌, ◌*◌, ◌++◌, length, codes};
 ghost use Rattle.event_graph.specs.Table.{date_in};
 ghost use Rattle.line_io.specs.Outgoing.{Pushed, stream};
 ghost use Rattle.line_chart.specs.Areas.{count_of, most};
-ghost use Rattle.line_chart.specs.ChartText.{step_text, path_text, class_path, area_head, stage_area, backlog_area};
+ghost use Rattle.line_chart.specs.ChartText.{step_text, path_text, area_head, stage_area, backlog_area};
 ghost use Rattle.line_chart.specs.Counts.{IsCountOf};
 ghost use Rattle.line_chart.specs.Picture.{IsOfRun, IsWindow};
 ghost use Rattle.plant_model.specs.Line.{stage_numbers};
@@ -12,9 +12,14 @@ ghost use Rattle.plant_model.specs.Line.{stage_numbers};
 use crate::count::Count;
 use crate::dates::{count_at, next_date};
 use crate::run::ChartRun;
-use crate::text::write_numbered;
+use crate::text::{NAME, write_interleaved, write_numbered};
 use crate::window::Window;
 use line_io::{Outgoing, Sink};
+
+/// How the element of a path begins: of all that an area counts, and of what is in process or on its way.
+const ALL: &[u8] = b"<path class=\"n\" d=\"";
+
+const UNDER_WAY: &[u8] = b"<path class=\"p\" d=\"";
 
 /// The greatest count in the window, at least 1.
 fn most(run: &ChartRun, count: Count) -> u64
@@ -66,25 +71,36 @@ fn write_path<K: Sink>(out: &mut Outgoing, sink: &mut K, run: &ChartRun, count: 
     out.push(sink, b" V0 Z");
 }
 
-/// Writes the path of a count, with its class.
-fn write_class_path<K: Sink>(
+/// Writes the path of a count, behind how its element begins.
+fn write_path_element<K: Sink>(
     out: &mut Outgoing,
     sink: &mut K,
     run: &ChartRun,
-    class: &[u8],
+    begin: &[u8],
     count: Count,
 )
     requires run { IsOfRun run.now }
     requires exists { IsCountOf run.now.plant count }
     ensures { Pushed (stream (K.shown sink.old) out.old) (stream (K.shown sink.new) out.new)
-        (class_path class.now (count_of run.now.plant (date_in run.now.table.rows) count) run.now.window) }
+        (begin.now ++ (path_text (count_of run.now.plant (date_in run.now.table.rows) count) run.now.window
+        ++ codes "\"/>")) }
 {
-    out.push(sink, b"<path class=\"");
-    out.push(sink, class);
-    out.push(sink, b"\" d=\"");
+    out.push(sink, begin);
     write_path(out, sink, run, count);
     out.push(sink, b"\"/>");
 }
+
+/// What stands between the name of an area and its paths, between its numbers.
+const FIELD: [&[u8]; 8] = [
+    b"</text><text class=\"e\" x=\"164\" y=\"",
+    b"\">most ",
+    b"</text>\n<svg x=\"170\" y=\"",
+    b"\" width=\"1000\" height=\"40\" viewBox=\"",
+    b" 0 ",
+    b" ",
+    b"\" preserveAspectRatio=\"none\"><g transform=\"translate(0 ",
+    b") scale(1 -1)\">",
+];
 
 /// Writes the name and the greatest count of an area at this height, and how its field begins.
 fn write_head<K: Sink>(
@@ -100,32 +116,15 @@ fn write_head<K: Sink>(
     ensures { Pushed (stream (K.shown sink.old) out.old)
         (stream (K.shown sink.new) out.new) (area_head name.now y most window) }
 {
-    write_numbered(out, sink, b"<text class=\"e\" x=\"164\" y=\"", y + 16);
-    out.push(sink, b"\">");
+    let Window { from, to } = window;
+    write_interleaved(out, sink, &NAME, &[y + 16]);
     out.push(sink, name);
-    write_numbered(
+    write_interleaved(
         out,
         sink,
-        b"</text><text class=\"e\" x=\"164\" y=\"",
-        y + 30,
+        &FIELD,
+        &[y + 30, most, y, from, to - from, most, most],
     );
-    write_numbered(out, sink, b"\">most ", most);
-    write_numbered(out, sink, b"</text>\n<svg x=\"170\" y=\"", y);
-    write_numbered(
-        out,
-        sink,
-        b"\" width=\"1000\" height=\"40\" viewBox=\"",
-        window.from,
-    );
-    write_numbered(out, sink, b" 0 ", window.to - window.from);
-    write_numbered(out, sink, b" ", most);
-    write_numbered(
-        out,
-        sink,
-        b"\" preserveAspectRatio=\"none\"><g transform=\"translate(0 ",
-        most,
-    );
-    out.push(sink, b") scale(1 -1)\">");
 }
 
 /// Writes the area of a stage.
@@ -145,8 +144,8 @@ fn write_stage<K: Sink>(out: &mut Outgoing, sink: &mut K, run: &ChartRun, stage:
         most(run, Count::Parts(stage)),
         run.window,
     );
-    write_class_path(out, sink, run, b"n", Count::Parts(stage));
-    write_class_path(out, sink, run, b"p", Count::UnderWay(stage));
+    write_path_element(out, sink, run, ALL, Count::Parts(stage));
+    write_path_element(out, sink, run, UNDER_WAY, Count::UnderWay(stage));
     out.push(sink, b"</g></svg>\n");
 }
 
@@ -177,6 +176,6 @@ pub fn write_backlog<K: Sink>(out: &mut Outgoing, sink: &mut K, run: &ChartRun)
         most(run, Count::Backlog),
         run.window,
     );
-    write_class_path(out, sink, run, b"n", Count::Backlog);
+    write_path_element(out, sink, run, ALL, Count::Backlog);
     out.push(sink, b"</g></svg>\n");
 }

@@ -5,9 +5,19 @@ ghost use Rattle.line_chart.specs.Axis.{step_from, axis_step, axis_place};
 ghost use Rattle.line_chart.specs.ChartText.{axis_line, axis_text};
 ghost use Rattle.line_chart.specs.Picture.{IsWindow};
 
-use crate::text::write_numbered;
+use crate::text::write_interleaved;
 use crate::window::Window;
 use line_io::{Outgoing, Sink};
+
+/// The line of a date between its numbers.
+const LINE: [&[u8]; 6] = [
+    b"<line class=\"g\" x1=\"",
+    b"\" y1=\"36\" x2=\"",
+    b"\" y2=\"",
+    b"\"/><text class=\"m\" x=\"",
+    b"\" y=\"30\">",
+    b"</text>\n",
+];
 
 /// The step of the axis of a window that has this many dates.
 fn axis_step(span: u64) -> u64
@@ -50,12 +60,7 @@ fn write_line<K: Sink>(out: &mut Outgoing, sink: &mut K, window: Window, end: u6
         (stream (K.shown sink.new) out.new) (axis_line window end date) }
 {
     let place = axis_place(window, date);
-    write_numbered(out, sink, b"<line class=\"g\" x1=\"", place);
-    write_numbered(out, sink, b"\" y1=\"36\" x2=\"", place);
-    write_numbered(out, sink, b"\" y2=\"", end);
-    write_numbered(out, sink, b"\"/><text class=\"m\" x=\"", place);
-    write_numbered(out, sink, b"\" y=\"30\">", date);
-    out.push(sink, b"</text>\n");
+    write_interleaved(out, sink, &LINE, &[place, place, end, place, date]);
 }
 
 /// Writes the axis.

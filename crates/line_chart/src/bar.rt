@@ -1,5 +1,5 @@
 /// A bar of a picture: a job at a machine.
-#[derive(Clone, Copy, Debug, PartialEq, Eq)]
+#[derive(Clone, Copy)]
 pub struct Bar {
     /// The station of the machine.
     pub station: u32,

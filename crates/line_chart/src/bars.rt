@@ -1,4 +1,4 @@
-//! The lanes and the bars of a picture.
+//! The bars of a picture.
 ghost use Rattle.std.specs.List.{flat_map};
 ghost use Rattle.std.specs.Prelude.{◌≡◌, ◌<◌, ◌≤◌, ◌≢◌, length};
 ghost use Rattle.event_graph.specs.Network.{stations, jobs};
@@ -6,14 +6,14 @@ ghost use Rattle.event_graph.specs.Table.{date_in};
 ghost use Rattle.line_core.specs.Run.{IsLeastTable};
 ghost use Rattle.line_io.specs.Outgoing.{Pushed, stream};
 ghost use Rattle.line_chart.specs.Bars.{bar, meets, machine_bars, bars};
-ghost use Rattle.line_chart.specs.ChartText.{lane_number, lane_line, lane_lines, names_text, bar_line, bars_text};
+ghost use Rattle.line_chart.specs.ChartText.{bar_line, bars_text};
 ghost use Rattle.line_chart.specs.Machines.{IsMachineOf};
 ghost use Rattle.line_chart.specs.Picture.{IsOfRun};
 
 use crate::bar::Bar;
 use crate::lanes::Lanes;
 use crate::run::ChartRun;
-use crate::text::write_numbered;
+use crate::text::write_interleaved;
 use crate::window::Window;
 use event_graph::Graph;
 use line_base::MAX_TIME;
@@ -21,49 +21,26 @@ use line_core::Table;
 use line_io::{Outgoing, Sink};
 use line_table::start;
 
-/// Writes the number of a lane of a machine, counted from 0 here, where the machine has several.
-fn write_lane_number<K: Sink>(out: &mut Outgoing, sink: &mut K, count: u64, lane: u64)
-    requires { lane < count }
-    ensures { Pushed (stream (K.shown sink.old) out.old)
-        (stream (K.shown sink.new) out.new) (lane_number count lane) }
-{
-    if count > 1 {
-        write_numbered(out, sink, b" ", lane + 1);
-    }
-}
+/// A bar between its numbers.
+const BAR: [&[u8]; 8] = [
+    b"<rect class=\"c",
+    b"\" x=\"",
+    b"\" y=\"",
+    b"\" width=\"",
+    b"\" height=\"8\"><title>job ",
+    b", ",
+    b" to ",
+    b"</title></rect>\n",
+];
 
-/// Writes the names of the lanes of a machine.
-fn write_names_of<K: Sink>(out: &mut Outgoing, sink: &mut K, graph: &Graph, machine: Lanes)
-    requires { IsMachineOf graph.now machine }
-    ensures { Pushed (stream (K.shown sink.old) out.old)
-        (stream (K.shown sink.new) out.new) (lane_lines graph.now machine) }
-{
-    for lane in 0..machine.count {
-        write_numbered(
-            out,
-            sink,
-            b"<text class=\"e\" x=\"164\" y=\"",
-            52 + 16 * (machine.first + lane),
-        );
-        out.push(sink, b"\">");
-        out.push(sink, graph.label(machine.station));
-        write_lane_number(out, sink, machine.count, lane);
-        out.push(sink, b"</text>\n");
-    }
-}
-
-/// Writes the names of all lanes.
-pub fn write_names<K: Sink>(out: &mut Outgoing, sink: &mut K, run: &ChartRun)
-    requires { IsOfRun run.now }
-    ensures { Pushed (stream (K.shown sink.old) out.old)
-        (stream (K.shown sink.new) out.new) (names_text run.now.plant) }
-{
-    let graph = run.live.graph();
-    for number in 0..run.machines.len() {
-        let machine = run.machines[number];
-        write_names_of(out, sink, graph, machine);
-    }
-}
+/// How the field of the bars begins, between its numbers.
+const FIELD: [&[u8]; 5] = [
+    b"<svg x=\"170\" y=\"40\" width=\"1000\" height=\"",
+    b"\" viewBox=\"",
+    b" 0 ",
+    b" ",
+    b"\" preserveAspectRatio=\"none\">\n",
+];
 
 /// The bar of a job at a machine.
 fn bar(graph: &Graph, table: &Table, machine: Lanes, job: u32) -> Bar
@@ -132,14 +109,18 @@ fn write_bar<K: Sink>(out: &mut Outgoing, sink: &mut K, bar: Bar)
     ensures { Pushed (stream (K.shown sink.old) out.old)
         (stream (K.shown sink.new) out.new) (bar_line bar) }
 {
-    write_numbered(out, sink, b"<rect class=\"c", (bar.job % 6) as u64);
-    write_numbered(out, sink, b"\" x=\"", bar.start);
-    write_numbered(out, sink, b"\" y=\"", 10 * bar.lane + 1);
-    write_numbered(out, sink, b"\" width=\"", bar.time);
-    write_numbered(out, sink, b"\" height=\"8\"><title>job ", bar.job as u64);
-    write_numbered(out, sink, b", ", bar.start);
-    write_numbered(out, sink, b" to ", bar.start + bar.time);
-    out.push(sink, b"</title></rect>\n");
+    let Bar { start, time, .. } = bar;
+    let job = bar.job as u64;
+    let numbers = [
+        job % 6,
+        start,
+        10 * bar.lane + 1,
+        time,
+        job,
+        start,
+        start + time,
+    ];
+    write_interleaved(out, sink, &BAR, &numbers);
 }
 
 /// Writes the bars of a machine that meet the window.
@@ -183,17 +164,9 @@ pub fn write_bars<K: Sink>(out: &mut Outgoing, sink: &mut K, run: &ChartRun)
     ensures { Pushed (stream (K.shown sink.old) out.old) (stream (K.shown sink.new) out.new)
         (bars_text run.now.plant (date_in run.now.table.rows) run.now.window) }
 {
-    let window = run.window;
-    write_numbered(
-        out,
-        sink,
-        b"<svg x=\"170\" y=\"40\" width=\"1000\" height=\"",
-        16 * run.lanes,
-    );
-    write_numbered(out, sink, b"\" viewBox=\"", window.from);
-    write_numbered(out, sink, b" 0 ", window.to - window.from);
-    write_numbered(out, sink, b" ", 10 * run.lanes);
-    out.push(sink, b"\" preserveAspectRatio=\"none\">\n");
+    let Window { from, to } = run.window;
+    let numbers = [16 * run.lanes, from, to - from, 10 * run.lanes];
+    write_interleaved(out, sink, &FIELD, &numbers);
     write_all_bars(out, sink, run);
     out.push(sink, b"</svg>\n");
 }

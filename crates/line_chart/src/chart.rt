@@ -1,21 +1,21 @@
-ghost use Rattle.std.specs.Prelude.{◌≡◌, ◌≤◌, ◌+◌, ◌*◌, IfOk, IfErr, length};
+ghost use Rattle.std.specs.Prelude.{◌≡◌, ◌≤◌, false, IfOk, IfErr};
 ghost use Rattle.event_graph.specs.Table.{date_in};
-ghost use Rattle.line_chart.specs.ChartText.{head_text, areas_end, area_count, picture};
-ghost use Rattle.line_chart.specs.Picture.{Picture, IsDrawn, IsOfRun, IsReason, IsWindow, MayBeAskedFor, Stays, text_of};
+ghost use Rattle.line_chart.specs.Machines.{AreLanesOf};
+ghost use Rattle.line_chart.specs.Picture.{Picture, IsDrawn, IsOfRun, IsReason, IsRunOf, IsWindow, MayBeAskedFor};
+ghost use Rattle.line_chart.specs.Picture.{Stays, bars_and_lanes, picture_of, text_of};
 ghost use Rattle.line_chart.specs.Window.{window_of};
-ghost use Rattle.line_io.specs.Outgoing.{Pushed, stream};
+ghost use Rattle.line_io.specs.Outgoing.{emptied};
 ghost use Rattle.line_io.specs.SinkView.{WritesText};
 ghost use Rattle.line_stats.specs.Counts.{last_date};
 ghost use Rattle.line_stats.specs.PlantDates.{AreOfPlant};
 ghost use Rattle.plant_model.specs.Graph.{graph};
+ghost use Rattle.plant_model.specs.Sound.{IsSound};
 
-use crate::areas::{write_backlog, write_stages};
-use crate::axis::write_axis;
-use crate::bars::{count_bars, write_bars, write_names};
+use crate::bars::count_bars;
 use crate::error::ChartError;
-use crate::lanes::all_lanes;
+use crate::lanes::{Lanes, all_lanes};
+use crate::picture::write_picture;
 use crate::run::ChartRun;
-use crate::text::write_numbered;
 use crate::window::Window;
 use line_core::Table;
 use line_io::{Failed, Outgoing, Sink};
@@ -28,7 +28,8 @@ use std::marker::Model;
 /// The most bars and lanes that a picture may have together.
 const MAX_BARS: u64 = 20_000;
 
-/// A picture of a finished run of a plant, and the memory for writing it. Contracts see the plant, the dates and the window.
+/// A picture of a finished run of a plant, and the memory for writing it. Contracts see the plant, the dates and the
+/// window.
 #[derive(Drop)]
 pub struct Chart {
     run: ChartRun,
@@ -65,6 +66,21 @@ fn window_of(table: &Table, window: Option<(u64, u64)>) -> Window
     }
 }
 
+/// The numbers of the stations of a plant, the lanes of its machines, and how many these are.
+fn lanes_of(alloc: Global, plant: &Plant) -> Result<(LineNumbers, Vec<Lanes>, u64), AllocError>
+    requires { IsSound plant.now }
+    ensures { IfOk result (λ made. AreLanesOf plant.now made.0 made.1.items made.2) }
+{
+    let numbers = LineNumbers::of(alloc, plant)?;
+    match all_lanes(alloc, plant, &numbers) {
+        Ok((machines, lanes)) => Ok((numbers, machines, lanes)),
+        Err(error) => {
+            drop(numbers);
+            Err(error)
+        }
+    }
+}
+
 /// What is drawn of a run of a plant in a window.
 fn run_of(
     alloc: Global,
@@ -75,72 +91,47 @@ fn run_of(
 ) -> Result<ChartRun, AllocError>
     requires of_plant { AreOfPlant plant live table }
     requires window { IsWindow window }
-    ensures run { IfOk result IsOfRun }
-    ensures plant { IfOk result (λ run. run.plant ≡ plant) }
-    ensures table { IfOk result (λ run. run.table ≡ table) }
-    ensures window { IfOk result (λ run. run.window ≡ window) }
+    ensures { IfOk result (IsRunOf plant table window) }
 {
     let _graph = live.graph();
-    let numbers = LineNumbers::of(alloc, &plant)?;
-    let (machines, lanes) = all_lanes(alloc, &plant, &numbers)?;
-    Ok(ChartRun {
-        plant,
-        numbers,
-        live,
-        table,
-        machines,
-        lanes,
-        window,
-    })
+    match lanes_of(alloc, &plant) {
+        Ok((numbers, machines, lanes)) => Ok(ChartRun {
+            plant,
+            numbers,
+            live,
+            table,
+            machines,
+            lanes,
+            window,
+        }),
+        Err(error) => {
+            drop(plant);
+            drop(live);
+            drop(table);
+            Err(error)
+        }
+    }
 }
 
-/// Writes how a picture begins whose areas end there.
-fn write_head<K: Sink>(out: &mut Outgoing, sink: &mut K, end: u64)
-    requires { end ≤ 100_000_000 }
-    ensures { Pushed (stream (K.shown sink.old) out.old)
-        (stream (K.shown sink.new) out.new) (head_text end) }
-{
-    write_numbered(
-        out,
-        sink,
-        b"<svg xmlns=\"http://www.w3.org/2000/svg\" width=\"1200\" height=\"",
-        end + 30,
-    );
-    out.push(sink, b"\" font-family=\"sans-serif\" font-size=\"11\">\n");
-    out.push(
-        sink,
-        b"<style>.c0{fill:#4477aa}.c1{fill:#66ccee}.c2{fill:#228833}.c3{fill:#ccbb44}.c4{fill:#ee6677}",
-    );
-    out.push(
-        sink,
-        b".c5{fill:#aa3377}.g{stroke:#ccc}.n{fill:#ddd}.p{fill:#999}.e{text-anchor:end}.m{text-anchor:middle}</style>\n",
-    );
-    out.push(
-        sink,
-        b"<rect width=\"100%\" height=\"100%\" fill=\"white\"/>\n",
-    );
-}
-
-/// Writes the whole picture.
-fn write_picture<K: Sink>(out: &mut Outgoing, sink: &mut K, run: &ChartRun)
+/// Room for one piece of the text. A picture of too many bars and lanes is refused.
+fn room_for(alloc: Global, run: &ChartRun) -> Result<Outgoing, ChartError>
     requires { IsOfRun run.now }
-    ensures { Pushed (stream (K.shown sink.old) out.old) (stream (K.shown sink.new) out.new)
-        (picture run.now.plant (date_in run.now.table.rows) run.now.window) }
+    ensures room { IfOk result (λ out. out ≡ emptied false) }
+    ensures small { IfOk result (λ _. bars_and_lanes (picture_of run.now) ≤ 20_000) }
+    ensures refused { IfErr result (IsReason (picture_of run.now)) }
 {
-    let end = 60 + 16 * run.lanes + 50 * (run.plant.stages.len() as u64 + 1);
-    write_head(out, sink, end);
-    write_axis(out, sink, run.window, end);
-    write_names(out, sink, run);
-    write_bars(out, sink, run);
-    write_stages(out, sink, run);
-    write_backlog(out, sink, run);
-    out.push(sink, b"</svg>\n");
+    let bars = count_bars(run) + run.lanes;
+    if bars > MAX_BARS {
+        return Err(ChartError::TooLarge { bars });
+    }
+    Ok(Outgoing::new(alloc)?)
 }
 
 impl Chart {
-    /// The picture of a sound plant, its live graph, and a table of that graph, over the window, else over all dates. It is
-    /// refused exactly where the bars that meet the window and the lanes together are above 20,000. It takes all memory
-    /// that writing takes: the numbers of the stations, the lanes of each machine, and room for one piece of the text.
+    /// The picture of a sound plant, its live graph, and a table of that graph, over the window, else over all dates.
+    /// It is refused exactly where the bars that meet the window and the lanes together are above 20,000. It takes all
+    /// memory that writing takes: the numbers of the stations, the lanes of each machine, and room for one piece of the
+    /// text.
     pub fn of(
         alloc: Global,
         plant: Plant,
@@ -164,18 +155,17 @@ impl Chart {
     {
         let window = window_of(&table, window);
         let run = run_of(alloc, plant, live, table, window)?;
-        let bars = count_bars(&run) + run.lanes;
-        if bars > MAX_BARS {
-            return Err(ChartError::TooLarge { bars });
+        match room_for(alloc, &run) {
+            Ok(out) => Ok(Chart { run, out }),
+            Err(error) => {
+                drop(run);
+                Err(error)
+            }
         }
-        Ok(Chart {
-            run,
-            out: Outgoing::new(alloc)?,
-        })
     }
 
     /// Writes the picture to the sink, from its beginning, in pieces of 4,096 bytes and a last one that may be shorter.
-    /// After `Failed` a front of it was written. It takes no memory.
+    /// After `Failed` a prefix of it was written. It takes no memory.
     pub fn write<K: Sink>(&mut self, sink: &mut K) -> Result<(), Failed>
         ensures puts { WritesText (K.shown sink.old) (K.shown sink.new) (text_of self.old) result }
         ensures stays { Stays self.old self.new }

@@ -1,5 +1,5 @@
 /// What an area shows: how many there are of these at a date. Stages are numbered from 0.
-#[derive(Clone, Copy, Debug, PartialEq, Eq)]
+#[derive(Clone, Copy)]
 pub enum Count {
     /// The parts of a stage.
     Parts(u32),

@@ -30,8 +30,8 @@ fn first_after(dates: &[Date], late: u64, at: Date, end: Date) -> Date
     }
 }
 
-/// The first date above `at`, and before `end`, at which a job is done at station `t`, each `late` later; `end` where there
-/// is none.
+/// The first date above `at`, and before `end`, at which a job is done at station `t`, each `late` later; `end` where
+/// there is none.
 fn next_at(run: &ChartRun, t: u32, late: u64, at: Date, end: Date) -> Date
     requires run { IsOfRun run.now }
     requires station { t < station_count run.now.plant }
@@ -44,6 +44,17 @@ fn next_at(run: &ChartRun, t: u32, late: u64, at: Date, end: Date) -> Date
     first_after(run.table.dates(t), late, at, end)
 }
 
+/// How many parts of a stage are in process or on their way at a date.
+fn under_way(run: &ChartRun, stage: u32, at: Date) -> u64
+    requires run { IsOfRun run.now }
+    requires exists { stage < length run.now.plant.stages }
+    ensures count { result ≡ count_of run.now.plant (date_in run.now.table.rows) (Count.UnderWay stage) at }
+    ensures few { result ≤ 8_589_934_590 }
+{
+    in_process(&run.numbers, &run.table, stage, at) as u64
+        + in_move(&run.plant, &run.numbers, &run.table, stage, at) as u64
+}
+
 /// How many there are at a date.
 pub fn count_at(run: &ChartRun, count: Count, at: Date) -> u64
     requires run { IsOfRun run.now }
@@ -52,20 +63,16 @@ pub fn count_at(run: &ChartRun, count: Count, at: Date) -> u64
 {
     match count {
         Count::Parts(stage) => {
-            in_process(&run.numbers, &run.table, stage, at) as u64
-                + in_move(&run.plant, &run.numbers, &run.table, stage, at) as u64
+            under_way(run, stage, at)
                 + in_stock(&run.plant, &run.numbers, &run.table, stage, at) as u64
         }
-        Count::UnderWay(stage) => {
-            in_process(&run.numbers, &run.table, stage, at) as u64
-                + in_move(&run.plant, &run.numbers, &run.table, stage, at) as u64
-        }
+        Count::UnderWay(stage) => under_way(run, stage, at),
         Count::Backlog => backlog(&run.numbers, &run.table, at) as u64,
     }
 }
 
-/// The first date above `at`, and before `end`, at which a part of a stage is released, is done by the last machine, has
-/// ended its travel or is taken; `end` where there is none.
+/// The first date above `at`, and before `end`, at which a part of a stage is released, is done by the last machine,
+/// has ended its travel or is taken; `end` where there is none.
 fn next_of_stage(run: &ChartRun, stage: u32, at: Date, end: Date) -> Date
     requires run { IsOfRun run.now }
     requires exists { stage < length run.now.plant.stages }

@@ -2,16 +2,13 @@ ghost use Rattle.std.specs.Prelude.{◌≡◌};
 ghost use Rattle.line_chart.specs.declared.error.ChartError.{ChartError};
 
 use std::alloc::AllocError;
-use thiserror::Error;
 
 /// Why a picture isn't drawn.
-#[derive(Clone, Copy, Debug, PartialEq, Eq, Error)]
+#[derive(Clone, Copy)]
 pub enum ChartError {
     /// It has this many bars and lanes together, more than 20,000.
-    #[error("{bars} bars and lanes")]
     TooLarge { bars: u64 },
     /// Memory ran out.
-    #[error("memory")]
     NoMemory,
 }
 

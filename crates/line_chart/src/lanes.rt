@@ -8,7 +8,7 @@ use plant_model::{LineNumbers, Plant};
 use std::alloc::{AllocError, Global};
 
 /// The lanes of a machine: the first, counted from 0 over all machines, and how many there are.
-#[derive(Clone, Copy, Debug, PartialEq, Eq)]
+#[derive(Clone, Copy)]
 pub struct Lanes {
     /// The station of the machine.
     pub station: u32,

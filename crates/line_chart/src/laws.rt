@@ -4,8 +4,8 @@ ghost use Rattle.plant_model.specs.Graph.{graph};
 ghost use Rattle.plant_model.specs.Sound.{IsSound};
 ghost use Rattle.plant_model.specs.declared.plant.Plant.{Plant};
 
-/// A law of the definitions: for each job at each machine there is exactly one bar, where it meets the window, from its start
-/// on and as long as its time, and there are no other bars.
+/// A law of the definitions: for each job at each machine there is exactly one bar, where it meets the window, from its
+/// start on and as long as its time, and there are no other bars.
 pub fn each_job_has_one_bar()
     ensures of_jobs { (p : Plant) → BarsAreOfJobs p }
     ensures one_each { (p : Plant) → EachJobHasOneBar p }

@@ -11,6 +11,8 @@ mod dates;
 mod error;
 mod lanes;
 mod laws;
+mod names;
+mod picture;
 mod run;
 mod text;
 mod window;

@@ -1,5 +1,5 @@
 /// The dates that a picture shows: from the first on, and before the end.
-#[derive(Clone, Copy, Debug, PartialEq, Eq)]
+#[derive(Clone, Copy)]
 pub struct Window {
     /// The first date.
     pub from: u64,

@@ -3,36 +3,28 @@ ghost use Rattle.line_core.specs.declared.error.ReplayError.{ReplayError};
 ghost use Rattle.line_core.specs.declared.error.StateError.{StateError};
 
 use std::alloc::AllocError;
-use thiserror::Error;
 
 /// Why a station didn't fire.
-#[derive(Clone, Copy, Debug, PartialEq, Eq, Error)]
+#[derive(Clone, Copy)]
 pub enum FireError {
     /// The station has fired once for each job.
-    #[error("the station is done")]
     Done,
     /// The place of this arc, the first of the station's input places without a token, is empty.
-    #[error("the station waits for a token of arc {arc}")]
     Empty { arc: u32 },
 }
 
 /// Why a schedule wasn't followed to its end. Lines are counted from 1.
-#[derive(Clone, Copy, Debug, PartialEq, Eq, Error)]
+#[derive(Clone, Copy)]
 pub enum ReplayError {
     /// This line is the label of no station.
-    #[error("line {line} is no station")]
     NoStation { line: u64 },
     /// This line names a station that has fired once for each job.
-    #[error("line {line}: station {station} is done")]
     Done { line: u64, station: u32 },
     /// This line names a station that can't fire, since this input arc, the first such, has no token.
-    #[error("line {line}: the station waits for a token of arc {arc}")]
     Empty { line: u64, arc: u32 },
     /// Every line was followed, and this station, the first such, has fired only this many times.
-    #[error("station {station} made {have}")]
     Unfinished { station: u32, have: u64 },
     /// Memory ran out.
-    #[error("memory")]
     NoMemory,
 }
 
@@ -47,10 +39,9 @@ impl From<AllocError> for ReplayError {
 /// Why logs and places are no state that firings reach: the first thing that is wrong with them. Stations and arcs are
 /// counted from 0, jobs and tokens from 1, dates are in the plant's unit. Each kind is tried whole before the next, by
 /// station and job, or by arc and token.
-#[derive(Clone, Copy, Debug, PartialEq, Eq, Error)]
+#[derive(Clone, Copy)]
 pub enum StateError {
     /// The log of this station has more dates than there are jobs.
-    #[error("station {station} has {have} of {limit}")]
     Count {
         station: u32,
         have: u64,
@@ -58,14 +49,12 @@ pub enum StateError {
     },
     /// The place of this arc has another number of tokens than its tokens of the start and the log where it starts,
     /// less the log where it ends.
-    #[error("place {arc} has {have} tokens, needs {need}")]
     Marking {
         arc: u32,
         have: u64,
         need: i64,
     },
     /// This date isn't the one that the equations of the graph give over the logs.
-    #[error("station {station} {job} has date {have}, needs {need}")]
     Date {
         station: u32,
         job: u32,
@@ -73,7 +62,6 @@ pub enum StateError {
         need: u64,
     },
     /// This token isn't the one that the logs leave on the arc.
-    #[error("place {arc} token {token} has date {have}, needs {need}")]
     PlaceDate {
         arc: u32,
         token: u32,
@@ -81,7 +69,6 @@ pub enum StateError {
         need: u64,
     },
     /// Memory ran out.
-    #[error("memory")]
     NoMemory,
 }
 

@@ -1,5 +1,5 @@
 /// What the machine answers where a file is to be opened.
-#[derive(Clone, Copy, Debug, PartialEq, Eq)]
+#[derive(Clone, Copy)]
 pub enum Opening {
     /// It is open.
     Opened,

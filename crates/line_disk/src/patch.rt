@@ -20,7 +20,7 @@ pub enum DiskCall {
 }
 
 /// Which writes of some calls are copied, and what of them.
-#[derive(Clone, Copy, Debug, PartialEq, Eq)]
+#[derive(Clone, Copy)]
 pub enum Copied {
     /// Those that were done, as they are.
     Done,

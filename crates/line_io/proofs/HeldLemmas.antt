@@ -1,11 +1,18 @@
 -- What a store in memory keeps, after one more name or one more file.
-use Rattle.std.proofs.Common.{◌≡◌, ◌≢◌, ℕ, ◌+◌, ◌≤◌, List, [], ◌∷◌, ◌++◌, Bool, true, false, cond, Vec, String, string_bytes, refl, arith}
+use Rattle.std.proofs.Common.{◌≡◌, ◌≢◌, inl, inr, ℕ, ◌+◌, ◌≤◌, List, [], ◌∷◌, ◌++◌, take, drop, Bool, true, false, cond, Vec, String, string_bytes, refl, sym, subst, arith}
+use Rattle.std.specs.Prelude.{Option, Some, None, Result, Err}
 use Rattle.std.specs.declared.alloc.Global.{Global}
 use Rattle.std.specs.Str.{bytes_eq}
 use Rattle.std.proofs.lemmas.List.Sums.{sum_by_push}
 use Rattle.std.proofs.lemmas.Slice.Eq.{bytes_eq-Decides}
 use Rattle.std.proofs.lemmas.Bool.{false_from_ne_true}
-use Rattle.line_io.specs.Held.{times_noted}
+use Rattle.std.proofs.lemmas.List.{take-append-drop}
+use Rattle.line_io.specs.Contents.{IsTorn}
+use Rattle.line_io.specs.Faults.{NeverFall, RiseByOneAtMost, SameFaults}
+use Rattle.line_io.specs.Held.{CountsFault, NotesOnce, times_noted}
+use Rattle.line_io.specs.Left.{left_by}
+use Rattle.line_io.specs.declared.store.StoreError.{StoreError}
+use Rattle.line_io.specs.declared.store.StoreError.TheVariants as store_error
 
 -- the step of a count of names
 pub times_noted_step : (old new : Vec (String Global) Global) (text : String Global) → new.items ≡ old.items ++ text ∷ [] → (name : List ℕ) → times_noted new name ≡ times_noted old name + cond (bytes_eq name (string_bytes text)) 1 0
@@ -38,3 +45,28 @@ at_most_one false = omega arith
 pub times_noted_push_by_one : (old new : Vec (String Global) Global) (text : String Global) → new.items ≡ old.items ++ text ∷ [] → (name : List ℕ) → times_noted new name ≤ times_noted old name + 1
 times_noted_push_by_one old new text pushed name =
     omega (arith, times_noted_step old new text pushed name, at_most_one (bytes_eq name (string_bytes text)))
+
+-- a name for which room was made, and which was then noted
+pub counts_noted : {T : Type 0} (old mid new : Vec (String Global) Global) (name said : List ℕ) → SameFaults (times_noted old) (times_noted mid) → said ≡ name → NotesOnce mid new said → NeverFall (times_noted mid) (times_noted new) → RiseByOneAtMost (times_noted mid) (times_noted new) → CountsFault {T = T} old new name (Err store_error.Failed)
+counts_noted old mid new name said same is noted rises by_one = record {
+  cause = λ failed. let named = rw is at noted.named in omega (arith, named, same name);
+  stays_or_rises = λ q. omega (arith, rises q, same q);
+  rises_by_one = λ q. omega (arith, by_one q, same q);
+  memory_is_no_fault = λ memory. cc;
+}
+
+-- there was no memory
+pub counts_none : {T : Type 0} (old new : Vec (String Global) Global) (name : List ℕ) (result : Result T StoreError) → result ≡ Err store_error.NoMemory → SameFaults (times_noted old) (times_noted new) → CountsFault old new name result
+counts_none old new name result is same =
+    subst (λ answer. CountsFault old new name answer) (sym is) (record {
+      cause = λ failed. cc;
+      stays_or_rises = λ q. omega (arith, same q);
+      rises_by_one = λ q. omega (arith, same q);
+      memory_is_no_fault = λ memory. same;
+    })
+
+-- what a refused write leaves is as it was, or a front of the bytes
+pub torn_left : (keep : Option ℕ) (old new : Option (List ℕ)) (bytes : List ℕ) → new ≡ left_by keep old bytes → IsTorn old new bytes
+torn_left None old new bytes is = inl is
+torn_left (Some keep) old new bytes is =
+    inr (take keep bytes, drop keep bytes, sym (take-append-drop keep bytes), is)

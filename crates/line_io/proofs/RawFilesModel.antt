@@ -1,11 +1,11 @@
 -- What files hold after one call of the machine and another.
 use Rattle.std.proofs.Common.{◌≡◌, ◌≢◌, inr, ℕ, ◌+◌, ◌≤◌, List, [], ◌++◌, length, take, drop, Bool, true, false, refl, ◌∙◌, ap, sym, subst, append_assoc, append-nil, arith}
-use Rattle.std.specs.Prelude.{Option, Some, None, option_map}
+use Rattle.std.specs.Prelude.{Option, Some, None, option_map, Result, Ok, Err, OnOk, OnErr, IsTrue}
 use Rattle.std.proofs.Math.Seq.{take-add}
 use Rattle.std.proofs.lemmas.Bool.{false≢true}
 use Rattle.std.proofs.lemmas.List.{take_all, take-append-drop}
 use Rattle.line_io.specs.Contents.{IsTorn}
-use Rattle.line_io.specs.RawFiles.{FilesView, RawName, Named, Spare, StaysOpen, StartsEmpty, Grows, GrowsByFront}
+use Rattle.line_io.specs.RawFiles.{FilesView, RawName, Named, Spare, StaysOpen, StartsEmpty, IsEmptyOpen, Grows, GrowsByFront, Moves, OthersHeld}
 
 append_none : (known : Option (List ℕ)) → known ≡ option_map (λ c. c ++ []) known
 append_none None = refl
@@ -70,6 +70,36 @@ others_grown a b file q bytes is grows other = grows.others q (λ same. other (s
 pub torn_in_place : (a b c : FilesView) (file : RawName) (bytes : List ℕ) → StartsEmpty a b file → GrowsByFront b c bytes → IsTorn (a.held file) (c.held file) bytes
 torn_in_place a b c file bytes starts grows =
     inr (take grows.0 bytes, drop grows.0 bytes, sym (take-append-drop grows.0 bytes), held_grown b c file (take grows.0 bytes) starts.writes_to starts.empty grows.1)
+
+-- so it holds the bytes, where all went well
+pub held_on_ok : {T E : Type 0} (tells : Bool) (a b c : FilesView) (file : RawName) (bytes : List ℕ) (result : Result T E) → (IsTrue tells → StartsEmpty a b file) → OnOk result (IsTrue tells → Grows b c bytes) → OnOk result (IsTrue tells → c.held file ≡ Some bytes)
+held_on_ok tells a b c file bytes (Ok done) starts grows = λ told.
+    held_grown b c file bytes (starts told).writes_to (starts told).empty (grows told)
+held_on_ok tells a b c file bytes (Err error) starts grows = tt
+
+-- a file that was filled, and then synced
+pub synced_on_ok : {T E : Type 0} (tells : Bool) (a b c : FilesView) (bytes : List ℕ) (result : Result T E) → (IsTrue tells → Grows a b bytes) → (IsTrue tells → StaysOpen b c) → OnOk result (IsTrue tells → Grows a c bytes)
+synced_on_ok tells a b c bytes (Ok done) grows stays = λ told. grows_synced a b c bytes (grows told) (stays told)
+synced_on_ok tells a b c bytes (Err error) grows stays = tt
+
+-- a spare file that was filled, and then renamed: the named one holds the bytes
+pub renamed_on_ok : {T E : Type 0} (tells : Bool) (a b c : FilesView) (spare name bytes : List ℕ) (result : Result T E) → (IsTrue tells → IsEmptyOpen a (Spare spare)) → (IsTrue tells → Grows a b bytes) → OnOk result (IsTrue tells → Moves b c spare name) → OnOk result (IsTrue tells → c.held (Named name) ≡ Some bytes)
+renamed_on_ok tells a b c spare name bytes (Ok done) empty grows moves = λ told.
+    (moves told).moved ∙ held_grown a b (Spare spare) bytes (empty told).writes_to (empty told).empty (grows told)
+renamed_on_ok tells a b c spare name bytes (Err error) empty grows moves = tt
+
+-- or each but the spare one is as it was
+pub unharmed_on_err : {T E : Type 0} (tells : Bool) (a b c : FilesView) (spare bytes : List ℕ) (result : Result T E) → (IsTrue tells → IsEmptyOpen a (Spare spare)) → (IsTrue tells → Grows a b bytes) → OnErr result (IsTrue tells → (q : RawName) → c.held q ≡ b.held q) → OnErr result (IsTrue tells → (q : RawName) → q ≢ Spare spare → c.held q ≡ a.held q)
+unharmed_on_err tells a b c spare bytes (Ok done) empty grows stays = tt
+unharmed_on_err tells a b c spare bytes (Err error) empty grows stays = λ told q apart.
+    stays told q ∙ others_grown a b (Spare spare) q bytes (empty told).writes_to (grows told) apart
+
+-- and each other one in both cases
+pub others_renamed : {T E : Type 0} (tells : Bool) (a b c : FilesView) (spare name bytes : List ℕ) (result : Result T E) → (IsTrue tells → IsEmptyOpen a (Spare spare)) → (IsTrue tells → Grows a b bytes) → OnOk result (IsTrue tells → Moves b c spare name) → OnErr result (IsTrue tells → (q : RawName) → c.held q ≡ b.held q) → OthersHeld tells a c spare name
+others_renamed tells a b c spare name bytes (Ok done) empty grows moves stays = λ told q other apart.
+    (moves told).others q other apart ∙ others_grown a b (Spare spare) q bytes (empty told).writes_to (grows told) apart
+others_renamed tells a b c spare name bytes (Err error) empty grows moves stays = λ told q other apart.
+    stays told q ∙ others_grown a b (Spare spare) q bytes (empty told).writes_to (grows told) apart
 
 -- names of files and of spare ones
 name_of : RawName → List ℕ

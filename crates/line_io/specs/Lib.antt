@@ -11,5 +11,6 @@ pub mod Memory
 pub mod Outgoing
 pub mod RawFiles
 pub mod RawOut
+pub mod Reading
 pub mod SinkView
 pub mod StoreView

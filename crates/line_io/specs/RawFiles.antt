@@ -1,9 +1,10 @@
 -- Files as the machine has them: what was asked of them, what they answered, and what they hold, for callers of `RawFiles`.
-use Rattle.std.specs.Prelude.{◌≡◌, ◌≢◌, ◌⊎◌, ℕ, ◌+◌, ◌<◌, ◌≤◌, List, [], ◌∷◌, ◌++◌, length, take, drop, Bool, true, false, IsTrue, Result, Ok, Err, Option, Some, None, option_map, codes}
+use Rattle.std.specs.Prelude.{◌≡◌, ◌≢◌, ◌⊎◌, ℕ, ◌+◌, ◌<◌, ◌≤◌, List, [], ◌∷◌, ◌++◌, length, take, drop, Bool, true, false, IsTrue, Result, Ok, Err, is_ok, OnOk, OnErr, Option, Some, None, option_map, codes}
 use Rattle.std.specs.IoError.{error_kind}
 use Rattle.std.specs.declared.io.Error.{Error}
 use Rattle.std.specs.declared.io.ErrorKind.{ErrorKind}
 use Rattle.std.specs.declared.io.ErrorKind.TheVariants.{NotFound, PermissionDenied, ReadOnlyFilesystem, InvalidFilename}
+use Rattle.line_io.specs.Contents.{IsTorn}
 use Rattle.line_io.specs.RawOut.{count_of, taken_by_answer}
 use Rattle.line_io.specs.declared.store.StoreError.{StoreError}
 use Rattle.line_io.specs.declared.store.StoreError.TheVariants as store_error
@@ -239,3 +240,14 @@ empties (call ∷ calls) = empties calls
 -- the file of each name, without the spare ones
 abbrev pub named_files : FilesView → List ℕ → Option (List ℕ)
 named_files files name = files.held (Named name)
+
+-- What a write of a file did, which made calls of this kind. Where all was done the file holds the bytes. Where not, it is as it
+-- was or holds a front of them; and each is as it was, where none was emptied in its place. No other file changed, but the
+-- spare one.
+pub record WritesFile {E : Type 0} (tells : Bool) (old new : FilesView) (spare name bytes : List ℕ)
+    (Are : List FilesCall → Bool → Type 0) (result : Result (Unit {0}) E) : Type 0 where
+  pub asks : Asks old new (λ calls.
+      Are calls (is_ok result) × (empties calls ≡ false → OnErr result (SameNamed tells old new)))
+  pub written : OnOk result (IsTrue tells → new.held (Named name) ≡ Some bytes)
+  pub torn : IsTrue tells → IsTorn (old.held (Named name)) (new.held (Named name)) bytes
+  pub others_stay : OthersHeld tells old new spare name

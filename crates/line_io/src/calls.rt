@@ -3,6 +3,7 @@ ghost use Rattle.std.specs.Prelude.{◌≡◌};
 ghost use Rattle.line_io.specs.Calls.{none_asked, after_read, after_write};
 ghost use Rattle.line_io.specs.Noted.{asked_of};
 
+use crate::noting::note_call;
 use crate::store::StoreError;
 use line_base::Transcript;
 use std::marker::Model;
@@ -60,8 +61,7 @@ impl Calls {
         ensures same { result ≡ answer }
         ensures noted { asked_of self.new ≡ after_read (asked_of self.old) name.now result }
     {
-        self.reads = Transcript::of(&(&self.reads, name.as_bytes(), &answer));
-        answer
+        note_call(&mut self.reads, name.as_bytes(), &[], answer)
     }
 
     /// Notes a write, and hands on its answer.
@@ -74,7 +74,6 @@ impl Calls {
         ensures same { result ≡ answer }
         ensures noted { asked_of self.new ≡ after_write (asked_of self.old) name.now bytes.now result }
     {
-        self.writes = Transcript::of(&(&self.writes, name.as_bytes(), bytes, &answer));
-        answer
+        note_call(&mut self.writes, name.as_bytes(), bytes, answer)
     }
 }

@@ -1,9 +1,9 @@
 //! How a file is read: to its end, or until it is longer than the limit.
-ghost use Rattle.std.specs.Prelude.{◌≡◌, ◌<◌, ◌≤◌, ◌↔◌, ◌+◌, ◌-◌, ◌^◌, ◌++◌, ◌∷◌, [], Some, true, length, take, min, IsTrue, IfOk, IfErr, OnOk, OnErr, IsErrOf};
+ghost use Rattle.std.specs.Prelude.{◌≡◌, ◌<◌, ◌≤◌, ◌+◌, ◌-◌, ◌^◌, ◌++◌, ◌∷◌, [], Some, true, length, take, min, IsTrue, IfOk, IfErr, OnOk, OnErr, IsErrOf};
 ghost use Rattle.line_io.specs.Calls.{bytes_of};
 ghost use Rattle.line_io.specs.Contents.{IsLongerThan};
-ghost use Rattle.line_io.specs.Faults.{Rose};
 ghost use Rattle.line_io.specs.RawFiles.{Named, Reads, Asks, AsksToRead, ReadsOn, SameHeld, given, given_by};
+ghost use Rattle.line_io.specs.Reading.{TakesToLimit};
 
 use crate::faults::counted;
 use crate::raw_files::RawFiles;
@@ -54,15 +54,7 @@ fn read_to_limit<F: RawFiles>(
     ensures bytes { IfOk result (λ v. IsTrue F.tells → v.items ≡ (F.shown files.old).left) }
     ensures longer { IsErrOf result StoreError.TooLong → IsTrue F.tells → limit < length (F.shown files.old).left }
     ensures stays { SameHeld F.tells (F.shown files.old) (F.shown files.new) }
-    ensures within_limit { IfOk result (λ v. length v.items ≤ limit) }
-    ensures took_them { IfOk result (λ v. taken.new ≡ length v.items) }
-    ensures too_long { IsErrOf result StoreError.TooLong ↔ (limit < taken.new) }
-    ensures one_more_at_most { taken.new ≤ limit + 1 }
-    ensures cause { IsErrOf result StoreError.Failed → Rose faults.old faults.new }
-    ensures faults_stay { OnOk result (faults.new ≡ faults.old) }
-    ensures once { faults.new ≤ faults.old + 1 }
-    ensures memory_is_no_fault { IsErrOf result StoreError.NoMemory → faults.new ≡ faults.old }
-    ensures faults_stay_or_rise { faults.old ≤ faults.new }
+    ensures takes { TakesToLimit limit taken.new faults.old faults.new result }
 {
     let mut bytes = Vec::new(alloc);
     let mut buffer = [0; MAX_TURN];
@@ -98,15 +90,7 @@ pub fn read_file<F: RawFiles>(
     ensures longer { IsErrOf result StoreError.TooLong → IsTrue F.tells
         → IsLongerThan limit ((F.shown files.old).held (Named name.now)) }
     ensures stays { SameHeld F.tells (F.shown files.old) (F.shown files.new) }
-    ensures within_limit { IfOk result (λ v. length v.items ≤ limit) }
-    ensures took_them { IfOk result (λ v. taken.new ≡ length v.items) }
-    ensures too_long { IsErrOf result StoreError.TooLong ↔ (limit < taken.new) }
-    ensures one_more_at_most { taken.new ≤ limit + 1 }
-    ensures cause { IsErrOf result StoreError.Failed → Rose faults.old faults.new }
-    ensures faults_stay { OnOk result (faults.new ≡ faults.old) }
-    ensures once { faults.new ≤ faults.old + 1 }
-    ensures memory_is_no_fault { IsErrOf result StoreError.NoMemory → faults.new ≡ faults.old }
-    ensures faults_stay_or_rise { faults.old ≤ faults.new }
+    ensures takes { TakesToLimit limit taken.new faults.old faults.new result }
 {
     counted(files.open(name), faults)?;
     read_to_limit(alloc, files, limit, taken, faults)

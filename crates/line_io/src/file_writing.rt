@@ -1,7 +1,7 @@
 //! How a file is written: a spare one beside it, which is synced and takes its name; or in its place.
 ghost use Rattle.std.specs.Prelude.{◌≡◌, ◌≢◌, ◌<◌, ◌≤◌, ◌-◌, ◌++◌, ◌∷◌, [], ℕ, Bool, Option, Some, true, false, length, take, drop, is_ok, IsTrue, OnOk, OnErr};
 ghost use Rattle.line_io.specs.Contents.{IsTorn};
-ghost use Rattle.line_io.specs.RawFiles.{RawName, Named, Spare, Writes, Removes, CreatesSpare, Asks, AsksToWrite, Replaces, WritesInPlace, WritesBeside, FillsAndRenames, RenamesOnce, Fills, SyncsOnce, WritesOn, SameNamed, OthersHeld, StaysOpen, StartsEmpty, IsEmptyOpen, Grows, GrowsByFront, Moves, by_kind, is_absent, bars_new_files, empties};
+ghost use Rattle.line_io.specs.RawFiles.{RawName, Named, Spare, Writes, Removes, CreatesSpare, Asks, AsksToWrite, Replaces, WritesFile, WritesInPlace, WritesBeside, FillsAndRenames, RenamesOnce, Fills, SyncsOnce, WritesOn, SameNamed, OthersHeld, StaysOpen, StartsEmpty, IsEmptyOpen, Grows, GrowsByFront, Moves, by_kind, is_absent, bars_new_files};
 ghost use Rattle.line_io.specs.RawOut.{count_of};
 ghost use Rattle.std.specs.declared.io.ErrorKind.{ErrorKind};
 
@@ -156,11 +156,13 @@ fn write_beside<F: RawFiles>(
     ensures unharmed { OnErr result (SameNamed F.tells (F.shown files.old) (F.shown files.new)) }
     ensures others_stay { OthersHeld F.tells (F.shown files.old) (F.shown files.new) spare.now name.now }
 {
-    let answer = fill_and_rename(files, spare, name, bytes);
-    if answer.is_err() {
-        let _ = files.remove(spare);
+    match fill_and_rename(files, spare, name, bytes) {
+        Ok(()) => Ok(()),
+        Err(refused) => {
+            let _ = files.remove(spare);
+            Err(refused)
+        }
     }
-    answer
 }
 
 /// Whether no file can be made in that folder, while one that is there may be writable.
@@ -175,14 +177,8 @@ fn bars_new_files(kind: ErrorKind) -> bool
 
 /// Replaces a file by a spare one that is filled first; or writes it in its place where none can be made.
 fn replace<F: RawFiles>(files: &mut F, spare: &str, name: &str, bytes: &[u8]) -> Result<(), Refused>
-    ensures asks { Asks (F.shown files.old) (F.shown files.new) (λ calls.
-        Replaces spare.now name.now bytes.now calls (is_ok result)
-        × (empties calls ≡ false → OnErr result (SameNamed F.tells (F.shown files.old) (F.shown files.new)))) }
-    ensures written { OnOk result (IsTrue F.tells
-        → (F.shown files.new).held (Named name.now) ≡ Some bytes.now) }
-    ensures torn { IsTrue F.tells → IsTorn ((F.shown files.old).held (Named name.now))
-        ((F.shown files.new).held (Named name.now)) bytes.now }
-    ensures others_stay { OthersHeld F.tells (F.shown files.old) (F.shown files.new) spare.now name.now }
+    ensures { WritesFile F.tells (F.shown files.old) (F.shown files.new) spare.now name.now bytes.now
+        (Replaces spare.now name.now bytes.now) result }
 {
     match make_spare(files, spare) {
         Ok(()) => write_beside(files, spare, name, bytes),
@@ -205,14 +201,8 @@ pub fn write_file<F: RawFiles>(
     name: &str,
     bytes: &[u8],
 ) -> Result<(), Refused>
-    ensures asks { Asks (F.shown files.old) (F.shown files.new) (λ calls.
-        AsksToWrite spare.now name.now bytes.now calls (is_ok result)
-        × (empties calls ≡ false → OnErr result (SameNamed F.tells (F.shown files.old) (F.shown files.new)))) }
-    ensures written { OnOk result (IsTrue F.tells
-        → (F.shown files.new).held (Named name.now) ≡ Some bytes.now) }
-    ensures torn { IsTrue F.tells → IsTorn ((F.shown files.old).held (Named name.now))
-        ((F.shown files.new).held (Named name.now)) bytes.now }
-    ensures others_stay { OthersHeld F.tells (F.shown files.old) (F.shown files.new) spare.now name.now }
+    ensures { WritesFile F.tells (F.shown files.old) (F.shown files.new) spare.now name.now bytes.now
+        (AsksToWrite spare.now name.now bytes.now) result }
 {
     match files.is_file(name) {
         Ok(true) => replace(files, spare, name, bytes),

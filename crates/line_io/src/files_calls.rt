@@ -3,6 +3,7 @@ ghost use Rattle.std.specs.Prelude.{◌≡◌, ◌++◌, ◌∷◌, [], is_ok};
 ghost use Rattle.line_io.specs.HostFiles.{files_calls};
 ghost use Rattle.line_io.specs.RawFiles.{Opens, Looks, Creates, CreatesSpare, Syncs, Renames, Removes, by_kind, read_call, write_call};
 
+use crate::noting::note_call;
 use line_base::Transcript;
 use std::io;
 use std::marker::Model;
@@ -41,8 +42,7 @@ impl FilesCalls {
         ensures same { result ≡ answer }
         ensures noted { files_calls self.new ≡ files_calls self.old ++ Opens name.now (is_ok result) ∷ [] }
     {
-        self.calls = Transcript::of(&(&self.calls, name.as_bytes(), &answer));
-        answer
+        note_call(&mut self.calls, name.as_bytes(), &[], answer)
     }
 
     /// Notes that bytes were read, and hands on the answer.
@@ -50,8 +50,7 @@ impl FilesCalls {
         ensures same { result ≡ answer }
         ensures noted { files_calls self.new ≡ files_calls self.old ++ read_call bytes.now result ∷ [] }
     {
-        self.calls = Transcript::of(&(&self.calls, bytes, &answer));
-        answer
+        note_call(&mut self.calls, bytes, &[], answer)
     }
 
     /// Notes that a name was looked at, and hands on the answer.
@@ -59,8 +58,7 @@ impl FilesCalls {
         ensures same { result ≡ answer }
         ensures noted { files_calls self.new ≡ files_calls self.old ++ Looks name.now (by_kind result) ∷ [] }
     {
-        self.calls = Transcript::of(&(&self.calls, name.as_bytes(), &answer));
-        answer
+        note_call(&mut self.calls, name.as_bytes(), &[], answer)
     }
 
     /// Notes that a file was made or emptied, and hands on the answer.
@@ -68,8 +66,7 @@ impl FilesCalls {
         ensures same { result ≡ answer }
         ensures noted { files_calls self.new ≡ files_calls self.old ++ Creates name.now (is_ok result) ∷ [] }
     {
-        self.calls = Transcript::of(&(&self.calls, name.as_bytes(), &answer));
-        answer
+        note_call(&mut self.calls, name.as_bytes(), &[], answer)
     }
 
     /// Notes that a spare file was made, and hands on the answer.
@@ -78,8 +75,7 @@ impl FilesCalls {
         ensures noted { files_calls self.new
             ≡ files_calls self.old ++ CreatesSpare spare.now (by_kind result) ∷ [] }
     {
-        self.calls = Transcript::of(&(&self.calls, spare.as_bytes(), &answer));
-        answer
+        note_call(&mut self.calls, spare.as_bytes(), &[], answer)
     }
 
     /// Notes that bytes were written, and hands on the answer.
@@ -87,8 +83,7 @@ impl FilesCalls {
         ensures same { result ≡ answer }
         ensures noted { files_calls self.new ≡ files_calls self.old ++ write_call bytes.now result ∷ [] }
     {
-        self.calls = Transcript::of(&(&self.calls, bytes, &answer));
-        answer
+        note_call(&mut self.calls, bytes, &[], answer)
     }
 
     /// Notes a sync, and hands on the answer.
@@ -96,8 +91,7 @@ impl FilesCalls {
         ensures same { result ≡ answer }
         ensures noted { files_calls self.new ≡ files_calls self.old ++ Syncs (is_ok result) ∷ [] }
     {
-        self.calls = Transcript::of(&(&self.calls, &answer));
-        answer
+        note_call(&mut self.calls, &[], &[], answer)
     }
 
     /// Notes that a spare file got the name of a file, and hands on the answer.
@@ -106,8 +100,7 @@ impl FilesCalls {
         ensures noted { files_calls self.new
             ≡ files_calls self.old ++ Renames spare.now name.now (is_ok result) ∷ [] }
     {
-        self.calls = Transcript::of(&(&self.calls, spare.as_bytes(), name.as_bytes(), &answer));
-        answer
+        note_call(&mut self.calls, spare.as_bytes(), name.as_bytes(), answer)
     }
 
     /// Notes that a spare file was removed, and hands on the answer.
@@ -115,7 +108,6 @@ impl FilesCalls {
         ensures same { result ≡ answer }
         ensures noted { files_calls self.new ≡ files_calls self.old ++ Removes spare.now (is_ok result) ∷ [] }
     {
-        self.calls = Transcript::of(&(&self.calls, spare.as_bytes(), &answer));
-        answer
+        note_call(&mut self.calls, spare.as_bytes(), &[], answer)
     }
 }

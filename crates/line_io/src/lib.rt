@@ -10,6 +10,7 @@ mod file_writing;
 mod files_calls;
 mod mem_sink;
 mod mem_store;
+mod noting;
 mod outgoing;
 mod piece_buffer;
 mod pieces;

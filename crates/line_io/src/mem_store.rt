@@ -3,7 +3,7 @@ ghost use Rattle.std.specs.Prelude.{◌≡◌, ◌≢◌, ◌+◌, ◌≤◌, �
 ghost use Rattle.line_io.specs.Calls.{none_asked};
 ghost use Rattle.line_io.specs.Contents.{SameFiles, OthersStay, IsTorn};
 ghost use Rattle.line_io.specs.Faults.{Rose, NeverFall, RiseByOneAtMost, SameFaults};
-ghost use Rattle.line_io.specs.Held.{contents, times_noted, NotesOnce};
+ghost use Rattle.line_io.specs.Held.{contents, times_noted, CountsFault, NotesOnce};
 ghost use Rattle.line_io.specs.Left.{left_by};
 
 use crate::calls::Calls;
@@ -143,12 +143,7 @@ fn copy_to_limit(
 fn refuse(alloc: Global, faults: &mut Vec<String>, name: &str) -> Result<Vec<u8>, StoreError>
     ensures refused { IsErr result }
     ensures never_too_long { ¬ (IsErrOf result StoreError.TooLong) }
-    ensures cause { IsErrOf result StoreError.Failed
-        → Rose (times_noted faults.old name.now) (times_noted faults.new name.now) }
-    ensures stays_or_rises { NeverFall (times_noted faults.old) (times_noted faults.new) }
-    ensures rises_by_one { RiseByOneAtMost (times_noted faults.old) (times_noted faults.new) }
-    ensures memory_is_no_fault { IsErrOf result StoreError.NoMemory
-        → SameFaults (times_noted faults.old) (times_noted faults.new) }
+    ensures counts { CountsFault faults.old faults.new name.now result }
 {
     let text = prepare(alloc, faults, name)?;
     note(faults, text);
@@ -166,6 +161,26 @@ fn give(alloc: Global, files: &mut Files, name: &str, bytes: &[u8]) -> Result<()
     Ok(set_file(alloc, files, name, bytes)?)
 }
 
+/// Leaves what a write that is to fail leaves: this many of the bytes, or with none given the file as it was.
+fn leave(
+    alloc: Global,
+    files: &mut Files,
+    keep: Option<u32>,
+    name: &str,
+    bytes: &[u8],
+) -> Result<(), AllocError>
+    ensures kept { OnOk result
+        (contents files.new name.now ≡ left_by keep (contents files.old name.now) bytes.now) }
+    ensures others_stay { OthersStay true (contents files.old) (contents files.new) name.now }
+    ensures no_memory { OnErr result (SameFiles true (contents files.old) (contents files.new)) }
+{
+    let Some(keep) = keep else {
+        return Ok(());
+    };
+    let kept = &bytes[..bytes.len().min(keep as usize)];
+    set_file(alloc, files, name, kept)
+}
+
 /// A write that fails, which is noted, and leaves this many of the bytes, or with none given the file as it was.
 fn break_off(
     alloc: Global,
@@ -176,27 +191,15 @@ fn break_off(
     bytes: &[u8],
 ) -> Result<(), StoreError>
     ensures refused { IsErr result }
+    ensures never_too_long { ¬ (IsErrOf result StoreError.TooLong) }
     ensures kept { IsErrOf result StoreError.Failed
         → contents files.new name.now ≡ left_by keep (contents files.old name.now) bytes.now }
-    ensures torn { IsErrOf result StoreError.Failed
-        → IsTorn (contents files.old name.now) (contents files.new name.now) bytes.now }
     ensures others_stay { OthersStay true (contents files.old) (contents files.new) name.now }
     ensures no_memory { IsErrOf result StoreError.NoMemory → SameFiles true (contents files.old) (contents files.new) }
-    ensures never_too_long { ¬ (IsErrOf result StoreError.TooLong) }
-    ensures cause { IsErrOf result StoreError.Failed
-        → Rose (times_noted faults.old name.now) (times_noted faults.new name.now) }
-    ensures stays_or_rises { NeverFall (times_noted faults.old) (times_noted faults.new) }
-    ensures rises_by_one { RiseByOneAtMost (times_noted faults.old) (times_noted faults.new) }
-    ensures memory_is_no_fault { IsErrOf result StoreError.NoMemory
-        → SameFaults (times_noted faults.old) (times_noted faults.new) }
+    ensures counts { CountsFault faults.old faults.new name.now result }
 {
     let text = prepare(alloc, faults, name)?;
-    let Some(keep) = keep else {
-        note(faults, text);
-        return Err(StoreError::Failed);
-    };
-    let front = &bytes[..bytes.len().min(keep as usize)];
-    set_file(alloc, files, name, front)?;
+    leave(alloc, files, keep, name, bytes)?;
     note(faults, text);
     Err(StoreError::Failed)
 }

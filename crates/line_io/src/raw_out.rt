@@ -2,6 +2,7 @@
 ghost use Rattle.std.specs.Prelude.{◌≡◌, ◌≤◌, ◌++◌, ◌∷◌, [], List, length, IfOk};
 ghost use Rattle.line_io.specs.RawOut.{OutCall, out_call};
 
+use crate::noting::note_call;
 use line_base::Transcript;
 use std::io;
 use std::marker::Model;
@@ -59,7 +60,6 @@ impl<P: Print + Drop> RawOut for HostOut<P> {
 
     fn write(&mut self, bytes: &[u8]) -> io::Result<usize> {
         let answer = self.rt.write_some(bytes);
-        self.calls = Transcript::of(&(&self.calls, bytes, &answer));
-        answer
+        note_call(&mut self.calls, bytes, &[], answer)
     }
 }

@@ -2,14 +2,11 @@ ghost use Rattle.std.specs.Prelude.{◌≡◌, ◌<◌, ◌≤◌, length, OnOk,
 ghost use Rattle.line_io.specs.Faults.{Rose, RoseByOne};
 ghost use Rattle.line_io.specs.SinkView.{SinkView, PutsAll, PutsPrefix};
 
-use thiserror::Error;
-
 /// The most bytes that a sink takes at once.
 pub const MAX_PIECE: usize = 4_096;
 
 /// The sink refused a piece; its count of faults rose.
-#[derive(Clone, Copy, Debug, PartialEq, Eq, Error)]
-#[error("the sink failed")]
+#[derive(Clone, Copy, Debug, PartialEq, Eq)]
 pub struct Failed;
 
 /// Where bytes go that are printed, one piece after another.

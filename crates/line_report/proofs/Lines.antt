@@ -1,49 +1,23 @@
 -- Texts that are made of one line after another.
-use Rattle.std.proofs.Common.{◌≡◌, ℕ, ◌+◌, ◌<◌, Bool, true, false, List, [], ◌∷◌, ◌++◌, length, take, get_or, sym, ap, ◌∙◌, refl, ◌≤◌, append-nil, map-id}
+use Rattle.std.proofs.Common.{◌≡◌, ℕ, ◌+◌, ◌<◌, Bool, true, false, List, [], ◌∷◌, ◌++◌, length, get_or, sym, ap, ◌∙◌, refl, ◌≤◌, map-id}
 use Rattle.std.specs.List.{flat_map, range_with_len}
-use Rattle.std.specs.Prelude.{codes, decimal, nat_lt, if◌then◌else◌, Result, is_err}
+use Rattle.std.specs.Prelude.{codes, decimal, nat_lt, if◌then◌else◌}
 use Rattle.std.proofs.lemmas.Bool.{lt-ltb, le-ltb}
-use Rattle.std.proofs.lemmas.List.{take_more, get_or_read}
-use Rattle.std.proofs.lemmas.List.Concat.{flat_map-append}
+use Rattle.std.proofs.lemmas.List.{flat_map_more, get_or_read}
 use Rattle.std.proofs.lemmas.List.FromFn.{map-range_with_len_more}
 use Rattle.plant_model.specs.declared.plant.Plant.{Plant}
 use Rattle.plant_model.specs.Stages.{Stage}
 use Rattle.plant_model.specs.Line.{stage_at, no_stage}
 use Rattle.event_graph.specs.Table.{Table}
-use Rattle.line_io.specs.Outgoing.{Pending, Stream, Pushed, stream, emptied}
-use Rattle.line_io.specs.SinkView.{SinkView, WritesText}
-use Rattle.line_io.proofs.OutgoingLemmas.{pushed_after, writes_text}
+pub use Rattle.line_io.proofs.OutgoingLemmas.{text_written}
 use Rattle.line_stats.specs.Counts.{in_process, in_move, in_stock}
 use Rattle.line_report.specs.ReportText.{line, stage_line}
 
--- one more number
-range_more : (a n j : ℕ) → a + n ≡ j → range_with_len a (n + 1) ≡ range_with_len a n ++ j ∷ []
-range_more a n j at = sym (map-id _) ∙ map-range_with_len_more (λ k. k) a n j at ∙ ap (λ l. l ++ j ∷ []) (map-id _)
-
--- one more line
-flat_map_push : (f : ℕ → List ℕ) (xs : List ℕ) (y : ℕ) → flat_map f (xs ++ y ∷ []) ≡ flat_map f xs ++ f y
-flat_map_push f xs y = flat_map-append f xs (y ∷ []) ∙ ap (λ l. flat_map f xs ++ l) (append-nil (f y))
-
 -- the lines of numbers from a on, and the next line
 pub lines_more : (f : ℕ → List ℕ) (a n j : ℕ) → a + n ≡ j → flat_map f (range_with_len a (n + 1)) ≡ flat_map f (range_with_len a n) ++ f j
-lines_more f a n j at = ap (flat_map f) (range_more a n j at) ∙ flat_map_push f (range_with_len a n) j
-
--- the lines of the first of a list, and the next line
-pub lines_take_more : (f : ℕ → List ℕ) (xs : List ℕ) (i : ℕ) → i < length xs → flat_map f (take (i + 1) xs) ≡ flat_map f (take i xs) ++ f (get_or xs i 0)
-lines_take_more f xs i h = ap (flat_map f) (take_more xs i 0 h) ∙ flat_map_push f (take i xs) (get_or xs i 0)
-
--- the next line is written
-pub pushed_line : {a b c : Stream} (f : ℕ → List ℕ) (from n j : ℕ) → from + n ≡ j → Pushed a b (flat_map f (range_with_len from n)) → Pushed b c (f j) → Pushed a c (flat_map f (range_with_len from (n + 1)))
-pushed_line {b = b} f from n j at before now = rw (lines_more f from n j at) (pushed_after {b = b} before now)
-
--- and the same for the elements of a list
-pub pushed_element : {a b c : Stream} (f : ℕ → List ℕ) (xs : List ℕ) (i : ℕ) → i < length xs → Pushed a b (flat_map f (take i xs)) → Pushed b c (f (get_or xs i 0)) → Pushed a c (flat_map f (take (i + 1) xs))
-pushed_element {b = b} f xs i h before now = rw (lines_take_more f xs i h) (pushed_after {b = b} before now)
-
--- a text is written, where nothing waited before it and all that waits is sent after it
-pub text_written : {T E : Type 0} {out : Pending} {old : SinkView} {b : Stream} {text : List ℕ} (new : SinkView) (r : Result T E) → out ≡ emptied false → Pushed (stream old out) b text → Pushed b (stream new (emptied (is_err r))) [] → WritesText old new text r
-text_written new r empty pushed sent =
-    writes_text new r (ap (λ (o : Pending). o.bytes) empty) (ap (λ (o : Pending). o.failed) empty) pushed sent
+lines_more f a n j at =
+    ap (flat_map f) (sym (map-id _) ∙ map-range_with_len_more (λ k. k) a n j at ∙ ap (λ l. l ++ j ∷ []) (map-id _))
+    ∙ sym (flat_map_more f [] (range_with_len a n) j)
 
 -- the element that was read at a number
 pub stage_read : (p : Plant) (i : ℕ) (stages : List Stage) (s : Stage) → stages ≡ p.stages → i < length p.stages → s ≡ get_or stages i s → s ≡ stage_at p i

@@ -8,9 +8,9 @@ use Rattle.event_graph.specs.Network.{stations, jobs, label}
 use Rattle.event_graph.specs.Table.{Table, date_in}
 use Rattle.line_report.specs.ReportText.{line, date_line, station_lines, date_lines}
 use Rattle.line_io.specs.Outgoing.{Stream, Pushed}
-use Rattle.line_io.proofs.OutgoingLemmas.{pushed_none, pushed_after}
+use Rattle.line_io.proofs.OutgoingLemmas.{pushed_none, pushed_next, ◌⨟◌}
 use Rattle.line_report.specs.Portions.{Formatted, numbered_line, numbered_lines, job_lines, HasLines, HaveShares, share_start}
-use Rattle.line_report.proofs.Lines.{lines_more, pushed_line}
+use Rattle.line_report.proofs.Lines.{lines_more}
 
 -- the lines of some numbers, and of those that follow
 lines_split : (f : ℕ → List ℕ) (a n m b all : ℕ) → a + n ≡ b → n + m ≡ all → flat_map f (range_with_len a all) ≡ flat_map f (range_with_len a n) ++ flat_map f (range_with_len b m)
@@ -122,12 +122,12 @@ module _ (g : Parts) (x : Table) where
 
   -- lines, and lines that follow
   pub pushed-more_lines : {a b c : Stream} (i j n m all : ℕ) → i + n ≡ j → n + m ≡ all → Pushed a b (numbered_lines g x i n) → Pushed b c (numbered_lines g x j m) → Pushed a c (numbered_lines g x i all)
-  pushed-more_lines {b = b} i j n m all at sum first later = rw (← numbered-append i n m j all at sum) (pushed_after {b = b} first later)
+  pushed-more_lines i j n m all at sum first later = rw (← numbered-append i n m j all at sum) (first ⨟ later)
 
   -- lines, and the line that follows
   pub pushed-one_line : {a b c : Stream} (i j n all : ℕ) → i + n ≡ j → n + 1 ≡ all → Pushed a b (numbered_lines g x i n) → Pushed b c (numbered_line g x j) → Pushed a c (numbered_lines g x i all)
   unfolding numbered_lines
-  pushed-one_line i j n all at sum first later = rw (← sum) (pushed_line (numbered_line g x) i n j at first later)
+  pushed-one_line i j n all at sum first later = rw (← sum) (pushed_next (numbered_line g x) i n j at first later)
 
   -- the lines of a portion, and then the others
   pub pushed-portion : {a b c : Stream} (from to : ℕ) (p : Formatted) → HasLines g x from to p → Pushed a b p.lines → Pushed b c (numbered_lines g x p.end (to - p.end)) → Pushed a c (numbered_lines g x from (to - from))

@@ -1,11 +1,11 @@
 -- How the start of a line is written: a label, the number of a job, and spaces.
-use Rattle.std.proofs.Common.{◌≡◌, ℕ, ◌+◌, ◌-◌, ◌/◌, ◌%◌, ◌<◌, ◌≤◌, List, [], ◌∷◌, ◌++◌, length, take, drop, set, inl, inr, decimal, refl, sym, ap, ◌∙◌, append_assoc, length-append, arith}
+use Rattle.std.proofs.Common.{◌≡◌, ℕ, ◌+◌, ◌-◌, ◌/◌, ◌%◌, ◌^◌, ◌<◌, ◌≤◌, List, [], ◌∷◌, ◌++◌, length, take, drop, set, inl, inr, decimal, refl, sym, ap, ◌∙◌, append_assoc, length-append, arith}
 use Rattle.std.specs.Prelude.{IsTrue}
 use Rattle.line_base.specs.Text.{is_label}
 use Rattle.line_report.specs.Portions.{start_text}
 use Rattle.std.proofs.lemmas.Bool.{cases_lt}
 use Rattle.std.proofs.lemmas.Bool.Decides.{nat_tests}
-use Rattle.std.proofs.lemmas.Fmt.{decimal_digit, decimal_step}
+use Rattle.std.proofs.lemmas.Fmt.{decimal_digit, decimal_step, length-decimal-le}
 use Rattle.std.proofs.lemmas.List.{length-take, length-take-le, length-set, take-append-drop, set-append_left, set_at, take_at, take-take, take-append-le}
 
 -- the texts of a number and of the next, where they differ in the last digit alone
@@ -89,3 +89,10 @@ start-parts text label end job named whole =
 -- a label fits
 pub short_label : (text : List ℕ) → IsTrue (is_label text) → length text ≤ 49
 short_label text rule = grind (arith, nat_tests)
+
+-- how many digits a number has at most, and the number of a job
+pub few_digits : (n : ℕ) → n < 2 ^ 64 → length (decimal n) ≤ 20
+few_digits n small = length-decimal-le 20 n (omega arith) (omega arith) small
+
+pub few_job_digits : (job : ℕ) → job ≤ 99_999 → length (decimal job) ≤ 5
+few_job_digits job few = length-decimal-le 5 job (omega arith) (omega arith) (omega arith)

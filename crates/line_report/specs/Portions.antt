@@ -45,4 +45,5 @@ pub record HasLines (g : Parts) (x : Table) (from to : ℕ) (p : Formatted) : Ty
 abbrev pub HaveShares : Parts → Table → ℕ → ℕ → ℕ → List Formatted → Type 0
 HaveShares g x from to each portions =
     (i : ℕ) (d : Formatted) → i < length portions
-    → HasLines g x (share_start from to each i) (min (share_start from to each i + each) to) (slice_index_or portions i d)
+    → HasLines g x (share_start from to each i) (min (share_start from to each i + each) to)
+    (slice_index_or portions i d)

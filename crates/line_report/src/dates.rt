@@ -1,27 +1,17 @@
 //! The dates of all jobs at all stations, one line each: threads format them, portion by portion.
-ghost use Rattle.std.specs.Prelude.{◌≡◌, ◌+◌, ◌-◌, ◌*◌, ◌<◌, ◌≤◌, ◌∷◌, [], decimal, length, min};
+ghost use Rattle.std.specs.Prelude.{◌≡◌, ◌+◌, ◌-◌, ◌*◌, ◌<◌, ◌≤◌, length, min};
 ghost use Rattle.event_graph.specs.Network.{stations, jobs};
 ghost use Rattle.event_graph.specs.Table.{date_in};
 ghost use Rattle.line_io.specs.Outgoing.{Pushed, stream};
 ghost use Rattle.line_report.specs.Portions.{HasLines, HaveShares, share_start, numbered_line, numbered_lines};
-ghost use Rattle.line_report.specs.ReportText.{line, date_lines};
+ghost use Rattle.line_report.specs.ReportText.{date_lines};
 
 use crate::portion::{Portion, fitting_lines};
 use event_graph::Graph;
-use fan_out::for_each_mut;
-use line_base::Date;
+use line_base::for_each_mut;
 use line_core::Table;
 use line_io::{Outgoing, Sink};
 use std::thread::Threads;
-
-/// Writes the date of a job at the station with this label.
-fn write_date<K: Sink>(out: &mut Outgoing, sink: &mut K, label: &[u8], job: u32, date: Date)
-    ensures { Pushed (stream (K.shown sink.old) out.old)
-        (stream (K.shown sink.new) out.new) (line (label.now ∷ decimal job ∷ decimal date ∷ [])) }
-{
-    out.push(sink, label);
-    out.push_last_two_numbers(sink, job as u64, date);
-}
 
 /// Writes the line of a number.
 fn write_line<K: Sink>(out: &mut Outgoing, sink: &mut K, graph: &Graph, table: &Table, i: u32)
@@ -33,7 +23,8 @@ fn write_line<K: Sink>(out: &mut Outgoing, sink: &mut K, graph: &Graph, table: &
     let jobs = graph.jobs();
     let t = i / jobs;
     let job = i % jobs + 1;
-    write_date(out, sink, graph.label(t), job, table.date(t, job));
+    out.push(sink, graph.label(t));
+    out.push_last_two_numbers(sink, job as u64, table.date(t, job));
 }
 
 /// Writes the lines from number `from` on and below number `to`.

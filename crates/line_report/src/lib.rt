@@ -11,7 +11,9 @@ mod report;
 mod run;
 mod summary;
 mod totals;
+mod words;
 
 pub use laws::schedules_agree;
 pub use report::Report;
 pub use totals::write_bound;
+pub use words::{write_number_behind, write_number_line};

@@ -3,7 +3,7 @@ ghost use Rattle.std.specs.Prelude.{◌≡◌, ◌+◌, ◌%◌, ◌<◌, ◌≤
 ghost use Rattle.line_base.specs.Text.{is_label};
 ghost use Rattle.line_report.specs.Portions.{start_text};
 
-use itoa::write_digits;
+use crate::line_end::write_number_and;
 use std::marker::Model;
 
 /// The bytes of a start: no less than a label, the number of a job and two spaces have.
@@ -39,21 +39,6 @@ impl Model for LineStart {
         × (take s.end s.text ≡ take (s.label + 1) s.text ++ (decimal s.job ++ codes " ")) };
 }
 
-/// How many digits the number of a job has.
-fn digit_count(job: u32) -> usize
-    requires { job ≤ MAX_JOB }
-    ensures count { result ≡ length (decimal job) }
-    ensures few { result ≤ 5 }
-{
-    match job {
-        0..=9 => 1,
-        10..=99 => 2,
-        100..=999 => 3,
-        1_000..=9_999 => 4,
-        _ => 5,
-    }
-}
-
 /// Writes the number of a job and a space from `at` on, and answers where they end.
 fn write_job(text: &mut [u8], at: usize, job: u32) -> usize
     requires job { job ≤ MAX_JOB }
@@ -61,10 +46,7 @@ fn write_job(text: &mut [u8], at: usize, job: u32) -> usize
     ensures written { take result text.new ≡ take at text.old ++ (decimal job ++ codes " ") }
     ensures end { result ≤ at + 6 }
 {
-    let end = at + digit_count(job);
-    let _ = write_digits(u64::from(job), text, end);
-    text[end] = b' ';
-    end + 1
+    write_number_and(text, at, job as u64, b' ')
 }
 
 /// Raises the last digit of the number of a job, which ends with a space at `end`.

@@ -7,6 +7,7 @@ ghost use Rattle.line_report.specs.ReportText.{stage_line, backlog_line, observe
 ghost use Rattle.line_report.specs.Reported.{IsOfRun};
 
 use crate::run::FinishedRun;
+use crate::words::write_number_behind;
 use line_base::Date;
 use line_io::{Outgoing, Sink};
 use line_stats::{backlog, in_move, in_process, in_stock};
@@ -19,22 +20,27 @@ fn write_stage<K: Sink>(out: &mut Outgoing, sink: &mut K, run: &FinishedRun, at:
         (stream (K.shown sink.new) out.new) (stage_line run.now.plant (date_in run.now.table.rows) at stage) }
 {
     let part = &run.plant.stages.as_slice()[stage as usize];
-    out.push(sink, b"at ");
-    out.push_number(sink, at);
+    write_number_behind(out, sink, b"at ", at);
     out.push(sink, b" ");
     out.push(sink, part.name.text());
-    out.push(sink, b" process ");
-    out.push_number(sink, in_process(&run.numbers, &run.table, stage, at) as u64);
+    write_number_behind(
+        out,
+        sink,
+        b" process ",
+        in_process(&run.numbers, &run.table, stage, at) as u64,
+    );
     if part.travel > 0 {
-        out.push(sink, b" move ");
-        out.push_number(
+        write_number_behind(
+            out,
             sink,
+            b" move ",
             in_move(&run.plant, &run.numbers, &run.table, stage, at) as u64,
         );
     }
-    out.push(sink, b" stock ");
-    out.push_number(
+    write_number_behind(
+        out,
         sink,
+        b" stock ",
         in_stock(&run.plant, &run.numbers, &run.table, stage, at) as u64,
     );
     out.push(sink, b"\n");
@@ -46,10 +52,13 @@ fn write_backlog<K: Sink>(out: &mut Outgoing, sink: &mut K, run: &FinishedRun, a
     ensures { Pushed (stream (K.shown sink.old) out.old)
         (stream (K.shown sink.new) out.new) (backlog_line run.now.plant (date_in run.now.table.rows) at) }
 {
-    out.push(sink, b"at ");
-    out.push_number(sink, at);
-    out.push(sink, b" backlog ");
-    out.push_number(sink, backlog(&run.numbers, &run.table, at) as u64);
+    write_number_behind(out, sink, b"at ", at);
+    write_number_behind(
+        out,
+        sink,
+        b" backlog ",
+        backlog(&run.numbers, &run.table, at) as u64,
+    );
     out.push(sink, b"\n");
 }
 

@@ -1,14 +1,13 @@
 //! Lines that a thread formats in a buffer of its own.
-ghost use Rattle.std.specs.Prelude.{◌≡◌, ◌+◌, ◌-◌, ◌*◌, ◌<◌, ◌≤◌, ◌++◌, ◌∷◌, [], decimal, length, take};
+ghost use Rattle.std.specs.Prelude.{◌≡◌, ◌+◌, ◌-◌, ◌*◌, ◌<◌, ◌≤◌, ◌++◌, ◌∷◌, [], decimal, length, take, IfOk};
 ghost use Rattle.event_graph.specs.Network.{stations, jobs};
 ghost use Rattle.event_graph.specs.Table.{date_in};
 ghost use Rattle.line_report.specs.Portions.{HasLines, job_lines, numbered_lines};
 ghost use Rattle.line_report.specs.ReportText.{line};
 
-use crate::line_end::{MAX_DIGITS, write_end};
+use crate::line_end::{MAX_DIGITS, digit_count, write_end};
 use crate::line_start::{LineStart, WIDTH};
 use event_graph::Graph;
-use itoa::Buffer;
 use line_base::Date;
 use line_core::Table;
 use std::alloc::{AllocError, Global};
@@ -124,7 +123,10 @@ fn write_lines(room: &mut [u8], graph: &Graph, table: &Table, from: u32, to: u32
 }
 
 /// The bytes that each of this many portions has room for.
-fn room_of(portions: u32) -> usize {
+fn room_of(portions: u32) -> usize
+    ensures least { ROOM ≤ result }
+    ensures most { result ≤ ROOM_OF_THREADS }
+{
     if portions > 1 { ROOM_OF_THREADS } else { ROOM }
 }
 
@@ -132,26 +134,24 @@ fn room_of(portions: u32) -> usize {
 /// with the greatest number of a job, and as the last date of the last station.
 pub fn fitting_lines(graph: &Graph, table: &Table, portions: u32) -> u32
     requires { table.now.graph ≡ graph.now }
+    ensures { 1 ≤ result }
 {
+    let stations = graph.stations();
     let mut longest = 0;
-    for t in 0..graph.stations() {
+    for t in 0..stations {
         longest = graph.label(t).len().max(longest);
     }
-    let mut digits = Buffer::new();
-    let job = digits.format(graph.jobs()).len();
-    let dates = table.dates(graph.stations() - 1);
+    let dates = table.dates(stations - 1);
     let last = dates.last().copied().unwrap_or(0);
-    let line = longest
-        .saturating_add(job)
-        .saturating_add(digits.format(last).len())
-        .saturating_add(3);
-    let most = room_of(portions).saturating_sub(MAX_LINE) / line;
-    u32::try_from(most).unwrap_or(u32::MAX)
+    let line = longest + digit_count(graph.jobs() as u64) + digit_count(last) + 3;
+    ((room_of(portions) - MAX_LINE) / line) as u32
 }
 
 impl Portion {
     /// One of this many portions, without lines yet. The other calls take no memory.
-    pub fn new(alloc: Global, portions: u32) -> Result<Portion, AllocError> {
+    pub fn new(alloc: Global, portions: u32) -> Result<Portion, AllocError>
+        ensures { IfOk result (λ portion. portion ≡ record { lines = []; end = 0 }) }
+    {
         Ok(Portion {
             room: vec![in alloc; 0; room_of(portions)]?,
             filled: 0,

@@ -1,10 +1,11 @@
-ghost use Rattle.std.specs.Prelude.{◌≡◌, ◌<◌, IfOk, length};
+ghost use Rattle.std.specs.Prelude.{◌≡◌, ◌+◌, ◌<◌, false, length, IfOk, OnOk};
 ghost use Rattle.event_graph.specs.Table.{date_in};
-ghost use Rattle.line_io.specs.Outgoing.{Pushed, stream};
+ghost use Rattle.line_io.specs.Outgoing.{Pushed, stream, emptied};
 ghost use Rattle.line_io.specs.SinkView.{WritesText};
 ghost use Rattle.line_report.specs.ReportText.{report};
 ghost use Rattle.line_report.specs.Reported.{IsReported, IsOfRun, Stays, AreOfPlant, report_of, summary_of};
 ghost use Rattle.line_report.specs.SummaryText.{summary};
+ghost use Rattle.plant_model.specs.Sound.{IsSound};
 
 use crate::dates::write_dates;
 use crate::observed::write_observed;
@@ -73,16 +74,45 @@ fn write_short_text<K: Sink>(out: &mut Outgoing, sink: &mut K, run: &FinishedRun
     write_end(out, sink, run);
 }
 
+/// Adds a portion for each of this many workers.
+fn add_portions(portions: &mut Vec<Portion>, alloc: Global, workers: u32) -> Result<(), AllocError>
+    ensures { OnOk result (length portions.new.items ≡ length portions.old.items + workers) }
+{
+    for _ in 0..workers {
+        portions.push(Portion::new(alloc, workers)?)?;
+    }
+    Ok(())
+}
+
 /// A portion for each worker, and one at least.
 fn portions_for(alloc: Global, workers: u32) -> Result<Vec<Portion>, AllocError>
     ensures { IfOk result (λ portions. 0 < length portions.items) }
 {
     let mut portions = Vec::new(alloc);
-    portions.push(Portion::new(alloc, workers)?)?;
-    for _ in 1..workers {
-        portions.push(Portion::new(alloc, workers)?)?;
+    match add_portions(&mut portions, alloc, workers.max(1)) {
+        Ok(()) => Ok(portions),
+        Err(error) => {
+            drop(portions);
+            Err(error)
+        }
     }
-    Ok(portions)
+}
+
+/// The numbers of a plant's stations, and the memory for writing: a buffer of one piece, and the portions.
+fn memory_for(
+    alloc: Global,
+    plant: &Plant,
+    workers: u32,
+) -> Result<(LineNumbers, Outgoing, Vec<Portion>), AllocError>
+    requires { IsSound plant.now }
+    ensures numbers { IfOk result (λ made. made.0 ≡ plant.now) }
+    ensures out { IfOk result (λ made. made.1 ≡ emptied false) }
+    ensures some { IfOk result (λ made. 0 < length made.2.items) }
+{
+    let out = Outgoing::new(alloc)?;
+    let numbers = LineNumbers::of(alloc, plant)?;
+    let portions = portions_for(alloc, workers)?;
+    Ok((numbers, out, portions))
 }
 
 impl Report {
@@ -102,24 +132,30 @@ impl Report {
         ensures least { IfOk result IsReported }
     {
         let _stations = table.stations();
-        let numbers = LineNumbers::of(alloc, &plant)?;
-        let run = FinishedRun {
-            plant,
-            numbers,
-            live,
-            table,
-        };
-        Ok(Report {
-            run,
-            out: Outgoing::new(alloc)?,
-            portions: portions_for(alloc, workers)?,
-        })
+        match memory_for(alloc, &plant, workers) {
+            Ok((numbers, out, portions)) => Ok(Report {
+                run: FinishedRun {
+                    plant,
+                    numbers,
+                    live,
+                    table,
+                },
+                out,
+                portions,
+            }),
+            Err(error) => {
+                drop(plant);
+                drop(live);
+                drop(table);
+                Err(error)
+            }
+        }
     }
 
     /// Writes the report to the sink, from its beginning: a line for each station and job, what stands in each stage at
     /// each date that is looked at, the peak of each stage, how long the jobs wait, and the last date. It goes out in
     /// pieces of 4,096 bytes and a last one that may be shorter. The lines of the dates are formatted by as many threads as
-    /// there are workers, and by one no thread is begun. After `Failed` a front of it was written. It takes no memory.
+    /// there are workers, and by one no thread is begun. After `Failed` a prefix of it was written. It takes no memory.
     pub fn write<R: Threads + Sync, K: Sink>(&mut self, rt: &R, sink: &mut K) -> Result<(), Failed>
         ensures puts { WritesText (K.shown sink.old) (K.shown sink.new) (report_of self.old) result }
         ensures stays { Stays self.old self.new }

@@ -9,6 +9,7 @@ ghost use Rattle.plant_model.specs.Graph.{graph};
 ghost use Rattle.plant_model.specs.Line.{stage_numbers};
 
 use crate::run::FinishedRun;
+use crate::words::{write_number_behind, write_number_line};
 use line_core::Table;
 use line_io::{Outgoing, Sink};
 use line_stats::{last, peak, waiting_total};
@@ -35,9 +36,10 @@ fn write_peak<K: Sink>(out: &mut Outgoing, sink: &mut K, run: &FinishedRun, stag
     let part = &run.plant.stages.as_slice()[stage as usize];
     out.push(sink, b"peak ");
     out.push(sink, part.name.text());
-    out.push(sink, b" ");
-    out.push_number(
+    write_number_behind(
+        out,
         sink,
+        b" ",
         peak(&run.plant, &run.numbers, &run.table, stage) as u64,
     );
     out.push(sink, b" of ");
@@ -63,12 +65,8 @@ fn write_totals<K: Sink>(out: &mut Outgoing, sink: &mut K, table: &Table)
         (stream (K.shown sink.new) out.new)
         (waiting_line table.now.graph (date_in table.now.rows) ++ last_line table.now.graph (date_in table.now.rows)) }
 {
-    out.push(sink, b"waiting ");
-    out.push_wide_number(sink, waiting_total(table));
-    out.push(sink, b"\n");
-    out.push(sink, b"last ");
-    out.push_number(sink, last(table));
-    out.push(sink, b"\n");
+    write_number_line(out, sink, b"waiting", waiting_total(table));
+    write_number_line(out, sink, b"last", last(table) as u128);
 }
 
 /// Writes how both texts end: the peaks of all stages, how long all jobs together wait, and the last date.

@@ -2,23 +2,18 @@ ghost use Rattle.std.specs.Prelude.{◌≡◌};
 ghost use Rattle.line_runs.specs.ResumeSlots.{of_checkpoint_error};
 
 use checkpoint::CheckpointError;
-use thiserror::Error;
 
 /// Why a run doesn't go on from what the slots of a disk hold.
-#[derive(Clone, Copy, Debug, PartialEq, Eq, Error)]
+#[derive(Clone, Copy)]
 pub enum ResumeError {
     /// No slot is open.
-    #[error("nothing is saved")]
     NothingSaved,
     /// What is saved is a text of no state that firings reach; this is the first thing that is
     /// wrong with it.
-    #[error("what is saved is no checkpoint: {0}")]
     Checkpoint(CheckpointError),
     /// A call of the disk failed; its count of faults rose.
-    #[error("the disk failed")]
     DiskFault,
     /// Memory ran out.
-    #[error("memory ran out")]
     NoMemory,
 }
 

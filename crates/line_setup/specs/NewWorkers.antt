@@ -8,8 +8,8 @@ use Rattle.line_worker.specs.Worker.{LineWorker, IsWorker, teams_of}
 use Rattle.line_worker.specs.Workers.{worker_at, live_of, begun_of, room_of, AreWorkers}
 
 -- what a new worker is
-pub record IsNewWorker (live : LiveGraph) (begun : State) (worker_count : ℕ) (room : Option ℕ) (worker_number : ℕ) (team : WorkTeam)
-    (c : LineWorker) : Type 0 where
+pub record IsNewWorker (live : LiveGraph) (begun : State) (worker_count : ℕ) (room : Option ℕ) (worker_number : ℕ)
+    (team : WorkTeam) (c : LineWorker) : Type 0 where
   pub worker : IsWorker c
   pub live_is : c.live ≡ live
   pub begun_is : c.begun ≡ begun
@@ -19,8 +19,8 @@ pub record IsNewWorker (live : LiveGraph) (begun : State) (worker_count : ℕ) (
   pub team_is : c.team ≡ team
 
 -- the workers of a line that begins with this state
-pub record AreNewWorkers (live : LiveGraph) (begun : State) (worker_count : ℕ) (room : Option ℕ) (workers : List LineWorker)
-    : Type 0 where
+pub record AreNewWorkers (live : LiveGraph) (begun : State) (worker_count : ℕ) (room : Option ℕ)
+    (workers : List LineWorker) : Type 0 where
   pub count : length workers ≡ worker_count
   pub whole : AreWorkers workers
   pub live_is : live_of workers ≡ live

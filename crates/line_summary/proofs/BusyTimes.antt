@@ -2,8 +2,8 @@
 use Rattle.std.proofs.Common.{◌≡◌, ℕ, zero, suc, ◌+◌, ◌-◌, ◌*◌, ◌<◌, ◌≤◌, Bool, cond, true, List, [], ◌∷◌, ◌++◌, length, get_or, take, refl, ap, ◌∙◌, inl, inr, arith}
 use Rattle.std.specs.List.{sum_by, range_with_len, flat_map}
 use Rattle.std.proofs.lemmas.Bool.{cases_lt, lt-ltb, le-ltb}
-use Rattle.std.proofs.lemmas.List.{get_or_append_left, get_or-map, length-map}
-use Rattle.std.proofs.lemmas.List.Concat.{length-flat_map, get_or-flat_map}
+use Rattle.std.proofs.lemmas.List.{get_or_append_left, get_or-map}
+use Rattle.std.proofs.lemmas.List.Concat.{get_or-flat_map}
 use Rattle.std.proofs.lemmas.List.Folds.{length-flat_map-take}
 use Rattle.std.proofs.lemmas.List.Elements.{All-contains}
 use Rattle.line_base.proofs.RangeLists.{Contains-head}
@@ -11,8 +11,7 @@ use Rattle.line_base.specs.declared.times.Times.{Times}
 use Rattle.line_base.specs.declared.times.Times.TheVariants.{Fixed}
 use Rattle.line_base.specs.Times.{time_at}
 use Rattle.plant_model.specs.declared.plant.Plant.{Plant}
-use Rattle.plant_model.specs.Stages.{Stage}
-use Rattle.plant_model.specs.Line.{stage_at, machine_at, machine_station, station_count, stations_of, no_stage, no_machine}
+use Rattle.plant_model.specs.Line.{stage_at, machine_at, machine_station, station_count, no_stage, no_machine}
 use Rattle.plant_model.specs.Graph.{worked, plain, onward, rows, times, stage_times, graph}
 use Rattle.plant_model.specs.Sound.{IsSound}
 use Rattle.event_graph.specs.Network.{jobs}
@@ -20,7 +19,7 @@ use Rattle.event_graph.specs.Table.{Table}
 use Rattle.event_graph.specs.Solves.{Solves}
 use Rattle.plant_model.proofs.LayoutStations.{last_machine-below}
 use Rattle.line_graph.proofs.Inputs.{in_machines}
-use Rattle.line_graph.proofs.Sizes.{sum_by-same, length-stage_times, length-times_of}
+use Rattle.line_graph.proofs.Sizes.{length-stage_times, length-times_of}
 use Rattle.line_graph.proofs.SolvesRows.{asked, Meets, Meets-solves}
 use Rattle.line_stats.specs.Counts.{last_date}
 use Rattle.line_stats.proofs.StandingParts.{date-le-last}

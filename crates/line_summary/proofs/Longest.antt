@@ -1,12 +1,11 @@
 -- The greatest of values that are looked at one after the other, and the first number that has it.
-use Rattle.std.proofs.Common.{◌≡◌, ℕ, zero, suc, ◌+◌, ◌-◌, ◌<◌, ◌≤◌, Bool, true, false, cond, refl, sym, ap, ◌∙◌, subst, inl, inr, arith}
+use Rattle.std.proofs.Common.{◌≡◌, ℕ, zero, suc, ◌+◌, ◌<◌, ◌≤◌, Bool, true, false, cond, refl, sym, ap, ◌∙◌, subst, inl, inr, arith}
 use Rattle.std.specs.Prelude.{find, unwrap_or, Some, ◌==◌}
 use Rattle.std.specs.List.{range_with_len}
 use Rattle.std.proofs.lemmas.Bool.{cases_lt, eq-eqb, ne_eqb}
 use Rattle.event_graph.specs.Firing.{greatest}
-use Rattle.event_graph.proofs.Greatest.{le-greatest, greatest-le}
+use Rattle.event_graph.proofs.Greatest.{greatest-le}
 use Rattle.line_stats.proofs.SameCounts.{All-numbers}
-use Rattle.std.proofs.lemmas.List.FromFn.{length-range_with_len, get_or-range_with_len}
 use Rattle.line_summary.specs.Waits.{first_of}
 use Rattle.line_stats.proofs.StandingParts.{at-range}
 

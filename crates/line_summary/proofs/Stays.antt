@@ -1,24 +1,22 @@
 -- Little's law, of any dates and of a plant's stages.
-use Rattle.std.proofs.Common.{◌≡◌, ℕ, zero, suc, ◌+◌, ◌-◌, ◌*◌, ◌<◌, ◌≤◌, Bool, cond, ltb, leb, List, [], ◌∷◌, length, refl, sym, ap, ◌∙◌, subst, Option, None, Some, inl, inr, arith}
+use Rattle.std.proofs.Common.{◌≡◌, ℕ, zero, suc, ◌+◌, ◌-◌, ◌*◌, ◌<◌, ◌≤◌, cond, ltb, leb, List, [], ◌∷◌, length, refl, sym, ap, ◌∙◌, subst, Option, None, Some, inl, inr, arith}
 use Rattle.std.specs.Prelude.{IfSome, ◌&&◌, All}
 use Rattle.std.specs.List.{sum_by, Contains, flat_map}
-use Rattle.std.proofs.lemmas.Bool.{cases_lt, lt-ltb, ne_eqb}
+use Rattle.std.proofs.lemmas.Bool.{cases_lt}
 use Rattle.std.proofs.lemmas.Bool.Decides.{nat_tests}
 use Rattle.std.proofs.lemmas.List.Elements.{All-head, All-tail, All-contains}
 use Rattle.std.proofs.lemmas.List.Sums.{sum_by-cons}
 use Rattle.live_check.proofs.Counts.{sum_by-range-add}
 use Rattle.line_graph.proofs.Sizes.{stations-graph}
-use Rattle.line_base.specs.declared.event.Arc.{Arc}
 use Rattle.line_base.specs.declared.event.Parts.{Parts}
-use Rattle.line_base.specs.declared.times.Times.{Times}
 use Rattle.line_base.proofs.RangeLists.{Contains-head}
 use Rattle.line_graph.proofs.Inputs.{in_stages, in_machines}
-use Rattle.line_graph.proofs.SolvesRows.{asked, Meets, Meets-solves}
+use Rattle.line_graph.proofs.SolvesRows.{Meets, Meets-solves}
 use Rattle.plant_model.proofs.SoundPlants.{IsSoundStage-sound}
 use Rattle.plant_model.specs.declared.plant.Plant.{Plant}
-use Rattle.plant_model.specs.Line.{stage_at, release, last_machine, machine_station, machine_numbers, deliver, station_count, receiver, starting}
+use Rattle.plant_model.specs.Line.{stage_at, release, last_machine, machine_station, machine_numbers, deliver, station_count}
 use Rattle.plant_model.specs.Bound.{bound}
-use Rattle.plant_model.specs.Graph.{Row, worked, plain, onward, machine_rows, times, rows, graph}
+use Rattle.plant_model.specs.Graph.{Row, worked, onward, machine_rows, times, rows, graph}
 use Rattle.plant_model.specs.Sound.{IsSound}
 use Rattle.plant_model.proofs.LayoutStations.{last_machine-below}
 use Rattle.event_graph.specs.Network.{jobs, stations}

@@ -1,5 +1,6 @@
 -- The text of a `Summary`, and what was read of a line beforehand.
 use Rattle.std.specs.Prelude.{◌≡◌, ℕ, List}
+use Rattle.line_base.specs.declared.event.Parts.{Parts}
 use Rattle.plant_model.specs.declared.plant.Plant.{Plant}
 use Rattle.plant_model.specs.Graph.{graph}
 use Rattle.plant_model.specs.Sound.{IsSound}
@@ -22,17 +23,17 @@ pub record IsOfPlant (p : Plant) (table : Dates) : Type 0 where
   pub sound : IsSound p
   pub of_plant : table.graph ≡ graph p
 
--- the percentiles of a plant's table
-pub record ArePercentiles (p : Plant) (x : Table) (r : Percentiles) : Type 0 where
-  pub p50 : r.p50 ≡ percentile (graph p) x 50
-  pub p90 : r.p90 ≡ percentile (graph p) x 90
-  pub p95 : r.p95 ≡ percentile (graph p) x 95
-  pub p99 : r.p99 ≡ percentile (graph p) x 99
-  pub at_once : r.at_once ≡ at_once (graph p) x
+-- the percentiles of a graph's table, and how many jobs don't wait
+pub record ArePercentiles (g : Parts) (x : Table) (r : Percentiles) : Type 0 where
+  pub p50 : r.p50 ≡ percentile g x 50
+  pub p90 : r.p90 ≡ percentile g x 90
+  pub p95 : r.p95 ≡ percentile g x 95
+  pub p99 : r.p99 ≡ percentile g x 99
+  pub at_once : r.at_once ≡ at_once g x
 
 -- what was read of a line is what its plant and its table say
 pub record IsRead (r : Reading) : Type 0 where
   pub line : IsLine r.plant r.numbers r.table
   pub figures : r.figures ≡ figures r.plant (date_in r.table.rows)
-  pub percentiles : ArePercentiles r.plant (date_in r.table.rows) r.percentiles
+  pub percentiles : ArePercentiles (graph r.plant) (date_in r.table.rows) r.percentiles
   pub uses : r.uses.items ≡ machine_uses r.plant

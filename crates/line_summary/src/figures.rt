@@ -11,7 +11,7 @@ use plant_model::{LineNumbers, Plant};
 
 /// The figures of a line that need no memory. A mean is a ratio of two of them: the mean wait is `waited` over
 /// `jobs`, the throughput `jobs` over `last`, and the mean number of parts in the line `parts` over `last`.
-#[derive(Clone, Copy, Debug, PartialEq, Eq)]
+#[derive(Clone, Copy)]
 pub struct Figures {
     /// How many jobs there are.
     pub jobs: u32,

@@ -3,7 +3,8 @@ ghost use Rattle.std.specs.List.Sorted.{IsNonDecreasing};
 ghost use Rattle.std.specs.Prelude.{◌≡◌, ◌==◌, ◌*◌, ◌<◌, ◌≤◌, ℕ, length, count_by, IfOk, IsPermutation};
 ghost use Rattle.event_graph.specs.Table.{date_in};
 ghost use Rattle.line_stats.specs.Between.{dates_until};
-ghost use Rattle.line_summary.specs.Waits.{waits, percentile, at_once};
+ghost use Rattle.line_summary.specs.Summarized.{ArePercentiles};
+ghost use Rattle.line_summary.specs.Waits.{waits, at_once};
 
 use line_base::{Date, MAX_DEMANDS};
 use line_core::Table;
@@ -62,11 +63,8 @@ fn percentiles_of(table: &Table, sorted: &[Date], zeros: u32) -> Percentiles
     requires sorted { IsPermutation (waits table.now.graph (date_in table.now.rows)) sorted.now }
     requires some { 1 ≤ length sorted.now }
     requires few { length sorted.now ≤ MAX_DEMANDS }
-    ensures p50 { result.p50 ≡ percentile table.now.graph (date_in table.now.rows) 50 }
-    ensures p90 { result.p90 ≡ percentile table.now.graph (date_in table.now.rows) 90 }
-    ensures p95 { result.p95 ≡ percentile table.now.graph (date_in table.now.rows) 95 }
-    ensures p99 { result.p99 ≡ percentile table.now.graph (date_in table.now.rows) 99 }
-    ensures given { result.at_once ≡ zeros }
+    requires zeros { zeros ≡ at_once table.now.graph (date_in table.now.rows) }
+    ensures { ArePercentiles table.now.graph (date_in table.now.rows) result }
 {
     let _stations = table.stations();
     Percentiles {
@@ -80,11 +78,7 @@ fn percentiles_of(table: &Table, sorted: &[Date], zeros: u32) -> Percentiles
 
 /// The percentiles of a table's waits, and how many jobs don't wait. The waits are sorted once.
 pub fn wait_percentiles(alloc: Global, table: &Table) -> Result<Percentiles, AllocError>
-    ensures p50 { IfOk result (λ r. r.p50 ≡ percentile table.now.graph (date_in table.now.rows) 50) }
-    ensures p90 { IfOk result (λ r. r.p90 ≡ percentile table.now.graph (date_in table.now.rows) 90) }
-    ensures p95 { IfOk result (λ r. r.p95 ≡ percentile table.now.graph (date_in table.now.rows) 95) }
-    ensures p99 { IfOk result (λ r. r.p99 ≡ percentile table.now.graph (date_in table.now.rows) 99) }
-    ensures at_once { IfOk result (λ r. r.at_once ≡ at_once table.now.graph (date_in table.now.rows)) }
+    ensures { IfOk result (ArePercentiles table.now.graph (date_in table.now.rows)) }
 {
     let _stations = table.stations();
     let mut list = waits(alloc, table)?;

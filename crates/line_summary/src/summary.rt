@@ -1,11 +1,14 @@
-ghost use Rattle.std.specs.Prelude.{◌≡◌, IfOk};
+ghost use Rattle.std.specs.Prelude.{◌≡◌, false, IfOk};
+ghost use Rattle.event_graph.specs.Table.{date_in};
+ghost use Rattle.line_io.specs.Outgoing.{emptied};
 ghost use Rattle.line_io.specs.SinkView.{WritesText};
 ghost use Rattle.line_stats.specs.PlantDates.{AreLeastDates, Stays};
-ghost use Rattle.line_summary.specs.Summarized.{IsOfPlant, text_of};
+ghost use Rattle.line_summary.specs.Machines.{machine_uses};
+ghost use Rattle.line_summary.specs.Summarized.{ArePercentiles, IsOfPlant, text_of};
 
 use crate::figures::Figures;
-use crate::machines::machine_uses;
-use crate::percentiles::wait_percentiles;
+use crate::machines::{MachineUse, machine_uses};
+use crate::percentiles::{Percentiles, wait_percentiles};
 use crate::texts::{Reading, write_text};
 use line_core::Table;
 use line_io::{Failed, Outgoing, Sink};
@@ -34,6 +37,26 @@ impl Model for Summary {
     ghost invariant = { λ s. IsRead s.line × IsLeastTable s.line.table × (s.out ≡ emptied false) };
 }
 
+/// What a summary has beside its plant and its table: the numbers of the stations, the percentiles of the waits, a
+/// record for each machine, and room for one piece of the text.
+fn memory_for(
+    alloc: Global,
+    plant: &Plant,
+    table: &Table,
+) -> Result<(LineNumbers, Percentiles, Vec<MachineUse>, Outgoing), AllocError>
+    requires { IsOfPlant plant.now table.now }
+    ensures numbers { IfOk result (λ made. made.0 ≡ plant.now) }
+    ensures percentiles { IfOk result (λ made. ArePercentiles table.now.graph (date_in table.now.rows) made.1) }
+    ensures uses { IfOk result (λ made. made.2.items ≡ machine_uses plant.now) }
+    ensures out { IfOk result (λ made. made.3 ≡ emptied false) }
+{
+    let percentiles = wait_percentiles(alloc, table)?;
+    let out = Outgoing::new(alloc)?;
+    let uses = machine_uses(alloc, plant)?;
+    let numbers = LineNumbers::of(alloc, plant)?;
+    Ok((numbers, percentiles, uses, out))
+}
+
 impl Summary {
     /// The summary of a sound plant and a table of its graph. It takes all memory that writing takes: the numbers of
     /// the stations, the waits, which it sorts once, a record for each machine, and room for one piece of the text.
@@ -44,25 +67,29 @@ impl Summary {
         ensures least { IfOk result AreLeastDates }
     {
         let _stations = table.stations();
-        let numbers = LineNumbers::of(alloc, &plant)?;
-        let figures = Figures::of(&plant, &numbers, &table);
-        let percentiles = wait_percentiles(alloc, &table)?;
-        let uses = machine_uses(alloc, &plant)?;
-        let out = Outgoing::new(alloc)?;
-        let line = Reading {
-            plant,
-            numbers,
-            table,
-            figures,
-            percentiles,
-            uses,
-        };
-        Ok(Summary { line, out })
+        match memory_for(alloc, &plant, &table) {
+            Ok((numbers, percentiles, uses, out)) => Ok(Summary {
+                line: Reading {
+                    figures: Figures::of(&plant, &numbers, &table),
+                    plant,
+                    numbers,
+                    table,
+                    percentiles,
+                    uses,
+                },
+                out,
+            }),
+            Err(error) => {
+                drop(plant);
+                drop(table);
+                Err(error)
+            }
+        }
     }
 
     /// Writes the summary to the sink, from its beginning: what the jobs wait, a line for each stage and each
     /// machine, and the busiest machine. It goes out in pieces of 4,096 bytes and a last one that may be shorter.
-    /// After `Failed` a front of it was written. It takes no memory.
+    /// After `Failed` a prefix of it was written. It takes no memory.
     pub fn write<K: Sink>(&mut self, sink: &mut K) -> Result<(), Failed>
         ensures puts { WritesText (K.shown sink.old) (K.shown sink.new) (text_of self.old) result }
         ensures stays { Stays self.old self.new }

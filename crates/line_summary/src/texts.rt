@@ -1,6 +1,6 @@
 //! The lines of a summary.
 ghost use Rattle.std.specs.List.{flat_map, range_with_len};
-ghost use Rattle.std.specs.Prelude.{◌≡◌, ◌<◌, ◌++◌, length, slice_index_or};
+ghost use Rattle.std.specs.Prelude.{◌≡◌, ◌<◌, ◌++◌, ◌^◌, length, slice_index_or};
 ghost use Rattle.event_graph.specs.Table.{date_in};
 ghost use Rattle.line_io.specs.Outgoing.{Pushed, stream};
 ghost use Rattle.line_summary.specs.Machines.{label_of};
@@ -17,7 +17,7 @@ use crate::waits::most_backlog;
 use line_base::Date;
 use line_core::Table;
 use line_io::{Outgoing, Sink};
-use line_report::write_bound;
+use line_report::{write_bound, write_number_behind, write_number_line};
 use line_stats::peak;
 use plant_model::{LineNumbers, Machine, Plant, bound_of};
 
@@ -34,19 +34,30 @@ pub struct Reading {
     pub uses: Vec<MachineUse>,
 }
 
+/// Writes words, and a ratio behind them.
+fn write_ratio<K: Sink>(out: &mut Outgoing, sink: &mut K, words: &[u8], part: u128, whole: u128)
+    requires { whole < 2 ^ 100 }
+    ensures { Pushed (stream (K.shown sink.old) out.old)
+        (stream (K.shown sink.new) out.new) (mean_words words.now part whole) }
+{
+    out.push(sink, words);
+    push_thousandths(out, sink, part, whole);
+}
+
 /// Writes how many jobs there are, the last date, and the throughput.
 fn write_jobs<K: Sink>(out: &mut Outgoing, sink: &mut K, jobs: u32, last: Date)
     ensures { Pushed (stream (K.shown sink.old) out.old)
         (stream (K.shown sink.new) out.new) (job_lines jobs last) }
 {
-    out.push(sink, b"jobs ");
-    out.push_number(sink, jobs as u64);
-    out.push(sink, b"\n");
-    out.push(sink, b"last ");
-    out.push_number(sink, last);
-    out.push(sink, b"\n");
-    out.push(sink, b"throughput ");
-    push_thousandths(out, sink, u128::from(jobs), u128::from(last));
+    write_number_line(out, sink, b"jobs", u128::from(jobs));
+    write_number_line(out, sink, b"last", u128::from(last));
+    write_ratio(
+        out,
+        sink,
+        b"throughput ",
+        u128::from(jobs),
+        u128::from(last),
+    );
     out.push(sink, b"\n");
 }
 
@@ -57,10 +68,8 @@ fn write_waits<K: Sink>(out: &mut Outgoing, sink: &mut K, figures: &Figures)
 {
     out.push(sink, b"wait mean ");
     push_thousandths(out, sink, figures.waited, u128::from(figures.jobs));
-    out.push(sink, b" most ");
-    out.push_number(sink, figures.most);
-    out.push(sink, b" job ");
-    out.push_number(sink, figures.worst as u64);
+    write_number_behind(out, sink, b" most ", figures.most);
+    write_number_behind(out, sink, b" job ", figures.worst as u64);
     out.push(sink, b"\n");
 }
 
@@ -69,14 +78,10 @@ fn write_percentiles<K: Sink>(out: &mut Outgoing, sink: &mut K, waits: &Percenti
     ensures { Pushed (stream (K.shown sink.old) out.old) (stream (K.shown sink.new) out.new)
         (percentile_line waits.now.p50 waits.now.p90 waits.now.p95 waits.now.p99) }
 {
-    out.push(sink, b"wait p50 ");
-    out.push_number(sink, waits.p50);
-    out.push(sink, b" p90 ");
-    out.push_number(sink, waits.p90);
-    out.push(sink, b" p95 ");
-    out.push_number(sink, waits.p95);
-    out.push(sink, b" p99 ");
-    out.push_number(sink, waits.p99);
+    write_number_behind(out, sink, b"wait p50 ", waits.p50);
+    write_number_behind(out, sink, b" p90 ", waits.p90);
+    write_number_behind(out, sink, b" p95 ", waits.p95);
+    write_number_behind(out, sink, b" p99 ", waits.p99);
     out.push(sink, b"\n");
 }
 
@@ -85,10 +90,8 @@ fn write_at_once<K: Sink>(out: &mut Outgoing, sink: &mut K, count: u32, jobs: u3
     ensures { Pushed (stream (K.shown sink.old) out.old)
         (stream (K.shown sink.new) out.new) (at_once_line count jobs) }
 {
-    out.push(sink, b"at once ");
-    out.push_number(sink, count as u64);
-    out.push(sink, b" of ");
-    out.push_number(sink, jobs as u64);
+    write_number_behind(out, sink, b"at once ", count as u64);
+    write_number_behind(out, sink, b" of ", jobs as u64);
     out.push(sink, b"\n");
 }
 
@@ -97,10 +100,8 @@ fn write_backlog<K: Sink>(out: &mut Outgoing, sink: &mut K, sum: u128, last: Dat
     ensures { Pushed (stream (K.shown sink.old) out.old)
         (stream (K.shown sink.new) out.new) (backlog_line sum last most) }
 {
-    out.push(sink, b"backlog mean ");
-    push_thousandths(out, sink, sum, u128::from(last));
-    out.push(sink, b" most ");
-    out.push_number(sink, most as u64);
+    write_ratio(out, sink, b"backlog mean ", sum, u128::from(last));
+    write_number_behind(out, sink, b" most ", most as u64);
     out.push(sink, b"\n");
 }
 
@@ -109,8 +110,7 @@ fn write_parts<K: Sink>(out: &mut Outgoing, sink: &mut K, sum: u128, last: Date)
     ensures { Pushed (stream (K.shown sink.old) out.old)
         (stream (K.shown sink.new) out.new) (parts_line sum last) }
 {
-    out.push(sink, b"wip mean ");
-    push_thousandths(out, sink, sum, u128::from(last));
+    write_ratio(out, sink, b"wip mean ", sum, u128::from(last));
     out.push(sink, b"\n");
 }
 
@@ -131,15 +131,6 @@ fn write_head<K: Sink>(out: &mut Outgoing, sink: &mut K, line: &Reading)
     write_parts(out, sink, figures.parts, figures.last);
 }
 
-/// Writes a word, and a mean behind it.
-fn write_mean<K: Sink>(out: &mut Outgoing, sink: &mut K, word: &[u8], sum: u128, last: Date)
-    ensures { Pushed (stream (K.shown sink.old) out.old)
-        (stream (K.shown sink.new) out.new) (mean_words word.now sum last) }
-{
-    out.push(sink, word);
-    push_thousandths(out, sink, sum, u128::from(last));
-}
-
 /// Writes the mean parts of a stage in process, on their travel and in stock, and its peak with its bound.
 fn write_stage<K: Sink>(out: &mut Outgoing, sink: &mut K, line: &Reading, stage: u32)
     requires line { IsRead line.now }
@@ -151,12 +142,13 @@ fn write_stage<K: Sink>(out: &mut Outgoing, sink: &mut K, line: &Reading, stage:
     let sums = stage_sums(&line.plant, &line.numbers, &line.table, stage, last);
     out.push(sink, b"stage ");
     write_stage_name(out, sink, &line.plant, stage);
-    write_mean(out, sink, b" process ", sums.process, last);
-    write_mean(out, sink, b" move ", sums.moving, last);
-    write_mean(out, sink, b" stock ", sums.stock, last);
-    out.push(sink, b" peak ");
-    out.push_number(
+    write_ratio(out, sink, b" process ", sums.process, u128::from(last));
+    write_ratio(out, sink, b" move ", sums.moving, u128::from(last));
+    write_ratio(out, sink, b" stock ", sums.stock, u128::from(last));
+    write_number_behind(
+        out,
         sink,
+        b" peak ",
         peak(&line.plant, &line.numbers, &line.table, stage) as u64,
     );
     out.push(sink, b" of ");
@@ -237,12 +229,11 @@ fn write_machine<K: Sink>(
 {
     out.push(sink, b"machine ");
     write_label(out, sink, plant, of);
-    out.push(sink, b" servers ");
-    out.push_number(sink, of.servers as u64);
-    out.push(sink, b" busy ");
-    push_thousandths(
+    write_number_behind(out, sink, b" servers ", of.servers as u64);
+    write_ratio(
         out,
         sink,
+        b" busy ",
         u128::from(of.busy),
         u128::from(of.servers) * u128::from(last),
     );

@@ -126,7 +126,8 @@ pub record AreOfBurst (order : List ℕ) (target : ℕ) (old new : WorkTeam) (sw
 -- all of them as many; each that was ready fired
 pub record HasBurst (target : ℕ) (old new : WorkTeam) : Type 0 where
   pub worked : TeamWorked old new
-  pub few : (i : ℕ) → i < length old.stations → (member new.stations i).turns ≤ (member old.stations i).turns + most_sweeps
+  pub few : (i : ℕ) → i < length old.stations →
+      (member new.stations i).turns ≤ (member old.stations i).turns + most_sweeps
   pub even : (i j : ℕ) → i < length old.stations → j < length old.stations →
       (member new.stations i).turns + (member old.stations j).turns ≡
       (member new.stations j).turns + (member old.stations i).turns
@@ -142,7 +143,8 @@ pub record HasBurst (target : ℕ) (old new : WorkTeam) : Type 0 where
 pub record HasBurstAlone (times : ℕ) (old new : LineWorker) : Type 0 where
   pub alone : IsAlone new (min (times + most_sweeps) old.target)
   pub turns : (i : ℕ) → i < length old.team.stations →
-      (member new.team.stations i).turns + times ≡ (member old.team.stations i).turns + min (times + most_sweeps) old.target
+      (member new.team.stations i).turns + times ≡
+      (member old.team.stations i).turns + min (times + most_sweeps) old.target
 
 -- this many sweeps of a burst were made, and before each some station was not done
 pub record IsBursting (old now : LineWorker) (sweeps : ℕ) : Type 0 where

@@ -50,7 +50,8 @@ pub record AreWorkers (workers : List LineWorker) : Type 0 where
   pub numbers : (w : ℕ) → w < length workers → (worker_at workers w).worker_number ≡ w
   pub lives : (w : ℕ) → w < length workers → (worker_at workers w).live ≡ live_of workers
   pub begun : (w : ℕ) → w < length workers → (worker_at workers w).begun ≡ begun_of workers
-  pub joined : (a : ℕ) → a < arc_count (graph_of workers) → IsJoined (graph_of workers) (begun_of workers) (teams_of workers) a
+  pub joined : (a : ℕ) → a < arc_count (graph_of workers) →
+      IsJoined (graph_of workers) (begun_of workers) (teams_of workers) a
   pub kinds : (w : ℕ) → w < length workers → (worker_at workers w).room ≡ room_of workers
   pub some_room : IfSome (room_of workers) (λ room. 1 ≤ room)
   pub rooms : AreOfRoom (room_of workers) (graph_of workers) (teams_of workers)
@@ -94,7 +95,8 @@ pub record MayGoOn (live : LiveGraph) (c : LineWorker) : Type 0 where
 -- the worker went on with the burst in which it was, by one round
 abbrev pub HasGoneOn : LineWorker → LineWorker → Type 0
 HasGoneOn before after =
-    (old : LineWorker) (sweeps : ℕ) → sweeps < most_sweeps → IsAtWork old before sweeps → IsAtWork old after (sweeps + 1)
+    (old : LineWorker) (sweeps : ℕ) → sweeps < most_sweeps → IsAtWork old before sweeps →
+    IsAtWork old after (sweeps + 1)
 
 -- the worker made one sweep in its order where some station of it was not done, and else is as it was
 pub record HasSweptIfUndone (old new : LineWorker) : Type 0 where

@@ -26,7 +26,9 @@ abbrev pub copies_among : Parts → List WorkTeam → List RoomyLog
 copies_among g teams = first_logs (copy_of (jobs g)) g teams (stations g)
 
 -- these are what this gives of the stations of the first workers, up to this number, with room for those of all
-pub record AreGiven (of : WorkStation → RoomyLog) (workers : List LineWorker) (count : ℕ) (given : RoomyLogs) : Type 0 where
+pub record AreGiven (of : WorkStation → RoomyLog) (workers : List LineWorker) (count : ℕ) (given : RoomyLogs)
+    : Type 0 where
   pub logs : given.logs ≡
-      first_logs of (graph_of workers) (teams_of workers) (first_of (length workers) (stations (graph_of workers)) count)
+      first_logs of (graph_of workers) (teams_of workers)
+      (first_of (length workers) (stations (graph_of workers)) count)
   pub room : stations (graph_of workers) ≤ given.room

@@ -89,7 +89,8 @@ dates_at l t = length (log l.state t)
 
 -- one worker has both stations
 abbrev pub AreOfOneWorker : WorkLine → ℕ → ℕ → Type 0
-AreOfOneWorker l t u = worker_of l.worker_count (stations l.live.graph) u ≡ worker_of l.worker_count (stations l.live.graph) t
+AreOfOneWorker l t u =
+    worker_of l.worker_count (stations l.live.graph) u ≡ worker_of l.worker_count (stations l.live.graph) t
 
 -- what station t did in a burst: it made as many turns as the burst has sweeps, or fewer where all stations of its worker
 -- are done, and as many as each of them; in a turn it made one firing at most
@@ -107,7 +108,8 @@ abbrev pub EachWorks : WorkLine → WorkLine → Type 0
 EachWorks old new = (t : ℕ) → t < stations old.live.graph → WorksAt old new t
 
 -- a new line of this many workers, with rings of this room, which stands for this state
-pub record StandsIn (room : Option ℕ) (live : LiveGraph) (state : State) (worker_count : ℕ) (l : WorkLine) : Type 0 where
+pub record StandsIn (room : Option ℕ) (live : LiveGraph) (state : State) (worker_count : ℕ) (l : WorkLine)
+    : Type 0 where
   pub live_is : l.live ≡ live
   pub state_is : l.state ≡ state
   pub workers_are : l.worker_count ≡ worker_count

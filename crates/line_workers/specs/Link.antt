@@ -35,7 +35,8 @@ link_of g worker_count a = record {
 
 -- one worker has both stations of arc a
 abbrev pub IsInside : Parts → ℕ → ℕ → Type 0
-IsInside g worker_count a = worker_of worker_count (stations g) (arc g a).from ≡ worker_of worker_count (stations g) (arc g a).to
+IsInside g worker_count a =
+    worker_of worker_count (stations g) (arc g a).from ≡ worker_of worker_count (stations g) (arc g a).to
 
 -- arc a leads from one worker to another
 abbrev pub is_between : Parts → ℕ → ℕ → Bool
@@ -80,12 +81,15 @@ pub record IsRing (workers : List LineWorker) (link : Link) : Type 0 where
 
 -- the ends that stand there met
 pub record HaveMet (link : Link) (old new : List LineWorker) : Type 0 where
-  pub only : new ≡ slice_set (slice_set old link.from.worker_number (worker_at new link.from.worker_number)) link.to.worker_number
+  pub only : new ≡
+      slice_set (slice_set old link.from.worker_number (worker_at new link.from.worker_number)) link.to.worker_number
       (worker_at new link.to.worker_number)
   pub from_same : IsSameWorker (worker_at old link.from.worker_number) (worker_at new link.from.worker_number)
   pub to_same : IsSameWorker (worker_at old link.to.worker_number) (worker_at new link.to.worker_number)
   pub from : OutletMet link.from.number link.output (worker_at old link.from.worker_number).team
       (worker_at new link.from.worker_number).team
-  pub to : InletMet link.to.number link.input (worker_at old link.to.worker_number).team (worker_at new link.to.worker_number).team
+  pub to :
+      InletMet link.to.number link.input (worker_at old link.to.worker_number).team
+      (worker_at new link.to.worker_number).team
   pub met : AreMet (outlet_at (seated_at new link.from).outlets link.output)
       (input_at (seated_at new link.to).inputs link.input).inlet

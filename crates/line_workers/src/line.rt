@@ -65,7 +65,7 @@ impl Model for Line {
 }
 
 /// What came of a burst.
-#[derive(Clone, Copy, Debug, PartialEq, Eq)]
+#[derive(Clone, Copy)]
 pub struct Burst {
     /// How many firings were made.
     pub fired: u64,

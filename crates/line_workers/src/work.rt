@@ -2,7 +2,7 @@ ghost use Rattle.std.specs.Prelude.{ℕ, ◌<◌, ◌≤◌, ◌↔◌, length, 
 ghost use Rattle.line_worker.specs.Workers.{worker_at, HasDoneBurst, IsReadyFor, MayGoOn, HasGoneOn};
 
 use crate::pace::{Pace, PacedGate, Waits};
-use fan_out::for_each_mut;
+use line_base::for_each_mut;
 use line_worker::{Gate, SWEEPS, Worker};
 use live_check::Live;
 use std::thread::Threads;

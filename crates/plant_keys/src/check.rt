@@ -6,19 +6,19 @@ ghost use Rattle.plant_model.specs.Refusals.{AnswersFirst, each};
 ghost use Rattle.plant_keys.specs.Code.{views, keys_of, key_of as key_seen};
 ghost use Rattle.plant_keys.specs.Keys.{has_stage_cards};
 ghost use Rattle.plant_keys.specs.Readers.{elements_of, is_filled};
-ghost use Rattle.plant_keys.specs.Walk.{has_kind, element_out, list_out, out_unless, may_be_number, out_of_range, absence_refusals, value_refusals, key_refusals, keys_refusals, table_refusals, machine_refusals, stage_refusals, loop_refusals, walk, refused_name, refused_type};
+ghost use Rattle.plant_keys.specs.Walk.{has_kind, element_out, list_out, may_be_number, out_of_range, absence_refusals, value_refusals, key_refusals, keys_refusals, table_refusals, machine_refusals, stage_refusals, loop_refusals, walk};
 ghost use Rattle.toml.specs.View.{view};
 
 use crate::keys::{
     Class, Key, Kind, has_stage_cards, loop_keys, machine_keys, stage_keys, top_keys,
 };
+use crate::refuse::refuse_unless;
 use crate::rules::{is_policy, keeps_name_rule};
 use crate::unknown::check_known;
 use crate::values::{
-    elements_of, is_list_of_numbers, is_list_of_tables, is_number, is_text, is_within, tables_at,
-    tables_of, text_of, value_at,
+    Element, elements_of, is_list_of, is_within, tables_at, tables_of, text_of, value_at,
 };
-use plant_model::{FileTable, PlantError, element_place, key_place};
+use plant_model::{FileTable, PlantError, element_place};
 use std::alloc::Global;
 use toml::Value;
 
@@ -119,11 +119,14 @@ impl Search {
         ensures { AnswersFirst result
             (absence_refusals self.now.class key.now.required (key_of table key.now.name.now)) }
     {
-        if self.class != Class::MissingKeys || !key.required {
-            return Ok(());
-        }
-        let place = key_place(self.alloc, table, key.name)?;
-        Err(PlantError::Missing { place })
+        let may_be_absent = self.class != Class::MissingKeys || !key.required;
+        refuse_unless(
+            self.alloc,
+            Class::MissingKeys,
+            table,
+            key.name,
+            may_be_absent,
+        )
     }
 
     /// The first refusal of the class of what stands at a key.
@@ -133,23 +136,17 @@ impl Search {
     {
         match self.class {
             Class::UnknownKeys | Class::MissingKeys => Ok(()),
-            Class::WrongTypes => check_type(self.alloc, table, key, value),
-            Class::BadNames => check_name(self.alloc, table, key, value),
+            Class::WrongTypes => {
+                let is_well = has_kind(key.kind, value);
+                refuse_unless(self.alloc, Class::WrongTypes, table, key.name, is_well)
+            }
+            Class::BadNames => {
+                let is_well = keeps_name_rule(key.kind, text_of(value));
+                refuse_unless(self.alloc, Class::BadNames, table, key.name, is_well)
+            }
             Class::OutOfRanges => check_range(self.alloc, table, key, value),
         }
     }
-}
-
-/// Whether what stands at a key is of its kind.
-fn check_type(alloc: Global, table: FileTable, key: &Key, value: &Value) -> Result<(), PlantError>
-    ensures { AnswersFirst result
-        (refused_type key.now.kind (key_of table key.now.name.now) (view value.now)) }
-{
-    if has_kind(key.kind, value) {
-        return Ok(());
-    }
-    let place = key_place(alloc, table, key.name)?;
-    Err(PlantError::WrongType { place })
 }
 
 /// Whether a value is of a kind.
@@ -158,23 +155,11 @@ pub fn has_kind(kind: Kind, value: &Value) -> bool
 {
     match kind {
         Kind::PolicyWord | Kind::StageName | Kind::MachineName | Kind::FileName | Kind::StageText =>
-            is_text(value),
-        Kind::Number { .. } => is_number(value),
-        Kind::Numbers { .. } => is_list_of_numbers(value),
-        Kind::Tables { .. } => is_list_of_tables(value),
+            value.is_str(),
+        Kind::Number { .. } => value.is_integer(),
+        Kind::Numbers { .. } => is_list_of(Element::Number, value),
+        Kind::Tables { .. } => is_list_of(Element::Table, value),
     }
-}
-
-/// Whether the text at a key keeps the rule of what it names.
-fn check_name(alloc: Global, table: FileTable, key: &Key, value: &Value) -> Result<(), PlantError>
-    ensures { AnswersFirst result
-        (refused_name key.now.kind (key_of table key.now.name.now) (view value.now)) }
-{
-    if keeps_name_rule(key.kind, text_of(value)) {
-        return Ok(());
-    }
-    let place = key_place(alloc, table, key.name)?;
-    Err(PlantError::BadName { place })
 }
 
 /// Whether what stands at a key is within its limits.
@@ -183,17 +168,21 @@ fn check_range(alloc: Global, table: FileTable, key: &Key, value: &Value) -> Res
         (out_of_range key.now.kind (key_of table key.now.name.now) (view value.now)) }
 {
     match key.kind {
-        Kind::PolicyWord => { refuse_unless(alloc, table, key.name, is_policy(text_of(value))) }
+        Kind::PolicyWord => {
+            let is_right = is_policy(text_of(value));
+            refuse_unless(alloc, Class::OutOfRanges, table, key.name, is_right)
+        }
         Kind::StageName | Kind::MachineName | Kind::FileName | Kind::StageText => Ok(()),
         Kind::Number { least, most } => {
-            refuse_unless(alloc, table, key.name, may_be_number(value, least, most))
+            let is_right = may_be_number(value, least, most);
+            refuse_unless(alloc, Class::OutOfRanges, table, key.name, is_right)
         }
         Kind::Numbers { most, may_be_empty } => {
             check_list(alloc, table, key.name, most, may_be_empty, value)
         }
         Kind::Tables { may_be_empty } => {
-            let has_right_size = has_right_size(may_be_empty, tables_of(value));
-            refuse_unless(alloc, table, key.name, has_right_size)
+            let is_right = has_right_size(may_be_empty, tables_of(value));
+            refuse_unless(alloc, Class::OutOfRanges, table, key.name, is_right)
         }
     }
 }
@@ -211,7 +200,8 @@ fn check_list(
         (list_out most may_be_empty (key_of table name.now) (elements_of (view value.now))) }
 {
     let elements = elements_of(value);
-    refuse_unless(alloc, table, name, has_right_size(may_be_empty, elements))?;
+    let is_right = has_right_size(may_be_empty, elements);
+    refuse_unless(alloc, Class::OutOfRanges, table, name, is_right)?;
     check_numbers(alloc, table, name, most, elements)
 }
 
@@ -220,17 +210,6 @@ pub fn has_right_size(may_be_empty: bool, elements: &[Value]) -> bool
     ensures { result ≡ (may_be_empty || is_filled (views elements.now)) }
 {
     may_be_empty || !elements.is_empty()
-}
-
-/// Refuses what stands at a key, unless the test gives true.
-fn refuse_unless(alloc: Global, table: FileTable, name: &str, test: bool) -> Result<(), PlantError>
-    ensures { AnswersFirst result (out_unless test (key_of table name.now)) }
-{
-    if test {
-        return Ok(());
-    }
-    let place = key_place(alloc, table, name)?;
-    Err(PlantError::OutOfRange { place })
 }
 
 /// Whether a value, if it is a whole number, is one within limits.

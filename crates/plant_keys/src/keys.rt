@@ -10,7 +10,7 @@ use line_base::{MAX_CARDS, MAX_COLUMN, MAX_DEMAND_DATE, MAX_OBSERVE_DATE, MAX_TI
 use toml::Value;
 
 /// What stands at a key of a plant file.
-#[derive(Clone, Copy, Debug, PartialEq, Eq)]
+#[derive(Clone, Copy)]
 pub enum Kind {
     /// One of the four words for a policy.
     PolicyWord,
@@ -31,7 +31,7 @@ pub enum Kind {
 }
 
 /// Which of the refusals that a single key may meet is tried.
-#[derive(Clone, Copy, Debug, PartialEq, Eq)]
+#[derive(Clone, Copy, PartialEq, Eq)]
 pub enum Class {
     /// 2: a key is none of its table's, or may not be there beside the others, or without one of them.
     UnknownKeys,
@@ -174,7 +174,12 @@ pub fn has_column(top: &Value) -> bool
 fn any_stage_has_column(stages: &[Value]) -> bool
     ensures { result ≡ list_any (λ s. stage_has_column (view s)) stages.now }
 {
-    stages.iter().any(|stage| stage_has_column(stage))
+    for stage in stages {
+        if stage_has_column(stage) {
+            return true;
+        }
+    }
+    false
 }
 
 /// Whether a machine of a stage names a column.
@@ -189,7 +194,12 @@ fn stage_has_column(stage: &Value) -> bool
 fn any_has_column(machines: &[Value]) -> bool
     ensures { result ≡ list_any (λ m. has (codes "column") (view m)) machines.now }
 {
-    machines.iter().any(|machine| has(machine, "column"))
+    for machine in machines {
+        if has(machine, "column") {
+            return true;
+        }
+    }
+    false
 }
 
 /// The keys at the top, in byte order. The column of the demand file stays only where that file is named.

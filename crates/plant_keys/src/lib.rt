@@ -4,6 +4,7 @@
 mod check;
 mod keys;
 mod names;
+mod refuse;
 mod rules;
 mod unknown;
 mod values;

@@ -1,5 +1,5 @@
-ghost use Rattle.std.specs.List.{list_any, position_or_len};
-ghost use Rattle.std.specs.Prelude.{◌≡◌, ◌++◌, [], ◌∷◌, not, length, map, take, IfOk, OnOk, Ok, true, bytes_eq, position, codes};
+ghost use Rattle.std.specs.List.{position_or_len};
+ghost use Rattle.std.specs.Prelude.{◌≡◌, ◌++◌, [], ◌∷◌, length, map, take, OnOk, bytes_eq, position, codes};
 ghost use Rattle.plant_model.specs.Refusals.{AnswersFirst, each};
 ghost use Rattle.plant_keys.specs.Code.{GivesNames, views};
 ghost use Rattle.plant_keys.specs.Readers.{name_in, stage_names};
@@ -9,7 +9,7 @@ ghost use Rattle.toml.specs.View.{view};
 use crate::values::{tables_at, text_at};
 use indexmap::IndexSet;
 use plant_model::{FileTable, PlantError, key_place};
-use std::alloc::{AllocError, Global};
+use std::alloc::Global;
 use std::marker::Model;
 use toml::Value;
 
@@ -37,26 +37,60 @@ impl<'a> Names<'a> {
         }
     }
 
-    /// Adds a name at the end, if it differs from the others, and tells whether it does.
+    /// Adds a name of a table at the end, or refuses it where it is among those before.
     #[tactic(auto, using(crate::proofs::NameLists::list_any_texts, crate::proofs::NameLists::texts_more))]
-    fn add(&mut self, name: &'a str) -> Result<bool, AllocError>
-        ensures differs { IfOk result (λ is_new. is_new ≡ not (list_any (bytes_eq name.now) self.old)) }
-        ensures added { result ≡ Ok true → self.new ≡ self.old ++ name.now ∷ [] }
-    {
-        let (_, is_new) = self.set.insert_full(name)?;
-        Ok(is_new)
-    }
-
-    /// Adds the name that a table has to those before, or refuses it where it is among them.
     fn add_name(&mut self, alloc: Global, table: FileTable, name: &'a str) -> Result<(), PlantError>
         ensures first { AnswersFirst result (name_twice table self.old name.now) }
         ensures added { OnOk result (self.new ≡ self.old ++ name.now ∷ []) }
     {
-        if self.add(name)? {
+        let Ok((_, is_new)) = self.set.insert_full(name) else {
+            return Err(PlantError::NoMemory);
+        };
+        if is_new {
             return Ok(());
         }
         let place = key_place(alloc, table, "name")?;
         Err(PlantError::NameTwice { place })
+    }
+
+    /// Adds the names of these stages, or refuses the first name that an earlier one, or an earlier machine of the same
+    /// stage, has.
+    fn add_stages(&mut self, alloc: Global, stages: &'a [Value]) -> Result<(), PlantError>
+        requires { self.old ≡ [] }
+        ensures first { AnswersFirst result
+            (each (λ i s. stage_name_twice (take i (map name_in (views stages.now))) i (view s)) stages.now) }
+        ensures added { OnOk result (self.new ≡ map name_in (views stages.now)) }
+    {
+        for (i, stage) in stages.iter().enumerate() {
+            self.add_stage(alloc, i, stage)?;
+        }
+        Ok(())
+    }
+
+    /// Adds the name of stage `i` to those of the stages before, and looks at those of its machines.
+    fn add_stage(&mut self, alloc: Global, i: usize, stage: &'a Value) -> Result<(), PlantError>
+        ensures first { AnswersFirst result (stage_name_twice self.old i (view stage.now)) }
+        ensures added { OnOk result (self.new ≡ self.old ++ name_in (view stage.now) ∷ []) }
+    {
+        self.add_name(alloc, FileTable::InStage(i), text_at(stage, "name"))?;
+        Names::new(alloc).add_machines(alloc, i, tables_at(stage, "machine"))
+    }
+
+    /// Adds the names of these machines of stage `i`, or refuses the first that an earlier one has.
+    fn add_machines(
+        &mut self,
+        alloc: Global,
+        i: usize,
+        machines: &'a [Value],
+    ) -> Result<(), PlantError>
+        requires { self.old ≡ [] }
+        ensures { AnswersFirst result
+            (each (λ j m. machine_name_twice i (map name_in (views machines.now)) j (view m)) machines.now) }
+    {
+        for (j, machine) in machines.iter().enumerate() {
+            self.add_name(alloc, FileTable::InMachine(i, j), text_at(machine, "name"))?;
+        }
+        Ok(())
     }
 
     /// The number of a name; none where it isn't among these. It takes no memory.
@@ -92,44 +126,7 @@ impl<'a> Names<'a> {
 pub fn names_of_stages(alloc: Global, top: &Value) -> Result<Names<'_>, PlantError>
     ensures { GivesNames result (names_twice (view top.now)) (stage_names (view top.now)) }
 {
-    names_of(alloc, tables_at(top, "stage"))
-}
-
-/// The names of these stages, or the first name that an earlier stage, or an earlier machine of the same stage, has.
-fn names_of(alloc: Global, stages: &[Value]) -> Result<Names<'_>, PlantError>
-    ensures { GivesNames result
-        (each (λ i s. stage_name_twice (take i (map name_in (views stages.now))) i (view s)) stages.now)
-        (map name_in (views stages.now)) }
-{
     let mut names = Names::new(alloc);
-    for (i, stage) in stages.iter().enumerate() {
-        add_stage(alloc, &mut names, i, stage)?;
-    }
+    names.add_stages(alloc, tables_at(top, "stage"))?;
     Ok(names)
-}
-
-/// Adds the name of stage `i` to those of the stages before, and looks at those of its machines.
-fn add_stage<'a>(
-    alloc: Global,
-    names: &mut Names<'a>,
-    i: usize,
-    stage: &'a Value,
-) -> Result<(), PlantError>
-    ensures first { AnswersFirst result (stage_name_twice names.old i (view stage.now)) }
-    ensures added { OnOk result (names.new ≡ names.old ++ name_in (view stage.now) ∷ []) }
-{
-    names.add_name(alloc, FileTable::InStage(i), text_at(stage, "name"))?;
-    check_machine_names(alloc, i, tables_at(stage, "machine"))
-}
-
-/// Whether no two of these machines of stage `i` have one name.
-fn check_machine_names(alloc: Global, i: usize, machines: &[Value]) -> Result<(), PlantError>
-    ensures { AnswersFirst result
-        (each (λ j m. machine_name_twice i (map name_in (views machines.now)) j (view m)) machines.now) }
-{
-    let mut names = Names::new(alloc);
-    for (j, machine) in machines.iter().enumerate() {
-        names.add_name(alloc, FileTable::InMachine(i, j), text_at(machine, "name"))?;
-    }
-    Ok(())
 }

@@ -27,7 +27,7 @@ pub fn keeps_name_rule(kind: Kind, text: &str) -> bool
 pub fn is_policy(word: &str) -> bool
     ensures { result ≡ is_policy word.now }
 {
-    word == "kanban" || word == "conwip" || word == "base-stock" || word == "extended"
+    matches!(word, "kanban" | "conwip" | "base-stock" | "extended")
 }
 
 /// A key as places show it: one that has a character other than `A-Z a-z 0-9 _ -` is a question mark.
@@ -45,7 +45,12 @@ pub fn shown(key: &str) -> &str
 fn has_plain_bytes(key: &[u8]) -> bool
     ensures { result ≡ list_all is_plain key.now }
 {
-    key.iter().all(|byte| is_plain(*byte))
+    for byte in key {
+        if !is_plain(*byte) {
+            return false;
+        }
+    }
+    true
 }
 
 /// Whether a byte of a key can be shown.

@@ -7,9 +7,10 @@ ghost use Rattle.plant_keys.specs.Readers.{members_in};
 ghost use Rattle.plant_keys.specs.Walk.{unknown_key, unknown_keys};
 ghost use Rattle.toml.specs.View.{view, table_view};
 
-use crate::keys::Key;
+use crate::keys::{Class, Key};
+use crate::refuse::refuse_unless;
 use crate::rules::shown;
-use plant_model::{FileTable, PlantError, key_place};
+use plant_model::{FileTable, PlantError};
 use std::alloc::Global;
 use toml::Value;
 
@@ -47,11 +48,13 @@ fn check_members(
 fn check_member(alloc: Global, table: FileTable, name: &str, keys: &[Key]) -> Result<(), PlantError>
     ensures { AnswersFirst result (unknown_key table (keys_of keys.now) name.now) }
 {
-    if is_allowed(keys, name) {
-        return Ok(());
-    }
-    let place = key_place(alloc, table, shown(name))?;
-    Err(PlantError::UnknownKey { place })
+    refuse_unless(
+        alloc,
+        Class::UnknownKeys,
+        table,
+        shown(name),
+        is_allowed(keys, name),
+    )
 }
 
 /// Whether a key is one of these, and not excluded.
@@ -66,5 +69,10 @@ pub fn is_allowed(keys: &[Key], name: &str) -> bool
 fn is_among(keys: &[Key], name: &str) -> bool
     ensures { result ≡ list_any (λ k. bytes_eq k.name.now name.now && not k.excluded) keys.now }
 {
-    keys.iter().any(|key| key.name == name && !key.excluded)
+    for key in keys {
+        if key.name == name && !key.excluded {
+            return true;
+        }
+    }
+    false
 }

@@ -1,7 +1,7 @@
 ghost use Rattle.std.specs.List.{list_all};
 ghost use Rattle.std.specs.Prelude.{◌≡◌, option_map, map};
-ghost use Rattle.plant_keys.specs.Code.{views};
-ghost use Rattle.plant_keys.specs.Readers.{has, elements_of, is_table, is_number, is_text, is_list_of, is_within, text_of, text_at, tables_of, tables_at};
+ghost use Rattle.plant_keys.specs.Code.{views, is_element};
+ghost use Rattle.plant_keys.specs.Readers.{has, elements_of, is_list_of, is_within, text_of, text_at, tables_of, tables_at};
 ghost use Rattle.toml.specs.Data.{get};
 ghost use Rattle.toml.specs.View.{view};
 
@@ -51,57 +51,43 @@ pub fn elements_of(value: &Value) -> &[Value]
     }
 }
 
-/// Whether a value is a table.
-fn is_table(value: &Value) -> bool
-    ensures { result ≡ is_table (view value.now) }
-{
-    value.is_table()
+/// What each element of a list is.
+#[derive(Clone, Copy)]
+pub(crate) enum Element {
+    /// A whole number.
+    Number,
+    /// A table.
+    Table,
 }
 
-/// Whether a value is a whole number.
-pub(crate) fn is_number(value: &Value) -> bool
-    ensures { result ≡ is_number (view value.now) }
+/// Whether a value is an element of this kind.
+fn is_element(element: Element, value: &Value) -> bool
+    ensures { result ≡ is_element element (view value.now) }
 {
-    value.is_integer()
-}
-
-/// Whether all these values are tables.
-fn are_tables(values: &[Value]) -> bool
-    ensures { result ≡ list_all (λ v. is_table (view v)) values.now }
-{
-    values.iter().all(|value| is_table(value))
-}
-
-/// Whether all these values are whole numbers.
-fn are_numbers(values: &[Value]) -> bool
-    ensures { result ≡ list_all (λ v. is_number (view v)) values.now }
-{
-    values.iter().all(|value| is_number(value))
-}
-
-/// Whether a value is a text.
-pub(crate) fn is_text(value: &Value) -> bool
-    ensures { result ≡ is_text (view value.now) }
-{
-    value.is_str()
-}
-
-/// Whether a value is a list of tables.
-pub(crate) fn is_list_of_tables(value: &Value) -> bool
-    ensures { result ≡ is_list_of is_table (view value.now) }
-{
-    match value.as_array() {
-        Some(values) => are_tables(values.as_slice()),
-        None => false,
+    match element {
+        Element::Number => value.is_integer(),
+        Element::Table => value.is_table(),
     }
 }
 
-/// Whether a value is a list of whole numbers.
-pub(crate) fn is_list_of_numbers(value: &Value) -> bool
-    ensures { result ≡ is_list_of is_number (view value.now) }
+/// Whether all these values are elements of this kind.
+fn are_elements(element: Element, values: &[Value]) -> bool
+    ensures { result ≡ list_all (λ v. is_element element (view v)) values.now }
+{
+    for value in values {
+        if !is_element(element, value) {
+            return false;
+        }
+    }
+    true
+}
+
+/// Whether a value is a list of elements of this kind.
+pub(crate) fn is_list_of(element: Element, value: &Value) -> bool
+    ensures { result ≡ is_list_of (is_element element) (view value.now) }
 {
     match value.as_array() {
-        Some(values) => are_numbers(values.as_slice()),
+        Some(values) => are_elements(element, values.as_slice()),
         None => false,
     }
 }
@@ -110,7 +96,7 @@ pub(crate) fn is_list_of_numbers(value: &Value) -> bool
 pub fn tables_of(value: &Value) -> &[Value]
     ensures { views result.now ≡ tables_of (view value.now) }
 {
-    if is_list_of_tables(value) {
+    if is_list_of(Element::Table, value) {
         elements_of(value)
     } else {
         &[]

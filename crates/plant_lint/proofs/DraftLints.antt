@@ -1,5 +1,5 @@
 -- What lint says of a draft: the refusals of its faults, and that nothing is wrong where it says so.
-use Rattle.std.proofs.Common.{◌≡◌, ℕ, Bool, true, false, List, [], ◌∷◌, ◌++◌, map, Option, None, Some, refl, ap, ◌∙◌}
+use Rattle.std.proofs.Common.{◌≡◌, ℕ, List, [], ◌∷◌, ◌++◌, Option, None, Some, refl, ap, ◌∙◌}
 use Rattle.std.specs.Prelude.{unwrap_or, Result, Ok, Err, IfOk}
 use Rattle.std.specs.Option.{option_map_or}
 use Rattle.std.proofs.lemmas.List.{map-append, append-nil}
@@ -16,8 +16,7 @@ use Rattle.plant_lint.specs.declared.draft_lint.DraftLint.TheVariants as draft
 use Rattle.plant_lint.specs.declared.fault.Fault.{Fault}
 use Rattle.plant_lint.specs.declared.fault.Wants.{Wants}
 use Rattle.plant_lint.specs.declared.file.FileLint.TheVariants.{Sound}
-use Rattle.plant_lint.specs.DraftLints.{LintsDraft, LintsWhole}
-use Rattle.plant_lint.specs.Texts.{fault_lines}
+use Rattle.plant_lint.specs.DraftLints.{lines_if_any, LintsDraft, LintsWhole}
 use Rattle.plant_lint.specs.FileLints.{faults_or_notes}
 use Rattle.plant_lint.specs.Faults.{wanting, plain}
 use Rattle.plant_lint.specs.Laws.{errors}
@@ -51,18 +50,16 @@ pub good_record : {A : Type 0} (xs : List Fault) (what : Wants) (name : List ℕ
 good_record xs what name held read good = rw good (rw (append-nil xs) refl)
 
 -- a draft with bad records
-pub some_refused : {E : Type 0} (d : DraftPlant) (demands times : Option (List ℕ)) (faults : List Fault) (r : Result DraftLint E) → (faults ≡ [] → ⊥) → faults ≡ record_faults d demands times → IfOk r (λ lint. lint ≡ draft.Refused (fault_lines faults)) → IfOk r (LintsDraft d demands times)
-some_refused d demands times faults (Err e) some are is = tt
-some_refused d demands times [] (Ok lint) some are is = absurd (some refl)
-some_refused d demands times (fault ∷ faults) (Ok lint) some are is = rw is (rw (← are) refl)
+pub some_refused : (d : DraftPlant) (demands times : Option (List ℕ)) (faults : List Fault) (lines : List ℕ) → faults ≡ record_faults d demands times → Some lines ≡ lines_if_any faults → LintsDraft d demands times (draft.Refused lines)
+some_refused d demands times [] lines are is = absurd (cc is)
+some_refused d demands times (fault ∷ faults) lines are is = rw (← are) (cc is)
+
+pub none_found : (faults : List Fault) → None ≡ lines_if_any faults → faults ≡ []
+none_found [] is = refl
+none_found (fault ∷ faults) is = absurd (cc is)
 
 -- and one without
 pub none_bad : {E : Type 0} (d : DraftPlant) (demands times file : Option (List ℕ)) (p : Plant) (r : Result DraftLint E) → record_faults d demands times ≡ [] → file ≡ demands_file d → p ≡ plant_of_bytes d demands times → IfOk r (LintsWhole file p) → IfOk r (LintsDraft d demands times)
 none_bad d demands times file p (Err e) good named are is = tt
 none_bad d demands times file p (Ok (draft.Refused lines)) good named are is = rw good (rw (← named, ← are) is)
 none_bad d demands times file p (Ok (draft.Sound plant notes)) good named are is = rw good (rw (← named, ← are) is)
-
--- a test that gives true and false
-pub no_true : (b : Bool) → b ≡ true → b ≡ false → ⊥
-no_true true is not = cc not
-no_true false is not = cc is

@@ -1,6 +1,6 @@
 -- Lists of faults: of keys and values of the code beside those that they stand for, and one list after the other.
-use Rattle.std.proofs.Common.{◌≡◌, ℕ, ◌+◌, Bool, true, false, List, [], ◌∷◌, ◌++◌, map, take, length, Result, Ok, Err, OnOk, refl, ap, ◌∙◌, append_assoc}
-use Rattle.std.specs.Prelude.{⊤, ◌==◌, if◌then◌else◌, codes}
+use Rattle.std.proofs.Common.{◌≡◌, ℕ, ◌+◌, List, [], ◌∷◌, ◌++◌, map, take, length, Result, Ok, Err, OnOk, refl, ap, ◌∙◌, append_assoc}
+use Rattle.std.specs.Prelude.{⊤, codes}
 use Rattle.std.proofs.lemmas.List.{length-map}
 use Rattle.plant_model.specs.declared.error.PlantError.{PlantError}
 use Rattle.plant_model.specs.declared.place.FileTable.{FileTable}
@@ -12,10 +12,10 @@ use Rattle.toml.specs.declared.value.Value.{Value}
 use Rattle.plant_keys.specs.declared.keys.Class.{Class}
 use Rattle.plant_keys.specs.declared.keys.Key.{Key}
 use Rattle.plant_keys.specs.Code.{keys_of, key_of as key_seen, views}
-use Rattle.plant_keys.specs.Readers.{is_filled, name_in, stage_names, tables_at}
-use Rattle.plant_keys.specs.Walk.{element_out, list_out, name_twice, machine_name_twice, stage_name_twice, names_twice}
+use Rattle.plant_keys.specs.Readers.{name_in, stage_names, tables_at}
+use Rattle.plant_keys.specs.Walk.{name_twice, machine_name_twice, stage_name_twice, names_twice}
 use Rattle.plant_lint.specs.declared.fault.Wants.{Wants}
-use Rattle.plant_lint.specs.declared.fault.Wants.TheVariants.{Nothing, Between, AnElement}
+use Rattle.plant_lint.specs.declared.fault.Wants.TheVariants.{Nothing}
 use Rattle.plant_lint.specs.Faults.{wanting, plain, all_from, all_of}
 use Rattle.plant_lint.specs.Trees.{key_faults, keys_faults, feeds_faults, final_faults}
 
@@ -55,16 +55,6 @@ pub then_two : {A E : Type 0} (r : Result ⊤ E) (old mid late new xs ys zs : Li
 then_two r old mid late new xs ys zs before next here =
     then_more r old mid new xs (ys ++ zs) before (then_more r mid late new ys zs next here)
 
--- a list with an element is refused for its elements alone
-pub filled_list : (most : ℕ) (may_be_empty : Bool) (place : List ℕ) (vs : List Value) → false ≡ (length vs == 0) → wanting (if is_filled (views vs) then Between 0 most else AnElement) (list_out most may_be_empty place (views vs)) ≡ all_of (λ k v. wanting (Between 0 most) (element_out most place k (view v))) vs
-filled_list most may_be_empty place [] filled = cc
-filled_list most true place (v ∷ vs) filled =
-    wanting-each (Between 0 most) (element_out most place) (views (v ∷ vs))
-    ∙ all_of_views (λ k d. wanting (Between 0 most) (element_out most place k d)) (v ∷ vs)
-filled_list most false place (v ∷ vs) filled =
-    wanting-each (Between 0 most) (element_out most place) (views (v ∷ vs))
-    ∙ all_of_views (λ k d. wanting (Between 0 most) (element_out most place k d)) (v ∷ vs)
-
 -- the names of a stage and of its machines that stand twice
 pub stage_twice_faults : (seen : List (List ℕ)) (i : ℕ) (s : Data) (rows : List Value) → views rows ≡ tables_at (codes "machine") s → plain (stage_name_twice seen i s) ≡ plain (name_twice (InStage i) seen (name_in s)) ++ all_of (λ j m. plain (machine_name_twice i (map name_in (views rows)) j (view m))) rows
 stage_twice_faults seen i s rows is =
@@ -88,9 +78,8 @@ pub feeds_rows : (top : Data) (rows : List Value) → views rows ≡ tables_at (
 feeds_rows top rows are = rw (← are) (all_of_views (feeds_faults (map name_in (views rows))) rows)
 
 -- the stages but the last that feed none
-pub finals_rows : (top : Data) (rows : List Value) → views rows ≡ tables_at (codes "stage") top → all_of (final_faults (length (tables_at (codes "stage") top))) (tables_at (codes "stage") top) ≡ all_of (λ i s. final_faults (length rows) i (view s)) rows
-finals_rows top rows are =
-    rw (← are, length-map rows view) (all_of_views (final_faults (length rows)) rows)
+pub finals_rows : (top : Data) (rows : List Value) → views rows ≡ tables_at (codes "stage") top → all_of (final_faults (length (tables_at (codes "stage") top))) (tables_at (codes "stage") top) ≡ all_of (final_faults (length rows)) (views rows)
+finals_rows top rows are = rw (← are, length-map rows view) refl
 
 pub all_of_rows : {A : Type 0} (f : ℕ → Data → List A) (ds : List Data) (rows : List Value) → views rows ≡ ds → all_of f ds ≡ all_of (λ i s. f i (view s)) rows
 all_of_rows f ds rows are = rw (← are) (all_of_views f rows)

@@ -1,12 +1,16 @@
 -- One more step of a loop that gathers what a function gives for each of a list.
 use Rattle.std.proofs.Common.{◌≡◌, refl, ℕ, ◌+◌, ◌<◌, ◌≤◌, List, ◌++◌, length, get_or, drop, sym, ap, ◌∙◌, append-nil}
 use Rattle.std.proofs.lemmas.List.{drop_all}
-use Rattle.plant_refusals.proofs.Collecting.{one_more}
+use Rattle.plant_check.proofs.Collecting.{one_more}
 use Rattle.plant_lint.specs.Faults.{all_from, all_of}
 
 -- what is given for the elements below number i is added
 pub record Gathered {X A : Type 0} (f : ℕ → X → List A) (xs : List X) (i : ℕ) (old new : List A) : Type 0 where
   pub rest : old ++ all_of f xs ≡ new ++ all_from f i (drop i xs)
+
+-- nothing is added yet
+pub gathered_none : {X A : Type 0} (f : ℕ → X → List A) (xs : List X) (old : List A) → Gathered f xs 0 old old
+gathered_none f xs old = record { rest = refl }
 
 -- what is given for the next element is added too
 pub gathers : {X A : Type 0} (f : ℕ → X → List A) (xs : List X) (i : ℕ) (x : X) (old mid new : List A) → Gathered f xs i old mid → i < length xs → x ≡ get_or xs i x → new ≡ mid ++ f i x → Gathered f xs (i + 1) old new

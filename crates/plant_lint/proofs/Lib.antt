@@ -1,3 +1,4 @@
+pub mod ClassFaults
 pub mod Columns
 pub mod Examples
 pub mod FaultLists

@@ -55,6 +55,10 @@ same-push seen now names name before added =
           ∙ sym (list_any-append (bytes_eq q) names (name ∷ []));
     }
 
+-- no name came yet
+pub none_seen : (seen : List (List ℕ)) → seen ≡ [] → HaveSame seen []
+none_seen seen is = rw is (record { same = λ q. refl })
+
 -- the name of the next value came too
 pub seen_more : (vs : List Value) (j : ℕ) (x : Value) (seen now : List (List ℕ)) → HaveSame seen (take j (map name_in (views vs))) → HaveSame now (seen ++ name_in (view x) ∷ []) → j < length vs → x ≡ get_or vs j x → HaveSame now (take (j + 1) (map name_in (views vs)))
 seen_more vs j x seen now before added below is =

@@ -1,5 +1,5 @@
 -- What lint says of a draft, which nothing is wrong with by itself, and of the bytes of the files that it names.
-use Rattle.std.specs.Prelude.{◌≡◌, ℕ, List, [], ◌∷◌, Option}
+use Rattle.std.specs.Prelude.{◌≡◌, ℕ, List, [], ◌∷◌, Option, None, Some}
 use Rattle.plant_draft.specs.declared.draft.DraftPlant.{DraftPlant}
 use Rattle.plant_draft.specs.Draft.{demands_file}
 use Rattle.plant_file.specs.Finish.{plant_of_bytes}
@@ -18,6 +18,11 @@ use Rattle.plant_lint.specs.Texts.{fault_lines}
 abbrev pub faults_or : List Fault → FileLint → FileLint
 faults_or [] more = more
 faults_or (fault ∷ faults) more = Refused (fault_lines (fault ∷ faults))
+
+-- the lines of the faults, if there is one
+abbrev pub lines_if_any : List Fault → Option (List ℕ)
+lines_if_any [] = None
+lines_if_any (fault ∷ faults) = Some (fault_lines (fault ∷ faults))
 
 -- the bad records of its files, and where there is none what is said of its plant
 abbrev pub lint_of_draft : DraftPlant → Option (List ℕ) → Option (List ℕ) → FileLint

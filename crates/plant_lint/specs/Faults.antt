@@ -29,6 +29,10 @@ all_from f k (x ∷ xs) = f k x ++ all_from f (k + 1) xs
 abbrev pub all_of : {X A : Type 0} → (ℕ → X → List A) → List X → List A
 all_of f xs = all_from f 0 xs
 
+-- what is found in a row of a list, by its number
+abbrev pub RowFaults : Type 0
+RowFaults = ℕ → Data → List Fault
+
 -- what a value of a kind has to be
 abbrev pub wanted_type : Kind → Wants
 wanted_type PolicyWord = wants.AText

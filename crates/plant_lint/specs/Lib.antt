@@ -1,4 +1,5 @@
 pub mod Faults
+pub mod Classes
 pub mod Seen
 pub mod Trees
 pub mod Texts

@@ -2,9 +2,8 @@
 ghost use Rattle.std.specs.Prelude.{◌≡◌, ◌≤◌, [], IfOk, IfSome, is_some, length, option_copied, option_map};
 ghost use Rattle.line_base.specs.declared.limits.TheConstants.{MAX_CHECKPOINT_BYTES};
 ghost use Rattle.plant_draft.specs.Draft.{demands_file};
-ghost use Rattle.plant_lint.specs.DraftLints.{LintsDraft, LintsWhole};
+ghost use Rattle.plant_lint.specs.DraftLints.{lines_if_any, LintsDraft, LintsWhole};
 ghost use Rattle.plant_lint.specs.Records.{record_faults};
-ghost use Rattle.plant_lint.specs.Texts.{fault_lines};
 ghost use Rattle.plant_model.specs.Refusals.{all_feeds_not_later, whole_refusals};
 ghost use Rattle.plant_model.specs.Sound.{IsSound};
 
@@ -33,20 +32,45 @@ pub fn lint_draft(
     requires times_size { IfSome times (λ bytes. length bytes.now ≤ MAX_CHECKPOINT_BYTES) }
     ensures { IfOk result (LintsDraft draft (option_copied demands.entry) (option_copied times.entry)) }
 {
-    let faults = bad_records(alloc, &draft, demands, times)?;
-    if faults.is_empty() {
-        return lint_tables(alloc, draft, demands, times);
+    match refused_records(alloc, &draft, demands, times) {
+        Ok(None) => lint_tables(alloc, draft, demands, times),
+        Ok(Some(lines)) => {
+            drop(draft);
+            Ok(DraftLint::Refused { lines })
+        }
+        Err(AllocError) => {
+            drop(draft);
+            Err(AllocError)
+        }
     }
-    drop(draft);
-    refused(alloc, faults.as_slice())
 }
 
-/// That faults were found.
-fn refused(alloc: Global, faults: &[Fault]) -> Result<DraftLint, AllocError>
-    ensures { IfOk result (λ lint. lint ≡ DraftLint.Refused (fault_lines faults.now)) }
+/// The lines of the first bad record of each file that a draft names, where one is bad.
+fn refused_records(
+    alloc: Global,
+    draft: &Draft,
+    demands: Option<&[u8]>,
+    times: Option<&[u8]>,
+) -> Result<Option<Text>, AllocError>
+    requires { IfSome times (λ bytes. length bytes.now ≤ MAX_CHECKPOINT_BYTES) }
+    ensures { IfOk result (λ lines.
+        lines ≡ lines_if_any (record_faults draft.now (option_copied demands.entry) (option_copied times.entry))) }
 {
-    let lines = Text::from_string(lines_of(alloc, faults)?);
-    Ok(DraftLint::Refused { lines })
+    let faults = bad_records(alloc, draft, demands, times)?;
+    let lines = lines_if_any(alloc, faults.as_slice());
+    drop(faults);
+    lines
+}
+
+/// The lines of faults, if there is one.
+fn lines_if_any(alloc: Global, faults: &[Fault]) -> Result<Option<Text>, AllocError>
+    ensures { IfOk result (λ lines. lines ≡ lines_if_any faults.now) }
+{
+    if faults.is_empty() {
+        return Ok(None);
+    }
+    let lines = lines_of(alloc, faults)?;
+    Ok(Some(Text::from_string(lines)))
 }
 
 /// What lint says of a draft and of the bytes of the files that it names, of which no record is bad.
@@ -62,11 +86,37 @@ fn lint_tables(
     requires good { record_faults draft (option_copied demands) (option_copied times) ≡ [] }
     ensures { IfOk result (LintsDraft draft (option_copied demands.entry) (option_copied times.entry)) }
 {
-    let file = copy_of(alloc, draft.demands_file())?;
-    let Ok(plant) = assemble_plant(alloc, draft, demands, times) else {
-        return Err(AllocError);
-    };
-    lint_whole(alloc, text_in(&file), plant)
+    match copy_of(alloc, draft.demands_file()) {
+        Ok(file) => lint_assembled(alloc, text_in(&file), draft, demands, times),
+        Err(AllocError) => {
+            drop(draft);
+            Err(AllocError)
+        }
+    }
+}
+
+/// The same, where this is the name of the demand file, if the draft names one.
+fn lint_assembled(
+    alloc: Global,
+    file: Option<&str>,
+    draft: Draft,
+    demands: Option<&[u8]>,
+    times: Option<&[u8]>,
+) -> Result<DraftLint, AllocError>
+    requires named { option_map (λ name. name.now) file ≡ demands_file draft }
+    requires demands_where_used { is_some demands ≡ is_some (demands_file draft) }
+    requires times_where_used { is_some times ≡ is_some draft.times_file }
+    requires times_size { IfSome times (λ bytes. length bytes.now ≤ MAX_CHECKPOINT_BYTES) }
+    requires good { record_faults draft (option_copied demands) (option_copied times) ≡ [] }
+    ensures { IfOk result (LintsDraft draft (option_copied demands.entry) (option_copied times.entry)) }
+{
+    match assemble_plant(alloc, draft, demands, times) {
+        Ok(plant) => lint_whole(alloc, file, plant),
+        Err(error) => {
+            drop(error);
+            Err(AllocError)
+        }
+    }
 }
 
 /// A copy of a name, if there is one.

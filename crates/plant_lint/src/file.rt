@@ -1,9 +1,12 @@
 //! What lint says of a plant file by itself.
 ghost use Rattle.std.specs.Prelude.{◌≡◌, IfOk};
-ghost use Rattle.plant_lint.specs.FileLints.{lint_of_tree, IsNoToml, LintsFile};
+ghost use Rattle.plant_lint.specs.FileLints.{faults_or_notes, lint_of_tree, IsNoToml, LintsFile};
+ghost use Rattle.plant_lint.specs.Texts.{fault_lines};
+ghost use Rattle.plant_lint.specs.Unused.{unused_lines};
 ghost use Rattle.toml.specs.Errors.{IsMemory, IsWithin};
 ghost use Rattle.toml.specs.View.{view};
 
+use crate::fault::Fault;
 use crate::lines::lines_of;
 use crate::position::position_line;
 use crate::tree::faults_of_tree;
@@ -37,11 +40,27 @@ fn lint_tree(alloc: Global, top: &Value) -> Result<FileLint, AllocError>
     ensures { IfOk result (λ lint. lint ≡ lint_of_tree (view top.now)) }
 {
     let faults = faults_of_tree(alloc, top)?;
-    if faults.is_empty() {
-        let notes = Text::from_string(unused_lines(alloc, top)?);
-        return Ok(FileLint::Sound { notes });
+    let lint = faults_or_unused(alloc, &faults, top);
+    drop(faults);
+    lint
+}
+
+/// The lines of a tree's faults, and where there is none the notes of the keys that aren't used.
+fn faults_or_unused(alloc: Global, faults: &[Fault], top: &Value) -> Result<FileLint, AllocError>
+    ensures { IfOk result (λ lint. lint ≡ faults_or_notes faults.now (unused_lines (view top.now))) }
+{
+    if !faults.is_empty() {
+        return refused(alloc, faults);
     }
-    let lines = Text::from_string(lines_of(alloc, &faults)?);
+    let notes = Text::from_string(unused_lines(alloc, top)?);
+    Ok(FileLint::Sound { notes })
+}
+
+/// That there are these faults.
+pub(crate) fn refused(alloc: Global, faults: &[Fault]) -> Result<FileLint, AllocError>
+    ensures { IfOk result (λ lint. lint ≡ FileLint.Refused (fault_lines faults.now)) }
+{
+    let lines = Text::from_string(lines_of(alloc, faults)?);
     Ok(FileLint::Refused { lines })
 }
 

@@ -1,13 +1,14 @@
 //! The stages that feed no later one, and those beside the last that feed none.
-ghost use Rattle.std.specs.Prelude.{◌≡◌, ◌<◌, ◌+◌, ◌++◌, ℕ, List, map, take, OnOk, length};
+ghost use Rattle.std.specs.Prelude.{◌≡◌, ◌+◌, ◌++◌, [], ℕ, List, map, take, OnOk};
 ghost use Rattle.plant_keys.specs.Code.{views};
 ghost use Rattle.plant_keys.specs.Readers.{name_in};
 ghost use Rattle.plant_lint.specs.Faults.{all_of};
 ghost use Rattle.plant_lint.specs.Seen.{HaveSame};
-ghost use Rattle.plant_lint.specs.Trees.{shown_name, fed_faults, feeds_faults, final_faults};
+ghost use Rattle.plant_lint.specs.Trees.{shown_name, fed_faults, feeds_faults};
 ghost use Rattle.toml.specs.View.{view};
 
 use crate::fault::{Fault, Wants, add};
+use crate::rows::Rows;
 use crate::seen::Seen;
 use plant_keys::{has, shown, text_at, text_of, value_at};
 use plant_model::{FileTable, PlantError, Text, key_place, table_place};
@@ -26,9 +27,25 @@ pub(crate) fn find_feeds(
         ++ all_of (λ i s. feeds_faults (map name_in (views stages.now)) i (view s)) stages.now) }
 {
     let mut earlier = Seen::new(alloc);
+    find_each_feed(alloc, all, &mut earlier, stages, faults)
+}
+
+/// The same, where the names of the stages before each are gathered here; there is none yet.
+fn find_each_feed<'a>(
+    alloc: Global,
+    all: &Seen<'_>,
+    earlier: &mut Seen<'a>,
+    stages: &'a [Value],
+    faults: &mut Vec<Fault>,
+) -> Result<(), AllocError>
+    requires all { HaveSame all.now (map name_in (views stages.now)) }
+    requires none { earlier.old ≡ [] }
+    ensures { OnOk result (faults.new.items ≡ faults.old.items
+        ++ all_of (λ i s. feeds_faults (map name_in (views stages.now)) i (view s)) stages.now) }
+{
     for (i, stage) in stages.iter().enumerate() {
         earlier.add(text_at(stage, "name"))?;
-        find_feed(alloc, all, &earlier, i, stage, faults)?;
+        find_feed(alloc, all, earlier, i, stage, faults)?;
     }
     Ok(())
 }
@@ -82,35 +99,29 @@ fn shown_name(name: &str) -> &str
     if name.is_empty() { "?" } else { shown(name) }
 }
 
-/// Adds each stage but the last that feeds none.
-pub(crate) fn find_finals(
-    alloc: Global,
-    stages: &[Value],
-    faults: &mut Vec<Fault>,
-) -> Result<(), AllocError>
-    ensures { OnOk result (faults.new.items ≡ faults.old.items
-        ++ all_of (λ i s. final_faults (length stages.now) i (view s)) stages.now) }
-{
-    for (i, stage) in stages.iter().enumerate() {
-        find_final(alloc, stages.len(), i, stage, faults)?;
-    }
-    Ok(())
+/// The stages of a list of this many, of which each but the last feeds one.
+#[derive(Clone, Copy)]
+pub(crate) struct Finals {
+    pub(crate) alloc: Global,
+    pub(crate) count: usize,
 }
 
-/// Adds that stage `i` of this many feeds none, if it isn't the last.
-fn find_final(
-    alloc: Global,
-    count: usize,
-    i: usize,
-    stage: &Value,
-    faults: &mut Vec<Fault>,
-) -> Result<(), AllocError>
-    requires { i < count }
-    ensures { OnOk result (faults.new.items ≡ faults.old.items ++ final_faults count i (view stage.now)) }
-{
-    if has(stage, "feeds") || i + 1 == count {
-        return Ok(());
+impl Rows for Finals {
+    ghost use Rattle.plant_lint.specs.Trees.{final_faults};
+
+    ghost found = { λ finals. final_faults finals.count };
+
+    fn find_in_row(
+        &self,
+        i: usize,
+        stage: &Value,
+        faults: &mut Vec<Fault>,
+    ) -> Result<(), AllocError> {
+        let last = self.count.saturating_sub(1);
+        if has(stage, "feeds") || i >= last {
+            return Ok(());
+        }
+        let place = table_place(self.alloc, FileTable::InStage(i))?;
+        add(faults, PlantError::TwoFinals { place }, Wants::Nothing)
     }
-    let place = table_place(alloc, FileTable::InStage(i))?;
-    add(faults, PlantError::TwoFinals { place }, Wants::Nothing)
 }

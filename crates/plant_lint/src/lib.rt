@@ -1,6 +1,7 @@
 //! Every fault of a plant file, with what is wanted there, and what may not be meant.
 #![tactic(auto)]
 
+mod classes;
 mod draft;
 mod draft_lint;
 mod fault;
@@ -12,10 +13,10 @@ mod names;
 mod plant;
 mod position;
 mod records;
+mod rows;
 mod seen;
 mod tree;
 mod unused;
-mod values;
 mod walk;
 
 pub use draft::lint_draft;

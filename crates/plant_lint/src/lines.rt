@@ -9,17 +9,23 @@ use std::alloc::{AllocError, Global};
 const MOST_LINES: usize = 200;
 
 /// The lines of faults, 200 at most, and then how many more there are.
-#[tactic(auto, unfolding(crate::specs::Texts::fault_lines))]
 pub fn lines_of(alloc: Global, faults: &[Fault]) -> Result<String, AllocError>
     ensures { IfOk result (λ text. string_bytes text ≡ fault_lines faults.now) }
 {
     let mut text = String::new(alloc);
+    add_lines(alloc, &mut text, faults)?;
+    Ok(text)
+}
+
+/// Adds the lines of faults.
+fn add_lines(alloc: Global, text: &mut String, faults: &[Fault]) -> Result<(), AllocError>
+    ensures { OnOk result (string_bytes text.new ≡ string_bytes text.old ++ fault_lines faults.now) }
+{
     let shown = shown_count(faults);
     for n in 0..shown {
-        add_line(alloc, &mut text, &faults[n])?;
+        add_line(alloc, text, &faults[n])?;
     }
-    add_count(alloc, &mut text, faults.len() - shown)?;
-    Ok(text)
+    add_count(alloc, text, faults.len() - shown)
 }
 
 /// How many faults have a line.

@@ -1,6 +1,5 @@
 //! The names that stand twice, and the stages that feed no later one.
-ghost use Rattle.std.specs.List.{list_any};
-ghost use Rattle.std.specs.Prelude.{◌≡◌, ◌++◌, [], ◌∷◌, map, take, IfOk, OnOk, length, codes};
+ghost use Rattle.std.specs.Prelude.{◌≡◌, ◌++◌, [], ◌∷◌, map, take, OnOk};
 ghost use Rattle.plant_keys.specs.Code.{views};
 ghost use Rattle.plant_keys.specs.Readers.{name_in};
 ghost use Rattle.plant_keys.specs.Walk.{name_twice, machine_name_twice, stage_name_twice};
@@ -15,22 +14,23 @@ use plant_model::{FileTable, PlantError, key_place};
 use std::alloc::{AllocError, Global};
 use toml::Value;
 
-/// Adds each name that an earlier stage, or an earlier machine of the same stage, has. The answer is the names of the
-/// stages.
+/// Adds each name that an earlier stage, or an earlier machine of the same stage, has, and gathers the names of the
+/// stages, of which none came before.
 pub(crate) fn find_twice<'a>(
     alloc: Global,
     stages: &'a [Value],
+    seen: &mut Seen<'a>,
     faults: &mut Vec<Fault>,
-) -> Result<Seen<'a>, AllocError>
-    ensures names { IfOk result (λ seen. HaveSame seen (map name_in (views stages.now))) }
+) -> Result<(), AllocError>
+    requires { seen.old ≡ [] }
+    ensures names { OnOk result (HaveSame seen.new (map name_in (views stages.now))) }
     ensures found { OnOk result (faults.new.items ≡ faults.old.items ++ all_of (λ i s. plain
         (stage_name_twice (take i (map name_in (views stages.now))) i (view s))) stages.now) }
 {
-    let mut seen = Seen::new(alloc);
     for (i, stage) in stages.iter().enumerate() {
-        find_in_stage(alloc, &mut seen, i, stage, faults)?;
+        find_in_stage(alloc, seen, i, stage, faults)?;
     }
-    Ok(seen)
+    Ok(())
 }
 
 /// Adds the name of stage `i` to those before, and finds whether it, or one of its machines' names, stands twice.
@@ -52,23 +52,25 @@ fn find_in_stage<'a>(
         text_at(stage, "name"),
         faults,
     )?;
-    find_in_machines(alloc, i, tables_at(stage, "machine"), faults)
+    let mut names = Seen::new(alloc);
+    find_in_machines(alloc, i, tables_at(stage, "machine"), &mut names, faults)
 }
 
-/// Adds each name of a machine of stage `i` that an earlier one has.
-fn find_in_machines(
+/// Adds each name of a machine of stage `i` that an earlier one has, where none came before.
+fn find_in_machines<'a>(
     alloc: Global,
     i: usize,
-    machines: &[Value],
+    machines: &'a [Value],
+    seen: &mut Seen<'a>,
     faults: &mut Vec<Fault>,
 ) -> Result<(), AllocError>
+    requires { seen.old ≡ [] }
     ensures { OnOk result (faults.new.items ≡ faults.old.items ++ all_of (λ j m. plain
         (machine_name_twice i (map name_in (views machines.now)) j (view m))) machines.now) }
 {
-    let mut seen = Seen::new(alloc);
     for (j, machine) in machines.iter().enumerate() {
         let table = FileTable::InMachine(i, j);
-        find_name(alloc, &mut seen, table, text_at(machine, "name"), faults)?;
+        find_name(alloc, seen, table, text_at(machine, "name"), faults)?;
     }
     Ok(())
 }

@@ -1,15 +1,16 @@
 //! What lint says of a plant whose parts are right.
-ghost use Rattle.std.specs.Prelude.{◌≡◌, [], IfOk, option_map, string_bytes};
+ghost use Rattle.std.specs.Prelude.{◌≡◌, ◌++◌, [], IfOk, OnOk, option_map, string_bytes};
 ghost use Rattle.plant_model.specs.Refusals.{all_feeds_not_later};
 ghost use Rattle.plant_lint.specs.Faults.{plain};
+ghost use Rattle.plant_lint.specs.FileLints.{faults_or_notes};
 ghost use Rattle.plant_lint.specs.PlantLints.{lint_of_plant, clean_text};
+ghost use Rattle.plant_check.specs.PlantNotes.{plant_notes};
 
-use crate::fault::{Fault, Wants};
-use crate::file::FileLint;
-use crate::lines::lines_of;
+use crate::fault::{Fault, Wants, add};
+use crate::file::{FileLint, refused};
 use line_base::Text;
+use plant_check::{plant_notes, refusals_of_plant};
 use plant_model::{Plant, PlantError};
-use plant_refusals::{plant_notes, refusals_of_plant};
 use std::alloc::{AllocError, Global};
 
 /// What lint says of a plant whose parts are right, and whose dates stand in this file, if they stand in one: all that is
@@ -19,12 +20,26 @@ pub fn lint_plant(alloc: Global, file: Option<&str>, plant: &Plant) -> Result<Fi
     ensures { IfOk result (λ lint. lint ≡ lint_of_plant (option_map (λ name. name.now) file.entry) plant.now) }
 {
     let faults = faults_of(alloc, refusals_of_plant(alloc, plant)?)?;
-    if faults.is_empty() {
-        let notes = Text::from_string(plant_notes(alloc, file, plant)?);
-        return Ok(FileLint::Sound { notes });
+    let lint = faults_or_plant_notes(alloc, &faults, file, plant);
+    drop(faults);
+    lint
+}
+
+/// The lines of a plant's faults, and where there is none its notes.
+fn faults_or_plant_notes(
+    alloc: Global,
+    faults: &[Fault],
+    file: Option<&str>,
+    plant: &Plant,
+) -> Result<FileLint, AllocError>
+    ensures { IfOk result (λ lint. lint
+        ≡ faults_or_notes faults.now (plant_notes (option_map (λ name. name.now) file.entry) plant.now)) }
+{
+    if !faults.is_empty() {
+        return refused(alloc, faults);
     }
-    let lines = Text::from_string(lines_of(alloc, &faults)?);
-    Ok(FileLint::Refused { lines })
+    let notes = Text::from_string(plant_notes(alloc, file, plant)?);
+    Ok(FileLint::Sound { notes })
 }
 
 /// The faults of refusals that say all.
@@ -32,13 +47,18 @@ fn faults_of(alloc: Global, refusals: Vec<PlantError>) -> Result<Vec<Fault>, All
     ensures { IfOk result (λ faults. faults.items ≡ plain refusals.items) }
 {
     let mut faults = Vec::with_capacity(alloc, refusals.len())?;
-    for error in refusals {
-        faults.push(Fault {
-            error,
-            wants: Wants::Nothing,
-        })?;
-    }
+    add_plain(refusals, &mut faults)?;
     Ok(faults)
+}
+
+/// Adds refusals that say all.
+fn add_plain(refusals: Vec<PlantError>, faults: &mut Vec<Fault>) -> Result<(), AllocError>
+    ensures { OnOk result (faults.new.items ≡ faults.old.items ++ plain refusals.items) }
+{
+    for error in refusals {
+        add(faults, error, Wants::Nothing)?;
+    }
+    Ok(())
 }
 
 /// What lint writes where nothing is wrong: that, then the notes of the file, then those of the plant.

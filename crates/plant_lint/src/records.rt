@@ -1,6 +1,6 @@
 //! The bad records of the files that a draft names: the first of each.
 ghost use Rattle.std.specs.Option.{option_map_or};
-ghost use Rattle.std.specs.Prelude.{◌≡◌, ◌≤◌, ◌++◌, ◌∷◌, [], IfSome, OnOk, IfOk, is_some, length, option_copied};
+ghost use Rattle.std.specs.Prelude.{◌≡◌, ◌≤◌, ◌++◌, ◌∷◌, [], IfSome, OnOk, IfOk, length, option_copied};
 ghost use Rattle.line_base.specs.declared.limits.TheConstants.{MAX_CHECKPOINT_BYTES};
 ghost use Rattle.plant_draft.specs.Draft.{demands_file, demands_column, columns_of};
 ghost use Rattle.plant_lint.specs.Faults.{wanting};
@@ -26,9 +26,24 @@ pub(crate) fn bad_records(
         faults ≡ record_faults draft.now (option_copied demands.entry) (option_copied times.entry)) }
 {
     let mut faults = Vec::new(alloc);
-    find_bad_date(alloc, draft, demands, &mut faults)?;
-    find_bad_time(alloc, draft, times, &mut faults)?;
+    find_bad_records(alloc, draft, demands, times, &mut faults)?;
     Ok(Items::from_vec(faults))
+}
+
+/// Adds the first bad record of each file that a draft names.
+fn find_bad_records(
+    alloc: Global,
+    draft: &Draft,
+    demands: Option<&[u8]>,
+    times: Option<&[u8]>,
+    faults: &mut Vec<Fault>,
+) -> Result<(), AllocError>
+    requires { IfSome times (λ bytes. length bytes.now ≤ MAX_CHECKPOINT_BYTES) }
+    ensures { OnOk result (faults.new.items ≡ faults.old.items
+        ++ record_faults draft.now (option_copied demands.entry) (option_copied times.entry)) }
+{
+    find_bad_date(alloc, draft, demands, faults)?;
+    find_bad_time(alloc, draft, times, faults)
 }
 
 /// Adds the first bad record of the demand file, if there is one.
@@ -48,7 +63,10 @@ fn find_bad_date(
     let name = draft.demands_file().unwrap_or("");
     let column = draft.demands_column();
     match read_dates(alloc, bytes, column) {
-        Ok(_) => Ok(()),
+        Ok(dates) => {
+            drop(dates);
+            Ok(())
+        }
         Err(FeedError::BadRecord { number }) => {
             let Ok(field) = bad_date(alloc, bytes, column) else {
                 return Err(AllocError);
@@ -75,7 +93,10 @@ fn find_bad_time(
     };
     let name = draft.times_file().unwrap_or("");
     match read_times(alloc, bytes, draft.columns()) {
-        Ok(_) => Ok(()),
+        Ok(times) => {
+            drop(times);
+            Ok(())
+        }
         Err(FeedError::BadRecord { number }) => {
             let Ok(field) = bad_time(alloc, bytes, draft.columns()) else {
                 return Err(AllocError);

@@ -11,21 +11,29 @@ use std::alloc::{AllocError, Global};
 use toml::Value;
 
 /// A note for each key that isn't used, in the order of the walk.
-#[tactic(auto, unfolding(crate::specs::Unused::unused_lines))]
 pub(crate) fn unused_lines(alloc: Global, top: &Value) -> Result<String, AllocError>
     ensures { IfOk result (λ text. string_bytes text ≡ unused_lines (view top.now)) }
 {
     let mut text = String::new(alloc);
-    add_top(alloc, &mut text, top)?;
-    let stages = tables_at(top, "stage");
+    add_tree(alloc, &mut text, top)?;
+    Ok(text)
+}
+
+/// Adds the notes of the top, then those of the stages.
+#[tactic(auto, unfolding(crate::specs::Unused::unused_lines))]
+fn add_tree(alloc: Global, text: &mut String, top: &Value) -> Result<(), AllocError>
+    ensures { OnOk result (string_bytes text.new ≡ string_bytes text.old ++ unused_lines (view top.now)) }
+{
+    add_top(alloc, text, top)?;
+    let with_cards = has_stage_cards(top);
+    let without_stock = is_kanban(top);
     add_stages(
         alloc,
-        &mut text,
-        has_stage_cards(top),
-        is_kanban(top),
-        stages,
-    )?;
-    Ok(text)
+        text,
+        with_cards,
+        without_stock,
+        tables_at(top, "stage"),
+    )
 }
 
 /// Whether the policy is kanban.

@@ -4,17 +4,19 @@ ghost use Rattle.plant_model.specs.Place.{key_of};
 ghost use Rattle.plant_keys.specs.Code.{keys_of, key_of as key_seen};
 ghost use Rattle.plant_keys.specs.Readers.{members_in};
 ghost use Rattle.plant_keys.specs.Walk.{absence_refusals, unknown_key, unknown_keys};
-ghost use Rattle.plant_lint.specs.Faults.{plain, all_of};
-ghost use Rattle.plant_lint.specs.Trees.{key_faults, table_faults, machine_faults, stage_faults, loop_faults, walk_faults};
+ghost use Rattle.plant_lint.specs.Faults.{plain};
+ghost use Rattle.plant_lint.specs.Trees.{key_faults, keys_faults, table_faults, walk_faults, value_faults};
+ghost use Rattle.plant_lint.specs.Classes.{limit_faults};
 ghost use Rattle.toml.specs.View.{view, table_view};
 
+use crate::classes::{error_at, limit_of_numbers, passes, wanted};
 use crate::fault::{Fault, Wants, add};
-use crate::values::find_value;
+use crate::rows::{Rows, find_in_rows};
 use plant_keys::{
-    Class, Key, has_stage_cards, is_allowed, loop_keys, machine_keys, shown, stage_keys, tables_at,
-    top_keys, value_at,
+    Class, Key, elements_of, has_stage_cards, is_allowed, loop_keys, machine_keys, may_be_number,
+    shown, stage_keys, tables_at, top_keys, value_at,
 };
-use plant_model::{FileTable, PlantError, key_place};
+use plant_model::{FileTable, PlantError, element_place, key_place};
 use std::alloc::{AllocError, Global};
 use toml::Value;
 
@@ -30,115 +32,100 @@ pub(crate) fn find_in_tree(
 {
     let search = Search { alloc, class };
     search.find_in_table(FileTable::Top, top, &top_keys(top), faults)?;
-    search.find_in_stages(has_stage_cards(top), tables_at(top, "stage"), faults)?;
-    search.find_in_loops(tables_at(top, "loop"), faults)
+    let with_cards = has_stage_cards(top);
+    find_in_rows(
+        &Stages { search, with_cards },
+        tables_at(top, "stage"),
+        faults,
+    )?;
+    find_in_rows(&Loops { search }, tables_at(top, "loop"), faults)
 }
 
 /// The search for all refusals of a class, whose places are written in this memory.
-#[derive(Drop)]
+#[derive(Clone, Copy)]
 struct Search {
     alloc: Global,
     class: Class,
 }
 
-impl Search {
-    /// Adds what the class refuses of the stages.
-    fn find_in_stages(
-        &self,
-        with_cards: bool,
-        stages: &[Value],
-        faults: &mut Vec<Fault>,
-    ) -> Result<(), AllocError>
-        ensures { OnOk result (faults.new.items ≡ faults.old.items
-            ++ all_of (λ i s. stage_faults self.now.class with_cards i (view s)) stages.now) }
-    {
-        for (i, stage) in stages.iter().enumerate() {
-            self.find_in_stage(with_cards, i, stage, faults)?;
-        }
-        Ok(())
-    }
+/// The search in stages, whose cards are required or not.
+#[derive(Clone, Copy)]
+struct Stages {
+    search: Search,
+    with_cards: bool,
+}
 
-    /// Adds what the class refuses of stage `i`: of its keys, then of its machines.
-    fn find_in_stage(
+/// A stage's keys, then its machines.
+impl Rows for Stages {
+    ghost use Rattle.plant_lint.specs.Trees.{stage_faults};
+
+    ghost found = { λ stages. stage_faults stages.search.class stages.with_cards };
+
+    fn find_in_row(
         &self,
-        with_cards: bool,
         i: usize,
         stage: &Value,
         faults: &mut Vec<Fault>,
-    ) -> Result<(), AllocError>
-        ensures { OnOk result (faults.new.items ≡ faults.old.items
-            ++ stage_faults self.now.class with_cards i (view stage.now)) }
-    {
-        self.find_in_table(
+    ) -> Result<(), AllocError> {
+        let search = self.search;
+        search.find_in_table(
             FileTable::InStage(i),
             stage,
-            &stage_keys(with_cards),
+            &stage_keys(self.with_cards),
             faults,
         )?;
-        self.find_in_machines(i, tables_at(stage, "machine"), faults)
+        find_in_rows(&Machines { search, i }, tables_at(stage, "machine"), faults)
     }
+}
 
-    /// Adds what the class refuses of the machines of stage `i`.
-    fn find_in_machines(
-        &self,
-        i: usize,
-        machines: &[Value],
-        faults: &mut Vec<Fault>,
-    ) -> Result<(), AllocError>
-        ensures { OnOk result (faults.new.items ≡ faults.old.items
-            ++ all_of (λ j m. machine_faults self.now.class i j (view m)) machines.now) }
-    {
-        for (j, machine) in machines.iter().enumerate() {
-            self.find_in_machine(i, j, machine, faults)?;
-        }
-        Ok(())
-    }
+/// The search in the machines of stage `i`.
+#[derive(Clone, Copy)]
+struct Machines {
+    search: Search,
+    i: usize,
+}
 
-    /// Adds what the class refuses of machine `j` of stage `i`.
-    fn find_in_machine(
+impl Rows for Machines {
+    ghost use Rattle.plant_lint.specs.Trees.{machine_faults};
+
+    ghost found = { λ machines. machine_faults machines.search.class machines.i };
+
+    fn find_in_row(
         &self,
-        i: usize,
         j: usize,
         machine: &Value,
         faults: &mut Vec<Fault>,
-    ) -> Result<(), AllocError>
-        ensures { OnOk result (faults.new.items ≡ faults.old.items
-            ++ machine_faults self.now.class i j (view machine.now)) }
-    {
-        self.find_in_table(
-            FileTable::InMachine(i, j),
-            machine,
-            &machine_keys(machine),
-            faults,
-        )
+    ) -> Result<(), AllocError> {
+        let table = FileTable::InMachine(self.i, j);
+        self.search
+            .find_in_table(table, machine, &machine_keys(machine), faults)
     }
+}
 
-    /// Adds what the class refuses of the loops.
-    fn find_in_loops(&self, loops: &[Value], faults: &mut Vec<Fault>) -> Result<(), AllocError>
-        ensures { OnOk result (faults.new.items ≡ faults.old.items
-            ++ all_of (λ k l. loop_faults self.now.class k (view l)) loops.now) }
-    {
-        for (k, card_loop) in loops.iter().enumerate() {
-            self.find_in_loop(k, card_loop, faults)?;
-        }
-        Ok(())
-    }
+/// The search in loops.
+#[derive(Clone, Copy)]
+struct Loops {
+    search: Search,
+}
 
-    /// Adds what the class refuses of loop `k`.
-    fn find_in_loop(
+impl Rows for Loops {
+    ghost use Rattle.plant_lint.specs.Trees.{loop_faults};
+
+    ghost found = { λ loops. loop_faults loops.search.class };
+
+    fn find_in_row(
         &self,
         k: usize,
         card_loop: &Value,
         faults: &mut Vec<Fault>,
-    ) -> Result<(), AllocError>
-        ensures { OnOk result (faults.new.items ≡ faults.old.items
-            ++ loop_faults self.now.class k (view card_loop.now)) }
-    {
-        self.find_in_table(FileTable::InLoop(k), card_loop, &loop_keys(), faults)
+    ) -> Result<(), AllocError> {
+        self.search
+            .find_in_table(FileTable::InLoop(k), card_loop, &loop_keys(), faults)
     }
+}
 
+impl Search {
     /// Adds what the class refuses of a table with these keys.
-    #[tactic(auto, using(crate::proofs::FaultLists::keys_faults_map))]
     fn find_in_table(
         &self,
         table: FileTable,
@@ -166,7 +153,7 @@ impl Search {
         faults: &mut Vec<Fault>,
     ) -> Result<(), AllocError>
         ensures { OnOk result (faults.new.items ≡ faults.old.items
-            ++ all_of (λ _ k. key_faults self.now.class table (view value.now) (key_seen k)) keys.now) }
+            ++ keys_faults self.now.class table (view value.now) (keys_of keys.now)) }
     {
         for key in keys {
             self.find_at_key(table, value, key, faults)?;
@@ -186,7 +173,7 @@ impl Search {
             ++ key_faults self.now.class table (view value.now) (key_seen key.now)) }
     {
         match value_at(value, key.name) {
-            Some(found) => find_value(self.alloc, self.class, table, key, found, faults),
+            Some(found) => self.find_value(table, key, found, faults),
             None => self.find_absence(table, key, faults),
         }
     }
@@ -206,6 +193,83 @@ impl Search {
         }
         let place = key_place(self.alloc, table, key.name)?;
         add(faults, PlantError::Missing { place }, Wants::Nothing)
+    }
+
+    /// Adds what the class refuses of what stands at a key: that it doesn't pass, and each number of a list.
+    fn find_value(
+        &self,
+        table: FileTable,
+        key: &Key,
+        value: &Value,
+        faults: &mut Vec<Fault>,
+    ) -> Result<(), AllocError>
+        ensures { OnOk result (faults.new.items ≡ faults.old.items
+            ++ value_faults self.now.class key.now.kind (key_of table key.now.name.now) (view value.now)) }
+    {
+        if passes(self.class, key.kind, value) {
+            return self.find_numbers(table, key, value, faults);
+        }
+        let place = key_place(self.alloc, table, key.name)?;
+        let wants = wanted(self.class, key.kind, value);
+        add(faults, error_at(self.class, place), wants)
+    }
+
+    /// Adds each number of a list that is outside its limits, where the class is that of limits.
+    fn find_numbers(
+        &self,
+        table: FileTable,
+        key: &Key,
+        value: &Value,
+        faults: &mut Vec<Fault>,
+    ) -> Result<(), AllocError>
+        ensures { OnOk result (faults.new.items ≡ faults.old.items
+            ++ limit_faults self.now.class key.now.kind (key_of table key.now.name.now) (view value.now)) }
+    {
+        match limit_of_numbers(self.class, key.kind) {
+            Some(most) => {
+                let numbers = Numbers {
+                    alloc: self.alloc,
+                    table,
+                    name: key.name,
+                    most,
+                };
+                find_in_rows(&numbers, elements_of(value), faults)
+            }
+            None => Ok(()),
+        }
+    }
+}
+
+/// The numbers of a list at a key, from 0 to a limit.
+#[derive(Clone, Copy)]
+struct Numbers<'a> {
+    alloc: Global,
+    table: FileTable,
+    name: &'a str,
+    most: u64,
+}
+
+impl<'a> Rows for Numbers<'a> {
+    ghost use Rattle.plant_model.specs.Place.{key_of};
+    ghost use Rattle.plant_lint.specs.Classes.{number_faults};
+
+    ghost found = { λ numbers. number_faults numbers.most (key_of numbers.table numbers.name.now) };
+
+    fn find_in_row(
+        &self,
+        k: usize,
+        number: &Value,
+        faults: &mut Vec<Fault>,
+    ) -> Result<(), AllocError> {
+        if may_be_number(number, 0, self.most) {
+            return Ok(());
+        }
+        let place = element_place(self.alloc, self.table, self.name, k)?;
+        let wants = Wants::Between {
+            least: 0,
+            most: self.most,
+        };
+        add(faults, PlantError::OutOfRange { place }, wants)
     }
 }
 

@@ -5,12 +5,11 @@ ghost use Rattle.plant_model.specs.declared.error.PlantError.{PlantError};
 
 use line_base::Text;
 use std::alloc::AllocError;
-use std::error::Error;
 use std::fmt;
 
 /// Why a plant is refused, in the order in which the refusals are tried. A place is the path of a key in the plant
 /// file, counted from 1, as `stage[2].machine[1].time`.
-#[derive(Debug, Drop)]
+#[derive(Drop)]
 pub enum PlantError {
     /// The file is no TOML.
     NotToml,
@@ -86,8 +85,6 @@ impl fmt::Display for PlantError {
         }
     }
 }
-
-impl Error for PlantError {}
 
 /// Writes what is wrong, and where.
 fn at_place<W: fmt::Write>(f: &mut fmt::Formatter<W>, words: &str, place: &Text) -> fmt::Result

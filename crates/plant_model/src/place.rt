@@ -5,7 +5,7 @@ use line_base::Text;
 use std::alloc::{AllocError, Global};
 
 /// A table of a plant file. Stages, machines and loops are numbered from 0 here, and from 1 in the text of a place.
-#[derive(Clone, Copy, Debug, PartialEq, Eq)]
+#[derive(Clone, Copy, PartialEq, Eq)]
 pub enum FileTable {
     /// The top of the file.
     Top,

@@ -5,7 +5,7 @@ use line_base::{Date, Items, Name, Times};
 use std::alloc::{AllocError, Global};
 
 /// How the releases of a line are held back (Dallery and Liberopoulos 2000 for the idea of each).
-#[derive(Clone, Copy, Debug, PartialEq, Eq)]
+#[derive(Clone, Copy)]
 pub enum Policy {
     /// Each stage has cards of its own, which come back as a part leaves the stage.
     Kanban,

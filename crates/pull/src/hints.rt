@@ -104,7 +104,7 @@ pub fn hint(alloc: Global, status: u8, words: &[String]) -> Result<String, Alloc
     if status == NO_COMMAND {
         return words_hint(alloc, words);
     }
-    let (what, next) = saying_of(status, asks_lint(words));
+    let (what, next) = saying_of(status, is_word(words, 0, "lint"));
     match next.split_once("{}") {
         Some((before, behind)) => {
             let plant = plant_of(words);
@@ -128,14 +128,6 @@ fn saying_of(status: u8, asks_lint: bool) -> (&'static str, &'static str) {
     ("it is not done", "'pull --help' lists all statuses")
 }
 
-/// Whether the command is `lint`.
-fn asks_lint(words: &[String]) -> bool {
-    match words.first() {
-        Some(word) => word.as_str() == "lint",
-        None => false,
-    }
-}
-
 /// The plant file of a command, which its second word names.
 fn plant_of(words: &[String]) -> &str {
     match words.get(1) {
@@ -146,26 +138,58 @@ fn plant_of(words: &[String]) -> &str {
 
 /// The line for words that are no command.
 fn words_hint(alloc: Global, words: &[String]) -> Result<String, AllocError> {
-    let fault = words_fault(alloc, words)?;
-    let next = words_advice(alloc, words)?;
+    let place = first_unusable(alloc, words)?;
+    let fault = words_fault(alloc, words, place)?;
+    let next = words_advice(alloc, words, place)?;
     format!(in alloc; "pull: status 2, the words are no command: {fault}; {next}")
 }
 
-/// What to ask next, where words are no command.
-fn words_advice(alloc: Global, words: &[String]) -> Result<String, AllocError> {
+/// What to do next, where the word at this place can't be used, or where words are missing.
+fn words_advice(
+    alloc: Global,
+    words: &[String],
+    place: Option<usize>,
+) -> Result<String, AllocError> {
     let Some(word) = words.first() else {
         return String::from_str(alloc, "'pull --help' lists the commands");
     };
-    if is_command(alloc, &words[..1], &["--help"])? {
+    if is_named_checkpoint(words, place) {
+        String::from_str(alloc, "the name of a checkpoint ends in .ckpt")
+    } else if is_command(alloc, &words[..1], &["--help"])? {
         format!(in alloc; "'pull help {word}' shows its words, 'pull --help' lists the commands")
     } else {
         String::from_str(alloc, "'pull --help' lists the commands")
     }
 }
 
-/// Which of the words can't be used, or that there are too few.
-fn words_fault(alloc: Global, words: &[String]) -> Result<String, AllocError> {
-    let Some(place) = first_unusable(alloc, words)? else {
+/// Whether the word at this place stands where a checkpoint is named: behind `--save`, or behind the plant of `resume`.
+fn is_named_checkpoint(words: &[String], place: Option<usize>) -> bool {
+    let Some(place) = place else {
+        return false;
+    };
+    let is_file = match words.get(place) {
+        Some(word) => !word.starts_with('-'),
+        None => false,
+    };
+    let of_resume = place == 2 && is_word(words, 0, "resume");
+    is_file && (of_resume || is_word(words, place.saturating_sub(1), "--save"))
+}
+
+/// Whether the word at this place is this one.
+fn is_word(words: &[String], place: usize, wanted: &str) -> bool {
+    match words.get(place) {
+        Some(word) => word.as_str() == wanted,
+        None => false,
+    }
+}
+
+/// Which word can't be used, the one at this place, or that there are too few.
+fn words_fault(
+    alloc: Global,
+    words: &[String],
+    place: Option<usize>,
+) -> Result<String, AllocError> {
+    let Some(place) = place else {
         return String::from_str(alloc, "words are missing");
     };
     match words.get(place) {
@@ -191,10 +215,11 @@ fn first_unusable(alloc: Global, words: &[String]) -> Result<Option<usize>, Allo
 
 /// Words behind which each command can end: one of them makes a command of any words with which one begins, but for the
 /// counts of `curve`, of which the second is at least the first.
-const ENDS: [&[&str]; 18] = [
+const ENDS: [&[&str]; 19] = [
     &[],
     &["--help"],
     &["a.toml"],
+    &["a.ckpt"],
     &["0"],
     &["1"],
     &["a", "1"],

@@ -7,11 +7,9 @@ use crate::end::End;
 use crate::words::{HEAD, LoadHead, StoreCell, StoreTail, TAIL, cell};
 use line_base::Date;
 use std::marker::Model;
-use thiserror::Error;
 
 /// As many tokens wait as there is room for, as far as was seen.
-#[derive(Clone, Copy, Debug, PartialEq, Eq, Error)]
-#[error("the ring is full")]
+#[derive(Clone, Copy, Debug, PartialEq, Eq)]
 pub struct Full;
 
 /// The end of a ring at which tokens are put. It may move to another thread.

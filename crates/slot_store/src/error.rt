@@ -3,22 +3,17 @@ ghost use Rattle.line_disk.specs.declared.disk.DiskError.TheVariants.{Failed};
 ghost use Rattle.slot_store.specs.declared.error.SlotError.TheVariants.{DiskFault, NoMemory};
 
 use line_disk::DiskError;
-use thiserror::Error;
 
 /// Why a save or a load gave up.
-#[derive(Clone, Copy, Debug, PartialEq, Eq, Error)]
+#[derive(Clone, Copy, Debug, PartialEq, Eq)]
 pub enum SlotError {
     /// The bytes are longer than the room of a slot; `have` is their number. The disk is untouched.
-    #[error("the content has {have} bytes, more than a slot has room for")]
     TooLong { have: u64 },
     /// A call of the disk failed; its count of faults rose.
-    #[error("the disk failed")]
     DiskFault,
     /// No slot is open.
-    #[error("nothing is saved")]
     NoneSaved,
     /// There was no memory for it.
-    #[error("out of memory")]
     NoMemory,
 }
 

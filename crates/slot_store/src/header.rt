@@ -26,7 +26,7 @@ const MAX_NUMBER: u8 = 2;
 pub const OPEN: u8 = 1;
 
 /// One of the two slots.
-#[derive(Clone, Copy, Debug, PartialEq, Eq)]
+#[derive(Clone, Copy)]
 pub enum Slot {
     Zero,
     One,
@@ -46,7 +46,7 @@ impl Slot {
 }
 
 /// What the head of a slot says.
-#[derive(Clone, Copy, Debug, PartialEq, Eq)]
+#[derive(Clone, Copy)]
 pub struct Header {
     pub gate: u8,
     pub number: u8,

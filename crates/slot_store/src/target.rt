@@ -11,7 +11,7 @@ use line_disk::{Disk, DiskError};
 use std::alloc::Global;
 
 /// The slot that a save writes to, the number that it gets, and whether its gate is open now.
-#[derive(Clone, Copy, Debug, PartialEq, Eq)]
+#[derive(Clone, Copy)]
 pub struct Target {
     pub slot: Slot,
     pub number: u8,

@@ -1,5 +1,5 @@
 /// What came of a step of a station.
-#[derive(Clone, Copy, Debug, PartialEq, Eq)]
+#[derive(Clone, Copy)]
 pub enum Stepped {
     /// The station fired.
     Fired,

@@ -36,15 +36,21 @@ pub const ONE_CARD: &str = "cards = 1";
 /// What is said of a stage with one part in stock.
 pub const ONE_PART: &str = "stock = 1";
 
+/// What ends a test whose plant is refused.
+const REFUSED: &str = "the plant is refused";
+
 /// The plant of a plant file that names no other file.
 fn plant_of(alloc: Global, file: &str) -> Result<Plant, Fail>
     ensures { IfOk result IsSound }
 {
-    let draft = read_plant(alloc, file.as_bytes())?;
+    let draft = read_plant(alloc, file.as_bytes()).ok().ok_or(REFUSED)?;
     if draft.demands_file().is_some() || draft.times_file().is_some() {
         return Err("the plant names a file".into());
     }
-    Ok(complete_draft(alloc, draft, None, None)?)
+    let plant = complete_draft(alloc, draft, None, None)
+        .ok()
+        .ok_or(REFUSED)?;
+    Ok(plant)
 }
 
 /// The file of a plant of two stages, `cut` with the machine `saw`, and `weld` with the machine `torch`, by the lines of its

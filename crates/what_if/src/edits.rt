@@ -13,11 +13,9 @@ use crate::sheet::Sheet;
 use line_base::Date;
 use line_core::{behind, end_before, prefix, without_return};
 use live_check::Live;
-use thiserror::Error;
 
 /// The first line of an edits file that can't be followed, counted from 1.
-#[derive(Clone, Copy, Debug, PartialEq, Eq, Error)]
-#[error("line {line} is no edit that can be followed")]
+#[derive(Clone, Copy)]
 pub struct RefusedLine {
     /// Which line.
     pub line: u64,

@@ -12,4 +12,4 @@ returns c =
     let potentials = rw c.as_slice.ensures at c.in_ok-add_potentials.ensures in
     rw c.from_vec.ensures
     (cycle_added c.args.graph.now c.args.certificate.now _ c.add_sums.new.text.items c.add_potentials.new.text.items
-    c.in_ok-text.ensures circuit potentials)
+    (rw c.new-text.ensures.items at c.in_ok-add_ratio.ensures) circuit potentials)

@@ -8,7 +8,7 @@ pub returns-in-RunRoom : goal.returns-in-RunRoom
 returns-in-RunRoom g c = rw c.in-RunRoom.is c.run_whole-in-RunRoom.ensures
 
 pub returns-in-CardsEach : goal.returns-in-CardsEach
-returns-in-CardsEach g c = rw c.in-CardsEach.is c.cards_each.ensures
+returns-in-CardsEach g c = rw c.in-CardsEach.is c.cards_each-answer.ensures
 
 pub returns-in-Why : goal.returns-in-Why
 returns-in-Why g c = rw c.in-Why.is c.why.ensures

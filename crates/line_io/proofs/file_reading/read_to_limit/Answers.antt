@@ -1,10 +1,11 @@
-use Rattle.std.proofs.Common.{◌≡◌, ◌++◌, ◌∷◌, [], length, take, refl, sym, ap, ◌∙◌, arith}
+use Rattle.std.proofs.Common.{◌≡◌, ◌+◌, ◌-◌, ◌^◌, min, ◌++◌, ◌∷◌, [], length, take, refl, sym, ap, ◌∙◌, arith}
 use Rattle.std.specs.Prelude.{Some, None, Err}
 use Rattle.std.proofs.lemmas.List.{length-take}
 use Rattle.std.proofs.lemmas.Result.{err_from_is_err_and}
 use Rattle.line_io.specs.Calls.{bytes_of}
 use Rattle.line_io.specs.RawFiles.{Reads}
 use Rattle.line_io.proofs.RawFilesRuns.{reads_more, reads_no_memory, reads_end, reads_too_long, reads_refused, given_by-push, one_more, taken_more, taken_same, reads_as, left_more, longer_by}
+use Rattle.line_io.proofs.ReadingLemmas.{takes_all, takes_too_long, takes_until_refused, takes_no_memory}
 use Rattle.line_io.specs.declared.store.StoreError.{StoreError}
 use Rattle.line_io.proofs.file_reading.read_to_limit.Goals as goal
 
@@ -94,3 +95,27 @@ returns-in_err-extend_from_slice-clause-asks g c =
         taken_more before.calls.0 most c.loop-bytes.bytes.items got c.loop-bytes.taken count before.calls.3 before.taken size,
       ),
     )
+
+pub returns-in_err-count-clause-takes : goal.returns-in_err-count-clause-takes
+returns-in_err-count-clause-takes g c =
+    let once = c.in_err-count.ensures in
+    let p = err_from_is_err_and c.from_residual.result c.from_residual.ensures.1 in
+    takes_until_refused _ _ _ _ _ (p.1 ∙ ap (λ (e : StoreError). Err e) (p.2 ∙ once.failed)) (omega arith) (once.once ∙ ap (λ n. min (n + 1) (2 ^ 64 - 1)) c.loop-bytes.invariant.no_fault) (omega (arith, once.faults_stay_or_rise, c.loop-bytes.invariant.no_fault))
+
+pub returns-then-count-eq0-clause-takes : goal.returns-then-count-eq0-clause-takes
+returns-then-count-eq0-clause-takes g c =
+    let before = c.loop-bytes.invariant in
+    takes_all _ _ _ _ c.loop-bytes.bytes before.taken before.within_limit (c.in_ok-count.ensures.faults_stay ∙ before.no_fault)
+
+pub returns-then-count-left-clause-takes : goal.returns-then-count-left-clause-takes
+returns-then-count-left-clause-takes g c =
+    let before = c.loop-bytes.invariant in
+    let once = c.in_ok-count.ensures in
+    takes_too_long _ _ _ _ (omega (arith, before.taken)) (omega (arith, before.taken, once.bound)) (once.faults_stay ∙ before.no_fault)
+
+pub returns-in_err-extend_from_slice-clause-takes :
+    goal.returns-in_err-extend_from_slice-clause-takes
+returns-in_err-extend_from_slice-clause-takes g c =
+    let before = c.loop-bytes.invariant in
+    let p = err_from_is_err_and c.from_residual-in_err-extend_from_slice.result c.from_residual-in_err-extend_from_slice.ensures.1 in
+    takes_no_memory _ _ _ _ _ (p.1 ∙ ap (λ (e : StoreError). Err e) p.2) (omega (arith, before.taken)) (c.in_ok-count.ensures.faults_stay ∙ before.no_fault)

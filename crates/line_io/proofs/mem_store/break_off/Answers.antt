@@ -1,31 +1,20 @@
-use Rattle.std.proofs.Common.{take, drop, sym, inr, arith}
-use Rattle.std.proofs.lemmas.List.{take-append-drop}
+use Rattle.std.proofs.Common.{ap, ◌∙◌}
+use Rattle.std.specs.Prelude.{Err}
+use Rattle.std.proofs.lemmas.Result.{err_from_is_err_and}
+use Rattle.line_io.specs.declared.store.StoreError.{StoreError}
+use Rattle.line_io.proofs.HeldLemmas.{counts_noted, counts_none}
 use Rattle.line_io.proofs.mem_store.break_off.Goals as goal
 
-pub returns-clause-torn : goal.returns-clause-torn
-returns-clause-torn c = λ _.
-    let bytes = c.args.bytes.now in
-    let kept = c.min.result in
-    inr (take kept bytes, drop kept bytes, sym (take-append-drop kept bytes), c.in_ok-set_file.ensures.written)
+pub returns-in_err-text-clause-counts : goal.returns-in_err-text-clause-counts
+returns-in_err-text-clause-counts c =
+    let p = err_from_is_err_and c.from_residual.result c.from_residual.ensures.1 in
+    counts_none _ _ _ _ (p.1 ∙ ap (λ (e : StoreError). Err e) p.2) c.in_err-text.ensures.counts
 
-pub returns-in_default-clause-stays_or_rises : goal.returns-in_default-clause-stays_or_rises
-returns-in_default-clause-stays_or_rises c = λ name. omega (arith, c.note.ensures.stays_or_rises name, c.in_ok-text.ensures.counts name)
+pub returns-in_err-leave-clause-counts : goal.returns-in_err-leave-clause-counts
+returns-in_err-leave-clause-counts c =
+    let p = err_from_is_err_and c.from_residual-in_err-leave.result c.from_residual-in_err-leave.ensures.1 in
+    counts_none _ _ _ _ (p.1 ∙ ap (λ (e : StoreError). Err e) p.2) c.in_ok-text.ensures.counts
 
-pub returns-in_default-clause-rises_by_one : goal.returns-in_default-clause-rises_by_one
-returns-in_default-clause-rises_by_one c = λ name. omega (arith, c.note.ensures.rises_by_one name, c.in_ok-text.ensures.counts name)
-
-pub returns-clause-stays_or_rises : goal.returns-clause-stays_or_rises
-returns-clause-stays_or_rises c = λ name. omega (arith, c.note-2.ensures.stays_or_rises name, c.in_ok-text.ensures.counts name)
-
-pub returns-clause-rises_by_one : goal.returns-clause-rises_by_one
-returns-clause-rises_by_one c = λ name. omega (arith, c.note-2.ensures.rises_by_one name, c.in_ok-text.ensures.counts name)
-
-pub returns-in_default-clause-cause : goal.returns-in_default-clause-cause
-returns-in_default-clause-cause c = λ failed.
-    let named = rw c.in_ok-text.ensures.name at (c.note.ensures.noted.named) in
-    omega (arith, named, c.in_ok-text.ensures.counts c.args.name.now)
-
-pub returns-clause-cause : goal.returns-clause-cause
-returns-clause-cause c = λ failed.
-    let named = rw c.in_ok-text.ensures.name at (c.note-2.ensures.noted.named) in
-    omega (arith, named, c.in_ok-text.ensures.counts c.args.name.now)
+pub returns-clause-counts : goal.returns-clause-counts
+returns-clause-counts c =
+    counts_noted _ c.prepare.new.faults _ _ _ c.in_ok-text.ensures.counts c.in_ok-text.ensures.name c.note.ensures.noted c.note.ensures.stays_or_rises c.note.ensures.rises_by_one

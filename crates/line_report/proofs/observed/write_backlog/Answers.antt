@@ -8,8 +8,7 @@ use Rattle.line_report.proofs.observed.write_backlog.Goals as goal
 pub returns : goal.returns
 unfolding backlog_line
 returns g c =
-    c.push.ensures ⨟ c.push_number.ensures ⨟ c.push-2.ensures
-    ⨟ (rw (c.backlog.ensures.count, c.requires.numbers) at c.push_number-2.ensures) ⨟ c.push-3.ensures
+    c.write_number_behind.ensures ⨟ (rw (c.backlog.ensures.count, c.requires.numbers) at c.write_number_behind-2.ensures) ⨟ c.push.ensures
 
 pub backlog-requires-clause-sound : goal.backlog-requires-clause-sound
 backlog-requires-clause-sound g c = subst IsSound (sym c.requires.numbers) c.requires.of_plant.sound

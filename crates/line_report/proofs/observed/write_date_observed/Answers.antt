@@ -1,8 +1,7 @@
 use Rattle.std.proofs.Common.{◌≡◌, length, arith}
 use Rattle.event_graph.specs.Table.{date_in}
-use Rattle.line_io.proofs.OutgoingLemmas.{pushed_none, ◌⨟◌}
+use Rattle.line_io.proofs.OutgoingLemmas.{pushed_none, pushed_next, ◌⨟◌}
 use Rattle.line_report.specs.ReportText.{stage_line, observed_lines}
-use Rattle.line_report.proofs.Lines.{pushed_line}
 use Rattle.line_report.proofs.observed.write_date_observed.Goals as goal
 
 pub loop-stage-init : goal.loop-stage-init
@@ -10,7 +9,7 @@ loop-stage-init g c = pushed_none _
 
 pub loop-stage-preserved : goal.loop-stage-preserved
 loop-stage-preserved g c =
-    pushed_line (stage_line c.args.run.now.plant (date_in c.args.run.now.table.rows) c.args.at) 0 c.loop-stage.stage c.loop-stage.stage (omega arith) c.loop-stage.invariant c.write_stage.ensures
+    pushed_next (stage_line c.args.run.now.plant (date_in c.args.run.now.table.rows) c.args.at) 0 c.loop-stage.stage c.loop-stage.stage (omega arith) c.loop-stage.invariant c.write_stage.ensures
 
 pub returns : goal.returns
 unfolding observed_lines

@@ -1,7 +1,6 @@
 use Rattle.event_graph.specs.Table.{date_in}
-use Rattle.line_io.proofs.OutgoingLemmas.{pushed_none}
+use Rattle.line_io.proofs.OutgoingLemmas.{pushed_none, pushed_element}
 use Rattle.line_report.specs.ReportText.{observed_lines}
-use Rattle.line_report.proofs.Lines.{pushed_element}
 use Rattle.line_report.proofs.observed.write_observed.Goals as goal
 
 pub loop-at-init : goal.loop-at-init
@@ -11,4 +10,4 @@ pub loop-at-preserved : goal.loop-at-preserved
 loop-at-preserved g c =
     let below = rw c.as_slice-at-items.ensures at c.loop-at-test.true in
     let lines = rw c.as_slice-at-items.ensures at c.write_date_observed.ensures in
-    pushed_element (observed_lines c.args.run.now.plant (date_in c.args.run.now.table.rows)) c.args.run.now.plant.observe c.loop-at.at-index below c.loop-at.invariant lines
+    pushed_element (observed_lines c.args.run.now.plant (date_in c.args.run.now.table.rows)) c.args.run.now.plant.observe c.loop-at.at-index 0 below c.loop-at.invariant lines

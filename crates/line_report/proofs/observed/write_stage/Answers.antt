@@ -18,23 +18,22 @@ returns g c =
     let read : stage ≡ stage_at plant c.args.stage =
     stage_read plant c.args.stage c.as_slice.result.now stage c.as_slice.ensures c.requires.exists c.index-as_slice-stage.is
     in
-    let process = rw (c.in_process.ensures.count, c.requires.run.numbers) at c.push_number-2.ensures in
-    let stock = rw c.in_stock.ensures.count at c.push_number-3.ensures in
+    let process = rw (c.in_process.ensures.count, c.requires.run.numbers) at c.write_number_behind-2.ensures in
+    let stock = rw c.in_stock.ensures.count at c.write_number_behind-3.ensures in
     let moving = in_move plant x c.args.stage c.args.at in
-    let way : Pushed (stream (g.K.Sink.shown c.push_number-2.new.sink) c.push_number-2.new.self) (stream (g.K.Sink.shown c.if-part-gt0.sink) c.if-part-gt0.out) (move_words stage.travel moving) =
+    let way : Pushed (stream (g.K.Sink.shown c.write_number_behind-2.new.sink) c.write_number_behind-2.new.out) (stream (g.K.Sink.shown c.if-part-gt0.sink) c.if-part-gt0.out) (move_words stage.travel moving) =
     elim c.if-part-gt0.branch [
       | then-part-gt0 w ↦
-          let move = rw w.in_move.ensures.count at w.push_number-then-part-gt0.ensures in
           rw (move_words-moving stage.travel moving w.if-part-gt0.true, w.out-is, w.sink-is)
-          (w.push-then-part-gt0.ensures ⨟ move)
+          (rw w.in_move.ensures.count at w.write_number_behind-then-part-gt0.ensures)
       | else-part-gt0 w ↦
           rw (move_words-still stage.travel moving w.if-part-gt0.false, w.out-is, w.sink-is)
           (pushed_none _)
     ]
     in
     rw (stage_line-parts plant x c.args.at c.args.stage stage read)
-    (c.push.ensures ⨟ c.push_number.ensures ⨟ c.push-2.ensures ⨟ (rw c.text.ensures.text at c.push-3.ensures)
-    ⨟ c.push-4.ensures ⨟ process ⨟ way ⨟ c.push-5.ensures ⨟ stock ⨟ c.push-6.ensures)
+    (c.write_number_behind.ensures ⨟ c.push.ensures ⨟ (rw c.text.ensures.text at c.push-2.ensures)
+    ⨟ process ⨟ way ⨟ stock ⨟ c.push-3.ensures)
 
 pub in_process-requires-clause-sound : goal.in_process-requires-clause-sound
 in_process-requires-clause-sound g c = subst IsSound (sym c.requires.run.numbers) c.requires.run.of_plant.sound

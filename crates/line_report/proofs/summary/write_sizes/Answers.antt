@@ -5,7 +5,7 @@ use Rattle.line_report.proofs.summary.write_sizes.Goals as goal
 pub returns : goal.returns
 unfolding size_lines
 returns g c =
-    let stations = rw (c.from.ensures, c.stations-stations.ensures.count) at c.write_number.ensures in
-    let jobs = rw (c.from-2.ensures, c.jobs-jobs.ensures.count) at c.write_number-2.ensures in
-    let firings = rw (c.from-3.ensures, c.stations-stations.ensures.count, c.jobs-jobs.ensures.count) at c.write_number-3.ensures in
+    let stations = rw c.stations-stations.ensures.count at c.write_number_line.ensures in
+    let jobs = rw c.jobs-jobs.ensures.count at c.write_number_line-2.ensures in
+    let firings = rw (c.stations-stations.ensures.count, c.jobs-jobs.ensures.count) at c.write_number_line-3.ensures in
     stations ⨟ jobs ⨟ firings

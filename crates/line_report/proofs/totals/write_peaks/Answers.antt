@@ -1,8 +1,7 @@
 use Rattle.std.proofs.Common.{arith}
 use Rattle.event_graph.specs.Table.{date_in}
-use Rattle.line_io.proofs.OutgoingLemmas.{pushed_none}
+use Rattle.line_io.proofs.OutgoingLemmas.{pushed_none, pushed_next}
 use Rattle.line_report.specs.ReportText.{peak_line}
-use Rattle.line_report.proofs.Lines.{pushed_line}
 use Rattle.line_report.proofs.totals.write_peaks.Goals as goal
 
 pub loop-stage-init : goal.loop-stage-init
@@ -10,4 +9,4 @@ loop-stage-init g c = pushed_none _
 
 pub loop-stage-preserved : goal.loop-stage-preserved
 loop-stage-preserved g c =
-    pushed_line (peak_line c.args.run.now.plant (date_in c.args.run.now.table.rows)) 0 c.loop-stage.stage c.loop-stage.stage (omega arith) c.loop-stage.invariant c.write_peak.ensures
+    pushed_next (peak_line c.args.run.now.plant (date_in c.args.run.now.table.rows)) 0 c.loop-stage.stage c.loop-stage.stage (omega arith) c.loop-stage.invariant c.write_peak.ensures

@@ -5,6 +5,6 @@ use Rattle.line_report.proofs.totals.write_totals.Goals as goal
 pub returns : goal.returns
 unfolding waiting_line last_line
 returns g c =
-    let waiting = rw c.waiting_total.ensures at c.push_wide_number.ensures in
-    let last = rw c.last.ensures at c.push_number.ensures in
-    (c.push.ensures ⨟ waiting ⨟ c.push-2.ensures) ⨟ c.push-3.ensures ⨟ last ⨟ c.push-4.ensures
+    let waiting = rw c.waiting_total.ensures at c.write_number_line.ensures in
+    let last = rw c.last.ensures at c.write_number_line-2.ensures in
+    waiting ⨟ last

@@ -1,4 +1,4 @@
-use Rattle.std.proofs.Common.{refl, arith}
+use Rattle.std.proofs.Common.{arith}
 use Rattle.event_graph.specs.Table.{date_in}
 use Rattle.line_summary.proofs.WaitLists.{percentile-sorted}
 use Rattle.line_summary.proofs.percentiles.percentiles_of.Goals as goal
@@ -13,5 +13,5 @@ returns c =
       p90 = percentile-sorted g x sorted 90 c.percentile-2.result c.requires.sorted (omega arith) c.percentile-2.ensures.enough c.percentile-2.ensures.least;
       p95 = percentile-sorted g x sorted 95 c.percentile-3.result c.requires.sorted (omega arith) c.percentile-3.ensures.enough c.percentile-3.ensures.least;
       p99 = percentile-sorted g x sorted 99 c.percentile-4.result c.requires.sorted (omega arith) c.percentile-4.ensures.enough c.percentile-4.ensures.least;
-      given = refl;
+      at_once = c.requires.zeros;
     }

@@ -31,9 +31,8 @@ pub percentiles_of-requires-clause-few : goal.percentiles_of-requires-clause-few
 percentiles_of-requires-clause-few c =
     omega (arith, long c, c.stations-stations.ensures.least.limits.few_jobs)
 
-pub returns-clause-at_once : goal.returns-clause-at_once
-returns-clause-at_once c =
-    c.percentiles_of.ensures.given
-    ∙ c.count_zeros-zeros.ensures.count
+pub percentiles_of-requires-clause-zeros : goal.percentiles_of-requires-clause-zeros
+percentiles_of-requires-clause-zeros c =
+    c.count_zeros-zeros.ensures.count
     ∙ ap (count_by (λ wait. wait == 0)) (c.as_slice.ensures.value ∙ c.in_ok-list.ensures)
     ∙ at_once-is c.args.table.now.graph (date_in c.args.table.now.rows)

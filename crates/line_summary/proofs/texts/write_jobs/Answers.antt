@@ -5,6 +5,7 @@ use Rattle.line_summary.proofs.texts.write_jobs.Goals as goal
 pub returns : goal.returns
 unfolding job_lines
 returns g c =
-    let ratio = rw (c.from.ensures, c.from-2.ensures) at c.push_thousandths.ensures in
-    (c.push.ensures ⨟ c.push_number.ensures ⨟ c.push-2.ensures)
-    ⨟ (c.push-3.ensures ⨟ c.push_number-2.ensures ⨟ c.push-4.ensures) ⨟ c.push-5.ensures ⨟ ratio ⨟ c.push-6.ensures
+    let jobs = rw c.from.ensures at c.write_number_line.ensures in
+    let last = rw c.from-2.ensures at c.write_number_line-2.ensures in
+    let ratio = rw (c.from-3.ensures, c.from-4.ensures) at c.write_ratio.ensures in
+    jobs ⨟ last ⨟ ratio ⨟ c.push.ensures

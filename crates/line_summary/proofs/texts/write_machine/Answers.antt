@@ -5,6 +5,5 @@ use Rattle.line_summary.proofs.texts.write_machine.Goals as goal
 pub returns : goal.returns
 unfolding machine_line
 returns g c =
-    let share = rw (c.from.ensures, c.from-2.ensures, c.from-3.ensures) at c.push_thousandths.ensures in
-    c.push.ensures ⨟ c.write_label.ensures ⨟ c.push-2.ensures ⨟ c.push_number.ensures ⨟ c.push-3.ensures ⨟ share
-    ⨟ c.push-4.ensures
+    let share = rw (c.from.ensures, c.from-2.ensures, c.from-3.ensures) at c.write_ratio.ensures in
+    c.push.ensures ⨟ c.write_label.ensures ⨟ c.write_number_behind.ensures ⨟ share ⨟ c.push-2.ensures

@@ -5,5 +5,5 @@ use Rattle.line_summary.proofs.texts.write_parts.Goals as goal
 pub returns : goal.returns
 unfolding parts_line
 returns g c =
-    let ratio = rw c.from.ensures at c.push_thousandths.ensures in
-    c.push.ensures ⨟ ratio ⨟ c.push-2.ensures
+    let ratio = rw c.from.ensures at c.write_ratio.ensures in
+    ratio ⨟ c.push.ensures

@@ -5,5 +5,5 @@ use Rattle.line_summary.proofs.texts.write_percentiles.Goals as goal
 pub returns : goal.returns
 unfolding percentile_line
 returns g c =
-    c.push.ensures ⨟ c.push_number.ensures ⨟ c.push-2.ensures ⨟ c.push_number-2.ensures ⨟ c.push-3.ensures
-    ⨟ c.push_number-3.ensures ⨟ c.push-4.ensures ⨟ c.push_number-4.ensures ⨟ c.push-5.ensures
+    c.write_number_behind.ensures ⨟ c.write_number_behind-2.ensures ⨟ c.write_number_behind-3.ensures
+    ⨟ c.write_number_behind-4.ensures ⨟ c.push.ensures

@@ -17,10 +17,10 @@ unfolding stage_line
 returns g c =
     let last = last-read c.args.line.now c.requires.line in
     let sums = c.stage_sums-sums.ensures in
-    let process = rw (sums.process, last) at c.write_mean.ensures in
-    let move = rw (sums.moving, last) at c.write_mean-2.ensures in
-    let stock = rw (sums.stock, last) at c.write_mean-3.ensures in
-    let peak = rw c.peak.ensures.peak at c.push_number.ensures in
+    let process = rw (sums.process, c.from.ensures, last) at c.write_ratio.ensures in
+    let move = rw (sums.moving, c.from-2.ensures, last) at c.write_ratio-2.ensures in
+    let stock = rw (sums.stock, c.from-3.ensures, last) at c.write_ratio-3.ensures in
+    let peak = rw c.peak.ensures.peak at c.write_number_behind.ensures in
     let bound = rw c.bound_of.ensures.bound at c.write_bound.ensures in
-    c.push.ensures ⨟ c.write_stage_name.ensures ⨟ process ⨟ move ⨟ stock ⨟ c.push-2.ensures ⨟ peak
-    ⨟ c.push-3.ensures ⨟ bound ⨟ c.push-4.ensures
+    c.push.ensures ⨟ c.write_stage_name.ensures ⨟ process ⨟ move ⨟ stock ⨟ peak
+    ⨟ c.push-2.ensures ⨟ bound ⨟ c.push-3.ensures

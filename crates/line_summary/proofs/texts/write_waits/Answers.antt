@@ -6,5 +6,4 @@ pub returns : goal.returns
 unfolding wait_line
 returns g c =
     let ratio = rw c.from.ensures at c.push_thousandths.ensures in
-    c.push.ensures ⨟ ratio ⨟ c.push-2.ensures ⨟ c.push_number.ensures ⨟ c.push-3.ensures ⨟ c.push_number-2.ensures
-    ⨟ c.push-4.ensures
+    c.push.ensures ⨟ ratio ⨟ c.write_number_behind.ensures ⨟ c.write_number_behind-2.ensures ⨟ c.push-2.ensures

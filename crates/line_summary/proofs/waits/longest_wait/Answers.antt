@@ -1,4 +1,4 @@
-use Rattle.std.proofs.Common.{◌≡◌, ◌+◌, ◌-◌, [], get_or, length, ap, ◌∙◌, sym, subst, arith}
+use Rattle.std.proofs.Common.{◌≡◌, ◌+◌, ◌-◌, length, ap, ◌∙◌, subst, arith}
 use Rattle.event_graph.specs.Network.{jobs}
 use Rattle.event_graph.specs.Table.{date_in}
 use Rattle.line_summary.specs.Waits.{wait, most_wait, worst_job}

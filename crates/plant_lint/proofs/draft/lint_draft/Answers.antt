@@ -1,5 +1,5 @@
-use Rattle.std.proofs.Common.{sym, ◌∙◌}
-use Rattle.plant_lint.proofs.DraftLints.{no_true, some_refused}
+use Rattle.std.proofs.Common.{refl, sym, ◌∙◌}
+use Rattle.plant_lint.proofs.DraftLints.{some_refused, none_found}
 use Rattle.plant_lint.proofs.draft.lint_draft.Goals as goal
 
 pub lint_tables-requires : goal.lint_tables-requires
@@ -7,10 +7,9 @@ lint_tables-requires c = record {
   demands_where_used = c.requires.demands_where_used;
   times_where_used = c.requires.times_where_used;
   times_size = c.requires.times_size;
-  good = sym c.in_ok-faults.ensures ∙ c.is_empty.ensures.0 c.if-is_empty.true;
+  good = none_found _ (sym c.in-Ok-None.field-0-is ∙ c.in-Ok-None.ensures);
 }
 
-pub returns : goal.returns
-returns c =
-    some_refused c.args.draft _ _ c.in_ok-faults.faults c.refused.result
-    (λ none. no_true _ (c.is_empty.ensures.1 none) c.if-is_empty.false) c.in_ok-faults.ensures (rw c.as_slice.ensures at c.refused.ensures)
+pub returns-in-Ok-Some : goal.returns-in-Ok-Some
+returns-in-Ok-Some c =
+    some_refused c.args.draft _ _ _ c.in-Ok-Some.lines refl (sym c.in-Ok-Some.field-0-is ∙ c.in-Ok-Some.ensures)

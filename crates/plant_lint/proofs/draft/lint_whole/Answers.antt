@@ -1,7 +1,7 @@
 use Rattle.std.proofs.Common.{ℕ, List, Bor, ◌∙◌, refl, sym}
 use Rattle.std.specs.Prelude.{option_map}
 use Rattle.plant_model.specs.Refusals.{whole_refusals}
-use Rattle.plant_refusals.specs.PlantNotes.{plant_notes}
+use Rattle.plant_check.specs.PlantNotes.{plant_notes}
 use Rattle.plant_lint.proofs.DraftLints.{none_refused}
 use Rattle.plant_lint.proofs.draft.lint_whole.Goals as goal
 

@@ -5,9 +5,12 @@ use Rattle.plant_keys.specs.Code.{views}
 use Rattle.plant_keys.specs.Readers.{name_in}
 use Rattle.plant_keys.specs.Walk.{machine_name_twice}
 use Rattle.plant_lint.specs.Faults.{plain}
-use Rattle.plant_lint.proofs.Gathering.{gathers}
-use Rattle.plant_lint.proofs.SeenNames.{seen_more, name_twice-same}
+use Rattle.plant_lint.proofs.Gathering.{gathered_none, gathers, gathered_all}
+use Rattle.plant_lint.proofs.SeenNames.{none_seen, seen_more, name_twice-same}
 use Rattle.plant_lint.proofs.names.find_in_machines.Goals as goal
+
+pub loop-j-init : goal.loop-j-init
+loop-j-init c = (gathered_none _ _ _, none_seen _ c.requires)
 
 pub loop-j-preserved : goal.loop-j-preserved
 loop-j-preserved c =
@@ -20,3 +23,8 @@ loop-j-preserved c =
           ∙ ap (λ found. c.loop-j.faults.items ++ plain found) (name_twice-same (InMachine c.args.i j) c.loop-j.seen (take j names) (name_in (view x)) c.loop-j.invariant.1)),
       seen_more rows j x _ _ c.loop-j.invariant.1 (rw c.text_at.ensures at c.in_ok-find_name.ensures.added) (omega arith) c.index-machines-j.is,
     )
+
+pub returns : goal.returns
+returns c =
+    let names = map name_in (views c.args.machines.now) in
+    gathered_all (λ j m. plain (machine_name_twice c.args.i names j (view m))) c.args.machines.now c.loop-j.j _ _ c.loop-j.invariant.0 (omega arith)

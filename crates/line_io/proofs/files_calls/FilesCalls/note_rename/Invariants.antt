@@ -1,8 +1,6 @@
-use Rattle.std.proofs.Common.{◌++◌, ◌∷◌, []}
 use Rattle.std.specs.Prelude.{is_ok}
 use Rattle.line_io.specs.RawFiles.{Renames}
 use Rattle.line_io.proofs.files_calls.FilesCalls.note_rename.Given as goal
 
--- the calls of before, and this one
-abbrev pub ghost-of : goal.ghost-of
-ghost-of a = a.from.now.0.now.items ++ Renames a.from.now.1.now a.from.now.2.now (is_ok a.from.now.3.now) ∷ []
+abbrev pub ghost-note_call : goal.ghost-note_call
+ghost-note_call a = Renames a.given.now a.also.now (is_ok a.answer)

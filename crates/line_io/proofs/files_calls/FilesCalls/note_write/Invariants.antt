@@ -1,7 +1,5 @@
-use Rattle.std.proofs.Common.{◌++◌, ◌∷◌, []}
 use Rattle.line_io.specs.RawFiles.{write_call}
 use Rattle.line_io.proofs.files_calls.FilesCalls.note_write.Given as goal
 
--- the calls of before, and this one
-abbrev pub ghost-of : goal.ghost-of
-ghost-of a = a.from.now.0.now.items ++ write_call a.from.now.1.now a.from.now.2.now ∷ []
+abbrev pub ghost-note_call : goal.ghost-note_call
+ghost-note_call a = write_call a.given.now a.answer

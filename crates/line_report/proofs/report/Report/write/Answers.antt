@@ -1,5 +1,5 @@
 use Rattle.std.proofs.Common.{arith}
-use Rattle.line_report.proofs.Lines.{text_written}
+use Rattle.line_io.proofs.OutgoingLemmas.{text_written}
 use Rattle.line_report.proofs.report.Report.write.Goals as goal
 
 pub write_text-requires-clause-run : goal.write_text-requires-clause-run

@@ -1,4 +1,4 @@
-use Rattle.line_report.proofs.Lines.{text_written}
+use Rattle.line_io.proofs.OutgoingLemmas.{text_written}
 use Rattle.line_report.proofs.report.Report.write_summary.Goals as goal
 
 pub write_short_text-requires : goal.write_short_text-requires

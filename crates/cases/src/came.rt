@@ -1,0 +1,152 @@
+//! A command over files, a sink and a disk in memory.
+use crate::looks::{arcs_of, circuits_of};
+use crate::runner::{Attempt, Found};
+use case_format::{Crash, Faults, Reason, Slots, held, where_well, with};
+use line_disk::MemDisk;
+use line_io::{Files, MemSink, MemStore, put_all};
+use line_workers::FreeGate;
+use pull_cli::pull;
+use std::alloc::Global;
+use std::sync::Wait;
+use std::thread::Threads;
+
+/// What comes of a command: its status, and the files, the sink and the disk as it leaves them.
+#[derive(Drop)]
+pub struct Came {
+    pub status: u8,
+    store: MemStore,
+    sink: MemSink,
+    disk: MemDisk,
+}
+
+impl Came {
+    /// What a command finds.
+    fn before(alloc: Global, attempt: &Attempt) -> Result<Self, Reason> {
+        let faults = attempt.faults;
+        let sink = sink_of(alloc, faults)?;
+        let (sink, store) = with(sink, store_of(alloc, attempt.files, faults))?;
+        let ((sink, store), disk) = with((sink, store), attempt.slots.disk(alloc, faults.disk))?;
+        Ok(Came {
+            status: 0,
+            store,
+            sink,
+            disk,
+        })
+    }
+
+    /// What was written.
+    pub fn written(&self) -> &[u8] {
+        self.sink.written()
+    }
+
+    /// The files.
+    pub fn files(&self) -> &Files {
+        self.store.files()
+    }
+
+    /// What is left to the commands below, where this crash comes.
+    pub fn left(&self, alloc: Global, crash: Option<Crash>) -> Result<Found, Reason> {
+        let slots = Slots::left_on(alloc, &self.disk, crash)?;
+        let (slots, files) = with(slots, copy_of(self.files()))?;
+        Ok(Found { files, slots })
+    }
+}
+
+/// A copy of files.
+fn copy_of(files: &Files) -> Result<Files, Reason> {
+    Ok(files.clone()?)
+}
+
+/// A sink with these faults.
+fn sink_of(alloc: Global, faults: Faults) -> Result<MemSink, Reason> {
+    let failing = vec![in alloc; faults.put]?;
+    let keep = faults.keep.unwrap_or(0);
+    Ok(MemSink::new(alloc, faults.room, failing, keep)?)
+}
+
+/// A store of these files, with these faults.
+fn store_of(alloc: Global, files: &Files, faults: Faults) -> Result<MemStore, Reason> {
+    let failing = vec![in alloc; faults.store]?;
+    let files = files.clone()?;
+    Ok(match faults.keep {
+        None => MemStore::new(alloc, files, failing),
+        Some(keep) => MemStore::torn(alloc, files, failing, keep),
+    })
+}
+
+/// What comes of a command: of a look, or of the top call.
+pub fn call<R: Threads + Wait + Sync>(
+    rt: &R,
+    alloc: Global,
+    attempt: &Attempt,
+) -> Result<Came, Reason> {
+    let mut came = Came::before(alloc, attempt)?;
+    let ran = run_words(rt, alloc, attempt, &mut came);
+    where_well(came, ran)
+}
+
+/// Runs the words of a command.
+fn run_words<R: Threads + Wait + Sync>(
+    rt: &R,
+    alloc: Global,
+    attempt: &Attempt,
+    came: &mut Came,
+) -> Result<(), Reason> {
+    let Some((program, words)) = attempt.words.split_first() else {
+        return Err(Reason::NoDirective);
+    };
+    if program.as_str() != "pull" {
+        return look(alloc, program.as_str(), words, attempt, &mut came.sink);
+    }
+    came.status = status_of(
+        rt,
+        alloc,
+        words,
+        &mut came.store,
+        &mut came.sink,
+        &mut came.disk,
+    );
+    Ok(())
+}
+
+/// The status of the top call. What its contract says is let go here.
+fn status_of<R: Threads + Wait + Sync>(
+    rt: &R,
+    alloc: Global,
+    words: &[String],
+    store: &mut MemStore,
+    sink: &mut MemSink,
+    disk: &mut MemDisk,
+) -> u8 {
+    pull(rt, alloc, words, store, sink, &FreeGate, disk)
+}
+
+/// Writes what a look shows.
+fn look(
+    alloc: Global,
+    name: &str,
+    words: &[String],
+    attempt: &Attempt,
+    sink: &mut MemSink,
+) -> Result<(), Reason> {
+    let text = look_of(alloc, name, words, attempt)?;
+    match put_all(sink, &text) {
+        Ok(()) => Ok(()),
+        Err(_) => Err(Reason::NoSink),
+    }
+}
+
+/// What a look at the slots or at a plant shows.
+fn look_of(
+    alloc: Global,
+    name: &str,
+    words: &[String],
+    attempt: &Attempt,
+) -> Result<Vec<u8>, Reason> {
+    match (name, words) {
+        ("slots", []) => attempt.slots.text(alloc),
+        ("arcs", [file]) => arcs_of(alloc, held(attempt.files, file.as_str())),
+        ("circuits", [file]) => circuits_of(alloc, held(attempt.files, file.as_str())),
+        _ => Err(Reason::NoDirective),
+    }
+}

@@ -1,0 +1,65 @@
+-- What a read took and counted, by how it ended.
+use Rattle.std.proofs.Common.{◌≡◌, ℕ, ◌+◌, ◌-◌, ◌^◌, ◌<◌, ◌≤◌, min, length, Vec, refl, sym, subst, arith}
+use Rattle.std.specs.Prelude.{Result, Ok, Err}
+use Rattle.std.specs.declared.alloc.Global.{Global}
+use Rattle.line_io.specs.Reading.{TakesToLimit}
+use Rattle.line_io.specs.declared.store.StoreError.{StoreError}
+use Rattle.line_io.specs.declared.store.StoreError.TheVariants as store_error
+
+-- at the end of the file
+pub takes_all : (limit taken before now : ℕ) (v : Vec ℕ Global) → taken ≡ length v.items → length v.items ≤ limit → now ≡ before → TakesToLimit limit taken before now (Ok v)
+takes_all limit taken before now v took few stays = record {
+  within_limit = few;
+  took_them = took;
+  too_long = ((λ long. cc), λ more. absurd (omega arith));
+  one_more_at_most = omega arith;
+  cause = λ failed. cc;
+  faults_stay = stays;
+  once = omega arith;
+  memory_is_no_fault = λ memory. cc;
+  faults_stay_or_rise = omega arith;
+}
+
+-- more than the limit was taken
+pub takes_too_long : (limit taken before now : ℕ) → limit < taken → taken ≤ limit + 1 → now ≡ before → TakesToLimit limit taken before now (Err store_error.TooLong)
+takes_too_long limit taken before now more few stays = record {
+  within_limit = tt;
+  took_them = tt;
+  too_long = ((λ long. more), λ is. refl);
+  one_more_at_most = few;
+  cause = λ failed. cc;
+  faults_stay = tt;
+  once = omega arith;
+  memory_is_no_fault = λ memory. cc;
+  faults_stay_or_rise = omega arith;
+}
+
+-- it was refused
+pub takes_until_refused : (limit taken before now : ℕ) (result : Result (Vec ℕ Global) StoreError) → result ≡ Err store_error.Failed → taken ≤ limit → now ≡ min (before + 1) (2 ^ 64 - 1) → before ≤ now → TakesToLimit limit taken before now result
+takes_until_refused limit taken before now result is few once later =
+    subst (λ answer. TakesToLimit limit taken before now answer) (sym is) (record {
+      within_limit = tt;
+      took_them = tt;
+      too_long = ((λ long. cc), λ more. absurd (omega arith));
+      one_more_at_most = omega arith;
+      cause = λ failed. omega arith;
+      faults_stay = tt;
+      once = omega arith;
+      memory_is_no_fault = λ memory. cc;
+      faults_stay_or_rise = later;
+    })
+
+-- there was no memory for what it gave
+pub takes_no_memory : (limit taken before now : ℕ) (result : Result (Vec ℕ Global) StoreError) → result ≡ Err store_error.NoMemory → taken ≤ limit → now ≡ before → TakesToLimit limit taken before now result
+takes_no_memory limit taken before now result is few stays =
+    subst (λ answer. TakesToLimit limit taken before now answer) (sym is) (record {
+      within_limit = tt;
+      took_them = tt;
+      too_long = ((λ long. cc), λ more. absurd (omega arith));
+      one_more_at_most = omega arith;
+      cause = λ failed. cc;
+      faults_stay = tt;
+      once = omega arith;
+      memory_is_no_fault = λ memory. stays;
+      faults_stay_or_rise = omega arith;
+    })

@@ -1,6 +1,0 @@
-use Rattle.line_io.proofs.OutgoingLemmas.{◌⨟◌}
-use Rattle.line_report.proofs.summary.write_number.Goals as goal
-
-pub returns : goal.returns
-returns g c =
-    c.push.ensures ⨟ c.push-2.ensures ⨟ c.push_wide_number.ensures ⨟ c.push-3.ensures

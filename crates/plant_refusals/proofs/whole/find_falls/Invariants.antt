@@ -1,6 +1,0 @@
-use Rattle.plant_model.specs.Refusals.{falling_date}
-use Rattle.plant_refusals.proofs.Collecting.{Collected}
-use Rattle.plant_refusals.proofs.whole.find_falls.Given as goal
-
-abbrev pub invariant-loop-k : goal.invariant-loop-k
-invariant-loop-k l = Collected (falling_date l.dates) l.dates l.k l.initial.refusals.items l.refusals.items
