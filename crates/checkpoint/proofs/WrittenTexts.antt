@@ -137,15 +137,15 @@ pub delay_words-same : (g : Parts) (n : ℕ) → delay g n ≤ 0 → flat_map (d
 delay_words-same g n none = ap (flat_map (delay_words g)) (delayed_below-no g n none)
 
 -- the parts of the line of the delays
-pub delays_written : (g : Parts) (start named counted written : List ℕ) → named ≡ start ++ codes "delays " → counted ≡ named ++ decimal (length (delayed_arcs g)) → written ≡ counted ++ flat_map (delay_words g) (delayed_arcs g) → written ++ codes "\n" ≡ start ++ delays_line g
+pub delays_written : (g : Parts) (start counted written : List ℕ) → counted ≡ start ++ (codes "delays " ++ decimal (length (delayed_arcs g))) → written ≡ counted ++ flat_map (delay_words g) (delayed_arcs g) → written ++ codes "\n" ≡ start ++ delays_line g
 unfolding delays_line
-delays_written g start named counted written name count words =
+delays_written g start counted written count words =
     let delays = flat_map (delay_words g) (delayed_arcs g) in
     let number = decimal (length (delayed_arcs g)) in
-    ap (λ l. l ++ codes "\n") (words ∙ ap (λ l. l ++ delays) (count ∙ ap (λ l. l ++ number) name))
-    ∙ append_assoc ((start ++ codes "delays ") ++ number) delays (codes "\n")
-    ∙ append_assoc (start ++ codes "delays ") number (delays ++ codes "\n")
-    ∙ append_assoc start (codes "delays ") (number ++ (delays ++ codes "\n"))
+    ap (λ l. l ++ codes "\n") (words ∙ ap (λ l. l ++ delays) count)
+    ∙ append_assoc (start ++ (codes "delays " ++ number)) delays (codes "\n")
+    ∙ append_assoc start (codes "delays " ++ number) (delays ++ codes "\n")
+    ∙ ap (λ l. start ++ l) (append_assoc (codes "delays ") number (delays ++ codes "\n"))
 
 -- ---- the lines of stations and arcs
 
@@ -173,16 +173,20 @@ station_words_written g t start named labelled spaced label' name text space is 
     ∙ append_assoc (start ++ codes "station ") (label g t) (codes " ")
     ∙ append_assoc start (codes "station ") (label g t ++ codes " ")
 
-pub place_words_written : (a : ℕ) (start named numbered spaced : List ℕ) → named ≡ start ++ codes "place " → numbered ≡ named ++ decimal a → spaced ≡ numbered ++ codes " " → spaced ≡ start ++ place_words a
+pub place_written : (a : ℕ) (start numbered spaced written dates : List ℕ) → numbered ≡ start ++ (codes "place " ++ decimal a) → spaced ≡ numbered ++ codes " " → written ≡ spaced ++ dates → written ≡ start ++ (place_words a ++ dates)
 unfolding place_words
-place_words_written a start named numbered spaced name text space =
-    space
-    ∙ ap (λ l. l ++ codes " ") (text ∙ ap (λ l. l ++ decimal a) name)
-    ∙ append_assoc (start ++ codes "place ") (decimal a) (codes " ")
-    ∙ append_assoc start (codes "place ") (decimal a ++ codes " ")
+place_written a start numbered spaced written dates number space dated =
+    let words = codes "place " ++ decimal a in
+    dated
+    ∙ ap (λ l. l ++ dates) (space ∙ ap (λ l. l ++ codes " ") number ∙ append_assoc start words (codes " ") ∙ ap (λ l. start ++ l) (append_assoc (codes "place ") (decimal a) (codes " ")))
+    ∙ append_assoc start (codes "place " ++ (decimal a ++ codes " ")) dates
 
 -- ---- the end of a function that writes
 
 pub ok_appended : {E : Type 0} (r : Result ⊤ E) (new old tail want : List ℕ) → new ≡ cond (is_ok r) (old ++ tail) old → old ++ tail ≡ want → IfOk r (λ _. new ≡ want)
 ok_appended (Ok x) new old tail want is h = is ∙ h
 ok_appended (Err e) new old tail want is h = tt
+
+pub ok_then : {E : Type 0} {P Q : Type 0} (r : Result ⊤ E) → IfOk r (λ _. P) → (P → Q) → IfOk r (λ _. Q)
+ok_then (Ok x) holds f = f holds
+ok_then (Err e) holds f = tt

@@ -5,11 +5,8 @@ ghost use Rattle.checkpoint.specs.Writing.{date_before, words_from};
 ghost use Rattle.checkpoint.specs.declared.format.Format.TheVariants.{Differences};
 
 use itoa::write_digits;
-use line_base::Date;
+use line_base::{Date, MAX_DIGITS};
 use std::alloc::AllocError;
-
-/// The most digits of a number of 64 bits.
-const MAX_DIGITS: usize = 20;
 
 /// The most bytes of a word, with the space before it: the space, `-`, and the digits.
 const MAX_WORD: usize = MAX_DIGITS + 2;

@@ -1,7 +1,8 @@
 ghost use Rattle.std.specs.Prelude.{◌≡◌, ◌≢◌, true, false, ◌++◌, ◌<◌, [], length, decimal, IfOk};
-ghost use Rattle.checkpoint.specs.Text.{dates_text, delayed_arcs, delays_line, two_words, station_lines, place_lines, filled, text};
+ghost use Rattle.checkpoint.specs.Text.{dates_text, delayed_arcs, delays_line, two_words, station_lines, place_lines, place_words, filled, text};
 ghost use Rattle.checkpoint.specs.declared.format.Format.TheVariants.{Differences};
 ghost use Rattle.event_graph.specs.Network.{stations, arc_count};
+ghost use Rattle.event_graph.specs.State.{place};
 ghost use Rattle.line_core.specs.Run.{IsReached};
 
 use crate::word_room::put_words;
@@ -21,6 +22,15 @@ fn put_number(text: &mut Vec<u8>, number: u64) -> Result<(), AllocError>
 {
     let mut digits = Buffer::new();
     text.extend_from_slice(digits.format(number).as_bytes())
+}
+
+/// Writes words and a number behind them at the end of a text.
+fn put_numbered(text: &mut Vec<u8>, words: &[u8], number: u64) -> Result<(), AllocError>
+    ensures { IfOk result
+        (λ _. text.new.items ≡ text.old.items ++ (words.now ++ decimal number)) }
+{
+    text.extend_from_slice(words)?;
+    put_number(text, number)
 }
 
 /// Writes how many dates there are, the dates, and the end of the line.
@@ -78,8 +88,7 @@ pub fn has_delays(graph: &Graph) -> bool
 pub fn put_delays(text: &mut Vec<u8>, graph: &Graph) -> Result<(), AllocError>
     ensures { IfOk result (λ _. text.new.items ≡ text.old.items ++ delays_line graph.now) }
 {
-    text.extend_from_slice(b"delays ")?;
-    put_number(text, u64::from(count_delayed(graph)))?;
+    put_numbered(text, b"delays ", u64::from(count_delayed(graph)))?;
     for a in 0..graph.arcs().len() as u32 {
         let delay = graph.delay(a);
         if delay > 0 {
@@ -93,10 +102,8 @@ pub fn put_delays(text: &mut Vec<u8>, graph: &Graph) -> Result<(), AllocError>
 fn put_delay(text: &mut Vec<u8>, a: u32, delay: u64) -> Result<(), AllocError>
     ensures { IfOk result (λ _. text.new.items ≡ text.old.items ++ two_words a delay) }
 {
-    text.extend_from_slice(b" ")?;
-    put_number(text, u64::from(a))?;
-    text.extend_from_slice(b" ")?;
-    put_number(text, delay)
+    put_numbered(text, b" ", u64::from(a))?;
+    put_numbered(text, b" ", delay)
 }
 
 /// Writes a line for each station: its label, and its log.
@@ -114,7 +121,26 @@ fn put_stations(text: &mut Vec<u8>, graph: &Graph, state: &State) -> Result<(), 
     Ok(())
 }
 
-/// Writes a line for each arc: its number, and its place.
+/// Writes the line of arc `a`: its number, and its place. The dates are gathered in a list first.
+fn put_place(
+    text: &mut Vec<u8>,
+    dates: &mut Vec<Date>,
+    live: &Live,
+    state: &State,
+    a: u32,
+) -> Result<(), AllocError>
+    requires made_for { live.now.graph ≡ state.now.graph }
+    requires arc { a < arc_count state.now.graph }
+    ensures { IfOk result
+        (λ _. text.new.items
+        ≡ text.old.items ++ (place_words a ++ dates_text Differences (place state.now.state a))) }
+{
+    put_numbered(text, b"place ", u64::from(a))?;
+    text.extend_from_slice(b" ")?;
+    put_tokens(text, dates, state.place(live, a))
+}
+
+/// Writes a line for each arc.
 fn put_places(
     text: &mut Vec<u8>,
     alloc: Global,
@@ -128,10 +154,7 @@ fn put_places(
 {
     let mut dates = Vec::new(alloc);
     for a in 0..live.graph().arcs().len() as u32 {
-        text.extend_from_slice(b"place ")?;
-        put_number(text, u64::from(a))?;
-        text.extend_from_slice(b" ")?;
-        put_tokens(text, &mut dates, state.place(live, a))?;
+        put_place(text, &mut dates, live, state, a)?;
     }
     Ok(())
 }

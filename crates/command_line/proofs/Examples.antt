@@ -11,7 +11,7 @@ use Rattle.command_line.specs.Numbers.{number_in}
 use Rattle.command_line.specs.Options.{with_flag, with_value, options_after}
 use Rattle.command_line.specs.Settings.{asked}
 use Rattle.command_line.specs.Screens.{topic_of}
-use Rattle.command_line.specs.Words.{after_help, after_big, after_resume, after_cards, after_curve, after_latest, plant_command, after_plant_word, command_of}
+use Rattle.command_line.specs.Words.{after_help, after_big, after_resume, after_cards, after_curve, after_latest, after_plant_word, command_of}
 use Rattle.command_line.specs.declared.command.Command.TheVariants.{Run, Replay, Big, Resume, RunSlots, RunRoom, RunStand, ResumeSlots, Cards, Curve, Latest, WhatIf, Help}
 use Rattle.command_line.specs.declared.screens.Topic.TheVariants as topic
 
@@ -80,7 +80,7 @@ commands : (command_of (codes "run" ∷ codes "a.toml" ∷ []) ≡ Some (Run (co
     × (command_of (codes "help" ∷ codes "whatif" ∷ []) ≡ Some (Help (Some topic.WhatIf)))
     × (command_of (codes "whatif" ∷ codes "--help" ∷ []) ≡ Some (Help (Some topic.WhatIf)))
     × (command_of (codes "big" ∷ codes "--help" ∷ []) ≡ Some (Help (Some topic.Big)))
-unfolding number_in with_flag with_value options_after asked topic_of after_help after_big after_resume after_cards after_curve after_latest plant_command after_plant_word
+unfolding number_in with_flag with_value options_after asked topic_of after_help after_big after_resume after_cards after_curve after_latest after_plant_word
 commands = (
   refl,
   rw numerals.none refl,
@@ -146,7 +146,7 @@ others : IsNone (codes "--help" ∷ codes "run" ∷ [])
     × IsNone (codes "run" ∷ codes "--workers" ∷ codes "2" ∷ codes "a.toml" ∷ [])
     × IsNone (codes "run" ∷ codes "c.ckpt" ∷ [])
     × IsNone (codes "resume" ∷ codes "a.toml" ∷ codes "b.toml" ∷ [])
-unfolding number_in with_flag with_value options_after asked topic_of after_help after_big after_resume after_cards after_curve after_latest plant_command after_plant_word
+unfolding number_in with_flag with_value options_after asked topic_of after_help after_big after_resume after_cards after_curve after_latest after_plant_word
 others = (
   refl,
   refl,

@@ -7,8 +7,10 @@ use Rattle.line_base.specs.Limits.{most_demands, most_cards}
 use Rattle.command_line.specs.Labels.{is_label_word}
 use Rattle.command_line.specs.Numbers.{number_in, longest_wait}
 use Rattle.command_line.specs.Settings.{Way, Asked, whole, stopped, saving, from_slots, bounded, standing, asked}
-use Rattle.command_line.specs.Words.{alone, run_command, resume_command, resume_slots_command, big_command, with_options, one_file, after_big, after_resume, each_command, after_cards, curve_command, are_counts, after_counts, after_curve, after_latest, after_why, window_command, after_chart, plant_command, after_plant_word, help_of, after_help, is_help, after_word, command_of}
+use Rattle.command_line.specs.Words.{alone, run_command, resume_command, resume_slots_command, big_command, with_options, one_file, after_big, after_resume, each_command, after_cards, curve_command, are_counts, after_counts, after_curve, after_latest, after_why, window_command, after_chart, plant_command, after_plant_word, after_topic, help_of, after_help, is_help, after_word, command_of}
 use Rattle.command_line.specs.Screens.{topic_of}
+use Rattle.command_line.specs.declared.screens.Topic.{Topic}
+use Rattle.command_line.specs.declared.screens.Topic.TheVariants as topic
 use Rattle.command_line.specs.declared.command.Command.{Command}
 use Rattle.command_line.specs.declared.command.Command.TheVariants.{Lint, Check, Replay, Resume, Cycle, Cards, CardsEach, Latest, Why, Summary, Table, WhatIf, Help, Version}
 
@@ -128,29 +130,32 @@ after_chart_named plant (from ∷ (to ∷ [])) =
     (λ a. then_named (λ b. window_command plant a b) (number_in 0 longest_wait to) (λ b. window_named plant a b))
 after_chart_named plant (from ∷ (to ∷ (word ∷ words))) = tt
 
-plant_command_named : (word plant : List ℕ) (words : List (List ℕ)) → is_file_name plant ≡ true → Named (plant_command word plant words)
-unfolding plant_command
-plant_command_named word plant words file =
-    if_named (bytes_eq word (codes "run")) _ _ (λ is. options_named (run_command plant) words (run_named plant))
-    (if_named (bytes_eq word (codes "lint")) _ _ (λ is. alone_named (Lint plant) words tt)
-    (if_named (bytes_eq word (codes "check")) _ _ (λ is. alone_named (Check plant) words tt)
-    (if_named (bytes_eq word (codes "replay")) _ _ (λ is. map_named (λ schedule. Replay plant schedule) (one_file words) (λ schedule. tt))
-    (if_named (bytes_eq word (codes "resume")) _ _ (λ is. after_resume_named plant file words)
-    (if_named (bytes_eq word (codes "cycle")) _ _ (λ is. alone_named (Cycle plant) words tt)
-    (if_named (bytes_eq word (codes "cards")) _ _ (λ is. after_cards_named plant words)
-    (if_named (bytes_eq word (codes "curve")) _ _ (λ is. after_curve_named plant words)
-    (if_named (bytes_eq word (codes "latest")) _ _ (λ is. after_latest_named plant words)
-    (if_named (bytes_eq word (codes "why")) _ _ (λ is. after_why_named plant words)
-    (if_named (bytes_eq word (codes "summary")) _ _ (λ is. alone_named (Summary plant) words tt)
-    (if_named (bytes_eq word (codes "table")) _ _ (λ is. alone_named (Table plant) words tt)
-    (if_named (bytes_eq word (codes "chart")) _ _ (λ is. after_chart_named plant words)
-    (if_named (bytes_eq word (codes "whatif")) _ None (λ is. map_named (λ edits. WhatIf plant edits) (one_file words) (λ edits. tt)) tt)))))))))))))
+plant_command_named : (topic : Topic) (plant : List ℕ) (words : List (List ℕ)) → is_file_name plant ≡ true → Named (plant_command topic plant words)
+plant_command_named topic.Run plant words file = options_named (run_command plant) words (run_named plant)
+plant_command_named topic.Lint plant words file = alone_named (Lint plant) words tt
+plant_command_named topic.Check plant words file = alone_named (Check plant) words tt
+plant_command_named topic.Replay plant words file = map_named (λ schedule. Replay plant schedule) (one_file words) (λ schedule. tt)
+plant_command_named topic.Resume plant words file = after_resume_named plant file words
+plant_command_named topic.Cycle plant words file = alone_named (Cycle plant) words tt
+plant_command_named topic.Cards plant words file = after_cards_named plant words
+plant_command_named topic.Curve plant words file = after_curve_named plant words
+plant_command_named topic.Latest plant words file = after_latest_named plant words
+plant_command_named topic.Why plant words file = after_why_named plant words
+plant_command_named topic.Summary plant words file = alone_named (Summary plant) words tt
+plant_command_named topic.Table plant words file = alone_named (Table plant) words tt
+plant_command_named topic.Chart plant words file = after_chart_named plant words
+plant_command_named topic.WhatIf plant words file = map_named (λ edits. WhatIf plant edits) (one_file words) (λ edits. tt)
+plant_command_named topic.Big plant words file = tt
 
-plant_word_named : (word : List ℕ) (words : List (List ℕ)) → Named (after_plant_word word words)
+plant_word_named : (topic : Topic) (words : List (List ℕ)) → Named (after_plant_word topic words)
 unfolding after_plant_word
-plant_word_named word [] = tt
-plant_word_named word (plant ∷ words) =
-    if_named (is_file_name plant) (plant_command word plant words) None (plant_command_named word plant words) tt
+plant_word_named topic [] = tt
+plant_word_named topic (plant ∷ words) =
+    if_named (is_file_name plant) (plant_command topic plant words) None (plant_command_named topic plant words) tt
+
+topic_named : (topic : Topic) (words : List (List ℕ)) → Named (after_topic topic words)
+topic_named topic.Big words = after_big_named words
+topic_named topic words = plant_word_named topic words
 
 help_of_named : (word : List ℕ) → Named (help_of word)
 help_of_named word = map_named (λ topic. Help (Some topic)) (topic_of word) (λ topic. tt)
@@ -163,8 +168,8 @@ after_help_named (word ∷ (other ∷ words)) = tt
 
 word_named : (word : List ℕ) (words : List (List ℕ)) → Named (after_word word words)
 word_named word words =
-    if_named (is_help words) _ _ (λ is. help_of_named word)
-    (if_named (bytes_eq word (codes "big")) _ _ (λ is. after_big_named words) (plant_word_named word words))
+    then_named (λ topic. if is_help words then Some (Help (Some topic)) else after_topic topic words) (topic_of word)
+    (λ topic. if_named (is_help words) (Some (Help (Some topic))) (after_topic topic words) (λ is. tt) (topic_named topic words))
 
 command_named : (words : List (List ℕ)) → Named (command_of words)
 command_named [] = tt

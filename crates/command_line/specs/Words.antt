@@ -7,10 +7,14 @@ use Rattle.command_line.specs.Labels.{is_label_word}
 use Rattle.command_line.specs.Numbers.{number_in, longest_wait, most_counts}
 use Rattle.command_line.specs.Settings.{Way, whole, stopped, saving, from_slots, bounded, standing, asked}
 use Rattle.command_line.specs.Screens.{topic_of}
+use Rattle.command_line.specs.declared.screens.Topic.{Topic}
+use Rattle.command_line.specs.declared.screens.Topic.TheVariants as topic
 use Rattle.command_line.specs.declared.command.Command.{Command}
 use Rattle.command_line.specs.declared.command.Command.TheVariants.{Run, Lint, Check, Replay, Big, Resume, Cycle, RunSlots, RunRoom, RunStand, ResumeSlots, Cards, CardsEach, Curve, Latest, Why, Summary, Table, Chart, WhatIf, Help, Version}
 use Rattle.command_line.specs.declared.words.Question.{Question}
 use Rattle.command_line.specs.declared.words.Question.TheVariants as question
+use Rattle.command_line.specs.declared.words.FileQuestion.{FileQuestion}
+use Rattle.command_line.specs.declared.words.FileQuestion.TheVariants as file_question
 
 -- a command with no word behind it
 abbrev pub alone : Command → List (List ℕ) → Option Command
@@ -67,6 +71,11 @@ asking question.Check plant = Check plant
 asking question.Cycle plant = Cycle plant
 asking question.Summary plant = Summary plant
 asking question.Table plant = Table plant
+
+-- `replay PLANT SCHEDULE` and `whatif PLANT EDITS`
+abbrev pub asking_of_file : FileQuestion → List ℕ → List ℕ → Command
+asking_of_file file_question.Replay plant schedule = Replay plant schedule
+asking_of_file file_question.WhatIf plant edits = WhatIf plant edits
 
 -- one word, which names a file
 abbrev pub one_file : List (List ℕ) → Option (List ℕ)
@@ -139,29 +148,28 @@ after_chart plant (from ∷ (to ∷ [])) =
     (number_in 0 longest_wait from)
 after_chart plant words = None
 
--- the commands whose first operand is a plant
-unfoldable pub plant_command : List ℕ → List ℕ → List (List ℕ) → Option Command
-plant_command word plant words =
-    if bytes_eq word (codes "run") then with_options (run_command plant) words
-    else if bytes_eq word (codes "lint") then alone (Lint plant) words
-    else if bytes_eq word (codes "check") then alone (Check plant) words
-    else if bytes_eq word (codes "replay") then option_map (λ schedule. Replay plant schedule) (one_file words)
-    else if bytes_eq word (codes "resume") then after_resume plant words
-    else if bytes_eq word (codes "cycle") then alone (Cycle plant) words
-    else if bytes_eq word (codes "cards") then after_cards plant words
-    else if bytes_eq word (codes "curve") then after_curve plant words
-    else if bytes_eq word (codes "latest") then after_latest plant words
-    else if bytes_eq word (codes "why") then after_why plant words
-    else if bytes_eq word (codes "summary") then alone (Summary plant) words
-    else if bytes_eq word (codes "table") then alone (Table plant) words
-    else if bytes_eq word (codes "chart") then after_chart plant words
-    else if bytes_eq word (codes "whatif") then option_map (λ edits. WhatIf plant edits) (one_file words)
-    else None
+-- the command of a topic, of the plant behind its word, and of the words behind that; `big` takes no plant
+abbrev pub plant_command : Topic → List ℕ → List (List ℕ) → Option Command
+plant_command topic.Run plant words = with_options (run_command plant) words
+plant_command topic.Lint plant words = alone (Lint plant) words
+plant_command topic.Check plant words = alone (Check plant) words
+plant_command topic.Replay plant words = option_map (λ schedule. Replay plant schedule) (one_file words)
+plant_command topic.Resume plant words = after_resume plant words
+plant_command topic.Cycle plant words = alone (Cycle plant) words
+plant_command topic.Cards plant words = after_cards plant words
+plant_command topic.Curve plant words = after_curve plant words
+plant_command topic.Latest plant words = after_latest plant words
+plant_command topic.Why plant words = after_why plant words
+plant_command topic.Summary plant words = alone (Summary plant) words
+plant_command topic.Table plant words = alone (Table plant) words
+plant_command topic.Chart plant words = after_chart plant words
+plant_command topic.WhatIf plant words = option_map (λ edits. WhatIf plant edits) (one_file words)
+plant_command topic.Big plant words = None
 
--- the words behind the first, where that is one of those commands
-unfoldable pub after_plant_word : List ℕ → List (List ℕ) → Option Command
-after_plant_word word [] = None
-after_plant_word word (plant ∷ words) = if is_file_name plant then plant_command word plant words else None
+-- the words behind the first, where that names one of those commands
+unfoldable pub after_plant_word : Topic → List (List ℕ) → Option Command
+after_plant_word topic [] = None
+after_plant_word topic (plant ∷ words) = if is_file_name plant then plant_command topic plant words else None
 
 -- the screen of the command that a word names
 abbrev pub help_of : List ℕ → Option Command
@@ -178,12 +186,16 @@ abbrev pub is_help : List (List ℕ) → Bool
 is_help (word ∷ []) = bytes_eq word (codes "--help")
 is_help words = false
 
+-- the words behind the first, where that names a command
+abbrev pub after_topic : Topic → List (List ℕ) → Option Command
+after_topic topic.Big words = after_big words
+after_topic topic words = after_plant_word topic words
+
 -- the words behind the first, where that is a command's
 abbrev pub after_word : List ℕ → List (List ℕ) → Option Command
 after_word word words =
-    if is_help words then help_of word
-    else if bytes_eq word (codes "big") then after_big words
-    else after_plant_word word words
+    option_and_then (λ topic. if is_help words then Some (Help (Some topic)) else after_topic topic words)
+    (topic_of word)
 
 -- the command that the words are, if they are one
 abbrev pub command_of : List (List ℕ) → Option Command

@@ -98,34 +98,25 @@ fn with_flag<'a>(given: Options<'a>, name: &str) -> Option<Options<'a>>
 
 /// The options with one more that takes a value.
 #[tactic(auto, unfolding(crate::specs::Options::with_value))]
-fn with_value<'a>(given: Options<'a>, name: &str, word: &'a str) -> Option<Options<'a>>
+fn with_value<'a>(mut given: Options<'a>, name: &str, word: &'a str) -> Option<Options<'a>>
     requires range { AreInRange given }
     ensures given { option_map seen result ≡ with_value (seen given.entry) name.now word.now }
     ensures range { IfSome result AreInRange }
 {
     match name {
-        "--workers" => Some(Options {
-            workers: Some(once(given.workers, workers_in(word))?),
-            ..given
-        }),
-        "--stop-after" => Some(Options {
-            stop_after: Some(once(given.stop_after, number_in(word, 0, MAX_FIRINGS))?),
-            ..given
-        }),
-        "--every" => Some(Options {
-            every: Some(once(given.every, number_in(word, 1, MAX_FIRINGS))?),
-            ..given
-        }),
-        "--room" => Some(Options {
-            room: Some(once(given.room, room_in(word))?),
-            ..given
-        }),
-        "--save" if given.save.is_none() && is_checkpoint_name(word.as_bytes()) => Some(Options {
-            save: Some(word),
-            ..given
-        }),
-        _ => None,
+        "--workers" => given.workers = Some(once(given.workers, workers_in(word))?),
+        "--stop-after" => {
+            let after = number_in(word, 0, MAX_FIRINGS);
+            given.stop_after = Some(once(given.stop_after, after)?);
+        }
+        "--every" => given.every = Some(once(given.every, number_in(word, 1, MAX_FIRINGS))?),
+        "--room" => given.room = Some(once(given.room, room_in(word))?),
+        "--save" if given.save.is_none() && is_checkpoint_name(word.as_bytes()) => {
+            given.save = Some(word);
+        }
+        _ => return None,
     }
+    Some(given)
 }
 
 /// The value of an option that wasn't given before.

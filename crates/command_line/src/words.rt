@@ -1,4 +1,4 @@
-ghost use Rattle.std.specs.Prelude.{◌≡◌, ◌≤◌, ◌↔◌, IfOk, IsErrOf, Some, None, option_and_then};
+ghost use Rattle.std.specs.Prelude.{◌≡◌, ◌≤◌, ◌↔◌, IfOk, IsErrOf, Some, None, option_and_then, option_map};
 ghost use Rattle.command_line.specs.Numbers.{number_in, longest_wait};
 ghost use Rattle.command_line.specs.Options.{texts};
 ghost use Rattle.command_line.specs.Ranges.{IsInRange};
@@ -10,7 +10,7 @@ ghost use Rattle.command_line.specs.Words.{with_options, one_file, after_big, af
 ghost use Rattle.command_line.specs.Words.{each_command, after_cards, after_counts, after_curve, latest_command};
 ghost use Rattle.command_line.specs.Words.{after_latest, why_command, after_why, window_command, after_chart};
 ghost use Rattle.command_line.specs.Words.{plant_command, after_plant_word, help_of, after_help, is_help, after_word};
-ghost use Rattle.command_line.specs.Words.{command_of};
+ghost use Rattle.command_line.specs.Words.{asking_of_file, command_of};
 
 use crate::command::{Command, Stop, WordsError};
 use crate::file_name::FileName;
@@ -18,10 +18,10 @@ use crate::first::first_word;
 use crate::label::is_label_word;
 use crate::limits::{MAX_COUNTS, MAX_WAIT};
 use crate::number::{cards_in, number_in};
-use crate::screens::topic_of;
+use crate::screens::{Topic, topic_of};
 use crate::settings::{Mode, settings_of};
-use line_base::{MAX_DEMANDS, Text, is_checkpoint_name, is_file_name};
-use std::alloc::Global;
+use line_base::{MAX_DEMANDS, is_checkpoint_name, is_file_name};
+use std::alloc::{AllocError, Global};
 
 /// Reads the words after the program's name: the command first, then its operands in order, then its options in any
 /// order. `Usage` comes exactly where they are no command, and `NoMemory` only where they are one.
@@ -77,12 +77,15 @@ fn is_help(words: &[String]) -> bool
 fn of_command(alloc: Global, word: &str, words: &[String]) -> Result<Command, WordsError>
     ensures { IsReadAs result (after_word word.now (texts words.now)) }
 {
+    let Some(topic) = topic_of(word) else {
+        return Err(WordsError::Usage);
+    };
     if is_help(words) {
-        return help_of(word);
+        return Ok(Command::Help { topic: Some(topic) });
     }
-    match word {
-        "big" => big(words),
-        _ => of_plant(alloc, word, words),
+    match topic {
+        Topic::Big => big(words),
+        _ => of_plant(alloc, topic, words),
     }
 }
 
@@ -121,10 +124,10 @@ fn big(words: &[String]) -> Result<Command, WordsError>
     }
 }
 
-/// The command of a word and of the words behind it, of which the first names a plant.
-#[tactic(auto, unfolding(crate::specs::Words::after_plant_word, crate::specs::Words::plant_command))]
-fn of_plant(alloc: Global, word: &str, words: &[String]) -> Result<Command, WordsError>
-    ensures { IsReadAs result (after_plant_word word.now (texts words.now)) }
+/// The command of a topic and of the words behind its word, of which the first names a plant.
+#[tactic(auto, unfolding(crate::specs::Words::after_plant_word))]
+fn of_plant(alloc: Global, topic: Topic, words: &[String]) -> Result<Command, WordsError>
+    ensures { IsReadAs result (after_plant_word topic (texts words.now)) }
 {
     let Some((plant, words)) = first_word(words) else {
         return Err(WordsError::Usage);
@@ -132,28 +135,34 @@ fn of_plant(alloc: Global, word: &str, words: &[String]) -> Result<Command, Word
     if !is_file_name(plant.as_bytes()) {
         return Err(WordsError::Usage);
     }
-    match word {
-        "run" => run(alloc, plant, words),
-        "lint" => ask(alloc, plant, words, Question::Lint),
-        "check" => ask(alloc, plant, words, Question::Check),
-        "replay" => {
-            let (plant, schedule) = plant_and_file(alloc, plant, words)?;
-            Ok(Command::Replay { plant, schedule })
-        }
-        "resume" => resume(alloc, plant, words),
-        "cycle" => ask(alloc, plant, words, Question::Cycle),
-        "cards" => cards(alloc, plant, words),
-        "curve" => curve(alloc, plant, words),
-        "latest" => latest(alloc, plant, words),
-        "why" => why(alloc, plant, words),
-        "summary" => ask(alloc, plant, words, Question::Summary),
-        "chart" => chart(alloc, plant, words),
-        "table" => ask(alloc, plant, words, Question::Table),
-        "whatif" => {
-            let (plant, edits) = plant_and_file(alloc, plant, words)?;
-            Ok(Command::WhatIf { plant, edits })
-        }
-        _ => Err(WordsError::Usage),
+    plant_command(alloc, topic, plant, words)
+}
+
+/// The command of a topic, of the plant behind its word, and of the words behind that; `big` takes no plant.
+fn plant_command(
+    alloc: Global,
+    topic: Topic,
+    plant: &str,
+    words: &[String],
+) -> Result<Command, WordsError>
+    ensures { IsReadAs result (plant_command topic plant.now (texts words.now)) }
+{
+    match topic {
+        Topic::Run => run(alloc, plant, words),
+        Topic::Lint => ask(alloc, plant, words, Question::Lint),
+        Topic::Check => ask(alloc, plant, words, Question::Check),
+        Topic::Replay => ask_file(alloc, plant, words, FileQuestion::Replay),
+        Topic::Resume => resume(alloc, plant, words),
+        Topic::Cycle => ask(alloc, plant, words, Question::Cycle),
+        Topic::Cards => cards(alloc, plant, words),
+        Topic::Curve => curve(alloc, plant, words),
+        Topic::Latest => latest(alloc, plant, words),
+        Topic::Why => why(alloc, plant, words),
+        Topic::Summary => ask(alloc, plant, words, Question::Summary),
+        Topic::Chart => chart(alloc, plant, words),
+        Topic::Table => ask(alloc, plant, words, Question::Table),
+        Topic::WhatIf => ask_file(alloc, plant, words, FileQuestion::WhatIf),
+        Topic::Big => Err(WordsError::Usage),
     }
 }
 
@@ -234,23 +243,46 @@ fn ask(
     }
 }
 
-/// The names of the plant and of the one file that words behind it name.
-fn plant_and_file(
+/// What is asked of a plant and of one more file.
+#[derive(Clone, Copy)]
+enum FileQuestion {
+    /// `replay PLANT SCHEDULE`.
+    Replay,
+    /// `whatif PLANT EDITS`.
+    WhatIf,
+}
+
+/// The command of the words behind a question and a plant, of which there is one, the name of a file.
+fn ask_file(
     alloc: Global,
     plant: &str,
     words: &[String],
-) -> Result<(FileName, FileName), WordsError>
-    ensures plant { IfOk result (λ names. names.0 ≡ plant.now) }
-    ensures file { IfOk result (λ names. one_file (texts words.now) ≡ Some names.1) }
-    ensures usage { IsErrOf result WordsError.Usage ↔ (one_file (texts words.now) ≡ None) }
+    question: FileQuestion,
+) -> Result<Command, WordsError>
+    ensures { IsReadAs result (option_map (asking_of_file question plant.now) (one_file (texts words.now))) }
 {
-    match words {
-        [file] if is_file_name(file.as_bytes()) => Ok((
-            FileName::of(alloc, plant)?,
-            FileName::of(alloc, file.as_str())?,
-        )),
-        _ => Err(WordsError::Usage),
+    let [file] = words else {
+        return Err(WordsError::Usage);
+    };
+    if !is_file_name(file.as_bytes()) {
+        return Err(WordsError::Usage);
     }
+    let (plant, file) = two_names(alloc, plant, file.as_str())?;
+    match question {
+        FileQuestion::Replay => Ok(Command::Replay {
+            plant,
+            schedule: file,
+        }),
+        FileQuestion::WhatIf => Ok(Command::WhatIf { plant, edits: file }),
+    }
+}
+
+/// Two names.
+fn two_names(alloc: Global, first: &str, second: &str) -> Result<(FileName, FileName), AllocError>
+    ensures first { IfOk result (λ names. names.0 ≡ first.now) }
+    ensures second { IfOk result (λ names. names.1 ≡ second.now) }
+{
+    Ok((FileName::of(alloc, first)?, FileName::of(alloc, second)?))
 }
 
 /// The command of the words behind `resume PLANT`.
@@ -280,14 +312,15 @@ fn resume_file(
     let Some(settings) = settings_of(options) else {
         return Err(WordsError::Usage);
     };
-    match settings.mode {
-        Mode::Whole => Ok(Command::Resume {
-            plant: FileName::of(alloc, plant)?,
-            saved: FileName::of(alloc, saved)?,
-            workers: settings.workers,
-        }),
-        _ => Err(WordsError::Usage),
-    }
+    let Mode::Whole = settings.mode else {
+        return Err(WordsError::Usage);
+    };
+    let (plant, saved) = two_names(alloc, plant, saved)?;
+    Ok(Command::Resume {
+        plant,
+        saved,
+        workers: settings.workers,
+    })
 }
 
 /// The command of the options behind `resume PLANT`.
@@ -437,9 +470,10 @@ fn why_date(alloc: Global, plant: &str, label: &str, job: &str) -> Result<Comman
     let Some(job) = number_in(job, 1, MAX_DEMANDS as u64) else {
         return Err(WordsError::Usage);
     };
+    let (plant, label) = two_names(alloc, plant, label)?;
     Ok(Command::Why {
-        plant: FileName::of(alloc, plant)?,
-        label: Text::of(alloc, label)?,
+        plant,
+        label,
         job: job as u32,
     })
 }

@@ -3,7 +3,7 @@
 use Rattle.std.specs.Prelude.{◌≡◌, ◌⊎◌, ◌<◌, ◌≤◌, ℕ, List, map, sum, length, Option, Some, Result, Ok, Err}
 use Rattle.answers.specs.Answer.{version}
 use Rattle.command_line.specs.Screens.{help_text}
-use Rattle.big_plant.specs.Big.{big_plant}
+use Rattle.live_plant.specs.Big.{big_plant}
 use Rattle.std.specs.Bool.{IsTrue}
 use Rattle.card_sizing.specs.Sizing.{NoneServesBelow, IsBelow, IsSizingRefusal}
 use Rattle.card_sizing.specs.Sized.{has_single_count}

@@ -1,6 +1,6 @@
 //! The run of the plant of a seed.
 ghost use Rattle.std.specs.Prelude.{◌≡◌, ◌⊎◌, Err, IfErr, IfOk};
-ghost use Rattle.big_plant.specs.Big.{big_plant};
+ghost use Rattle.live_plant.specs.Big.{big_plant};
 ghost use Rattle.command_line.specs.Ranges.{AreWorkers};
 ghost use Rattle.commands.specs.Answers.{IsSummary};
 ghost use Rattle.live_plant.specs.LivePlant.{IsLivePlant};
@@ -8,9 +8,8 @@ ghost use Rattle.live_plant.specs.LivePlant.{IsLivePlant};
 use crate::reports::report_over;
 use crate::runs::table_of;
 use answers::Answer;
-use big_plant::big_plant;
 use line_workers::Gate;
-use live_plant::{LivePlant, live_plant_of};
+use live_plant::{LivePlant, big_plant, live_plant_of};
 use refusals::Refusal;
 use std::alloc::Global;
 use std::thread::Threads;

@@ -10,9 +10,9 @@ ghost use Rattle.line_io.specs.Outgoing.{Pushed, stream};
 
 use crate::bounds::latest_at;
 use crate::run::LatestRun;
-use line_base::Date;
+use line_base::{Date, MAX_DIGITS};
 use line_io::{Outgoing, Sink};
-use line_report::line_end::{MAX_DIGITS, write_number};
+use line_report::line_end::write_number;
 use line_report::line_start::{LineStart, WIDTH};
 
 /// The most bytes of a line, and of what writing it may change behind it.

@@ -2,6 +2,7 @@
 //! lists of dates with room taken beforehand, the parts of an event graph, and work that is shared among threads.
 #![tactic(auto)]
 
+mod decimal;
 mod event;
 mod items;
 mod limits;
@@ -13,6 +14,7 @@ mod text;
 mod times;
 mod transcript;
 
+pub use decimal::{MAX_DIGITS, digit_count, write_decimal};
 pub use event::{Arc, Parts};
 pub use items::Items;
 pub use limits::{

@@ -126,6 +126,3 @@ none_each n f none i low =
     (λ x. f x ≡ [])
     (here n f i low)
     (none_of_map f (range_with_len 0 n) none i 0 (omega (arith, low, length-range_with_len 0 n)))
-
--- for loops that refuse by the first number that gives a refusal
-pub ruleset first_refusals = (none_below_0, none_below_next, none_below_all, handed_on_at)

@@ -40,7 +40,6 @@ fn check_log(graph: &Graph, logs: &Logs, station: u32) -> Result<(), StateError>
 }
 
 /// Refuses the first log that is longer than there are jobs.
-#[tactic(auto, using(crate::proofs::FirstRefusals::first_refusals))]
 fn check_logs(graph: &Graph, logs: &Logs) -> Result<(), StateError>
     requires { length logs.now.logs ≡ stations graph.now }
     ensures { AnswersFirst result (long_logs graph.now (dates_of logs.now)) }
@@ -83,7 +82,6 @@ fn check_marking(graph: &Graph, logs: &Logs, places: &Places, arc: u32) -> Resul
 }
 
 /// Refuses the first place with another number of tokens than the logs leave there.
-#[tactic(auto, using(crate::proofs::FirstRefusals::first_refusals))]
 fn check_markings(graph: &Graph, logs: &Logs, places: &Places) -> Result<(), StateError>
     requires parts { AreParts graph.now logs.now places.now }
     requires few { long_logs graph.now (dates_of logs.now) ≡ [] }
@@ -114,7 +112,6 @@ fn check_marked_at(
 }
 
 /// Refuses the first place that has another number of tokens by a marking than the logs leave there.
-#[tactic(auto, using(crate::proofs::FirstRefusals::first_refusals))]
 fn check_counts(graph: &Graph, logs: &Logs, marking: &Marking) -> Result<(), StateError>
     requires a_log_each { length logs.now.logs ≡ stations graph.now }
     requires few { long_logs graph.now (dates_of logs.now) ≡ [] }
@@ -210,7 +207,6 @@ fn check_date(
 }
 
 /// Refuses the first date of a station that isn't the one of its equation over the logs.
-#[tactic(auto, using(crate::proofs::FirstRefusals::first_refusals), unfolding(crate::specs::Parts::wrong_dates_at))]
 fn check_dates_at(graph: &Graph, logs: &Logs, station: u32) -> Result<(), StateError>
     requires logs { AreLogs graph.now logs.now }
     requires few { length (list_at (dates_of logs.now) station) ≤ jobs graph.now }
@@ -226,7 +222,6 @@ fn check_dates_at(graph: &Graph, logs: &Logs, station: u32) -> Result<(), StateE
 }
 
 /// Refuses the first date that isn't the one of its equation over the logs.
-#[tactic(auto, using(crate::proofs::FirstRefusals::first_refusals))]
 fn check_dates(graph: &Graph, logs: &Logs) -> Result<(), StateError>
     requires logs { AreLogs graph.now logs.now }
     requires few { long_logs graph.now (dates_of logs.now) ≡ [] }
@@ -266,7 +261,6 @@ fn check_tokens_on(graph: &Graph, logs: &Logs, places: &Places, arc: u32) -> Res
 }
 
 /// Refuses the first token that isn't the one that the logs leave there.
-#[tactic(auto, using(crate::proofs::FirstRefusals::first_refusals))]
 fn check_tokens(graph: &Graph, logs: &Logs, places: &Places) -> Result<(), StateError>
     requires parts { AreParts graph.now logs.now places.now }
     requires few { long_logs graph.now (dates_of logs.now) ≡ [] }

@@ -1,12 +1,13 @@
 -- One more call of a disk in memory.
-use Rattle.std.proofs.Common.{◌≡◌, ◌⊎◌, inl, inr, ◌||◌, ◌↔◌, ℕ, zero, suc, Bool, true, false, not, List, [], ◌∷◌, ◌++◌, length, take, refl, sym, ◌∙◌, ap, arith, Result, Ok, Err, is_ok, OnOk, OnErr, IsErrOf, IsTrue}
+use Rattle.std.proofs.Common.{◌≡◌, ◌+◌, ◌⊎◌, inl, inr, ◌||◌, ◌↔◌, ℕ, zero, suc, Bool, true, false, not, List, [], ◌∷◌, ◌++◌, length, take, refl, sym, ◌∙◌, ap, subst, arith, Result, Ok, Err, is_ok, OnOk, OnErr, IsErrOf, IsTrue}
 use Rattle.std.proofs.lemmas.Bool.{false≢true}
-use Rattle.std.proofs.lemmas.List.{take_all}
-use Rattle.line_disk.specs.DiskView.{Image, Held, Torn, IsAsBefore, IsPendingWithin, is_within, awaiting, bytes_at}
+use Rattle.std.proofs.lemmas.List.{take_all, take-append-le, length-append}
+use Rattle.line_disk.specs.DiskView.{Image, Held, DiskRead, Passes, Torn, IsAsBefore, IsPendingWithin, is_within, awaiting, bytes_at}
 use Rattle.line_disk.specs.Memory.{after_call, held_after}
 use Rattle.line_disk.specs.declared.disk.DiskError.{DiskError}
 use Rattle.line_disk.specs.declared.disk.DiskError.TheVariants.{Failed, NoMemory}
 use Rattle.line_disk.specs.declared.patch.DiskCall.{DiskCall}
+use Rattle.line_disk.proofs.Moments.{passes_by_one}
 use Rattle.line_disk.proofs.Replay.{held_after-append}
 
 -- what it holds after one more call
@@ -22,14 +23,12 @@ unfolding bytes_at
 length-bytes_at image at zero = refl
 length-bytes_at image at (suc n) = ap suc (length-bytes_at image (suc at) n)
 
-pub was_done : (failed : Bool) (r : Result (Unit {0}) DiskError) → (IsTrue failed ↔ IsErrOf r Failed) → OnOk r (not failed ≡ true)
-was_done true (Ok x) is = absurd (let e : IsErrOf {T = Unit {0}} {E = DiskError} (Ok x) Failed = is.0 refl in cc)
-was_done false (Ok x) is = refl
-was_done failed (Err e) is = tt
-
-pub was_failed : (failed : Bool) (r : Result (Unit {0}) DiskError) → (IsTrue failed ↔ IsErrOf r Failed) → IsErrOf r Failed → not failed ≡ false
-was_failed true r is err = refl
-was_failed false r is err = absurd (false≢true (is.1 err))
+-- one more call takes one moment
+pub passes_push : (held : Held) (calls more : List DiskCall) (c : DiskCall) (f g : ℕ) (r s : List DiskRead) → more ≡ calls ++ c ∷ [] → Passes (record { moment = length calls; held = λ k. held_after held (take k calls); faults = f; reads = r }) (record { moment = length more; held = λ k. held_after held (take k more); faults = g; reads = s })
+passes_push held calls more c f g r s is =
+    let one : length more ≡ length calls + 1 = ap (λ (cs : List DiskCall). length cs) is ∙ length-append calls (c ∷ []) in
+    passes_by_one _ _ (omega arith) (omega arith)
+    (λ k le. ap (λ cs. held_after held (take k cs)) is ∙ ap (λ cs. held_after held cs) (take-append-le k calls (c ∷ []) le))
 
 pub was_told : (failed : Bool) (r : Result (Unit {0}) DiskError) → (IsTrue failed ↔ IsErrOf r Failed) → ¬ (IsErrOf r NoMemory) → not failed ≡ is_ok r
 was_told true r is memory = sym (ap is_ok (is.0 refl))
@@ -41,10 +40,28 @@ pub on_ok : {A B : Type 0} (r : Result (Unit {0}) DiskError) → OnOk r A → (A
 on_ok (Ok x) a f = f a
 on_ok (Err e) a f = a
 
-pub on_err : {B : Type 0} (r : Result (Unit {0}) DiskError) → (IsErrOf r Failed → B) → (IsErrOf r NoMemory → B) → OnErr r B
-on_err (Ok x) f n = tt
-on_err (Err Failed) f n = f refl
-on_err (Err NoMemory) f n = n refl
+-- a call that was answered, or failed, found memory
+ok_found : (x : Unit {0}) → ¬ (IsErrOf {T = Unit {0}} {E = DiskError} (Ok x) NoMemory)
+ok_found x memory = cc
+
+pub failed_found : (r : Result (Unit {0}) DiskError) → IsErrOf r Failed → ¬ (IsErrOf r NoMemory)
+failed_found r failed memory = let e : IsErrOf {T = Unit {0}} {E = DiskError} (Err Failed) NoMemory = sym failed ∙ memory in cc
+
+-- what holds where memory was found and where it was not
+pub found_or_not : {A : Type 0} (r : Result (Unit {0}) DiskError) → (¬ (IsErrOf r NoMemory) → A) → (IsErrOf r NoMemory → A) → A
+found_or_not (Ok x) found none = found (ok_found x)
+found_or_not (Err Failed) found none = found (failed_found (Err Failed) refl)
+found_or_not (Err NoMemory) found none = none refl
+
+-- what holds of a call that was done or not, where it was done, and where it was not or found no memory
+pub on_done : (A : Bool → Type 0) (done : Bool) (r : Result (Unit {0}) DiskError) → (¬ (IsErrOf r NoMemory) → done ≡ is_ok r) → (¬ (IsErrOf r NoMemory) → A done) → OnOk r (A true)
+on_done A done (Ok x) told a = subst A (told (ok_found x)) (a (ok_found x))
+on_done A done (Err e) told a = tt
+
+pub on_failed : (A : Bool → Type 0) (done : Bool) (r : Result (Unit {0}) DiskError) → (¬ (IsErrOf r NoMemory) → done ≡ is_ok r) → (¬ (IsErrOf r NoMemory) → A done) → (IsErrOf r NoMemory → A false) → OnErr r (A false)
+on_failed A done (Ok x) told a none = tt
+on_failed A done (Err Failed) told a none = let found = failed_found (Err Failed) refl in subst A (told found) (a found)
+on_failed A done (Err NoMemory) told a none = none refl
 
 or_true : (b : Bool) → (b || true) ≡ true
 or_true true = refl

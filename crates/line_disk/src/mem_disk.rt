@@ -1,5 +1,5 @@
-ghost use Rattle.std.specs.Prelude.{◌≡◌, ◌+◌, ◌-◌, ◌^◌, ◌≤◌, ◌↔◌, ◌++◌, [], length, map, min, is_ok, IsTrue, IfOk, OnOk, OnErr, IsErrOf};
-ghost use Rattle.line_disk.specs.Memory.{span_of, left_by, spans_left};
+ghost use Rattle.std.specs.Prelude.{◌≡◌, ◌+◌, ◌-◌, ◌^◌, ◌≤◌, ◌↔◌, ◌++◌, [], length, map, min, not, is_ok, IsTrue, IfOk, OnOk, OnErr, IsErrOf};
+ghost use Rattle.line_disk.specs.Memory.{span_of, after_call, left_by, spans_left};
 ghost use Rattle.line_io.specs.Faults.{Rose, RoseByOne};
 
 use crate::disk::{DISK_END, Disk, DiskError};
@@ -122,9 +122,32 @@ impl MemDisk {
     {
         let failed = self.is_due();
         let bytes = self.bytes_at(alloc, at, len)?;
-        self.calls.push(DiskCall::Read)?;
-        answer(&mut self.faults, failed)?;
+        self.count_call(DiskCall::Read, failed)?;
         Ok(bytes)
+    }
+
+    /// Counts a call that found memory, and a fault where it failed.
+    fn count_call(&mut self, call: DiskCall, failed: bool) -> Result<(), DiskError>
+        ensures failed { IsErrOf result DiskError.Failed → IsTrue failed }
+        ensures due { IsTrue failed → IsErr result }
+        ensures reads_stay { (mem_view self.new).reads ≡ (mem_view self.old).reads }
+        ensures failing_stays { self.new.failing.items ≡ self.old.failing.items }
+        ensures counted { ¬ (IsErrOf result DiskError.NoMemory) → Counts self.old self.new call }
+        ensures not_counted { IsErrOf result DiskError.NoMemory → CountsNone self.old self.new }
+        ensures told { ¬ (IsErrOf result DiskError.NoMemory) → not failed ≡ is_ok result }
+        ensures held { ¬ (IsErrOf result DiskError.NoMemory)
+            → held_now (mem_view self.new) ≡ after_call (held_now (mem_view self.old)) call }
+        ensures no_memory { IsErrOf result DiskError.NoMemory
+            → held_now (mem_view self.new) ≡ held_now (mem_view self.old) }
+        ensures time { Passes (mem_view self.old) (mem_view self.new) }
+        ensures cause { IsErrOf result DiskError.Failed → Rose self.old.faults self.new.faults }
+        ensures once { IsErrOf result DiskError.Failed → RoseByOne self.old.faults self.new.faults }
+        ensures memory_is_no_fault { IsErrOf result DiskError.NoMemory → self.new.faults ≡ self.old.faults }
+        ensures faults_stay { OnOk result (self.new.faults ≡ self.old.faults) }
+        ensures faults_stay_or_rise { self.old.faults ≤ self.new.faults }
+    {
+        self.calls.push(call)?;
+        answer(&mut self.faults, failed)
     }
 }
 
@@ -240,11 +263,8 @@ impl Disk for MemDisk {
             at,
             bytes: bytes.to_vec(self.alloc)?,
         };
-        self.calls.push(DiskCall::Write {
-            patch,
-            done: !failed,
-        })?;
-        answer(&mut self.faults, failed)
+        let done = !failed;
+        self.count_call(DiskCall::Write { patch, done }, failed)
     }
 
     fn sync(&mut self) -> Result<(), DiskError>
@@ -266,7 +286,6 @@ impl Disk for MemDisk {
         ensures faults_stay_or_rise { self.old.faults ≤ self.new.faults }
     {
         let failed = self.is_due();
-        self.calls.push(DiskCall::Sync { done: !failed })?;
-        answer(&mut self.faults, failed)
+        self.count_call(DiskCall::Sync { done: !failed }, failed)
     }
 }

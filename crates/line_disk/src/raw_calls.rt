@@ -1,7 +1,7 @@
 //! The calls of a file of the machine, for contracts alone.
 ghost use Rattle.std.specs.Prelude.{◌≡◌, ◌++◌, ◌∷◌, []};
 ghost use Rattle.line_disk.specs.HostFile.{calls_of};
-ghost use Rattle.line_disk.specs.RawFile.{Opens, read_call, write_call, sync_call};
+ghost use Rattle.line_disk.specs.RawFile.{RawCall, Opens, read_call, write_call, sync_call};
 
 use crate::opening::Opening;
 use line_base::Transcript;
@@ -25,6 +25,22 @@ impl Model for RawCallName {
 #[derive(Drop)]
 pub struct RawCalls {
     calls: Transcript<RawCallName>,
+}
+
+/// Notes a call, which the caller's proof picks from the address and the bytes that were given to it and from its
+/// answer, and hands on the answer.
+fn note_call(
+    calls: &mut Transcript<RawCallName>,
+    at: u64,
+    bytes: &[u8],
+    answer: io::Result<usize>,
+) -> io::Result<usize>
+    ghost call: { RawCall }
+    ensures same { result ≡ answer }
+    ensures noted { calls.new.items ≡ calls.old.items ++ call ∷ [] }
+{
+    *calls = Transcript::of(&*calls);
+    answer
 }
 
 impl RawCalls {
@@ -56,8 +72,7 @@ impl RawCalls {
         ensures same { result ≡ answer }
         ensures noted { calls_of self.new ≡ calls_of self.old ++ read_call at bytes.now result ∷ [] }
     {
-        self.calls = Transcript::of(&(&self.calls, at, bytes, &answer));
-        answer
+        note_call(&mut self.calls, at, bytes, answer)
     }
 
     /// Notes that bytes were written, and hands on the answer.
@@ -70,8 +85,7 @@ impl RawCalls {
         ensures same { result ≡ answer }
         ensures noted { calls_of self.new ≡ calls_of self.old ++ write_call at bytes.now result ∷ [] }
     {
-        self.calls = Transcript::of(&(&self.calls, at, bytes, &answer));
-        answer
+        note_call(&mut self.calls, at, bytes, answer)
     }
 
     /// Notes a sync, and hands on the answer.

@@ -1,4 +1,3 @@
-pub mod Digits
 pub mod HeldLemmas
 pub mod OutgoingLemmas
 pub mod RawFilesModel

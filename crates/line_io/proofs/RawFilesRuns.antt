@@ -174,6 +174,13 @@ pub left_more : (first mid new before after got : List ℕ) → first ≡ before
 left_more first mid new before after got was gave is =
     was ∙ ap (λ xs. before ++ xs) gave ∙ sym (append_assoc before got new) ∙ ap (λ xs. xs ++ new) (sym is)
 
+-- so a file of which more than the limit was taken is longer
+pub longer_left : (limit : ℕ) (first mid new before got : List ℕ) → first ≡ before ++ mid → mid ≡ got ++ new → limit < length before + length got → limit < length first
+longer_left limit first mid new before got was gave more =
+    let all = ap (λ (xs : List ℕ). length xs) was in
+    let rest = ap (λ (xs : List ℕ). length xs) gave in
+    omega (arith, all, rest, more, length-append before mid, length-append got new)
+
 -- how long a list is, behind which others were put
 pub longer_by : (before after got : List ℕ) → after ≡ before ++ got → length after ≡ length before + length got
 longer_by before after got is = ap (λ (xs : List ℕ). length xs) is ∙ length-append before got

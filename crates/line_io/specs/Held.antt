@@ -23,7 +23,8 @@ pub record NotesOnce (old new : Vec (String Global) Global) (name : List ℕ) : 
   pub others : (q : List ℕ) → q ≢ name → times_noted new q ≡ times_noted old q
 
 -- A call of this name failed, and was noted once; or there was no memory, and none was noted.
-pub record CountsFault {T : Type 0} (old new : Vec (String Global) Global) (name : List ℕ) (result : Result T StoreError) : Type 0 where
+pub record CountsFault {T : Type 0} (old new : Vec (String Global) Global) (name : List ℕ)
+    (result : Result T StoreError) : Type 0 where
   pub cause : IsErrOf result store_error.Failed → Rose (times_noted old name) (times_noted new name)
   pub stays_or_rises : NeverFall (times_noted old) (times_noted new)
   pub rises_by_one : RiseByOneAtMost (times_noted old) (times_noted new)

@@ -144,7 +144,8 @@ WritesOn bytes (Writes given answer ∷ calls) whole =
 WritesOn bytes (call ∷ calls) whole = ⊥
 
 -- some calls, and then others where all was well until there
-pub record Then (First : List FilesCall → Bool → Type 0) (Next : List FilesCall → Bool → Type 0) (calls : List FilesCall) (whole : Bool) : Type 0 where
+pub record Then (First : List FilesCall → Bool → Type 0) (Next : List FilesCall → Bool → Type 0)
+    (calls : List FilesCall) (whole : Bool) : Type 0 where
   pub first : List FilesCall
   pub next : List FilesCall
   pub well : Bool
@@ -241,9 +242,9 @@ empties (call ∷ calls) = empties calls
 abbrev pub named_files : FilesView → List ℕ → Option (List ℕ)
 named_files files name = files.held (Named name)
 
--- What a write of a file did, which made calls of this kind. Where all was done the file holds the bytes. Where not, it is as it
--- was or holds a front of them; and each is as it was, where none was emptied in its place. No other file changed, but the
--- spare one.
+-- What a write of a file did, which made calls of this kind. Where all was done the file holds the bytes. Where not, it
+-- is as it was or holds a prefix of them; and each is as it was, where none was emptied in its place. No other file
+-- changed, but the spare one.
 pub record WritesFile {E : Type 0} (tells : Bool) (old new : FilesView) (spare name bytes : List ℕ)
     (Are : List FilesCall → Bool → Type 0) (result : Result (Unit {0}) E) : Type 0 where
   pub asks : Asks old new (λ calls.

@@ -3,15 +3,12 @@ ghost use Rattle.std.specs.Prelude.{◌≡◌, ◌+◌, ◌-◌, ◌*◌, ◌<�
 ghost use Rattle.line_io.specs.Outgoing.{last_two_numbers};
 
 use crate::sink::MAX_PIECE;
-use itoa::write_digits;
+use line_base::{MAX_DIGITS, write_decimal};
 use std::alloc::{AllocError, Global};
 use std::marker::Model;
 
 /// How far a part may go over the end of a piece.
 const MAX_OVER: usize = 64;
-
-/// The most digits of a number of 64 bits.
-const MAX_DIGITS: usize = 20;
 
 /// The bytes that a buffer has room for: a piece, and what a part may have over its end.
 pub const ROOM: usize = MAX_PIECE + MAX_OVER;
@@ -57,36 +54,7 @@ fn write_number(room: &mut [u8], at: usize, n: u64) -> usize
     ensures end { result ≡ at + length (decimal n) }
     ensures short { result ≤ at + MAX_DIGITS }
 {
-    let end = at + digit_count(n);
-    let _ = write_digits(n, room, end);
-    end
-}
-
-/// How many digits a number has.
-fn digit_count(n: u64) -> usize
-    ensures count { result ≡ length (decimal n) }
-    ensures few { result ≤ MAX_DIGITS }
-{
-    let mut left = n;
-    let mut count = 0;
-    while left >= 10_000 {
-        left /= 10_000;
-        count += 4;
-    }
-    count + short_count(left)
-}
-
-/// How many digits a number of at most four digits has.
-fn short_count(n: u64) -> usize
-    requires { n < 10_000 }
-    ensures { result ≡ length (decimal n) }
-{
-    match n {
-        0..=9 => 1,
-        10..=99 => 2,
-        100..=999 => 3,
-        _ => 4,
-    }
+    write_decimal(room, at, n)
 }
 
 /// Moves what waits over the end of a piece to the front, and answers how much that is.

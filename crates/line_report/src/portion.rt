@@ -5,10 +5,10 @@ ghost use Rattle.event_graph.specs.Table.{date_in};
 ghost use Rattle.line_report.specs.Portions.{HasLines, job_lines, numbered_lines};
 ghost use Rattle.line_report.specs.ReportText.{line};
 
-use crate::line_end::{MAX_DIGITS, digit_count, write_end};
+use crate::line_end::write_end;
 use crate::line_start::{LineStart, WIDTH};
 use event_graph::Graph;
-use line_base::Date;
+use line_base::{Date, MAX_DIGITS, digit_count};
 use line_core::Table;
 use std::alloc::{AllocError, Global};
 use std::marker::Model;

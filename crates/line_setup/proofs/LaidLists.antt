@@ -2,7 +2,7 @@
 use Rattle.std.proofs.Common.{◌≡◌, ◌≢◌, ℕ, zero, suc, ◌+◌, ◌<◌, ◌≤◌, List, [], ◌∷◌, ◌++◌, map, length, get_or, set, replicate, Vec, Global, refl, sym, ap, ◌∙◌, arith, ⊎_elim}
 use Rattle.std.proofs.lemmas.Bool.{cases_eq}
 use Rattle.std.proofs.lemmas.Simd.{map-map}
-use Rattle.std.proofs.lemmas.List.{get_or-set_same, get_or-set_other, get_or_append_left, get_or_push, length_push, length-map, map-append, map-set, get_or-map}
+use Rattle.std.proofs.lemmas.List.{get_or-set_same, get_or-set_other, get_or_append_left, get_or_push, length_push, length-map, map-append, map-set, get_or-map, replicate_more}
 use Rattle.line_setup.specs.Making.{with_one}
 
 module _ {X : Type 0} where
@@ -70,6 +70,15 @@ module _ {X : Type 0} where
   pub map-emptied : (vectors : List (Vec X Global)) (k : ℕ) (new : Vec X Global) (seen : List (List X)) → map items_of vectors ≡ seen → new.items ≡ [] → map items_of (set vectors k new) ≡ set seen k []
   map-emptied = map-emptied_seen items_of
 
+  -- one more empty vector behind empty ones
+  pub map-one_more_empty : (vectors more : List (Vec X Global)) (v : Vec X Global) (n : ℕ) → map items_of vectors ≡ replicate n [] → v.items ≡ [] → more ≡ vectors ++ v ∷ [] → map items_of more ≡ replicate (n + 1) []
+  map-one_more_empty vectors more v n before none pushed =
+      ap (map items_of) pushed
+      ∙ map-append items_of vectors (v ∷ [])
+      ∙ ap (λ l. map items_of vectors ++ l ∷ []) none
+      ∙ ap (λ l. l ++ [] ∷ []) before
+      ∙ replicate_more n []
+
 map-replicate : {X Y : Type 0} (f : X → Y) (n : ℕ) (x : X) → map f (replicate n x) ≡ replicate n (f x)
 map-replicate f zero x = refl
 map-replicate f (suc n) x = ap (λ l. f x ∷ l) (map-replicate f n x)
@@ -88,6 +97,14 @@ module _ where
 
   pub map-no_tokens : (vectors : List (Vec (Vec ℕ Global) Global)) (k : ℕ) (new : Vec (Vec ℕ Global) Global) (seen : List (List (List ℕ))) → map lists_of vectors ≡ seen → new.items ≡ [] → map lists_of (set vectors k new) ≡ set seen k []
   map-no_tokens vectors k new seen e none = map-emptied_seen lists_of vectors k new seen e (ap (map tokens_of) none)
+
+  -- as many lists stand in a vector as are seen there
+  pub count-seen : (vectors : List (Vec (Vec ℕ Global) Global)) (k : ℕ) (here : Vec (Vec ℕ Global) Global) (seen : List (List (List ℕ))) → map lists_of vectors ≡ seen → k < length seen → here ≡ get_or vectors k here → length here.items ≡ length (get_or seen k [])
+  count-seen vectors k here seen e low at =
+      sym (length-map here.items tokens_of)
+      ∙ ap (λ (v : Vec (Vec ℕ Global) Global). length (lists_of v)) at
+      ∙ ap length (sym (get_or-map lists_of vectors k here [] (omega (arith, low, ap length e, length-map vectors lists_of))))
+      ∙ ap (λ l. length (get_or l k [])) e
 
   -- where each is empty, none has tokens
   pub no-tokens : (vectors : List (Vec (Vec ℕ Global) Global)) (n : ℕ) → map (λ (v : Vec (Vec ℕ Global) Global). v.items) vectors ≡ replicate n [] → map lists_of vectors ≡ replicate n []

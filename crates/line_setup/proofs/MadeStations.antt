@@ -1,10 +1,10 @@
 -- Stations that take their ends one after the other, and what is left of the ends.
-use Rattle.std.proofs.Common.{◌≡◌, ◌≢◌, ℕ, ◌+◌, ◌-◌, ◌^◌, ◌<◌, ◌≤◌, List, [], ◌∷◌, ◌++◌, Result, Ok, Err, IfOk, Vec, Global, map, length, slice_index, get_or, set, refl, sym, ap, ◌∙◌, subst, arith, ⊎_elim}
+use Rattle.std.proofs.Common.{◌≡◌, ◌≢◌, ℕ, ◌+◌, ◌-◌, ◌^◌, ◌<◌, ◌≤◌, List, [], ◌∷◌, ◌++◌, Result, Ok, Err, IfOk, Vec, Global, map, length, slice_index, get_or, set, take, refl, sym, ap, ◌∙◌, subst, arith, ⊎_elim}
 use Rattle.std.specs.List.{All}
 use Rattle.std.specs.declared.alloc.AllocError.{AllocError}
 use Rattle.std.proofs.lemmas.Bool.{cases_lt}
 use Rattle.std.proofs.lemmas.Simd.{map-map}
-use Rattle.std.proofs.lemmas.List.{get_or_default, get_or_append_left, get_or_push, length_push, length-map, length-set, get_or-map, get_or-set_other}
+use Rattle.std.proofs.lemmas.List.{get_or_default, get_or_append_left, get_or_push, length_push, length-map, length-set, get_or-map, get_or-set_other, map_more}
 use Rattle.line_base.specs.declared.event.Parts.{Parts}
 use Rattle.line_base.specs.Roomy.{RoomyLog}
 use Rattle.card_queue.specs.Plain.{PlainQueue}
@@ -13,6 +13,7 @@ use Rattle.event_graph.specs.State.{State, log}
 use Rattle.station_step.specs.declared.ends.Inlet.{Inlet}
 use Rattle.station_step.specs.declared.ends.Outlet.{Outlet}
 use Rattle.station_step.specs.declared.ends.Inlet.TheVariants as inlet
+use Rattle.local_queues.specs.declared.source.Source.{Source}
 use Rattle.local_queues.specs.Shelf.{WorkShelf, log_on, new_queue}
 use Rattle.station_step.specs.Ends.{bare_outlet, HasRingRoom, IsUntaken, IsUnfilled}
 use Rattle.station_step.specs.Input.{empty_handed}
@@ -71,6 +72,15 @@ new_station-is g begun t ends out into copy (Ok s) outs ins dates made station k
 new_station-is g begun t ends out into copy (Err e) outs ins dates made station kept = tt
 
 -- ---- a shelf
+
+-- the sources of one more queue
+pub one_more_source : (g : Parts) (first : ℕ) (arcs : List ℕ) (q a : ℕ) (made more : List Source) (s : Source) → q < length arcs → a ≡ get_or arcs q a → made ≡ map (source_of g first) (take q arcs) → s ≡ source_of g first a → more ≡ made ++ s ∷ [] → more ≡ map (source_of g first) (take (q + 1) arcs)
+one_more_source g first arcs q a made more s low at before is pushed =
+    let sources = map (source_of g first) (take q arcs) in
+    pushed
+    ∙ ap (λ (l : List Source). l ++ s ∷ []) before
+    ∙ ap (λ (m : Source). sources ++ m ∷ []) (is ∙ ap (source_of g first) at)
+    ∙ sym (map_more (source_of g first) arcs q a low)
 
 module _ (g : Parts) (firsts : List (Vec ℕ Global)) where
   abbrev tokens_of : Vec ℕ Global → List ℕ

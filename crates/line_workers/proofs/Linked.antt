@@ -38,10 +38,18 @@ pub links_skip : (g : Parts) (n a : ℕ) → IsInside g n a → first_links g n 
 links_skip g n a inside =
     ap (map (link_of g n)) (arcs-more g n a ∙ ap (λ b. arcs_between g n a ++ cond b (a ∷ []) []) (between-inside g n a inside) ∙ append-nil (arcs_between g n a))
 
-pub links_add : (g : Parts) (n a : ℕ) → (IsInside g n a → ⊥) → first_links g n (a + 1) ≡ first_links g n a ++ link_of g n a ∷ []
+links_add : (g : Parts) (n a : ℕ) → (IsInside g n a → ⊥) → first_links g n (a + 1) ≡ first_links g n a ++ link_of g n a ∷ []
 links_add g n a apart =
     ap (map (link_of g n)) (arcs-more g n a ∙ ap (λ b. arcs_between g n a ++ cond b (a ∷ []) []) (between-apart g n a apart))
     ∙ map-append (link_of g n) (arcs_between g n a) (a ∷ [])
+
+-- the links after the one of arc a was pushed
+pub links_pushed : (g : Parts) (n a : ℕ) (links pushed : List Link) (link : Link) → pushed ≡ links ++ link ∷ [] → link ≡ link_of g n a → links ≡ first_links g n a → (IsInside g n a → ⊥) → pushed ≡ first_links g n (a + 1)
+links_pushed g n a links pushed link push is are apart =
+    push
+    ∙ ap (λ (l : Link). links ++ l ∷ []) is
+    ∙ ap (λ (l : List Link). l ++ link_of g n a ∷ []) are
+    ∙ sym (links_add g n a apart)
 
 -- an arc that is listed exists, and leads from one worker to another
 record IsCrossing (g : Parts) (n a : ℕ) : Type 0 where

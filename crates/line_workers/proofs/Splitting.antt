@@ -1,7 +1,7 @@
 -- A list in two parts, an element of each of which was changed, and a meeting over the two.
 use Rattle.std.proofs.Common.{◌≡◌, ◌≢◌, ℕ, ◌-◌, ◌<◌, List, ◌++◌, length, get_or, set, ap, ◌∙◌, sym, subst, arith, length-append}
 use Rattle.std.proofs.lemmas.List.{length-set, set-append_left, set-append_right, get_or_append_left, get_or-append_right, get_or_default, get_or-set_same, get_or-set_other}
-use Rattle.station_step.specs.Ends.{AreMet}
+use Rattle.station_step.specs.Ends.{AreEnds, AreMet}
 use Rattle.station_step.specs.Input.{input_at}
 use Rattle.station_step.specs.Station.{outlet_at}
 use Rattle.line_workers.specs.declared.link.Link.{Link}
@@ -90,3 +90,34 @@ module _ (xs low high : List LineWorker) (link : Link) (parts : xs ≡ low ++ hi
       (changed_before xs low high from to v u parts many some)
       (front_of_second xs low high from no_worker parts many ∙ get_or_default high 0 no_worker f (some-behind xs low high from parts many ring.from.worker_number))
       (of_first xs low high to no_worker parts some ∙ get_or_default low to no_worker t some)
+
+-- ---- what the meeting of the two asks
+
+-- the ends of a ring stand with these two workers, the one that puts and the one that takes
+pub record IsRingOf (link : Link) (f t : LineWorker) : Type 0 where
+  pub from : link.from.number < length f.team.stations
+  pub output : link.output < length (member f.team.stations link.from.number).outlets
+  pub to : link.to.number < length t.team.stations
+  pub input : link.input < length (member t.team.stations link.to.number).inputs
+  pub ends : AreEnds (outlet_at (member f.team.stations link.from.number).outlets link.output) (input_at (member t.team.stations link.to.number).inputs link.input).inlet
+
+ring_of : (xs : List LineWorker) (link : Link) (f t : LineWorker) → IsRing xs link → worker_at xs link.from.worker_number ≡ f → worker_at xs link.to.worker_number ≡ t → IsRingOf link f t
+ring_of xs link f t ring was_from was_to =
+    let whole : IsRingOf link (worker_at xs link.from.worker_number) (worker_at xs link.to.worker_number) =
+    record { from = ring.from.number; output = ring.output; to = ring.to.number; input = ring.input; ends = ring.ends } in
+    subst (IsRingOf link f) was_to (subst (λ (x : LineWorker). IsRingOf link x (worker_at xs link.to.worker_number)) was_from whole)
+
+module _ (xs low high : List LineWorker) (link : Link) (parts : xs ≡ low ++ high) (ring : IsRing xs link) (f t : LineWorker) where
+  pub ring_up : length low ≡ link.to.worker_number → link.from.worker_number < link.to.worker_number → IsRingOf link (get_or low link.from.worker_number f) (get_or high 0 t)
+  ring_up many order =
+      let some : link.from.worker_number < length low = omega (arith, many, order) in
+      ring_of xs link (get_or low link.from.worker_number f) (get_or high 0 t) ring
+      (of_first xs low high link.from.worker_number no_worker parts some ∙ get_or_default low link.from.worker_number no_worker f some)
+      (front_of_second xs low high link.to.worker_number no_worker parts many ∙ get_or_default high 0 no_worker t (some-behind xs low high link.to.worker_number parts many ring.to.worker_number))
+
+  pub ring_down : length low ≡ link.from.worker_number → link.to.worker_number < link.from.worker_number → IsRingOf link (get_or high 0 f) (get_or low link.to.worker_number t)
+  ring_down many order =
+      let some : link.to.worker_number < length low = omega (arith, many, order) in
+      ring_of xs link (get_or high 0 f) (get_or low link.to.worker_number t) ring
+      (front_of_second xs low high link.from.worker_number no_worker parts many ∙ get_or_default high 0 no_worker f (some-behind xs low high link.from.worker_number parts many ring.from.worker_number))
+      (of_first xs low high link.to.worker_number no_worker parts some ∙ get_or_default low link.to.worker_number no_worker t some)

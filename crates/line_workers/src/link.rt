@@ -94,9 +94,10 @@ pub(crate) fn links_of(
 {
     let mut links = Vec::new(alloc);
     for a in 0..live.graph().arcs().len() as u32 {
-        if !is_inside(worker_count, live, a) {
-            links.push(link_of(worker_count, live, a))?;
+        if is_inside(worker_count, live, a) {
+            continue;
         }
+        links.push(link_of(worker_count, live, a))?;
     }
     Ok(links)
 }

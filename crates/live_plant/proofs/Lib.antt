@@ -1,6 +1,13 @@
 pub mod ActionLemmas
+pub mod BigIsLive
+pub mod Draws
+mod Examples
 pub mod FileReads
-pub mod PlantsOfFiles
-pub mod StepLemmas
 pub mod LintReads
+pub mod Lists
+pub mod Names
+pub mod NoneRefused
+pub mod PlantsOfFiles
+pub mod SoundPlant
+pub mod StepLemmas
 pub mod TwoFiles

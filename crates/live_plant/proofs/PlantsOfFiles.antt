@@ -12,11 +12,11 @@ use Rattle.line_io.specs.declared.store.StoreError.TheVariants as store_error
 use Rattle.plant_model.specs.declared.error.PlantError.{PlantError}
 use Rattle.plant_model.specs.declared.plant.Plant.{Plant}
 use Rattle.plant_model.specs.Graph.{graph}
-use Rattle.plant_draft.specs.declared.draft.DraftPlant.{DraftPlant}
-use Rattle.plant_draft.specs.Draft.{demands_file}
+use Rattle.plant_file.specs.declared.draft.DraftPlant.{DraftPlant}
+use Rattle.plant_file.specs.Draft.{demands_file}
 use Rattle.plant_file.specs.Finish.{completed}
 use Rattle.plant_file.specs.PlantOfFiles.{bytes_of, plant_of_reading, plant_of}
-use Rattle.plant_draft.specs.Reading.{reading}
+use Rattle.plant_file.specs.Reading.{reading}
 use Rattle.refusals.specs.declared.refusal.Refusal.{Refusal}
 use Rattle.refusals.specs.declared.refusal.Refusal.TheVariants.{Refused, Dead, StoreFault, NoMemory, TooLong}
 use Rattle.live_plant.specs.LivePlant.{plant_in}

@@ -1,7 +1,9 @@
 pub mod Actions
+pub mod Big
+pub mod Generator
+pub mod LintSteps
 pub mod LivePlant
 pub mod Outside
 pub mod PlantSteps
 pub mod Refused
 pub mod Steps
-pub mod LintSteps

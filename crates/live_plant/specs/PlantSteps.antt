@@ -7,10 +7,10 @@ use Rattle.line_base.specs.declared.event.Parts.{Parts}
 use Rattle.plant_model.specs.declared.error.PlantError.{PlantError}
 use Rattle.plant_model.specs.declared.plant.Plant.{Plant}
 use Rattle.plant_model.specs.Graph.{graph}
-use Rattle.plant_draft.specs.declared.draft.DraftPlant.{DraftPlant}
-use Rattle.plant_draft.specs.Draft.{demands_file}
+use Rattle.plant_file.specs.declared.draft.DraftPlant.{DraftPlant}
+use Rattle.plant_file.specs.Draft.{demands_file}
 use Rattle.plant_file.specs.Finish.{completed}
-use Rattle.plant_draft.specs.Reading.{reading}
+use Rattle.plant_file.specs.Reading.{reading}
 use Rattle.event_graph.specs.Live.{IsLive}
 use Rattle.line_graph.specs.DeadLabels.{AreDead}
 use Rattle.plant_file.specs.PlantOfFiles.{plant_of}

@@ -1,5 +1,5 @@
 ghost use Rattle.std.specs.Prelude.{◌≡◌, ◌≤◌, length, option_map, is_some, IfOk, IfSome};
-ghost use Rattle.plant_draft.specs.Reading.{reading as reading_of, AnswersReading};
+ghost use Rattle.plant_file.specs.Reading.{reading as reading_of, AnswersReading};
 ghost use Rattle.plant_model.specs.Sound.{IsSound};
 ghost use Rattle.live_plant.specs.Outside.{store_over, limit_of};
 ghost use Rattle.live_plant.specs.PlantSteps.{OfDraft, OfPlantFile};

@@ -1,14 +1,18 @@
-//! The steps that every command of a plant begins with: the plant file and the files that it names
-//! are read from a store, and the live graph of their plant is made; or the refusal that the command
-//! ends with.
+//! Plants with their live graphs. A plant file and the files that it names are read from a store, and the live graph of
+//! their plant is made, or the refusal that the command ends with: the steps that every command of a plant begins with.
+//! The plant of a seed, a line of fifty stations with drawn numbers, needs no file.
 #![tactic(auto)]
 
+mod big;
 mod files;
+mod generator;
 mod lint;
 mod live_plant;
 mod sound_file;
 
+pub use big::big_plant;
 pub use files::{read_file, read_plant_files};
+pub use generator::Generator;
 pub use lint::lint_plant_file;
 pub use live_plant::{LivePlant, live_graph, live_plant_of, read_live_plant};
 pub use sound_file::SoundFile;

@@ -1,7 +1,7 @@
 //! What lint says of a plant file and of the files that it names.
 ghost use Rattle.std.specs.Prelude.{◌≡◌, ◌⊎◌, ◌≤◌, IfSome, Ok, Err, is_some, length, option_copied};
 ghost use Rattle.line_base.specs.declared.limits.TheConstants.{MAX_CHECKPOINT_BYTES};
-ghost use Rattle.plant_draft.specs.Draft.{demands_file};
+ghost use Rattle.plant_file.specs.Draft.{demands_file};
 ghost use Rattle.plant_lint.specs.FileLints.{LintsFile};
 ghost use Rattle.plant_lint.specs.PlantLints.{clean_text};
 ghost use Rattle.plant_lint.specs.declared.file.FileLint.TheVariants as lint;

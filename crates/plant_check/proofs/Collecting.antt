@@ -1,5 +1,6 @@
 -- One more step of a loop that adds what is refused of each element of a list.
-use Rattle.std.proofs.Common.{◌≡◌, refl, ℕ, suc, ◌+◌, ◌<◌, List, ◌∷◌, ◌++◌, length, get_or, drop, sym, ap, ◌∙◌, add-one, append_assoc}
+use Rattle.std.proofs.Common.{◌≡◌, refl, ℕ, suc, ◌+◌, ◌<◌, ◌≤◌, List, ◌∷◌, ◌++◌, length, get_or, drop, sym, ap, ◌∙◌, add-one, append_assoc, append-nil}
+use Rattle.std.proofs.lemmas.List.{drop_all, get_or_default}
 use Rattle.std.proofs.Math.Seq.{drop-cons}
 use Rattle.plant_model.specs.declared.error.PlantError.{PlantError}
 use Rattle.plant_model.specs.Refusals.{each_from, each}
@@ -26,3 +27,17 @@ one_more from xs i x here all old mid new step before below is added =
 pub collects : {X : Type 0} (f : ℕ → X → List PlantError) (xs : List X) (i : ℕ) (x : X) (old mid new : List PlantError) → Collected f xs i old mid → i < length xs → x ≡ get_or xs i x → new ≡ mid ++ f i x → Collected f xs (i + 1) old new
 collects f xs i x old mid new h below is here =
     record { rest = one_more (each_from f) xs i x (f i x) (each f xs) old mid new (λ rest. refl) h.rest below is here }
+
+-- nothing is added yet
+pub collected_none : {X : Type 0} (f : ℕ → X → List PlantError) (xs : List X) (old : List PlantError) → Collected f xs 0 old old
+collected_none f xs old = record { rest = refl }
+
+-- what is refused of all is added
+pub collected_all : {X : Type 0} (f : ℕ → X → List PlantError) (xs : List X) (i : ℕ) (old new : List PlantError) → Collected f xs i old new → length xs ≤ i → new ≡ old ++ each f xs
+collected_all f xs i old new h past =
+    sym (append-nil new) ∙ ap (λ left. new ++ each_from f i left) (sym (drop_all i xs past)) ∙ sym h.rest
+
+-- the same, of a list whose elements are read with a default
+pub collects_read : {X : Type 0} (f : ℕ → X → List PlantError) (xs : List X) (i : ℕ) (d : X) (old mid new : List PlantError) → Collected f xs i old mid → i < length xs → new ≡ mid ++ f i (get_or xs i d) → Collected f xs (i + 1) old new
+collects_read f xs i d old mid new h below here =
+    collects f xs i (get_or xs i d) old mid new h below (get_or_default xs i d _ below) here

@@ -1,3 +1,4 @@
 pub mod Collecting
 pub mod Examples
+pub mod Passing
 pub mod RangeLemmas

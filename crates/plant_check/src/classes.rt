@@ -1,10 +1,11 @@
 ghost use Rattle.std.specs.Prelude.{◌≡◌, [], OnOk};
-ghost use Rattle.plant_model.specs.Refusals.{AnswersFirst, all_feeds_not_later, parts_refusals, whole_refusals, refusals};
+ghost use Rattle.plant_model.specs.Refusals.{AnswersFirst, parts_refusals, whole_refusals, refusals};
 ghost use Rattle.plant_model.specs.Sound.{IsSound, IsSoundPlant};
 
 use crate::feeds::check_flow;
-use crate::{cards, counts, names, ranges, sizes};
-use plant_model::{PathTable, Plant, PlantError};
+use crate::refusals::refusals_of_plant;
+use crate::{names, ranges};
+use plant_model::{Plant, PlantError};
 use std::alloc::Global;
 
 /// Whether a plant is sound. The error is the first of the refusals 5 to 9 and 11 to 15 of `PlantError`, in their order,
@@ -27,7 +28,7 @@ pub fn check_whole(alloc: Global, plant: &Plant) -> Result<(), PlantError>
     ensures sound { OnOk result (IsSound plant.now) }
     ensures first { AnswersFirst result (whole_refusals plant.now) }
 {
-    check_together(alloc, plant)
+    first_of(refusals_of_plant(alloc, plant)?)
 }
 
 /// Whether nothing is wrong with the parts of a plant, each by itself.
@@ -41,16 +42,12 @@ fn check_parts(alloc: Global, plant: &Plant) -> Result<(), PlantError>
     check_flow(alloc, plant.stages.as_slice())
 }
 
-/// Whether nothing is wrong with a plant as a whole.
-#[tactic(auto, unfolding(plant_model::specs::Refusals::whole_refusals))]
-fn check_together(alloc: Global, plant: &Plant) -> Result<(), PlantError>
-    requires { all_feeds_not_later plant.now ≡ [] }
-    ensures { AnswersFirst result (whole_refusals plant.now) }
+/// The first of these refusals, if there is one.
+fn first_of(refusals: Vec<PlantError>) -> Result<(), PlantError>
+    ensures { AnswersFirst result refusals.items }
 {
-    counts::check_times_counts(alloc, plant)?;
-    counts::check_demand_order(plant)?;
-    let paths = PathTable::of(alloc, plant)?;
-    cards::check_cards(alloc, &paths)?;
-    cards::check_downstream(alloc, &paths)?;
-    sizes::check_sizes(alloc, plant)
+    match refusals.into_iter().next() {
+        Some(refusal) => Err(refusal),
+        None => Ok(()),
+    }
 }

@@ -2,19 +2,14 @@
 //! and what may not be meant in one that is sound.
 #![tactic(auto)]
 
-mod cards;
 mod classes;
-mod counts;
 mod feeds;
 mod names;
 mod notes;
 mod ranges;
 mod refusals;
-mod sizes;
 
-pub use cards::stock_of_loop;
 pub use classes::{check, check_whole};
 pub use feeds::check_flow;
 pub use notes::plant_notes;
-pub use refusals::refusals_of_plant;
-pub use sizes::count_stations;
+pub use refusals::{count_stations, refusals_of_plant, stock_of_loop};

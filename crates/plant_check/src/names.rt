@@ -10,7 +10,8 @@ use std::alloc::Global;
 pub(crate) fn check_reserved(alloc: Global, plant: &Plant) -> Result<(), PlantError>
     ensures { AnswersFirst result (bad_names plant.now) }
 {
-    for (i, stage) in plant.stages.as_slice().iter().enumerate() {
+    let stages = plant.stages.as_slice();
+    for (i, stage) in stages.iter().enumerate() {
         check_stage_reserved(alloc, i, stage)?;
     }
     Ok(())

@@ -18,10 +18,10 @@ use Rattle.plant_model.specs.Refusals.{each_from, each, times_count, machine_tim
 use Rattle.plant_model.proofs.NoRefusals.{append-nil_left, append-nil_right, AreNil-append, larger-none}
 use Rattle.plant_model.proofs.Passes.{first-append}
 use Rattle.plant_model.specs.Stages.{Stage}
-use Rattle.plant_draft.specs.declared.draft.DraftTimes.{DraftTimes}
-use Rattle.plant_draft.specs.declared.draft.DraftTimes.TheVariants.{Column, Fixed, Each}
-use Rattle.plant_draft.specs.declared.draft.DraftPlant.{DraftPlant}
-use Rattle.plant_draft.specs.Draft.{DraftStage}
+use Rattle.plant_file.specs.declared.draft.DraftTimes.{DraftTimes}
+use Rattle.plant_file.specs.declared.draft.DraftTimes.TheVariants.{Column, Fixed, Each}
+use Rattle.plant_file.specs.declared.draft.DraftPlant.{DraftPlant}
+use Rattle.plant_file.specs.Draft.{DraftStage}
 use Rattle.plant_file.specs.Finish.{times_with, machine_with, stage_with, loop_with, plant_with, plant_or_first, finished}
 use Rattle.plant_file.specs.Counts.{machine_counts, stage_counts, stays_within, table_within}
 use Rattle.plant_file.proofs.PlantParts.{each_from-map, list_any-map}

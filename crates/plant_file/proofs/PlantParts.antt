@@ -18,15 +18,15 @@ use Rattle.plant_model.specs.Place.{key_of}
 use Rattle.plant_model.specs.declared.plant.Policy.{Policy}
 use Rattle.plant_model.specs.declared.plant.Policy.TheVariants.{Kanban, Conwip, BaseStock, Extended}
 use Rattle.plant_model.specs.Refusals.{each_from, each, is_reserved, bad_name, bad_names, machine_name_twice, stage_name_twice, names_twice, above, element_above, empty, cards_out_of_range, top_out_of_range, times_out_of_range, machine_out_of_range, stage_out_of_range, loop_out_of_range, out_of_range, feeds_not_later, all_feeds_not_later, second_final, second_finals, parts_refusals}
-use Rattle.plant_draft.specs.declared.draft.DraftDemands.{DraftDemands}
-use Rattle.plant_draft.specs.declared.draft.DraftDemands.TheVariants.{Given, File}
-use Rattle.plant_draft.specs.declared.draft.DraftTimes.{DraftTimes}
-use Rattle.plant_draft.specs.declared.draft.DraftTimes.TheVariants.{Column, Fixed, Each}
-use Rattle.plant_draft.specs.Draft.{DraftMachine, DraftStage}
-use Rattle.plant_draft.specs.declared.draft.DraftLoop.{DraftLoop}
-use Rattle.plant_draft.specs.declared.draft.DraftPlant.{DraftPlant}
+use Rattle.plant_file.specs.declared.draft.DraftDemands.{DraftDemands}
+use Rattle.plant_file.specs.declared.draft.DraftDemands.TheVariants.{Given, File}
+use Rattle.plant_file.specs.declared.draft.DraftTimes.{DraftTimes}
+use Rattle.plant_file.specs.declared.draft.DraftTimes.TheVariants.{Column, Fixed, Each}
+use Rattle.plant_file.specs.Draft.{DraftMachine, DraftStage}
+use Rattle.plant_file.specs.declared.draft.DraftLoop.{DraftLoop}
+use Rattle.plant_file.specs.declared.draft.DraftPlant.{DraftPlant}
 use Rattle.plant_keys.specs.Readers.{is_filled}
-use Rattle.plant_draft.specs.Draft.{IsSoundDraft, file_of, demands_file, columns_of, is_used, uses, are_up_to, are_sound_times, is_sound_machine, is_sound_stage, is_sound_loop, is_sound_policy, are_sound_demands}
+use Rattle.plant_file.specs.Draft.{IsSoundDraft, file_of, demands_file, columns_of, is_used, uses, are_up_to, are_sound_times, is_sound_machine, is_sound_stage, is_sound_loop, is_sound_policy, are_sound_demands}
 use Rattle.plant_file.specs.Counts.{table_within}
 use Rattle.plant_file.specs.Finish.{HasColumn, HasColumns, IsWithinLimit, dates_with, times_with, machine_with, stage_with, loop_with, plant_with}
 

@@ -1,10 +1,10 @@
 -- The plant of files, step by step, for those that read them.
 use Rattle.std.proofs.Common.{◌≡◌, ℕ, List, Option, Err, ap, ◌∙◌, refl}
 use Rattle.plant_model.specs.declared.error.PlantError.{PlantError}
-use Rattle.plant_draft.specs.declared.draft.DraftPlant.{DraftPlant}
+use Rattle.plant_file.specs.declared.draft.DraftPlant.{DraftPlant}
 use Rattle.plant_file.specs.Finish.{completed}
 use Rattle.plant_file.specs.PlantOfFiles.{Contents, bytes_at, plant_of_reading, plant_of, IsReadFrom}
-use Rattle.plant_draft.specs.Reading.{reading}
+use Rattle.plant_file.specs.Reading.{reading}
 
 -- where the plant file is refused, the plant of the files is
 pub plant_of-refused : (name : List ℕ) (files : Contents) (refusal : PlantError) → reading (bytes_at files name) ≡ Err refusal → plant_of name files ≡ Err refusal

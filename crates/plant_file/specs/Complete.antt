@@ -9,8 +9,8 @@ use Rattle.demand_feed.specs.JobTimes.{JobTimes}
 use Rattle.demand_feed.specs.Times.{times_of}
 use Rattle.plant_model.specs.declared.error.PlantError.{PlantError}
 use Rattle.plant_model.specs.declared.error.PlantError.TheVariants.{BadRecord, NoMemory}
-use Rattle.plant_draft.specs.declared.draft.DraftPlant.{DraftPlant}
-use Rattle.plant_draft.specs.Draft.{demands_file, demands_column, columns_of}
+use Rattle.plant_file.specs.declared.draft.DraftPlant.{DraftPlant}
+use Rattle.plant_file.specs.Draft.{demands_file, demands_column, columns_of}
 use Rattle.plant_file.specs.Finish.{bad_record_in, held_in}
 
 -- the refusal of a file that gave this error

@@ -8,7 +8,7 @@ use Rattle.plant_model.specs.declared.error.PlantError.{PlantError}
 use Rattle.plant_model.specs.declared.place.FileTable.TheVariants.{InMachine}
 use Rattle.plant_model.specs.Line.{stations_of}
 use Rattle.plant_model.specs.Refusals.{each, times_count}
-use Rattle.plant_draft.specs.Draft.{DraftMachine, DraftStage}
+use Rattle.plant_file.specs.Draft.{DraftMachine, DraftStage}
 use Rattle.plant_file.specs.Finish.{times_with}
 
 -- how many times a list of job times has

@@ -15,14 +15,14 @@ use Rattle.demand_feed.specs.Dates.{dates_of}
 use Rattle.demand_feed.specs.JobTimes.{JobTimes, numbers_in}
 use Rattle.demand_feed.specs.Rows.{Held}
 use Rattle.demand_feed.specs.Times.{times_of}
-use Rattle.plant_draft.specs.declared.draft.DraftDemands.{DraftDemands}
-use Rattle.plant_draft.specs.declared.draft.DraftDemands.TheVariants.{Given, File}
-use Rattle.plant_draft.specs.declared.draft.DraftTimes.{DraftTimes}
-use Rattle.plant_draft.specs.declared.draft.DraftTimes.TheVariants.{Column, Fixed, Each}
-use Rattle.plant_draft.specs.Draft.{DraftMachine, DraftStage}
-use Rattle.plant_draft.specs.declared.draft.DraftLoop.{DraftLoop}
-use Rattle.plant_draft.specs.declared.draft.DraftPlant.{DraftPlant}
-use Rattle.plant_draft.specs.Draft.{demands_file, demands_column, columns_of}
+use Rattle.plant_file.specs.declared.draft.DraftDemands.{DraftDemands}
+use Rattle.plant_file.specs.declared.draft.DraftDemands.TheVariants.{Given, File}
+use Rattle.plant_file.specs.declared.draft.DraftTimes.{DraftTimes}
+use Rattle.plant_file.specs.declared.draft.DraftTimes.TheVariants.{Column, Fixed, Each}
+use Rattle.plant_file.specs.Draft.{DraftMachine, DraftStage}
+use Rattle.plant_file.specs.declared.draft.DraftLoop.{DraftLoop}
+use Rattle.plant_file.specs.declared.draft.DraftPlant.{DraftPlant}
+use Rattle.plant_file.specs.Draft.{demands_file, demands_column, columns_of}
 
 -- a column that a machine uses is one of the table's
 abbrev pub HasColumn : Option JobTimes → DraftTimes → Type 0

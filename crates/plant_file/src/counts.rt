@@ -4,10 +4,10 @@ ghost use Rattle.plant_file.specs.Counts.{can_be_copied, list_length, machine_co
 ghost use Rattle.plant_file.specs.Finish.{dates_with, times_with};
 ghost use Rattle.plant_model.specs.Refusals.{AnswersFirst, each, times_count};
 
+use crate::{DraftDemands, DraftMachine, DraftStage, DraftTimes};
 use demand_feed::Columns;
 use line_base::{Date, MAX_DEMANDS, MAX_STATIONS, MAX_TABLE};
 use plant_check::count_stations;
-use plant_draft::{DraftDemands, DraftMachine, DraftStage, DraftTimes};
 use plant_model::{FileTable, PlantError, table_place};
 use std::alloc::Global;
 

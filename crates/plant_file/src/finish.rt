@@ -3,7 +3,7 @@ ghost use Rattle.std.specs.Prelude.{◌≡◌, ◌≢◌, ◌≤◌, ◌<◌, []
 ghost use Rattle.demand_feed.specs.Dates.{dates_of};
 ghost use Rattle.demand_feed.specs.Times.{times_of};
 ghost use Rattle.line_base.specs.declared.limits.TheConstants.{MAX_CHECKPOINT_BYTES, MAX_DEMAND_DATE};
-ghost use Rattle.plant_draft.specs.Draft.{demands_file, demands_column, columns_of};
+ghost use Rattle.plant_file.specs.Draft.{demands_file, demands_column, columns_of};
 ghost use Rattle.plant_file.specs.Complete.{HoldsDates, HoldsTimes, refusal_of};
 ghost use Rattle.plant_file.specs.Finish.{AnswersPlant, HasColumn, HasColumns, IsWithinLimit, bad_record_in, bad_records, plant_of_bytes, completed, dates_with, finished, loop_with, machine_with, plant_with, stage_with, times_with};
 ghost use Rattle.plant_file.specs.PlantOfFiles.{Contents, IsReadFrom, plant_of};
@@ -11,12 +11,10 @@ ghost use Rattle.plant_model.specs.Refusals.{all_feeds_not_later, first, whole_r
 ghost use Rattle.plant_model.specs.Sound.{IsSound};
 
 use crate::counts::{can_be_copied, check_counts, count_demands, table_within};
+use crate::{Draft, DraftDemands, DraftLoop, DraftMachine, DraftPlant, DraftStage, DraftTimes};
 use demand_feed::{Columns, FeedError, read_dates, read_times};
 use line_base::{Date, Items, Times};
 use plant_check::check_whole;
-use plant_draft::{
-    Draft, DraftDemands, DraftLoop, DraftMachine, DraftPlant, DraftStage, DraftTimes,
-};
 use plant_model::{CardLoop, Machine, Plant, PlantError, Stage, Text};
 use std::alloc::{AllocError, Global};
 
@@ -43,8 +41,13 @@ pub fn finish_draft(
     check_counts(alloc, jobs, draft.stages.as_slice(), &times)?;
     let times = table_within(jobs, draft.stages.as_slice(), times);
     let plant = plant_with(alloc, draft, dates, times)?;
-    check_whole(alloc, &plant)?;
-    Ok(plant)
+    match check_whole(alloc, &plant) {
+        Ok(()) => Ok(plant),
+        Err(refusal) => {
+            drop(plant);
+            Err(refusal)
+        }
+    }
 }
 
 /// The plant of a draft and of the bytes of its demand file and of its times file, each given exactly where the draft names

@@ -34,7 +34,7 @@ pub fn check_tree(alloc: Global, class: Class, top: &Value) -> Result<(), PlantE
 }
 
 /// The search for the first refusal of a class, whose place is written in this memory.
-#[derive(Drop)]
+#[derive(Clone, Copy)]
 struct Search {
     alloc: Global,
     class: Class,

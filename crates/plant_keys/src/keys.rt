@@ -208,9 +208,11 @@ pub fn top_keys(top: &Value) -> [Key; 10]
 {
     let has_dates = has(top, "demands");
     let has_file = has(top, "demands_file");
+    let with_cards = has_line_cards(top);
+    let with_column = has_column(top);
     [
         optional("card_time", TIME),
-        required_if(has_line_cards(top), "cards", COUNT),
+        required_if(with_cards, "cards", COUNT),
         required_if(!has_file, "demands", DATES),
         choice("demands_column", COLUMN, false, !has_file),
         choice("demands_file", Kind::FileName, false, has_dates),
@@ -218,7 +220,7 @@ pub fn top_keys(top: &Value) -> [Key; 10]
         optional("observe", OBSERVED),
         required("policy", Kind::PolicyWord),
         required("stage", TABLES),
-        required_if(has_column(top), "times_file", Kind::FileName),
+        required_if(with_column, "times_file", Kind::FileName),
     ]
 }
 
@@ -229,12 +231,14 @@ pub fn machine_keys(machine: &Value) -> [Key; 5]
     let column = has(machine, "column");
     let time = has(machine, "time");
     let times = has(machine, "times");
+    let needs_time = !(column || times);
+    let bars_times = column || time;
     [
         optional("column", COLUMN),
         required("name", Kind::MachineName),
         optional("servers", COUNT),
-        choice("time", TIME, !(column || times), column),
-        choice("times", TIMES, false, column || time),
+        choice("time", TIME, needs_time, column),
+        choice("times", TIMES, false, bars_times),
     ]
 }
 

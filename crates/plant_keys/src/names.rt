@@ -73,7 +73,10 @@ impl<'a> Names<'a> {
         ensures added { OnOk result (self.new ≡ self.old ++ name_in (view stage.now) ∷ []) }
     {
         self.add_name(alloc, FileTable::InStage(i), text_at(stage, "name"))?;
-        Names::new(alloc).add_machines(alloc, i, tables_at(stage, "machine"))
+        let mut names = Names::new(alloc);
+        let answer = names.add_machines(alloc, i, tables_at(stage, "machine"));
+        drop(names);
+        answer
     }
 
     /// Adds the names of these machines of stage `i`, or refuses the first that an earlier one has.
@@ -127,6 +130,11 @@ pub fn names_of_stages(alloc: Global, top: &Value) -> Result<Names<'_>, PlantErr
     ensures { GivesNames result (names_twice (view top.now)) (stage_names (view top.now)) }
 {
     let mut names = Names::new(alloc);
-    names.add_stages(alloc, tables_at(top, "stage"))?;
-    Ok(names)
+    match names.add_stages(alloc, tables_at(top, "stage")) {
+        Ok(()) => Ok(names),
+        Err(error) => {
+            drop(names);
+            Err(error)
+        }
+    }
 }

@@ -1,6 +1,6 @@
 -- One more step of a loop that gathers what a function gives for each of a list.
 use Rattle.std.proofs.Common.{◌≡◌, refl, ℕ, ◌+◌, ◌<◌, ◌≤◌, List, ◌++◌, length, get_or, drop, sym, ap, ◌∙◌, append-nil}
-use Rattle.std.proofs.lemmas.List.{drop_all}
+use Rattle.std.proofs.lemmas.List.{drop_all, get_or_default}
 use Rattle.plant_check.proofs.Collecting.{one_more}
 use Rattle.plant_lint.specs.Faults.{all_from, all_of}
 
@@ -16,6 +16,11 @@ gathered_none f xs old = record { rest = refl }
 pub gathers : {X A : Type 0} (f : ℕ → X → List A) (xs : List X) (i : ℕ) (x : X) (old mid new : List A) → Gathered f xs i old mid → i < length xs → x ≡ get_or xs i x → new ≡ mid ++ f i x → Gathered f xs (i + 1) old new
 gathers f xs i x old mid new h below is here =
     record { rest = one_more (all_from f) xs i x (f i x) (all_of f xs) old mid new (λ rest. refl) h.rest below is here }
+
+-- the same, of a list whose elements are read with a default
+pub gathers_read : {X A : Type 0} (f : ℕ → X → List A) (xs : List X) (i : ℕ) (d : X) (old mid new : List A) → Gathered f xs i old mid → i < length xs → new ≡ mid ++ f i (get_or xs i d) → Gathered f xs (i + 1) old new
+gathers_read f xs i d old mid new h below here =
+    gathers f xs i (get_or xs i d) old mid new h below (get_or_default xs i d _ below) here
 
 -- what is given for all is added
 pub gathered_all : {X A : Type 0} (f : ℕ → X → List A) (xs : List X) (i : ℕ) (old new : List A) → Gathered f xs i old new → length xs ≤ i → new ≡ old ++ all_of f xs

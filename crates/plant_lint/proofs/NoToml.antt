@@ -3,9 +3,9 @@ use Rattle.std.proofs.Common.{◌≡◌, ℕ, List, None, Some, Result, Ok, Err}
 use Rattle.std.specs.Prelude.{IfOk}
 use Rattle.std.specs.Str.{IsUtf8}
 use Rattle.toml.specs.Data.{Data}
-use Rattle.plant_draft.specs.Reading.{tree_of}
+use Rattle.plant_file.specs.Reading.{tree_of}
 use Rattle.toml.specs.Parse.{parse_document}
-use Rattle.plant_draft.proofs.Trees.{tree_of_refused}
+use Rattle.plant_file.proofs.Trees.{tree_of_refused}
 use Rattle.plant_lint.specs.declared.file.FileLint.{FileLint}
 use Rattle.plant_lint.specs.FileLints.{lint_of_tree, IsNoToml, LintsFile}
 

@@ -17,7 +17,7 @@ use Rattle.plant_keys.specs.Keys.{Key, has_stage_cards, top_keys, stage_keys, ma
 use Rattle.plant_keys.specs.Readers.{members_in, name_in, stage_names, tables_at, text_of}
 use Rattle.plant_keys.specs.Walk.{unknown_keys, value_refusals, absence_refusals, key_refusals, table_refusals, machine_refusals, stage_refusals, loop_refusals, walk, names_twice}
 use Rattle.plant_keys.proofs.KeyLists.{each_map}
-use Rattle.plant_draft.specs.Reading.{stage_of, draft_of, last_refusals, tree_refusals}
+use Rattle.plant_file.specs.Reading.{stage_of, draft_of, last_refusals, tree_refusals}
 use Rattle.plant_lint.specs.declared.fault.Fault.{Fault}
 use Rattle.plant_lint.specs.declared.fault.Wants.{Wants}
 use Rattle.plant_lint.specs.declared.fault.Wants.TheVariants.{Nothing}

@@ -4,8 +4,8 @@ use Rattle.std.specs.Prelude.{Err, MatchOption}
 use Rattle.std.specs.Option.{option_map_or}
 use Rattle.plant_model.specs.declared.error.PlantError.TheVariants.{NotToml}
 use Rattle.toml.specs.Data.{Data}
-use Rattle.plant_draft.specs.declared.draft.DraftPlant.{DraftPlant}
-use Rattle.plant_draft.specs.Reading.{draft_of, draft_or_first, tree_of, tree_reading, reading}
+use Rattle.plant_file.specs.declared.draft.DraftPlant.{DraftPlant}
+use Rattle.plant_file.specs.Reading.{draft_of, draft_or_first, tree_of, tree_reading, reading}
 use Rattle.plant_lint.specs.declared.fault.Fault.{Fault}
 use Rattle.plant_lint.specs.declared.file.FileLint.{FileLint}
 use Rattle.plant_lint.specs.FileLints.{faults_or_notes, lint_of_tree, IsNoToml, LintsFile}

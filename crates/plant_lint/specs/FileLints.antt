@@ -1,7 +1,7 @@
 -- What lint says of the bytes of a plant file by themselves.
 use Rattle.std.specs.Prelude.{◌≡◌, ℕ, ◌≤◌, List, [], ◌∷◌, length, take, MatchOption}
 use Rattle.toml.specs.Data.{Data}
-use Rattle.plant_draft.specs.Reading.{tree_of}
+use Rattle.plant_file.specs.Reading.{tree_of}
 use Rattle.plant_lint.specs.declared.fault.Fault.{Fault}
 use Rattle.plant_lint.specs.declared.file.FileLint.{FileLint}
 use Rattle.plant_lint.specs.declared.file.FileLint.TheVariants.{Refused, Sound}

@@ -7,8 +7,8 @@ use Rattle.demand_feed.specs.Dates.{date_columns, dates_of}
 use Rattle.demand_feed.specs.Records.{records_of}
 use Rattle.demand_feed.specs.Times.{times_of}
 use Rattle.demand_feed.specs.declared.bad_field.BadField.{BadField}
-use Rattle.plant_draft.specs.declared.draft.DraftPlant.{DraftPlant}
-use Rattle.plant_draft.specs.Draft.{demands_file, demands_column, columns_of}
+use Rattle.plant_file.specs.declared.draft.DraftPlant.{DraftPlant}
+use Rattle.plant_file.specs.Draft.{demands_file, demands_column, columns_of}
 use Rattle.plant_file.specs.Finish.{bad_record}
 use Rattle.plant_lint.specs.declared.fault.Wants.{Wants}
 use Rattle.plant_lint.specs.declared.fault.Wants.TheVariants as wants

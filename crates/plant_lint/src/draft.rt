@@ -1,7 +1,7 @@
 //! What lint says of a draft, which nothing is wrong with by itself, and of the files that it names.
 ghost use Rattle.std.specs.Prelude.{◌≡◌, ◌≤◌, [], IfOk, IfSome, is_some, length, option_copied, option_map};
 ghost use Rattle.line_base.specs.declared.limits.TheConstants.{MAX_CHECKPOINT_BYTES};
-ghost use Rattle.plant_draft.specs.Draft.{demands_file};
+ghost use Rattle.plant_file.specs.Draft.{demands_file};
 ghost use Rattle.plant_lint.specs.DraftLints.{lines_if_any, LintsDraft, LintsWhole};
 ghost use Rattle.plant_lint.specs.Records.{record_faults};
 ghost use Rattle.plant_model.specs.Refusals.{all_feeds_not_later, whole_refusals};
@@ -14,8 +14,7 @@ use crate::lines::lines_of;
 use crate::plant::lint_plant;
 use crate::records::bad_records;
 use line_base::Text;
-use plant_draft::Draft;
-use plant_file::assemble_plant;
+use plant_file::{Draft, assemble_plant};
 use plant_model::Plant;
 use std::alloc::{AllocError, Global};
 

@@ -1,7 +1,7 @@
 ghost use Rattle.std.specs.Prelude.{◌≡◌, ℕ, List, Option, is_ok};
 ghost use Rattle.toml.specs.Data.{Data};
-ghost use Rattle.plant_draft.specs.declared.draft.DraftPlant.{DraftPlant};
-ghost use Rattle.plant_draft.specs.Reading.{reading, tree_refusals};
+ghost use Rattle.plant_file.specs.declared.draft.DraftPlant.{DraftPlant};
+ghost use Rattle.plant_file.specs.Reading.{reading, tree_refusals};
 ghost use Rattle.plant_file.specs.Finish.{bad_records};
 ghost use Rattle.plant_lint.specs.Records.{record_faults};
 ghost use Rattle.plant_lint.specs.declared.file.FileLint.{FileLint};

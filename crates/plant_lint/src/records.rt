@@ -2,7 +2,7 @@
 ghost use Rattle.std.specs.Option.{option_map_or};
 ghost use Rattle.std.specs.Prelude.{◌≡◌, ◌≤◌, ◌++◌, ◌∷◌, [], IfSome, OnOk, IfOk, length, option_copied};
 ghost use Rattle.line_base.specs.declared.limits.TheConstants.{MAX_CHECKPOINT_BYTES};
-ghost use Rattle.plant_draft.specs.Draft.{demands_file, demands_column, columns_of};
+ghost use Rattle.plant_file.specs.Draft.{demands_file, demands_column, columns_of};
 ghost use Rattle.plant_lint.specs.Faults.{wanting};
 ghost use Rattle.plant_lint.specs.Records.{wanted_in, wanted_record, dates_faults, times_faults, record_faults};
 ghost use Rattle.plant_model.specs.declared.error.PlantError.TheVariants.{BadRecord};
@@ -10,7 +10,7 @@ ghost use Rattle.plant_model.specs.declared.error.PlantError.TheVariants.{BadRec
 use crate::fault::{Fault, Wants, add};
 use demand_feed::{BadField, FeedError, bad_date, bad_time, read_dates, read_times};
 use line_base::{Items, Text};
-use plant_draft::Draft;
+use plant_file::Draft;
 use plant_model::PlantError;
 use std::alloc::{AllocError, Global};
 

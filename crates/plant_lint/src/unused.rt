@@ -2,7 +2,7 @@
 ghost use Rattle.std.specs.Prelude.{◌≡◌, ◌++◌, not, IfOk, OnOk, string_bytes};
 ghost use Rattle.plant_keys.specs.Keys.{has_line_cards};
 ghost use Rattle.plant_lint.specs.Faults.{all_of};
-ghost use Rattle.plant_lint.specs.Unused.{unused_if, unused_at_top, unused_in_stage, is_kanban, unused_lines};
+ghost use Rattle.plant_lint.specs.Unused.{unused_line, unused_if, unused_at_top, unused_in_stage, is_kanban, unused_lines};
 ghost use Rattle.toml.specs.View.{view};
 
 use plant_keys::{has, has_column, has_stage_cards, tables_at, text_at};
@@ -138,7 +138,13 @@ fn add_if(
         return Ok(());
     }
     let place = key_place(alloc, table, key)?;
-    let place = place.as_str();
+    add_note(alloc, text, place.as_str())
+}
+
+/// Adds that the key at a place isn't used.
+fn add_note(alloc: Global, text: &mut String, place: &str) -> Result<(), AllocError>
+    ensures { OnOk result (string_bytes text.new ≡ string_bytes text.old ++ unused_line place.now) }
+{
     let line = format!(in alloc; "note: {place} is not used\n")?;
     text.push_str(line.as_str())
 }

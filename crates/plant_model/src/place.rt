@@ -5,7 +5,7 @@ use line_base::Text;
 use std::alloc::{AllocError, Global};
 
 /// A table of a plant file. Stages, machines and loops are numbered from 0 here, and from 1 in the text of a place.
-#[derive(Clone, Copy, PartialEq, Eq)]
+#[derive(Clone, Copy)]
 pub enum FileTable {
     /// The top of the file.
     Top,
@@ -63,7 +63,7 @@ fn write_table(alloc: Global, table: FileTable) -> Result<String, AllocError>
 fn write_key(alloc: Global, table: FileTable, key: &str) -> Result<String, AllocError>
     ensures { IfOk result (λ text. string_bytes text ≡ key_of table key.now) }
 {
-    if table == FileTable::Top {
+    if matches!(table, FileTable::Top) {
         return String::from_str(alloc, key);
     }
     let table = write_table(alloc, table)?;

@@ -7,7 +7,7 @@ use Rattle.answers.specs.ChangesText.{changes_text}
 use Rattle.answers.specs.CheckText.{check_text}
 use Rattle.answers.specs.EachCardsText.{each_cards_text}
 use Rattle.answers.specs.declared.answer.Answer.{Answer}
-use Rattle.big_plant.specs.Big.{big_plant}
+use Rattle.live_plant.specs.Big.{big_plant}
 use Rattle.card_sizing.specs.declared.sizing.SizingError.{SizingError}
 use Rattle.card_sizing.specs.declared.sizing.SizingError.TheVariants as sizing
 use Rattle.checkpoint.specs.declared.error.CheckpointError.{CheckpointError}

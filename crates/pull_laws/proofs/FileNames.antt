@@ -17,12 +17,12 @@ use Rattle.plant_keys.specs.Keys.{Key, optional, top_keys, has_column}
 use Rattle.plant_keys.specs.Readers.{has, text_of, text_at}
 use Rattle.plant_model.specs.Refusals.{feeds_not_later_in}
 use Rattle.plant_keys.specs.Walk.{walk, names_twice, key_refusals, table_refusals, value_refusals}
-use Rattle.plant_draft.specs.declared.draft.DraftDemands.TheVariants.{Given, File}
-use Rattle.plant_draft.specs.declared.draft.DraftPlant.{DraftPlant}
-use Rattle.plant_draft.specs.Draft.{file_of, demands_file, IsSoundDraft}
-use Rattle.plant_draft.proofs.SoundDrafts.{sound_draft}
-use Rattle.plant_draft.specs.Reading.{column_at, draft_of, tree_refusals, draft_or_first, tree_of, tree_reading}
-use Rattle.plant_draft.specs.Reading.{reading}
+use Rattle.plant_file.specs.declared.draft.DraftDemands.TheVariants.{Given, File}
+use Rattle.plant_file.specs.declared.draft.DraftPlant.{DraftPlant}
+use Rattle.plant_file.specs.Draft.{file_of, demands_file, IsSoundDraft}
+use Rattle.plant_file.proofs.SoundDrafts.{sound_draft}
+use Rattle.plant_file.specs.Reading.{column_at, draft_of, tree_refusals, draft_or_first, tree_of, tree_reading}
+use Rattle.plant_file.specs.Reading.{reading}
 use Rattle.plant_file.specs.Finish.{completed}
 use Rattle.plant_file.specs.PlantOfFiles.{Contents, bytes_at, bytes_of, plant_of_reading, plant_of}
 

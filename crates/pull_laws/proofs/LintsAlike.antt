@@ -7,9 +7,9 @@ use Rattle.live_plant.specs.LintSteps.{IsRefusedWith, IsFileLint, IsCleanOrDead,
 use Rattle.live_plant.specs.LintSteps.{LintsPlant}
 use Rattle.live_plant.specs.Steps.{Step, Settles, LooksAt, LooksAtNamed, Then}
 use Rattle.live_plant.specs.declared.sound_file.SoundFile.{SoundFile}
-use Rattle.plant_draft.specs.Draft.{demands_file}
-use Rattle.plant_draft.specs.Reading.{reading, tree_of}
-use Rattle.plant_draft.specs.declared.draft.DraftPlant.{DraftPlant}
+use Rattle.plant_file.specs.Draft.{demands_file}
+use Rattle.plant_file.specs.Reading.{reading, tree_of}
+use Rattle.plant_file.specs.declared.draft.DraftPlant.{DraftPlant}
 use Rattle.plant_file.specs.Finish.{plant_of_bytes}
 use Rattle.plant_lint.specs.DraftLints.{lint_of_draft}
 use Rattle.plant_lint.specs.FileLints.{lint_of_tree, IsNoToml, LintsFile}

@@ -6,9 +6,9 @@ use Rattle.std.proofs.lemmas.List.Elements.{All-head}
 use Rattle.line_io.specs.Calls.{Read}
 use Rattle.line_io.specs.declared.store.StoreError.{StoreError}
 use Rattle.line_io.specs.declared.store.StoreError.TheVariants as store_error
-use Rattle.plant_draft.specs.Draft.{demands_file}
-use Rattle.plant_draft.specs.Reading.{reading}
-use Rattle.plant_draft.specs.declared.draft.DraftPlant.{DraftPlant}
+use Rattle.plant_file.specs.Draft.{demands_file}
+use Rattle.plant_file.specs.Reading.{reading}
+use Rattle.plant_file.specs.declared.draft.DraftPlant.{DraftPlant}
 use Rattle.plant_file.specs.Finish.{completed}
 use Rattle.plant_model.specs.declared.error.PlantError.{PlantError}
 use Rattle.plant_model.specs.declared.plant.Plant.{Plant}

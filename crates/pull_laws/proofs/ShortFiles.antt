@@ -7,9 +7,9 @@ use Rattle.line_io.specs.Calls.{Read}
 use Rattle.line_io.specs.Contents.{Contents, IsLongerThan}
 use Rattle.line_io.specs.declared.store.StoreError.{StoreError}
 use Rattle.line_io.specs.declared.store.StoreError.TheVariants as store_error
-use Rattle.plant_draft.specs.Draft.{demands_file}
-use Rattle.plant_draft.specs.Reading.{reading}
-use Rattle.plant_draft.specs.declared.draft.DraftPlant.{DraftPlant}
+use Rattle.plant_file.specs.Draft.{demands_file}
+use Rattle.plant_file.specs.Reading.{reading}
+use Rattle.plant_file.specs.declared.draft.DraftPlant.{DraftPlant}
 use Rattle.plant_file.specs.Finish.{completed}
 use Rattle.plant_file.specs.PlantOfFiles.{bytes_at}
 use Rattle.plant_model.specs.declared.error.PlantError.{PlantError}

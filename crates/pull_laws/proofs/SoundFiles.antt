@@ -16,11 +16,11 @@ use Rattle.plant_model.specs.Refusals.{parts_refusals, whole_refusals, refusals}
 use Rattle.plant_model.specs.Sound.{IsSound}
 use Rattle.plant_model.proofs.NoRefusals.{append-nil_left, append-nil_right}
 use Rattle.plant_keys.specs.Readers.{is_filled}
-use Rattle.plant_draft.specs.declared.draft.DraftDemands.{DraftDemands}
-use Rattle.plant_draft.specs.declared.draft.DraftDemands.TheVariants.{Given, File}
-use Rattle.plant_draft.specs.declared.draft.DraftPlant.{DraftPlant}
-use Rattle.plant_draft.specs.Draft.{IsSoundDraft, file_of, date_column_of, demands_file, demands_column, columns_of}
-use Rattle.plant_draft.specs.Reading.{reading}
+use Rattle.plant_file.specs.declared.draft.DraftDemands.{DraftDemands}
+use Rattle.plant_file.specs.declared.draft.DraftDemands.TheVariants.{Given, File}
+use Rattle.plant_file.specs.declared.draft.DraftPlant.{DraftPlant}
+use Rattle.plant_file.specs.Draft.{IsSoundDraft, file_of, date_column_of, demands_file, demands_column, columns_of}
+use Rattle.plant_file.specs.Reading.{reading}
 use Rattle.plant_file.specs.Finish.{IsWithinLimit, bad_record, bad_record_in, bad_records, held_in, plant_of_bytes}
 use Rattle.plant_file.specs.Finish.{plant_or_first, completed}
 use Rattle.plant_file.specs.PlantOfFiles.{Contents, bytes_at, bytes_of, plant_of_reading, plant_of}

@@ -6,7 +6,7 @@ use Rattle.answers.specs.CheckText.{check_text}
 use Rattle.answers.specs.Curves.{Counts}
 use Rattle.answers.specs.declared.answer.Answer.{Answer}
 use Rattle.answers.specs.declared.answer.Answer.TheVariants.{Curved}
-use Rattle.big_plant.specs.Big.{big_plant}
+use Rattle.live_plant.specs.Big.{big_plant}
 use Rattle.command_line.specs.Screens.{help_text}
 use Rattle.command_line.specs.Words.{command_of}
 use Rattle.command_line.specs.declared.command.Command.{Command}

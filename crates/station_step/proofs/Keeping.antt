@@ -18,9 +18,9 @@ use Rattle.station_step.specs.declared.input.Input.{Input}
 use Rattle.local_queues.specs.Shelf.{queue_at, unused, OnlyTakes, OnlyPuts}
 use Rattle.station_step.specs.Ends.{inlet_taken, inlet_ahead, inlet_queue, outlet_added, outlet_room, outlet_queue, bare_inlet, unseen_inlet, bare_outlet, unseen_outlet, IsUntaken, IsUnfilled, HasRingRoom, HasShelfRoom}
 use Rattle.station_step.specs.Input.{empty_handed, input_at, IsHeld, IsRefilled, NoneTakes}
-use Rattle.station_step.specs.Station.{new_station, WorkStation, firings, outlet_at, NonePuts, AreApart, IsStation, IsSeated, MayPut, bare_input}
+use Rattle.station_step.specs.Station.{new_station, WorkStation, firings, outlet_at, NonePuts, AreApart, IsStation, IsSeated, MayPut, bare_input, bare_station}
 use Rattle.station_step.specs.Kept.{IsKept, IsFresh, date_for, token_for, saturating, sent}
-use Rattle.station_step.specs.Step.{MovesItsOwn, Grows, MovesApart, IsReady}
+use Rattle.station_step.specs.Step.{MovesItsOwn, Grows, MovesApart, IsReady, FiredOnce}
 use Rattle.station_step.proofs.OwnQueues.{input-same, outlet-same, inlet_queue-same, outlet_queue-same, bare-unseen, taken-unseen}
 use Rattle.station_step.proofs.Looking.{AreAlike, bare-alike, added-alike, ring_room-alike, at-set, beside-set}
 use Rattle.station_step.proofs.Dates.{date_for-agree}
@@ -321,6 +321,25 @@ seated-same old new s t count in_count out_count in_same out_same seated =
       puts_apart = λ j k lt low q here there.
           seated.puts_apart j k lt (omega (arith, out_count)) q (sym (puts j) ∙ here) (sym (puts k) ∙ there);
     }
+
+-- ---- what a step leaves as it was, and what it says that it did
+
+-- a station is the same but for what its steps change
+pub bare-same : (s : WorkStation) (inputs : List Input) (outlets : List Outlet) (log : RoomyLog) (turns : ℕ) → map bare_input inputs ≡ map bare_input s.inputs → map bare_outlet outlets ≡ map bare_outlet s.outlets → log.room ≡ s.log.room → bare_station (record s { inputs = inputs; outlets = outlets; log = log; turns = turns }) ≡ bare_station s
+bare-same s inputs outlets log turns in_same out_same room =
+    let bare : List Input → List Outlet → ℕ → WorkStation =
+    λ ins outs space. record s { inputs = ins; outlets = outs; log = record { dates = []; room = space }; turns = 0 } in
+    ap (λ (l : List Input). bare l (map bare_outlet outlets) log.room) in_same
+    ∙ ap (λ (l : List Outlet). bare (map bare_input s.inputs) l log.room) out_same
+    ∙ ap (bare (map bare_input s.inputs) (map bare_outlet s.outlets)) room
+
+-- a station with one date more, whose hands are empty
+pub fired-once : (s : WorkStation) (inputs : List Input) (outlets : List Outlet) (log : RoomyLog) (date turns : ℕ) → log ≡ with_date s.log date → ((k : ℕ) → k < length s.inputs → (input_at inputs k).hand ≡ None) → FiredOnce s (record s { inputs = inputs; outlets = outlets; log = log; turns = turns })
+fired-once s inputs outlets log date turns log_is hands =
+    let n = length s.log.dates in
+    let last : slice_index log.dates n ≡ date =
+    ap (λ (l : RoomyLog). slice_index l.dates n) log_is ∙ get_or_push s.log.dates date 0 n refl in
+    record { log = log_is ∙ ap (with_date s.log) (sym last); hands = hands }
 
 -- ---- what a step does to the shelf
 

@@ -162,7 +162,7 @@ space-unbounded outlets k none low =
     let some : list_any is_bounded outlets ≡ true = list_any_at is_bounded outlets k no_outlet low is in
     absurd (cc))
 
-space_clash : (o : Outlet) → HasSpace o → HasNoSpace o → ⊥
+pub space_clash : (o : Outlet) → HasSpace o → HasNoSpace o → ⊥
 space_clash (outlet.Ring put) has none = none
 space_clash (outlet.Room put) has none = omega (arith, has, none)
 space_clash (outlet.Local q) has none = none
@@ -229,6 +229,11 @@ no_space : (o : Outlet) → (HasSpace o → ⊥) → HasNoSpace o
 no_space (outlet.Ring put) none = none tt
 no_space (outlet.Room put) none = omega (arith, none)
 no_space (outlet.Local q) none = none tt
+
+-- what has no space after its look had none before it
+pub had_no_space : (before after : Outlet) → HasLooked before after → HasNoSpace after → HasNoSpace before
+had_no_space before after looked none =
+    no_space before (λ has. space_clash before has (subst HasNoSpace (looked.stays has) none))
 
 -- the next outlet has no space
 pub first-full : (k : ℕ) (found : Option ℕ) (outlets : List Outlet) (o : Outlet) → k < length outlets → (HasSpace o → ⊥) → IsFirstFull k found outlets → IsFirstFull (k + 1) (option_or found (Some k)) (set outlets k o)

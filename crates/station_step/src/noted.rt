@@ -96,16 +96,15 @@ pub(crate) fn with_delays(
     Ok(noted)
 }
 
-/// Whether one of these outlets is over a ring.
-pub(crate) fn has_ring(outlets: &[Outlet]) -> bool
-    ensures { result ≡ list_any is_ring outlets.now }
+/// Whether one of these outlets can lack space, and whether one is over a ring.
+pub(crate) fn kinds_of(outlets: &[Outlet]) -> (bool, bool)
+    ensures bounded { result.0 ≡ list_any is_bounded outlets.now }
+    ensures rings { result.1 ≡ list_any is_ring outlets.now }
 {
-    outlets.iter().any(|outlet| outlet.is_ring())
-}
-
-/// Whether one of these outlets can lack space.
-pub(crate) fn has_bounded(outlets: &[Outlet]) -> bool
-    ensures { result ≡ list_any is_bounded outlets.now }
-{
-    outlets.iter().any(|outlet| outlet.is_bounded())
+    let (mut bounded, mut rings) = (false, false);
+    for outlet in outlets {
+        bounded |= outlet.is_bounded();
+        rings |= outlet.is_ring();
+    }
+    (bounded, rings)
 }

@@ -11,7 +11,7 @@ use crate::ends::{Inlet, Outlet, meet_ends};
 use crate::fronts::{Front, count_takes, fronts_of, is_direct, latest_front};
 use crate::inputs::{empty_hands, next_date, refill, with_empty_hands};
 use crate::noted::{
-    NotedInput, NotedOutlet, has_bounded, has_ring, note_job, note_time, with_delays, worked_into,
+    NotedInput, NotedOutlet, kinds_of, note_job, note_time, with_delays, worked_into,
 };
 use crate::outlets::{look_all, put_all};
 use crate::refilled::Refilled;
@@ -101,8 +101,7 @@ impl Station {
     {
         let graph = live.graph();
         let made = log.dates().len() as u32;
-        let bounded = has_bounded(outlets.as_slice());
-        let rings = has_ring(outlets.as_slice());
+        let (bounded, rings) = kinds_of(outlets.as_slice());
         let worked = worked_into(alloc, graph, t)?;
         let mut inputs = with_empty_hands(alloc, inlets)?;
         note_time(&mut inputs, worked.as_slice(), graph.time(t, 1));

@@ -1,7 +1,12 @@
 mod got;
 mod mem_files;
+mod new_disk;
 mod of_card_queue;
+mod of_file_disk;
 mod of_file_store;
+mod of_line_disk;
 mod of_line_io;
 mod of_room_ring;
+mod of_slot_store;
 mod same;
+mod short_file;

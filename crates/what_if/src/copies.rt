@@ -23,7 +23,6 @@ pub fn ranks_of(alloc: Global, live: &Live) -> Result<Vec<u32>, AllocError>
 }
 
 /// The time of each job at station `t`.
-#[tactic(auto, using(crate::proofs::Made::made), unfolding(crate::specs::Edited::times_of))]
 fn times_of(alloc: Global, graph: &Graph, t: u32) -> Result<Row, AllocError>
     requires { t < stations graph.now }
     ensures { IfOk result (λ times. times ≡ times_of graph.now t) }
@@ -37,7 +36,6 @@ fn times_of(alloc: Global, graph: &Graph, t: u32) -> Result<Row, AllocError>
 }
 
 /// The time of each job at each station.
-#[tactic(auto, using(crate::proofs::Made::made), unfolding(crate::specs::Edited::inputs_of))]
 pub fn all_times(alloc: Global, graph: &Graph) -> Result<Vec<Row>, AllocError>
     ensures { IfOk result (λ times. times.items ≡ (inputs_of graph.now).times) }
 {
@@ -50,7 +48,6 @@ pub fn all_times(alloc: Global, graph: &Graph) -> Result<Vec<Row>, AllocError>
 }
 
 /// The demand date of each job.
-#[tactic(auto, using(crate::proofs::Made::made), unfolding(crate::specs::Edited::inputs_of))]
 pub fn demands_of(alloc: Global, graph: &Graph) -> Result<Row, AllocError>
     ensures { IfOk result (λ demands. demands ≡ (inputs_of graph.now).demands) }
 {

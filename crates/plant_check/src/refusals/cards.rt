@@ -1,28 +1,30 @@
 //! The cards that are fewer than starting stock needs, and the loops that go down no path.
 ghost use Rattle.std.specs.Prelude.{◌≡◌, ◌<◌, ◌++◌, length, codes, OnOk};
 ghost use Rattle.plant_model.specs.Place.{key_of};
-ghost use Rattle.plant_model.specs.Refusals.{each, too_few, too_few_in_line, too_few_in_stage, too_few_under, too_few_in_loop, too_few_cards, not_downstream};
+ghost use Rattle.plant_model.specs.Refusals.{each, too_few, too_few_in_line, too_few_in_stage, too_few_under, loop_stock, too_few_in_loop, too_few_cards, not_downstream, loops_not_downstream};
 
 use super::whole::refuse;
-use crate::cards::stock_of_loop;
 use plant_model::{
     CardLoop, FileTable, PathTable, PlantError, Policy, Stage, key_place, table_place,
 };
 use std::alloc::{AllocError, Global};
 
-/// Adds each place where cards are fewer than starting stock needs.
-pub(crate) fn find_few_cards(
+/// Adds each place where cards are fewer than starting stock needs, and each loop that goes down no path.
+pub(crate) fn find_on_paths(
     alloc: Global,
     paths: &PathTable,
     refusals: &mut Vec<PlantError>,
 ) -> Result<(), AllocError>
-    ensures { OnOk result (refusals.new.items ≡ refusals.old.items ++ too_few_cards paths.now) }
+    ensures { OnOk result (refusals.new.items ≡ refusals.old.items
+        ++ (too_few_cards paths.now ++ loops_not_downstream paths.now)) }
 {
+    let loops = paths.plant().loops.as_slice();
     find_few_by_policy(alloc, paths, refusals)?;
-    find_few_in_loops(alloc, paths, paths.plant().loops.as_slice(), refusals)
+    find_few_in_loops(alloc, paths, loops, refusals)?;
+    find_not_downstream(alloc, paths, loops, refusals)
 }
 
-/// Adds each such place of the policy's cards.
+/// Adds each place where the policy's cards are fewer than starting stock needs.
 fn find_few_by_policy(
     alloc: Global,
     paths: &PathTable,
@@ -134,6 +136,18 @@ fn find_few_in_loop(
     }
 }
 
+/// The starting stock of a loop's stages; `None` exactly where it goes down no path.
+pub fn stock_of_loop(paths: &PathTable, card_loop: &CardLoop) -> Option<u64>
+    ensures { result ≡ loop_stock paths.now card_loop.now }
+{
+    let first = card_loop.first as usize;
+    if first < paths.plant().stages.len() {
+        paths.stock_up_to(first, card_loop.last as usize)
+    } else {
+        None
+    }
+}
+
 /// Adds the cards at a table, if starting stock is more.
 fn find_few(
     alloc: Global,
@@ -160,7 +174,7 @@ fn find_few(
 }
 
 /// Adds each loop that goes down no path.
-pub(crate) fn find_not_downstream(
+fn find_not_downstream(
     alloc: Global,
     paths: &PathTable,
     loops: &[CardLoop],

@@ -1,13 +1,12 @@
 //! The limits that a plant passes.
-ghost use Rattle.std.specs.Prelude.{◌≡◌, ◌++◌, ◌*◌, codes, OnOk};
+ghost use Rattle.std.specs.Prelude.{◌≡◌, ◌++◌, ◌*◌, ◌^◌, ◌≤◌, length, codes, OnOk};
 ghost use Rattle.line_base.specs.Limits.{most_dates};
-ghost use Rattle.plant_model.specs.Line.{station_count};
+ghost use Rattle.plant_model.specs.Line.{station_count, stations_of};
 ghost use Rattle.plant_model.specs.Refusals.{larger, too_large};
 
 use super::whole::refuse;
-use crate::sizes::count_stations;
 use line_base::{MAX_DEMANDS, MAX_LOOPS, MAX_OBSERVE, MAX_STAGES, MAX_STATIONS, MAX_TABLE, Text};
-use plant_model::{Plant, PlantError};
+use plant_model::{Plant, PlantError, Stage};
 use std::alloc::{AllocError, Global};
 
 /// Adds each limit that a plant passes.
@@ -82,4 +81,16 @@ fn count_all_stations(plant: &Plant) -> u128
     ensures { result ≡ station_count plant.now }
 {
     1 + count_stations(plant.stages.as_slice()) + 1
+}
+
+/// How many stations these stages have, whatever stands in place of their job times: each a release and its machines.
+pub fn count_stations<T>(stages: &[Stage<T>]) -> u128
+    ensures count { result ≡ stations_of stages.now }
+    ensures small { result ≤ length stages.now * 2 ^ 64 }
+{
+    let mut count = 0;
+    for stage in stages {
+        count += 1 + stage.machines.len() as u128;
+    }
+    count
 }

@@ -2,7 +2,7 @@
 ghost use Rattle.std.specs.Prelude.{◌≡◌, ◌<◌, ◌++◌, ◌∷◌, [], length, IfOk, OnOk};
 ghost use Rattle.plant_model.specs.Refusals.{all_feeds_not_later, each, times_count, machine_times_count, stage_times_count, falling_date, too_few_cards, loops_not_downstream, whole_refusals};
 
-use super::cards::{find_few_cards, find_not_downstream};
+use super::cards::find_on_paths;
 use super::sizes::find_sizes;
 use line_base::{Date, Times};
 use plant_model::{FileTable, Machine, PathTable, Plant, PlantError, Stage, table_place};
@@ -39,8 +39,9 @@ fn find_with_paths(
         ++ (too_few_cards plant.now ++ loops_not_downstream plant.now)) }
 {
     let paths = PathTable::of(alloc, plant)?;
-    find_few_cards(alloc, &paths, refusals)?;
-    find_not_downstream(alloc, &paths, paths.plant().loops.as_slice(), refusals)
+    let found = find_on_paths(alloc, &paths, refusals);
+    drop(paths);
+    found
 }
 
 /// Adds a refusal at the end.

@@ -1,6 +1,7 @@
 use crate::tests::kept::kept;
 use crate::tests::of_line_workers::new_line;
 use crate::tests::same::same;
+use crate::tests::samples::live_forty_jobs;
 use line_base::Date;
 use line_core::Table;
 use line_disk::MemDisk;
@@ -12,7 +13,6 @@ use std::alloc::Global;
 use std::process::Abort;
 use std::test::Fail;
 use std::thread::Threads;
-use test_samples::live_forty_jobs;
 
 /// The dates of a station.
 fn dates_of<'a>(rt: &impl Abort, table: &'a Table, t: u32) -> &'a [Date] {

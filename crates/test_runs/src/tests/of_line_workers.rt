@@ -1,6 +1,7 @@
 ghost use Rattle.std.specs.Prelude.{◌≡◌, ◌≤◌, IfOk};
 
 use crate::tests::same::same;
+use crate::tests::samples::live_stages;
 use line_base::Date;
 use line_core::State;
 use line_workers::{FreeGate, Line};
@@ -9,7 +10,6 @@ use std::alloc::Global;
 use std::process::Abort;
 use std::test::Fail;
 use std::thread::Threads;
-use test_samples::live_stages;
 
 /// A line of this many workers at the start.
 pub fn new_line(alloc: Global, live: &Live, workers: u32) -> Result<Line, Fail>

@@ -5,6 +5,9 @@ use crate::tests::kept::kept;
 use crate::tests::noting_gate::NotingGate;
 use crate::tests::pair_gate::PairGate;
 use crate::tests::same::same;
+use crate::tests::samples::{
+    BASE_STOCK, FORTY_DEMANDS, KANBAN, ONE_CARD, ONE_PART, THREE_DEMANDS, stages_file,
+};
 use line_disk::MemDisk;
 use line_io::{Files, MemSink, MemStore, Store};
 use line_workers::{FreeGate, Gate};
@@ -13,9 +16,6 @@ use std::alloc::{AllocError, Global};
 use std::process::Abort;
 use std::sync::Wait;
 use std::thread::Threads;
-use test_samples::{
-    BASE_STOCK, FORTY_DEMANDS, KANBAN, ONE_CARD, ONE_PART, THREE_DEMANDS, stages_file,
-};
 
 /// How often a worker with three stations passes a gate in a burst.
 const PASSES: u64 = 48;

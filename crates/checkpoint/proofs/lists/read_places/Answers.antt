@@ -1,4 +1,4 @@
-use Rattle.std.proofs.Common.{ℕ, List, ◌+◌, ◌<◌, ◌++◌, ◌^◌, length, refl, sym, ap, ◌∙◌, subst, arith}
+use Rattle.std.proofs.Common.{◌≡◌, ℕ, List, ◌+◌, ◌<◌, ◌++◌, ◌^◌, length, refl, sym, ap, ◌∙◌, subst, arith}
 use Rattle.std.proofs.lemmas.List.{length_push}
 use Rattle.line_base.specs.Roomy.{dates_of}
 use Rattle.event_graph.specs.Network.{stations, arc_count}
@@ -46,3 +46,16 @@ loop-a-preserved c =
       counted = ap length c.push_reserved.ensures.items ∙ length_push c.loop-a.counts.items count ∙ ap (λ m. m + 1) c.loop-a.invariant.counted;
       room = c.push_reserved.ensures.capacity ∙ c.loop-a.invariant.room;
     }
+
+pub push_reserved-requires : goal.push_reserved-requires
+push_reserved-requires c =
+    omega (arith, c.loop-a.invariant.counted, c.loop-a.invariant.room, c.loop-a-test.true, ap length c.arcs.ensures.arcs, c.loop-a.counts.ok.0)
+
+pub returns-clause-read : goal.returns-clause-read
+returns-clause-read c =
+    let format = c.args.format in
+    let g = c.args.graph.now in
+    let dates = dates_of c.args.logs.now in
+    let all : c.loop-a.a ≡ arc_count g = omega (arith, c.loop-a-test.false, c.loop-a.auto.a-end, ap length c.arcs.ensures.arcs) in
+    subst (λ (n : ℕ). HasReadPlaces format g dates n c.from_vec.result c.loop-a.wrong c.args.reader.now c.loop-a.reader) all (
+    subst (λ (l : List ℕ). HasReadPlaces format g dates c.loop-a.a l c.loop-a.wrong c.args.reader.now c.loop-a.reader) (sym c.from_vec.ensures) c.loop-a.invariant.read)

@@ -1,7 +1,30 @@
-use Rattle.std.proofs.Common.{◌++◌, ◌∙◌, sym}
+use Rattle.std.proofs.Common.{◌≡◌, ℕ, List, ◌++◌, ◌∙◌, sym, subst}
+use Rattle.std.proofs.lemmas.Result.{err_from_is_err_and}
+use Rattle.line_base.specs.declared.event.Parts.{Parts}
+use Rattle.checkpoint.specs.declared.error.CheckpointError.{CheckpointError}
+use Rattle.checkpoint.specs.Answers.{Tells}
 use Rattle.checkpoint.proofs.OneState.{given_left, given_right}
 use Rattle.checkpoint.proofs.ReadParts.{logs_given}
 use Rattle.checkpoint.proofs.read.read_parts.Goals as goal
+
+-- what an error tells of a text that is the same
+tells_of : (g : Parts) (bytes same : List ℕ) (error : CheckpointError) → bytes ≡ same → Tells g bytes error → Tells g same error
+tells_of g bytes same error is told = subst (λ t. Tells g t error) is told
+
+pub returns-in_err-stations-clause-refused : goal.returns-in_err-stations-clause-refused
+returns-in_err-stations-clause-refused c =
+    let p = err_from_is_err_and c.from_residual-in_err-stations.result c.from_residual-in_err-stations.ensures.1 in
+    rw (p.1, p.2) (tells_of c.args.graph.now _ _ _ c.in_ok-format.ensures.text c.in_err-stations.ensures.refused)
+
+pub returns-in_err-places-clause-refused : goal.returns-in_err-places-clause-refused
+returns-in_err-places-clause-refused c =
+    let p = err_from_is_err_and c.from_residual-in_err-places.result c.from_residual-in_err-places.ensures.1 in
+    rw (p.1, p.2) (tells_of c.args.graph.now _ _ _ (c.in_ok-stations.ensures.text ∙ c.in_ok-format.ensures.text) c.in_err-places.ensures.refused)
+
+pub returns-in_err-read_end-clause-refused : goal.returns-in_err-read_end-clause-refused
+returns-in_err-read_end-clause-refused c =
+    let p = err_from_is_err_and c.from_residual-in_err-read_end.result c.from_residual-in_err-read_end.ensures.1 in
+    rw (p.1, p.2) (tells_of c.args.graph.now _ _ _ (c.in_ok-places.ensures.text ∙ c.in_ok-stations.ensures.text ∙ c.in_ok-format.ensures.text) c.in_err-read_end.ensures.refused)
 
 pub read_places-requires-clause-given : goal.read_places-requires-clause-given
 read_places-requires-clause-given c =

@@ -9,14 +9,14 @@ use Rattle.checkpoint.proofs.writer.put_delays.Goals.{then-delay-gt0+in_ok-put_d
 
 pub loop-a-init : goal.loop-a-init
 loop-a-init c =
-    sym (append-nil c.put_number.new.text.items)
-    ∙ ap (λ l. c.put_number.new.text.items ++ flat_map (delay_words c.args.graph.now) l) (sym (delayed_below-0 c.args.graph.now))
+    sym (append-nil c.put_numbered.new.text.items)
+    ∙ ap (λ l. c.put_numbered.new.text.items ++ flat_map (delay_words c.args.graph.now) l) (sym (delayed_below-0 c.args.graph.now))
 
 pub loop-a-preserved : goal.loop-a-preserved
 loop-a-preserved c =
     let g = c.args.graph.now in
     let a = c.loop-a.a in
-    let start = c.put_number.new.text.items in
+    let start = c.put_numbered.new.text.items in
     let before = flat_map (delay_words g) (delayed_below g a) in
     elim c.if-delay-gt0.branch [
       | then-delay-gt0+in_ok-put_delay w ↦
@@ -35,9 +35,9 @@ loop-a-preserved c =
 pub returns : goal.returns
 returns c =
     let g = c.args.graph.now in
-    let start = c.put_number.new.text.items in
+    let start = c.put_numbered.new.text.items in
     let all : c.loop-a.a ≡ arc_count g = omega (arith, ap length c.arcs.ensures.arcs, c.loop-a-test.false, c.loop-a.auto.a-end) in
     let words = c.loop-a.invariant ∙ ap (λ n. start ++ flat_map (delay_words g) (delayed_below g n)) all ∙ ap (λ l. start ++ flat_map (delay_words g) l) (delayed_below-all g) in
-    let counted = c.in_ok-put_number.ensures ∙ ap (λ n. c.extend_from_slice.new.self.items ++ decimal n) (c.from.ensures ∙ c.count_delayed.ensures) in
-    ok_appended c.extend_from_slice-2.result _ c.loop-a.text.items (codes "\n") _ c.extend_from_slice-2.ensures.items
-    (delays_written g c.args.text.now.items c.extend_from_slice.new.self.items start c.loop-a.text.items c.in_ok-extend_from_slice.ensures.items counted words)
+    let counted = c.in_ok-put_numbered.ensures ∙ ap (λ n. c.args.text.now.items ++ (codes "delays " ++ decimal n)) (c.from.ensures ∙ c.count_delayed.ensures) in
+    ok_appended c.extend_from_slice.result _ c.loop-a.text.items (codes "\n") _ c.extend_from_slice.ensures.items
+    (delays_written g c.args.text.now.items start c.loop-a.text.items counted words)

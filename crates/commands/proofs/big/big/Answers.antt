@@ -1,7 +1,7 @@
 use Rattle.std.proofs.Common.{◌∙◌, refl}
 use Rattle.std.specs.Prelude.{Ok}
 use Rattle.answers.specs.declared.answer.Answer.TheVariants.{Summarized}
-use Rattle.big_plant.specs.Big.{big_plant}
+use Rattle.live_plant.specs.Big.{big_plant}
 use Rattle.commands.proofs.LeastTables.{writes_least}
 use Rattle.line_report.specs.SummaryText.{summary}
 use Rattle.commands.proofs.big.big.Goals as goal

@@ -17,3 +17,30 @@ loop-a-preserved c =
     below_more _ _ c.loop-a.invariant
     (rw c.as_slice-potentials.ensures
     (omega (arith, ints, covered, c.requires.potentials_low (arc g a).from (pos 0) from, c.requires.potentials_high (arc g a).from (pos 0) from, c.requires.potentials_low (arc g a).to (pos 0) to, c.requires.potentials_high (arc g a).to (pos 0) to)))
+
+-- the potential at the start of an arc is within the bounds
+start : (c : goal.After-is_covered-arg-in-loop-a-1) → (arc c.args.graph.now c.loop-a.a).from < length c.args.given.now.potentials
+start c =
+    let graph = c.arcs-arc-items.ensures.graph in
+    let there = rw c.arcs-arc-items.ensures.arcs at c.loop-a-test.true in
+    omega (arith, graph.starts_exist c.loop-a.a there, c.requires.potential_for_each)
+
+pub is_covered-requires-clause-start_low : goal.is_covered-requires-clause-start_low
+is_covered-requires-clause-start_low c =
+    let from = start c in
+    let t = (arc c.args.graph.now c.loop-a.a).from in
+    rw (c.as_slice-potentials.ensures, c.arcs-arc-items.ensures.arcs)
+    (omega (arith, ints, c.requires.potentials_low t (pos 0) from, c.requires.potentials_high t (pos 0) from))
+
+pub is_covered-requires-clause-start_high : goal.is_covered-requires-clause-start_high
+is_covered-requires-clause-start_high c =
+    let from = start c in
+    let t = (arc c.args.graph.now c.loop-a.a).from in
+    rw (c.as_slice-potentials.ensures, c.arcs-arc-items.ensures.arcs)
+    (omega (arith, ints, c.requires.potentials_low t (pos 0) from, c.requires.potentials_high t (pos 0) from))
+
+pub is_covered-requires-clause-weight_low : goal.is_covered-requires-clause-weight_low
+is_covered-requires-clause-weight_low c = omega (arith, ints, c.weight_of-weight.ensures.low, c.weight_of-weight.ensures.high)
+
+pub is_covered-requires-clause-weight_high : goal.is_covered-requires-clause-weight_high
+is_covered-requires-clause-weight_high c = omega (arith, ints, c.weight_of-weight.ensures.low, c.weight_of-weight.ensures.high)

@@ -1,8 +1,18 @@
-use Rattle.std.proofs.Common.{◌≡◌, ap, ◌∙◌, arith}
-use Rattle.line_base.specs.Roomy.{dates_of}
+use Rattle.std.proofs.Common.{◌≡◌, ◌+◌, ◌++◌, ◌∷◌, [], replicate, List, ap, ◌∙◌, arith}
+use Rattle.std.proofs.lemmas.List.{replicate_more}
+use Rattle.line_base.specs.Roomy.{RoomyLog, RoomyLogs, dates_of}
 use Rattle.event_graph.specs.Network.{stations, jobs}
 use Rattle.line_core.proofs.Runs.{empty_ones, held-start, dates-empty_ones}
 use Rattle.line_core.proofs.state.empty_logs.Goals as goal
+
+pub loop-preserved : goal.loop-preserved
+loop-preserved c =
+    let empty : RoomyLog = record { dates = []; room = c.jobs-jobs.result } in
+    let with_logs : List RoomyLog → RoomyLogs = λ logs. record { logs = logs; room = c.stations-stations.result } in
+    c.add.ensures
+    ∙ ap (λ (l : RoomyLogs). record l { logs = l.logs ++ c.in_ok-new.field-0 ∷ [] }) c.loop.invariant
+    ∙ ap (λ log. with_logs (replicate c.loop.counter empty ++ log ∷ [])) c.in_ok-new.ensures
+    ∙ ap with_logs (replicate_more c.loop.counter empty)
 
 pub returns-clause-held : goal.returns-clause-held
 returns-clause-held c =

@@ -1,10 +1,33 @@
-use Rattle.std.proofs.Common.{ap, ◌∙◌, subst, arith}
-use Rattle.std.specs.Prelude.{Err}
+use Rattle.std.proofs.Common.{◌≡◌, ℕ, List, ◌++◌, ◌∷◌, [], length, Vec, true, false, refl, sym, ap, ◌∙◌, subst, append_assoc, arith}
+use Rattle.std.specs.Prelude.{Option, Some, Result, Ok, Err, OnOk, IfOk, IsTrue}
+use Rattle.std.specs.declared.alloc.Global.{Global}
 use Rattle.std.proofs.lemmas.Result.{err_from_is_err_and}
+use Rattle.line_io.specs.Calls.{bytes_of}
+use Rattle.line_io.specs.Contents.{IsLongerThan}
+use Rattle.line_io.specs.RawFiles.{Named, Opens}
 use Rattle.line_io.specs.Reading.{TakesToLimit}
 use Rattle.line_io.specs.declared.store.StoreError.{StoreError}
 use Rattle.line_io.proofs.ReadingLemmas.{takes_until_refused}
 use Rattle.line_io.proofs.file_reading.read_file.Goals as goal
+
+-- what was left of a file that was opened is what it holds
+bytes_found : {Told : Type 0} (held : Option (List ℕ)) (left : List ℕ) (result : Result (Vec ℕ Global) StoreError) → (Told → held ≡ Some left) → IfOk result (λ v. Told → v.items ≡ left) → IfOk result (λ v. Told → held ≡ Some v.items)
+bytes_found held left (Ok v) found gave = λ told. found told ∙ ap (λ (xs : List ℕ). Some xs) (sym (gave told))
+bytes_found held left (Err error) found gave = tt
+
+pub returns-in_err-counted-clause-asks : goal.returns-in_err-counted-clause-asks
+returns-in_err-counted-clause-asks g c =
+    let name = c.args.name.now in
+    let old = (g.F.RawFiles.shown c.args.files.now).asked in
+    let counted = c.in_err-counted.ensures in
+    let p = err_from_is_err_and c.from_residual.result c.from_residual.ensures.1 in (
+      Opens name false ∷ [],
+      c.open.ensures.recorded ∙ ap (λ well. old ++ Opens name well ∷ []) (sym counted.same),
+      ((refl, refl, ap (λ r. bytes_of r) p.1 ∙ ap (λ (e : StoreError). Err e) (p.2 ∙ counted.failed)), c.requires),
+    )
+
+pub returns-in_err-counted-clause-stays : goal.returns-in_err-counted-clause-stays
+returns-in_err-counted-clause-stays g c = c.open.ensures.stays
 
 pub returns-in_err-counted-clause-takes : goal.returns-in_err-counted-clause-takes
 returns-in_err-counted-clause-takes g c =
@@ -15,3 +38,32 @@ returns-in_err-counted-clause-takes g c =
 pub returns-clause-takes : goal.returns-clause-takes
 returns-clause-takes g c =
     subst (λ n. TakesToLimit c.args.limit c.read_to_limit.new.taken n c.read_to_limit.new.faults c.read_to_limit.result) c.in_ok-counted.ensures.stays c.read_to_limit.ensures.takes
+
+pub returns-clause-asks : goal.returns-clause-asks
+returns-clause-asks g c =
+    let name = c.args.name.now in
+    let old = (g.F.RawFiles.shown c.args.files.now).asked in
+    let rest = c.read_to_limit.ensures.asks in (
+      Opens name true ∷ rest.0,
+      rest.1
+          ∙ ap (λ xs. xs ++ rest.0) (c.open.ensures.recorded ∙ ap (λ well. old ++ Opens name well ∷ []) (sym c.in_ok-counted.ensures.same))
+          ∙ append_assoc old (Opens name true ∷ []) rest.0,
+      ((refl, rest.2.0), rest.2.1),
+    )
+
+pub returns-clause-bytes : goal.returns-clause-bytes
+returns-clause-bytes g c =
+    let old = g.F.RawFiles.shown c.args.files.now in
+    let left = (g.F.RawFiles.shown c.open.new.self).left in
+    let held = old.held (Named c.args.name.now) in
+    bytes_found held left c.read_to_limit.result (subst (λ r. OnOk r (IsTrue g.F.RawFiles.tells → held ≡ Some left)) c.in_ok-counted.ensures.value c.open.ensures.found) c.read_to_limit.ensures.bytes
+
+pub returns-clause-longer : goal.returns-clause-longer
+returns-clause-longer g c = λ long told.
+    let left = (g.F.RawFiles.shown c.open.new.self).left in
+    let held = (g.F.RawFiles.shown c.args.files.now).held (Named c.args.name.now) in
+    let found = subst (λ r. OnOk r (IsTrue g.F.RawFiles.tells → held ≡ Some left)) c.in_ok-counted.ensures.value c.open.ensures.found in
+    subst (λ known. IsLongerThan c.args.limit known) (sym (found told)) (c.read_to_limit.ensures.longer long told)
+
+pub returns-clause-stays : goal.returns-clause-stays
+returns-clause-stays g c = λ told q. c.read_to_limit.ensures.stays told q ∙ c.open.ensures.stays told q

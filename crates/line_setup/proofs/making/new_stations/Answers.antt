@@ -1,5 +1,6 @@
 use Rattle.std.proofs.Common.{◌≡◌, ℕ, ◌+◌, ◌-◌, ◌<◌, ap, ◌∙◌, subst, sym, List, length, arith}
 use Rattle.std.proofs.lemmas.List.{length_push, get_or_default}
+use Rattle.std.proofs.lemmas.Result.{IfOk-from_err}
 use Rattle.line_base.specs.Roomy.{RoomyLog}
 use Rattle.event_graph.specs.State.{log}
 use Rattle.local_queues.specs.Shelf.{log_on}
@@ -54,3 +55,39 @@ loop-t-preserved c =
       shelves = ap (λ (e : QueueEnds). e.shelves) c.in_ok-station.ensures.rest ∙ before.shelves;
       arcs = ap (λ (e : QueueEnds). e.arcs) c.in_ok-station.ensures.rest ∙ before.arcs;
     }
+
+pub returns-in_err-made-clause-count : goal.returns-in_err-made-clause-count
+returns-in_err-made-clause-count c =
+    IfOk-from_err c.from_residual.result (λ made. c.args.first + length made.items ≡ c.args.next) c.from_residual.ensures.0
+
+pub returns-in_err-made-clause-made : goal.returns-in_err-made-clause-made
+returns-in_err-made-clause-made c =
+    IfOk-from_err c.from_residual.result (λ made. AreNewStations c.args.live.now.graph c.args.state.now.state c.args.first c.args.ends.now made.items) c.from_residual.ensures.0
+
+pub returns-in_err-made-clause-logs : goal.returns-in_err-made-clause-logs
+returns-in_err-made-clause-logs c =
+    IfOk-from_err c.from_residual.result (λ made. (i : ℕ) → i < length made.items → (member made.items i).log ≡ log_on c.args.logs.now.items i) c.from_residual.ensures.0
+
+pub returns-in_err-station-clause-count : goal.returns-in_err-station-clause-count
+returns-in_err-station-clause-count c =
+    IfOk-from_err c.from_residual-in_err-station.result (λ made. c.args.first + length made.items ≡ c.args.next) c.from_residual-in_err-station.ensures.0
+
+pub returns-in_err-station-clause-made : goal.returns-in_err-station-clause-made
+returns-in_err-station-clause-made c =
+    IfOk-from_err c.from_residual-in_err-station.result (λ made. AreNewStations c.args.live.now.graph c.args.state.now.state c.args.first c.args.ends.now made.items) c.from_residual-in_err-station.ensures.0
+
+pub returns-in_err-station-clause-logs : goal.returns-in_err-station-clause-logs
+returns-in_err-station-clause-logs c =
+    IfOk-from_err c.from_residual-in_err-station.result (λ made. (i : ℕ) → i < length made.items → (member made.items i).log ≡ log_on c.args.logs.now.items i) c.from_residual-in_err-station.ensures.0
+
+pub returns-in_err-push-clause-count : goal.returns-in_err-push-clause-count
+returns-in_err-push-clause-count c =
+    IfOk-from_err c.from_residual-in_err-push.result (λ made. c.args.first + length made.items ≡ c.args.next) c.from_residual-in_err-push.ensures.0
+
+pub returns-in_err-push-clause-made : goal.returns-in_err-push-clause-made
+returns-in_err-push-clause-made c =
+    IfOk-from_err c.from_residual-in_err-push.result (λ made. AreNewStations c.args.live.now.graph c.args.state.now.state c.args.first c.args.ends.now made.items) c.from_residual-in_err-push.ensures.0
+
+pub returns-in_err-push-clause-logs : goal.returns-in_err-push-clause-logs
+returns-in_err-push-clause-logs c =
+    IfOk-from_err c.from_residual-in_err-push.result (λ made. (i : ℕ) → i < length made.items → (member made.items i).log ≡ log_on c.args.logs.now.items i) c.from_residual-in_err-push.ensures.0

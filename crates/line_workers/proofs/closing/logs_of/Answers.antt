@@ -1,4 +1,4 @@
-use Rattle.std.proofs.Common.{◌≡◌, ℕ, ◌+◌, ◌≤◌, ◌<◌, ◌++◌, List, length, get_or, map, drop, ap, ◌∙◌, sym, subst, arith, add-zero}
+use Rattle.std.proofs.Common.{◌≡◌, ℕ, ◌+◌, ◌≤◌, ◌<◌, ◌++◌, List, length, length-drop, get_or, map, drop, ap, ◌∙◌, sym, subst, arith, add-zero}
 use Rattle.std.proofs.lemmas.List.{get_or_default, get_or-drop, drop-drop}
 use Rattle.line_base.specs.Roomy.{RoomyLogs}
 use Rattle.line_worker.specs.Worker.{LineWorker}
@@ -7,6 +7,9 @@ use Rattle.line_worker.specs.Logs.{log_of}
 use Rattle.line_workers.specs.Close.{AreGiven}
 use Rattle.line_workers.proofs.LogsGiven.{given_more, given_fits, given_all, given_first}
 use Rattle.line_workers.proofs.closing.logs_of.Goals as goal
+
+pub remove-requires : goal.remove-requires
+remove-requires c = omega (arith, c.requires.some)
 
 pub loop-worker-init : goal.loop-worker-init
 loop-worker-init c =
@@ -26,6 +29,18 @@ next-worker workers left w worker rest low is =
     ∙ get_or-drop w workers 0 worker
     ∙ ap (λ n. get_or workers n worker) (add-zero w)
     ∙ get_or_default workers w worker no_worker low
+
+-- the list that is left has that worker
+some-left : (workers left : List LineWorker) (w : ℕ) → left ≡ drop w workers → w < length workers → 0 < length left
+some-left workers left w rest low = omega (arith, ap length rest, length-drop w workers, low)
+
+pub remove-requires-in-loop-worker : goal.remove-requires-in-loop-worker
+remove-requires-in-loop-worker c =
+    let low : c.loop-worker._worker < length c.args.workers.items = omega (arith, c.loop-worker-test.true, c.len-worker_count.ensures) in
+    omega (arith, some-left c.args.workers.items c.loop-worker.workers.items c.loop-worker._worker c.loop-worker.invariant.left low)
+
+pub loop-worker-smaller : goal.loop-worker-smaller
+loop-worker-smaller c = omega (arith, c.loop-worker-test.true)
 
 pub give_logs-requires : goal.give_logs-requires
 give_logs-requires c =

@@ -1,8 +1,25 @@
-use Rattle.std.proofs.Common.{◌≡◌, ◌<◌, ◌+◌, length, ap, arith, ⊎_elim, inl, inr}
+use Rattle.std.proofs.Common.{◌≡◌, List, ◌<◌, ◌+◌, length, ap, arith, ⊎_elim, inl, inr}
 use Rattle.std.proofs.lemmas.Bool.{cases_eq}
 use Rattle.event_graph.specs.Network.{arc_count}
+use Rattle.live_check.specs.Order.{LiveGraph}
+use Rattle.line_worker.specs.Worker.{LineWorker}
+use Rattle.line_worker.specs.Workers.{live_of, AreWorkers}
+use Rattle.line_workers.specs.Meeting.{IsMeeting}
 use Rattle.line_workers.proofs.AllWorkers.{alone_is_met, meeting_begins, meeting_goes_on}
 use Rattle.line_workers.proofs.workers.meet_all.Goals as goal
+
+-- where nothing has met yet
+begins : (live : LiveGraph) (workers : List LineWorker) → AreWorkers workers → live ≡ live_of workers → IsMeeting live workers workers (λ b. b < 0)
+begins live workers are made_for = meeting_begins live workers (λ b. b < 0) (λ b low. absurd (omega (arith, low))) are made_for
+
+pub returns-then-workers-eq1-clause-same : goal.returns-then-workers-eq1-clause-same
+returns-then-workers-eq1-clause-same c = (begins c.args.live.now c.args.workers.now c.requires.workers c.requires.made_for).same
+
+pub returns-then-workers-eq1-clause-worked : goal.returns-then-workers-eq1-clause-worked
+returns-then-workers-eq1-clause-worked c = (begins c.args.live.now c.args.workers.now c.requires.workers c.requires.made_for).worked
+
+pub returns-then-workers-eq1-clause-still : goal.returns-then-workers-eq1-clause-still
+returns-then-workers-eq1-clause-still c = (begins c.args.live.now c.args.workers.now c.requires.workers c.requires.made_for).still
 
 pub returns-then-workers-eq1-clause-met : goal.returns-then-workers-eq1-clause-met
 returns-then-workers-eq1-clause-met c =
@@ -10,7 +27,20 @@ returns-then-workers-eq1-clause-met c =
     λ a listed. alone_is_met c.args.workers.now c.requires.workers c.args.live.now c.requires.made_for a listed one
 
 pub loop-a-init : goal.loop-a-init
-loop-a-init c = meeting_begins c.args.live.now c.args.workers.now (λ b. b < 0) (λ b low. absurd (omega (arith, low))) c.requires.workers c.requires.made_for
+loop-a-init c = begins c.args.live.now c.args.workers.now c.requires.workers c.requires.made_for
+
+pub meet_on-requires-clause-workers : goal.meet_on-requires-clause-workers
+meet_on-requires-clause-workers c = c.loop-a.invariant.whole
+
+pub meet_on-requires-clause-few : goal.meet_on-requires-clause-few
+meet_on-requires-clause-few c = omega (arith, c.loop-a.invariant.same.count, c.requires.few)
+
+pub meet_on-requires-clause-made_for : goal.meet_on-requires-clause-made_for
+meet_on-requires-clause-made_for c = c.loop-a.invariant.live_is
+
+pub meet_on-requires-clause-arc : goal.meet_on-requires-clause-arc
+meet_on-requires-clause-arc c =
+    omega (arith, c.loop-a-test.true, ap length c.arcs.ensures.arcs, ap arc_count c.graph.ensures.graph)
 
 pub loop-a-preserved : goal.loop-a-preserved
 loop-a-preserved c =
@@ -18,6 +48,15 @@ loop-a-preserved c =
     meeting_goes_on c.args.live.now c.args.workers.now c.loop-a.workers c.meet_on.new.workers (λ b. b < a) (λ b. b < a + 1) a c.loop-a.invariant
     (λ b low. ⊎_elim inl (λ apart. inr (omega (arith, low, apart))) (cases_eq b a))
     c.meet_on.ensures.same c.meet_on.ensures.met
+
+pub returns-clause-same : goal.returns-clause-same
+returns-clause-same c = c.loop-a.invariant.same
+
+pub returns-clause-worked : goal.returns-clause-worked
+returns-clause-worked c = c.loop-a.invariant.worked
+
+pub returns-clause-still : goal.returns-clause-still
+returns-clause-still c = c.loop-a.invariant.still
 
 pub returns-clause-met : goal.returns-clause-met
 returns-clause-met c =

@@ -1,7 +1,7 @@
 use Rattle.std.proofs.Common.{◌≡◌, ◌≢◌, Option, ℕ, List, Result, ap, sym, inl}
 use Rattle.std.specs.Prelude.{Ok, Err}
-use Rattle.plant_draft.specs.Draft.{demands_file}
-use Rattle.plant_draft.specs.declared.draft.DraftPlant.{DraftPlant}
+use Rattle.plant_file.specs.Draft.{demands_file}
+use Rattle.plant_file.specs.declared.draft.DraftPlant.{DraftPlant}
 use Rattle.plant_file.specs.Finish.{completed}
 use Rattle.plant_model.specs.declared.error.PlantError.TheVariants as plant_error
 use Rattle.plant_model.specs.declared.plant.Plant.{Plant}

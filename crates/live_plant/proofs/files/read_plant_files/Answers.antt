@@ -1,6 +1,6 @@
 use Rattle.std.proofs.Common.{◌≡◌, ℕ, List, ap, sym, inl}
 use Rattle.std.specs.Prelude.{Ok, Err}
-use Rattle.plant_draft.specs.Reading.{reading}
+use Rattle.plant_file.specs.Reading.{reading}
 use Rattle.live_plant.specs.Refused.{refusal_of}
 use Rattle.live_plant.specs.Steps.{LooksAt, Then}
 use Rattle.live_plant.specs.PlantSteps.{or_refused, OfBytes, OfDraft}

@@ -1,4 +1,4 @@
-use Rattle.plant_draft.specs.Draft.{demands_file}
+use Rattle.plant_file.specs.Draft.{demands_file}
 use Rattle.live_plant.specs.LintSteps.{IsDraftLint}
 use Rattle.live_plant.specs.Outside.{store_over}
 use Rattle.live_plant.proofs.LintReads.{draft_needs_none}

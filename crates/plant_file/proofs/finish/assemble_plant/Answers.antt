@@ -2,7 +2,7 @@ use Rattle.std.proofs.Common.{◌≡◌, ℕ, [], true, refl, subst}
 use Rattle.std.specs.Prelude.{Vec, option_map}
 use Rattle.std.specs.Global.{Global}
 use Rattle.plant_model.specs.Refusals.{parts_refusals, refusals}
-use Rattle.plant_draft.specs.Draft.{IsSoundDraft}
+use Rattle.plant_file.specs.Draft.{IsSoundDraft}
 use Rattle.plant_file.proofs.PlantParts.{HasColumns-within, AreDates-from, feeds-none, parts-none}
 use Rattle.plant_file.proofs.finish.assemble_plant.Goals as goal
 

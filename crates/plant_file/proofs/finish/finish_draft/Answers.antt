@@ -1,6 +1,6 @@
-use Rattle.std.proofs.Common.{Ok, subst, sym, ap, ◌∙◌}
+use Rattle.std.proofs.Common.{Ok, Err, refl, subst, sym, ap, ◌∙◌}
 use Rattle.plant_model.specs.Refusals.{whole_refusals, first}
-use Rattle.plant_draft.specs.Draft.{IsSoundDraft}
+use Rattle.plant_file.specs.Draft.{IsSoundDraft}
 use Rattle.plant_file.specs.Counts.{stays_within, table_within}
 use Rattle.plant_file.specs.Finish.{plant_with}
 use Rattle.plant_file.proofs.PlantParts.{HasColumns-within, AreDates-from, parts-none}
@@ -30,24 +30,24 @@ returns-in_err-check_counts-clause-plant c =
     c.from_residual.ensures.1
     (λ ne. first-counted d _ c.args.times c.count_demands-jobs.result _ c.count_demands-jobs.ensures (found ne)))
 
-pub returns-in_err-check_whole-clause-plant : goal.returns-in_err-check_whole-clause-plant
-returns-in_err-check_whole-clause-plant c =
+pub returns-in-Err-clause-plant : goal.returns-in-Err-clause-plant
+returns-in-Err-clause-plant c =
     let d = c.into_plant-draft.result in
     let table = c.table_within-times.ensures ∙ ap (λ stages. table_within (stays_within c.count_demands-jobs.result stages) c.args.times) c.as_slice-2.ensures in
     let plant = c.in_ok-plant.ensures.plant ∙ ap (plant_with d _) table in
     let counted = rw c.as_slice.ensures at c.in_ok-check_counts.ensures in
     let whole = ap whole_refusals plant ∙ whole_refusals-counted d _ c.args.times c.count_demands-jobs.result c.count_demands-jobs.ensures counted in
     rw (← c.into_plant-draft.ensures.plant)
-    (AnswersPlant-refused c.from_residual-in_err-check_whole.result (whole_refusals (plant_with d _ c.args.times)) (plant_with d _ c.args.times)
-    c.from_residual-in_err-check_whole.ensures.1
-    (λ ne. ap first (sym whole) ∙ c.in_err-check_whole.ensures.first ne))
+    (AnswersPlant-refused (Err c.in-Err.refusal) (whole_refusals (plant_with d _ c.args.times)) (plant_with d _ c.args.times)
+    refl
+    (λ ne. ap first (sym whole) ∙ c.in-Err.ensures.first ne))
 
-pub returns-clause-plant : goal.returns-clause-plant
-returns-clause-plant c =
+pub returns-in-Ok-clause-plant : goal.returns-in-Ok-clause-plant
+returns-in-Ok-clause-plant c =
     let d = c.into_plant-draft.result in
     let table = c.table_within-times.ensures ∙ ap (λ stages. table_within (stays_within c.count_demands-jobs.result stages) c.args.times) c.as_slice-2.ensures in
     let plant = c.in_ok-plant.ensures.plant ∙ ap (plant_with d _) table in
     let counted = rw c.as_slice.ensures at c.in_ok-check_counts.ensures in
-    let none = ap whole_refusals (sym plant) ∙ c.in_ok-check_whole.ensures.first in
+    let none = ap whole_refusals (sym plant) ∙ c.in-Ok.ensures.first in
     rw (← c.into_plant-draft.ensures.plant)
     (finished-counted d _ c.args.times c.count_demands-jobs.result c.count_demands-jobs.ensures counted none ∙ ap Ok (sym plant))

@@ -1,7 +1,7 @@
 use Rattle.std.proofs.Common.{Some, ap, sym, ◌∙◌}
 use Rattle.toml.specs.View.{table_view}
 use Rattle.toml.proofs.Views.{view-Table}
-use Rattle.plant_draft.proofs.Trees.{tree_of_text}
+use Rattle.plant_file.proofs.Trees.{tree_of_text}
 use Rattle.plant_lint.proofs.NoToml.{lints_no_toml, lints_tree}
 use Rattle.plant_lint.proofs.file.lint_file.Goals as goal
 

@@ -1,10 +1,14 @@
-use Rattle.std.proofs.Common.{◌≡◌, ◌<◌, ◌+◌, ap, subst, sym, ◌∙◌, arith, length, get_or}
+use Rattle.std.proofs.Common.{◌≡◌, ◌≢◌, ◌<◌, ◌+◌, ap, subst, sym, ◌∙◌, arith, length, get_or}
+use Rattle.std.proofs.lemmas.List.{length-map, take_all}
+use Rattle.std.proofs.lemmas.Result.{IfOk-from_err}
 use Rattle.station_step.specs.declared.input.Input.{Input}
 use Rattle.station_step.specs.declared.noted.NotedInput.{NotedInput}
 use Rattle.station_step.specs.declared.fronts.Front.{Front}
 use Rattle.station_step.specs.Ends.{inlet_queue}
-use Rattle.station_step.proofs.AtOnce.{FrontsUpTo, fronts_more}
-use Rattle.station_step.proofs.Noting.{no_input, input-lent, input-at, extra-at}
+use Rattle.station_step.specs.Fronts.{front_extras, AreFronts}
+use Rattle.station_step.specs.Noted.{inputs_of, extras_of}
+use Rattle.station_step.proofs.AtOnce.{FrontsUpTo, fronts_none, fronts_more}
+use Rattle.station_step.proofs.Noting.{no_input, input-lent, input-at, extra-at, inputs-count}
 use Rattle.station_step.proofs.fronts.fronts_of.Goals as goal
 
 pub loop-k-preserved : goal.loop-k-preserved
@@ -22,3 +26,53 @@ loop-k-preserved c =
     ∙ c.in-Some.is)
     (ap (λ (n : NotedInput). n.extra) lent ∙ sym (extra-at items k))
     c.loop-k.invariant)
+
+pub returns-in_err-fronts-clause-fronts : goal.returns-in_err-fronts-clause-fronts
+returns-in_err-fronts-clause-fronts c =
+    let inputs = inputs_of c.args.inputs.now.items in
+    IfOk-from_err c.from_residual.result (λ fronts. length fronts.items ≡ length inputs → AreFronts inputs fronts.items) c.from_residual.ensures.0
+
+pub returns-in_err-fronts-clause-extras : goal.returns-in_err-fronts-clause-extras
+returns-in_err-fronts-clause-extras c =
+    let items = c.args.inputs.now.items in
+    IfOk-from_err c.from_residual.result (λ fronts. length fronts.items ≡ length (inputs_of items) → front_extras fronts.items ≡ extras_of items) c.from_residual.ensures.0
+
+pub returns-in_err-push-clause-fronts : goal.returns-in_err-push-clause-fronts
+returns-in_err-push-clause-fronts c =
+    let inputs = inputs_of c.args.inputs.now.items in
+    IfOk-from_err c.from_residual-in_err-push.result (λ fronts. length fronts.items ≡ length inputs → AreFronts inputs fronts.items) c.from_residual-in_err-push.ensures.0
+
+pub returns-in_err-push-clause-extras : goal.returns-in_err-push-clause-extras
+returns-in_err-push-clause-extras c =
+    let items = c.args.inputs.now.items in
+    IfOk-from_err c.from_residual-in_err-push.result (λ fronts. length fronts.items ≡ length (inputs_of items) → front_extras fronts.items ≡ extras_of items) c.from_residual-in_err-push.ensures.0
+
+pub loop-k-init : goal.loop-k-init
+loop-k-init c = subst (FrontsUpTo 0 c.args.inputs.now.items) (sym c.in_ok-fronts.ensures.items) (fronts_none c.args.inputs.now.items)
+
+pub index-noted-requires : goal.index-noted-requires
+index-noted-requires c = omega (arith, c.len-k-end.ensures, c.loop-k-test.true)
+
+-- one input is over a ring, and there are no fronts
+some_input : (c : goal.After-drop-fronts) → length c.new.result.items ≢ length (inputs_of c.args.inputs.now.items)
+some_input c count =
+    omega (arith, count, ap length c.new.ensures.items, inputs-count c.args.inputs.now.items, c.len-k-end.ensures, c.loop-k-test.true, c.args.inputs.now.ok.0)
+
+pub returns-in_default-clause-fronts : goal.returns-in_default-clause-fronts
+returns-in_default-clause-fronts c count = absurd (some_input c count)
+
+pub returns-in_default-clause-extras : goal.returns-in_default-clause-extras
+returns-in_default-clause-extras c count = absurd (some_input c count)
+
+pub returns-clause-fronts : goal.returns-clause-fronts
+returns-clause-fronts c count = record {
+  count = count;
+  queues = λ k low. c.loop-k.invariant.queues k (omega (arith, low, count, c.loop-k.invariant.count));
+}
+
+pub returns-clause-extras : goal.returns-clause-extras
+returns-clause-extras c count =
+    let items = c.args.inputs.now.items in
+    let many : length (extras_of items) ≡ length items = length-map items (λ (n : NotedInput). n.extra) in
+    c.loop-k.invariant.extras
+    ∙ take_all c.loop-k.k (extras_of items) (omega (arith, many, count, inputs-count items, c.loop-k.invariant.count))

@@ -1,19 +1,19 @@
 use Rattle.std.proofs.Common.{◌≡◌, ◌≢◌, ◌<◌, ◌+◌, ℕ, subst, sym, ap, ◌∙◌, arith, List, length, set, get_or, refl}
-use Rattle.std.specs.Prelude.{Option, Some, IfSome, unwrap_or, slice_index}
+use Rattle.std.specs.Prelude.{Option, None, Some, IfSome, unwrap_or, slice_index}
 use Rattle.std.specs.List.{range_with_len}
 use Rattle.event_graph.specs.Firing.{greatest}
 use Rattle.station_step.specs.declared.input.Input.{Input}
 use Rattle.station_step.specs.declared.noted.NotedInput.{NotedInput}
 use Rattle.local_queues.specs.Shelf.{queue_at}
 use Rattle.station_step.specs.Ends.{inlet_queue}
-use Rattle.station_step.specs.Input.{input_at, IsRefilled}
+use Rattle.station_step.specs.Input.{input_at, IsRefilled, NoneTakes}
 use Rattle.station_step.specs.Kept.{saturating}
 use Rattle.station_step.specs.Noted.{inputs_of, extras_of}
 use Rattle.station_step.specs.Refilled.{hand_asks}
 use Rattle.station_step.proofs.Dates.{latest-none, latest-more}
 use Rattle.station_step.proofs.Noting.{no_input, input-lent, input-at, extra-at, inputs-count, inputs-set, extras-stay}
 use Rattle.station_step.proofs.Refilling.{RefilledUpTo, IsFirstEmpty, refilled_none, refilled_more, first-none, first-empty, first-full}
-use Rattle.station_step.proofs.inputs.refill.Goals.{then-is_none, else-is_none}
+use Rattle.station_step.proofs.inputs.refill.Goals.{then-is_none, else-is_none, After-loop-k, In-None, In-Some}
 use Rattle.station_step.proofs.inputs.refill.Goals as goal
 
 pub loop-k-init : goal.loop-k-init
@@ -26,6 +26,13 @@ loop-k-init c =
       found = first-none inputs;
       date = latest-none (hand_asks (extras_of c.args.inputs.now.items) inputs);
     }
+
+pub index_mut-noted-requires : goal.index_mut-noted-requires
+index_mut-noted-requires c =
+    omega (arith, c.len-k-end.ensures, c.loop-k-test.true, c.loop-k.invariant.refilled.count, inputs-count c.loop-k.inputs.items, inputs-count c.args.inputs.now.items, c.loop-k.inputs.ok.0, c.args.inputs.now.ok.0)
+
+pub saturating_add-requires : goal.saturating_add-requires
+saturating_add-requires c = tt
 
 pub refill-requires : goal.refill-requires
 refill-requires c =
@@ -90,3 +97,112 @@ loop-k-preserved c =
           ∙ ap (λ (l : List ℕ). greatest (hand_asks l (set inputs k input)) (range_with_len 0 (k + 1))) (sym stay)
           ∙ ap (λ (l : List Input). greatest (hand_asks (extras_of (set items k noted)) l) (range_with_len 0 (k + 1))) changed;
     }
+
+-- ---- what is so when the loop has ended
+
+all : (c : After-loop-k) → c.loop-k.k ≡ length (inputs_of c.args.inputs.now.items)
+all c =
+    omega (arith, c.loop-k-test.false, c.loop-k.auto.k-end, c.len-k-end.ensures, inputs-count c.args.inputs.now.items, c.args.inputs.now.ok.0)
+
+each : (c : After-loop-k) (k : ℕ) → k < length (inputs_of c.args.inputs.now.items) → IsRefilled c.args.shelf.now.queues c.loop-k.shelf.queues (input_at (inputs_of c.args.inputs.now.items) k) (input_at (inputs_of c.loop-k.inputs.items) k)
+each c k low = c.loop-k.invariant.refilled.done k (omega (arith, low, all c))
+
+others : (c : After-loop-k) (q : ℕ) → NoneTakes q (inputs_of c.args.inputs.now.items) → queue_at c.loop-k.shelf.queues q ≡ queue_at c.args.shelf.now.queues q
+others c q none = c.loop-k.invariant.refilled.others q (λ j less. none j (omega (arith, less, all c)))
+
+none_empty : (c : In-None) → IsFirstEmpty c.loop-k.k None (inputs_of c.loop-k.inputs.items)
+none_empty c =
+    subst (λ (found : Option ℕ). IsFirstEmpty c.loop-k.k found (inputs_of c.loop-k.inputs.items)) c.in-None.is c.loop-k.invariant.found
+
+first_is : (c : In-Some) → IsFirstEmpty c.loop-k.k (Some c.in-Some.k) (inputs_of c.loop-k.inputs.items)
+first_is c =
+    subst (λ (found : Option ℕ). IsFirstEmpty c.loop-k.k found (inputs_of c.loop-k.inputs.items)) c.in-Some.is c.loop-k.invariant.found
+
+-- ---- all hands are full
+
+pub returns-in-None-clause-count : goal.returns-in-None-clause-count
+returns-in-None-clause-count c = c.loop-k.invariant.refilled.count
+
+pub returns-in-None-clause-extras : goal.returns-in-None-clause-extras
+returns-in-None-clause-extras c = c.loop-k.invariant.extras
+
+pub returns-in-None-clause-same : goal.returns-in-None-clause-same
+returns-in-None-clause-same c = c.loop-k.invariant.refilled.same
+
+pub returns-in-None-clause-each : goal.returns-in-None-clause-each
+returns-in-None-clause-each c = each (goal.at.returns-in-None-clause-each c).After-loop-k
+
+pub returns-in-None-clause-only_takes : goal.returns-in-None-clause-only_takes
+returns-in-None-clause-only_takes c = c.loop-k.invariant.refilled.only_takes
+
+pub returns-in-None-clause-others : goal.returns-in-None-clause-others
+returns-in-None-clause-others c = others (goal.at.returns-in-None-clause-others c).After-loop-k
+
+pub returns-in-None-clause-logs : goal.returns-in-None-clause-logs
+returns-in-None-clause-logs c = c.loop-k.invariant.logs
+
+pub returns-in-None-clause-sources : goal.returns-in-None-clause-sources
+returns-in-None-clause-sources c = c.loop-k.invariant.sources
+
+pub returns-in-None-clause-full : goal.returns-in-None-clause-full
+returns-in-None-clause-full c k low =
+    let count = all (goal.at.returns-in-None-clause-full c).After-loop-k in
+    (none_empty c).none k (omega (arith, low, count, c.loop-k.invariant.refilled.count))
+
+pub returns-in-None-clause-date : goal.returns-in-None-clause-date
+returns-in-None-clause-date c =
+    let inputs = inputs_of c.loop-k.inputs.items in
+    c.loop-k.invariant.date
+    ∙ ap (λ n. greatest (hand_asks (extras_of c.loop-k.inputs.items) inputs) (range_with_len 0 n)) (all (goal.at.returns-in-None-clause-date c).After-loop-k ∙ sym c.loop-k.invariant.refilled.count)
+
+pub returns-in-None-clause-there : goal.returns-in-None-clause-there
+returns-in-None-clause-there c = tt
+
+pub returns-in-None-clause-empty : goal.returns-in-None-clause-empty
+returns-in-None-clause-empty c = tt
+
+pub returns-in-None-clause-first : goal.returns-in-None-clause-first
+returns-in-None-clause-first c = tt
+
+-- ---- a hand stays empty
+
+pub returns-in-Some-clause-count : goal.returns-in-Some-clause-count
+returns-in-Some-clause-count c = c.loop-k.invariant.refilled.count
+
+pub returns-in-Some-clause-extras : goal.returns-in-Some-clause-extras
+returns-in-Some-clause-extras c = c.loop-k.invariant.extras
+
+pub returns-in-Some-clause-same : goal.returns-in-Some-clause-same
+returns-in-Some-clause-same c = c.loop-k.invariant.refilled.same
+
+pub returns-in-Some-clause-each : goal.returns-in-Some-clause-each
+returns-in-Some-clause-each c = each (goal.at.returns-in-Some-clause-each c).After-loop-k
+
+pub returns-in-Some-clause-only_takes : goal.returns-in-Some-clause-only_takes
+returns-in-Some-clause-only_takes c = c.loop-k.invariant.refilled.only_takes
+
+pub returns-in-Some-clause-others : goal.returns-in-Some-clause-others
+returns-in-Some-clause-others c = others (goal.at.returns-in-Some-clause-others c).After-loop-k
+
+pub returns-in-Some-clause-logs : goal.returns-in-Some-clause-logs
+returns-in-Some-clause-logs c = c.loop-k.invariant.logs
+
+pub returns-in-Some-clause-sources : goal.returns-in-Some-clause-sources
+returns-in-Some-clause-sources c = c.loop-k.invariant.sources
+
+pub returns-in-Some-clause-full : goal.returns-in-Some-clause-full
+returns-in-Some-clause-full c = tt
+
+pub returns-in-Some-clause-date : goal.returns-in-Some-clause-date
+returns-in-Some-clause-date c = tt
+
+pub returns-in-Some-clause-there : goal.returns-in-Some-clause-there
+returns-in-Some-clause-there c =
+    let count = all (goal.at.returns-in-Some-clause-there c).After-loop-k in
+    omega (arith, (first_is c).there, count, c.loop-k.invariant.refilled.count)
+
+pub returns-in-Some-clause-empty : goal.returns-in-Some-clause-empty
+returns-in-Some-clause-empty c = (first_is c).empty
+
+pub returns-in-Some-clause-first : goal.returns-in-Some-clause-first
+returns-in-Some-clause-first c = (first_is c).first

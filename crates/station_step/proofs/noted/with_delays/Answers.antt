@@ -1,4 +1,5 @@
-use Rattle.std.proofs.Common.{◌≡◌, ◌<◌, ◌∷◌, ℕ, List, arith, length, sym, ap, ◌∙◌, subst}
+use Rattle.std.proofs.Common.{◌≡◌, ◌<◌, ◌∷◌, [], refl, ℕ, List, arith, length, sym, ap, ◌∙◌, subst}
+use Rattle.std.proofs.lemmas.Result.{IfOk-from_err}
 use Rattle.event_graph.specs.Network.{outs, delay}
 use Rattle.std.specs.Prelude.{slice_index}
 use Rattle.line_base.specs.declared.event.Parts.{Parts}
@@ -7,6 +8,15 @@ use Rattle.station_step.specs.declared.ends.Outlet.{Outlet}
 use Rattle.station_step.specs.declared.noted.NotedOutlet.{NotedOutlet}
 use Rattle.station_step.proofs.Noting.{DelaysUpTo, delays-count, delays_more, delays_all}
 use Rattle.station_step.proofs.noted.with_delays.Goals as goal
+
+pub loop-outlet-init : goal.loop-outlet-init
+loop-outlet-init c =
+    let t = c.args.t in
+    let all = c.args.outlets.items in
+    let rest = c.into_iter-outlet-iterator.result.rest.items in
+    let none : List NotedOutlet = [] in
+    subst (λ (l : List NotedOutlet). DelaysUpTo c.args.graph.now t l rest all) (sym c.in_ok-noted.ensures.items)
+    (subst (λ (l : List Outlet). DelaysUpTo c.args.graph.now t none l all) (sym c.into_iter-outlet-iterator.ensures.into_iter_gives.0) (record { outlets = refl; delays = refl }))
 
 pub loop-outlet-preserved : goal.loop-outlet-preserved
 loop-outlet-preserved c =
@@ -52,3 +62,24 @@ bounds-outs-len c =
       ap length c.outs-outs.ensures.arcs,
       arc_there c.args.graph.now c.args.t c.len.result c.loop-outlet.noted.items c.in-Some.outlet c.loop-outlet.outlet-iterator.rest.items c.next.new.self.rest.items c.args.outlets.items c.requires.an_outlet_each c.in-Some.ensures.steps.0 (omega (arith, c.len.ensures, c.loop-outlet.noted.ok.0)) c.loop-outlet.invariant,
     )
+
+pub returns-in_err-noted-clause-outlets : goal.returns-in_err-noted-clause-outlets
+returns-in_err-noted-clause-outlets c =
+    IfOk-from_err c.from_residual.result (λ noted. outlets_of noted.items ≡ c.args.outlets.items) c.from_residual.ensures.0
+
+pub returns-in_err-noted-clause-delays : goal.returns-in_err-noted-clause-delays
+returns-in_err-noted-clause-delays c =
+    IfOk-from_err c.from_residual.result (λ noted. delays_of noted.items ≡ delays_from c.args.graph.now c.args.t) c.from_residual.ensures.0
+
+pub returns-in_err-push-clause-outlets : goal.returns-in_err-push-clause-outlets
+returns-in_err-push-clause-outlets c =
+    IfOk-from_err c.from_residual-in_err-push.result (λ noted. outlets_of noted.items ≡ c.args.outlets.items) c.from_residual-in_err-push.ensures.0
+
+pub returns-in_err-push-clause-delays : goal.returns-in_err-push-clause-delays
+returns-in_err-push-clause-delays c =
+    IfOk-from_err c.from_residual-in_err-push.result (λ noted. delays_of noted.items ≡ delays_from c.args.graph.now c.args.t) c.from_residual-in_err-push.ensures.0
+
+pub delay-delay-requires : goal.delay-delay-requires
+delay-delay-requires c =
+    let low = arc_there c.args.graph.now c.args.t c.len.result c.loop-outlet.noted.items c.in-Some.outlet c.loop-outlet.outlet-iterator.rest.items c.next.new.self.rest.items c.args.outlets.items c.requires.an_outlet_each c.in-Some.ensures.steps.0 (omega (arith, c.len.ensures, c.loop-outlet.noted.ok.0)) c.loop-outlet.invariant in
+    (c.outs-outs.ensures.each c.len.result 0 (omega (arith, low, ap length c.outs-outs.ensures.arcs))).0

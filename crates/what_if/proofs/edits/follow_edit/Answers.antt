@@ -1,8 +1,9 @@
-use Rattle.std.proofs.Common.{ap, subst, arith}
+use Rattle.std.proofs.Common.{refl, sym, ap, subst, ◌∙◌, arith}
 use Rattle.event_graph.specs.Network.{stations, jobs}
 use Rattle.live_check.specs.Order.{LiveGraph}
 use Rattle.what_if.specs.Page.{Page, slot, mark_count}
-use Rattle.what_if.specs.Edits.{IsEdit}
+use Rattle.what_if.specs.Edits.{IsEdit, inputs_after}
+use Rattle.what_if.specs.Settled.{KeepsDates}
 use Rattle.what_if.proofs.Readers.{count_of-set}
 use Rattle.what_if.proofs.WordsOfEdits.{time_edit-station}
 use Rattle.what_if.proofs.edits.follow_edit.Goals as goal
@@ -23,10 +24,25 @@ set_time-requires-clause-date c =
       job = omega (arith, valid.job, ap (λ (l : LiveGraph). jobs l.graph) c.requires.made_for);
     }
 
+pub returns-in-Time-clause-followed : goal.returns-in-Time-clause-followed
+returns-in-Time-clause-followed c =
+    ap (λ (q : Page). q.inputs) c.set_time.ensures.retimed ∙ sym (ap (inputs_after c.args.sheet.now.inputs) c.in-Time.is)
+
+pub returns-in-Time-clause-dates : goal.returns-in-Time-clause-dates
+returns-in-Time-clause-dates c =
+    subst (KeepsDates c.args.sheet.now) (sym c.set_time.ensures.retimed) (record { live = refl; first = refl; dates = refl; evaluations = refl })
+
 pub returns-in-Time-clause-marks : goal.returns-in-Time-clause-marks
 returns-in-Time-clause-marks c =
     let p = c.args.sheet.now in
     omega (arith, ap (λ (q : Page). mark_count q) c.set_time.ensures.retimed, count_of-set p.marks (slot p.live c.in-Time.station c.in-Time.job))
+
+pub returns-then-fits-clause-dates : goal.returns-then-fits-clause-dates
+returns-then-fits-clause-dates c =
+    subst (KeepsDates c.args.sheet.now) (sym c.set_demand.ensures.redemanded) (record { live = refl; first = refl; dates = refl; evaluations = refl })
+
+pub returns-else-fits-clause-dates : goal.returns-else-fits-clause-dates
+returns-else-fits-clause-dates c = record { live = refl; first = refl; dates = refl; evaluations = refl }
 
 pub returns-then-fits-clause-marks : goal.returns-then-fits-clause-marks
 returns-then-fits-clause-marks c =

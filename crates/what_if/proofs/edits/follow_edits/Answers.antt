@@ -1,12 +1,31 @@
-use Rattle.std.proofs.Common.{ℕ, ◌+◌, ◌<◌, List, sym, ap, subst, ◌∙◌, arith, length}
+use Rattle.std.proofs.Common.{ℕ, ◌+◌, ◌<◌, List, sym, ap, subst, refl, ◌∙◌, arith, length}
 use Rattle.std.specs.Prelude.{Ok, Err}
 use Rattle.std.specs.Str.Lines.{strip_carriage_return}
 use Rattle.std.proofs.lemmas.List.{length-drop}
 use Rattle.line_core.specs.Schedule.{lines_of}
 use Rattle.what_if.specs.Edits.{LeadsTo, IsRefused, EditsGive}
-use Rattle.what_if.specs.Page.{Page}
-use Rattle.what_if.proofs.Lines.{line-within, lines-more, comes-more, comes-last, comes-refused}
+use Rattle.what_if.specs.Page.{Page, mark_count}
+use Rattle.what_if.specs.Settled.{KeepsDates}
+use Rattle.what_if.proofs.Lines.{line-within, lines-more, lines-last, comes-more, comes-last, comes-refused}
 use Rattle.what_if.proofs.edits.follow_edits.Goals as goal
+
+-- dates that two steps keep
+kept : (old between new : Page) → KeepsDates old between → KeepsDates between new → KeepsDates old new
+kept old between new before step = record {
+  live = step.live ∙ before.live;
+  first = step.first ∙ before.first;
+  dates = step.dates ∙ before.dates;
+  evaluations = step.evaluations ∙ before.evaluations;
+}
+
+pub loop-rest-init : goal.loop-rest-init
+loop-rest-init c = record {
+  made_for = c.requires.made_for;
+  comes = λ outcome gives. gives;
+  dates = record { live = refl; first = refl; dates = refl; evaluations = refl };
+  marks = omega arith;
+  counted = omega arith;
+}
 
 pub prefix-requires : goal.prefix-requires
 prefix-requires c = omega (arith, c.end_before-end.ensures, line-within c.loop-rest.rest.now)
@@ -23,6 +42,23 @@ returns-then-not-follow_line-clause-refused c =
     comes-refused rest end c.end_before-end.ensures g n c.loop-rest.sheet.inputs (omega (arith, c.end_before-end.ensures, line-within rest)) refused) in
     subst (λ (page : Page). EditsGive g (lines_of c.args.edits.now) 1 c.args.sheet.now.inputs (Err (record { line = n; left = page.inputs })))
     (sym c.if-not-follow_line.ensures.unchanged) stops
+
+pub returns-then-not-follow_line-clause-dates : goal.returns-then-not-follow_line-clause-dates
+returns-then-not-follow_line-clause-dates c =
+    kept c.args.sheet.now c.loop-rest.sheet c.follow_line.new.sheet c.loop-rest.invariant.dates c.follow_line.ensures.dates
+
+pub returns-then-not-follow_line-clause-marks : goal.returns-then-not-follow_line-clause-marks
+returns-then-not-follow_line-clause-marks c =
+    omega (arith, c.loop-rest.invariant.marks, ap (λ (page : Page). mark_count page) c.if-not-follow_line.ensures.unchanged)
+
+pub returns-then-end-rest-clause-dates : goal.returns-then-end-rest-clause-dates
+returns-then-end-rest-clause-dates c =
+    kept c.args.sheet.now c.loop-rest.sheet c.follow_line.new.sheet c.loop-rest.invariant.dates c.follow_line.ensures.dates
+
+pub returns-then-end-rest-clause-marks : goal.returns-then-end-rest-clause-marks
+returns-then-end-rest-clause-marks c =
+    let one = lines-last c.loop-rest.rest.now c.end_before-end.result c.end_before-end.ensures c.if-end-rest.true in
+    omega (arith, c.loop-rest.invariant.marks, c.follow_line.ensures.marks, ap (λ (lines : List (List ℕ)). length lines) one)
 
 pub returns-then-end-rest-clause-followed : goal.returns-then-end-rest-clause-followed
 returns-then-end-rest-clause-followed c =
@@ -53,12 +89,7 @@ loop-rest-preserved c =
           h.comes outcome (
           comes-more rest end c.end_before-end.ensures g c.loop-rest.line c.loop-rest.sheet.inputs next outcome more leads (
           subst (λ text. EditsGive g (lines_of text) (c.loop-rest.line + 1) next outcome) c.behind-rest.ensures further));
-      dates = record {
-        live = step.live ∙ h.dates.live;
-        first = step.first ∙ h.dates.first;
-        dates = step.dates ∙ h.dates.dates;
-        evaluations = step.evaluations ∙ h.dates.evaluations;
-      };
+      dates = kept c.args.sheet.now c.loop-rest.sheet c.follow_line.new.sheet h.dates step;
       marks = omega (arith, h.marks, c.follow_line.ensures.marks, ap (λ (lines : List (List ℕ)). length lines) cut, ap (λ text. length (lines_of text)) c.behind-rest.ensures);
       counted = omega (arith, h.counted, ap length c.behind-rest.ensures, length-drop (end + 1) rest, more);
     }

@@ -1,7 +1,7 @@
-use Rattle.std.proofs.Common.{◌≡◌, ◌≢◌, ◌≤◌, ◌<◌, sym, ap, ◌∙◌, subst, arith, get_or, length, reverse, drop, vec_len}
+use Rattle.std.proofs.Common.{◌≡◌, ◌≢◌, ◌≤◌, ◌<◌, sym, ap, ◌∙◌, subst, arith, get_or, length, replicate, reverse, drop, vec_len}
 use Rattle.event_graph.specs.Network.{arc_count, stations}
 use Rattle.cycle_time.specs.Search.{IsHeavy}
-use Rattle.cycle_time.proofs.Trails.{trail_reaches, trail_heavy, trail_more_read, step_read, entry_read}
+use Rattle.cycle_time.proofs.Trails.{trail_starts, trail_room, trail_reaches, trail_heavy, trail_more_read, step_read, entry_read}
 use Rattle.cycle_time.proofs.tree.Tree.circuit_behind.Goals as goal
 
 pub returns-then-entry-arcs : goal.returns-then-entry-arcs
@@ -49,3 +49,50 @@ returns c = λ w grown.
     let heavy = trail_heavy g w p path left c.args.t at grown trail seen in
     let is = c.in_ok-circuit.ensures ∙ (ap (λ xs. reverse (drop c.index-2.result.now xs)) c.deref.ensures.value ∙ ap (λ k. reverse (drop k path)) second) in
     subst (IsHeavy g w) (sym is) heavy)
+
+pub loop-arcs-init : goal.loop-arcs-init
+loop-arcs-init c =
+    let g = c.args.graph.now in
+    let T = stations g in
+    let all = c.stations-stations.ensures in
+    let left : c.in_ok-left.left.items ≡ replicate T T = c.in_ok-left.ensures.items_if_clones_equal (λ y same. same) ∙ ap (λ n. replicate n n) all.count in
+    record {
+      trail = rw c.in_ok-path.ensures.items (trail_starts g c.args.self.now c.args.t c.in_ok-left.left.items left c.requires.station);
+      room = omega (arith, all.count, c.in_ok-path.ensures.capacity);
+    }
+
+pub index-requires : goal.index-requires
+index-requires c = omega (arith, c.loop-arcs.invariant.trail.here, c.loop-arcs.invariant.trail.steps.left_for_each)
+
+pub index-entry-requires : goal.index-entry-requires
+index-entry-requires c =
+    let entries = ap (λ (q : _). length q.entries) c.self.view_is in
+    omega (arith, c.loop-arcs.invariant.trail.here, c.requires.entry_for_each, entries)
+
+-- a station that is not left yet leaves room for an arc more
+room : (c : goal.After-len) → length c.loop-arcs.path.items < stations c.args.graph.now
+room c =
+    let g = c.args.graph.now in
+    let p = c.args.self.now in
+    let trail = c.loop-arcs.invariant.trail in
+    let fresh = sym (step_read g p c.loop-arcs.path.items c.loop-arcs.left.items c.args.t c.loop-arcs.at c.index.result.now trail c.index.ensures) ∙ (c.loop-arcs-test.true ∙ c.stations-stations.ensures.count) in
+    trail_room g p c.loop-arcs.path.items c.loop-arcs.left.items c.args.t c.loop-arcs.at trail fresh
+
+pub overflow_cast-len : goal.overflow_cast-len
+overflow_cast-len c = omega (arith, room c, c.len.ensures, c.stations-stations.ensures.limits.few_stations)
+
+pub index-requires-2 : goal.index-requires-2
+index-requires-2 c = omega (arith, c.loop-arcs.invariant.trail.here, c.loop-arcs.invariant.trail.steps.left_for_each)
+
+pub turned_rest-requires : goal.turned_rest-requires
+turned_rest-requires c =
+    let g = c.args.graph.now in
+    let p = c.args.self.now in
+    let trail = c.loop-arcs.invariant.trail in
+    let left = c.loop-arcs.left.items in
+    let path = c.loop-arcs.path.items in
+    let at = c.loop-arcs.at in
+    let first = step_read g p path left c.args.t at c.index.result.now trail c.index.ensures in
+    let second = step_read g p path left c.args.t at c.index-2.result.now trail c.index-2.ensures in
+    let seen : get_or left at 0 ≢ stations g = λ same. c.loop-arcs-test.false (first ∙ (same ∙ sym c.stations-stations.ensures.count)) in
+    omega (arith, second, trail.steps.step_of at trail.here seen, ap (λ xs. length xs) c.deref.ensures.value)

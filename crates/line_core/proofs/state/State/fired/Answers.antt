@@ -1,9 +1,9 @@
-use Rattle.std.proofs.Common.{◌<◌, [], sym, ap, ◌∙◌, arith, length}
+use Rattle.std.proofs.Common.{◌<◌, [], sym, ap, ◌∙◌, arith, length, subst}
 use Rattle.std.specs.List.{sum_by}
 use Rattle.std.proofs.lemmas.List.{drop_all, length-map}
 use Rattle.std.proofs.lemmas.List.Sums.{sum_by-drop_more}
 use Rattle.line_base.specs.Roomy.{RoomyLog, dates_of}
-use Rattle.line_core.specs.Run.{Run}
+use Rattle.line_core.specs.Run.{Run, IsReached}
 use Rattle.line_core.proofs.Runs.{many_logs, get_or-dates_of, logs-state_of, few_firings}
 use Rattle.line_core.proofs.state.State.fired.Goals as goal
 
@@ -35,3 +35,6 @@ returns-clause-fired c =
     let dates = dates_of logs in
     let rest = drop_all c.loop-t.t dates (omega (arith, c.len-t-end.ensures, c.loop-t-test.false, length-map logs.logs (λ (l : RoomyLog). l.dates))) in
     omega (arith, c.loop-t.invariant, ap (sum_by length) rest, ap (sum_by length) (logs-state_of c.self.inside.graph.value dates), ap (λ (r : Run). sum_by length r.state.logs) c.self.view_is)
+
+pub returns-clause-reached : goal.returns-clause-reached
+returns-clause-reached c = subst IsReached c.self.view_is c.self.invariant.run

@@ -6,7 +6,7 @@ use Rattle.line_base.specs.declared.event.Parts.{Parts}
 use Rattle.event_graph.specs.Network.{arc_count}
 use Rattle.event_graph.specs.State.{place}
 use Rattle.line_core.specs.ArcTokens.{FillsCircuits}
-use Rattle.line_core.specs.Run.{Run}
+use Rattle.line_core.specs.Run.{Run, IsReached}
 use Rattle.line_core.proofs.Runs.{state_in, few_tokens, lengths, fills_circuits}
 use Rattle.line_core.proofs.state.State.marking.Goals as goal
 
@@ -53,3 +53,6 @@ pub returns-clause-circuits : goal.returns-clause-circuits
 returns-clause-circuits c =
     subst (FillsCircuits c.args.self.now.graph) (sym (returns-clause-lengths c)) (
     subst (λ (r : Run). FillsCircuits r.graph (map length r.state.places)) c.self.view_is (fills_circuits _ c.self.invariant.run))
+
+pub returns-clause-reached : goal.returns-clause-reached
+returns-clause-reached c = subst IsReached c.self.view_is c.self.invariant.run

@@ -6,7 +6,7 @@ use Rattle.line_base.specs.Roomy.{dates_of}
 use Rattle.event_graph.specs.Network.{arc, arc_count, delay}
 use Rattle.event_graph.specs.State.{log, place}
 use Rattle.line_core.specs.ArcTokens.{tokens_of}
-use Rattle.line_core.specs.Run.{Run}
+use Rattle.line_core.specs.Run.{Run, IsReached}
 use Rattle.event_graph.proofs.Sizes.{delay-small}
 use Rattle.line_core.proofs.Runs.{state_in, many_logs, dates_read, logs-state_of, early_date, length-place, place-tokens}
 use Rattle.line_core.proofs.state.State.place.Goals as goal
@@ -70,3 +70,6 @@ returns-clause-tokens c =
     ∙ ap (λ n. drop (length (get_or (dates_of logs) (arc g a).to [])) (tokens_of (arc g a).tokens (get_or (dates_of logs) (arc g a).from []) n)) (c.delay.ensures.delay ∙ ap (λ (h : Parts). delay h a) (same_graph before))
     ∙ sym (place-tokens g logs a (there before))
     ∙ ap (λ (r : Run). place r.state a) c.self.view_is
+
+pub returns-clause-reached : goal.returns-clause-reached
+returns-clause-reached c = subst IsReached c.self.view_is c.self.invariant.run

@@ -1,7 +1,5 @@
-use Rattle.std.proofs.Common.{◌++◌, ◌∷◌, []}
 use Rattle.line_disk.specs.RawFile.{read_call}
 use Rattle.line_disk.proofs.raw_calls.RawCalls.note_read.Given as goal
 
--- the calls of before, and this one
-abbrev pub ghost-of : goal.ghost-of
-ghost-of a = a.from.now.0.now.items ++ read_call a.from.now.1 a.from.now.2.now a.from.now.3.now ∷ []
+abbrev pub ghost-note_call : goal.ghost-note_call
+ghost-note_call a = read_call a.at a.bytes.now a.answer

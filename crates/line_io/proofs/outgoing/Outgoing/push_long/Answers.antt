@@ -1,5 +1,6 @@
-use Rattle.std.proofs.Common.{◌≡◌, ℕ, List, [], ◌++◌, take, drop, refl, sym, ap, ◌∙◌, append_assoc}
-use Rattle.std.proofs.lemmas.List.{take-append-drop}
+use Rattle.std.proofs.Common.{◌≡◌, ℕ, ◌<◌, List, [], ◌++◌, length, take, drop, refl, sym, ap, ◌∙◌, subst, append_assoc, append-nil, eqb-true, length-drop, arith}
+use Rattle.std.proofs.lemmas.List.{take-append-drop, nil_from_length}
+use Rattle.line_io.specs.Outgoing.{Pushed, stream}
 use Rattle.line_io.proofs.OutgoingLemmas.{pushed_none, pushed_after}
 use Rattle.line_io.proofs.outgoing.Outgoing.push_long.Goals as goal
 
@@ -16,3 +17,21 @@ loop-rest-preserved g c =
     let old = c.loop-rest.invariant in
     let n = c.push_front-count.result in
     (old.0 ++ take n c.loop-rest.rest.now, front_moves c.args.bytes.now old.0 c.loop-rest.rest.now _ n old.1 c.split_at.ensures.back, pushed_after old.2 c.push_front-count.ensures.pushed)
+
+pub loop-rest-smaller : goal.loop-rest-smaller
+loop-rest-smaller g c =
+    let n = c.push_front-count.result in
+    let rest = c.loop-rest.rest.now in
+    let pushed = c.push_front-count.ensures in
+    let later : length c.split_at.result.1.now ≡ length (drop n rest) = ap (λ (xs : List ℕ). length xs) c.split_at.ensures.back in
+    let less : length c.split_at.result.1.now < length rest = omega (arith, later, length-drop n rest, pushed.some, pushed.few) in
+    less
+
+pub returns : goal.returns
+returns g c =
+    let old = c.loop-rest.invariant in
+    let none : c.loop-rest.rest.now ≡ [] = nil_from_length _ (eqb-true _ _ (sym c.is_empty.ensures ∙ c.loop-rest-test.false)) in
+    let all : old.0 ≡ c.args.bytes.now = sym (old.1 ∙ ap (λ l. old.0 ++ l) none ∙ append-nil old.0) in
+    let before = stream (g.K.Sink.shown c.args.sink.now) c.args.self.now in
+    let now = stream (g.K.Sink.shown c.loop-rest.sink) c.loop-rest.self in
+    subst (λ text. Pushed before now text) all old.2

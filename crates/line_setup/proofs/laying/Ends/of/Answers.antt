@@ -1,4 +1,5 @@
 use Rattle.std.proofs.Common.{◌≡◌, ℕ, List, [], length, replicate, ap, ◌∙◌, subst, arith}
+use Rattle.std.proofs.lemmas.Result.{IfOk-from_err}
 use Rattle.station_step.specs.declared.ends.Inlet.{Inlet}
 use Rattle.station_step.specs.declared.ends.Outlet.{Outlet}
 use Rattle.event_graph.specs.Network.{stations, arc_count}
@@ -34,3 +35,19 @@ returns-clause-laid c =
     let all : c.loop-a.a ≡ arc_count start.live.now.graph =
     omega (arith, c.loop-a-test.false, c.loop-a.auto.a-end, ap length c.arcs.ensures.arcs, ap arc_count c.graph-graph.ensures.graph) in
     subst (λ (n : ℕ). AreLaidFor start c.loop-a.ends n) all c.loop-a.invariant.laid
+
+pub returns-in_err-ends-clause-laid : goal.returns-in_err-ends-clause-laid
+returns-in_err-ends-clause-laid c =
+    IfOk-from_err c.from_residual.result (λ ends. AreLaidFor c.args.start.now ends (arc_count c.args.start.now.live.now.graph)) c.from_residual.ensures.0
+
+pub returns-in_err-ends-clause-room : goal.returns-in_err-ends-clause-room
+returns-in_err-ends-clause-room c =
+    IfOk-from_err c.from_residual.result (λ ends. ends.room ≡ c.args.start.now.room) c.from_residual.ensures.0
+
+pub returns-in_err-join-clause-laid : goal.returns-in_err-join-clause-laid
+returns-in_err-join-clause-laid c =
+    IfOk-from_err c.from_residual-in_err-join.result (λ ends. AreLaidFor c.args.start.now ends (arc_count c.args.start.now.live.now.graph)) c.from_residual-in_err-join.ensures.0
+
+pub returns-in_err-join-clause-room : goal.returns-in_err-join-clause-room
+returns-in_err-join-clause-room c =
+    IfOk-from_err c.from_residual-in_err-join.result (λ ends. ends.room ≡ c.args.start.now.room) c.from_residual-in_err-join.ensures.0

@@ -1,8 +1,20 @@
-use Rattle.std.proofs.Common.{ap}
-use Rattle.line_setup.specs.Making.{QueueEnds}
-use Rattle.line_setup.proofs.LaidLists.{map-with_one, map-with_tokens}
+use Rattle.std.proofs.Common.{◌≡◌, length, ap, arith}
+use Rattle.line_setup.specs.Making.{QueueEnds, firsts_at}
+use Rattle.line_setup.proofs.LaidLists.{count-seen, map-with_one, map-with_tokens}
 use Rattle.line_setup.proofs.LaidEnds.{ends-same}
 use Rattle.line_setup.proofs.laying.Ends.shelve.Goals as goal
+use Rattle.line_setup.proofs.laying.Ends.shelve.Goals.{After-len-number}
+
+-- how many queues stand on the shelf
+count_is : (c : After-len-number) → c.len-number.result ≡ length (firsts_at c.args.self.now c.args.worker_number)
+count_is c =
+    omega (arith, c.len-number.ensures, c.index.result.now.ok.0, count-seen c.self.inside.shelves.items c.args.worker_number c.index.result.now c.args.self.now.shelves (ap (λ (e : QueueEnds). e.shelves) c.self.view_is) c.requires.worker_number c.index.ensures)
+
+pub overflow_cast-number : goal.overflow_cast-number
+overflow_cast-number c = omega (arith, count_is c, c.requires.few)
+
+pub returns-clause-number : goal.returns-clause-number
+returns-clause-number c = count_is (goal.at.returns-clause-number c).After-len-number
 
 pub returns-clause-shelved : goal.returns-clause-shelved
 returns-clause-shelved c =

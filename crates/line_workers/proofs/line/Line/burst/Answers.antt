@@ -8,14 +8,22 @@ use Rattle.live_check.specs.Order.{LiveGraph}
 use Rattle.line_worker.specs.Teams.{AreAllMet}
 use Rattle.line_worker.specs.Worker.{LineWorker, teams_of}
 use Rattle.line_worker.specs.Work.{TurnsBelow}
-use Rattle.line_worker.specs.Workers.{live_of, graph_of}
+use Rattle.line_worker.specs.Workers.{live_of, graph_of, AreWorkers}
 use Rattle.line_workers.specs.Counts.{AreCounts}
 use Rattle.line_workers.specs.Line.{WorkLine, line_of, AreAtRest}
 use Rattle.line_workers.specs.Link.{AreLinks}
 use Rattle.line_workers.proofs.LineBurst.{LineBurst, turns-low, line_after, stays_of}
+use Rattle.line_workers.proofs.TurnsCleared.{workers-few}
 use Rattle.line_workers.proofs.line.Line.burst.Given.{Over}
 use Rattle.line_workers.proofs.line.Line.burst.Goals.{After-burst_of}
 use Rattle.line_workers.proofs.line.Line.burst.Goals as goal
+
+pub burst_of-requires-clause-workers : goal.burst_of-requires-clause-workers
+burst_of-requires-clause-workers g c = λ κs h. subst AreWorkers (sym c.deref_mut.ensures.value) c.self.invariant.rest.whole
+
+pub burst_of-requires-clause-few : goal.burst_of-requires-clause-few
+burst_of-requires-clause-few g c =
+    λ κs h. workers-few c.deref_mut.result.now (subst AreWorkers (sym c.deref_mut.ensures.value) c.self.invariant.rest.whole)
 
 pub burst_of-requires-clause-turns : goal.burst_of-requires-clause-turns
 burst_of-requires-clause-turns g c =

@@ -1,11 +1,12 @@
-use Rattle.std.proofs.Common.{◌≡◌, ◌*◌, List, length, sym, subst, arith}
+use Rattle.std.proofs.Common.{◌≡◌, ◌*◌, List, length, ap, ◌∙◌, sym, subst, arith}
 use Rattle.std.specs.Vec.{with_items}
 use Rattle.std.proofs.lemmas.List.{with_items_is}
 use Rattle.event_graph.specs.Network.{stations, jobs}
 use Rattle.line_worker.specs.Worker.{LineWorker}
-use Rattle.line_worker.specs.Workers.{graph_of, room_of}
+use Rattle.line_worker.specs.Workers.{live_of, graph_of, room_of, AreWorkers}
 use Rattle.line_workers.specs.Counts.{AreCounts}
-use Rattle.line_workers.specs.Line.{line_of, AreAtRest}
+use Rattle.line_workers.specs.Line.{line_of, AreAtRest, StandsIn}
+use Rattle.line_workers.specs.Gather.{logs_in}
 use Rattle.line_workers.proofs.AllFirings.{new_counts, new_all}
 use Rattle.line_workers.proofs.Lines.{at_rest_is_line}
 use Rattle.line_workers.proofs.line.Line.gather.Goals as goal
@@ -31,3 +32,24 @@ invariant_of-result c =
 pub returns-clause-line : goal.returns-clause-line
 returns-clause-line c =
     at_rest_is_line (with_items c.args.workers c.gather_workers-made.new.workers).items c.gather_workers-made.result (invariant_of-result c).rest
+
+pub gather_workers-made-requires-clause-workers : goal.gather_workers-made-requires-clause-workers
+gather_workers-made-requires-clause-workers c = subst AreWorkers (sym c.deref_mut.ensures.value) c.requires.workers
+
+pub gather_workers-made-requires-clause-made_for : goal.gather_workers-made-requires-clause-made_for
+gather_workers-made-requires-clause-made_for c = c.requires.made_for ∙ ap live_of (sym c.deref_mut.ensures.value)
+
+pub returns-clause-logs : goal.returns-clause-logs
+returns-clause-logs c =
+    let e = c.gather_workers-made in
+    let after = with_items_is c.args.workers e.new.workers (omega (arith, e.auto.workers, c.deref_mut.ensures.len)) in
+    ap (λ (l : List LineWorker). (line_of l e.result).state.logs) after
+    ∙ e.ensures.logs
+    ∙ ap logs_in c.deref_mut.ensures.value
+
+pub returns-clause-stands : goal.returns-clause-stands
+returns-clause-stands c =
+    let e = c.gather_workers-made in
+    let after = with_items_is c.args.workers e.new.workers (omega (arith, e.auto.workers, c.deref_mut.ensures.len)) in
+    subst (λ (l : List LineWorker). StandsIn (room_of c.args.workers.items) c.args.live.now (line_of l e.result).state (length c.args.workers.items) (line_of l e.result)) (sym after) (
+    subst (λ (l : List LineWorker). StandsIn (room_of l) c.args.live.now (line_of e.new.workers e.result).state (length l) (line_of e.new.workers e.result)) c.deref_mut.ensures.value e.ensures.stands)

@@ -15,4 +15,4 @@ pub returns-clause-first : goal.returns-clause-first
 returns-clause-first c =
     rw
     (← c.tables_at.ensures, each_views (machine_name_twice c.args.i (map name_in (views c.tables_at.result.now))) c.tables_at.result.now, ← c.text_at.ensures, c.in_ok-add_name.ensures.first)
-    c.add_machines.ensures
+    c.add_machines-answer.ensures

@@ -3,11 +3,16 @@ use Rattle.toml.specs.View.{view}
 use Rattle.plant_keys.specs.Code.{key_of}
 use Rattle.plant_lint.specs.Trees.{key_faults}
 use Rattle.plant_lint.proofs.FaultLists.{keys_faults_map}
-use Rattle.plant_lint.proofs.Gathering.{gathered_none, gathered_all}
+use Rattle.plant_lint.proofs.Gathering.{gathered_none, gathers_read, gathered_all}
 use Rattle.plant_lint.proofs.walk.Search.find_in_keys.Goals as goal
 
 pub loop-key-init : goal.loop-key-init
 loop-key-init c = gathered_none _ _ _
+
+pub loop-key-preserved : goal.loop-key-preserved
+loop-key-preserved c =
+    gathers_read (λ _ k. key_faults c.args.self.now.class c.args.table (view c.args.value.now) (key_of k))
+    c.args.keys.now c.loop-key.key-index _ _ _ _ c.loop-key.invariant (omega arith) c.in_ok-find_at_key.ensures
 
 pub returns : goal.returns
 returns c =

@@ -1,9 +1,12 @@
-use Rattle.std.proofs.Common.{◌≡◌, refl, zero, suc, [], ◌∷◌, subst, sym, ap, ◌∙◌, length, List, map, ℕ}
+use Rattle.std.proofs.Common.{◌≡◌, ◌<◌, arith, refl, zero, suc, [], ◌∷◌, subst, sym, ap, ◌∙◌, length, List, map, ℕ}
 use Rattle.std.specs.Prelude.{None, Bool, true, false, IsTrue, not}
 use Rattle.std.specs.List.{list_any}
+use Rattle.std.proofs.lemmas.List.{length-map}
+use Rattle.std.proofs.lemmas.Result.{IfOk-from_err}
 use Rattle.line_base.specs.declared.event.Parts.{Parts}
 use Rattle.line_base.specs.Roomy.{RoomyLog}
 use Rattle.card_queue.specs.Plain.{PlainQueue}
+use Rattle.event_graph.specs.Network.{stations, arc, ins, outs}
 use Rattle.event_graph.proofs.ArcNumbers.{All-ins}
 use Rattle.station_step.specs.declared.ends.Outlet.{Outlet}
 use Rattle.station_step.specs.declared.input.Input.{Input}
@@ -13,14 +16,104 @@ use Rattle.station_step.specs.Fronts.{IsReadied}
 use Rattle.station_step.specs.declared.ends.Inlet.{Inlet}
 use Rattle.station_step.specs.Station.{WorkStation, IsStation, new_station}
 use Rattle.station_step.specs.Kept.{IsKept, IsFresh}
-use Rattle.station_step.specs.Noted.{IsNoted, inputs_of, outlets_of}
+use Rattle.station_step.specs.Noted.{IsNoted, inputs_of, outlets_of, unnoted}
 use Rattle.station_step.proofs.Dates.{time-fixed}
 use Rattle.station_step.proofs.Keeping.{kept-fresh, station-new}
 use Rattle.station_step.proofs.Noting.{inputs-count, inputs-unnoted, extras-into}
 use Rattle.station_step.proofs.station.Station.new.Goals as goal
-use Rattle.station_step.proofs.station.Station.new.Goals.{After-of-2}
+use Rattle.station_step.proofs.station.Station.new.Goals.{After-graph-graph, After-of-2}
 
--- the station that is made, as contracts see it
+-- ---- what the calls that make its parts need
+
+exists_there : (c : After-graph-graph) → c.args.t < stations c.graph-graph.result.now
+exists_there c = subst (λ (g : Parts). c.args.t < stations g) (sym c.graph-graph.ensures.graph) c.requires.exists
+
+pub worked_into-requires : goal.worked_into-requires
+worked_into-requires c = exists_there (goal.at.worked_into-requires c).After-graph-graph
+
+pub time-requires-clause-station : goal.time-requires-clause-station
+time-requires-clause-station c = exists_there (goal.at.time-requires-clause-station c).After-graph-graph
+
+pub time-requires-clause-from_one : goal.time-requires-clause-from_one
+time-requires-clause-from_one c = omega arith
+
+pub note_time-requires : goal.note_time-requires
+note_time-requires c =
+    let g = c.graph-graph.result.now in
+    let t = c.args.t in
+    ap length (c.as_slice-2.ensures.value ∙ c.in_ok-worked.ensures)
+    ∙ length-map (ins g t) (λ a. (arc g a).worked)
+    ∙ ap (λ (h : Parts). length (ins h t)) c.graph-graph.ensures.graph
+    ∙ sym c.requires.an_inlet_each
+    ∙ sym (length-map c.args.inlets.items unnoted)
+    ∙ sym (ap length c.in_ok-inputs.ensures)
+
+pub varies-fixed-requires : goal.varies-fixed-requires
+varies-fixed-requires c = exists_there (goal.at.varies-fixed-requires c).After-graph-graph
+
+pub with_delays-requires-clause-exists : goal.with_delays-requires-clause-exists
+with_delays-requires-clause-exists c = exists_there (goal.at.with_delays-requires-clause-exists c).After-graph-graph
+
+pub with_delays-requires-clause-an_outlet_each : goal.with_delays-requires-clause-an_outlet_each
+with_delays-requires-clause-an_outlet_each c =
+    c.requires.an_outlet_each ∙ ap (λ (g : Parts). length (outs g c.args.t)) (sym c.graph-graph.ensures.graph)
+
+-- ---- where memory runs out
+
+-- what is kept of a station where it is fresh
+abbrev KeptWhereFresh : WorkStation → Type 0
+KeptWhereFresh s = (shelf : List PlainQueue) → IsFresh shelf s → IsKept shelf s
+
+pub returns-in_err-worked-clause-made : goal.returns-in_err-worked-clause-made
+returns-in_err-worked-clause-made c =
+    IfOk-from_err c.from_residual.result (λ s. s ≡ new_station c.args.live.now.graph c.args.t c.args.inlets.items c.args.outlets.items c.args.log.now) c.from_residual.ensures.0
+
+pub returns-in_err-worked-clause-station : goal.returns-in_err-worked-clause-station
+returns-in_err-worked-clause-station c =
+    IfOk-from_err c.from_residual.result IsStation c.from_residual.ensures.0
+
+pub returns-in_err-worked-clause-kept : goal.returns-in_err-worked-clause-kept
+returns-in_err-worked-clause-kept c =
+    IfOk-from_err c.from_residual.result KeptWhereFresh c.from_residual.ensures.0
+
+pub returns-in_err-inputs-clause-made : goal.returns-in_err-inputs-clause-made
+returns-in_err-inputs-clause-made c =
+    IfOk-from_err c.from_residual-in_err-inputs.result (λ s. s ≡ new_station c.args.live.now.graph c.args.t c.args.inlets.items c.args.outlets.items c.args.log.now) c.from_residual-in_err-inputs.ensures.0
+
+pub returns-in_err-inputs-clause-station : goal.returns-in_err-inputs-clause-station
+returns-in_err-inputs-clause-station c =
+    IfOk-from_err c.from_residual-in_err-inputs.result IsStation c.from_residual-in_err-inputs.ensures.0
+
+pub returns-in_err-inputs-clause-kept : goal.returns-in_err-inputs-clause-kept
+returns-in_err-inputs-clause-kept c =
+    IfOk-from_err c.from_residual-in_err-inputs.result KeptWhereFresh c.from_residual-in_err-inputs.ensures.0
+
+pub returns-in_err-fronts-clause-made : goal.returns-in_err-fronts-clause-made
+returns-in_err-fronts-clause-made c =
+    IfOk-from_err c.from_residual-in_err-fronts.result (λ s. s ≡ new_station c.args.live.now.graph c.args.t c.args.inlets.items c.args.outlets.items c.args.log.now) c.from_residual-in_err-fronts.ensures.0
+
+pub returns-in_err-fronts-clause-station : goal.returns-in_err-fronts-clause-station
+returns-in_err-fronts-clause-station c =
+    IfOk-from_err c.from_residual-in_err-fronts.result IsStation c.from_residual-in_err-fronts.ensures.0
+
+pub returns-in_err-fronts-clause-kept : goal.returns-in_err-fronts-clause-kept
+returns-in_err-fronts-clause-kept c =
+    IfOk-from_err c.from_residual-in_err-fronts.result KeptWhereFresh c.from_residual-in_err-fronts.ensures.0
+
+pub returns-in_err-outlets-clause-made : goal.returns-in_err-outlets-clause-made
+returns-in_err-outlets-clause-made c =
+    IfOk-from_err c.from_residual-in_err-outlets.result (λ s. s ≡ new_station c.args.live.now.graph c.args.t c.args.inlets.items c.args.outlets.items c.args.log.now) c.from_residual-in_err-outlets.ensures.0
+
+pub returns-in_err-outlets-clause-station : goal.returns-in_err-outlets-clause-station
+returns-in_err-outlets-clause-station c =
+    IfOk-from_err c.from_residual-in_err-outlets.result IsStation c.from_residual-in_err-outlets.ensures.0
+
+pub returns-in_err-outlets-clause-kept : goal.returns-in_err-outlets-clause-kept
+returns-in_err-outlets-clause-kept c =
+    IfOk-from_err c.from_residual-in_err-outlets.result KeptWhereFresh c.from_residual-in_err-outlets.ensures.0
+
+-- ---- the station that is made, as contracts see it
+
 abbrev made : After-of-2 → WorkStation
 made c = record {
   graph = c.of-2.result.value;
@@ -60,30 +153,36 @@ hands-new [] k = refl
 hands-new (i ∷ inlets) zero = refl
 hands-new (i ∷ inlets) (suc k) = hands-new inlets k
 
+-- it is a station
+is_station : (c : After-of-2) → IsStation (made c)
+is_station c =
+    subst IsStation (sym (made_is c))
+    (station-new c.args.live.now.graph c.args.t c.args.inlets.items c.args.outlets.items c.args.log.now c.requires.exists c.requires.an_inlet_each c.requires.an_outlet_each c.requires.few_dates c.requires.log_room c.requires.ring_room)
+
 pub invariant_of-result : goal.invariant_of-result
 invariant_of-result c =
     let g = c.graph-graph.result.now in
     let t = c.args.t in
     let inputs = c.note_time.new.inputs.items in
     let outlets = c.in_ok-outlets.outlets.items in
-    let noted : IsNoted g t inputs outlets (not c.varies-fixed.result) c.in_ok-worked.worked.items c.has_bounded-bounded.result c.has_ring-rings.result =
+    let noted : IsNoted g t inputs outlets (not c.varies-fixed.result) c.in_ok-worked.worked.items c.kinds_of-bounded.result.0 c.kinds_of-bounded.result.1 =
     record {
       extras_are = λ is job.
           c.note_time.ensures.extras
-          ∙ extras-into g t job c.time.result c.as_slice-3.result.now
-          (c.as_slice-3.ensures.value ∙ c.in_ok-worked.ensures)
+          ∙ extras-into g t job c.time.result c.as_slice-2.result.now
+          (c.as_slice-2.ensures.value ∙ c.in_ok-worked.ensures)
           (c.time.ensures.time ∙ time-fixed g t 1 job (λ varies. not_both c.varies-fixed.result (c.varies-fixed.ensures.varies.1 varies) is))
           (All-ins g t);
       worked_is = c.in_ok-worked.ensures;
       delays_are = c.in_ok-outlets.ensures.delays;
-      bounded_is = c.has_bounded-bounded.ensures
+      bounded_is = c.kinds_of-bounded.ensures.bounded
           ∙ ap (list_any is_bounded) (c.as_slice.ensures.value ∙ sym c.in_ok-outlets.ensures.outlets);
-      rings_are = c.has_ring-rings.ensures
-          ∙ ap (list_any is_ring) (c.as_slice-2.ensures.value ∙ sym c.in_ok-outlets.ensures.outlets);
+      rings_are = c.kinds_of-bounded.ensures.rings
+          ∙ ap (list_any is_ring) (c.as_slice.ensures.value ∙ sym c.in_ok-outlets.ensures.outlets);
     } in
     let d = c.is_direct.result in
     let fixed = not c.varies-fixed.result in
-    let readied : IsReadied g t (inputs_of inputs) c.in_ok-fronts.fronts.items c.has_bounded-bounded.result d true =
+    let readied : IsReadied g t (inputs_of inputs) c.in_ok-fronts.fronts.items c.kinds_of-bounded.result.0 d true =
     record {
       fires = λ is.
           let count : length c.in_ok-fronts.fronts.items ≡ length (inputs_of inputs) =
@@ -96,14 +195,16 @@ invariant_of-result c =
           ap (λ (l : List Input). (input_at l k).hand) (c.note_time.ensures.inputs ∙ ap inputs_of c.in_ok-inputs.ensures ∙ inputs-unnoted c.args.inlets.items)
           ∙ hands-new c.args.inlets.items k;
     } in record {
-      readied = subst (λ (h : Parts). IsReadied h t (inputs_of inputs) c.in_ok-fronts.fronts.items c.has_bounded-bounded.result d true) (sym c.of-2.ensures) readied;
-      station = subst IsStation (sym (made_is c))
-          (station-new c.args.live.now.graph t c.args.inlets.items c.args.outlets.items c.args.log.now c.requires.exists c.requires.an_inlet_each c.requires.an_outlet_each c.requires.few_dates c.requires.log_room c.requires.ring_room);
-      noted = subst (λ (h : Parts). IsNoted h t inputs outlets (not c.varies-fixed.result) c.in_ok-worked.worked.items c.has_bounded-bounded.result c.has_ring-rings.result) (sym c.of-2.ensures) noted;
+      readied = subst (λ (h : Parts). IsReadied h t (inputs_of inputs) c.in_ok-fronts.fronts.items c.kinds_of-bounded.result.0 d true) (sym c.of-2.ensures) readied;
+      station = is_station c;
+      noted = subst (λ (h : Parts). IsNoted h t inputs outlets (not c.varies-fixed.result) c.in_ok-worked.worked.items c.kinds_of-bounded.result.0 c.kinds_of-bounded.result.1) (sym c.of-2.ensures) noted;
     }
 
 pub returns-clause-made : goal.returns-clause-made
 returns-clause-made c = made_is c
+
+pub returns-clause-station : goal.returns-clause-station
+returns-clause-station c = is_station c
 
 pub returns-clause-kept : goal.returns-clause-kept
 returns-clause-kept c =

@@ -1,28 +1,28 @@
-use Rattle.std.proofs.Common.{subst, ◌∙◌, sym, ap, ◌≡◌, ◌≢◌, ◌+◌, ◌<◌, ◌++◌, ◌∷◌, [], ℕ, List, arith, refl, length, map, set, slice_index, get_or-set_same}
+use Rattle.std.proofs.Common.{subst, ◌∙◌, sym, ap, ◌≡◌, ◌≢◌, ◌+◌, ◌-◌, ◌<◌, ◌≤◌, ◌++◌, ◌∷◌, [], ℕ, List, arith, refl, length, map, set, slice_index, get_or-set_same}
 use Rattle.std.proofs.lemmas.List.{length-set, set-get_or}
-use Rattle.std.specs.Prelude.{unwrap_or}
+use Rattle.std.specs.Prelude.{Option, IsTrue, IfSome, IfNone, unwrap_or}
 use Rattle.line_base.specs.declared.event.Parts.{Parts}
 use Rattle.line_base.specs.Roomy.{RoomyLog, with_date}
-use Rattle.event_graph.specs.Network.{jobs, delay, ins, outs}
+use Rattle.event_graph.specs.Network.{stations, jobs, delay, ins, outs}
 use Rattle.card_queue.specs.Plain.{PlainQueue}
 use Rattle.local_queues.specs.Shelf.{log_on, queue_at, OnlyTakes}
-use Rattle.station_step.specs.Input.{input_at, IsRefilled, NoneTakes}
-use Rattle.station_step.specs.Ends.{outlet_added}
-use Rattle.station_step.specs.Station.{WorkStation, IsStation, IsSeated, StandsAt, MayPut, outlet_at, bare_input}
+use Rattle.station_step.specs.Input.{input_at, tokens_ahead, IsRefilled, NoneTakes, TakeApart, TakeWithin}
+use Rattle.station_step.specs.Ends.{HasNoSpace, outlet_added, outlet_queue}
+use Rattle.station_step.specs.Station.{WorkStation, IsStation, IsSeated, StandsAt, MayPut, outlet_at, bare_input, bare_station}
 use Rattle.station_step.specs.Kept.{IsKept, date_for, saturating}
-use Rattle.station_step.specs.Step.{MovesItsOwn, MovesApart}
-use Rattle.station_step.specs.Noted.{inputs_of, extras_of, outlets_of, delays_of, extras_into}
+use Rattle.station_step.specs.Step.{MovesItsOwn, MovesApart, IsReady, IsBlockedAt, IsFullAt, FiredOnce, OnlyRefilled, OnlyLooked}
+use Rattle.station_step.specs.Noted.{inputs_of, extras_of, outlets_of, delays_of, extras_into, worked_into}
 use Rattle.station_step.specs.declared.fronts.Front.{Front}
 use Rattle.station_step.specs.Fronts.{front_extras, AreFronts, IsDirect, AreEmptyHanded}
-use Rattle.station_step.proofs.AtOnce.{filled, filled-count, filled-inlet, filled-full, each-filled, latest-filled, fronts-none, readied-waits, readied-emptied}
+use Rattle.station_step.proofs.AtOnce.{filled, filled-count, filled-inlet, filled-full, each-filled, latest-filled, fronts-none, fronts-within, fronts-apart, readied-waits, readied-emptied}
 use Rattle.station_step.specs.declared.input.Input.{Input}
 use Rattle.station_step.proofs.Dates.{delay-noted, date_for-is, latest-is}
-use Rattle.station_step.proofs.Keeping.{kept-waits, kept-fires, IsFiring, fired_station, station-fires, seated-same, own-waits, own-fires, grows-waits, station-waits, grows-fires, moves-apart, moves-none, kept-alike, station-alike}
+use Rattle.station_step.proofs.Keeping.{kept-waits, kept-fires, IsFiring, fired_station, station-fires, seated-same, own-waits, own-fires, grows-waits, station-waits, grows-fires, moves-apart, moves-none, kept-alike, station-alike, bare-same, fired-once}
 use Rattle.station_step.proofs.Posts.{come-same, stands-same}
-use Rattle.station_step.proofs.Looking.{AreAlike, alike-looked, NonePuts-alike, noted-same, rings-same, shelf_room-alike, shelf_room-after_takes}
+use Rattle.station_step.proofs.Looking.{AreAlike, alike-looked, NonePuts-alike, noted-same, rings-same, shelf_room-alike, shelf_room-after_takes, ring_room-less, space-unbounded, space_clash, had_no_space}
 use Rattle.station_step.specs.contracts.station.Station.{the_view}
 use Rattle.station_step.proofs.station.Station.step.Goals as goal
-use Rattle.station_step.proofs.station.Station.step.Goals.{After-refill, After-of, After-of-2}
+use Rattle.station_step.proofs.station.Station.step.Goals.{After-dates, After-as_slice-fronts, Then-done-jobs, Else-done-jobs, After-refill, After-look_all, After-of, After-of-2}
 
 -- what the refilling of the hands did to the shelf
 own_waiting : (s now : WorkStation) (noted : List Input) (old mid : List PlainQueue) → s ≡ now → noted ≡ s.inputs → OnlyTakes old mid → ((q : ℕ) → NoneTakes q noted → queue_at mid q ≡ queue_at old q) → MovesItsOwn now old mid
@@ -55,7 +55,117 @@ dates_are c =
 stands_before : (c : After-refill) → StandsAt c.args.i c.args.shelf.now (the_view c.self.inside)
 stands_before c = subst (StandsAt c.args.i c.args.shelf.now) (sym c.self.view_is) c.requires.stands
 
+-- ---- what the call finds
+
+graph_is : (c : After-dates) → c.graph-graph.result.now ≡ (the_view c.self.inside).graph
+graph_is c = c.graph-graph.ensures.graph ∙ c.requires.made_for ∙ sym (ap (λ (w : WorkStation). w.graph) c.self.view_is)
+
+seated_before : (c : After-dates) → IsSeated c.args.shelf.now.queues (the_view c.self.inside)
+seated_before c = subst (IsSeated c.args.shelf.now.queues) (sym c.self.view_is) c.requires.seated
+
+exists_there : (c : After-dates) → c.self.inside.number < stations c.graph-graph.result.now
+exists_there c =
+    subst (λ (g : Parts). c.self.inside.number < stations g) (sym (graph_is c)) c.self.invariant.station.exists
+
+-- the log has a date for each job, or has not
+all_made : (c : Then-done-jobs) → length c.args.self.now.log.dates ≡ jobs c.args.self.now.graph
+all_made c =
+    sym (ap length (c.dates.ensures ∙ ap (λ (l : RoomyLog). l.dates) (c.log.ensures ∙ c.requires.stands.log)))
+    ∙ c.if-done-jobs.true
+    ∙ c.jobs.ensures.count
+    ∙ ap jobs (c.graph-graph.ensures.graph ∙ c.requires.made_for)
+
+not_all_made : (c : Else-done-jobs) → length c.args.self.now.log.dates ≢ jobs c.args.self.now.graph
+not_all_made c all =
+    c.if-done-jobs.false
+    (ap length (c.dates.ensures ∙ ap (λ (l : RoomyLog). l.dates) (c.log.ensures ∙ c.requires.stands.log))
+    ∙ all
+    ∙ sym (ap jobs (c.graph-graph.ensures.graph ∙ c.requires.made_for))
+    ∙ sym c.jobs.ensures.count)
+
+dates_left : (c : Else-done-jobs) → length (the_view c.self.inside).log.dates < jobs (the_view c.self.inside).graph
+dates_left c =
+    let left = subst (λ (w : WorkStation). length w.log.dates ≢ jobs w.graph) (sym c.self.view_is) (not_all_made c) in
+    omega (arith, left, c.self.invariant.station.few_dates)
+
+job_within : (c : Else-done-jobs) → length c.dates.result.now + 1 ≤ jobs c.graph-graph.result.now
+job_within c =
+    let s = the_view c.self.inside in
+    let dates : c.dates.result.now ≡ s.log.dates =
+    c.dates.ensures
+    ∙ ap (λ (l : RoomyLog). l.dates) (c.log.ensures ∙ c.requires.stands.log ∙ sym (ap (λ (w : WorkStation). w.log) c.self.view_is)) in
+    let graph : c.graph-graph.result.now ≡ s.graph =
+    c.graph-graph.ensures.graph ∙ c.requires.made_for ∙ sym (ap (λ (w : WorkStation). w.graph) c.self.view_is) in
+    omega (arith, dates_left c, ap length dates, ap jobs graph)
+
+-- its fronts as the call lends them
+fronts_lent : (c : After-as_slice-fronts) → IsTrue c.self.inside.direct → AreFronts (the_view c.self.inside).inputs c.as_slice-fronts.result.now
+fronts_lent c is =
+    subst (AreFronts (the_view c.self.inside).inputs) (sym c.as_slice-fronts.ensures.value) (c.self.invariant.readied.fires is).each
+
+pub overflow_add-self : goal.overflow_add-self
+overflow_add-self c = omega (arith, c.requires.turns, ap (λ (w : WorkStation). w.turns) c.self.view_is)
+
+pub overflow_add-job : goal.overflow_add-job
+overflow_add-job c = omega (arith, job_within c, c.jobs.ensures.limits.few_jobs)
+
+pub log-requires : goal.log-requires
+log-requires c = c.requires.stands.there
+
 -- ---- the station is done
+
+pub invariant_of-self : goal.invariant_of-self
+invariant_of-self c =
+    let s = the_view c.self.inside in record {
+      station = station-waits s s.inputs (s.turns + 1) refl c.self.invariant.station;
+      noted = c.self.invariant.noted;
+      readied = c.self.invariant.readied;
+    }
+
+pub returns-then-done-jobs-clause-turns : goal.returns-then-done-jobs-clause-turns
+returns-then-done-jobs-clause-turns c = ap (λ (w : WorkStation). w.turns + 1) c.self.view_is
+
+pub returns-then-done-jobs-clause-same : goal.returns-then-done-jobs-clause-same
+returns-then-done-jobs-clause-same c = ap bare_station c.self.view_is
+
+pub returns-then-done-jobs-clause-station : goal.returns-then-done-jobs-clause-station
+returns-then-done-jobs-clause-station c =
+    let s = the_view c.self.inside in station-waits s s.inputs (s.turns + 1) refl c.self.invariant.station
+
+pub returns-then-done-jobs-clause-seated : goal.returns-then-done-jobs-clause-seated
+returns-then-done-jobs-clause-seated c =
+    let s = the_view c.self.inside in
+    let old = c.args.shelf.now.queues in
+    seated-same old old s (record s { turns = s.turns + 1 }) refl refl refl refl refl
+    (seated_before (goal.at.returns-then-done-jobs-clause-seated c).After-dates)
+
+pub returns-then-done-jobs-clause-stands : goal.returns-then-done-jobs-clause-stands
+returns-then-done-jobs-clause-stands c =
+    let s = the_view c.self.inside in
+    let shelf = c.args.shelf.now in
+    let stands : StandsAt c.args.i shelf s = subst (StandsAt c.args.i shelf) (sym c.self.view_is) c.requires.stands in
+    stands-same c.args.i shelf shelf s (record s { turns = s.turns + 1 }) refl stands.log refl refl refl refl refl refl stands
+
+pub returns-then-done-jobs-clause-done : goal.returns-then-done-jobs-clause-done
+returns-then-done-jobs-clause-done c = (λ _. all_made c, λ _. tt)
+
+pub returns-then-done-jobs-clause-blocked : goal.returns-then-done-jobs-clause-blocked
+returns-then-done-jobs-clause-blocked c = tt
+
+pub returns-then-done-jobs-clause-full : goal.returns-then-done-jobs-clause-full
+returns-then-done-jobs-clause-full c = tt
+
+pub returns-then-done-jobs-clause-fires : goal.returns-then-done-jobs-clause-fires
+returns-then-done-jobs-clause-fires c ready = omega (arith, ready.more, all_made c)
+
+pub returns-then-done-jobs-clause-did : goal.returns-then-done-jobs-clause-did
+returns-then-done-jobs-clause-did c = record {
+  shelf = refl;
+  station = ap (λ (w : WorkStation). record w { turns = w.turns + 1 }) c.self.view_is;
+}
+
+pub returns-then-done-jobs-clause-sources : goal.returns-then-done-jobs-clause-sources
+returns-then-done-jobs-clause-sources c = refl
 
 pub returns-then-done-jobs-clause-kept : goal.returns-then-done-jobs-clause-kept
 returns-then-done-jobs-clause-kept c was =
@@ -65,7 +175,138 @@ returns-then-done-jobs-clause-kept c was =
 pub returns-then-done-jobs-clause-moves : goal.returns-then-done-jobs-clause-moves
 returns-then-done-jobs-clause-moves c = moves-none c.args.shelf.now.queues c.args.self.now
 
+-- ---- its hands are refilled
+
+pub note_job-requires-clause-station : goal.note_job-requires-clause-station
+note_job-requires-clause-station c = exists_there (goal.at.note_job-requires-clause-station c).After-dates
+
+pub note_job-requires-clause-from_one : goal.note_job-requires-clause-from_one
+note_job-requires-clause-from_one c = omega arith
+
+pub note_job-requires-clause-job : goal.note_job-requires-clause-job
+note_job-requires-clause-job c = job_within (goal.at.note_job-requires-clause-job c).Else-done-jobs
+
+pub note_job-requires-clause-an_input_each : goal.note_job-requires-clause-an_input_each
+note_job-requires-clause-an_input_each c =
+    c.self.invariant.station.an_input_each
+    ∙ ap (λ (g : Parts). length (ins g c.self.inside.number)) (sym (graph_is (goal.at.note_job-requires-clause-an_input_each c).After-dates))
+
+pub note_job-requires-clause-worked : goal.note_job-requires-clause-worked
+note_job-requires-clause-worked c =
+    c.as_slice-worked.ensures.value
+    ∙ c.self.invariant.noted.worked_is
+    ∙ ap (λ (g : Parts). worked_into g c.self.inside.number) (sym (graph_is (goal.at.note_job-requires-clause-worked c).After-dates))
+
+pub note_job-requires-clause-noted : goal.note_job-requires-clause-noted
+note_job-requires-clause-noted c is n =
+    c.self.invariant.noted.extras_are is n
+    ∙ ap (λ (g : Parts). extras_into g c.self.inside.number n) (sym (graph_is (goal.at.note_job-requires-clause-noted c).After-dates))
+
+pub refill-requires-clause-within : goal.refill-requires-clause-within
+refill-requires-clause-within c =
+    subst (TakeWithin (length c.args.shelf.now.queues)) (sym c.note_job.ensures.inputs) (seated_before (goal.at.refill-requires-clause-within c).After-dates).takes_within
+
+pub refill-requires-clause-apart : goal.refill-requires-clause-apart
+refill-requires-clause-apart c =
+    subst TakeApart (sym c.note_job.ensures.inputs) (seated_before (goal.at.refill-requires-clause-apart c).After-dates).takes_apart
+
+-- as many inputs as before
+as_many : (c : After-refill) → length (inputs_of c.refill.new.inputs.items) ≡ length (the_view c.self.inside).inputs
+as_many c = c.refill.ensures.count ∙ ap length c.note_job.ensures.inputs
+
+-- their queues are the same, and so is what is noted of them
+bare_inputs : (c : After-refill) → map bare_input (inputs_of c.refill.new.inputs.items) ≡ map bare_input (the_view c.self.inside).inputs
+bare_inputs c = c.refill.ensures.same ∙ ap (map bare_input) c.note_job.ensures.inputs
+
+hands_filled : (c : After-refill) → (k : ℕ) → k < length (the_view c.self.inside).inputs → IsRefilled c.args.shelf.now.queues c.refill.new.shelf.queues (input_at (the_view c.self.inside).inputs k) (input_at (inputs_of c.refill.new.inputs.items) k)
+hands_filled c =
+    each_refilled (inputs_of c.note_job.new.inputs.items) (the_view c.self.inside).inputs (inputs_of c.refill.new.inputs.items) c.args.shelf.now.queues c.refill.new.shelf.queues c.note_job.ensures.inputs c.refill.ensures.each
+
 -- ---- an input has no token
+
+pub ins-requires : goal.ins-requires
+ins-requires c = exists_there (goal.at.ins-requires c).After-dates
+
+pub bounds-ins-k : goal.bounds-ins-k
+bounds-ins-k c =
+    let from = goal.at.bounds-ins-k c in
+    let arcs = c.ins.ensures.arcs ∙ ap (λ (g : Parts). ins g c.self.inside.number) (graph_is from.After-dates) in
+    omega (arith, c.in-Empty.ensures.there, as_many from.After-refill, c.self.invariant.station.an_input_each, ap length arcs)
+
+pub invariant_of-self-in-Empty : goal.invariant_of-self-in-Empty
+invariant_of-self-in-Empty c =
+    let s = c.self.inside in
+    let from = (goal.at.invariant_of-self-in-Empty c).After-refill in
+    let full = inputs_of c.refill.new.inputs.items in record {
+      station = station-waits (the_view s) full (s.turns + 1) (as_many from) c.self.invariant.station;
+      noted = noted-same s.graph.value s.number s.inputs.items c.refill.new.inputs.items s.outlets.items s.outlets.items s.fixed s.worked.items s.bounded s.rings
+          (λ is. c.refill.ensures.extras ∙ c.note_job.ensures.stays is)
+          refl
+          refl
+          c.self.invariant.noted;
+      readied = readied-waits s.graph.value s.number (inputs_of s.inputs.items) full s.fronts.items s.bounded s.direct s.empty_handed (as_many from) (bare_inputs from) c.self.invariant.readied;
+    }
+
+pub returns-in-Empty-clause-turns : goal.returns-in-Empty-clause-turns
+returns-in-Empty-clause-turns c = ap (λ (w : WorkStation). w.turns + 1) c.self.view_is
+
+pub returns-in-Empty-clause-same : goal.returns-in-Empty-clause-same
+returns-in-Empty-clause-same c =
+    let s = the_view c.self.inside in
+    let from = (goal.at.returns-in-Empty-clause-same c).After-refill in
+    bare-same s (inputs_of c.refill.new.inputs.items) s.outlets s.log (s.turns + 1) (bare_inputs from) refl refl
+    ∙ ap bare_station c.self.view_is
+
+pub returns-in-Empty-clause-station : goal.returns-in-Empty-clause-station
+returns-in-Empty-clause-station c =
+    let s = the_view c.self.inside in
+    let from = (goal.at.returns-in-Empty-clause-station c).After-refill in
+    station-waits s (inputs_of c.refill.new.inputs.items) (s.turns + 1) (as_many from) c.self.invariant.station
+
+pub returns-in-Empty-clause-done : goal.returns-in-Empty-clause-done
+returns-in-Empty-clause-done c =
+    (λ never. absurd never, not_all_made (goal.at.returns-in-Empty-clause-done c).Else-done-jobs)
+
+pub returns-in-Empty-clause-blocked : goal.returns-in-Empty-clause-blocked
+returns-in-Empty-clause-blocked c =
+    let s = the_view c.self.inside in
+    let old = c.args.shelf.now.queues in
+    let full = inputs_of c.refill.new.inputs.items in
+    let after : WorkStation = record s { inputs = full; turns = s.turns + 1 } in
+    let from = goal.at.returns-in-Empty-clause-blocked c in
+    let k = c.in-Empty.k in
+    let arc = slice_index c.ins.result.now k in
+    let below : k < length s.inputs = omega (arith, c.in-Empty.ensures.there, as_many from.After-refill) in
+    let filled = hands_filled from.After-refill k below in
+    let is : IsBlockedAt old s after arc k = record {
+      there = below;
+      arc_is = ap (λ (l : List ℕ). slice_index l k) (sym (c.ins.ensures.arcs ∙ ap (λ (g : Parts). ins g s.number) (graph_is from.After-dates)));
+      none = subst (λ (hand : Option ℕ). IfNone hand (tokens_ahead old (input_at s.inputs k) ≡ 0)) c.in-Empty.ensures.empty filled.empty;
+      empty = c.in-Empty.ensures.empty;
+      first = c.in-Empty.ensures.first;
+    } in (k, subst (λ (w : WorkStation). IsBlockedAt old w after arc k) c.self.view_is is)
+
+pub returns-in-Empty-clause-full : goal.returns-in-Empty-clause-full
+returns-in-Empty-clause-full c = tt
+
+pub returns-in-Empty-clause-fires : goal.returns-in-Empty-clause-fires
+returns-in-Empty-clause-fires c ready =
+    let blocked = returns-in-Empty-clause-blocked c in
+    omega (arith, ready.tokens blocked.0 blocked.1.there, blocked.1.none)
+
+pub returns-in-Empty-clause-did : goal.returns-in-Empty-clause-did
+returns-in-Empty-clause-did c =
+    let s = the_view c.self.inside in
+    let old = c.args.shelf.now.queues in
+    let mid = c.refill.new.shelf.queues in
+    let after : WorkStation = record s { inputs = inputs_of c.refill.new.inputs.items; turns = s.turns + 1 } in
+    let from = (goal.at.returns-in-Empty-clause-did c).After-refill in
+    let did : OnlyRefilled old mid s after =
+    record { log = refl; outlets = refl; puts = c.refill.ensures.only_takes; hands = hands_filled from } in
+    subst (λ (w : WorkStation). OnlyRefilled old mid w after) c.self.view_is did
+
+pub returns-in-Empty-clause-sources : goal.returns-in-Empty-clause-sources
+returns-in-Empty-clause-sources c = c.refill.ensures.sources
 
 pub returns-in-Empty-clause-kept : goal.returns-in-Empty-clause-kept
 returns-in-Empty-clause-kept c =
@@ -123,6 +364,95 @@ returns-then-done-jobs-clause-logs c =
     ∙ ap (set c.args.shelf.now.logs c.args.i) (c.requires.stands.log ∙ sym (ap (λ (w : WorkStation). w.log) c.self.view_is))
 
 -- ---- an output has no space
+
+pub look_all-requires : goal.look_all-requires
+look_all-requires c = record { noted = c.self.invariant.noted.bounded_is }
+
+pub outs-requires : goal.outs-requires
+outs-requires c = exists_there (goal.at.outs-requires c).After-dates
+
+pub bounds-outs-k : goal.bounds-outs-k
+bounds-outs-k c =
+    let arcs = c.outs.ensures.arcs ∙ ap (λ (g : Parts). outs g c.self.inside.number) (graph_is (goal.at.bounds-outs-k c).After-dates) in
+    omega (arith, c.in-Some-look_all.ensures.there, c.look_all.ensures.count, c.self.invariant.station.an_outlet_each, ap length arcs)
+
+-- the station when its outlets have looked
+looks_well : (c : After-look_all) → IsStation (record (the_view c.self.inside) { outlets = outlets_of c.look_all.new.outlets.items })
+looks_well c =
+    let s = the_view c.self.inside in
+    let looked = outlets_of c.look_all.new.outlets.items in
+    station-alike s looked (alike-looked s.outlets looked c.look_all.ensures.count c.look_all.ensures.looked) c.self.invariant.station
+
+pub returns-in-Some-look_all-clause-turns : goal.returns-in-Some-look_all-clause-turns
+returns-in-Some-look_all-clause-turns c = ap (λ (w : WorkStation). w.turns + 1) c.self.view_is
+
+pub returns-in-Some-look_all-clause-same : goal.returns-in-Some-look_all-clause-same
+returns-in-Some-look_all-clause-same c =
+    let s = the_view c.self.inside in
+    let from = (goal.at.returns-in-Some-look_all-clause-same c).After-refill in
+    bare-same s (inputs_of c.refill.new.inputs.items) (outlets_of c.look_all.new.outlets.items) s.log (s.turns + 1) (bare_inputs from) c.look_all.ensures.same refl
+    ∙ ap bare_station c.self.view_is
+
+pub returns-in-Some-look_all-clause-station : goal.returns-in-Some-look_all-clause-station
+returns-in-Some-look_all-clause-station c =
+    let s = the_view c.self.inside in
+    let from = goal.at.returns-in-Some-look_all-clause-station c in
+    station-waits (record s { outlets = outlets_of c.look_all.new.outlets.items }) (inputs_of c.refill.new.inputs.items) (s.turns + 1) (as_many from.After-refill) (looks_well from.After-look_all)
+
+pub returns-in-Some-look_all-clause-done : goal.returns-in-Some-look_all-clause-done
+returns-in-Some-look_all-clause-done c =
+    (λ never. absurd never, not_all_made (goal.at.returns-in-Some-look_all-clause-done c).Else-done-jobs)
+
+pub returns-in-Some-look_all-clause-blocked : goal.returns-in-Some-look_all-clause-blocked
+returns-in-Some-look_all-clause-blocked c = tt
+
+pub returns-in-Some-look_all-clause-full : goal.returns-in-Some-look_all-clause-full
+returns-in-Some-look_all-clause-full c =
+    let s = the_view c.self.inside in
+    let looked = outlets_of c.look_all.new.outlets.items in
+    let after : WorkStation = record s { inputs = inputs_of c.refill.new.inputs.items; outlets = looked; turns = s.turns + 1 } in
+    let k = c.in-Some-look_all.k in
+    let arc = slice_index c.outs.result.now k in
+    let from = (goal.at.returns-in-Some-look_all-clause-full c).After-dates in
+    let below : k < length s.outlets = omega (arith, c.in-Some-look_all.ensures.there, c.look_all.ensures.count) in
+    let look = c.look_all.ensures.looked k below in
+    let none : HasNoSpace (outlet_at looked k) = c.in-Some-look_all.ensures.full in
+    let is : IsFullAt s after arc k = record {
+      there = below;
+      arc_is = ap (λ (l : List ℕ). slice_index l k) (sym (c.outs.ensures.arcs ∙ ap (λ (g : Parts). outs g s.number) (graph_is from)));
+      looked = look.looks (had_no_space (outlet_at s.outlets k) (outlet_at looked k) look none);
+      none = none;
+      first = c.in-Some-look_all.ensures.first;
+    } in (k, subst (λ (w : WorkStation). IsFullAt w after arc k) c.self.view_is is)
+
+pub returns-in-Some-look_all-clause-fires : goal.returns-in-Some-look_all-clause-fires
+returns-in-Some-look_all-clause-fires c is_ready =
+    let s = the_view c.self.inside in
+    let looked = outlets_of c.look_all.new.outlets.items in
+    let k = c.in-Some-look_all.k in
+    let below : k < length s.outlets = omega (arith, c.in-Some-look_all.ensures.there, c.look_all.ensures.count) in
+    let ready : IsReady c.args.shelf.now.queues s = subst (IsReady c.args.shelf.now.queues) (sym c.self.view_is) is_ready in
+    space_clash (outlet_at s.outlets k) (ready.space k below)
+    (had_no_space (outlet_at s.outlets k) (outlet_at looked k) (c.look_all.ensures.looked k below) c.in-Some-look_all.ensures.full)
+
+pub returns-in-Some-look_all-clause-did : goal.returns-in-Some-look_all-clause-did
+returns-in-Some-look_all-clause-did c =
+    let s = the_view c.self.inside in
+    let old = c.args.shelf.now.queues in
+    let mid = c.refill.new.shelf.queues in
+    let full = inputs_of c.refill.new.inputs.items in
+    let after : WorkStation = record s { inputs = full; outlets = outlets_of c.look_all.new.outlets.items; turns = s.turns + 1 } in
+    let from = (goal.at.returns-in-Some-look_all-clause-did c).After-refill in
+    let did : OnlyLooked old mid s after = record {
+      refilled = record { log = refl; outlets = refl; puts = c.refill.ensures.only_takes; hands = hands_filled from };
+      full = λ k low. c.in-Full.ensures.full k (omega (arith, low, as_many from));
+      count = c.look_all.ensures.count;
+      looked = c.look_all.ensures.looked;
+    } in
+    subst (λ (w : WorkStation). OnlyLooked old mid w after) c.self.view_is did
+
+pub returns-in-Some-look_all-clause-sources : goal.returns-in-Some-look_all-clause-sources
+returns-in-Some-look_all-clause-sources c = c.refill.ensures.sources
 
 pub returns-in-Some-look_all-clause-seated : goal.returns-in-Some-look_all-clause-seated
 returns-in-Some-look_all-clause-seated c =
@@ -189,6 +519,86 @@ invariant_of-self-in-Some-look_all c =
     }
 
 -- ---- the station fires at once
+
+pub latest_front-requires : goal.latest_front-requires
+latest_front-requires c =
+    let from = goal.at.latest_front-requires c in record {
+      within = λ is.
+          fronts-within (length c.args.shelf.now.queues) (the_view c.self.inside).inputs c.as_slice-fronts.result.now (fronts_lent from.After-as_slice-fronts is) (seated_before from.After-dates).takes_within;
+    }
+
+pub count_takes-requires-clause-within : goal.count_takes-requires-clause-within
+count_takes-requires-clause-within c =
+    let from = goal.at.count_takes-requires-clause-within c in
+    fronts-within (length c.args.shelf.now.queues) (the_view c.self.inside).inputs c.as_slice-fronts.result.now (fronts_lent from.After-as_slice-fronts c.in-Some.ensures.direct) (seated_before from.After-dates).takes_within
+
+pub count_takes-requires-clause-apart : goal.count_takes-requires-clause-apart
+count_takes-requires-clause-apart c =
+    let from = goal.at.count_takes-requires-clause-apart c in
+    fronts-apart (the_view c.self.inside).inputs c.as_slice-fronts.result.now (fronts_lent from.After-as_slice-fronts c.in-Some.ensures.direct) (seated_before from.After-dates).takes_apart
+
+pub count_takes-requires-clause-there : goal.count_takes-requires-clause-there
+count_takes-requires-clause-there c = c.in-Some.ensures.there
+
+pub next_date-date-requires-clause-from_one : goal.next_date-date-requires-clause-from_one
+next_date-date-requires-clause-from_one c = omega arith
+
+pub next_date-date-requires-clause-job : goal.next_date-date-requires-clause-job
+next_date-date-requires-clause-job c = job_within (goal.at.next_date-date-requires-clause-job c).Else-done-jobs
+
+pub put_all-requires-clause-noted : goal.put_all-requires-clause-noted
+put_all-requires-clause-noted c = c.self.invariant.noted.rings_are
+
+pub put_all-requires-clause-ring_room : goal.put_all-requires-clause-ring_room
+put_all-requires-clause-ring_room c k low =
+    let s = the_view c.self.inside in
+    let left = dates_left (goal.at.put_all-requires-clause-ring_room c).Else-done-jobs in
+    ring_room-less (jobs s.graph - length s.log.dates) 1 (outlet_at s.outlets k) (omega (arith, left)) (c.self.invariant.station.ring_room k low)
+
+pub put_all-requires-clause-shelf_room : goal.put_all-requires-clause-shelf_room
+put_all-requires-clause-shelf_room c k low =
+    let s = the_view c.self.inside in
+    let old = c.args.shelf.now.queues in
+    let left = dates_left (goal.at.put_all-requires-clause-shelf_room c).Else-done-jobs in
+    let may : MayPut old s = subst (MayPut old) (sym c.self.view_is) c.requires.may_put in
+    shelf_room-after_takes old c.count_takes.new.shelf.queues (outlet_at s.outlets k) c.count_takes.ensures.only_takes (may left k low)
+
+pub put_all-requires-clause-space : goal.put_all-requires-clause-space
+put_all-requires-clause-space c k low =
+    let s = the_view c.self.inside in
+    space-unbounded s.outlets k (sym c.self.invariant.noted.bounded_is ∙ (c.self.invariant.readied.fires c.in-Some.ensures.direct).unbounded) low
+
+pub put_all-requires-clause-within : goal.put_all-requires-clause-within
+put_all-requires-clause-within c k low =
+    let s = the_view c.self.inside in
+    let seated = seated_before (goal.at.put_all-requires-clause-within c).After-dates in
+    subst (λ count. IfSome (outlet_queue (outlet_at s.outlets k)) (λ q. q < count)) (sym c.count_takes.ensures.only_takes.count) (seated.puts_within k low)
+
+pub put_all-requires-clause-there : goal.put_all-requires-clause-there
+put_all-requires-clause-there c = omega (arith, c.requires.stands.there, ap length c.count_takes.ensures.logs)
+
+pub put_all-requires-clause-log_room : goal.put_all-requires-clause-log_room
+put_all-requires-clause-log_room c =
+    let s = the_view c.self.inside in
+    let left = dates_left (goal.at.put_all-requires-clause-log_room c).Else-done-jobs in
+    let was : log_on c.count_takes.new.shelf.logs c.args.i ≡ s.log =
+    ap (λ (l : List RoomyLog). log_on l c.args.i) c.count_takes.ensures.logs ∙ c.requires.stands.log ∙ sym (ap (λ (w : WorkStation). w.log) c.self.view_is) in
+    subst (λ (l : RoomyLog). length l.dates < l.room) (sym was) (omega (arith, left, c.self.invariant.station.log_room))
+
+pub put_all-requires-clause-come : goal.put_all-requires-clause-come
+put_all-requires-clause-come c =
+    let s = the_view c.self.inside in
+    let old = c.args.shelf.now in
+    let stands : StandsAt c.args.i old s = subst (StandsAt c.args.i old) (sym c.self.view_is) c.requires.stands in
+    come-same c.args.i (map (delay s.graph) (outs s.graph s.number)) (delays_of c.self.inside.outlets.items) old c.count_takes.new.shelf s.outlets s.outlets
+    c.self.invariant.noted.delays_are
+    c.count_takes.ensures.sources c.count_takes.ensures.only_takes.count refl refl stands.come
+
+pub log-requires-in-Some : goal.log-requires-in-Some
+log-requires-in-Some c =
+    let mid = c.count_takes.new.shelf.logs in
+    let logs = length-set mid c.args.i (with_date (log_on mid c.args.i) c.next_date-date.result) in
+    omega (arith, c.requires.stands.there, ap length c.count_takes.ensures.logs, ap length c.put_all.ensures.logs, logs)
 
 -- what it keeps for that
 direct_is : (c : After-of) → IsDirect (the_view c.self.inside).graph c.self.inside.number (the_view c.self.inside).inputs c.self.inside.fronts.items c.self.inside.bounded
@@ -316,6 +726,40 @@ invariant_of-self-in-Some c =
       readied = c.self.invariant.readied;
     }
 
+pub returns-in-Some-clause-turns : goal.returns-in-Some-clause-turns
+returns-in-Some-clause-turns c = ap (λ (w : WorkStation). w.turns + 1) c.self.view_is
+
+pub returns-in-Some-clause-same : goal.returns-in-Some-clause-same
+returns-in-Some-clause-same c =
+    let s = the_view c.self.inside in
+    let log_is = log_at_once (goal.at.returns-in-Some-clause-same c).After-of in
+    bare-same s s.inputs (outlets_of c.put_all.new.outlets.items) c.of.result.value (s.turns + 1) refl c.put_all.ensures.same (ap (λ (l : RoomyLog). l.room) log_is)
+    ∙ ap bare_station c.self.view_is
+
+pub returns-in-Some-clause-done : goal.returns-in-Some-clause-done
+returns-in-Some-clause-done c =
+    (λ never. absurd never, not_all_made (goal.at.returns-in-Some-clause-done c).Else-done-jobs)
+
+pub returns-in-Some-clause-blocked : goal.returns-in-Some-clause-blocked
+returns-in-Some-clause-blocked c = tt
+
+pub returns-in-Some-clause-full : goal.returns-in-Some-clause-full
+returns-in-Some-clause-full c = tt
+
+pub returns-in-Some-clause-fires : goal.returns-in-Some-clause-fires
+returns-in-Some-clause-fires c ready = tt
+
+pub returns-in-Some-clause-did : goal.returns-in-Some-clause-did
+returns-in-Some-clause-did c =
+    let s = the_view c.self.inside in
+    let log = c.of.result.value in
+    let from = (goal.at.returns-in-Some-clause-did c).After-of in
+    subst (λ (w : WorkStation). FiredOnce w (at_once from log)) c.self.view_is
+    (fired-once s s.inputs (outlets_of c.put_all.new.outlets.items) log c.next_date-date.result (s.turns + 1) (log_at_once from) (hands_are from))
+
+pub returns-in-Some-clause-sources : goal.returns-in-Some-clause-sources
+returns-in-Some-clause-sources c = c.put_all.ensures.sources ∙ c.count_takes.ensures.sources
+
 pub returns-in-Some-clause-station : goal.returns-in-Some-clause-station
 returns-in-Some-clause-station c =
     let from = (goal.at.returns-in-Some-clause-station c).After-of in
@@ -383,6 +827,38 @@ returns-in-Some-clause-moves c =
     (grows-fires old mid new c.count_takes.ensures.only_takes c.put_all.ensures.grows)
 
 -- ---- the station fires by its hands
+
+pub empty_hands-requires : goal.empty_hands-requires
+empty_hands-requires c = tt
+
+pub next_date-date-requires-2-clause-from_one : goal.next_date-date-requires-2-clause-from_one
+next_date-date-requires-2-clause-from_one c = omega arith
+
+pub next_date-date-requires-2-clause-job : goal.next_date-date-requires-2-clause-job
+next_date-date-requires-2-clause-job c = job_within (goal.at.next_date-date-requires-2-clause-job c).Else-done-jobs
+
+pub put_all-requires-2-clause-ring_room : goal.put_all-requires-2-clause-ring_room
+put_all-requires-2-clause-ring_room c k low =
+    let s = the_view c.self.inside in
+    let left = dates_left (goal.at.put_all-requires-2-clause-ring_room c).Else-done-jobs in
+    let looks = looks_well (goal.at.put_all-requires-2-clause-ring_room c).After-look_all in
+    ring_room-less (jobs s.graph - length s.log.dates) 1 (outlet_at (outlets_of c.look_all.new.outlets.items) k) (omega (arith, left)) (looks.ring_room k low)
+
+pub put_all-requires-2-clause-space : goal.put_all-requires-2-clause-space
+put_all-requires-2-clause-space c k low = c.in_default-look_all.ensures.none k low
+
+pub put_all-requires-2-clause-within : goal.put_all-requires-2-clause-within
+put_all-requires-2-clause-within c =
+    let s = the_view c.self.inside in
+    (seated-same c.args.shelf.now.queues c.refill.new.shelf.queues s (record s { outlets = outlets_of c.look_all.new.outlets.items })
+    c.refill.ensures.only_takes.count refl c.look_all.ensures.count refl c.look_all.ensures.same
+    (seated_before (goal.at.put_all-requires-2-clause-within c).After-dates)).puts_within
+
+pub log-requires-2 : goal.log-requires-2
+log-requires-2 c =
+    let mid = c.refill.new.shelf.logs in
+    let logs = length-set mid c.args.i (with_date (log_on mid c.args.i) c.next_date-date-2.result) in
+    omega (arith, c.requires.stands.there, ap length c.refill.ensures.logs, ap length c.put_all-2.ensures.logs, logs)
 
 pub put_all-requires-2-clause-noted : goal.put_all-requires-2-clause-noted
 put_all-requires-2-clause-noted c =
@@ -545,6 +1021,45 @@ invariant_of-self-2 c =
           (λ k low. c.empty_hands.ensures.hands k (omega (arith, low, c.empty_hands.ensures.count)))
           c.self.invariant.readied;
     }
+
+pub returns-clause-turns : goal.returns-clause-turns
+returns-clause-turns c = ap (λ (w : WorkStation). w.turns + 1) c.self.view_is
+
+pub returns-clause-same : goal.returns-clause-same
+returns-clause-same c =
+    let s = the_view c.self.inside in
+    let from = goal.at.returns-clause-same c in
+    bare-same s (inputs_of c.empty_hands.new.inputs.items) (outlets_of c.put_all-2.new.outlets.items) c.of-2.result.value (s.turns + 1)
+    (c.empty_hands.ensures.same ∙ bare_inputs from.After-refill)
+    (c.put_all-2.ensures.same ∙ c.look_all.ensures.same)
+    (ap (λ (l : RoomyLog). l.room) (log_is from.After-of-2))
+    ∙ ap bare_station c.self.view_is
+
+pub returns-clause-done : goal.returns-clause-done
+returns-clause-done c =
+    (λ never. absurd never, not_all_made (goal.at.returns-clause-done c).Else-done-jobs)
+
+pub returns-clause-blocked : goal.returns-clause-blocked
+returns-clause-blocked c = tt
+
+pub returns-clause-full : goal.returns-clause-full
+returns-clause-full c = tt
+
+pub returns-clause-fires : goal.returns-clause-fires
+returns-clause-fires c ready = tt
+
+pub returns-clause-did : goal.returns-clause-did
+returns-clause-did c =
+    let s = the_view c.self.inside in
+    let log = c.of-2.result.value in
+    let from = goal.at.returns-clause-did c in
+    let count = as_many from.After-refill in
+    subst (λ (w : WorkStation). FiredOnce w (with_log from.After-of-2 log)) c.self.view_is
+    (fired-once s (inputs_of c.empty_hands.new.inputs.items) (outlets_of c.put_all-2.new.outlets.items) log c.next_date-date-2.result (s.turns + 1) (log_is from.After-of-2)
+    (λ k low. c.empty_hands.ensures.hands k (omega (arith, low, count))))
+
+pub returns-clause-sources : goal.returns-clause-sources
+returns-clause-sources c = c.put_all-2.ensures.sources ∙ c.refill.ensures.sources
 
 pub returns-clause-station : goal.returns-clause-station
 returns-clause-station c =

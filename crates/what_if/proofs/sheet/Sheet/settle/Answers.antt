@@ -3,8 +3,22 @@ use Rattle.std.specs.Prelude.{Option, MatchOption}
 use Rattle.live_check.specs.Order.{LiveGraph}
 use Rattle.what_if.specs.Marks.{HasNone, IsFirstFrom}
 use Rattle.what_if.specs.Page.{Page, IsDate, slot}
-use Rattle.what_if.proofs.SettledDates.{IsSettling, goes_on, none_next, each_once}
+use Rattle.what_if.proofs.SettledDates.{IsSettling, begins, goes_on, none_next, each_once}
 use Rattle.what_if.proofs.sheet.Sheet.settle.Goals as goal
+
+pub loop-next-init : goal.loop-next-init
+loop-next-init c = record {
+  settled = record {
+    from = 0;
+    settling = begins c.args.self.now c.first_marked-next.ensures.kept;
+    next_is = c.first_marked-next.ensures.first;
+  };
+  made_for = c.requires.made_for;
+}
+
+pub evaluate-requires-clause-date : goal.evaluate-requires-clause-date
+evaluate-requires-clause-date c =
+    subst (λ (l : LiveGraph). IsDate l.graph c.date_at_slot-t.result.0 c.date_at_slot-t.result.1) c.loop-next.invariant.made_for c.date_at_slot-t.ensures.date
 
 pub loop-next-preserved : goal.loop-next-preserved
 loop-next-preserved c =

@@ -1,9 +1,0 @@
-use Rattle.std.proofs.Common.{◌≡◌, ◌+◌, length, decimal}
-use Rattle.line_report.proofs.line_end.digit_count.Given as goal
-
--- the digits counted are those that are gone
-abbrev pub invariant-loop-left : goal.invariant-loop-left
-invariant-loop-left l = l.count + length (decimal l.left) ≡ length (decimal l.n)
-
-abbrev pub decreases-loop-left : goal.decreases-loop-left
-decreases-loop-left l = l.left

@@ -1,5 +1,0 @@
-use Rattle.std.proofs.Common.{refl}
-use Rattle.plant_draft.proofs.build.machine_of.Goals as goal
-
-pub returns : goal.returns
-returns c = rw (c.in_ok-name.ensures, c.in_ok-times.ensures, c.count_at.ensures) refl

@@ -1,4 +1,0 @@
-pub mod Code
-pub mod Columns
-pub mod Draft
-pub mod Reading

@@ -1,0 +1,10 @@
+use Rattle.std.proofs.Common.{sym, arith}
+use Rattle.std.proofs.lemmas.List.Folds.{list_any_more}
+use Rattle.toml.specs.View.{view}
+use Rattle.plant_keys.specs.Keys.{stage_has_column}
+use Rattle.plant_keys.proofs.keys.any_stage_has_column.Goals as goal
+
+pub loop-stage-preserved : goal.loop-stage-preserved
+loop-stage-preserved c =
+    rw (list_any_more (λ s. stage_has_column (view s)) c.args.stages.now c.loop-stage.stage-index c.stage-item.result (omega arith), c.loop-stage.invariant, ← c.stage-item.is)
+    (sym c.if-stage_has_column.ensures)

@@ -1,0 +1,10 @@
+use Rattle.std.proofs.Common.{sym, arith}
+use Rattle.std.proofs.lemmas.List.Folds.{list_all_more}
+use Rattle.toml.specs.View.{view}
+use Rattle.plant_keys.specs.Code.{is_element}
+use Rattle.plant_keys.proofs.values.are_elements.Goals as goal
+
+pub loop-value-preserved : goal.loop-value-preserved
+loop-value-preserved c =
+    rw (list_all_more (λ v. is_element c.args.element (view v)) c.args.values.now c.loop-value.value-index c.value-item.result (omega arith), c.loop-value.invariant, ← c.value-item.is)
+    (sym c.if-not-is_element.ensures)
