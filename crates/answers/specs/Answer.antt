@@ -9,7 +9,7 @@ use Rattle.line_chart.specs.Picture as pictures
 use Rattle.line_io.specs.SinkView.{SinkView, WritesText}
 use Rattle.line_io.specs.declared.sink.Failed.{Failed}
 use Rattle.line_summary.specs.Summarized as summarized
-use Rattle.line_table.specs.DateTable as date_table
+use Rattle.line_chart.specs.DateTable as date_table
 use Rattle.answers.specs.ChangesText.{changes_text}
 use Rattle.answers.specs.Curves.{CurveIsPut}
 use Rattle.answers.specs.declared.answer.Answer.{Answer}

@@ -1,8 +1,8 @@
 -- What contracts see of a curve that is asked for, and what writing it puts into a sink.
 use Rattle.std.specs.Prelude.{◌≡◌, ℕ, ◌+◌, ◌-◌, ◌≤◌, true, Result, Ok, Err}
-use Rattle.card_curve.specs.Curve.{PutsRows, EndsEarly}
-use Rattle.card_curve.specs.declared.curve.CurveError.{CurveError}
-use Rattle.card_curve.specs.declared.curve.CurveError.TheVariants as curve
+use Rattle.line_summary.specs.Curve.{PutsRows, EndsEarly}
+use Rattle.line_summary.specs.declared.curve.CurveError.{CurveError}
+use Rattle.line_summary.specs.declared.curve.CurveError.TheVariants as curve
 use Rattle.answers.specs.declared.unwritten.Unwritten.{Unwritten}
 use Rattle.answers.specs.declared.unwritten.Unwritten.TheVariants.{Failed, NoMemory}
 use Rattle.card_sizing.specs.Sized.{has_single_count}

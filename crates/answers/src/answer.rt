@@ -13,11 +13,10 @@ use date_causes::Causes;
 use itoa::Buffer;
 use latest_dates::Latest;
 use line_base::Items;
-use line_chart::Chart;
+use line_chart::{Chart, DateTable};
 use line_io::{Failed, Sink};
 use line_report::Report;
 use line_summary::Summary;
-use line_table::DateTable;
 use std::alloc::Global;
 use std::thread::Threads;
 

@@ -3,8 +3,8 @@ ghost use Rattle.std.specs.Prelude.{◌≡◌, ◌≤◌};
 ghost use Rattle.answers.specs.Curves.{IsAsked, CurveIsPut};
 
 use crate::unwritten::Unwritten;
-use card_curve::write_curve;
 use line_io::Sink;
+use line_summary::write_curve;
 use plant_model::Plant;
 use std::alloc::Global;
 use std::marker::Model;

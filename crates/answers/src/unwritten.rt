@@ -2,8 +2,8 @@ ghost use Rattle.std.specs.Prelude.{◌≡◌};
 ghost use Rattle.answers.specs.Curves.{unwritten_of};
 ghost use Rattle.answers.specs.declared.unwritten.Unwritten.{Unwritten};
 
-use card_curve::CurveError;
 use line_io::Failed;
+use line_summary::CurveError;
 
 /// Why an answer isn't written whole.
 #[derive(Clone, Copy)]

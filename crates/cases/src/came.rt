@@ -1,7 +1,10 @@
 //! A command over files, a sink and a disk in memory.
+use crate::files::held;
 use crate::looks::{arcs_of, circuits_of};
+use crate::reason::{Reason, where_well, with};
+use crate::run::Faults;
 use crate::runner::{Attempt, Found};
-use case_format::{Crash, Faults, Reason, Slots, held, where_well, with};
+use crate::slots::{Crash, Slots};
 use line_disk::MemDisk;
 use line_io::{Files, MemSink, MemStore, put_all};
 use line_workers::FreeGate;
@@ -24,8 +27,9 @@ impl Came {
     fn before(alloc: Global, attempt: &Attempt) -> Result<Self, Reason> {
         let faults = attempt.faults;
         let sink = sink_of(alloc, faults)?;
-        let (sink, store) = with(sink, store_of(alloc, attempt.files, faults))?;
-        let ((sink, store), disk) = with((sink, store), attempt.slots.disk(alloc, faults.disk))?;
+        let (sink, store) = with(sink, store_of(alloc, &attempt.found.files, faults))?;
+        let disk = attempt.found.slots.disk(alloc, faults.disk);
+        let ((sink, store), disk) = with((sink, store), disk)?;
         Ok(Came {
             status: 0,
             store,
@@ -45,7 +49,7 @@ impl Came {
     }
 
     /// What is left to the commands below, where this crash comes.
-    pub fn left(&self, alloc: Global, crash: Option<Crash>) -> Result<Found, Reason> {
+    pub fn left(&self, alloc: Global, crash: Crash) -> Result<Found, Reason> {
         let slots = Slots::left_on(alloc, &self.disk, crash)?;
         let (slots, files) = with(slots, copy_of(self.files()))?;
         Ok(Found { files, slots })
@@ -143,10 +147,11 @@ fn look_of(
     words: &[String],
     attempt: &Attempt,
 ) -> Result<Vec<u8>, Reason> {
+    let found = attempt.found;
     match (name, words) {
-        ("slots", []) => attempt.slots.text(alloc),
-        ("arcs", [file]) => arcs_of(alloc, held(attempt.files, file.as_str())),
-        ("circuits", [file]) => circuits_of(alloc, held(attempt.files, file.as_str())),
+        ("slots", []) => found.slots.text(alloc),
+        ("arcs", [file]) => arcs_of(alloc, held(&found.files, file.as_str())),
+        ("circuits", [file]) => circuits_of(alloc, held(&found.files, file.as_str())),
         _ => Err(Reason::NoDirective),
     }
 }

@@ -3,7 +3,7 @@ ghost use Rattle.std.specs.Prelude.{◌<◌, IfOk};
 ghost use Rattle.event_graph.specs.Network.{arc_count};
 ghost use Rattle.plant_model.specs.Sound.{IsSound};
 
-use case_format::Reason;
+use crate::reason::Reason;
 use circuit_sums::{CardCircuit, CircuitKind, card_circuits};
 use event_graph::{Arc, Graph};
 use line_base::Items;

@@ -2,12 +2,20 @@
 #![tactic(auto)]
 
 mod came;
+mod files;
+mod lines;
 mod looks;
+mod reason;
+mod run;
 mod runner;
+mod slots;
 mod told;
+mod words;
 
-use case_format::{Reason, check_head, line_at, lines_of, read_file};
+use files::read_file;
 use line_io::{FileStore, Sink, StdSink, Store, put_all};
+use lines::{is_comment, line_at, lines_of};
+use reason::Reason;
 use runner::run_case;
 use std::alloc::{AllocError, Global};
 use std::process::ExitCode;
@@ -82,15 +90,18 @@ fn run_cases<R: Threads + Wait + Sync, S: Store, K: Sink>(
     folder: &mut S,
     sink: &mut K,
 ) -> Result<bool, Reason> {
-    check_head(lines)?;
     let mut all_well = true;
+    let mut has_case = false;
     for index in 0..lines.len() {
         let (line, below) = line_at(&*lines, index);
         if let Some(title) = line.strip_prefix("case ") {
-            let told = run_case(rt, alloc, lines, below, folder);
+            has_case = true;
+            let told = run_case(rt, alloc, lines.len(), below, folder);
             let reported = report(alloc, name, title, &told, sink);
             drop(told);
             all_well &= reported?;
+        } else if !has_case && !is_comment(line) {
+            return Err(Reason::NoCase);
         }
     }
     Ok(all_well)
@@ -111,21 +122,14 @@ fn report<K: Sink>(
     Ok(well)
 }
 
-/// Writes whether a case did what is wanted, and how many runs over variants there were, where there were any.
-/// Answers whether it did.
+/// Writes whether a case did what is wanted. Answers whether it did.
 fn write_outcome(line: &mut String, told: &Told) -> Result<bool, AllocError> {
-    let mut well = false;
     if let Some(reason) = told.stopped {
         write!(line, ", line {}: {reason}\n", told.line)?;
-    } else if !told.text.is_empty() {
-        line.push_str(" FAILED\n")?;
-    } else if told.runs == 0 {
-        line.push_str(" ok\n")?;
-        well = true;
-    } else {
-        write!(line, " ok, {} runs\n", told.runs)?;
-        well = true;
+        return Ok(false);
     }
+    let well = told.text.is_empty();
+    line.push_str(if well { " ok\n" } else { " FAILED\n" })?;
     Ok(well)
 }
 

@@ -1,7 +1,8 @@
 //! What is said of a command that does something that isn't wanted.
 use crate::came::Came;
+use crate::reason::Reason;
 use crate::runner::Attempt;
-use case_format::{Reason, add_numbered};
+use crate::slots::add_number;
 use line_io::Files;
 use std::alloc::{AllocError, Global};
 
@@ -14,8 +15,6 @@ pub struct Told {
     pub stopped: Option<Reason>,
     /// What came that isn't wanted; nothing where all is.
     pub text: Vec<u8>,
-    /// How many runs over variants there were.
-    pub runs: u32,
 }
 
 impl Told {
@@ -25,7 +24,6 @@ impl Told {
             line: 0,
             stopped: None,
             text: Vec::new(alloc),
-            runs: 0,
         }
     }
 
@@ -33,17 +31,16 @@ impl Told {
     pub fn add(&mut self, attempt: &Attempt, came: &Came) -> Result<(), Reason> {
         self.add_head(attempt, came.status)?;
         self.text.extend_from_slice(came.written())?;
-        Ok(add_changed(&mut self.text, attempt.files, came.files())?)
+        Ok(add_changed(&mut self.text, &attempt.found.files, came.files())?)
     }
 
     /// Adds the line of the command, the line below it that asks for the attempt, and the status that it ended with.
     fn add_head(&mut self, attempt: &Attempt, status: u8) -> Result<(), Reason> {
-        add_numbered(&mut self.text, b"line {}: ", as_u32(self.line))?;
+        add_number(&mut self.text, "line ", as_u32(self.line))?;
+        self.text.extend_from_slice(b": ")?;
         self.text.extend_from_slice(attempt.asked.as_bytes())?;
-        if let Some(number) = attempt.variant {
-            add_numbered(&mut self.text, b", variant {}", as_u32(number))?;
-        }
-        add_numbered(&mut self.text, b"\nstatus {}\n", u32::from(status))
+        add_number(&mut self.text, "\nstatus ", u32::from(status))?;
+        Ok(self.text.push(b'\n')?)
     }
 }
 

@@ -1,9 +1,9 @@
 ghost use Rattle.std.specs.Prelude.{◌≡◌, ℕ, ◌^◌, ◌<◌, [], length, List, None, Some, IfOk, IfErr, OnOk};
-ghost use Rattle.checkpoint.specs.Answers.{IsReadOf, Tells, FindsStates};
+ghost use Rattle.checkpoint.specs.Answers.{IsReadOf, IsRefused, Tells, FindsStates};
 ghost use Rattle.checkpoint.specs.Reading.{HasRead, head_count, end_from};
 ghost use Rattle.checkpoint.specs.Text.{lines, filled, delayed_arcs, IsReadFor, IsTextOf, AreGiven};
 ghost use Rattle.checkpoint.specs.declared.format.Format.TheVariants.{Differences};
-ghost use Rattle.event_graph.specs.Network.{stations};
+ghost use Rattle.event_graph.specs.Network.{stations, arc_count};
 ghost use Rattle.line_base.specs.Roomy.{dates_of};
 ghost use Rattle.line_core.specs.ArcTokens.{HasRoom};
 ghost use Rattle.line_core.specs.Run.{IsReached};
@@ -97,9 +97,20 @@ fn read_parts(
 {
     let format = read_head(reader, alloc, graph)?;
     let stations = read_stations(reader, alloc, graph, format)?;
-    let places = read_places(reader, alloc, graph, format, &stations.logs)?;
-    read_end(reader, graph, format)?;
-    Ok((stations, places))
+    match read_places(reader, alloc, graph, format, &stations.logs) {
+        Ok(places) => match read_end(reader, graph, format) {
+            Ok(()) => Ok((stations, places)),
+            Err(error) => {
+                drop(stations);
+                drop(places);
+                Err(error)
+            }
+        },
+        Err(error) => {
+            drop(stations);
+            Err(error)
+        }
+    }
 }
 
 /// Nothing, where no refusal was noted, else that refusal.
@@ -110,6 +121,44 @@ fn none_noted(noted: Option<StateError>) -> Result<(), StateError>
     match noted {
         None => Ok(()),
         Some(refusal) => Err(refusal),
+    }
+}
+
+/// The state that these lines say, or the first thing that is wrong with them.
+fn state_of(
+    alloc: Global,
+    live: &Live,
+    logs: StationLines,
+    places: &PlaceLines,
+) -> Result<State, StateError>
+    requires a_log_each { length logs.logs.logs ≡ stations live.now.graph }
+    requires a_count_each { length places.now.marking ≡ arc_count live.now.graph }
+    requires given { AreGiven (dates_of logs.logs) }
+    requires room { HasRoom live.now.graph logs.logs }
+    ensures made_for { IfOk result (λ state. state.graph ≡ live.now.graph) }
+    ensures reached { IfOk result IsReached }
+    ensures text { IfOk result (λ state. (bytes : List ℕ)
+        → IsReadOf live.now.graph bytes logs.logs logs.long places.now.marking places.now.wrong
+        → IsTextOf live.now.graph state.state bytes) }
+    ensures refused { IfErr result (λ refusal. (bytes : List ℕ)
+        → IsReadOf live.now.graph bytes logs.logs logs.long places.now.marking places.now.wrong
+        → IsRefused live.now.graph bytes refusal) }
+{
+    match none_noted(logs.long) {
+        Ok(()) => match State::of_logs(alloc, live, logs.logs, &places.marking) {
+            Ok(state) => match none_noted(places.wrong) {
+                Ok(()) => Ok(state),
+                Err(refusal) => {
+                    drop(state);
+                    Err(refusal)
+                }
+            },
+            Err(refusal) => Err(refusal),
+        },
+        Err(refusal) => {
+            drop(logs);
+            Err(refusal)
+        }
     }
 }
 
@@ -129,10 +178,9 @@ fn read_said(
 {
     let mut reader = Reader::new(bytes);
     let (stations, places) = read_parts(&mut reader, alloc, graph)?;
-    none_noted(stations.long)?;
-    let state = State::of_logs(alloc, live, stations.logs, &places.marking)?;
-    none_noted(places.wrong)?;
-    Ok(state)
+    let said = state_of(alloc, live, stations, &places);
+    drop(places);
+    Ok(said?)
 }
 
 /// The state whose text these bytes are: fewer than 2^32 bytes, in format 2, or in format 1 where no arc of the graph has

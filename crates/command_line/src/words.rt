@@ -234,12 +234,20 @@ fn ask(
         return Err(WordsError::Usage);
     }
     let plant = FileName::of(alloc, plant)?;
+    Ok(asking(question, plant))
+}
+
+/// The command of a question.
+fn asking(question: Question, plant: FileName) -> Command
+    ensures asking { result ≡ asking question plant }
+    ensures range { IsInRange result }
+{
     match question {
-        Question::Lint => Ok(Command::Lint { plant }),
-        Question::Check => Ok(Command::Check { plant }),
-        Question::Cycle => Ok(Command::Cycle { plant }),
-        Question::Summary => Ok(Command::Summary { plant }),
-        Question::Table => Ok(Command::Table { plant }),
+        Question::Lint => Command::Lint { plant },
+        Question::Check => Command::Check { plant },
+        Question::Cycle => Command::Cycle { plant },
+        Question::Summary => Command::Summary { plant },
+        Question::Table => Command::Table { plant },
     }
 }
 
@@ -268,12 +276,20 @@ fn ask_file(
         return Err(WordsError::Usage);
     }
     let (plant, file) = two_names(alloc, plant, file.as_str())?;
+    Ok(asking_of_file(question, plant, file))
+}
+
+/// The command of a question that names a further file.
+fn asking_of_file(question: FileQuestion, plant: FileName, file: FileName) -> Command
+    ensures asking { result ≡ asking_of_file question plant file }
+    ensures range { IsInRange result }
+{
     match question {
-        FileQuestion::Replay => Ok(Command::Replay {
+        FileQuestion::Replay => Command::Replay {
             plant,
             schedule: file,
-        }),
-        FileQuestion::WhatIf => Ok(Command::WhatIf { plant, edits: file }),
+        },
+        FileQuestion::WhatIf => Command::WhatIf { plant, edits: file },
     }
 }
 

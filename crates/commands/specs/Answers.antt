@@ -22,7 +22,7 @@ use Rattle.line_chart.specs.Picture.{Picture, bars_and_lanes, text_of}
 use Rattle.line_chart.specs.Window.{window_of}
 use Rattle.line_stats.specs.Counts.{last_date}
 use Rattle.line_summary.specs.SummaryText.{summary_text}
-use Rattle.line_table.specs.TableText.{table_text}
+use Rattle.line_chart.specs.TableText.{table_text}
 use Rattle.answers.specs.ChangesText.{changes_text}
 use Rattle.answers.specs.CycleText.{IsCycleText}
 use Rattle.cycle_time.specs.CycleTime.{IsCycleTime}

@@ -7,10 +7,9 @@ ghost use Rattle.live_plant.specs.LivePlant.{IsLivePlant};
 ghost use Rattle.plant_model.specs.Graph.{graph};
 
 use answers::Answer;
-use line_chart::{Chart, ChartError};
+use line_chart::{Chart, ChartError, DateTable};
 use line_core::{Table, run};
 use line_summary::Summary;
-use line_table::DateTable;
 use live_check::Live;
 use live_plant::LivePlant;
 use plant_model::Plant;

@@ -17,8 +17,8 @@ use Rattle.event_graph.specs.Table.{Table}
 use Rattle.event_graph.specs.Least.{IsLeast}
 use Rattle.line_graph.proofs.Sizes.{stations-graph}
 use Rattle.line_stats.specs.Laws.{NeverDecreases}
-use Rattle.line_table.specs.Starts.{start}
-use Rattle.line_table.proofs.StartLaws.{none_leaves_earlier, servers_are_free}
+use Rattle.line_chart.specs.Starts.{start}
+use Rattle.line_chart.proofs.StartLaws.{none_leaves_earlier, servers_are_free}
 use Rattle.line_chart.specs.declared.window.Window.{Window}
 use Rattle.line_chart.specs.declared.lanes.Lanes.{Lanes}
 use Rattle.line_chart.specs.declared.bar.Bar.{Bar}

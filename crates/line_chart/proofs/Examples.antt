@@ -7,7 +7,7 @@ use Rattle.event_graph.specs.Network.{ins, delay, time}
 use Rattle.event_graph.specs.Table.{date_in}
 use Rattle.event_graph.specs.Firing.{greatest}
 use Rattle.line_stats.specs.Counts.{count_until, in_process, in_move, in_stock, standing, backlog}
-use Rattle.line_table.specs.Starts.{worked_ins, start}
+use Rattle.line_chart.specs.Starts.{worked_ins, start}
 use Rattle.line_chart.specs.Window.{window_of}
 use Rattle.line_chart.specs.Axis.{step_from, multiples}
 use Rattle.line_chart.specs.Areas.{changes, most}

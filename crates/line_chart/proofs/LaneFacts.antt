@@ -22,7 +22,7 @@ use Rattle.event_graph.specs.Network.{arc, jobs}
 use Rattle.event_graph.specs.Circuit.{IsCircuit}
 use Rattle.event_graph.specs.Live.{IsLive}
 use Rattle.line_graph.proofs.Sizes.{stations-graph}
-use Rattle.line_table.proofs.MachineArcs.{servers_row}
+use Rattle.line_chart.proofs.MachineArcs.{servers_row}
 use Rattle.line_chart.specs.declared.lanes.Lanes.{Lanes}
 use Rattle.line_chart.specs.Bars.{lanes, lanes_before, stage_lanes, lanes_of_stages, machine_lanes, stage_machines, machines}
 use Rattle.line_chart.specs.Machines.{IsMachineOf}

@@ -1,3 +1,8 @@
+pub mod StartFacts
+pub mod MachineArcs
+pub mod StartLaws
+pub mod PathParts
+pub mod StageRuns
 pub mod StepLists
 pub mod StillCounts
 pub mod PairLists
@@ -11,3 +16,4 @@ pub mod AxisFacts
 pub mod AxisSteps
 pub mod Windows
 pub mod Examples
+pub mod TableExamples

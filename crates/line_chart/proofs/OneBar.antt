@@ -11,12 +11,11 @@ use Rattle.plant_model.specs.Graph.{graph}
 use Rattle.plant_model.proofs.LayoutStations.{release-next, release-le}
 use Rattle.event_graph.specs.Network.{jobs}
 use Rattle.event_graph.specs.Table.{Table}
-use Rattle.line_table.specs.Laws.{IsJobAt}
+use Rattle.line_chart.specs.Laws.{IsJobAt, IsBarOfJob, BarsAreOfJobs, EachJobHasOneBar}
 use Rattle.line_chart.specs.declared.window.Window.{Window}
 use Rattle.line_chart.specs.declared.lanes.Lanes.{Lanes}
 use Rattle.line_chart.specs.declared.bar.Bar.{Bar}
 use Rattle.line_chart.specs.Bars.{machine_lanes, stage_machines, machines, bar, meets, machine_bars, bars}
-use Rattle.line_chart.specs.Laws.{IsBarOfJob, BarsAreOfJobs, EachJobHasOneBar}
 use Rattle.line_chart.proofs.LaneFacts.{IsLanesOf, each_machine}
 use Rattle.line_chart.proofs.PairLists.{count-flat_map, count-filter-map, sum-none, sum-one, sum-map, sum-flat_map}
 use Rattle.line_graph.proofs.WithinLimits.{All-flat_map}

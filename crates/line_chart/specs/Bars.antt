@@ -8,7 +8,7 @@ use Rattle.plant_model.specs.Graph.{graph}
 use Rattle.event_graph.specs.Network.{jobs, time}
 use Rattle.event_graph.specs.Table.{Table}
 use Rattle.line_stats.specs.Counts.{job_numbers}
-use Rattle.line_table.specs.Starts.{start}
+use Rattle.line_chart.specs.Starts.{start}
 use Rattle.line_chart.specs.declared.window.Window.{Window}
 use Rattle.line_chart.specs.declared.lanes.Lanes.{Lanes}
 use Rattle.line_chart.specs.declared.bar.Bar.{Bar}

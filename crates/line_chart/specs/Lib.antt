@@ -1,3 +1,7 @@
+pub mod Starts
+pub mod Serves
+pub mod TableText
+pub mod DateTable
 pub mod Window
 pub mod Bars
 pub mod Machines

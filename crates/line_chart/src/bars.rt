@@ -13,13 +13,13 @@ ghost use Rattle.line_chart.specs.Picture.{IsOfRun};
 use crate::bar::Bar;
 use crate::lanes::Lanes;
 use crate::run::ChartRun;
+use crate::starts::start;
 use crate::text::write_interleaved;
 use crate::window::Window;
 use event_graph::Graph;
 use line_base::MAX_TIME;
 use line_core::Table;
 use line_io::{Outgoing, Sink};
-use line_table::start;
 
 /// A bar between its numbers.
 const BAR: [&[u8]; 8] = [

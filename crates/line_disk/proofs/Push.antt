@@ -1,5 +1,5 @@
 -- One more call of a disk in memory.
-use Rattle.std.proofs.Common.{◌≡◌, ◌+◌, ◌⊎◌, inl, inr, ◌||◌, ◌↔◌, ℕ, zero, suc, Bool, true, false, not, List, [], ◌∷◌, ◌++◌, length, take, refl, sym, ◌∙◌, ap, subst, arith, Result, Ok, Err, is_ok, OnOk, OnErr, IsErrOf, IsTrue}
+use Rattle.std.proofs.Common.{◌≡◌, ◌+◌, ◌⊎◌, inl, inr, ◌||◌, ◌↔◌, ℕ, zero, suc, Bool, true, false, not, List, [], ◌∷◌, ◌++◌, length, take, refl, sym, ◌∙◌, ap, subst, arith, Result, Ok, Err, is_ok, IfOk, OnOk, OnErr, IsErrOf, IsTrue}
 use Rattle.std.proofs.lemmas.Bool.{false≢true}
 use Rattle.std.proofs.lemmas.List.{take_all, take-append-le, length-append}
 use Rattle.line_disk.specs.DiskView.{Image, Held, DiskRead, Passes, Torn, IsAsBefore, IsPendingWithin, is_within, awaiting, bytes_at}
@@ -39,6 +39,10 @@ was_told false (Err NoMemory) is memory = absurd (memory refl)
 pub on_ok : {A B : Type 0} (r : Result (Unit {0}) DiskError) → OnOk r A → (A → B) → OnOk r B
 on_ok (Ok x) a f = f a
 on_ok (Err e) a f = a
+
+-- an error answers nothing
+pub error_alone : {T E : Type 0} {e : E} (r : Result T E) (P : T → Type 0) → r ≡ Err e → IfOk r P
+error_alone {T} {E} {e} r P is = subst (λ q. IfOk q P) (sym is) tt
 
 -- a call that was answered, or failed, found memory
 ok_found : (x : Unit {0}) → ¬ (IsErrOf {T = Unit {0}} {E = DiskError} (Ok x) NoMemory)

@@ -9,6 +9,7 @@ pub mod SolvesRows
 pub mod SharedRows
 pub mod ExtendedLaws
 pub mod LabelTexts
+pub mod Pieces
 pub mod Joined
 pub mod PolicyDelays
 pub mod Built

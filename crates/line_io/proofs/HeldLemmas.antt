@@ -1,11 +1,12 @@
 -- What a store in memory keeps, after one more name or one more file.
-use Rattle.std.proofs.Common.{◌≡◌, ◌≢◌, inl, inr, ℕ, ◌+◌, ◌≤◌, List, [], ◌∷◌, ◌++◌, take, drop, Bool, true, false, cond, Vec, String, string_bytes, refl, sym, subst, arith}
-use Rattle.std.specs.Prelude.{Option, Some, None, Result, Err}
+use Rattle.std.proofs.Common.{◌≡◌, ◌≢◌, ◌⊎◌, inl, inr, ℕ, ◌+◌, ◌≤◌, List, [], ◌∷◌, ◌++◌, take, drop, Bool, true, false, cond, Vec, String, string_bytes, refl, sym, ap, ◌∙◌, subst, arith}
+use Rattle.std.specs.Prelude.{Option, Some, None, Result, Ok, Err, IsTrue, IfOk, IsErr, option_map}
+use Rattle.std.specs.Bool.{OnTrue, OnFalse}
 use Rattle.std.specs.declared.alloc.Global.{Global}
 use Rattle.std.specs.Str.{bytes_eq}
 use Rattle.std.proofs.lemmas.List.Sums.{sum_by_push}
 use Rattle.std.proofs.lemmas.Slice.Eq.{bytes_eq-Decides}
-use Rattle.std.proofs.lemmas.Bool.{false_from_ne_true}
+use Rattle.std.proofs.lemmas.Bool.{false_from_ne_true, false≢true, true≢false}
 use Rattle.std.proofs.lemmas.List.{take-append-drop}
 use Rattle.line_io.specs.Contents.{IsTorn}
 use Rattle.line_io.specs.Faults.{NeverFall, RiseByOneAtMost, SameFaults}
@@ -70,3 +71,30 @@ pub torn_left : (keep : Option ℕ) (old new : Option (List ℕ)) (bytes : List 
 torn_left None old new bytes is = inl is
 torn_left (Some keep) old new bytes is =
     inr (take keep bytes, drop keep bytes, sym (take-append-drop keep bytes), is)
+
+-- a call that found what it looked for is not to fail
+pub not_due : {X : Type 0} (due : Bool) (found : Option X) (x : X) → OnTrue due (found ≡ None) → found ≡ Some x → due ≡ false
+not_due true found x none some = cc
+not_due false found x none some = refl
+
+-- and what it found is what the file holds
+pub found_held : {X : Type 0} (due : Bool) (found : Option X) (x : X) (items : X → List ℕ) (held : Option (List ℕ)) → OnFalse due (option_map items found ≡ held) → due ≡ false → found ≡ Some x → held ≡ Some (items x)
+found_held true found x items held told well some = absurd (true≢false well)
+found_held false found x items held told well some =
+    sym told ∙ ap (λ (f : Option _). option_map items f) some
+
+-- a call that found nothing was to fail, or there is no such file
+pub due_or_absent : {X Due : Type 0} (due : Bool) (found : Option X) (items : X → List ℕ) (held : Option (List ℕ)) → (IsTrue due → Due) → OnFalse due (option_map items found ≡ held) → found ≡ None → Due ⊎ (held ≡ None)
+due_or_absent true found items held is told none = inl (is refl)
+due_or_absent false found items held is told none =
+    inr (sym told ∙ ap (λ (f : Option _). option_map items f) none)
+
+-- bytes that were answered are those of the file
+pub bytes_held : (held : Option (List ℕ)) (bytes : List ℕ) (result : Result (Vec ℕ Global) StoreError) → held ≡ Some bytes → IfOk result (λ v. v.items ≡ bytes) → IfOk result (λ v. held ≡ Some v.items)
+bytes_held held bytes (Ok v) is same = is ∙ ap (λ (xs : List ℕ). Some xs) (sym same)
+bytes_held held bytes (Err error) is same = tt
+
+-- an error answers nothing
+pub no_answer : {T E : Type 0} (result : Result T E) (P : T → Type 0) → IsErr result → IfOk result P
+no_answer (Ok v) P err = absurd (false≢true err)
+no_answer (Err error) P err = tt

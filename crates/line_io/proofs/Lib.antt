@@ -1,3 +1,4 @@
+pub mod CountedLemmas
 pub mod HeldLemmas
 pub mod OutgoingLemmas
 pub mod RawFilesModel

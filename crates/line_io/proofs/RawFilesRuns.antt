@@ -64,6 +64,10 @@ given_by-push (Syncs answer ∷ calls) most bytes = given_by-push calls most byt
 given_by-push (Renames spare name answer ∷ calls) most bytes = given_by-push calls most bytes
 given_by-push (Removes spare answer ∷ calls) most bytes = given_by-push calls most bytes
 
+pub given_by-more : (calls : List FilesCall) (most : ℕ) (before after got : List ℕ) → after ≡ before ++ got → before ≡ given_by calls → after ≡ given_by (calls ++ Reads most (Some got) ∷ [])
+given_by-more calls most before after got more is =
+    more ∙ ap (λ xs. xs ++ got) is ∙ sym (given_by-push calls most got)
+
 pub given_by-refused : (calls : List FilesCall) (most : ℕ) → given_by (calls ++ Reads most None ∷ []) ≡ given_by calls
 given_by-refused [] most = refl
 given_by-refused (Opens name answer ∷ calls) most = given_by-refused calls most

@@ -14,3 +14,4 @@ pub mod RawOut
 pub mod Reading
 pub mod SinkView
 pub mod StoreView
+pub mod Writing

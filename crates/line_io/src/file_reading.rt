@@ -39,6 +39,16 @@ fn read_once<F: RawFiles>(
     counted(files.read(&mut buffer[..most]), faults)
 }
 
+/// How many bytes the next turn asks for: as many as the limit leaves and one more, or as a turn asks for at most.
+fn turn_size(limit: u64, taken: u64) -> usize
+    requires { taken ≤ limit }
+    ensures some { 0 < result }
+    ensures within { taken + result ≤ limit + 1 }
+    ensures fits { result ≤ MAX_TURN }
+{
+    (limit - taken).saturating_add(1).min(MAX_TURN as u64) as usize
+}
+
 /// Reads the file that is open to its end, to an error, or until limit + 1 bytes were taken, and counts the bytes taken.
 fn read_to_limit<F: RawFiles>(
     alloc: Global,
@@ -59,14 +69,13 @@ fn read_to_limit<F: RawFiles>(
     let mut bytes = Vec::new(alloc);
     let mut buffer = [0; MAX_TURN];
     loop {
-        let left = limit - bytes.len() as u64;
-        let most = left.saturating_add(1).min(MAX_TURN as u64) as usize;
+        let most = turn_size(limit, *taken);
         let count = read_once(files, &mut buffer, most, faults)?;
         if count == 0 {
             return Ok(bytes);
         }
         *taken += count as u64;
-        if count as u64 > left {
+        if *taken > limit {
             return Err(StoreError::TooLong);
         }
         bytes.extend_from_slice(&buffer[..count])?;

@@ -5,6 +5,7 @@ ghost use Rattle.line_io.specs.Faults.{Rose};
 ghost use Rattle.line_io.specs.Machine.{file_view};
 ghost use Rattle.line_io.specs.Noted.{asked_of};
 ghost use Rattle.line_io.specs.RawFiles.{Asks, AsksToRead, AsksToWrite, SameHeld, SameNamed, Named, empties, given_by, named_files, spare_of};
+ghost use Rattle.line_io.specs.Writing.{WritesCounted};
 
 use crate::calls::Calls;
 use crate::faults::counted;
@@ -81,6 +82,23 @@ fn spare_name(alloc: Global, name: &str) -> Result<String, AllocError>
     Ok(spare)
 }
 
+/// Writes a file, and counts a fault where the machine refused. Without memory for the name of the spare file nothing is asked.
+fn write_counted<F: RawFiles>(
+    alloc: Global,
+    files: &mut F,
+    name: &str,
+    bytes: &[u8],
+    faults: &mut u64,
+) -> Result<(), StoreError>
+    ensures { WritesCounted F.tells (F.shown files.old) (F.shown files.new) name.now bytes.now faults.old faults.new
+        result }
+{
+    match spare_name(alloc, name) {
+        Ok(spare) => counted(write_file(files, spare.as_str(), name, bytes), faults),
+        Err(_) => Err(StoreError::NoMemory),
+    }
+}
+
 impl<F: RawFiles + Drop> Store for FileStore<F> {
     ghost tells = { F.tells };
 
@@ -146,13 +164,7 @@ impl<F: RawFiles + Drop> Store for FileStore<F> {
         ensures faults_rise_by_one { self.new.faults ≤ self.old.faults + 1 }
         ensures memory_is_no_fault { IsErrOf result StoreError.NoMemory → self.new.faults ≡ self.old.faults }
     {
-        let answer = match spare_name(self.alloc, name) {
-            Ok(spare) => counted(
-                write_file(&mut self.files, spare.as_str(), name, bytes),
-                &mut self.faults,
-            ),
-            Err(_) => Err(StoreError::NoMemory),
-        };
+        let answer = write_counted(self.alloc, &mut self.files, name, bytes, &mut self.faults);
         self.files.close();
         self.calls.note_write(name, bytes, answer)
     }

@@ -2,7 +2,8 @@
 use Rattle.std.proofs.Common.{◌≡◌, ℕ, zero, suc, ◌+◌, ◌-◌, ◌*◌, ◌/◌, ◌%◌, ◌<◌, ◌≤◌, min, List, [], ◌∷◌, ◌++◌, length, get_or, decimal, subst, refl, sym, ap, ◌∙◌, append_assoc, append-nil, arith}
 use Rattle.std.specs.Prelude.{slice_index_or}
 use Rattle.std.specs.List.{flat_map, range_with_len}
-use Rattle.std.proofs.lemmas.Nat.{div-mul-add, mod-mul-add, div-add-mod'}
+use Rattle.std.proofs.lemmas.Nat.{div-mul-add, mod-mul-add, div-add-mod', div_below}
+use Rattle.std.proofs.Math.Nat.{mod-lt}
 use Rattle.line_base.specs.declared.event.Parts.{Parts}
 use Rattle.event_graph.specs.Network.{stations, jobs, label}
 use Rattle.event_graph.specs.Table.{Table, date_in}
@@ -44,6 +45,16 @@ pub date_read : (rows : List (List ℕ)) (t k : ℕ) (dates : List ℕ) → date
 date_read rows t k dates is =
     let next : suc k ≡ k + 1 = omega arith in
     ap (λ (l : List ℕ). get_or l k 0) is ∙ ap (date_in rows t) next
+
+-- the station of a line, and its job, by the jobs of a station as they were counted
+pub station_there : (g : Parts) (i count : ℕ) → count ≡ jobs g → 0 < jobs g → i < stations g * jobs g → i / count < stations g
+station_there g i count is some within =
+    div_below i count (stations g) (omega (arith, is, some)) (rw is within)
+
+pub job_there : (g : Parts) (i count : ℕ) → count ≡ jobs g → 0 < jobs g → i % count + 1 ≤ jobs g
+job_there g i count is some =
+    let low : i % count < count = mod-lt i (omega (arith, is, some)) in
+    omega (arith, is, low)
 
 module _ (g : Parts) (x : Table) where
   -- no lines

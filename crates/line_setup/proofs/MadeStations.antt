@@ -13,8 +13,8 @@ use Rattle.event_graph.specs.State.{State, log}
 use Rattle.station_step.specs.declared.ends.Inlet.{Inlet}
 use Rattle.station_step.specs.declared.ends.Outlet.{Outlet}
 use Rattle.station_step.specs.declared.ends.Inlet.TheVariants as inlet
-use Rattle.local_queues.specs.declared.source.Source.{Source}
-use Rattle.local_queues.specs.Shelf.{WorkShelf, log_on, new_queue}
+use Rattle.station_step.specs.declared.source.Source.{Source}
+use Rattle.station_step.specs.Shelf.{WorkShelf, log_on, new_queue}
 use Rattle.station_step.specs.Ends.{bare_outlet, HasRingRoom, IsUntaken, IsUnfilled}
 use Rattle.station_step.specs.Input.{empty_handed}
 use Rattle.station_step.specs.Station.{WorkStation, IsStation, ComeFrom, outlet_at, new_station}
@@ -321,6 +321,9 @@ no_logs g begun first logs none = record {
   room = λ i low. absurd (omega (arith, low, ap length none));
   few = λ i low. absurd (omega (arith, low, ap length none));
 }
+
+pub no_stations : (g : Parts) (begun : State) (first : ℕ) (ends : QueueEnds) (made : List WorkStation) → made ≡ [] → AreNewStations g begun first ends made
+no_stations g begun first ends made none = record { each = λ i low. absurd (omega (arith, low, ap length none)) }
 
 -- one station more goes on from its log
 pub one_more_with_log : (first t : ℕ) (logs : List RoomyLog) (made : List WorkStation) (s : WorkStation) (copy : RoomyLog) → first + length made ≡ t → copy ≡ log_on logs (t - first) → s.log ≡ copy → ((i : ℕ) → i < length made → (member made i).log ≡ log_on logs i) → (i : ℕ) → i < length (made ++ s ∷ []) → (member (made ++ s ∷ []) i).log ≡ log_on logs i

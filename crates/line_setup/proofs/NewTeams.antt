@@ -19,8 +19,8 @@ use Rattle.station_step.specs.declared.ends.Outlet.{Outlet}
 use Rattle.station_step.specs.declared.ends.Inlet.TheVariants as inlet
 use Rattle.station_step.specs.declared.ends.Outlet.TheVariants as outlet
 use Rattle.station_step.specs.declared.input.Input.{Input}
-use Rattle.local_queues.specs.declared.source.Source.{Source}
-use Rattle.local_queues.specs.Shelf.{queue_at, source_at, new_queue}
+use Rattle.station_step.specs.declared.source.Source.{Source}
+use Rattle.station_step.specs.Shelf.{queue_at, source_at, new_queue}
 use Rattle.station_step.specs.Ends.{inlet_queue, outlet_queue, AreEnds, HasRingRoom, IsUntaken, IsUnfilled}
 use Rattle.station_step.specs.Input.{input_at, empty_handed}
 use Rattle.station_step.specs.Station.{WorkStation, IsSeated, AreApart, outlet_at}

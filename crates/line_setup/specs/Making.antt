@@ -16,8 +16,8 @@ use Rattle.station_step.specs.declared.ends.Inlet.{Inlet}
 use Rattle.station_step.specs.declared.ends.Outlet.{Outlet}
 use Rattle.station_step.specs.declared.ends.Inlet.TheVariants as inlet
 use Rattle.station_step.specs.declared.ends.Outlet.TheVariants as outlet
-use Rattle.local_queues.specs.declared.source.Source.{Source}
-use Rattle.local_queues.specs.Shelf.{WorkShelf, log_on, new_queue}
+use Rattle.station_step.specs.declared.source.Source.{Source}
+use Rattle.station_step.specs.Shelf.{WorkShelf, log_on, new_queue}
 use Rattle.station_step.specs.Ends.{outlet_queue, IsUntaken, IsUnfilled, HasRingRoom}
 use Rattle.station_step.specs.Input.{empty_handed}
 use Rattle.station_step.specs.Station.{WorkStation, IsStation, ComeFrom, outlet_at}

@@ -1,11 +1,11 @@
 ghost use Rattle.std.specs.Prelude.{◌≡◌, ℕ, ◌+◌, ◌<◌, ◌≤◌, length, map, slice_index, IfOk, OnOk};
-ghost use Rattle.line_setup.specs.Making.{outlets_at, inlets_at, firsts_at, new_shelf, source_of, without, MayShelve, HaveSources, AreFitFrom, AreNewLogs, IsNewStation, AreNewStations, IsNewTeam, AreNewTeams, AreAllNew, SameStationsFrom, SameShelvesFrom};
-ghost use Rattle.line_setup.specs.Start.{MayBegin};
 ghost use Rattle.event_graph.specs.Network.{stations, jobs, arc, arc_count};
 ghost use Rattle.event_graph.specs.State.{log};
-ghost use Rattle.local_queues.specs.Shelf.{log_on, source_at};
+ghost use Rattle.line_setup.specs.Making.{outlets_at, inlets_at, firsts_at, new_shelf, source_of, without, MayShelve, HaveSources, AreFitFrom, AreNewLogs, IsNewStation, AreNewStations, IsNewTeam, AreNewTeams, AreAllNew, SameStationsFrom, SameShelvesFrom};
+ghost use Rattle.line_setup.specs.Start.{MayBegin};
 ghost use Rattle.line_worker.specs.Share.{first_of};
 ghost use Rattle.line_worker.specs.Team.{member};
+ghost use Rattle.station_step.specs.Shelf.{log_on, source_at};
 
 use crate::laying::Ends;
 use crate::start::Start;
@@ -13,8 +13,7 @@ use line_base::{Date, Log};
 use line_core::{State, log_with};
 use line_worker::{Team, arc_at, first_of};
 use live_check::Live;
-use local_queues::{Shelf, Source};
-use station_step::Station;
+use station_step::{Shelf, Source, Station};
 use std::alloc::{AllocError, Global};
 
 /// A copy of the log of station `t`, with room for a date of each job.
@@ -44,7 +43,8 @@ fn new_logs(
 {
     let mut logs = Vec::with_capacity(alloc, (next - first) as usize)?;
     for t in first..next {
-        logs.push(log_of(alloc, live, state, t)?)?;
+        let log = log_of(alloc, live, state, t)?;
+        logs.push_reserved(log);
     }
     Ok(logs)
 }
@@ -102,7 +102,7 @@ fn new_stations(
     for t in first..next {
         let copy = &logs[(t - first) as usize];
         let station = new_station(alloc, live, state, ends, t, copy)?;
-        made.push(station)?;
+        made.push_reserved(station);
     }
     Ok(made)
 }
@@ -195,26 +195,26 @@ fn new_teams(
     alloc: Global,
     live: &Live,
     state: &State,
-    ends: Ends,
+    ends: &mut Ends,
     worker_count: u32,
 ) -> Result<Vec<Team>, AllocError>
     requires made_for { live.now.graph ≡ state.now.graph }
     requires worker_count { worker_count ≤ 16 }
     requires some_station { 1 ≤ stations live.now.graph }
-    requires shelves { length ends.shelves ≡ worker_count }
-    requires arcs { length ends.arcs ≡ worker_count }
-    requires sources { (w : ℕ) → w < worker_count → HaveSources live.now.graph worker_count ends w }
-    requires each_shelf { (w : ℕ) → MayShelve live.now.graph (firsts_at ends w) }
-    requires fit { AreFitFrom live.now.graph state.now.state 0 ends }
+    requires shelves { length ends.old.shelves ≡ worker_count }
+    requires arcs { length ends.old.arcs ≡ worker_count }
+    requires sources { (w : ℕ) → w < worker_count →
+        HaveSources live.now.graph worker_count ends.old w }
+    requires each_shelf { (w : ℕ) → MayShelve live.now.graph (firsts_at ends.old w) }
+    requires fit { AreFitFrom live.now.graph state.now.state 0 ends.old }
     ensures count { IfOk result (λ teams. length teams.items ≡ worker_count) }
     ensures teams { IfOk result
-        (λ teams. AreNewTeams live.now.graph state.now.state worker_count ends teams.items) }
+        (λ teams. AreNewTeams live.now.graph state.now.state worker_count ends.old teams.items) }
 {
-    let mut ends = ends;
     let mut teams = Vec::with_capacity(alloc, worker_count as usize)?;
     for worker_number in 0..worker_count {
-        let team = new_team(alloc, live, state, &mut ends, worker_count, worker_number)?;
-        teams.push(team)?;
+        let team = new_team(alloc, live, state, ends, worker_count, worker_number)?;
+        teams.push_reserved(team);
     }
     Ok(teams)
 }
@@ -232,6 +232,14 @@ pub(crate) fn teams_of(alloc: Global, start: &Start) -> Result<Vec<Team>, AllocE
         (λ teams. AreAllNew start.now.room start.now.live.now.graph start.now.state.now.state
         teams.items) }
 {
-    let ends = Ends::of(alloc, start)?;
-    new_teams(alloc, start.live, start.state, ends, start.worker_count)
+    let mut ends = Ends::of(alloc, start)?;
+    let teams = new_teams(
+        alloc,
+        start.live,
+        start.state,
+        &mut ends,
+        start.worker_count,
+    );
+    drop(ends);
+    teams
 }

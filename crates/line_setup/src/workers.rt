@@ -28,7 +28,7 @@ pub fn workers_of(alloc: Global, start: &Start) -> Result<Vec<Worker>, AllocErro
             worker_number,
             teams.remove(0),
         )?;
-        workers.push(worker)?;
+        workers.push_reserved(worker);
     }
     Ok(workers)
 }

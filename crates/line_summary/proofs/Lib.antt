@@ -1,4 +1,5 @@
 mod Examples
+mod CurveExamples
 pub mod OverTime
 pub mod Ratios
 pub mod TableSums
@@ -10,3 +11,7 @@ pub mod Stays
 pub mod Backlogs
 pub mod Read
 pub mod MachineLists
+pub mod PutRows
+pub mod GivenPoints
+pub mod SamePoints
+pub mod PrefixRows

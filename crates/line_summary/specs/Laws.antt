@@ -1,5 +1,6 @@
--- Laws of the summary's numbers, each on a public function whose contract cites it.
+-- Laws of the summary's numbers and of curves, each on a public function whose contract cites it.
 use Rattle.std.specs.Prelude.{◌≡◌, ℕ, ◌+◌, ◌-◌, ◌*◌, ◌<◌, ◌≤◌, nat_le, nat_lt, ◌&&◌, List, length, All, count_by, sum_by, IfSome, codes}
+use Rattle.line_base.specs.Limits.{most_cards}
 use Rattle.plant_model.specs.declared.plant.Plant.{Plant}
 use Rattle.plant_model.specs.Line.{machine_at, stage_at, release, last_machine}
 use Rattle.plant_model.specs.Bound.{bound}
@@ -11,6 +12,8 @@ use Rattle.line_stats.specs.Counts.{job_numbers, last_date, waiting}
 use Rattle.line_summary.specs.Machines.{busy}
 use Rattle.line_summary.specs.OverTime.{sum_until, process_sum, backlog_sum, stage_sum}
 use Rattle.line_summary.specs.Thousandths.{nearest, thousandths}
+use Rattle.line_summary.specs.Points.{ArePoints}
+use Rattle.line_summary.specs.declared.point.Point.{Point}
 
 -- a stay: something comes in at a date, and leaves at a date
 pub record Stay : Type 0 where
@@ -70,3 +73,9 @@ IsNearestAbove part whole = 2 * whole * nearest part whole ≤ 2000 * part + who
 
 abbrev pub IsNearestBelow : ℕ → ℕ → Type 0
 IsNearestBelow part whole = 2000 * part + whole < 2 * whole * nearest part whole + 2 * whole
+
+-- as many counts of cards, from c on, give the same points
+abbrev pub HasOneCurve : Plant → Type 0
+HasOneCurve p =
+    (c : ℕ) (a b : List Point) → length a ≡ length b → c + length a ≤ most_cards + 1
+    → ArePoints p c a → ArePoints p c b → a ≡ b

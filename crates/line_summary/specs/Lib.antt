@@ -5,4 +5,7 @@ pub mod Figures
 pub mod Machines
 pub mod SummaryText
 pub mod Summarized
+pub mod Points
+pub mod CurveText
+pub mod Curve
 pub mod Laws

@@ -1,7 +1,8 @@
-ghost use Rattle.std.specs.Prelude.{◌≡◌, ℕ, ◌<◌};
+ghost use Rattle.std.specs.Prelude.{◌≡◌, ℕ, ◌<◌, true};
+ghost use Rattle.card_sizing.specs.Sized.{has_single_count};
 ghost use Rattle.event_graph.specs.Table.{Table};
 ghost use Rattle.line_stats.specs.Counts.{last_date};
-ghost use Rattle.line_summary.specs.Laws.{DatesAddUp, StaysAddUp, PartsAddUp, BacklogAddsUp, IsBusyWithinServers, HasBoundedMeans, HasNoMeans, HasNoShares, IsNearestAbove, IsNearestBelow};
+ghost use Rattle.line_summary.specs.Laws.{DatesAddUp, StaysAddUp, PartsAddUp, BacklogAddsUp, IsBusyWithinServers, HasBoundedMeans, HasNoMeans, HasNoShares, HasOneCurve, IsNearestAbove, IsNearestBelow};
 ghost use Rattle.plant_model.specs.Graph.{graph};
 ghost use Rattle.plant_model.specs.Sound.{IsSound};
 ghost use Rattle.plant_model.specs.declared.plant.Plant.{Plant};
@@ -36,4 +37,10 @@ pub fn empty_horizons_have_no_means()
 pub fn ratios_are_rounded()
     ensures above { (part whole : ℕ) → 0 < whole → IsNearestAbove part whole }
     ensures below { (part whole : ℕ) → 0 < whole → IsNearestBelow part whole }
+{}
+
+/// A law of the definitions: a plant has one curve, since all least solutions of a graph have the same figures. So the
+/// rows of a curve don't depend on the threads that found them.
+pub fn plants_have_one_curve()
+    ensures { (p : Plant) → IsSound p → has_single_count p ≡ true → HasOneCurve p }
 {}

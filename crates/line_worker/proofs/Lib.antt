@@ -5,6 +5,7 @@ pub mod Places
 pub mod Standing
 pub mod Spacing
 pub mod Stepping
+pub mod Meeting
 pub mod Working
 pub mod Sweeping
 pub mod Alone

@@ -4,7 +4,7 @@ use Rattle.std.proofs.lemmas.Bool.{cases_eq}
 use Rattle.std.proofs.lemmas.List.{length-map, length-set, get_or-map, get_or_read, get_or-set_same, get_or-set_other, set-get_or, ext_get_or}
 use Rattle.std.proofs.lemmas.List.Sums.{sum_by-cons}
 use Rattle.line_base.specs.Roomy.{RoomyLog}
-use Rattle.local_queues.specs.Shelf.{WorkShelf, log_on}
+use Rattle.station_step.specs.Shelf.{WorkShelf, log_on}
 use Rattle.station_step.specs.Station.{WorkStation, StandsAt, bare_station}
 use Rattle.station_step.proofs.Posts.{stands-same}
 use Rattle.line_worker.specs.Team.{WorkTeam, AreAt, member, no_station}

@@ -290,3 +290,9 @@ worker-met c stations team is only count stays =
 pub dates-stepped : (i n : ℕ) (old new : WorkTeam) → i < length old.stations → SteppedAt i old new → dates_of (member new.stations i) ≡ dates_of (member old.stations i) + n → dates_made new ≡ dates_made old + n
 dates-stepped i n old new there stepped fired =
     omega (arith, fired, ap (sum_by dates_of) stepped.only, sum_by-set dates_of old.stations i (member new.stations i) no_station there)
+
+-- the station at a place of the order is one of the worker's
+pub turn_of : (c : LineWorker) (place i : ℕ) → IsWorker c → place < length c.order → i ≡ get_or c.order place i → (i ≡ get_or c.order place 0) × (i < length c.team.stations)
+turn_of c place i is low at =
+    let here = get_or_read c.order place i low at 0 in
+    (here, omega (arith, is.in_order.exists place low, here))

@@ -1,5 +1,5 @@
 -- Going over the stations of a team in an order that lists each once.
-use Rattle.std.proofs.Common.{◌≡◌, ◌≢◌, ℕ, ◌+◌, ◌<◌, ◌≤◌, ◌⊎◌, eqb, inl, inr, List, [], ◌∷◌, ◌++◌, take, length, get_or, refl, ap, ◌∙◌, sym, subst, arith, ⊎_elim}
+use Rattle.std.proofs.Common.{◌≡◌, ◌≢◌, ℕ, ◌+◌, ◌<◌, ◌≤◌, ◌^◌, ◌⊎◌, eqb, inl, inr, List, [], ◌∷◌, ◌++◌, take, length, get_or, refl, ap, ◌∙◌, sym, subst, arith, ⊎_elim}
 use Rattle.std.specs.List.{AllPairs}
 use Rattle.std.proofs.lemmas.Bool.{cases_lt, cases_eq, eqb-true}
 use Rattle.std.proofs.lemmas.List.{get_or_default, get_or-set_other, length-set, take_all, take_more}
@@ -9,7 +9,7 @@ use Rattle.station_step.specs.Step.{IsReady}
 use Rattle.line_worker.specs.Team.{WorkTeam, member, no_station}
 use Rattle.line_worker.specs.Teams.{place_in}
 use Rattle.line_worker.specs.Worker.{IsOrder}
-use Rattle.line_worker.specs.Work.{dates_of, HasWorked, SteppedAt, SteppedInOrder, IsSweeping, HasSwept}
+use Rattle.line_worker.specs.Work.{dates_of, HasWorked, SteppedAt, SteppedInOrder, IsSweeping, HasSwept, TurnsBelow}
 use Rattle.line_worker.proofs.Places.{place_in-at}
 use Rattle.line_worker.proofs.Working.{idle_team, then_worked, then_shelf}
 
@@ -144,3 +144,12 @@ swept places first order old now is so_far = record {
   turned = λ i low. so_far.turned i low (is.listed i low);
   fired = λ i low ready. so_far.fired i low (is.listed i low) ready;
 }
+
+-- on the way no station has made more than one turn
+pub turns_below : (order : List ℕ) (old now : WorkTeam) (p : ℕ) → IsSweeping order old now p → TurnsBelow (2 ^ 39) old → TurnsBelow (2 ^ 40) now
+turns_below order old now p sweeping below i low =
+    let there : i < length old.stations = omega (arith, low, sweeping.worked.count) in
+    ⊎_elim
+    (λ early. omega (arith, sweeping.turned i there early, below i there))
+    (λ past. omega (arith, ap (λ (s : WorkStation). s.turns) (sweeping.waiting i there past), below i there))
+    (cases_lt (place_in order i) p)

@@ -9,7 +9,7 @@ use Rattle.station_step.specs.declared.ends.Inlet.{Inlet}
 use Rattle.station_step.specs.declared.ends.Outlet.{Outlet}
 use Rattle.station_step.specs.declared.ends.Inlet.TheVariants as inlet
 use Rattle.station_step.specs.declared.ends.Outlet.TheVariants as outlet
-use Rattle.local_queues.specs.Shelf.{queue_at}
+use Rattle.station_step.specs.Shelf.{queue_at}
 use Rattle.station_step.specs.Ends.{bare_inlet, bare_outlet, AreEnds}
 use Rattle.station_step.specs.Station.{WorkStation}
 use Rattle.station_step.proofs.OwnQueues.{input-same, outlet-same}

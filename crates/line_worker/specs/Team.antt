@@ -3,7 +3,7 @@ use Rattle.std.specs.Prelude.{◌≡◌, ◌≢◌, ℕ, ◌+◌, ◌<◌, List,
 use Rattle.line_base.specs.declared.event.Parts.{Parts}
 use Rattle.card_queue.specs.Plain.{PlainQueue}
 use Rattle.event_graph.specs.State.{State, log}
-use Rattle.local_queues.specs.Shelf.{WorkShelf}
+use Rattle.station_step.specs.Shelf.{WorkShelf}
 use Rattle.station_step.specs.Station.{WorkStation, IsStation, IsSeated, StandsAt, AreApart}
 use Rattle.station_step.specs.Kept.{IsKept}
 

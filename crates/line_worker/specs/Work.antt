@@ -2,7 +2,7 @@
 use Rattle.std.specs.Prelude.{◌≡◌, ◌≢◌, ℕ, suc, ◌+◌, ◌<◌, ◌≤◌, ◌⊎◌, min, List, [], ◌∷◌, take, length, slice_set, sum_by}
 use Rattle.card_queue.specs.Plain.{PlainQueue}
 use Rattle.event_graph.specs.Network.{arc_count}
-use Rattle.local_queues.specs.Shelf.{queue_at, unused}
+use Rattle.station_step.specs.Shelf.{queue_at, unused}
 use Rattle.station_step.specs.Kept.{IsKept}
 use Rattle.station_step.specs.Station.{WorkStation, bare_station}
 use Rattle.station_step.specs.Step.{IsReady, MovesItsOwn}

@@ -1,10 +1,10 @@
 ghost use Rattle.std.specs.List.{Any};
 ghost use Rattle.std.specs.Prelude.{◌≡◌, ◌*◌, ◌<◌, ◌≤◌, ◌^◌, ℕ, length, sum_by, IsTrue, ◌↔◌};
 ghost use Rattle.line_base.specs.declared.limits.TheConstants.{MAX_STATIONS, MAX_DEMANDS};
-ghost use Rattle.local_queues.specs.Shelf.{log_on};
 ghost use Rattle.line_worker.specs.Logs.{dates_in};
 ghost use Rattle.line_worker.specs.Team.{member};
 ghost use Rattle.line_worker.specs.Work.{turns_of};
+ghost use Rattle.station_step.specs.Shelf.{log_on};
 
 use line_base::Log;
 use station_step::Station;

@@ -1,6 +1,6 @@
 ghost use Rattle.std.specs.Prelude.{◌≡◌, ℕ, ◌+◌, ◌<◌, ◌≤◌, ◌++◌, map, length, OnOk};
-ghost use Rattle.local_queues.specs.Shelf.{log_on};
 ghost use Rattle.line_worker.specs.Logs.{copy_with, dates_in};
+ghost use Rattle.station_step.specs.Shelf.{log_on};
 
 use line_base::{Log, Logs};
 use line_core::log_with;

@@ -1,18 +1,17 @@
 ghost use Rattle.std.specs.Prelude.{◌≡◌, ℕ, ◌<◌, map, length};
 ghost use Rattle.event_graph.specs.State.{State};
 ghost use Rattle.line_base.specs.declared.event.Parts.{Parts};
-ghost use Rattle.station_step.specs.Ends.{AreEnds, AreMet};
-ghost use Rattle.station_step.specs.Input.{input_at};
-ghost use Rattle.station_step.specs.Station.{outlet_at};
 ghost use Rattle.line_worker.specs.Cleared.{cleared_team};
 ghost use Rattle.line_worker.specs.Logs.{log_of};
 ghost use Rattle.line_worker.specs.Meeting.{OutletMet, InletMet};
 ghost use Rattle.line_worker.specs.Team.{member, IsTeam, AreAt};
+ghost use Rattle.station_step.specs.Ends.{AreEnds, AreMet};
+ghost use Rattle.station_step.specs.Input.{input_at};
+ghost use Rattle.station_step.specs.Station.{outlet_at};
 
 use crate::clearing::clear_stations;
 use line_base::Log;
-use local_queues::Shelf;
-use station_step::{Station, meet_at};
+use station_step::{Shelf, Station, meet_at};
 use std::marker::Model;
 
 /// The stations of one worker, and the shelf with their logs and the queues between them.

@@ -103,8 +103,8 @@ impl Line {
             worker_count,
             room,
         };
-        let workers = workers_of(alloc, &start)?;
         let links = links_of(alloc, live, worker_count)?;
+        let workers = workers_of(alloc, &start)?;
         Ok(Line {
             workers,
             made,

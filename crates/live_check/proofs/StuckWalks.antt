@@ -94,6 +94,10 @@ step_read : (g : Parts) (ranks path left : List ℕ) (start at step : ℕ) → I
 step_read g ranks path left start at step h read =
     get_or_read left at step (omega (arith, h.steps.left_for_each, h.here)) read 0
 
+pub walk_room_read : (g : Parts) (ranks path left : List ℕ) (start at step : ℕ) → IsStuckWalk g ranks path left start at → step ≡ get_or left at step → step ≡ stations g → length path < stations g
+walk_room_read g ranks path left start at step h read fresh =
+    walk_room g ranks path left start at h (sym (step_read g ranks path left start at step h read) ∙ fresh)
+
 pub walk_more_read : (g : Parts) (ranks path left : List ℕ) (start at a n step : ℕ) → IsGraph g → IsStuckWalk g ranks path left start at → step ≡ get_or left at step → step ≡ stations g → LeadsOn g ranks at a → n ≡ length path → IsStuckWalk g ranks (path ++ a ∷ []) (set left at n) start (arc g a).to
 walk_more_read g ranks path left start at a n step graph h read fresh on is =
     rw is (walk_more g ranks path left start at a graph h (sym (step_read g ranks path left start at step h read) ∙ fresh) on)

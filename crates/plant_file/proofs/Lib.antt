@@ -1,3 +1,4 @@
+pub mod Built
 pub mod ColumnLists
 pub mod ColumnUses
 mod FinishAnswers

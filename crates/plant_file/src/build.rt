@@ -275,7 +275,7 @@ fn loops_of(
 }
 
 /// Adds an element at the end.
-fn push<T: Drop>(list: &mut Vec<T>, element: T) -> Result<(), AllocError>
+pub(crate) fn push<T: Drop>(list: &mut Vec<T>, element: T) -> Result<(), AllocError>
     ensures { OnOk result (list.new.items ≡ list.old.items ++ element ∷ []) }
 {
     list.push(element)?;

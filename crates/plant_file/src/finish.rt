@@ -10,6 +10,7 @@ ghost use Rattle.plant_file.specs.PlantOfFiles.{Contents, IsReadFrom, plant_of};
 ghost use Rattle.plant_model.specs.Refusals.{all_feeds_not_later, first, whole_refusals};
 ghost use Rattle.plant_model.specs.Sound.{IsSound};
 
+use crate::build::push;
 use crate::counts::{can_be_copied, check_counts, count_demands, table_within};
 use crate::{Draft, DraftDemands, DraftLoop, DraftMachine, DraftPlant, DraftStage, DraftTimes};
 use demand_feed::{Columns, FeedError, read_dates, read_times};
@@ -38,7 +39,15 @@ pub fn finish_draft(
 {
     let draft = draft.into_plant();
     let jobs = count_demands(&draft.demands, &dates);
-    check_counts(alloc, jobs, draft.stages.as_slice(), &times)?;
+    match check_counts(alloc, jobs, draft.stages.as_slice(), &times) {
+        Ok(()) => {}
+        Err(refusal) => {
+            drop(draft);
+            drop(dates);
+            drop(times);
+            return Err(refusal);
+        }
+    }
     let times = table_within(jobs, draft.stages.as_slice(), times);
     let plant = plant_with(alloc, draft, dates, times)?;
     match check_whole(alloc, &plant) {
@@ -70,8 +79,13 @@ pub fn complete_draft(
         → IsReadFrom name files draft (option_copied demands.entry) (option_copied times.entry)
         → AnswersPlant result (plant_of name files) }
 {
-    let tables = tables_in(alloc, &draft, demands, times)?;
-    finish_draft(alloc, draft, tables.0, tables.1)
+    match tables_in(alloc, &draft, demands, times) {
+        Ok(tables) => finish_draft(alloc, draft, tables.0, tables.1),
+        Err(error) => {
+            drop(draft);
+            Err(error)
+        }
+    }
 }
 
 /// The plant of a draft and of the bytes of its files, whatever is wrong with it as a whole: the refusals 11 to 15 aren't
@@ -94,13 +108,35 @@ pub fn assemble_plant(
     ensures refused { IfErr result (λ e. e ≢ PlantError.NoMemory
         → first (bad_records draft (option_copied demands.entry) (option_copied times.entry)) ≡ Some e) }
 {
-    let tables = tables_in(alloc, &draft, demands, times)?;
-    let draft = draft.into_plant();
-    if !can_be_copied(draft.stages.as_slice(), &tables.1) {
-        return Err(PlantError::NoMemory);
+    match tables_in(alloc, &draft, demands, times) {
+        Ok(tables) => copied_plant(alloc, draft.into_plant(), tables.0, tables.1),
+        Err(error) => {
+            drop(draft);
+            Err(error)
+        }
     }
-    let plant = plant_with(alloc, draft, tables.0, tables.1)?;
-    Ok(plant)
+}
+
+/// The plant of a draft, with the dates of its demand file and the table of its times file, unless its columns would be
+/// more than is copied.
+fn copied_plant(
+    alloc: Global,
+    draft: DraftPlant,
+    dates: Option<Vec<Date>>,
+    table: Option<Columns>,
+) -> Result<Plant, PlantError>
+    requires columns { All (HasColumns table) draft.stages }
+    ensures plant { IfOk result (λ made. made ≡ plant_with draft (option_map (λ read. read.items) dates) table) }
+    ensures limit { IfOk result (λ _. IfSome table IsWithinLimit) }
+    ensures memory { IfErr result (λ error. error ≡ PlantError.NoMemory) }
+{
+    if can_be_copied(draft.stages.as_slice(), &table) {
+        return plant_with(alloc, draft, dates, table);
+    }
+    drop(draft);
+    drop(dates);
+    drop(table);
+    Err(PlantError::NoMemory)
 }
 
 /// The dates and the table of the bytes of a draft's files, each where there is one; the demand file is tried first.
@@ -195,24 +231,64 @@ fn plant_with(
     ensures limit { IfOk result (λ _. IfSome table IsWithinLimit) }
     ensures memory { IfErr result (λ error. error ≡ PlantError.NoMemory) }
 {
-    let Ok(count) = u32::try_from(draft.stages.len()) else {
-        return Err(PlantError::NoMemory);
-    };
     keeps_limit(&table);
-    let source = TimesSource {
-        alloc,
-        table: &table,
-    };
-    let stages = source.stages(draft.stages)?;
-    let loops = loops_with(alloc, draft.loops.as_slice(), count)?;
-    Ok(Plant {
-        policy: draft.policy,
+    let DraftPlant {
+        policy,
+        card_time,
+        demands,
+        times_file,
+        observe,
         stages,
         loops,
-        card_time: draft.card_time,
-        demands: dates_with(alloc, draft.demands, dates),
-        observe: draft.observe,
-    })
+    } = draft;
+    drop(times_file);
+    let parts = parts_with(alloc, stages, loops.as_slice(), &table);
+    drop(loops);
+    drop(table);
+    let demands = dates_with(alloc, demands, dates);
+    match parts {
+        Ok((stages, loops)) => Ok(Plant {
+            policy,
+            stages,
+            loops,
+            card_time,
+            demands,
+            observe,
+        }),
+        Err(error) => {
+            drop(demands);
+            drop(observe);
+            Err(error)
+        }
+    }
+}
+
+/// The stages of a plant, with the table of its times file, and its loops.
+fn parts_with(
+    alloc: Global,
+    stages: Items<DraftStage>,
+    loops: &[DraftLoop],
+    table: &Option<Columns>,
+) -> Result<(Items<Stage>, Items<CardLoop>), PlantError>
+    requires { All (HasColumns table.now) stages }
+    ensures stages { IfOk result (λ parts. parts.0 ≡ map (stage_with table.now) stages) }
+    ensures loops { IfOk result (λ parts. parts.1 ≡ map (loop_with (length stages)) loops.now) }
+    ensures memory { IfErr result (λ error. error ≡ PlantError.NoMemory) }
+{
+    let source = TimesSource { alloc, table };
+    match loops_with(alloc, loops, stages.len()) {
+        Ok(loops) => match source.stages(stages) {
+            Ok(stages) => Ok((stages, loops)),
+            Err(AllocError) => {
+                drop(loops);
+                Err(PlantError::NoMemory)
+            }
+        },
+        Err(error) => {
+            drop(stages);
+            Err(error)
+        }
+    }
 }
 
 /// No time of a times file is above its limit, as its count of jobs tells.
@@ -237,13 +313,22 @@ fn dates_with(alloc: Global, demands: DraftDemands, dates: Option<Vec<Date>>) ->
     }
 }
 
-/// The loops of a plant of this many stages. An end that names no stage gets the number after the last.
-fn loops_with(alloc: Global, loops: &[DraftLoop], count: u32) -> Result<Items<CardLoop>, AllocError>
-    ensures { IfOk result (λ made. made ≡ map (loop_with count) loops.now) }
+/// The loops of a plant of this many stages. An end that names no stage gets the number after the last. No memory holds
+/// stages whose numbers pass 32 bits.
+fn loops_with(
+    alloc: Global,
+    loops: &[DraftLoop],
+    stages: usize,
+) -> Result<Items<CardLoop>, PlantError>
+    ensures made { IfOk result (λ made. made ≡ map (loop_with stages) loops.now) }
+    ensures memory { IfErr result (λ error. error ≡ PlantError.NoMemory) }
 {
+    let Ok(count) = u32::try_from(stages) else {
+        return Err(PlantError::NoMemory);
+    };
     let mut made = Vec::with_capacity(alloc, loops.len())?;
     for card_loop in loops {
-        made.push(loop_with(card_loop, count))?;
+        push(&mut made, loop_with(card_loop, count))?;
     }
     Ok(Items::from_vec(made))
 }
@@ -275,7 +360,7 @@ impl<'a> TimesSource<'a> {
     {
         let mut made = Vec::with_capacity(self.alloc, stages.len())?;
         for stage in stages.into_vec() {
-            made.push(self.stage(stage)?)?;
+            push(&mut made, self.stage(stage)?)?;
         }
         Ok(Items::from_vec(made))
     }
@@ -306,7 +391,7 @@ impl<'a> TimesSource<'a> {
         for machine in machines.into_vec() {
             let (times, machine) = machine.split();
             let times = self.times(times)?;
-            made.push(machine.with_times(times))?;
+            push(&mut made, machine.with_times(times))?;
         }
         Ok(Items::from_vec(made))
     }

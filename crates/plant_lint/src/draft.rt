@@ -86,33 +86,15 @@ fn lint_tables(
     ensures { IfOk result (LintsDraft draft (option_copied demands.entry) (option_copied times.entry)) }
 {
     match copy_of(alloc, draft.demands_file()) {
-        Ok(file) => lint_assembled(alloc, text_in(&file), draft, demands, times),
+        Ok(file) => match assemble_plant(alloc, draft, demands, times) {
+            Ok(plant) => lint_whole(alloc, text_in(&file), plant),
+            Err(error) => {
+                drop(error);
+                Err(AllocError)
+            }
+        },
         Err(AllocError) => {
             drop(draft);
-            Err(AllocError)
-        }
-    }
-}
-
-/// The same, where this is the name of the demand file, if the draft names one.
-fn lint_assembled(
-    alloc: Global,
-    file: Option<&str>,
-    draft: Draft,
-    demands: Option<&[u8]>,
-    times: Option<&[u8]>,
-) -> Result<DraftLint, AllocError>
-    requires named { option_map (λ name. name.now) file ≡ demands_file draft }
-    requires demands_where_used { is_some demands ≡ is_some (demands_file draft) }
-    requires times_where_used { is_some times ≡ is_some draft.times_file }
-    requires times_size { IfSome times (λ bytes. length bytes.now ≤ MAX_CHECKPOINT_BYTES) }
-    requires good { record_faults draft (option_copied demands) (option_copied times) ≡ [] }
-    ensures { IfOk result (LintsDraft draft (option_copied demands.entry) (option_copied times.entry)) }
-{
-    match assemble_plant(alloc, draft, demands, times) {
-        Ok(plant) => lint_whole(alloc, file, plant),
-        Err(error) => {
-            drop(error);
             Err(AllocError)
         }
     }

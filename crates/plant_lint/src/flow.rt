@@ -27,7 +27,9 @@ pub(crate) fn find_feeds(
         ++ all_of (λ i s. feeds_faults (map name_in (views stages.now)) i (view s)) stages.now) }
 {
     let mut earlier = Seen::new(alloc);
-    find_each_feed(alloc, all, &mut earlier, stages, faults)
+    let found = find_each_feed(alloc, all, &mut earlier, stages, faults);
+    drop(earlier);
+    found
 }
 
 /// The same, where the names of the stages before each are gathered here; there is none yet.

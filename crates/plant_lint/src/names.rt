@@ -53,7 +53,9 @@ fn find_in_stage<'a>(
         faults,
     )?;
     let mut names = Seen::new(alloc);
-    find_in_machines(alloc, i, tables_at(stage, "machine"), &mut names, faults)
+    let found = find_in_machines(alloc, i, tables_at(stage, "machine"), &mut names, faults);
+    drop(names);
+    found
 }
 
 /// Adds each name of a machine of stage `i` that an earlier one has, where none came before.

@@ -46,9 +46,14 @@ fn faults_or_plant_notes(
 fn faults_of(alloc: Global, refusals: Vec<PlantError>) -> Result<Vec<Fault>, AllocError>
     ensures { IfOk result (λ faults. faults.items ≡ plain refusals.items) }
 {
-    let mut faults = Vec::with_capacity(alloc, refusals.len())?;
-    add_plain(refusals, &mut faults)?;
-    Ok(faults)
+    let mut faults = Vec::new(alloc);
+    match add_plain(refusals, &mut faults) {
+        Ok(()) => Ok(faults),
+        Err(error) => {
+            drop(faults);
+            Err(error)
+        }
+    }
 }
 
 /// Adds refusals that say all.

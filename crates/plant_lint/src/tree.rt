@@ -34,7 +34,9 @@ fn find_in_classes(alloc: Global, top: &Value, faults: &mut Vec<Fault>) -> Resul
     find_in_tree(alloc, Class::WrongTypes, top, faults)?;
     find_in_tree(alloc, Class::BadNames, top, faults)?;
     let mut names = Seen::new(alloc);
-    find_from_names_on(alloc, top, &mut names, faults)
+    let found = find_from_names_on(alloc, top, &mut names, faults);
+    drop(names);
+    found
 }
 
 /// Adds the names that stand twice, and what comes after them. No name came before.

@@ -36,7 +36,7 @@ use Rattle.line_report.specs.ReportText.{report}
 use Rattle.line_report.specs.SummaryText.{summary}
 use Rattle.line_chart.specs.Picture.{bars_and_lanes, text_of}
 use Rattle.line_summary.specs.SummaryText.{summary_text}
-use Rattle.line_table.specs.TableText.{table_text}
+use Rattle.line_chart.specs.TableText.{table_text}
 use Rattle.live_plant.proofs.StepLemmas.{NeedsNoCause}
 use Rattle.plant_model.specs.declared.plant.Plant.{Plant}
 use Rattle.plant_model.specs.Graph.{graph}

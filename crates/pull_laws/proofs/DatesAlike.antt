@@ -33,7 +33,7 @@ use Rattle.line_graph.proofs.Inputs.{IsGraph-graph}
 use Rattle.line_graph.proofs.Sizes.{stations-graph}
 use Rattle.line_stats.specs.Counts.{job_numbers, last_date}
 use Rattle.line_stats.proofs.SameCounts.{All-numbers, last_date-same}
-use Rattle.line_table.specs.Starts.{worked_ins, start}
+use Rattle.line_chart.specs.Starts.{worked_ins, start}
 use Rattle.plant_model.specs.declared.plant.Plant.{Plant}
 use Rattle.plant_model.specs.Graph.{graph}
 use Rattle.plant_model.specs.Sound.{IsSound}

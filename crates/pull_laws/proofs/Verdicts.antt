@@ -32,7 +32,7 @@ use Rattle.line_io.proofs.OutgoingLemmas.{rose_after}
 use Rattle.line_report.specs.ReportText.{report}
 use Rattle.line_report.specs.SummaryText.{summary}
 use Rattle.line_summary.specs.SummaryText.{summary_text}
-use Rattle.line_table.specs.TableText.{table_text}
+use Rattle.line_chart.specs.TableText.{table_text}
 use Rattle.live_plant.specs.Actions.{Action, DiskOver, DoesOn, ThenDoes, HasCause}
 use Rattle.live_plant.specs.LintSteps.{LintsPlant}
 use Rattle.live_plant.specs.Outside.{sink_over}

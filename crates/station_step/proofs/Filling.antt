@@ -11,8 +11,8 @@ use Rattle.std.proofs.lemmas.List.Folds.{list_any_at}
 use Rattle.card_queue.specs.Plain.{PlainQueue, plain_taken}
 use Rattle.station_step.specs.declared.ends.Outlet.{Outlet}
 use Rattle.station_step.specs.declared.ends.Outlet.TheVariants as outlet
-use Rattle.local_queues.specs.declared.source.Source.{Source}
-use Rattle.local_queues.specs.Shelf.{WorkShelf, source_at, later_by, queue_at, unfilled, OnlyPuts}
+use Rattle.station_step.specs.declared.source.Source.{Source}
+use Rattle.station_step.specs.Shelf.{WorkShelf, source_at, later_by, queue_at, unfilled, OnlyPuts}
 use Rattle.station_step.specs.Ends.{outlet_added, outlet_queue, bare_outlet, is_ring, HasGot, HasShelfRoom}
 use Rattle.station_step.specs.Station.{outlet_at, NonePuts, PutWithin, ComeFrom}
 use Rattle.station_step.specs.Kept.{saturating}

@@ -15,7 +15,7 @@ use Rattle.station_step.specs.declared.ends.Outlet.{Outlet}
 use Rattle.station_step.specs.declared.ends.Inlet.TheVariants as inlet
 use Rattle.station_step.specs.declared.ends.Outlet.TheVariants as outlet
 use Rattle.station_step.specs.declared.input.Input.{Input}
-use Rattle.local_queues.specs.Shelf.{queue_at, unused, OnlyTakes, OnlyPuts}
+use Rattle.station_step.specs.Shelf.{queue_at, unused, OnlyTakes, OnlyPuts}
 use Rattle.station_step.specs.Ends.{inlet_taken, inlet_ahead, inlet_queue, outlet_added, outlet_room, outlet_queue, bare_inlet, unseen_inlet, bare_outlet, unseen_outlet, IsUntaken, IsUnfilled, HasRingRoom, HasShelfRoom}
 use Rattle.station_step.specs.Input.{empty_handed, input_at, IsHeld, IsRefilled, NoneTakes}
 use Rattle.station_step.specs.Station.{new_station, WorkStation, firings, outlet_at, NonePuts, AreApart, IsStation, IsSeated, MayPut, bare_input, bare_station}

@@ -1,3 +1,5 @@
+pub mod Queues
+pub mod Laying
 pub mod OwnQueues
 pub mod Turns
 pub mod Refilling

@@ -12,7 +12,7 @@ use Rattle.card_queue.specs.Plain.{PlainQueue}
 use Rattle.station_step.specs.declared.ends.Outlet.{Outlet}
 use Rattle.station_step.specs.declared.ends.Outlet.TheVariants as outlet
 use Rattle.station_step.specs.Ends.{outlet_added, bare_outlet, unseen_outlet, HasRingRoom, HasShelfRoom, is_bounded, is_ring, HasSpace, HasNoSpace, HasLooked}
-use Rattle.local_queues.specs.Shelf.{OnlyTakes}
+use Rattle.station_step.specs.Shelf.{OnlyTakes}
 use Rattle.station_step.specs.Station.{outlet_at, NonePuts}
 use Rattle.station_step.specs.declared.noted.NotedInput.{NotedInput}
 use Rattle.station_step.specs.declared.noted.NotedOutlet.{NotedOutlet}

@@ -8,7 +8,7 @@ use Rattle.station_step.specs.declared.ends.Outlet.{Outlet}
 use Rattle.station_step.specs.declared.ends.Inlet.TheVariants as inlet
 use Rattle.station_step.specs.declared.ends.Outlet.TheVariants as outlet
 use Rattle.station_step.specs.declared.input.Input.{Input}
-use Rattle.local_queues.specs.Shelf.{queue_at, OnlyTakes, OnlyPuts}
+use Rattle.station_step.specs.Shelf.{queue_at, OnlyTakes, OnlyPuts}
 use Rattle.station_step.specs.Ends.{inlet_taken, inlet_ahead, inlet_queue, bare_inlet, unseen_inlet, outlet_added, outlet_queue, bare_outlet}
 use Rattle.station_step.specs.Input.{input_at}
 use Rattle.station_step.specs.Station.{bare_input, outlet_at}

@@ -3,8 +3,8 @@ use Rattle.std.proofs.Common.{◌≡◌, ℕ, List, length, map, sym, ap, ◌∙
 use Rattle.std.specs.Prelude.{slice_index}
 use Rattle.event_graph.specs.Network.{delay, outs}
 use Rattle.station_step.specs.declared.ends.Outlet.{Outlet}
-use Rattle.local_queues.specs.declared.source.Source.{Source}
-use Rattle.local_queues.specs.Shelf.{WorkShelf, log_on, source_at}
+use Rattle.station_step.specs.declared.source.Source.{Source}
+use Rattle.station_step.specs.Shelf.{WorkShelf, log_on, source_at}
 use Rattle.station_step.specs.Ends.{bare_outlet}
 use Rattle.station_step.specs.Station.{WorkStation, outlet_at, ComeFrom, StandsAt}
 use Rattle.station_step.proofs.OwnQueues.{outlet_queue-same, outlet-same}

@@ -8,7 +8,7 @@ use Rattle.card_queue.specs.Plain.{PlainQueue}
 use Rattle.station_step.specs.declared.ends.Inlet.{Inlet}
 use Rattle.station_step.specs.declared.ends.Inlet.TheVariants.{Local}
 use Rattle.station_step.specs.declared.input.Input.{Input}
-use Rattle.local_queues.specs.Shelf.{queue_at, OnlyTakes}
+use Rattle.station_step.specs.Shelf.{queue_at, OnlyTakes}
 use Rattle.station_step.specs.Ends.{inlet_queue}
 use Rattle.station_step.specs.Input.{input_at, IsRefilled, TakeApart}
 use Rattle.station_step.specs.Station.{bare_input}

@@ -11,7 +11,7 @@ use Rattle.station_step.specs.declared.ends.Inlet.{Inlet}
 use Rattle.station_step.specs.declared.ends.Outlet.{Outlet}
 use Rattle.station_step.specs.declared.ends.Inlet.TheVariants as inlet
 use Rattle.station_step.specs.declared.ends.Outlet.TheVariants as outlet
-use Rattle.local_queues.specs.Shelf.{queue_at}
+use Rattle.station_step.specs.Shelf.{queue_at}
 
 -- the tokens that were taken at an inlet since its queue was made, oldest first
 abbrev pub inlet_taken : List PlainQueue → Inlet → List ℕ

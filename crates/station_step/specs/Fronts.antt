@@ -3,7 +3,7 @@
 use Rattle.std.specs.Prelude.{◌≡◌, ◌≢◌, ℕ, ◌<◌, Bool, false, List, [], None, Some, IsTrue, map, length, slice_index, slice_index_or}
 use Rattle.line_base.specs.declared.event.Parts.{Parts}
 use Rattle.card_queue.specs.Plain.{PlainQueue, plain_waiting}
-use Rattle.local_queues.specs.Shelf.{queue_at}
+use Rattle.station_step.specs.Shelf.{queue_at}
 use Rattle.station_step.specs.declared.fronts.Front.{Front}
 use Rattle.station_step.specs.declared.input.Input.{Input}
 use Rattle.station_step.specs.Ends.{inlet_queue}

@@ -1,3 +1,5 @@
+pub mod Shelf
+pub mod Counts
 pub mod Ends
 pub mod Input
 pub mod Station

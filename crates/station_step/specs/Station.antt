@@ -4,7 +4,7 @@ use Rattle.line_base.specs.declared.event.Parts.{Parts}
 use Rattle.line_base.specs.Roomy.{RoomyLog}
 use Rattle.card_queue.specs.Plain.{PlainQueue}
 use Rattle.event_graph.specs.Network.{stations, jobs, delay, ins, outs}
-use Rattle.local_queues.specs.Shelf.{WorkShelf, log_on, source_at}
+use Rattle.station_step.specs.Shelf.{WorkShelf, log_on, source_at}
 use Rattle.station_step.specs.declared.ends.Inlet.{Inlet}
 use Rattle.station_step.specs.declared.ends.Outlet.{Outlet}
 use Rattle.station_step.specs.declared.ends.Outlet.TheVariants.{Local}

@@ -6,7 +6,7 @@ use Rattle.card_queue.specs.Plain.{PlainQueue, plain_taken}
 use Rattle.event_graph.specs.Network.{jobs, ins, outs}
 use Rattle.station_step.specs.declared.stepped.Stepped.{Stepped}
 use Rattle.station_step.specs.declared.stepped.Stepped.TheVariants.{Fired, Blocked, Full, Done}
-use Rattle.local_queues.specs.Shelf.{queue_at, unused, OnlyTakes}
+use Rattle.station_step.specs.Shelf.{queue_at, unused, OnlyTakes}
 use Rattle.station_step.specs.Ends.{outlet_looks, HasSpace, HasNoSpace, HasLooked}
 use Rattle.station_step.specs.Input.{input_at, tokens_ahead, IsRefilled, NoneTakes}
 use Rattle.station_step.specs.Station.{WorkStation, IsStation, AreApart, outlet_at, NonePuts}

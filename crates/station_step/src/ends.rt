@@ -1,10 +1,10 @@
 ghost use Rattle.std.specs.Prelude.{◌≡◌, ◌≢◌, ℕ, ◌+◌, ◌<◌, ◌≤◌, ◌++◌, ◌∷◌, ◌↔◌, [], Some, length, IsTrue, IfSome, IfNone, option_to_list};
 ghost use Rattle.station_step.specs.Ends.{inlet_taken, inlet_ahead, bare_inlet, bare_outlet, unseen_inlet, unseen_outlet, inlet_queue, outlet_queue, HasRingRoom, HasGot, is_bounded, is_ring, HasSpace, HasLooked, AreEnds, AreMet, KnowsMore, HasMoreSpace};
-ghost use Rattle.local_queues.specs.Shelf.{queue_at, OnlyTakes};
+ghost use Rattle.station_step.specs.Shelf.{queue_at, OnlyTakes};
 
+use crate::shelf::Shelf;
 use card_queue::{Put, Take};
 use line_base::Date;
-use local_queues::Shelf;
 use room_ring::{RoomPut, RoomTake};
 
 /// Where the tokens of an input come from: the end of a ring, that of a ring of bounded room, or the queue with this

@@ -1,13 +1,13 @@
 ghost use Rattle.std.specs.List.{range_with_len};
 ghost use Rattle.std.specs.Prelude.{◌≡◌, ◌≢◌, ℕ, ◌<◌, false, length, IsTrue, IfOk, IfSome};
 ghost use Rattle.event_graph.specs.Firing.{greatest};
-ghost use Rattle.local_queues.specs.Shelf.{queue_at, counted, OnlyTakes};
 ghost use Rattle.station_step.specs.Fronts.{front_at, front_extras, front_asks, FrontsWithin, FrontsApart, NoneAt, AreAllThere, AreFronts};
 ghost use Rattle.station_step.specs.Noted.{inputs_of, extras_of};
+ghost use Rattle.station_step.specs.Shelf.{queue_at, counted, OnlyTakes};
 
 use crate::noted::NotedInput;
+use crate::shelf::Shelf;
 use line_base::Date;
-use local_queues::Shelf;
 use std::alloc::{AllocError, Global};
 
 /// The front of an input on the worker's shelf: the queue from which it takes, and what the time of the job adds to its

@@ -1,11 +1,11 @@
 ghost use Rattle.std.specs.Prelude.{◌≡◌, ◌≢◌, ℕ, ◌<◌, Some, length, IfSome};
 ghost use Rattle.station_step.specs.Ends.{inlet_queue};
 ghost use Rattle.station_step.specs.Input.{IsRefilled};
-ghost use Rattle.local_queues.specs.Shelf.{queue_at, OnlyTakes};
+ghost use Rattle.station_step.specs.Shelf.{queue_at, OnlyTakes};
 
 use crate::ends::Inlet;
+use crate::shelf::Shelf;
 use line_base::Date;
-use local_queues::Shelf;
 
 /// An input of a station: an inlet, and the hand that it fills.
 #[derive(Drop)]

@@ -5,16 +5,16 @@ ghost use Rattle.event_graph.specs.Network.{jobs, demand};
 ghost use Rattle.station_step.specs.Input.{input_at, IsRefilled, TakeWithin, TakeApart, NoneTakes};
 ghost use Rattle.station_step.specs.Noted.{inputs_of, extras_of, unnoted};
 ghost use Rattle.station_step.specs.Refilled.{IfFull, IfEmpty, hand_asks};
+ghost use Rattle.station_step.specs.Shelf.{queue_at, OnlyTakes};
 ghost use Rattle.station_step.specs.Station.{bare_input};
-ghost use Rattle.local_queues.specs.Shelf.{queue_at, OnlyTakes};
 
 use crate::ends::Inlet;
 use crate::input::Input;
 use crate::noted::NotedInput;
 use crate::refilled::Refilled;
+use crate::shelf::Shelf;
 use event_graph::Graph;
 use line_base::Date;
-use local_queues::Shelf;
 use std::alloc::{AllocError, Global};
 
 /// An input with an empty hand for each inlet. No job time is noted yet.

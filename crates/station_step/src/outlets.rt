@@ -4,13 +4,13 @@ ghost use Rattle.line_base.specs.Roomy.{with_date};
 ghost use Rattle.station_step.specs.Ends.{outlet_added, bare_outlet, HasRingRoom, HasShelfRoom, HasGot, is_bounded, is_ring, HasSpace, HasNoSpace, HasLooked};
 ghost use Rattle.station_step.specs.Kept.{saturating};
 ghost use Rattle.station_step.specs.Noted.{outlets_of, delays_of};
+ghost use Rattle.station_step.specs.Shelf.{log_on, queue_at, OnlyPuts};
 ghost use Rattle.station_step.specs.Station.{outlet_at, PutWithin, NonePuts, ComeFrom};
 ghost use Rattle.station_step.specs.Step.{Grows};
-ghost use Rattle.local_queues.specs.Shelf.{log_on, queue_at, OnlyPuts};
 
 use crate::noted::NotedOutlet;
+use crate::shelf::Shelf;
 use line_base::Date;
-use local_queues::Shelf;
 
 /// Looks for space at each output that knows of none. The answer is the first output that has none after that. No
 /// output is asked where none of them can lack space.

@@ -15,11 +15,11 @@ use crate::noted::{
 };
 use crate::outlets::{look_all, put_all};
 use crate::refilled::Refilled;
+use crate::shelf::Shelf;
 use crate::stepped::Stepped;
 use event_graph::Graph;
 use line_base::{Date, Log};
 use live_check::Live;
-use local_queues::Shelf;
 use std::alloc::{AllocError, Global};
 use std::marker::Model;
 use std::snapshot::Snapshot;

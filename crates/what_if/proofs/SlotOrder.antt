@@ -1,7 +1,8 @@
 -- The numbers of dates in the order of evaluation: each date has its own, and dates that read another one come after it.
 use Rattle.std.proofs.Common.{◌≡◌, ℕ, ◌+◌, ◌-◌, ◌*◌, ◌/◌, ◌%◌, ◌<◌, ◌≤◌, List, length, get_or, sym, ap, ◌∙◌, arith, inl, inr}
-use Rattle.std.proofs.Math.Nat.{mul-le-mul_right, mul_comm, div-add-mod'}
+use Rattle.std.proofs.Math.Nat.{mul-le-mul_right, mul_comm, div-add-mod', div-lt_iff_lt-mul}
 use Rattle.std.proofs.lemmas.Bool.{cases_lt, cases_eq}
+use Rattle.line_base.specs.declared.event.Parts.{Parts}
 use Rattle.event_graph.specs.Network.{stations, jobs, arc, arc_count, IsGraph}
 use Rattle.live_check.specs.Order.{LiveGraph, IsUpward}
 use Rattle.what_if.specs.Page.{IsDate, slot}
@@ -88,3 +89,8 @@ slot-of_number l t at rank =
     let width = stations l.graph in
     let job : at / width + 1 - 1 ≡ at / width = omega arith in
     ap (λ j. j * width + get_or l.ranks t 0) job ∙ ap (λ r. (at / width) * width + r) rank ∙ div-add-mod' at width
+
+-- the job that a slot's number gives
+pub job-of_number : (g : Parts) (at : ℕ) → 0 < stations g → at < date_count g → at / stations g < jobs g
+job-of_number g at some low =
+    (div-lt_iff_lt-mul {x = at} some).1 (omega (arith, low, mul_comm (stations g) (jobs g)))

@@ -1,6 +1,6 @@
 -- What the words of a line tell of the edit that it writes.
 use Rattle.std.proofs.Common.{◌≡◌, ◌≢◌, ℕ, zero, suc, ◌+◌, ◌-◌, ◌<◌, ◌≤◌, ◌^◌, Bool, true, false, cond, eqb, List, [], ◌∷◌, ◌++◌, take, drop, length, get_or, refl, sym, ap, ◌∙◌, subst, arith}
-use Rattle.std.specs.Prelude.{Option, None, Some, codes, decimal, not, ◌&&◌, unwrap_or}
+use Rattle.std.specs.Prelude.{Option, None, Some, IfSome, codes, decimal, not, ◌&&◌, unwrap_or}
 use Rattle.std.specs.List.{position_or_len, find, list_all, range_with_len}
 use Rattle.std.proofs.lemmas.Bool.{eqb-true, eqb-false}
 use Rattle.std.proofs.lemmas.List.{get_or_at, length-append, length-take, get_or-take, get_or_default}
@@ -130,6 +130,9 @@ and-second false b second = refl
 -- an answer of nothing isn't an answer
 pub none-some : {X : Type 0} (o : Option X) (x : X) → o ≡ None → o ≡ Some x → ⊥
 none-some o x none some = let both : None ≡ Some x = sym none ∙ some in cc
+
+pub none-holds : {X : Type 0} (P : X → Type 0) (o : Option X) → o ≡ None → IfSome o P
+none-holds P o none = subst (λ o. IfSome o P) (sym none) tt
 
 pub nothing-is : {X : Type 0} (x : X) → None ≡ Some x → ⊥
 nothing-is x same = none-some None x refl same

@@ -1,6 +1,7 @@
-use Rattle.std.proofs.Common.{◌+◌, ◌-◌, ◌/◌, arith}
+use Rattle.std.proofs.Common.{◌≡◌, ℕ, ◌+◌, ◌-◌, ◌/◌, ◌^◌, get_or, refl, sym, subst, arith}
+use Rattle.card_sizing.specs.Counted.{IsStageSearch}
 use Rattle.card_sizing.proofs.Searches.{try_counted}
-use Rattle.card_sizing.proofs.StageSearches.{search_on, search_down}
+use Rattle.card_sizing.proofs.StageSearches.{search_begins, search_on, search_down}
 use Rattle.card_sizing.proofs.lowering.lower.Goals as goal
 
 pub loop-low-preserved-in-None : goal.loop-low-preserved-in-None
@@ -28,3 +29,32 @@ loop-low-preserved c =
           try_counted (c.args.tries.now + 14) at.tries _ (at.high - at.low) (at.high - (middle + 1)) c.in_ok-try_counts.ensures.counted
           at.invariant.tries (omega arith) (omega arith);
     }
+
+pub loop-low-init : goal.loop-low-init
+loop-low-init c =
+    let p = c.args.plant.now in
+    let counts = c.args.counts.now in
+    let stage = c.args.stage in
+    let few : 2 ^ 14 ≡ 16384 = refl in
+    let fit = c.requires.serves.counts_fit in
+    record {
+      search = subst (λ (low : ℕ). IsStageSearch p c.args.may counts stage low (get_or counts stage 0)) (sym c.least_count-low.ensures) (search_begins p c.requires.sound c.requires.counts c.args.may counts stage c.requires.serves c.requires.stage);
+      tries = record { left = 14; all = omega arith; halved = omega (arith, few, fit.within stage c.requires.stage) };
+    }
+
+pub try_counts-requires-clause-fit : goal.try_counts-requires-clause-fit
+try_counts-requires-clause-fit c = c.requires.serves.counts_fit
+
+pub try_counts-requires-clause-enough : goal.try_counts-requires-clause-enough
+try_counts-requires-clause-enough c = omega (arith, c.loop-low.invariant.search.enough)
+
+pub try_counts-requires-clause-few : goal.try_counts-requires-clause-few
+try_counts-requires-clause-few c = omega (arith, c.loop-low.invariant.search.no_more, c.requires.serves.counts_fit.within c.args.stage c.requires.stage, c.loop-low-test.true)
+
+pub returns-clause-least : goal.returns-clause-least
+returns-clause-least c =
+    let search = c.loop-low.invariant.search in
+    record { serves = search.serves; none = λ d low. search.none d (omega (arith, low, c.loop-low-test.false)); no_more = search.no_more }
+
+pub returns-clause-counted : goal.returns-clause-counted
+returns-clause-counted c = omega (arith, c.loop-low.invariant.tries.all)

@@ -1,6 +1,7 @@
-use Rattle.std.proofs.Common.{◌≡◌, ℕ, ◌+◌, ◌-◌, ◌<◌, List, length, replicate, ap, ◌∙◌, subst, arith}
+use Rattle.std.proofs.Common.{◌≡◌, ℕ, ◌+◌, ◌-◌, ◌<◌, List, length, replicate, ap, ◌∙◌, sym, subst, arith}
+use Rattle.std.proofs.lemmas.Result.{err_from_is_err_and}
 use Rattle.plant_model.proofs.SoundPlants.{HasSoundSizes-sound}
-use Rattle.card_sizing.specs.Counted.{IsLeastCount, NoneServesLessFrom}
+use Rattle.card_sizing.specs.Counted.{IsLeastCount, NoneServesLessFrom, ServeEach}
 use Rattle.card_sizing.proofs.StageSearches.{serve_at_each, lowered_from}
 use Rattle.card_sizing.proofs.lowering.lowered.Goals as goal
 
@@ -35,3 +36,23 @@ loop-done-preserved c =
       least = λ j d from inside less served. from_i j d (omega (arith, from, now)) inside less served;
       tries = omega (arith, c.in_ok-least.ensures.counted, c.loop-done.invariant.tries);
     }
+
+pub lower-requires-clause-serves : goal.lower-requires-clause-serves
+lower-requires-clause-serves c = subst (λ (cs : List ℕ). ServeEach c.args.plant.now c.args.may cs) (sym c.as_slice.ensures.value) c.loop-done.invariant.serves
+
+pub lower-requires-clause-stage : goal.lower-requires-clause-stage
+lower-requires-clause-stage c = omega (arith, c.loop-done-test.true, c.len-stages.ensures)
+
+pub returns : goal.returns
+returns c =
+    let done = c.loop-done.invariant in
+    record {
+      serves = done.serves;
+      least = λ i d inside less served. done.least i d (omega (arith, c.loop-done-test.false, c.len-stages.ensures)) inside less served;
+      counted = omega (arith, done.tries, c.loop-done.auto.done-end, c.len-stages.ensures);
+    }
+
+pub returns-in_err-least : goal.returns-in_err-least
+returns-in_err-least c =
+    let p = err_from_is_err_and c.from_residual-in_err-least.result c.from_residual-in_err-least.ensures.1 in
+    rw p.1 (record { serves = tt; least = tt; counted = tt })

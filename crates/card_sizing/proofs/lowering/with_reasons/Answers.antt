@@ -1,8 +1,9 @@
-use Rattle.std.proofs.Common.{◌≡◌, ℕ, ◌+◌, ◌<◌, List, [], ◌∷◌, ◌++◌, length, get_or, sym, ap, ◌∙◌, subst, arith}
-use Rattle.std.proofs.lemmas.List.{length-map, length-take}
+use Rattle.std.proofs.Common.{◌≡◌, ℕ, ◌+◌, ◌<◌, List, [], ◌∷◌, ◌++◌, length, get_or, map, sym, ap, ◌∙◌, subst, arith}
+use Rattle.std.proofs.lemmas.List.{length-map, length-take, take_all}
+use Rattle.std.proofs.lemmas.Result.{err_from_is_err_and}
 use Rattle.plant_model.proofs.SoundPlants.{HasSoundSizes-sound}
 use Rattle.plant_model.specs.Stages.{Stage}
-use Rattle.card_sizing.specs.Each.{HaveReasons}
+use Rattle.card_sizing.specs.Each.{HaveReasons, IsBelowAt, below_at, counts_of, names_of}
 use Rattle.card_sizing.specs.declared.each.StageSizing.{StageSizing}
 use Rattle.card_sizing.proofs.StageSearches.{counts_more, names_more, reasons_more}
 use Rattle.card_sizing.proofs.lowering.with_reasons.Goals as goal
@@ -30,4 +31,47 @@ loop-i-preserved c =
       below = subst (λ (l : List StageSizing). HaveReasons p c.args.may counts l (i + 1)) (sym is) (reasons_more p c.args.may counts old s i long before.below c.in_ok-below.ensures.below);
       tries = omega (arith, c.in_ok-below.ensures.counted, before.tries);
       room = omega (arith, before.room, c.push_reserved.ensures.capacity);
+    }
+
+pub loop-i-init : goal.loop-i-init
+loop-i-init c = record {
+  counts = ap counts_of c.in_ok-sizings.ensures.items;
+  named = ap names_of c.in_ok-sizings.ensures.items;
+  below = λ i low. absurd (omega (arith, low));
+  tries = omega arith;
+  room = c.in_ok-sizings.ensures.capacity;
+}
+
+pub reason_of-requires-clause-stage : goal.reason_of-requires-clause-stage
+reason_of-requires-clause-stage c = omega (arith, c.loop-i-test.true, ap (λ (ss : List Stage). length ss) c.as_slice-stages.ensures)
+
+pub returns-in_err-sizings : goal.returns-in_err-sizings
+returns-in_err-sizings c =
+    let p = err_from_is_err_and c.from_residual.result c.from_residual.ensures.1 in
+    rw p.1 (record { counts = tt; named = tt; below = tt; counted = tt })
+
+pub returns-in_err-below : goal.returns-in_err-below
+returns-in_err-below c =
+    let p = err_from_is_err_and c.from_residual-in_err-below.result c.from_residual-in_err-below.ensures.1 in
+    rw p.1 (record { counts = tt; named = tt; below = tt; counted = tt })
+
+pub returns-in_err-copy : goal.returns-in_err-copy
+returns-in_err-copy c =
+    let p = err_from_is_err_and c.from_residual-in_err-copy.result c.from_residual-in_err-copy.ensures.1 in
+    rw p.1 (record { counts = tt; named = tt; below = tt; counted = tt })
+
+pub returns : goal.returns
+returns c =
+    let p = c.args.plant.now in
+    let counts = c.args.counts.now in
+    let i = c.loop-i.i in
+    let done = c.loop-i.invariant in
+    let given = c.as_slice-stages.ensures in
+    let long = ap (λ (ss : List Stage). length ss) given in
+    let names : List Stage → List (List ℕ) = λ ss. map (λ (s : Stage). s.name) ss in
+    record {
+      counts = ap counts_of c.from_vec.ensures ∙ done.counts ∙ take_all i counts (omega (arith, c.loop-i-test.false, long, c.requires.fit.number));
+      named = ap names_of c.from_vec.ensures ∙ done.named ∙ ap names (take_all i c.as_slice-stages.result.now c.loop-i-test.false ∙ given);
+      below = λ k low. subst (λ (l : List StageSizing). IsBelowAt p c.args.may counts k (below_at l k)) (sym c.from_vec.ensures) (done.below k (omega (arith, low, c.loop-i-test.false, long)));
+      counted = omega (arith, done.tries, c.loop-i.auto.i-end, long);
     }

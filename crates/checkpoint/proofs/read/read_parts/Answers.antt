@@ -16,15 +16,13 @@ returns-in_err-stations-clause-refused c =
     let p = err_from_is_err_and c.from_residual-in_err-stations.result c.from_residual-in_err-stations.ensures.1 in
     rw (p.1, p.2) (tells_of c.args.graph.now _ _ _ c.in_ok-format.ensures.text c.in_err-stations.ensures.refused)
 
-pub returns-in_err-places-clause-refused : goal.returns-in_err-places-clause-refused
-returns-in_err-places-clause-refused c =
-    let p = err_from_is_err_and c.from_residual-in_err-places.result c.from_residual-in_err-places.ensures.1 in
-    rw (p.1, p.2) (tells_of c.args.graph.now _ _ _ (c.in_ok-stations.ensures.text ∙ c.in_ok-format.ensures.text) c.in_err-places.ensures.refused)
+pub returns-in-Err-clause-refused : goal.returns-in-Err-clause-refused
+returns-in-Err-clause-refused c =
+    tells_of c.args.graph.now _ _ _ (c.in_ok-stations.ensures.text ∙ c.in_ok-format.ensures.text) c.in-Err.ensures.refused
 
-pub returns-in_err-read_end-clause-refused : goal.returns-in_err-read_end-clause-refused
-returns-in_err-read_end-clause-refused c =
-    let p = err_from_is_err_and c.from_residual-in_err-read_end.result c.from_residual-in_err-read_end.ensures.1 in
-    rw (p.1, p.2) (tells_of c.args.graph.now _ _ _ (c.in_ok-places.ensures.text ∙ c.in_ok-stations.ensures.text ∙ c.in_ok-format.ensures.text) c.in_err-read_end.ensures.refused)
+pub returns-in-Err-read_end-clause-refused : goal.returns-in-Err-read_end-clause-refused
+returns-in-Err-read_end-clause-refused c =
+    tells_of c.args.graph.now _ _ _ (c.in-Ok.ensures.text ∙ c.in_ok-stations.ensures.text ∙ c.in_ok-format.ensures.text) c.in-Err-read_end.ensures.refused
 
 pub read_places-requires-clause-given : goal.read_places-requires-clause-given
 read_places-requires-clause-given c =
@@ -39,18 +37,18 @@ read_places-requires-clause-read c =
 pub read_end-requires-clause-read : goal.read_end-requires-clause-read
 read_end-requires-clause-read c =
     let h = c.in_ok-stations.ensures.read in
-    let p = c.in_ok-places.ensures.read in
+    let p = c.in-Ok.ensures.read in
     (h.lists ++ p.places, p.read h.lists h.read)
 
-pub returns-clause-given : goal.returns-clause-given
-returns-clause-given c =
+pub returns-in-Ok-read_end-clause-given : goal.returns-in-Ok-read_end-clause-given
+returns-in-Ok-read_end-clause-given c =
     let h = c.in_ok-stations.ensures.read in
     logs_given c.args.graph.now c.in_ok-stations.stations.logs h.lists h.logs_are h.read.given
 
-pub returns-clause-read : goal.returns-clause-read
-returns-clause-read c =
+pub returns-in-Ok-read_end-clause-read : goal.returns-in-Ok-read_end-clause-read
+returns-in-Ok-read_end-clause-read c =
     let h = c.in_ok-stations.ensures.read in
-    let p = c.in_ok-places.ensures.read in
+    let p = c.in-Ok.ensures.read in
     let has = p.read h.lists h.read in
     record {
       parts = record { logs = h.lists; places = p.places };
@@ -58,7 +56,7 @@ returns-clause-read c =
         text = record {
           format = c.in_ok-format.format;
           read = c.in_ok-format.ensures.readable;
-          is = sym (c.in_ok-places.ensures.text ∙ c.in_ok-stations.ensures.text ∙ c.in_ok-format.ensures.text) ∙ c.in_ok-read_end.ensures.read (h.lists ++ p.places) has;
+          is = sym (c.in-Ok.ensures.text ∙ c.in_ok-stations.ensures.text ∙ c.in_ok-format.ensures.text) ∙ c.in-Ok-read_end.ensures.read (h.lists ++ p.places) has;
         };
         a_log_each = h.a_log_each;
         a_place_each = p.a_place_each;

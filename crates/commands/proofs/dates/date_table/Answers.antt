@@ -2,7 +2,7 @@ use Rattle.std.proofs.Common.{◌∙◌, refl}
 use Rattle.std.specs.Prelude.{Ok}
 use Rattle.answers.specs.declared.answer.Answer.TheVariants.{Dates}
 use Rattle.commands.proofs.LeastTables.{writes_least}
-use Rattle.line_table.specs.TableText.{table_text}
+use Rattle.line_chart.specs.TableText.{table_text}
 use Rattle.commands.proofs.dates.date_table.Goals as goal
 
 pub new-requires : goal.new-requires

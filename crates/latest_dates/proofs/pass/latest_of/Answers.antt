@@ -1,9 +1,11 @@
 use Rattle.std.proofs.Common.{◌≡◌, ◌+◌, ◌-◌, ◌*◌, ◌++◌, length, take, drop, sym, ap, ◌∙◌, subst, arith}
 use Rattle.std.proofs.Math.Nat.{mul_comm}
+use Rattle.line_base.specs.declared.event.Parts.{Parts}
 use Rattle.event_graph.specs.Network.{stations, jobs}
 use Rattle.event_graph.specs.Table.{date_in}
 use Rattle.what_if.specs.Sheet.{date_count}
 use Rattle.what_if.proofs.SlotOrder.{slot-below}
+use Rattle.latest_dates.specs.ArcBounds.{AreBoundsOf}
 use Rattle.latest_dates.specs.Found.{latest_in, HasDates}
 use Rattle.latest_dates.specs.Pass.{AreLatestFrom}
 use Rattle.latest_dates.proofs.NoneLater.{none_later}
@@ -67,3 +69,20 @@ returns-clause-not_before c =
     let first : (c.jobs-jobs.result - c.loop-behind.behind) * stations live.graph ≡ 0 * stations live.graph = ap (λ k. k * stations live.graph) none in
     λ t n date.
     none_later live ranked.upward ranked.sound c.args.wait (latest_in live c.loop-behind.dates.items) _ c.loop-behind.invariant.latest (date_in c.args.table.now.rows) solves serves t n date (omega (arith, first))
+
+pub find_job-requires-clause-bounds : goal.find_job-requires-clause-bounds
+find_job-requires-clause-bounds c =
+    subst (AreBoundsOf c.args.live.now.graph) (sym c.deref.ensures.value)
+    (subst (λ (h : Parts). AreBoundsOf h c.in_ok-bounds.bounds.items) c.graph-graph.ensures.graph c.in_ok-bounds.ensures)
+
+pub find_job-requires-clause-places : goal.find_job-requires-clause-places
+find_job-requires-clause-places c =
+    subst (HasDates c.args.live.now) (sym c.deref_mut.ensures.value) c.loop-behind.invariant.places
+
+pub find_job-requires-clause-later : goal.find_job-requires-clause-later
+find_job-requires-clause-later c =
+    let live = c.args.live.now in
+    subst (λ ds. AreLatestFrom live c.args.wait (latest_in live ds) ((c.jobs-jobs.result - c.loop-behind.behind) * stations live.graph)) (sym c.deref_mut.ensures.value) c.loop-behind.invariant.latest
+
+pub returns-clause-places : goal.returns-clause-places
+returns-clause-places c = c.loop-behind.invariant.places

@@ -56,3 +56,29 @@ returns-clause-tight g c =
     let y = latest_of (found_of c.args.run.now) in
     let all : c.loop-next.next ≡ jobs h = omega (arith, c.jobs-jobs.ensures.count, ap jobs c.graph-graph.ensures.graph, c.loop-next.invariant.within) in
     c.loop-next.invariant.tight ∙ ap (λ n. tight_jobs x y c.args.t 0 n) all ∙ tight_jobs-all h x y c.args.t
+
+pub write_jobs-added-requires-clause-run : goal.write_jobs-added-requires-clause-run
+write_jobs-added-requires-clause-run g c = c.requires.run
+
+pub write_jobs-added-requires-clause-station : goal.write_jobs-added-requires-clause-station
+write_jobs-added-requires-clause-station g c = c.requires.station
+
+pub write_jobs-added-requires-clause-jobs : goal.write_jobs-added-requires-clause-jobs
+write_jobs-added-requires-clause-jobs g c =
+    omega (arith, c.min-count.ensures, c.loop-next-test.true, c.jobs-jobs.ensures.count, ap jobs c.graph-graph.ensures.graph)
+
+pub write_jobs-added-requires-clause-few : goal.write_jobs-added-requires-clause-few
+write_jobs-added-requires-clause-few g c = omega (arith, c.min-count.ensures)
+
+pub write_jobs-added-requires-clause-room : goal.write_jobs-added-requires-clause-room
+write_jobs-added-requires-clause-room g c = c.loop-next.invariant.size ∙ c.requires.room
+
+pub write_jobs-added-requires-clause-start : goal.write_jobs-added-requires-clause-start
+write_jobs-added-requires-clause-start g c = c.loop-next.invariant.start
+
+pub loop-next-smaller : goal.loop-next-smaller
+loop-next-smaller g c = omega (arith, c.min-count.ensures, c.loop-next-test.true)
+
+pub returns-clause-few : goal.returns-clause-few
+returns-clause-few g c =
+    omega (arith, c.loop-next.invariant.few, c.loop-next.invariant.within, c.jobs-jobs.ensures.count, ap jobs c.graph-graph.ensures.graph)

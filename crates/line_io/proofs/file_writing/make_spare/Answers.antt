@@ -1,5 +1,5 @@
-use Rattle.std.proofs.Common.{◌≡◌, ◌≢◌, List, ◌++◌, ◌∷◌, [], ap, ◌∙◌, append_assoc}
-use Rattle.std.specs.Prelude.{ℕ, Result, Ok, Err, OnOk, OnErr, is_ok}
+use Rattle.std.proofs.Common.{◌≡◌, ◌≢◌, ◌++◌, ◌∷◌, [], ap, ◌∙◌, append_assoc}
+use Rattle.std.specs.Prelude.{Result, Ok, Err, OnOk, OnErr, is_ok}
 use Rattle.line_io.specs.RawFiles.{FilesView, RawName, Spare, Removes, CreatesSpare, IsEmptyOpen, StartsEmpty, by_kind}
 use Rattle.line_io.proofs.file_writing.make_spare.Goals as goal
 

@@ -34,3 +34,6 @@ loop-done-preserved c =
       lines = job_lines-added g (date_in rows) t c.args.before c.loop-done.done (take c.args.at c.args.room.now) (take c.loop-done.end c.loop-done.room) _ _ _ _ before.lines (ap (λ (s : LineStart). s.label) before.start) number date c.write_line-end.ensures.written;
       start = start ∙ ap (λ (n : ℕ). record { label = label g t; job = n }) job;
     }
+
+pub of-start-requires-clause-label : goal.of-start-requires-clause-label
+of-start-requires-clause-label c = c.label.ensures.rule

@@ -2,7 +2,7 @@ use Rattle.std.proofs.Common.{◌-◌, ◌%◌, ◌<◌, refl, sym, ◌∙◌, a
 use Rattle.std.proofs.Math.Nat.{mod-lt}
 use Rattle.event_graph.specs.Network.{jobs}
 use Rattle.event_graph.specs.Table.{date_in}
-use Rattle.line_report.proofs.Portions.{numbered-none, numbered-next}
+use Rattle.line_report.proofs.Portions.{numbered-none, numbered-next, station_there, job_there}
 use Rattle.line_report.proofs.portion.write_lines.Goals as goal
 use Rattle.line_report.proofs.portion.write_lines.Goals.{else-loop-next-test, then-loop-next-test+then-added-count}
 
@@ -32,6 +32,15 @@ loop-next-preserved c =
       size = omega (arith, added.auto.room, before.size);
       lines = lines ∙ numbered-next g x c.args.from next added.result.count _ before.begun (omega (arith, least, rw count at c.min-count.ensures, added.ensures.few)) before.lines;
     }
+
+pub write_jobs-added-requires-clause-station : goal.write_jobs-added-requires-clause-station
+write_jobs-added-requires-clause-station c =
+    station_there c.args.graph.now c.loop-next.next _ c.jobs-jobs.ensures.count c.jobs-jobs.ensures.limits.some_job (omega (arith, c.loop-next-test.true, c.requires.within))
+
+pub write_jobs-added-requires-clause-jobs : goal.write_jobs-added-requires-clause-jobs
+write_jobs-added-requires-clause-jobs c =
+    let job = job_there c.args.graph.now c.loop-next.next _ c.jobs-jobs.ensures.count c.jobs-jobs.ensures.limits.some_job in
+    omega (arith, job, c.jobs-jobs.ensures.count, c.min-count.ensures)
 
 pub returns-clause-lines : goal.returns-clause-lines
 returns-clause-lines c = elim c.loop-next-test.branch [

@@ -31,3 +31,17 @@ pub returns-clause-bursts : goal.returns-clause-bursts
 returns-clause-bursts g c =
     let done : IsDone c.loop-line.line = search rules in
     finishes (all_firings c.args.live.now.graph) c.args.line c.loop-line.line c.loop-line.invariant.led c.finished.ensures.line done c.table_of.result c.table_of.ensures.dates
+
+pub burst_on-requires-clause-made_for : goal.burst_on-requires-clause-made_for
+burst_on-requires-clause-made_for g c = λ κs within. c.loop-line.invariant.made_for
+
+pub burst_on-requires-clause-undone : goal.burst_on-requires-clause-undone
+burst_on-requires-clause-undone g c =
+    let undone : ¬ IsDone c.loop-line.line = search rules in
+    λ κs within. undone
+
+pub table_of-requires-clause-made_for : goal.table_of-requires-clause-made_for
+table_of-requires-clause-made_for g c = c.loop-line.invariant.made_for
+
+pub returns-clause-least : goal.returns-clause-least
+returns-clause-least g c = c.table_of.ensures.table

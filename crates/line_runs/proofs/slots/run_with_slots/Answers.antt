@@ -3,7 +3,7 @@ use Rattle.live_check.specs.Order.{LiveGraph}
 use Rattle.line_disk.specs.DiskView.{LeavesOnly, held_now}
 use Rattle.slot_store.specs.declared.header.TheConstants.{MAX_ROOM}
 use Rattle.line_runs.specs.Bursts.{IsDone}
-use Rattle.line_runs.specs.Saves.{IsOldOrState}
+use Rattle.line_runs.specs.Saves.{IsOldOrState, HasTooLongState}
 use Rattle.line_runs.proofs.Firings.{burst_leaves_less}
 use Rattle.line_runs.proofs.Stopping.{burst_live}
 use Rattle.line_runs.proofs.Saving.{counted_before, finishes_saving, saves_begin, saves_go_on, leaves_then, late_state}
@@ -59,3 +59,36 @@ returns-clause-late g c = λ told many.
     let done : IsDone c.loop-alloc.line = search rules in
     let same = ap (λ (v : LiveGraph). v.graph) c.requires.made_for in
     late_state c.args.live.now.graph c.args.every MAX_ROOM c.args.line on.saved c.loop-alloc.line (g.D.Disk.shown c.args.disk.now) (g.D.Disk.shown c.loop-alloc.disk) same c.fired-saved.ensures.line c.requires.some on.before done (on.holds told) many
+
+pub burst_on-requires-clause-made_for : goal.burst_on-requires-clause-made_for
+burst_on-requires-clause-made_for g c = λ κs within. c.loop-alloc.invariant.made_for
+
+pub burst_on-requires-clause-undone : goal.burst_on-requires-clause-undone
+burst_on-requires-clause-undone g c =
+    let undone : ¬ IsDone c.loop-alloc.line = search rules in
+    λ κs within. undone
+
+pub save_if_due-requires-clause-made_for : goal.save_if_due-requires-clause-made_for
+save_if_due-requires-clause-made_for g c =
+    c.loop-alloc.invariant.made_for ∙ sym (burst_live c.loop-alloc.line c.burst_on.new.line c.burst_on.ensures)
+
+pub returns-in-Err-clause-too_long : goal.returns-in-Err-clause-too_long
+returns-in-Err-clause-too_long g c = λ have is.
+    let same = burst_live c.loop-alloc.line c.burst_on.new.line c.burst_on.ensures ∙ sym c.loop-alloc.invariant.made_for in
+    subst (λ (v : LiveGraph). HasTooLongState v.graph MAX_ROOM have) same (c.in-Err.ensures.too_long have (cc))
+
+pub returns-in-Err-clause-disk_fault : goal.returns-in-Err-clause-disk_fault
+returns-in-Err-clause-disk_fault g c = λ is. omega (arith, c.loop-alloc.invariant.on.faults, c.in-Err.ensures.disk_fault (cc))
+
+pub returns-in-Err-clause-faults_stay_or_rise : goal.returns-in-Err-clause-faults_stay_or_rise
+returns-in-Err-clause-faults_stay_or_rise g c =
+    omega (arith, c.loop-alloc.invariant.on.faults, c.save_if_due.ensures.faults_stay_or_rise)
+
+pub returns-clause-table : goal.returns-clause-table
+returns-clause-table g c = c.table_of.ensures.table
+
+pub returns-clause-any_moment : goal.returns-clause-any_moment
+returns-clause-any_moment g c = λ told.
+    let old = g.D.Disk.shown c.args.disk.now in
+    let new = g.D.Disk.shown c.loop-alloc.disk in
+    subst (λ (v : LiveGraph). LeavesOnly old new (IsOldOrState (held_now old) MAX_ROOM v.graph)) (sym c.requires.made_for) (c.loop-alloc.invariant.on.leaves told)

@@ -1,5 +1,6 @@
-use Rattle.std.proofs.Common.{IsTrue, rules}
+use Rattle.std.proofs.Common.{IsTrue, refl, rules}
 use Rattle.slot_store.specs.declared.header.TheConstants.{MAX_ROOM}
+use Rattle.line_runs.specs.Saves.{IsDue}
 use Rattle.line_runs.proofs.Saving.{leaves_saved}
 use Rattle.line_runs.proofs.slots.save_if_due.Goals as goal
 
@@ -14,3 +15,24 @@ returns-in_err-save_line-clause-any_moment g c = λ told.
     let yes : IsTrue c.is_due.result = search rules in
     let due = c.is_due.ensures.due.0 yes in
     leaves_saved (g.D.Disk.shown c.args.disk.now) (g.D.Disk.shown c.save_line.new.disk) MAX_ROOM c.args.line.now c.is_due.ensures.line due.not_all (c.save_line.ensures.any_moment told)
+
+pub returns-clause-saved : goal.returns-clause-saved
+returns-clause-saved g c =
+    let yes : IsTrue c.is_due.result = search rules in
+    let due = c.is_due.ensures.due.0 yes in
+    record {
+      due_count = λ _. c.fired.ensures.fired;
+      due_saved = λ _ told. c.in_ok-save_line.ensures.saved told;
+      else_count = λ not_due. absurd (not_due due);
+      else_untouched = λ not_due. absurd (not_due due);
+    }
+
+pub returns-then-not-is_due-clause-saved : goal.returns-then-not-is_due-clause-saved
+returns-then-not-is_due-clause-saved g c =
+    let not_due : ¬ IsDue c.args.every c.args.saved c.args.line.now = search rules in
+    record {
+      due_count = λ due. absurd (not_due due);
+      due_saved = λ due told. absurd (not_due due);
+      else_count = λ _. refl;
+      else_untouched = λ _. refl;
+    }

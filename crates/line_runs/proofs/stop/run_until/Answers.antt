@@ -71,3 +71,17 @@ returns-clause-count g c = λ left.
     subst (λ (v : LiveGraph). fired c.args.line.state < all_firings v.graph) c.requires left in
     subst (λ (v : LiveGraph). IsShort v.graph c.args.firings (fired c.args.line.state)) (sym c.requires) (
     finish_counts c.args.firings c.args.line c.loop-line.invariant.led.count line c.loop-line.invariant.led.bursts c.finished.ensures.line done first)
+
+pub burst_on-requires-clause-made_for : goal.burst_on-requires-clause-made_for
+burst_on-requires-clause-made_for g c = λ κs within. c.loop-line.invariant.made_for
+
+pub burst_on-requires-clause-undone : goal.burst_on-requires-clause-undone
+burst_on-requires-clause-undone g c =
+    let undone : ¬ IsDone c.loop-line.line = search rules in
+    λ κs within. undone
+
+pub table_of-requires-clause-made_for : goal.table_of-requires-clause-made_for
+table_of-requires-clause-made_for g c = c.loop-line.invariant.made_for
+
+pub returns-clause-headline : goal.returns-clause-headline
+returns-clause-headline g c = c.table_of.ensures.table

@@ -2,7 +2,7 @@ use Rattle.std.proofs.Common.{◌<◌, ◌≤◌, [], length, get_or, ap, ◌∙
 use Rattle.std.proofs.lemmas.List.{get_or_default}
 use Rattle.line_base.specs.Roomy.{RoomyLog}
 use Rattle.event_graph.specs.Network.{jobs}
-use Rattle.local_queues.specs.declared.source.Source.{Source}
+use Rattle.station_step.specs.declared.source.Source.{Source}
 use Rattle.line_setup.proofs.MadeStations.{shelve_small, new_shelf-is}
 use Rattle.line_setup.proofs.making.new_shelf.Goals as goal
 

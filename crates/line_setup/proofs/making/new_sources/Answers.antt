@@ -4,7 +4,7 @@ use Rattle.std.proofs.lemmas.Result.{IfOk-from_err}
 use Rattle.line_base.specs.declared.event.Arc.{Arc}
 use Rattle.line_base.specs.declared.event.Parts.{Parts}
 use Rattle.event_graph.specs.Network.{arc, arc_count, delay}
-use Rattle.local_queues.specs.declared.source.Source.{Source}
+use Rattle.station_step.specs.declared.source.Source.{Source}
 use Rattle.line_setup.specs.Making.{source_of}
 use Rattle.line_setup.proofs.MadeStations.{one_more_source}
 use Rattle.line_setup.proofs.making.new_sources.Goals as goal

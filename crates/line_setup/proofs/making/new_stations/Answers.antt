@@ -1,13 +1,13 @@
-use Rattle.std.proofs.Common.{◌≡◌, ℕ, ◌+◌, ◌-◌, ◌<◌, ap, ◌∙◌, subst, sym, List, length, arith}
+use Rattle.std.proofs.Common.{◌≡◌, ℕ, ◌+◌, ◌-◌, ◌<◌, ap, ◌∙◌, subst, sym, refl, List, length, arith}
 use Rattle.std.proofs.lemmas.List.{length_push, get_or_default}
 use Rattle.std.proofs.lemmas.Result.{IfOk-from_err}
 use Rattle.line_base.specs.Roomy.{RoomyLog}
 use Rattle.event_graph.specs.State.{log}
-use Rattle.local_queues.specs.Shelf.{log_on}
+use Rattle.station_step.specs.Shelf.{log_on}
 use Rattle.line_worker.specs.Team.{member}
 use Rattle.station_step.specs.Station.{WorkStation}
 use Rattle.line_setup.specs.Making.{QueueEnds, AreNewStations}
-use Rattle.line_setup.proofs.MadeStations.{one_more_made, one_more_with_log, same-without}
+use Rattle.line_setup.proofs.MadeStations.{no_stations, one_more_made, one_more_with_log, same-without}
 use Rattle.line_setup.proofs.making.new_stations.Goals as goal
 use Rattle.line_setup.proofs.making.new_stations.Goals.{After-index-copy}
 
@@ -41,7 +41,7 @@ loop-t-preserved c =
     let g = c.args.live.now.graph in
     let begun = c.args.state.now.state in
     let before = c.loop-t.invariant in
-    let pushed = c.in_ok-push.ensures.items in
+    let pushed = c.push_reserved.ensures.items in
     let low = there (goal.at.loop-t-preserved c).After-index-copy in
     let at : c.index-copy.result.now ≡ log_on c.args.logs.now.items (c.loop-t.t - c.args.first) = c.index-copy.ensures ∙ get_or_default c.args.logs.now.items (c.loop-t.t - c.args.first) _ _ low in
     record {
@@ -54,7 +54,25 @@ loop-t-preserved c =
           one_more_with_log c.args.first c.loop-t.t c.args.logs.now.items c.loop-t.made.items c.in_ok-station.station c.index-copy.result.now before.count at c.in_ok-station.ensures.log before.logs);
       shelves = ap (λ (e : QueueEnds). e.shelves) c.in_ok-station.ensures.rest ∙ before.shelves;
       arcs = ap (λ (e : QueueEnds). e.arcs) c.in_ok-station.ensures.rest ∙ before.arcs;
+      room = omega (arith, before.room, c.push_reserved.ensures.capacity);
     }
+
+pub loop-t-init : goal.loop-t-init
+loop-t-init c =
+    let none = c.in_ok-made.ensures.items in
+    record {
+      count = omega (arith, ap length none);
+      made = no_stations c.args.live.now.graph c.args.state.now.state c.args.first c.args.ends.now c.in_ok-made.made.items none;
+      logs = λ i low. absurd (omega (arith, low, ap length none));
+      rest = record { outlet_lists = refl; inlet_lists = refl; outlets = λ u low. refl; inlets = λ u low. refl };
+      shelves = refl;
+      arcs = refl;
+      room = omega (arith, c.in_ok-made.ensures.capacity, c.len.ensures, c.args.logs.now.ok.0, c.requires.count);
+    }
+
+pub push_reserved-requires : goal.push_reserved-requires
+push_reserved-requires c =
+    omega (arith, c.loop-t.made.ok.0, c.loop-t.invariant.count, c.loop-t.invariant.room, c.loop-t-test.true)
 
 pub returns-in_err-made-clause-count : goal.returns-in_err-made-clause-count
 returns-in_err-made-clause-count c =
@@ -79,15 +97,3 @@ returns-in_err-station-clause-made c =
 pub returns-in_err-station-clause-logs : goal.returns-in_err-station-clause-logs
 returns-in_err-station-clause-logs c =
     IfOk-from_err c.from_residual-in_err-station.result (λ made. (i : ℕ) → i < length made.items → (member made.items i).log ≡ log_on c.args.logs.now.items i) c.from_residual-in_err-station.ensures.0
-
-pub returns-in_err-push-clause-count : goal.returns-in_err-push-clause-count
-returns-in_err-push-clause-count c =
-    IfOk-from_err c.from_residual-in_err-push.result (λ made. c.args.first + length made.items ≡ c.args.next) c.from_residual-in_err-push.ensures.0
-
-pub returns-in_err-push-clause-made : goal.returns-in_err-push-clause-made
-returns-in_err-push-clause-made c =
-    IfOk-from_err c.from_residual-in_err-push.result (λ made. AreNewStations c.args.live.now.graph c.args.state.now.state c.args.first c.args.ends.now made.items) c.from_residual-in_err-push.ensures.0
-
-pub returns-in_err-push-clause-logs : goal.returns-in_err-push-clause-logs
-returns-in_err-push-clause-logs c =
-    IfOk-from_err c.from_residual-in_err-push.result (λ made. (i : ℕ) → i < length made.items → (member made.items i).log ≡ log_on c.args.logs.now.items i) c.from_residual-in_err-push.ensures.0

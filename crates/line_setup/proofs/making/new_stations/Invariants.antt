@@ -1,5 +1,5 @@
-use Rattle.std.proofs.Common.{◌≡◌, ◌+◌, ◌<◌, ℕ, length}
-use Rattle.local_queues.specs.Shelf.{log_on}
+use Rattle.std.proofs.Common.{◌≡◌, ◌+◌, ◌<◌, ◌≤◌, ℕ, length, vec_capacity}
+use Rattle.station_step.specs.Shelf.{log_on}
 use Rattle.line_worker.specs.Team.{member}
 use Rattle.line_setup.specs.Making.{AreNewStations, SameStationsFrom}
 use Rattle.line_setup.proofs.making.new_stations.Given as goal
@@ -12,4 +12,5 @@ invariant-loop-t l = record {
   rest : SameStationsFrom l.t l.initial.ends l.ends;
   shelves : l.ends.shelves ≡ l.initial.ends.shelves;
   arcs : l.ends.arcs ≡ l.initial.ends.arcs;
+  room : l.next ≤ l.first + vec_capacity l.made;
 }

@@ -1,8 +1,8 @@
 use Rattle.std.proofs.Common.{◌≡◌, ℕ, ◌+◌, ◌<◌, ◌≤◌, List, [], Vec, Global, map, length, slice_index, set, sym, ap, ◌∙◌, subst, arith}
 use Rattle.std.proofs.lemmas.List.{length-map, get_or-map}
 use Rattle.event_graph.specs.Network.{stations, jobs, arc, arc_count}
-use Rattle.local_queues.specs.declared.source.Source.{Source}
-use Rattle.local_queues.specs.Shelf.{source_at, new_queue}
+use Rattle.station_step.specs.declared.source.Source.{Source}
+use Rattle.station_step.specs.Shelf.{source_at, new_queue}
 use Rattle.line_worker.proofs.Share.{first-le, next-above}
 use Rattle.line_worker.specs.Team.{WorkTeam}
 use Rattle.line_worker.specs.Share.{first_of}

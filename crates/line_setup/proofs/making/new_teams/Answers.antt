@@ -1,5 +1,6 @@
-use Rattle.std.proofs.Common.{ℕ, ◌+◌, ap, subst, sym, List, length, arith}
+use Rattle.std.proofs.Common.{ℕ, ◌≡◌, ◌+◌, ap, subst, sym, refl, List, length, arith}
 use Rattle.std.proofs.lemmas.List.{length_push}
+use Rattle.std.proofs.lemmas.Result.{IfOk-from_err}
 use Rattle.event_graph.specs.Network.{stations}
 use Rattle.line_worker.specs.Share.{first_of}
 use Rattle.line_worker.specs.Team.{WorkTeam}
@@ -10,7 +11,7 @@ use Rattle.line_setup.proofs.making.new_teams.Goals as goal
 pub new_team-requires-clause-fit : goal.new_team-requires-clause-fit
 new_team-requires-clause-fit c =
     let g = c.args.live.now.graph in
-    fit-same g c.args.state.now.state 0 (first_of c.args.worker_count (stations g) c.loop-worker_number.worker_number) c.args.ends c.loop-worker_number.ends (omega arith) c.loop-worker_number.invariant.rest c.requires.fit
+    fit-same g c.args.state.now.state 0 (first_of c.args.worker_count (stations g) c.loop-worker_number.worker_number) c.args.ends.now c.loop-worker_number.ends (omega arith) c.loop-worker_number.invariant.rest c.requires.fit
 
 pub new_team-requires-clause-shelf : goal.new_team-requires-clause-shelf
 new_team-requires-clause-shelf c =
@@ -25,17 +26,53 @@ loop-worker_number-preserved c =
     let worker_count = c.args.worker_count in
     let w = c.loop-worker_number.worker_number in
     let before = c.loop-worker_number.invariant in
-    let pushed = c.in_ok-push.ensures.items in
+    let pushed = c.push_reserved.ensures.items in
     let made = c.in_ok-team.ensures in
     record {
       count = omega (arith, before.count, ap length pushed, length_push c.loop-worker_number.teams.items c.in_ok-team.team);
       teams =
-          subst (λ (l : List WorkTeam). AreNewTeams g begun worker_count c.args.ends l) (sym pushed) (
-          one_more_team g begun worker_count w c.args.ends c.loop-worker_number.teams.items c.in_ok-team.team before.count before.teams (
-          team-same g begun worker_count w c.args.ends c.loop-worker_number.ends c.in_ok-team.team before.rest before.shelves made.team));
-      rest = same-then (first_of worker_count (stations g) w) (first_of worker_count (stations g) (w + 1)) c.args.ends c.loop-worker_number.ends c.new_team.new.ends (next-rises worker_count (stations g) w c.requires.some_station c.loop-worker_number-test.true) before.rest made.stations;
-      shelves = shelves-then w c.args.ends c.loop-worker_number.ends c.new_team.new.ends before.shelves made.shelves;
+          subst (λ (l : List WorkTeam). AreNewTeams g begun worker_count c.args.ends.now l) (sym pushed) (
+          one_more_team g begun worker_count w c.args.ends.now c.loop-worker_number.teams.items c.in_ok-team.team before.count before.teams (
+          team-same g begun worker_count w c.args.ends.now c.loop-worker_number.ends c.in_ok-team.team before.rest before.shelves made.team));
+      rest = same-then (first_of worker_count (stations g) w) (first_of worker_count (stations g) (w + 1)) c.args.ends.now c.loop-worker_number.ends c.new_team.new.ends (next-rises worker_count (stations g) w c.requires.some_station c.loop-worker_number-test.true) before.rest made.stations;
+      shelves = shelves-then w c.args.ends.now c.loop-worker_number.ends c.new_team.new.ends before.shelves made.shelves;
+      room = omega (arith, before.room, c.push_reserved.ensures.capacity);
     }
+
+pub loop-worker_number-init : goal.loop-worker_number-init
+loop-worker_number-init c =
+    let none = c.in_ok-teams.ensures.items in
+    record {
+      count = ap length none;
+      teams = λ w low. absurd (omega (arith, low, ap length none));
+      rest = record { outlet_lists = refl; inlet_lists = refl; outlets = λ u low. refl; inlets = λ u low. refl };
+      shelves = record { count = refl; shelves = λ v low. refl; arc_count = refl; arcs = λ v low. refl };
+      room = omega (arith, c.in_ok-teams.ensures.capacity);
+    }
+
+pub push_reserved-requires : goal.push_reserved-requires
+push_reserved-requires c =
+    let before = c.loop-worker_number.invariant in
+    omega (arith, c.loop-worker_number.teams.ok.0, before.count, before.room, c.loop-worker_number-test.true)
+
+pub new_team-requires-clause-shelves : goal.new_team-requires-clause-shelves
+new_team-requires-clause-shelves c = omega (arith, c.loop-worker_number.invariant.shelves.count, c.requires.shelves)
+
+pub returns-in_err-teams-clause-count : goal.returns-in_err-teams-clause-count
+returns-in_err-teams-clause-count c =
+    IfOk-from_err c.from_residual.result (λ teams. length teams.items ≡ c.args.worker_count) c.from_residual.ensures.0
+
+pub returns-in_err-teams-clause-teams : goal.returns-in_err-teams-clause-teams
+returns-in_err-teams-clause-teams c =
+    IfOk-from_err c.from_residual.result (λ teams. AreNewTeams c.args.live.now.graph c.args.state.now.state c.args.worker_count c.args.ends.now teams.items) c.from_residual.ensures.0
+
+pub returns-in_err-team-clause-count : goal.returns-in_err-team-clause-count
+returns-in_err-team-clause-count c =
+    IfOk-from_err c.from_residual-in_err-team.result (λ teams. length teams.items ≡ c.args.worker_count) c.from_residual-in_err-team.ensures.0
+
+pub returns-in_err-team-clause-teams : goal.returns-in_err-team-clause-teams
+returns-in_err-team-clause-teams c =
+    IfOk-from_err c.from_residual-in_err-team.result (λ teams. AreNewTeams c.args.live.now.graph c.args.state.now.state c.args.worker_count c.args.ends.now teams.items) c.from_residual-in_err-team.ensures.0
 
 pub new_team-requires-clause-arcs : goal.new_team-requires-clause-arcs
 new_team-requires-clause-arcs c = omega (arith, c.loop-worker_number.invariant.shelves.arc_count, c.requires.arcs)
@@ -44,4 +81,4 @@ pub new_team-requires-clause-sources : goal.new_team-requires-clause-sources
 new_team-requires-clause-sources c =
     let w = c.loop-worker_number.worker_number in
     let before = c.loop-worker_number.invariant in
-    sources-same c.args.live.now.graph c.args.worker_count w c.args.ends c.loop-worker_number.ends before.rest before.shelves (c.requires.sources w c.loop-worker_number-test.true)
+    sources-same c.args.live.now.graph c.args.worker_count w c.args.ends.now c.loop-worker_number.ends before.rest before.shelves (c.requires.sources w c.loop-worker_number-test.true)

@@ -13,8 +13,12 @@ pub loop-worker_number-init : goal.loop-worker_number-init
 loop-worker_number-init c =
     let start = c.args.start.now in
     let teams = c.in_ok-teams.teams.items in
-    subst (λ (l : List LineWorker). AreMakingWorkers start.live.now start.state.now.state start.worker_count start.room teams teams l 0) (sym c.in_ok-workers.ensures.items) (
-    making_begins start.live.now start.state.now.state start.worker_count start.room teams c.in_ok-teams.ensures.count c.in_ok-teams.ensures.teams.teams_are)
+    record {
+      making =
+          subst (λ (l : List LineWorker). AreMakingWorkers start.live.now start.state.now.state start.worker_count start.room teams teams l 0) (sym c.in_ok-workers.ensures.items) (
+          making_begins start.live.now start.state.now.state start.worker_count start.room teams c.in_ok-teams.ensures.count c.in_ok-teams.ensures.teams.teams_are);
+      room = omega (arith, c.in_ok-workers.ensures.capacity);
+    }
 
 -- what is taken is the team of the next worker
 team_is : (c : goal.After-remove) → c.remove.result ≡ team_at c.in_ok-teams.teams.items c.loop-worker_number.worker_number
@@ -22,13 +26,18 @@ team_is c =
     let start = c.args.start.now in
     let made = c.in_ok-teams.ensures in
     c.remove.ensures.value
-    ∙ next-team start.live.now start.state.now.state start.worker_count start.room c.in_ok-teams.teams.items made.count made.teams.teams_are c.loop-worker_number.teams.items c.loop-worker_number.workers.items c.loop-worker_number.worker_number c.loop-worker_number.invariant c.loop-worker_number-test.true c.remove.result
+    ∙ next-team start.live.now start.state.now.state start.worker_count start.room c.in_ok-teams.teams.items made.count made.teams.teams_are c.loop-worker_number.teams.items c.loop-worker_number.workers.items c.loop-worker_number.worker_number c.loop-worker_number.invariant.making c.loop-worker_number-test.true c.remove.result
 
 pub remove-requires : goal.remove-requires
 remove-requires c =
     let start = c.args.start.now in
     let made = c.in_ok-teams.ensures in
-    omega (arith, c.loop-worker_number.teams.ok.0, some-left start.live.now start.state.now.state start.worker_count start.room c.in_ok-teams.teams.items made.count made.teams.teams_are c.loop-worker_number.teams.items c.loop-worker_number.workers.items c.loop-worker_number.worker_number c.loop-worker_number.invariant c.loop-worker_number-test.true)
+    omega (arith, c.loop-worker_number.teams.ok.0, some-left start.live.now start.state.now.state start.worker_count start.room c.in_ok-teams.teams.items made.count made.teams.teams_are c.loop-worker_number.teams.items c.loop-worker_number.workers.items c.loop-worker_number.worker_number c.loop-worker_number.invariant.making c.loop-worker_number-test.true)
+
+pub push_reserved-requires : goal.push_reserved-requires
+push_reserved-requires c =
+    let inv = c.loop-worker_number.invariant in
+    omega (arith, c.loop-worker_number.workers.ok.0, inv.making.count, inv.room, c.loop-worker_number-test.true)
 
 pub of-requires-clause-team : goal.of-requires-clause-team
 of-requires-clause-team c =
@@ -60,11 +69,6 @@ returns-in_err-worker c =
     let start = c.args.start.now in
     IfOk-from_err c.from_residual-in_err-worker.result (λ workers. AreNewWorkers start.live.now start.state.now.state start.worker_count start.room workers.items) c.from_residual-in_err-worker.ensures.0
 
-pub returns-in_err-push : goal.returns-in_err-push
-returns-in_err-push c =
-    let start = c.args.start.now in
-    IfOk-from_err c.from_residual-in_err-push.result (λ workers. AreNewWorkers start.live.now start.state.now.state start.worker_count start.room workers.items) c.from_residual-in_err-push.ensures.0
-
 pub returns-in_err-teams : goal.returns-in_err-teams
 returns-in_err-teams c =
     let start = c.args.start.now in
@@ -76,7 +80,7 @@ loop-worker_number-preserved c =
     let left = c.loop-worker_number.teams.items in
     let workers = c.loop-worker_number.workers.items in
     let w = c.loop-worker_number.worker_number in
-    let inv = c.loop-worker_number.invariant in
+    let inv = c.loop-worker_number.invariant.making in
     let e = c.in_ok-worker.ensures in
     let t = c.in_ok-teams.ensures in
     let start = c.args.start.now in
@@ -84,9 +88,13 @@ loop-worker_number-preserved c =
     let begun = start.state.now.state in
     let team : c.in_ok-worker.worker.team ≡ team_at teams w =
     e.team ∙ c.remove.ensures.value ∙ next-team live begun start.worker_count start.room teams t.count t.teams.teams_are left workers w inv c.loop-worker_number-test.true c.remove.result in
-    subst (λ (l : List LineWorker). AreMakingWorkers live begun start.worker_count start.room teams c.remove.new.self.items l (w + 1)) (sym c.in_ok-push.ensures.items) (
-    making_goes_on live begun start.worker_count start.room teams t.count t.teams.teams_are left c.remove.new.self.items workers w c.in_ok-worker.worker inv c.remove.ensures.items
-    (record { worker = e.worker; live_is = e.live; begun_is = e.begun; workers_are = e.worker_count; room_is = e.room; worker_is = e.worker_number; team_is = team }))
+    record {
+      making =
+          subst (λ (l : List LineWorker). AreMakingWorkers live begun start.worker_count start.room teams c.remove.new.self.items l (w + 1)) (sym c.push_reserved.ensures.items) (
+          making_goes_on live begun start.worker_count start.room teams t.count t.teams.teams_are left c.remove.new.self.items workers w c.in_ok-worker.worker inv c.remove.ensures.items
+          (record { worker = e.worker; live_is = e.live; begun_is = e.begun; workers_are = e.worker_count; room_is = e.room; worker_is = e.worker_number; team_is = team }));
+      room = omega (arith, c.loop-worker_number.invariant.room, c.push_reserved.ensures.capacity);
+    }
 
 pub returns : goal.returns
 returns c =
@@ -99,4 +107,4 @@ returns c =
     let workers = c.loop-worker_number.workers.items in
     let all : c.loop-worker_number.worker_number ≡ start.worker_count = omega (arith, c.loop-worker_number-test.false, c.loop-worker_number.auto.worker_number-end) in
     new_workers live begun start.worker_count start.room teams made.count made.teams.teams_are c.requires.may_begin.some (held_some start.room live.graph begun c.requires.may_begin.fits) made.teams.rooms_are made.teams.met made.teams.begun_are left workers (
-    subst (AreMakingWorkers live begun start.worker_count start.room teams left workers) all c.loop-worker_number.invariant)
+    subst (AreMakingWorkers live begun start.worker_count start.room teams left workers) all c.loop-worker_number.invariant.making)

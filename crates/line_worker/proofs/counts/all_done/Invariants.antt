@@ -1,5 +1,5 @@
 use Rattle.std.proofs.Common.{ℕ, ◌<◌, ◌≤◌}
-use Rattle.local_queues.specs.Shelf.{log_on}
+use Rattle.station_step.specs.Shelf.{log_on}
 use Rattle.line_worker.specs.Logs.{dates_in}
 use Rattle.line_worker.proofs.counts.all_done.Given as goal
 

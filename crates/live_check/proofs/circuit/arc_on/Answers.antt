@@ -1,7 +1,34 @@
-use Rattle.std.proofs.Common.{below_more, arith}
+use Rattle.std.proofs.Common.{◌≡◌, false, get_or, ap, length, below_more, arith}
 use Rattle.live_check.proofs.StuckWalks.{some_leads_on}
 use Rattle.live_check.proofs.circuit.arc_on.Goals as goal
 use Rattle.live_check.proofs.circuit.arc_on.Goals.{else-arc-eq0-via-then-arc-eq0+else-ranks-arc, else-arc-eq0-via-else-arc-eq0}
+
+pub loop-a-init : goal.loop-a-init
+loop-a-init c = λ k before. absurd (omega (arith, before))
+
+pub bounds-arcs-a : goal.bounds-arcs-a
+bounds-arcs-a c =
+    let there = (c.outs-outs.ensures.each c.loop-a.a-index 0 c.loop-a-test.true).0 in
+    omega (arith, there, ap length c.arcs-arcs.ensures.arcs)
+
+pub bounds-ranks-arc : goal.bounds-ranks-arc
+bounds-ranks-arc c =
+    let there = (c.outs-outs.ensures.each c.loop-a.a-index 0 c.loop-a-test.true).0 in
+    let ends = c.outs-outs.ensures.graph.ends_exist _ there in
+    rw c.arcs-arcs.ensures.arcs (omega (arith, ends, c.requires.one_for_each))
+
+pub returns-then-ranks-arc : goal.returns-then-ranks-arc
+returns-then-ranks-arc c =
+    let arcs = c.arcs-arcs.ensures.arcs in
+    let there = c.outs-outs.ensures.each c.loop-a.a-index 0 c.loop-a-test.true in
+    let free : (get_or c.arcs-arcs.result.now (get_or c.outs-outs.result.now c.loop-a.a-index 0) (record { from = 0; to = 0; tokens = 0; worked = false })).tokens ≡ 0 = omega arith in
+    let unranked = rw arcs at c.if-ranks-arc.true in
+    record {
+      exists = there.0;
+      from = there.1;
+      free = rw arcs at free;
+      unranked = omega (arith, unranked, c.stations-stations.ensures.count);
+    }
 
 pub loop-a-preserved : goal.loop-a-preserved
 loop-a-preserved c =

@@ -1,8 +1,63 @@
 use Rattle.std.proofs.Common.{◌≡◌, ap, sym, ◌∙◌, length, drop, vec_len, Vec, Global, ℕ, arith}
+use Rattle.std.proofs.lemmas.List.{length_push}
 use Rattle.std.proofs.lemmas.Result.{IfOk-weaker}
 use Rattle.live_check.specs.DeadCircuit.{IsDeadCircuit}
-use Rattle.live_check.proofs.StuckWalks.{walk_more_read, walk_closed_read}
+use Rattle.live_check.proofs.StuckWalks.{walk_none, walk_room_read, walk_more_read, walk_closed_read}
 use Rattle.live_check.proofs.circuit.dead_circuit.Goals as goal
+
+pub loop-arcs-init : goal.loop-arcs-init
+loop-arcs-init c =
+    let all = c.stations-stations.ensures in
+    let left = rw all.count at (c.in_ok-left.ensures.items_if_clones_equal (λ y same. same)) in
+    record {
+      walk = rw (c.in_ok-path.ensures.items, left) (walk_none c.args.graph.now c.args.ranks.now c.args.start c.requires.station c.requires.unranked);
+      room = omega (arith, c.in_ok-path.ensures.capacity, all.count);
+    }
+
+pub index-requires : goal.index-requires
+index-requires c =
+    let walk = c.loop-arcs.invariant.walk in
+    let all : vec_len c.loop-arcs.left ≡ length c.loop-arcs.left.items = omega arith in
+    omega (arith, all, walk.here, walk.steps.left_for_each)
+
+pub index_mut-requires : goal.index_mut-requires
+index_mut-requires c =
+    let walk = c.loop-arcs.invariant.walk in
+    let all : vec_len c.loop-arcs.left ≡ length c.loop-arcs.left.items = omega arith in
+    omega (arith, all, walk.here, walk.steps.left_for_each)
+
+pub index-requires-2 : goal.index-requires-2
+index-requires-2 c =
+    let walk = c.loop-arcs.invariant.walk in
+    let all : vec_len c.loop-arcs.left ≡ length c.loop-arcs.left.items = omega arith in
+    omega (arith, all, walk.here, walk.steps.left_for_each)
+
+pub overflow_cast-len : goal.overflow_cast-len
+overflow_cast-len c =
+    let all = c.stations-stations.ensures in
+    let steps : vec_len c.loop-arcs.path ≡ length c.loop-arcs.path.items = omega arith in
+    let room = walk_room_read c.args.graph.now c.args.ranks.now c.loop-arcs.path.items c.loop-arcs.left.items c.args.start c.loop-arcs.at c.index.result.now c.loop-arcs.invariant.walk c.index.ensures (c.loop-arcs-test.true ∙ all.count) in
+    omega (arith, c.len.ensures, steps, room, all.count, c.stations-stations.type_inv)
+
+pub arc_on-a-requires-clause-station : goal.arc_on-a-requires-clause-station
+arc_on-a-requires-clause-station c = c.loop-arcs.invariant.walk.here
+
+pub arc_on-a-requires-clause-unranked : goal.arc_on-a-requires-clause-unranked
+arc_on-a-requires-clause-unranked c = c.loop-arcs.invariant.walk.unranked
+
+pub push_reserved-requires : goal.push_reserved-requires
+push_reserved-requires c =
+    let steps : vec_len c.loop-arcs.path ≡ length c.loop-arcs.path.items = omega arith in
+    let room = walk_room_read c.args.graph.now c.args.ranks.now c.loop-arcs.path.items c.loop-arcs.left.items c.args.start c.loop-arcs.at c.index.result.now c.loop-arcs.invariant.walk c.index.ensures (c.loop-arcs-test.true ∙ c.stations-stations.ensures.count) in
+    omega (arith, steps, room, c.loop-arcs.invariant.room)
+
+pub bounds-arcs-a : goal.bounds-arcs-a
+bounds-arcs-a c = omega (arith, c.arc_on-a.ensures.exists, ap length c.arcs-arcs.ensures.arcs)
+
+pub loop-arcs-smaller : goal.loop-arcs-smaller
+loop-arcs-smaller c =
+    let room = walk_room_read c.args.graph.now c.args.ranks.now c.loop-arcs.path.items c.loop-arcs.left.items c.args.start c.loop-arcs.at c.index.result.now c.loop-arcs.invariant.walk c.index.ensures (c.loop-arcs-test.true ∙ c.stations-stations.ensures.count) in
+    omega (arith, room, ap length c.push_reserved.ensures.items, length_push c.loop-arcs.path.items c.arc_on-a.result)
 
 pub loop-arcs-preserved : goal.loop-arcs-preserved
 loop-arcs-preserved c =

@@ -21,33 +21,33 @@ check_whole-requires c =
     rw (c.in_ok-plant.ensures.plant, c.into_plant-draft.ensures.plant)
     (parts-none c.args.draft _ c.table_within-times.result sound dates c.in_ok-plant.ensures.limit)
 
-pub returns-in_err-check_counts-clause-plant : goal.returns-in_err-check_counts-clause-plant
-returns-in_err-check_counts-clause-plant c =
-    let d = c.into_plant-draft.result in
-    let found = rw c.as_slice.ensures at c.in_err-check_counts.ensures in
-    rw (← c.into_plant-draft.ensures.plant)
-    (AnswersPlant-refused c.from_residual.result (whole_refusals (plant_with d _ c.args.times)) (plant_with d _ c.args.times)
-    c.from_residual.ensures.1
-    (λ ne. first-counted d _ c.args.times c.count_demands-jobs.result _ c.count_demands-jobs.ensures (found ne)))
-
 pub returns-in-Err-clause-plant : goal.returns-in-Err-clause-plant
 returns-in-Err-clause-plant c =
     let d = c.into_plant-draft.result in
-    let table = c.table_within-times.ensures ∙ ap (λ stages. table_within (stays_within c.count_demands-jobs.result stages) c.args.times) c.as_slice-2.ensures in
-    let plant = c.in_ok-plant.ensures.plant ∙ ap (plant_with d _) table in
-    let counted = rw c.as_slice.ensures at c.in_ok-check_counts.ensures in
-    let whole = ap whole_refusals plant ∙ whole_refusals-counted d _ c.args.times c.count_demands-jobs.result c.count_demands-jobs.ensures counted in
+    let found = rw c.as_slice.ensures at c.in-Err.ensures in
     rw (← c.into_plant-draft.ensures.plant)
     (AnswersPlant-refused (Err c.in-Err.refusal) (whole_refusals (plant_with d _ c.args.times)) (plant_with d _ c.args.times)
     refl
-    (λ ne. ap first (sym whole) ∙ c.in-Err.ensures.first ne))
+    (λ ne. first-counted d _ c.args.times c.count_demands-jobs.result _ c.count_demands-jobs.ensures (found ne)))
 
-pub returns-in-Ok-clause-plant : goal.returns-in-Ok-clause-plant
-returns-in-Ok-clause-plant c =
+pub returns-in-Err-check_whole-clause-plant : goal.returns-in-Err-check_whole-clause-plant
+returns-in-Err-check_whole-clause-plant c =
     let d = c.into_plant-draft.result in
     let table = c.table_within-times.ensures ∙ ap (λ stages. table_within (stays_within c.count_demands-jobs.result stages) c.args.times) c.as_slice-2.ensures in
     let plant = c.in_ok-plant.ensures.plant ∙ ap (plant_with d _) table in
-    let counted = rw c.as_slice.ensures at c.in_ok-check_counts.ensures in
-    let none = ap whole_refusals (sym plant) ∙ c.in-Ok.ensures.first in
+    let counted = rw c.as_slice.ensures at c.in-Ok.ensures in
+    let whole = ap whole_refusals plant ∙ whole_refusals-counted d _ c.args.times c.count_demands-jobs.result c.count_demands-jobs.ensures counted in
+    rw (← c.into_plant-draft.ensures.plant)
+    (AnswersPlant-refused (Err c.in-Err-check_whole.refusal) (whole_refusals (plant_with d _ c.args.times)) (plant_with d _ c.args.times)
+    refl
+    (λ ne. ap first (sym whole) ∙ c.in-Err-check_whole.ensures.first ne))
+
+pub returns-in-Ok-check_whole-clause-plant : goal.returns-in-Ok-check_whole-clause-plant
+returns-in-Ok-check_whole-clause-plant c =
+    let d = c.into_plant-draft.result in
+    let table = c.table_within-times.ensures ∙ ap (λ stages. table_within (stays_within c.count_demands-jobs.result stages) c.args.times) c.as_slice-2.ensures in
+    let plant = c.in_ok-plant.ensures.plant ∙ ap (plant_with d _) table in
+    let counted = rw c.as_slice.ensures at c.in-Ok.ensures in
+    let none = ap whole_refusals (sym plant) ∙ c.in-Ok-check_whole.ensures.first in
     rw (← c.into_plant-draft.ensures.plant)
     (finished-counted d _ c.args.times c.count_demands-jobs.result c.count_demands-jobs.ensures counted none ∙ ap Ok (sym plant))

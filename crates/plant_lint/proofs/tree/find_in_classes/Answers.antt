@@ -14,4 +14,4 @@ returns c =
     then_more _ c.args.faults.now.items unknown _ (walk_faults UnknownKeys top) _ c.in_ok-find_in_tree.ensures
     (then_more _ unknown missing _ (walk_faults MissingKeys top) _ c.in_ok-find_in_tree-2.ensures
     (then_more _ missing types _ (walk_faults WrongTypes top) _ c.in_ok-find_in_tree-3.ensures
-    (then_more _ types _ _ (walk_faults BadNames top) _ c.in_ok-find_in_tree-4.ensures c.find_from_names_on.ensures)))
+    (then_more _ types _ _ (walk_faults BadNames top) _ c.in_ok-find_in_tree-4.ensures c.find_from_names_on-found.ensures)))

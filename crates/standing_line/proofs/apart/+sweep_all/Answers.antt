@@ -43,3 +43,23 @@ returns-in-Err-clause-after g t c =
     let are = one_more rest rest worker back (as_they_are c.args.live.now rest are_for) kept in
     subst (λ (l : List LineWorker). AreWorkersAfter l c.push_reserved-in-Err.new.self.items) (sym {A = List LineWorker} c.in-Some.ensures.items) (
     subst (AreWorkersAfter (rest ++ worker ∷ [])) (sym {A = List LineWorker} c.push_reserved-in-Err.ensures.items) are)
+
+pub spawn_with-requires-clause-keeps : goal.spawn_with-requires-clause-keeps
+spawn_with-requires-clause-keeps g t c =
+    λ κs within back after. subst (λ (was : LineWorker). IsWorkerAfter was back) (sym {A = LineWorker} c.of.ensures) after
+
+pub spawn_with-requires-clause-runs : goal.spawn_with-requires-clause-runs
+spawn_with-requires-clause-runs g t c =
+    let last : IsWorkerFor c.args.live.now c.in-Some.worker =
+    last_is_for c.args.live.now c.args.workers.items c.pop.new.self.items c.in-Some.worker c.requires c.in-Some.ensures.items in
+    λ κs within. (last, search sendable)
+
+pub returns-then-is_empty-clause-after : goal.returns-then-is_empty-clause-after
+returns-then-is_empty-clause-after g t c =
+    let rest : List LineWorker = c.pop.new.self.items in
+    let worker : LineWorker = c.in-Some.worker in
+    let back : LineWorker = c.sweep_on.result in
+    let are_for = rest_are_for c.args.live.now c.args.workers.items rest worker c.requires c.in-Some.ensures.items in
+    let are = one_more rest rest worker back (as_they_are c.args.live.now rest are_for) c.sweep_on.ensures in
+    subst (λ (l : List LineWorker). AreWorkersAfter l c.push_reserved.new.self.items) (sym {A = List LineWorker} c.in-Some.ensures.items) (
+    subst (AreWorkersAfter (rest ++ worker ∷ [])) (sym {A = List LineWorker} c.push_reserved.ensures.items) are)

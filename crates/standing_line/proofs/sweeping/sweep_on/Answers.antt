@@ -1,5 +1,5 @@
-use Rattle.std.proofs.Common.{◌^◌, IsTrue, arith, rules}
-use Rattle.standing_line.specs.Sweeping.{MaySweep}
+use Rattle.std.proofs.Common.{◌^◌, IsTrue, sym, ap, ◌∙◌, arith, rules}
+use Rattle.line_worker.specs.Worker.{LineWorker}
 use Rattle.standing_line.proofs.Sweeps.{as_it_is, sweep_more, one_turn_more, most_below}
 use Rattle.standing_line.proofs.sweeping.sweep_on.Goals as goal
 
@@ -33,3 +33,20 @@ loop-worker-smaller g c =
     let yes : IsTrue c.may_sweep.result = search rules in
     let may = c.may_sweep.ensures.may.0 yes in
     omega (arith, most_below c.loop-worker.worker.team c.loop-worker.turns (2 ^ 39) (omega arith) c.loop-worker.invariant.counted may.turns)
+
+pub sweep-requires-clause-made_for : goal.sweep-requires-clause-made_for
+sweep-requires-clause-made_for g c =
+    let same = ap (λ (w : LineWorker). w.live) c.loop-worker.invariant.after.same.frame in
+    λ κs within. c.requires.live_is ∙ sym same
+
+pub sweep-requires-clause-turns : goal.sweep-requires-clause-turns
+sweep-requires-clause-turns g c =
+    let yes : IsTrue c.may_sweep.result = search rules in
+    let may = c.may_sweep.ensures.may.0 yes in
+    λ κs within. may.turns
+
+pub returns-after-loop-worker : goal.returns-after-loop-worker
+returns-after-loop-worker g c = c.loop-worker.invariant.after
+
+pub returns-else-may_sweep : goal.returns-else-may_sweep
+returns-else-may_sweep g c = c.loop-worker.invariant.after

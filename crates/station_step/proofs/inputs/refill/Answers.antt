@@ -4,7 +4,7 @@ use Rattle.std.specs.List.{range_with_len}
 use Rattle.event_graph.specs.Firing.{greatest}
 use Rattle.station_step.specs.declared.input.Input.{Input}
 use Rattle.station_step.specs.declared.noted.NotedInput.{NotedInput}
-use Rattle.local_queues.specs.Shelf.{queue_at}
+use Rattle.station_step.specs.Shelf.{queue_at}
 use Rattle.station_step.specs.Ends.{inlet_queue}
 use Rattle.station_step.specs.Input.{input_at, IsRefilled, NoneTakes}
 use Rattle.station_step.specs.Kept.{saturating}

@@ -93,3 +93,19 @@ loop-rest-preserved c =
       marks = omega (arith, h.marks, c.follow_line.ensures.marks, ap (λ (lines : List (List ℕ)). length lines) cut, ap (λ text. length (lines_of text)) c.behind-rest.ensures);
       counted = omega (arith, h.counted, ap length c.behind-rest.ensures, length-drop (end + 1) rest, more);
     }
+
+pub overflow_add-end : goal.overflow_add-end
+overflow_add-end c =
+    omega (arith, c.end_before-end.ensures, line-within c.loop-rest.rest.now, c.loop-rest.invariant.counted, c.loop-rest.auto.line-fits, c.if-end-rest.false)
+
+pub behind-rest-requires : goal.behind-rest-requires
+behind-rest-requires c =
+    omega (arith, c.end_before-end.ensures, line-within c.loop-rest.rest.now, c.if-end-rest.false)
+
+pub loop-rest-smaller : goal.loop-rest-smaller
+loop-rest-smaller c =
+    let rest = c.loop-rest.rest.now in
+    omega (arith, ap length c.behind-rest.ensures, length-drop (c.end_before-end.result + 1) rest, c.end_before-end.ensures, line-within rest, c.if-end-rest.false)
+
+pub follow_line-requires : goal.follow_line-requires
+follow_line-requires c = record { made_for = c.loop-rest.invariant.made_for }

@@ -1,9 +1,9 @@
 use Rattle.std.proofs.Common.{◌≡◌, ap, subst, ◌∙◌, arith}
-use Rattle.std.specs.Prelude.{Some, decimal}
+use Rattle.std.specs.Prelude.{Some, decimal, codes}
 use Rattle.what_if.specs.declared.edit.Edit.{Edit}
 use Rattle.what_if.specs.declared.edit.Edit.TheVariants.{Demand}
-use Rattle.what_if.specs.Edits.{HasNoSpace}
-use Rattle.what_if.proofs.WordsOfEdits.{has_space, demand-writes, demand-parts, nothing-is, some-is}
+use Rattle.what_if.specs.Edits.{HasNoSpace, spaced}
+use Rattle.what_if.proofs.WordsOfEdits.{has_space, none-holds, demand-writes, demand-parts, nothing-is, some-is}
 use Rattle.what_if.proofs.reader.read_demand.Goals as goal
 
 pub returns-in_err-job-clause-told : goal.returns-in_err-job-clause-told
@@ -30,3 +30,24 @@ returns-clause-told c edit writes =
     let same_job = some-is job n (c.in_ok-job-2.ensures.told n valid.from_one valid.job job_is) in
     let same_date = some-is last date (c.in_ok-date.ensures.told date valid.early last_is) in
     ap (λ j. Some (Demand j last)) same_job ∙ ap (λ x. Some (Demand n x)) same_date)
+
+pub returns-in_err-job-clause-read : goal.returns-in_err-job-clause-read
+returns-in_err-job-clause-read c = none-holds _ c.from_residual.result c.from_residual.ensures
+
+pub returns-in_err-job-2-clause-read : goal.returns-in_err-job-2-clause-read
+returns-in_err-job-2-clause-read c =
+    none-holds _ c.from_residual-in_err-job-2.result c.from_residual-in_err-job-2.ensures
+
+pub returns-in_err-date-clause-read : goal.returns-in_err-date-clause-read
+returns-in_err-date-clause-read c =
+    none-holds _ c.from_residual-in_err-date.result c.from_residual-in_err-date.ensures
+
+pub returns-clause-read : goal.returns-clause-read
+returns-clause-read c =
+    let job = c.in_ok-job-2.ensures in
+    let date = c.in_ok-date.ensures in
+    let rest = ap (λ w. spaced w c.in_ok-job.date.now) job.read ∙ ap (spaced (decimal c.in_ok-job-2.job)) date.read in
+    record {
+      valid = record { from_one = job.from_one; job = job.job; early = date.small };
+      text_is = ap (spaced (codes "demand")) (c.in_ok-job.ensures.whole ∙ rest);
+    }

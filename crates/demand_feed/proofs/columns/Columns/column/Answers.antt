@@ -3,6 +3,24 @@ use Rattle.std.proofs.lemmas.List.{get_or_default}
 use Rattle.demand_feed.proofs.JobTimesLemmas.{numbers_in-all, numbers_in-more, place-within-column}
 use Rattle.demand_feed.proofs.columns.Columns.column.Goals as goal
 
+pub loop-job-init : goal.loop-job-init
+loop-job-init c = c.in_ok-times.ensures.items
+
+pub overflow_mul-job : goal.overflow_mul-job
+overflow_mul-job c =
+    let inside = place-within-column _ _ _ c.loop-job.job _ _ c.self.invariant c.loop-job-test.true c.as_slice-columns.ensures.value c.place_of-place.ensures.within in
+    omega (arith, inside, c.self.inside.times.ok.0, c.self.inside.times.ok.1, c.self.inside.times.small)
+
+pub overflow_add-job : goal.overflow_add-job
+overflow_add-job c =
+    let inside = place-within-column _ _ _ c.loop-job.job _ _ c.self.invariant c.loop-job-test.true c.as_slice-columns.ensures.value c.place_of-place.ensures.within in
+    omega (arith, inside, c.self.inside.times.ok.0, c.self.inside.times.ok.1, c.self.inside.times.small)
+
+pub index-requires : goal.index-requires
+index-requires c =
+    let inside = place-within-column _ _ _ c.loop-job.job _ _ c.self.invariant c.loop-job-test.true c.as_slice-columns.ensures.value c.place_of-place.ensures.within in
+    omega (arith, inside, c.self.inside.times.ok.0)
+
 pub loop-job-preserved : goal.loop-job-preserved
 loop-job-preserved c =
     let same = c.as_slice-columns.ensures.value in

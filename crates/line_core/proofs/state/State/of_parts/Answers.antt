@@ -1,11 +1,23 @@
-use Rattle.std.proofs.Common.{ap, ◌∙◌, sym, subst, length, arith}
+use Rattle.std.proofs.Common.{◌≡◌, ℕ, List, ap, ◌∙◌, sym, subst, length, arith}
+use Rattle.std.specs.Prelude.{Some}
+use Rattle.std.proofs.lemmas.Result.{err_from_is_err_and}
 use Rattle.line_base.specs.declared.event.Parts.{Parts}
 use Rattle.line_base.specs.Roomy.{dates_of}
 use Rattle.event_graph.specs.Reached.{Reached}
 use Rattle.line_core.specs.Consistent.{state_of}
-use Rattle.line_core.specs.Parts.{state_refusals}
+use Rattle.line_core.specs.declared.error.StateError.{StateError}
+use Rattle.line_core.specs.declared.error.StateError.TheVariants.{Count, Marking, Date, PlaceDate, NoMemory}
+use Rattle.line_core.specs.Parts.{state_refusals, state_refusal, IsStateRefusal}
 use Rattle.line_core.proofs.PartsLemmas.{all_few, reached_logs, reached_exactly, run-with}
 use Rattle.line_core.proofs.state.State.of_parts.Goals as goal
+
+-- the first thing that is wrong is the refusal
+is_state_refusal : (g : Parts) (logs places : List (List ℕ)) (refusal : StateError) → state_refusal g logs places ≡ Some refusal → IsStateRefusal g logs places refusal
+is_state_refusal g logs places (Count t have limit) found = found
+is_state_refusal g logs places (Marking a have need) found = found
+is_state_refusal g logs places (Date t job have need) found = found
+is_state_refusal g logs places (PlaceDate a token have need) found = found
+is_state_refusal g logs places NoMemory found = tt
 
 pub returns-in_err-check_parts-clause-exact : goal.returns-in_err-check_parts-clause-exact
 returns-in_err-check_parts-clause-exact c =
@@ -40,3 +52,9 @@ returns-clause-exact c =
 pub returns-in_err-logs-clause-exact : goal.returns-in_err-logs-clause-exact
 returns-in_err-logs-clause-exact c =
     reached_exactly c.args.live.now c.graph.ensures.ranked c.args.logs c.args.places c.requires.parts
+
+pub returns-in_err-check_parts-clause-refused : goal.returns-in_err-check_parts-clause-refused
+returns-in_err-check_parts-clause-refused c =
+    let p = err_from_is_err_and c.from_residual.result c.from_residual.ensures.1 in
+    let found = ap (λ (g : Parts). state_refusal g (dates_of c.args.logs) (dates_of c.args.places)) (sym c.graph.ensures.graph) ∙ c.in_err-check_parts.ensures in
+    rw (p.1, p.2) (is_state_refusal c.args.live.now.graph (dates_of c.args.logs) (dates_of c.args.places) _ found)

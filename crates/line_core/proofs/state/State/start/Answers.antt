@@ -1,7 +1,8 @@
-use Rattle.std.proofs.Common.{ℕ, List, [], replicate, ap, ◌∙◌}
+use Rattle.std.proofs.Common.{ℕ, List, [], replicate, sym, ap, ◌∙◌, subst}
+use Rattle.std.proofs.lemmas.Result.{err_from_is_err_and}
 use Rattle.line_base.specs.declared.event.Parts.{Parts}
 use Rattle.event_graph.specs.Network.{stations}
-use Rattle.line_core.specs.Run.{run_of}
+use Rattle.line_core.specs.Run.{IsReached, run_of}
 use Rattle.line_core.proofs.Runs.{run_of-start}
 use Rattle.line_core.proofs.state.State.start.Goals as goal
 
@@ -10,3 +11,13 @@ returns-clause-start c =
     let none : Parts → List (List ℕ) = λ g. replicate (stations g) [] in
     ap (λ g. run_of g c.in_ok-logs.logs) (c.of.ensures ∙ c.graph-2.ensures.graph)
     ∙ run_of-start c.args.live.now.graph c.in_ok-logs.logs (c.in_ok-logs.ensures.start ∙ ap none c.graph.ensures.graph)
+
+pub returns-in_err-logs : goal.returns-in_err-logs
+returns-in_err-logs c =
+    let p = err_from_is_err_and c.from_residual.result c.from_residual.ensures.1 in
+    rw p.1 (record { start = tt; reached = tt })
+
+pub returns-clause-reached : goal.returns-clause-reached
+returns-clause-reached c =
+    let same = c.graph.ensures.graph ∙ sym (c.of.ensures ∙ c.graph-2.ensures.graph) in
+    subst (λ (g : Parts). IsReached (run_of g c.in_ok-logs.logs)) same c.in_ok-logs.ensures.held.run

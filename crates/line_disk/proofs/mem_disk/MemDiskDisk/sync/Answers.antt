@@ -1,5 +1,5 @@
 use Rattle.std.proofs.Common.{◌≡◌, Bool, not, ap, ◌∙◌, ◌++◌, ◌∷◌, []}
-use Rattle.line_disk.specs.DiskView.{Held, held_now}
+use Rattle.line_disk.specs.DiskView.{held_now}
 use Rattle.line_disk.specs.Memory.{after_call}
 use Rattle.line_disk.specs.MemDisk.{mem_view}
 use Rattle.line_disk.specs.declared.mem_disk.MemDisk.{MemDisk}

@@ -1,4 +1,7 @@
-use Rattle.std.proofs.Common.{arith}
+use Rattle.std.proofs.Common.{subst, arith}
+use Rattle.line_base.specs.declared.event.Parts.{Parts}
+use Rattle.line_core.specs.Run.{IsLeastTable}
+use Rattle.line_report.specs.Reported.{IsReported}
 use Rattle.line_io.proofs.OutgoingLemmas.{text_written}
 use Rattle.line_report.proofs.report.Report.write.Goals as goal
 
@@ -11,3 +14,13 @@ write_text-requires-clause-some g c κs lives = omega (arith, c.self.invariant.4
 pub returns-clause-puts : goal.returns-clause-puts
 returns-clause-puts g c =
     rw (← c.self.view_is) (text_written (g.K.Sink.shown c.finish.new.sink) c.finish.result c.self.invariant.2 c.write_text.ensures.text c.finish.ensures.flushed)
+
+pub returns-clause-stays : goal.returns-clause-stays
+returns-clause-stays g c =
+    let run = c.self.inside.run in
+    let of_plant = c.self.invariant.0 in
+    let least = subst (λ (h : Parts). IsLeastTable (record { graph = h; rows = run.table.rows })) of_plant.table_graph c.self.invariant.1 in
+    record {
+      same = c.self.view_is;
+      least = subst IsReported c.self.view_is (record { sound = of_plant.sound; least = least });
+    }

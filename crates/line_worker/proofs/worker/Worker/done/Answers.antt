@@ -1,7 +1,7 @@
 use Rattle.std.proofs.Common.{subst}
 use Rattle.std.specs.Prelude.{IsTrue, ◌↔◌}
 use Rattle.line_worker.specs.contracts.worker.Worker.{the_view}
-use Rattle.line_worker.specs.Worker.{LineWorker}
+use Rattle.line_worker.specs.Worker.{LineWorker, IsWorker}
 use Rattle.line_worker.specs.Work.{AllDone}
 use Rattle.line_worker.proofs.Counting.{dates-few}
 use Rattle.line_worker.proofs.Posts.{logs-few, all-done, done-all}
@@ -21,3 +21,6 @@ returns-clause-done c =
       λ done. c.all_done.ensures.1 (done-all logs seen.team.stations seen.target c.logs.ensures done),
     ) in
     subst (λ (w : LineWorker). IsTrue c.all_done.result ↔ AllDone w.target w.team) c.self.view_is told
+
+pub returns-clause-worker : goal.returns-clause-worker
+returns-clause-worker c = subst IsWorker c.self.view_is c.self.invariant

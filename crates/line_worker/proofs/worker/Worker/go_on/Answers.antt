@@ -10,3 +10,21 @@ returns-then-not-done-clause-gone_on g c old sweeps more work =
 pub returns-else-not-done-clause-gone_on : goal.returns-else-not-done-clause-gone_on
 returns-else-not-done-clause-gone_on g c old sweeps more work =
     at_work_done old c.args.self.now sweeps work (omega (arith, more)) c.done.ensures.worker (c.if-not-done.ensures.done.0 refl)
+
+pub returns-then-not-done-clause-swept : goal.returns-then-not-done-clause-swept
+returns-then-not-done-clause-swept g c = record {
+  swept = λ undone. c.sweep.ensures.in_order;
+  stays = λ all. absurd (true≢false (sym (c.if-not-done.ensures.done.1 all)));
+}
+
+pub returns-else-not-done-clause-swept : goal.returns-else-not-done-clause-swept
+returns-else-not-done-clause-swept g c = record {
+  swept = λ undone. absurd (undone (c.if-not-done.ensures.done.0 refl));
+  stays = λ all. refl;
+}
+
+pub sweep-requires-clause-made_for : goal.sweep-requires-clause-made_for
+sweep-requires-clause-made_for g c κs h = c.requires.ready.made_for
+
+pub sweep-requires-clause-turns : goal.sweep-requires-clause-turns
+sweep-requires-clause-turns g c κs h = c.requires.ready.turns

@@ -1,7 +1,7 @@
-use Rattle.std.proofs.Common.{ℕ, ◌≡◌, ◌+◌, ◌<◌, List, length, get_or, sym, ap, ◌∙◌, subst, arith}
+use Rattle.std.proofs.Common.{ℕ, ◌≡◌, ◌+◌, ◌<◌, List, length, get_or, refl, sym, ap, ◌∙◌, subst, arith}
 use Rattle.line_worker.specs.Worker.{LineWorker, IsWorker, with_team}
 use Rattle.line_worker.specs.Work.{SteppedAt, IsSweeping, IsAlone}
-use Rattle.line_worker.proofs.Sweeping.{stepped_next, stepped_all, sweeping_goes_on}
+use Rattle.line_worker.proofs.Sweeping.{stepped_next, stepped_all, sweeping_begins, sweeping_goes_on, swept, turns_below}
 use Rattle.line_worker.proofs.Alone.{alone_goes_on, alone_swept}
 use Rattle.line_worker.proofs.worker.Worker.sweep.Goals as goal
 use Rattle.line_worker.proofs.worker.Worker.sweep.Goals.{then-turn, else-turn}
@@ -55,3 +55,45 @@ returns-clause-in_order g c =
     let now = c.loop-place.self in
     let done : c.loop-place.place ≡ length old.order = omega (arith, c.loop-place-test.false, c.loop-place.auto.place-end, c.len-place-end.ensures, ap (λ (w : LineWorker). length w.order) c.self.view_is) in
     stepped_all old.order c.loop-place.place done old.team now.team c.loop-place.invariant.in_order
+
+pub loop-place-init : goal.loop-place-init
+loop-place-init g c =
+    let old = c.args.self.now in
+    record {
+      worker = subst IsWorker c.self.view_is c.self.invariant;
+      frame = refl;
+      sweeping = sweeping_begins old.order old.team;
+      in_order = refl;
+      made = omega arith;
+      few = omega arith;
+      alone = λ times alone more i low early. absurd (omega (arith, early));
+    }
+
+pub turn-requires-clause-made_for : goal.turn-requires-clause-made_for
+turn-requires-clause-made_for g c κs h =
+    c.requires.made_for ∙ sym (ap (λ (w : LineWorker). w.live) c.loop-place.invariant.frame)
+
+pub turn-requires-clause-turns : goal.turn-requires-clause-turns
+turn-requires-clause-turns g c κs h =
+    turns_below c.args.self.now.order c.args.self.now.team c.loop-place.self.team c.loop-place.place c.loop-place.invariant.sweeping c.requires.turns
+
+pub turn-requires-clause-place : goal.turn-requires-clause-place
+turn-requires-clause-place g c κs h =
+    omega (arith, c.loop-place-test.true, c.len-place-end.ensures, ap (λ (w : LineWorker). length w.order) c.self.view_is, ap (λ (w : LineWorker). length w.order) c.loop-place.invariant.frame)
+
+pub returns-clause-swept : goal.returns-clause-swept
+returns-clause-swept g c =
+    let old = c.args.self.now in
+    let now = c.loop-place.self in
+    let is : IsWorker old = subst IsWorker c.self.view_is c.self.invariant in
+    let done : c.loop-place.place ≡ length old.order = omega (arith, c.loop-place-test.false, c.loop-place.auto.place-end, c.len-place-end.ensures, ap (λ (w : LineWorker). length w.order) c.self.view_is) in
+    swept old.live.ranks old.first old.order old.team now.team is.in_order (subst (IsSweeping old.order old.team now.team) done c.loop-place.invariant.sweeping)
+
+pub returns-clause-worker : goal.returns-clause-worker
+returns-clause-worker g c = c.loop-place.invariant.worker
+
+pub returns-clause-frame : goal.returns-clause-frame
+returns-clause-frame g c = c.loop-place.invariant.frame
+
+pub returns-clause-fired : goal.returns-clause-fired
+returns-clause-fired g c = c.loop-place.invariant.made

@@ -1,4 +1,4 @@
-use Rattle.std.proofs.Common.{◌+◌, ap}
+use Rattle.std.proofs.Common.{◌+◌, ap, length, arith}
 use Rattle.live_check.specs.Ranking.{Ranks}
 use Rattle.live_check.proofs.RankSteps.{turn_read, may_release, passes_yes, passes_no}
 use Rattle.live_check.proofs.ranking.Ranking.pass.Goals as goal
@@ -7,6 +7,23 @@ use Rattle.live_check.proofs.ranking.Ranking.pass.Goals.{then-arc-eq0, else-arc-
 pub loop-a-init : goal.loop-a-init
 loop-a-init c =
     turn_read c.args.graph.now c.args.self.now _ c.ins-ins.result.now c.args.rank c.index.result.now c.ins-ins.ensures.graph c.requires.passed c.requires.ready c.requires.exists (ap (λ (r : Ranks). r.order) c.self.view_is) c.index.ensures c.ins-ins.ensures.arcs
+
+pub bounds-arcs-a : goal.bounds-arcs-a
+bounds-arcs-a c =
+    let there = (c.ins-ins.ensures.each c.loop-a.a-index 0 c.loop-a-test.true).0 in
+    omega (arith, there, ap length c.arcs-arcs.ensures.arcs)
+
+pub release-requires-clause-waits : goal.release-requires-clause-waits
+release-requires-clause-waits c =
+    let there = (c.ins-ins.ensures.each c.loop-a.a-index 0 c.loop-a-test.true).0 in
+    let starts = c.ins-ins.ensures.graph.starts_exist _ there in
+    rw c.arcs-arcs.ensures.arcs (omega (arith, starts, c.loop-a.invariant.passing.waiting_for_each))
+
+pub release-requires-clause-station : goal.release-requires-clause-station
+release-requires-clause-station c =
+    let there = (c.ins-ins.ensures.each c.loop-a.a-index 0 c.loop-a-test.true).0 in
+    let starts = c.ins-ins.ensures.graph.starts_exist _ there in
+    rw c.arcs-arcs.ensures.arcs (omega (arith, starts, c.loop-a.invariant.passing.falling.rank_for_each))
 
 pub release-requires-clause-some : goal.release-requires-clause-some
 release-requires-clause-some c =

@@ -5,7 +5,7 @@ use Rattle.line_base.specs.declared.event.Parts.{Parts}
 use Rattle.line_base.specs.Roomy.{RoomyLog, with_date}
 use Rattle.event_graph.specs.Network.{stations, jobs, delay, ins, outs}
 use Rattle.card_queue.specs.Plain.{PlainQueue}
-use Rattle.local_queues.specs.Shelf.{log_on, queue_at, OnlyTakes}
+use Rattle.station_step.specs.Shelf.{log_on, queue_at, OnlyTakes}
 use Rattle.station_step.specs.Input.{input_at, tokens_ahead, IsRefilled, NoneTakes, TakeApart, TakeWithin}
 use Rattle.station_step.specs.Ends.{HasNoSpace, outlet_added, outlet_queue}
 use Rattle.station_step.specs.Station.{WorkStation, IsStation, IsSeated, StandsAt, MayPut, outlet_at, bare_input, bare_station}

@@ -1,4 +1,0 @@
-pub mod Points
-pub mod CurveText
-pub mod Curve
-pub mod Laws

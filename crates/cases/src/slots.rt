@@ -1,0 +1,188 @@
+//! What the two slots of a disk hold, from one command of a case to the next.
+use crate::reason::{Reason, where_well, with};
+use line_base::digits;
+use line_disk::{Disk, DiskError, MemDisk};
+use slot_store::MAX_ROOM;
+use std::alloc::Global;
+
+/// The bytes of a slot before its content.
+const HEADER: u32 = 16;
+
+/// The address of slot 1.
+const START_OF_ONE: u64 = MAX_ROOM + 16;
+
+/// The most bytes of a slot that are kept.
+const MAX_KEPT: u32 = 67_108_864;
+
+/// The calls with which a disk is given what the slots hold, before the first call of a command.
+const FILLING: u32 = 3;
+
+/// The bytes of both slots: their heads, and behind each its content.
+#[derive(Drop)]
+pub struct Slots {
+    zero: Vec<u8>,
+    one: Vec<u8>,
+}
+
+/// What is left of the disk to the commands below.
+#[derive(Clone, Copy)]
+pub struct Crash {
+    /// The call of the disk during which it crashes, counted from 1; 0 where it doesn't.
+    pub call: u32,
+    /// What is left of a byte that was written and not yet stable: 0 the old one, 1 the new one, 2 the byte 255.
+    pub pick: u32,
+}
+
+impl From<DiskError> for Reason {
+    fn from(error: DiskError) -> Self {
+        match error {
+            DiskError::Failed => Reason::NoSuchCall,
+            DiskError::NoMemory => Reason::NoMemory,
+        }
+    }
+}
+
+impl Slots {
+    /// The slots of a disk of zeros.
+    pub fn blank(alloc: Global) -> Self {
+        Slots {
+            zero: Vec::new(alloc),
+            one: Vec::new(alloc),
+        }
+    }
+
+    /// A disk that holds the slots. This call of it fails, counted from 1; none at 0.
+    pub fn disk(&self, alloc: Global, failing: u32) -> Result<MemDisk, Reason> {
+        let failing = if failing == 0 {
+            0
+        } else {
+            failing.saturating_add(FILLING)
+        };
+        let mut disk = MemDisk::new(alloc, vec![in alloc; failing]?);
+        let filled = self.fill(&mut disk);
+        where_well(disk, filled)
+    }
+
+    /// Writes the slots to a disk.
+    fn fill(&self, disk: &mut MemDisk) -> Result<(), Reason> {
+        fill(disk, 0, &self.zero)?;
+        fill(disk, START_OF_ONE, &self.one)?;
+        Ok(disk.sync()?)
+    }
+
+    /// The slots as a command leaves them, or as a crash during one of its calls does.
+    pub fn left_on(alloc: Global, disk: &MemDisk, crash: Crash) -> Result<Self, Reason> {
+        let call = match crash.call {
+            0 => disk.calls(),
+            call => call.saturating_add(FILLING),
+        };
+        let pick = match crash.pick {
+            0 => 0,
+            1 => 1,
+            2 => 2,
+            _ => return Err(Reason::NoSuchCall),
+        };
+        if call > disk.calls() {
+            return Err(Reason::NoSuchCall);
+        }
+        let mut left = disk.crash(call, pick)?;
+        let slots = Slots::held_by(alloc, &mut left);
+        drop(left);
+        slots
+    }
+
+    /// The slots that a disk holds.
+    fn held_by(alloc: Global, disk: &mut MemDisk) -> Result<Self, Reason> {
+        let zero = slot_at(alloc, disk, 0)?;
+        let (zero, one) = with(zero, slot_at(alloc, disk, START_OF_ONE))?;
+        Ok(Slots { zero, one })
+    }
+
+    /// What the slots hold, as a text: for each a line with its gate, its number and its length, and its content
+    /// where the gate is open.
+    pub fn text(&self, alloc: Global) -> Result<Vec<u8>, Reason> {
+        let mut text = Vec::new(alloc);
+        let added = self.add_to_text(&mut text);
+        where_well(text, added)
+    }
+
+    /// Adds what both slots hold.
+    fn add_to_text(&self, text: &mut Vec<u8>) -> Result<(), Reason> {
+        add_slot(text, 0, &self.zero)?;
+        add_slot(text, 1, &self.one)
+    }
+}
+
+/// Writes the bytes of a slot, which begins there.
+fn fill(disk: &mut MemDisk, start: u64, bytes: &[u8]) -> Result<(), Reason> {
+    if start > START_OF_ONE || bytes.len() > MAX_KEPT as usize {
+        return Err(Reason::NoSuchCall);
+    }
+    disk.write_at(start, bytes)?;
+    Ok(())
+}
+
+/// The bytes of the slot that begins there.
+fn slot_at(alloc: Global, disk: &mut MemDisk, start: u64) -> Result<Vec<u8>, Reason> {
+    if start > START_OF_ONE {
+        return Err(Reason::NoSuchCall);
+    }
+    let head = disk.read(alloc, start, HEADER)?;
+    let count = HEADER.saturating_add(kept_length(&head));
+    Ok(disk.read(alloc, start, count)?)
+}
+
+/// How many bytes of content the head of a slot tells; none where it tells of more than are kept.
+fn kept_length(head: &[u8]) -> u32 {
+    match head {
+        &[_, _, 0, 0, 0, 0, a, b, c, d, ..] => {
+            let length = u32::from_be_bytes([a, b, c, d]);
+            if length < MAX_KEPT - HEADER {
+                length
+            } else {
+                0
+            }
+        }
+        _ => 0,
+    }
+}
+
+/// Adds what a slot holds.
+fn add_slot(text: &mut Vec<u8>, slot: u32, bytes: &[u8]) -> Result<(), Reason> {
+    let (gate, number) = match bytes {
+        &[gate, number, ..] => (gate, number),
+        _ => (0, 0),
+    };
+    let numbers = [
+        ("slot ", slot),
+        (" gate ", u32::from(gate)),
+        (" number ", u32::from(number)),
+        (" length ", kept_length(bytes)),
+    ];
+    for (front, number) in &numbers {
+        add_number(text, *front, *number)?;
+    }
+    add_bytes(text, b"\n")?;
+    add_bytes(text, shown(bytes))
+}
+
+/// Adds some bytes.
+fn add_bytes(text: &mut Vec<u8>, bytes: &[u8]) -> Result<(), Reason> {
+    Ok(text.extend_from_slice(bytes)?)
+}
+
+/// Adds a number behind this text.
+pub fn add_number(text: &mut Vec<u8>, front: &str, number: u32) -> Result<(), Reason> {
+    add_bytes(text, front.as_bytes())?;
+    let mut buffer = [0; 40];
+    let count = digits(u128::from(number), &mut buffer) as usize;
+    add_bytes(text, &buffer[..count])
+}
+
+/// The content of a slot whose gate is open; nothing of any other.
+fn shown(bytes: &[u8]) -> &[u8] {
+    match bytes {
+        [1, _, ..] => bytes.get(HEADER as usize..).unwrap_or(&[]),
+        _ => &[],
+    }
+}

@@ -1,6 +1,0 @@
-pub mod StartFacts
-pub mod MachineArcs
-pub mod StartLaws
-pub mod PathParts
-pub mod StageRuns
-pub mod Examples

@@ -1,5 +1,0 @@
-use Rattle.line_table.proofs.PathParts.{serve-behind-stock}
-use Rattle.line_table.proofs.laws.parts_serve_behind_stock.Goals as goal
-
-pub returns : goal.returns
-returns c = serve-behind-stock

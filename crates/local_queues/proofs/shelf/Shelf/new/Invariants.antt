@@ -1,8 +1,0 @@
-use Rattle.std.proofs.Common.{ℕ, map}
-use Rattle.std.specs.Prelude.{Vec}
-use Rattle.std.specs.declared.alloc.Global.{Global}
-use Rattle.local_queues.proofs.Laying.{LaidUpTo}
-use Rattle.local_queues.proofs.shelf.Shelf.new.Given as goal
-
-abbrev pub invariant-loop-first : goal.invariant-loop-first
-invariant-loop-first l = LaidUpTo l.first-index l.fn.logs.items (map (λ (v : Vec ℕ Global). v.items) l.fn.firsts.items) l.fn.sources.items l.tokens.items l.queues.items

@@ -1,0 +1,72 @@
+-- How a shelf keeps its queues: the tokens that they began with stand queue after queue in one list. Those that were put
+-- since stand nowhere: they are the dates of their source's log, later by a delay. Of each queue it is counted how many
+-- tokens were taken. Only the shelf itself reads these words.
+use Rattle.std.specs.Prelude.{ℕ, ◌+◌, ◌-◌, ◌^◌, ◌≤◌, ◌<◌, List, map, take, drop, length, slice_index_or}
+use Rattle.card_queue.specs.Plain.{PlainQueue}
+use Rattle.line_base.specs.Roomy.{RoomyLog}
+use Rattle.station_step.specs.declared.source.Source.{Source}
+use Rattle.station_step.specs.declared.tally.Tally.{Tally}
+use Rattle.station_step.specs.Shelf.{WorkShelf, log_on, later_by}
+
+-- the tally of a queue whose first tokens, this many, stand from this place on, where the log of its source has this many
+-- dates
+abbrev pub new_tally : ℕ → ℕ → Source → ℕ → Tally
+new_tally start initial source made = record {
+  taken = 0;
+  initial = initial;
+  source = source;
+  made = made;
+  start = start;
+}
+
+-- where there is no queue
+abbrev pub no_tally : Tally
+no_tally = new_tally 0 0 (record { station = 0; delay = 0 }) 0
+
+-- the tally of queue q
+abbrev pub tally_at : List Tally → ℕ → Tally
+tally_at tallies q = slice_index_or tallies q no_tally
+
+-- the dates of the log from which the tokens of a queue come
+abbrev pub dates_for : List RoomyLog → Tally → List ℕ
+dates_for logs tally = (log_on logs tally.source.station).dates
+
+-- the tokens that the queue began with
+abbrev pub firsts_of : List ℕ → Tally → List ℕ
+firsts_of firsts tally = take tally.initial (drop tally.start firsts)
+
+-- the queue with this tally
+abbrev pub seen_queue : List ℕ → ℕ → List RoomyLog → Tally → PlainQueue
+seen_queue firsts room logs tally = record {
+  initial = firsts_of firsts tally;
+  added = map (later_by tally.source.delay) (drop tally.made (dates_for logs tally));
+  room = room;
+  takes = tally.taken;
+}
+
+-- the shelf with these tallies
+abbrev pub seen_shelf : List ℕ → ℕ → List RoomyLog → List Tally → WorkShelf
+seen_shelf firsts room logs tallies = record {
+  logs = logs;
+  sources = map (λ (tally : Tally). tally.source) tallies;
+  queues = map (seen_queue firsts room logs) tallies;
+}
+
+-- the first tokens of a queue stand in the list, and its source's log is there. No more was taken than is there; as many
+-- were put as there is room for
+pub record IsTally (firsts : List ℕ) (room : ℕ) (logs : List RoomyLog) (tally : Tally) : Type 0 where
+  pub began : tally.start + tally.initial ≤ length firsts
+  pub counted : tally.initial + room < 2 ^ 32
+  pub few : tally.made ≤ room
+  pub there : tally.source.station < length logs
+  pub made_there : tally.made ≤ length (dates_for logs tally)
+  pub taken_there : tally.taken ≤ tally.initial + (length (dates_for logs tally) - tally.made)
+  pub fits : length (dates_for logs tally) ≤ tally.made + room
+
+-- each of these is such a tally
+abbrev pub AreTallies : List ℕ → ℕ → List RoomyLog → List Tally → Type 0
+AreTallies firsts room logs tallies = (q : ℕ) → q < length tallies → IsTally firsts room logs (tally_at tallies q)
+
+-- the tally after one token more was taken
+abbrev pub one_taken : Tally → Tally
+one_taken tally = record tally { taken = tally.taken + 1 }
