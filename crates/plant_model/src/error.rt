@@ -45,14 +45,6 @@ pub enum PlantError {
     NoMemory,
 }
 
-impl From<AllocError> for PlantError {
-    ghost from_gives = { λ _ e. e ≡ PlantError.NoMemory };
-
-    fn from(_: AllocError) -> Self {
-        PlantError::NoMemory
-    }
-}
-
 /// The text says what is wrong and where, and the numbers that stand there and are needed.
 impl fmt::Display for PlantError {
     ghost use Rattle.std.specs.Prelude.{Some};
@@ -115,4 +107,12 @@ fn counts<W: fmt::Write>(
 {
     let place = place.as_str();
     write!(f, "{words}: {place} has {have}, needs {need}")
+}
+
+impl From<AllocError> for PlantError {
+    ghost from_gives = { λ _ e. e ≡ PlantError.NoMemory };
+
+    fn from(_: AllocError) -> Self {
+        PlantError::NoMemory
+    }
 }
