@@ -1,10 +1,8 @@
 ghost use Rattle.std.specs.Fmt.{DisplaysOnOk};
-ghost use Rattle.std.specs.Prelude.{◌≡◌, ◌++◌, ◌∷◌, [], codes, Some, OnOk};
-ghost use Rattle.plant_lint.specs.Faults.{wanting};
+ghost use Rattle.std.specs.Prelude.{◌++◌, codes, Some};
 
 use line_base::Text;
 use plant_model::PlantError;
-use std::alloc::AllocError;
 use std::fmt;
 
 /// What is wanted at the place of a refusal.
@@ -93,16 +91,4 @@ fn quoted<W: fmt::Write>(f: &mut fmt::Formatter<W>, text: &Text) -> fmt::Result
 {
     let text = text.as_str();
     write!(f, " has \"{text}\"")
-}
-
-/// Adds a refusal, with what is wanted there.
-pub(crate) fn add(
-    faults: &mut Vec<Fault>,
-    error: PlantError,
-    wants: Wants,
-) -> Result<(), AllocError>
-    ensures { OnOk result (faults.new.items ≡ faults.old.items ++ wanting wants (error ∷ [])) }
-{
-    faults.push(Fault { error, wants })?;
-    Ok(())
 }

@@ -7,88 +7,84 @@ ghost use Rattle.plant_lint.specs.Seen.{HaveSame};
 ghost use Rattle.plant_lint.specs.Trees.{shown_name, fed_faults, feeds_faults};
 ghost use Rattle.toml.specs.View.{view};
 
-use crate::fault::{Fault, Wants, add};
+use crate::fault::Wants;
+use crate::faults::Faults;
 use crate::rows::Rows;
 use crate::seen::Seen;
 use plant_keys::{has, shown, text_at, text_of, value_at};
 use plant_model::{FileTable, PlantError, Text, key_place, table_place};
-use std::alloc::{AllocError, Global};
+use std::alloc::AllocError;
 use toml::Value;
 
 /// Adds each stage that feeds one which isn't there or stands no later, where these are the names of all.
 pub(crate) fn find_feeds(
-    alloc: Global,
     all: &Seen<'_>,
     stages: &[Value],
-    faults: &mut Vec<Fault>,
+    faults: &mut Faults,
 ) -> Result<(), AllocError>
     requires { HaveSame all.now (map name_in (views stages.now)) }
-    ensures { OnOk result (faults.new.items ≡ faults.old.items
+    ensures { OnOk result (faults.new ≡ faults.old
         ++ all_of (λ i s. feeds_faults (map name_in (views stages.now)) i (view s)) stages.now) }
 {
-    let mut earlier = Seen::new(alloc);
-    let found = find_each_feed(alloc, all, &mut earlier, stages, faults);
+    let mut earlier = Seen::new(faults.alloc);
+    let found = find_each_feed(all, &mut earlier, stages, faults);
     drop(earlier);
     found
 }
 
 /// The same, where the names of the stages before each are gathered here; there is none yet.
 fn find_each_feed<'a>(
-    alloc: Global,
     all: &Seen<'_>,
     earlier: &mut Seen<'a>,
     stages: &'a [Value],
-    faults: &mut Vec<Fault>,
+    faults: &mut Faults,
 ) -> Result<(), AllocError>
     requires all { HaveSame all.now (map name_in (views stages.now)) }
     requires none { earlier.old ≡ [] }
-    ensures { OnOk result (faults.new.items ≡ faults.old.items
+    ensures { OnOk result (faults.new ≡ faults.old
         ++ all_of (λ i s. feeds_faults (map name_in (views stages.now)) i (view s)) stages.now) }
 {
     for (i, stage) in stages.iter().enumerate() {
         earlier.add(text_at(stage, "name"))?;
-        find_feed(alloc, all, earlier, i, stage, faults)?;
+        find_feed(all, earlier, i, stage, faults)?;
     }
     Ok(())
 }
 
 /// Adds that stage `i` feeds no later one, where these are the names of all stages, and of those up to this one.
 fn find_feed(
-    alloc: Global,
     all: &Seen<'_>,
     before: &Seen<'_>,
     i: usize,
     stage: &Value,
-    faults: &mut Vec<Fault>,
+    faults: &mut Faults,
 ) -> Result<(), AllocError>
     ensures { (names : List (List ℕ)) → HaveSame all.now names → HaveSame before.now (take (i + 1) names)
-        → OnOk result (faults.new.items ≡ faults.old.items ++ feeds_faults names i (view stage.now)) }
+        → OnOk result (faults.new ≡ faults.old ++ feeds_faults names i (view stage.now)) }
 {
     match value_at(stage, "feeds") {
-        Some(fed) => find_fed(alloc, all, before, i, text_of(fed), faults),
+        Some(fed) => find_fed(all, before, i, text_of(fed), faults),
         None => Ok(()),
     }
 }
 
 /// The same of the name that stands at `feeds`.
 fn find_fed(
-    alloc: Global,
     all: &Seen<'_>,
     before: &Seen<'_>,
     i: usize,
     name: &str,
-    faults: &mut Vec<Fault>,
+    faults: &mut Faults,
 ) -> Result<(), AllocError>
     ensures { (names : List (List ℕ)) → HaveSame all.now names → HaveSame before.now (take (i + 1) names)
-        → OnOk result (faults.new.items ≡ faults.old.items ++ fed_faults names i name.now) }
+        → OnOk result (faults.new ≡ faults.old ++ fed_faults names i name.now) }
 {
     if all.has(name) && !before.has(name) {
         return Ok(());
     }
-    let place = key_place(alloc, FileTable::InStage(i), "feeds")?;
-    let name = Text::of(alloc, shown_name(name))?;
-    add(
-        faults,
+    let place = key_place(faults.alloc, FileTable::InStage(i), "feeds")?;
+    let name = Text::of(faults.alloc, shown_name(name))?;
+    faults.add(
         PlantError::FeedsNotLater { place },
         Wants::LaterThan { name },
     )
@@ -104,7 +100,6 @@ fn shown_name(name: &str) -> &str
 /// The stages of a list of this many, of which each but the last feeds one.
 #[derive(Clone, Copy)]
 pub(crate) struct Finals {
-    pub(crate) alloc: Global,
     pub(crate) count: usize,
 }
 
@@ -113,17 +108,12 @@ impl Rows for Finals {
 
     ghost found = { λ finals. final_faults finals.count };
 
-    fn find_in_row(
-        &self,
-        i: usize,
-        stage: &Value,
-        faults: &mut Vec<Fault>,
-    ) -> Result<(), AllocError> {
+    fn find_in_row(&self, i: usize, stage: &Value, faults: &mut Faults) -> Result<(), AllocError> {
         let last = self.count.saturating_sub(1);
         if has(stage, "feeds") || i >= last {
             return Ok(());
         }
-        let place = table_place(self.alloc, FileTable::InStage(i))?;
-        add(faults, PlantError::TwoFinals { place }, Wants::Nothing)
+        let place = table_place(faults.alloc, FileTable::InStage(i))?;
+        faults.add(PlantError::TwoFinals { place }, Wants::Nothing)
     }
 }

@@ -5,6 +5,7 @@ mod classes;
 mod draft;
 mod draft_lint;
 mod fault;
+mod faults;
 mod file;
 mod flow;
 mod laws;

@@ -7,91 +7,82 @@ ghost use Rattle.plant_lint.specs.Faults.{plain, all_of};
 ghost use Rattle.plant_lint.specs.Seen.{HaveSame};
 ghost use Rattle.toml.specs.View.{view};
 
-use crate::fault::{Fault, Wants, add};
+use crate::fault::Wants;
+use crate::faults::Faults;
 use crate::seen::Seen;
 use plant_keys::{tables_at, text_at};
 use plant_model::{FileTable, PlantError, key_place};
-use std::alloc::{AllocError, Global};
+use std::alloc::AllocError;
 use toml::Value;
 
 /// Adds each name that an earlier stage, or an earlier machine of the same stage, has, and gathers the names of the
 /// stages, of which none came before.
 pub(crate) fn find_twice<'a>(
-    alloc: Global,
     stages: &'a [Value],
     seen: &mut Seen<'a>,
-    faults: &mut Vec<Fault>,
+    faults: &mut Faults,
 ) -> Result<(), AllocError>
     requires { seen.old ≡ [] }
     ensures names { OnOk result (HaveSame seen.new (map name_in (views stages.now))) }
-    ensures found { OnOk result (faults.new.items ≡ faults.old.items ++ all_of (λ i s. plain
+    ensures found { OnOk result (faults.new ≡ faults.old ++ all_of (λ i s. plain
         (stage_name_twice (take i (map name_in (views stages.now))) i (view s))) stages.now) }
 {
     for (i, stage) in stages.iter().enumerate() {
-        find_in_stage(alloc, seen, i, stage, faults)?;
+        find_in_stage(seen, i, stage, faults)?;
     }
     Ok(())
 }
 
 /// Adds the name of stage `i` to those before, and finds whether it, or one of its machines' names, stands twice.
 fn find_in_stage<'a>(
-    alloc: Global,
     seen: &mut Seen<'a>,
     i: usize,
     stage: &'a Value,
-    faults: &mut Vec<Fault>,
+    faults: &mut Faults,
 ) -> Result<(), AllocError>
     ensures added { OnOk result (HaveSame seen.new (seen.old ++ name_in (view stage.now) ∷ [])) }
-    ensures found { OnOk result (faults.new.items ≡ faults.old.items
+    ensures found { OnOk result (faults.new ≡ faults.old
         ++ plain (stage_name_twice seen.old i (view stage.now))) }
 {
-    find_name(
-        alloc,
-        seen,
-        FileTable::InStage(i),
-        text_at(stage, "name"),
-        faults,
-    )?;
-    let mut names = Seen::new(alloc);
-    let found = find_in_machines(alloc, i, tables_at(stage, "machine"), &mut names, faults);
+    find_name(seen, FileTable::InStage(i), text_at(stage, "name"), faults)?;
+    let mut names = Seen::new(faults.alloc);
+    let found = find_in_machines(i, tables_at(stage, "machine"), &mut names, faults);
     drop(names);
     found
 }
 
 /// Adds each name of a machine of stage `i` that an earlier one has, where none came before.
 fn find_in_machines<'a>(
-    alloc: Global,
     i: usize,
     machines: &'a [Value],
     seen: &mut Seen<'a>,
-    faults: &mut Vec<Fault>,
+    faults: &mut Faults,
 ) -> Result<(), AllocError>
     requires { seen.old ≡ [] }
-    ensures { OnOk result (faults.new.items ≡ faults.old.items ++ all_of (λ j m. plain
+    ensures { OnOk result (faults.new ≡ faults.old ++ all_of (λ j m. plain
         (machine_name_twice i (map name_in (views machines.now)) j (view m))) machines.now) }
 {
     for (j, machine) in machines.iter().enumerate() {
         let table = FileTable::InMachine(i, j);
-        find_name(alloc, seen, table, text_at(machine, "name"), faults)?;
+        find_name(seen, table, text_at(machine, "name"), faults)?;
     }
     Ok(())
 }
 
 /// Adds the name that a table has to those before, and finds whether it is among them.
 fn find_name<'a>(
-    alloc: Global,
     seen: &mut Seen<'a>,
     table: FileTable,
     name: &'a str,
-    faults: &mut Vec<Fault>,
+    faults: &mut Faults,
 ) -> Result<(), AllocError>
     ensures added { OnOk result (HaveSame seen.new (seen.old ++ name.now ∷ [])) }
-    ensures found { OnOk result (faults.new.items ≡ faults.old.items
+    ensures found { OnOk result (faults.new ≡ faults.old
         ++ plain (name_twice table seen.old name.now)) }
 {
     if seen.add(name)? {
         return Ok(());
     }
-    let place = key_place(alloc, table, "name")?;
-    add(faults, PlantError::NameTwice { place }, Wants::Nothing)
+    let place = key_place(faults.alloc, table, "name")?;
+    faults.add(PlantError::NameTwice { place }, Wants::Nothing)
 }

@@ -6,7 +6,8 @@ ghost use Rattle.plant_lint.specs.FileLints.{faults_or_notes};
 ghost use Rattle.plant_lint.specs.PlantLints.{lint_of_plant, clean_text};
 ghost use Rattle.plant_check.specs.PlantNotes.{plant_notes};
 
-use crate::fault::{Fault, Wants, add};
+use crate::fault::{Fault, Wants};
+use crate::faults::Faults;
 use crate::file::{FileLint, refused};
 use line_base::Text;
 use plant_check::{plant_notes, refusals_of_plant};
@@ -19,7 +20,7 @@ pub fn lint_plant(alloc: Global, file: Option<&str>, plant: &Plant) -> Result<Fi
     requires { all_feeds_not_later plant.now ≡ [] }
     ensures { IfOk result (λ lint. lint ≡ lint_of_plant (option_map (λ name. name.now) file.entry) plant.now) }
 {
-    let faults = faults_of(alloc, refusals_of_plant(alloc, plant)?)?;
+    let faults = faults_of(alloc, refusals_of_plant(alloc, plant)?)?.into_vec();
     let lint = faults_or_plant_notes(alloc, &faults, file, plant);
     drop(faults);
     lint
@@ -43,10 +44,10 @@ fn faults_or_plant_notes(
 }
 
 /// The faults of refusals that say all.
-fn faults_of(alloc: Global, refusals: Vec<PlantError>) -> Result<Vec<Fault>, AllocError>
-    ensures { IfOk result (λ faults. faults.items ≡ plain refusals.items) }
+fn faults_of(alloc: Global, refusals: Vec<PlantError>) -> Result<Faults, AllocError>
+    ensures { IfOk result (λ faults. faults ≡ plain refusals.items) }
 {
-    let mut faults = Vec::new(alloc);
+    let mut faults = Faults::new(alloc);
     match add_plain(refusals, &mut faults) {
         Ok(()) => Ok(faults),
         Err(error) => {
@@ -57,11 +58,11 @@ fn faults_of(alloc: Global, refusals: Vec<PlantError>) -> Result<Vec<Fault>, All
 }
 
 /// Adds refusals that say all.
-fn add_plain(refusals: Vec<PlantError>, faults: &mut Vec<Fault>) -> Result<(), AllocError>
-    ensures { OnOk result (faults.new.items ≡ faults.old.items ++ plain refusals.items) }
+fn add_plain(refusals: Vec<PlantError>, faults: &mut Faults) -> Result<(), AllocError>
+    ensures { OnOk result (faults.new ≡ faults.old ++ plain refusals.items) }
 {
     for error in refusals {
-        add(faults, error, Wants::Nothing)?;
+        faults.add(error, Wants::Nothing)?;
     }
     Ok(())
 }

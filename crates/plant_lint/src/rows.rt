@@ -4,7 +4,7 @@ ghost use Rattle.plant_keys.specs.Code.{views};
 ghost use Rattle.plant_lint.specs.Faults.{all_of, RowFaults};
 ghost use Rattle.toml.specs.View.{view};
 
-use crate::fault::Fault;
+use crate::faults::Faults;
 use std::alloc::AllocError;
 use toml::Value;
 
@@ -14,17 +14,17 @@ pub(crate) trait Rows {
     ghost found: { Self → RowFaults };
 
     /// Adds what is found in row `n`.
-    fn find_in_row(&self, n: usize, row: &Value, faults: &mut Vec<Fault>) -> Result<(), AllocError>
-        ensures { OnOk result (faults.new.items ≡ faults.old.items ++ found self.now n (view row.now)) };
+    fn find_in_row(&self, n: usize, row: &Value, faults: &mut Faults) -> Result<(), AllocError>
+        ensures { OnOk result (faults.new ≡ faults.old ++ found self.now n (view row.now)) };
 }
 
 /// Adds what is found in each row.
 pub(crate) fn find_in_rows<R: Rows>(
     search: &R,
     rows: &[Value],
-    faults: &mut Vec<Fault>,
+    faults: &mut Faults,
 ) -> Result<(), AllocError>
-    ensures { OnOk result (faults.new.items ≡ faults.old.items ++ all_of (R.found search.now) (views rows.now)) }
+    ensures { OnOk result (faults.new ≡ faults.old ++ all_of (R.found search.now) (views rows.now)) }
 {
     for (n, row) in rows.iter().enumerate() {
         search.find_in_row(n, row, faults)?;

@@ -6,6 +6,7 @@ ghost use Rattle.plant_lint.specs.Trees.{last_faults, tree_faults};
 ghost use Rattle.toml.specs.View.{view};
 
 use crate::fault::Fault;
+use crate::faults::Faults;
 use crate::flow::{Finals, find_feeds};
 use crate::names::find_twice;
 use crate::rows::find_in_rows;
@@ -19,41 +20,40 @@ use toml::Value;
 pub fn faults_of_tree(alloc: Global, top: &Value) -> Result<Vec<Fault>, AllocError>
     ensures { IfOk result (λ faults. faults.items ≡ tree_faults (view top.now)) }
 {
-    let mut faults = Vec::new(alloc);
-    find_in_classes(alloc, top, &mut faults)?;
-    Ok(faults)
+    let mut faults = Faults::new(alloc);
+    find_in_classes(top, &mut faults)?;
+    Ok(faults.into_vec())
 }
 
 /// Adds all that is wrong with the tree.
 #[tactic(auto, unfolding(crate::specs::Trees::tree_faults))]
-fn find_in_classes(alloc: Global, top: &Value, faults: &mut Vec<Fault>) -> Result<(), AllocError>
-    ensures { OnOk result (faults.new.items ≡ faults.old.items ++ tree_faults (view top.now)) }
+fn find_in_classes(top: &Value, faults: &mut Faults) -> Result<(), AllocError>
+    ensures { OnOk result (faults.new ≡ faults.old ++ tree_faults (view top.now)) }
 {
-    find_in_tree(alloc, Class::UnknownKeys, top, faults)?;
-    find_in_tree(alloc, Class::MissingKeys, top, faults)?;
-    find_in_tree(alloc, Class::WrongTypes, top, faults)?;
-    find_in_tree(alloc, Class::BadNames, top, faults)?;
-    let mut names = Seen::new(alloc);
-    let found = find_from_names_on(alloc, top, &mut names, faults);
+    find_in_tree(Class::UnknownKeys, top, faults)?;
+    find_in_tree(Class::MissingKeys, top, faults)?;
+    find_in_tree(Class::WrongTypes, top, faults)?;
+    find_in_tree(Class::BadNames, top, faults)?;
+    let mut names = Seen::new(faults.alloc);
+    let found = find_from_names_on(top, &mut names, faults);
     drop(names);
     found
 }
 
 /// Adds the names that stand twice, and what comes after them. No name came before.
 fn find_from_names_on<'a>(
-    alloc: Global,
     top: &'a Value,
     names: &mut Seen<'a>,
-    faults: &mut Vec<Fault>,
+    faults: &mut Faults,
 ) -> Result<(), AllocError>
     requires { names.old ≡ [] }
-    ensures { OnOk result (faults.new.items ≡ faults.old.items
+    ensures { OnOk result (faults.new ≡ faults.old
         ++ (plain (names_twice (view top.now)) ++ last_faults (view top.now))) }
 {
     let stages = tables_at(top, "stage");
-    find_twice(alloc, stages, names, faults)?;
-    find_in_tree(alloc, Class::OutOfRanges, top, faults)?;
-    find_feeds(alloc, names, stages, faults)?;
+    find_twice(stages, names, faults)?;
+    find_in_tree(Class::OutOfRanges, top, faults)?;
+    find_feeds(names, stages, faults)?;
     let count = stages.len();
-    find_in_rows(&Finals { alloc, count }, stages, faults)
+    find_in_rows(&Finals { count }, stages, faults)
 }

@@ -9,5 +9,5 @@ use Rattle.plant_lint.proofs.flow.find_each_feed.Given as goal
 
 abbrev pub invariant-loop-i : goal.invariant-loop-i
 invariant-loop-i l =
-    Gathered (λ i s. feeds_faults (map name_in (views l.stages)) i (view s)) l.stages l.i l.initial.faults.items l.faults.items
+    Gathered (λ i s. feeds_faults (map name_in (views l.stages)) i (view s)) l.stages l.i l.initial.faults l.faults
     × HaveSame l.earlier (take l.i (map name_in (views l.stages)))

@@ -20,7 +20,7 @@ loop-j-preserved c =
     let x = c.index-machines-j.result in (
       gathers (λ j m. plain (machine_name_twice c.args.i names j (view m))) rows j x _ _ _ c.loop-j.invariant.0 (omega arith) c.index-machines-j.is
           (rw c.text_at.ensures at c.in_ok-find_name.ensures.found
-          ∙ ap (λ found. c.loop-j.faults.items ++ plain found) (name_twice-same (InMachine c.args.i j) c.loop-j.seen (take j names) (name_in (view x)) c.loop-j.invariant.1)),
+          ∙ ap (λ found. c.loop-j.faults ++ plain found) (name_twice-same (InMachine c.args.i j) c.loop-j.seen (take j names) (name_in (view x)) c.loop-j.invariant.1)),
       seen_more rows j x _ _ c.loop-j.invariant.1 (rw c.text_at.ensures at c.in_ok-find_name.ensures.added) (omega arith) c.index-machines-j.is,
     )
 

@@ -10,5 +10,5 @@ use Rattle.plant_lint.proofs.names.find_in_machines.Given as goal
 
 abbrev pub invariant-loop-j : goal.invariant-loop-j
 invariant-loop-j l =
-    Gathered (λ j m. plain (machine_name_twice l.i (map name_in (views l.machines)) j (view m))) l.machines l.j l.initial.faults.items l.faults.items
+    Gathered (λ j m. plain (machine_name_twice l.i (map name_in (views l.machines)) j (view m))) l.machines l.j l.initial.faults l.faults
     × HaveSame l.seen (take l.j (map name_in (views l.machines)))

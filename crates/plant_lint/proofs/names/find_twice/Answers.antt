@@ -19,7 +19,7 @@ loop-i-preserved c =
     let x = c.index-stages-i.result in (
       gathers (λ i s. plain (stage_name_twice (take i names) i (view s))) rows i x _ _ _ c.loop-i.invariant.0 (omega arith) c.index-stages-i.is
           (c.in_ok-find_in_stage.ensures.found
-          ∙ ap (λ found. c.loop-i.faults.items ++ plain found) (stage_name_twice-same c.loop-i.seen (take i names) i (view x) c.loop-i.invariant.1)),
+          ∙ ap (λ found. c.loop-i.faults ++ plain found) (stage_name_twice-same c.loop-i.seen (take i names) i (view x) c.loop-i.invariant.1)),
       seen_more rows i x _ _ c.loop-i.invariant.1 c.in_ok-find_in_stage.ensures.added (omega arith) c.index-stages-i.is,
     )
 

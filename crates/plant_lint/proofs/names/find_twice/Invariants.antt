@@ -10,5 +10,5 @@ use Rattle.plant_lint.proofs.names.find_twice.Given as goal
 
 abbrev pub invariant-loop-i : goal.invariant-loop-i
 invariant-loop-i l =
-    Gathered (λ i s. plain (stage_name_twice (take i (map name_in (views l.stages))) i (view s))) l.stages l.i l.initial.faults.items l.faults.items
+    Gathered (λ i s. plain (stage_name_twice (take i (map name_in (views l.stages))) i (view s))) l.stages l.i l.initial.faults l.faults
     × HaveSame l.seen (take l.i (map name_in (views l.stages)))

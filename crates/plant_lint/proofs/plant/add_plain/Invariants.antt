@@ -3,4 +3,4 @@ use Rattle.plant_lint.specs.Faults.{plain}
 use Rattle.plant_lint.proofs.plant.add_plain.Given as goal
 
 abbrev pub invariant-loop-error : goal.invariant-loop-error
-invariant-loop-error l = l.faults.items ≡ l.initial.faults.items ++ plain l.yielded
+invariant-loop-error l = l.faults ≡ l.initial.faults ++ plain l.yielded

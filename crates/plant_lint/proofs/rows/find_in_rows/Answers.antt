@@ -15,4 +15,4 @@ pub returns : goal.returns
 returns g c =
     let found = g.R.Rows.found c.args.search.now in
     gathered_all (λ n v. found n (view v)) c.args.rows.now c.loop-n.n _ _ c.loop-n.invariant (omega arith)
-    ∙ ap (λ added. c.args.faults.now.items ++ added) (sym (all_of_views found c.args.rows.now))
+    ∙ ap (λ added. c.args.faults.now ++ added) (sym (all_of_views found c.args.rows.now))

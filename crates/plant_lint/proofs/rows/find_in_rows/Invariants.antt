@@ -4,4 +4,4 @@ use Rattle.plant_lint.proofs.rows.find_in_rows.Given as goal
 
 abbrev pub invariant-loop-n : goal.invariant-loop-n
 invariant-loop-n g l =
-    Gathered (λ n v. g.R.Rows.found l.search n (view v)) l.rows l.n l.initial.faults.items l.faults.items
+    Gathered (λ n v. g.R.Rows.found l.search n (view v)) l.rows l.n l.initial.faults l.faults

@@ -15,9 +15,9 @@ returns c =
     let rows = c.tables_at-stages.result.now in
     let are = c.tables_at-stages.ensures in
     let names = map name_in (views rows) in
-    let twice = c.find_twice.new.faults.items in
-    let ranges = c.find_in_tree.new.faults.items in
+    let twice = c.find_twice.new.faults in
+    let ranges = c.find_in_tree.new.faults in
     rw (twice_faults top rows are, feeds_rows top rows are, finals_rows top rows are)
-    (then_more _ c.args.faults.now.items twice _ (all_of (λ i s. plain (stage_name_twice (take i names) i (view s))) rows) _ c.in_ok-find_twice.ensures.found
+    (then_more _ c.args.faults.now twice _ (all_of (λ i s. plain (stage_name_twice (take i names) i (view s))) rows) _ c.in_ok-find_twice.ensures.found
     (then_more _ twice ranges _ (walk_faults OutOfRanges top) _ c.in_ok-find_in_tree.ensures
     (then_more _ ranges _ _ (all_of (λ i s. feeds_faults names i (view s)) rows) _ c.in_ok-find_feeds.ensures c.find_in_rows.ensures)))

@@ -7,4 +7,4 @@ use Rattle.plant_lint.proofs.walk.find_members.Given as goal
 
 abbrev pub invariant-loop-name : goal.invariant-loop-name
 invariant-loop-name l =
-    l.initial.faults.items ++ plain (unknown_keys l.table (keys_of l.keys) (table_view l.members)) ≡ l.faults.items ++ plain (unknown_keys l.table (keys_of l.keys) (members_view l.name-iterator))
+    l.initial.faults ++ plain (unknown_keys l.table (keys_of l.keys) (table_view l.members)) ≡ l.faults ++ plain (unknown_keys l.table (keys_of l.keys) (members_view l.name-iterator))

@@ -2,8 +2,8 @@ use Rattle.toml.specs.View.{view}
 use Rattle.plant_keys.specs.Code.{key_of}
 use Rattle.plant_lint.specs.Trees.{key_faults}
 use Rattle.plant_lint.proofs.Gathering.{Gathered}
-use Rattle.plant_lint.proofs.walk.Search.find_in_keys.Given as goal
+use Rattle.plant_lint.proofs.walk.Table.find_in_keys.Given as goal
 
 abbrev pub invariant-loop-key : goal.invariant-loop-key
 invariant-loop-key l =
-    Gathered (λ _ k. key_faults l.self.class l.table (view l.value) (key_of k)) l.keys l.key-index l.initial.faults.items l.faults.items
+    Gathered (λ _ k. key_faults l.self.class l.self.place (view l.self.value.now) (key_of k)) l.keys l.key-index l.initial.faults l.faults

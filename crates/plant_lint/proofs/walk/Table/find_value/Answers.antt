@@ -1,6 +1,6 @@
 use Rattle.std.proofs.Common.{sym, ◌∙◌}
 use Rattle.plant_lint.proofs.ClassFaults.{refused_value, passed_value}
-use Rattle.plant_lint.proofs.walk.Search.find_value.Goals as goal
+use Rattle.plant_lint.proofs.walk.Table.find_value.Goals as goal
 
 pub returns-then-passes : goal.returns-then-passes
 returns-then-passes c =
