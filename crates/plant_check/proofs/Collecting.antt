@@ -1,5 +1,6 @@
 -- One more step of a loop that adds what is refused of each element of a list.
-use Rattle.std.proofs.Common.{◌≡◌, refl, ℕ, suc, ◌+◌, ◌<◌, ◌≤◌, List, ◌∷◌, ◌++◌, length, get_or, drop, sym, ap, ◌∙◌, add-one, append_assoc, append-nil}
+use Rattle.std.proofs.Common.{◌≡◌, refl, ℕ, suc, ◌+◌, ◌<◌, ◌≤◌, List, ◌∷◌, ◌++◌, length, get_or, drop, sym, ap, ◌∙◌, add-one, append_assoc, append-nil, Result, Ok, Err, OnOk}
+use Rattle.std.specs.Prelude.{⊤}
 use Rattle.std.proofs.lemmas.List.{drop_all, get_or_default}
 use Rattle.std.proofs.Math.Seq.{drop-cons}
 use Rattle.plant_model.specs.declared.error.PlantError.{PlantError}
@@ -41,3 +42,11 @@ collected_all f xs i old new h past =
 pub collects_read : {X : Type 0} (f : ℕ → X → List PlantError) (xs : List X) (i : ℕ) (d : X) (old mid new : List PlantError) → Collected f xs i old mid → i < length xs → new ≡ mid ++ f i (get_or xs i d) → Collected f xs (i + 1) old new
 collects_read f xs i d old mid new h below here =
     collects f xs i (get_or xs i d) old mid new h below (get_or_default xs i d _ below) here
+
+-- what is added after two others
+pub then_two : {A E : Type 0} (r : Result ⊤ E) (old mid late new xs ys zs : List A) → mid ≡ old ++ xs → late ≡ mid ++ ys → OnOk r (new ≡ late ++ zs) → OnOk r (new ≡ old ++ ((xs ++ ys) ++ zs))
+then_two (Ok v) old mid late new xs ys zs first next last =
+    last
+    ∙ ap (λ l. l ++ zs) (next ∙ ap (λ l. l ++ ys) first ∙ append_assoc old xs ys)
+    ∙ append_assoc old (xs ++ ys) zs
+then_two (Err e) old mid late new xs ys zs first next last = last

@@ -1,1 +1,2 @@
 pub mod PlantNotes
+pub mod Rules

@@ -1,4 +1,4 @@
-ghost use Rattle.std.specs.Prelude.{◌≡◌};
+ghost use Rattle.std.specs.Prelude.{◌≡◌, ◌++◌, codes};
 ghost use Rattle.plant_model.specs.Place.{key_of};
 ghost use Rattle.plant_model.specs.Refusals.{AnswersFirst, each, above, element_above, empty, cards_out_of_range, top_out_of_range, times_out_of_range, machine_out_of_range, stage_out_of_range, loop_out_of_range, out_of_range};
 
@@ -114,16 +114,16 @@ fn check_loops(alloc: Global, loops: &[CardLoop]) -> Result<(), PlantError>
     ensures { AnswersFirst result (each loop_out_of_range loops.now) }
 {
     for (k, card_loop) in loops.iter().enumerate() {
-        check_loop(alloc, k, card_loop)?;
+        check_loop(alloc, FileTable::InLoop(k), card_loop)?;
     }
     Ok(())
 }
 
-/// Whether the numbers of loop `k` are within their limits.
-fn check_loop(alloc: Global, k: usize, card_loop: &CardLoop) -> Result<(), PlantError>
-    ensures { AnswersFirst result (loop_out_of_range k card_loop.now) }
+/// Whether the numbers of the loop at a table are within their limits.
+fn check_loop(alloc: Global, table: FileTable, card_loop: &CardLoop) -> Result<(), PlantError>
+    ensures { AnswersFirst result (above (key_of table (codes "card_time")) MAX_TIME card_loop.now.card_time
+        ++ above (key_of table (codes "cards")) MAX_CARDS card_loop.now.cards) }
 {
-    let table = FileTable::InLoop(k);
     check_number(alloc, table, "card_time", MAX_TIME, card_loop.card_time)?;
     check_cards(alloc, table, "cards", card_loop.cards)
 }

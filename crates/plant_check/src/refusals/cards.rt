@@ -1,13 +1,24 @@
 //! The cards that are fewer than starting stock needs, and the loops that go down no path.
-ghost use Rattle.std.specs.Prelude.{◌≡◌, ◌<◌, ◌++◌, length, codes, OnOk};
+ghost use Rattle.std.specs.Prelude.{◌≡◌, ◌<◌, ◌++◌, [], if◌then◌else◌, length, codes, OnOk};
+ghost use Rattle.plant_model.specs.Line.{is_first, path_stock};
 ghost use Rattle.plant_model.specs.Place.{key_of};
-ghost use Rattle.plant_model.specs.Refusals.{each, too_few, too_few_in_line, too_few_in_stage, too_few_under, loop_stock, too_few_in_loop, too_few_cards, not_downstream, loops_not_downstream};
+ghost use Rattle.plant_model.specs.Refusals.{each, too_few, too_few_in_line, too_few_in_stage, too_few_under, loop_stock, too_few_cards, loops_not_downstream};
+ghost use Rattle.plant_check.specs.Rules.{refused_loop};
 
 use super::whole::refuse;
 use plant_model::{
     CardLoop, FileTable, PathTable, PlantError, Policy, Stage, key_place, table_place,
 };
 use std::alloc::{AllocError, Global};
+
+/// What each loop keeps.
+#[derive(Clone, Copy)]
+pub(crate) enum LoopRule {
+    /// It has as many cards as its stages have starting stock, where it goes down a path.
+    EnoughCards,
+    /// It goes down a path.
+    Downstream,
+}
 
 /// Adds each place where cards are fewer than starting stock needs, and each loop that goes down no path.
 pub(crate) fn find_on_paths(
@@ -18,10 +29,9 @@ pub(crate) fn find_on_paths(
     ensures { OnOk result (refusals.new.items ≡ refusals.old.items
         ++ (too_few_cards paths.now ++ loops_not_downstream paths.now)) }
 {
-    let loops = paths.plant().loops.as_slice();
     find_few_by_policy(alloc, paths, refusals)?;
-    find_few_in_loops(alloc, paths, loops, refusals)?;
-    find_not_downstream(alloc, paths, loops, refusals)
+    find_in_loops(alloc, paths, LoopRule::EnoughCards, refusals)?;
+    find_in_loops(alloc, paths, LoopRule::Downstream, refusals)
 }
 
 /// Adds each place where the policy's cards are fewer than starting stock needs.
@@ -54,8 +64,8 @@ fn find_few_in_line(
     ensures { OnOk result (refusals.new.items ≡ refusals.old.items
         ++ each (too_few_in_line paths.now cards) stages.now) }
 {
-    for (i, stage) in stages.iter().enumerate() {
-        find_few_on_path(alloc, paths, cards, i, stage, refusals)?;
+    for (i, _) in stages.iter().enumerate() {
+        find_few_on_path(alloc, paths, cards, i, refusals)?;
     }
     Ok(())
 }
@@ -66,12 +76,11 @@ fn find_few_on_path(
     paths: &PathTable,
     cards: u32,
     i: usize,
-    _stage: &Stage,
     refusals: &mut Vec<PlantError>,
 ) -> Result<(), AllocError>
     requires { i < length paths.now.stages }
     ensures { OnOk result (refusals.new.items ≡ refusals.old.items
-        ++ too_few_in_line paths.now cards i _stage.now) }
+        ++ (if is_first paths.now i then too_few (codes "cards") cards (path_stock paths.now i) else [])) }
 {
     if !paths.is_first(i) {
         return Ok(());
@@ -100,39 +109,45 @@ fn find_few_in_stages(
     Ok(())
 }
 
-/// Adds the cards of each loop whose stages have more starting stock; one that goes down no path is passed over.
-fn find_few_in_loops(
+/// Adds each loop that breaks a rule.
+fn find_in_loops(
     alloc: Global,
     paths: &PathTable,
-    loops: &[CardLoop],
+    rule: LoopRule,
     refusals: &mut Vec<PlantError>,
 ) -> Result<(), AllocError>
     ensures { OnOk result (refusals.new.items ≡ refusals.old.items
-        ++ each (too_few_in_loop paths.now) loops.now) }
+        ++ each (refused_loop rule paths.now) paths.now.loops) }
 {
+    let loops = paths.plant().loops.as_slice();
     for (k, card_loop) in loops.iter().enumerate() {
-        find_few_in_loop(alloc, paths, k, card_loop, refusals)?;
+        find_in_loop(alloc, paths, rule, k, card_loop, refusals)?;
     }
     Ok(())
 }
 
-/// Adds the cards of loop `k`, if its stages have more starting stock.
-fn find_few_in_loop(
+/// Adds loop `k`, if it breaks a rule.
+fn find_in_loop(
     alloc: Global,
     paths: &PathTable,
+    rule: LoopRule,
     k: usize,
     card_loop: &CardLoop,
     refusals: &mut Vec<PlantError>,
 ) -> Result<(), AllocError>
     ensures { OnOk result (refusals.new.items ≡ refusals.old.items
-        ++ too_few_in_loop paths.now k card_loop.now) }
+        ++ refused_loop rule paths.now k card_loop.now) }
 {
-    match stock_of_loop(paths, card_loop) {
-        Some(stock) => {
+    match (rule, stock_of_loop(paths, card_loop)) {
+        (LoopRule::EnoughCards, Some(stock)) => {
             let cards = u64::from(card_loop.cards);
             find_few(alloc, FileTable::InLoop(k), cards, stock, refusals)
         }
-        None => Ok(()),
+        (LoopRule::Downstream, None) => {
+            let place = table_place(alloc, FileTable::InLoop(k))?;
+            refuse(refusals, PlantError::LoopNotDownstream { place })
+        }
+        (LoopRule::EnoughCards, None) | (LoopRule::Downstream, Some(_)) => Ok(()),
     }
 }
 
@@ -171,37 +186,4 @@ fn find_few(
             stock,
         },
     )
-}
-
-/// Adds each loop that goes down no path.
-fn find_not_downstream(
-    alloc: Global,
-    paths: &PathTable,
-    loops: &[CardLoop],
-    refusals: &mut Vec<PlantError>,
-) -> Result<(), AllocError>
-    ensures { OnOk result (refusals.new.items ≡ refusals.old.items ++ each (not_downstream paths.now) loops.now) }
-{
-    for (k, card_loop) in loops.iter().enumerate() {
-        find_loop(alloc, paths, k, card_loop, refusals)?;
-    }
-    Ok(())
-}
-
-/// Adds loop `k`, if it goes down no path.
-fn find_loop(
-    alloc: Global,
-    paths: &PathTable,
-    k: usize,
-    card_loop: &CardLoop,
-    refusals: &mut Vec<PlantError>,
-) -> Result<(), AllocError>
-    ensures { OnOk result (refusals.new.items ≡ refusals.old.items
-        ++ not_downstream paths.now k card_loop.now) }
-{
-    if stock_of_loop(paths, card_loop).is_some() {
-        return Ok(());
-    }
-    let place = table_place(alloc, FileTable::InLoop(k))?;
-    refuse(refusals, PlantError::LoopNotDownstream { place })
 }

@@ -62,7 +62,8 @@ fn find_counts(
     ensures { OnOk result (refusals.new.items ≡ refusals.old.items ++ each (stage_times_count jobs) stages.now) }
 {
     for (i, stage) in stages.iter().enumerate() {
-        find_counts_in_stage(alloc, jobs, i, stage.machines.as_slice(), refusals)?;
+        let machines = stage.machines.as_slice();
+        find_counts_in_stage(alloc, jobs, i, machines, refusals)?;
     }
     Ok(())
 }
@@ -79,13 +80,8 @@ fn find_counts_in_stage(
         ++ each (machine_times_count jobs i) machines.now) }
 {
     for (j, machine) in machines.iter().enumerate() {
-        find_count(
-            alloc,
-            jobs,
-            FileTable::InMachine(i, j),
-            &machine.times,
-            refusals,
-        )?;
+        let table = FileTable::InMachine(i, j);
+        find_count(alloc, jobs, table, &machine.times, refusals)?;
     }
     Ok(())
 }
