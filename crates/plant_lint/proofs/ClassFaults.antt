@@ -9,12 +9,13 @@ use Rattle.plant_keys.specs.declared.keys.Kind.{Kind}
 use Rattle.plant_keys.specs.declared.keys.Kind.TheVariants.{PolicyWord, StageName, MachineName, FileName, StageText, Number, Numbers, Tables}
 use Rattle.plant_keys.specs.declared.keys.Class.{Class}
 use Rattle.plant_keys.specs.declared.keys.Class.TheVariants.{UnknownKeys, MissingKeys, WrongTypes, BadNames, OutOfRanges}
+use Rattle.plant_keys.specs.Code.{refusal}
 use Rattle.plant_keys.specs.Readers.{is_filled, elements_of}
 use Rattle.plant_keys.specs.Walk.{element_out, list_out}
 use Rattle.plant_lint.specs.declared.fault.Wants.{Wants}
 use Rattle.plant_lint.specs.declared.fault.Wants.TheVariants.{Between, AnElement}
 use Rattle.plant_lint.specs.Faults.{wanting, all_of, wanted, wanted_range}
-use Rattle.plant_lint.specs.Classes.{error_at, is_in_range, passes, number_faults, limit_faults}
+use Rattle.plant_lint.specs.Classes.{is_in_range, passes, number_faults, limit_faults}
 use Rattle.plant_lint.specs.Trees.{value_faults}
 use Rattle.plant_lint.proofs.FaultLists.{wanting-each}
 
@@ -59,7 +60,7 @@ passed_range (Numbers most may_be_empty) place v h = other_list most may_be_empt
 passed_range (Tables may_be_empty) place v h = none_if _ _ _ h
 
 -- a value that doesn't pass
-pub refused_value : (class : Class) (kind : Kind) (place : List ℕ) (v : Data) → passes class kind v ≡ false → value_faults class kind place v ≡ wanting (wanted class kind v) (error_at class place ∷ [])
+pub refused_value : (class : Class) (kind : Kind) (place : List ℕ) (v : Data) → passes class kind v ≡ false → value_faults class kind place v ≡ wanting (wanted class kind v) (refusal class place ∷ [])
 refused_value UnknownKeys kind place v h = absurd (cc h)
 refused_value MissingKeys kind place v h = absurd (cc h)
 refused_value WrongTypes kind place v h = one_if _ _ _ h

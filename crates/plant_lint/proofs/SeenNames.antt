@@ -17,7 +17,7 @@ use Rattle.std.proofs.lemmas.List.Folds.{list_any-append}
 use Rattle.std.proofs.lemmas.Slice.Eq.{bytes_eq-Decides}
 use Rattle.plant_keys.proofs.NameLists.{names_more, list_any_texts, texts_more}
 use Rattle.plant_lint.specs.Seen.{HaveSame}
-use Rattle.plant_lint.specs.Trees.{is_later}
+use Rattle.plant_lint.specs.Trees.{fed_fault, fed_faults}
 
 -- a name that came is one that came before
 known-same : (seen : List (List ℕ)) (name : List ℕ) → list_any (bytes_eq name) seen ≡ true → HaveSame seen (seen ++ name ∷ [])
@@ -65,6 +65,15 @@ seen_more vs j x seen now before added below is =
     rw (← names_more vs j x (take j (map name_in (views vs))) refl below is)
     (same-push seen now (take j (map name_in (views vs))) (name_in (view x)) before added)
 
+-- what is found of a name that may be new
+pub twice_found : (table : FileTable) (seen : List (List ℕ)) (name : List ℕ) (is_new : Bool) → is_new ≡ not (list_any (bytes_eq name) seen) → refuse_if (not is_new) (NameTwice (key_of table (codes "name"))) ≡ name_twice table seen name
+twice_found table seen name is_new is =
+    ap (λ twice. refuse_if twice (NameTwice (key_of table (codes "name")))) (ap not is ∙ not_not (list_any (bytes_eq name) seen))
+  where
+    not_not : (b : Bool) → not (not b) ≡ b
+    not_not true = refl
+    not_not false = refl
+
 -- whether a name stands twice is told by the names that came, whatever their order
 pub name_twice-same : (table : FileTable) (seen names : List (List ℕ)) (name : List ℕ) → HaveSame seen names → name_twice table seen name ≡ name_twice table names name
 name_twice-same table seen names name h =
@@ -75,7 +84,8 @@ stage_name_twice-same seen names i s h =
     ap (λ own. own ++ machine_names_twice i (tables_at (codes "machine") s)) (name_twice-same (InStage i) seen names (name_in s) h)
 
 -- whether a later stage has a name is told by the names of all, and of those up to this one
-pub is_later-same : (all before names : List (List ℕ)) (i : ℕ) (name : List ℕ) → HaveSame all names → HaveSame before (take (i + 1) names) → (list_any (bytes_eq name) all && not (list_any (bytes_eq name) before)) ≡ is_later names i name
-is_later-same all before names i name h g =
-    ap (λ there. there && not (list_any (bytes_eq name) before)) (h.same name)
-    ∙ ap (λ earlier. list_any (bytes_eq name) names && not earlier) (g.same name)
+pub fed_same : (all before names : List (List ℕ)) (i : ℕ) (name : List ℕ) → HaveSame all names → HaveSame before (take (i + 1) names) → fed_fault (list_any (bytes_eq name) all && not (list_any (bytes_eq name) before)) i name ≡ fed_faults names i name
+fed_same all before names i name h g =
+    ap (λ later. fed_fault later i name)
+    (ap (λ there. there && not (list_any (bytes_eq name) before)) (h.same name)
+    ∙ ap (λ earlier. list_any (bytes_eq name) names && not earlier) (g.same name))

@@ -1,8 +1,6 @@
 -- What a class asks of the value at a key, and what it refuses there.
 use Rattle.std.specs.Prelude.{ℕ, Bool, true, ◌||◌, List, [], Option, None, Some}
 use Rattle.std.specs.Option.{option_map_or}
-use Rattle.plant_model.specs.declared.error.PlantError.{PlantError}
-use Rattle.plant_model.specs.declared.error.PlantError.TheVariants.{UnknownKey, Missing, WrongType, BadName, OutOfRange}
 use Rattle.toml.specs.Data.{Data}
 use Rattle.plant_keys.specs.declared.keys.Kind.{Kind}
 use Rattle.plant_keys.specs.declared.keys.Kind.TheVariants.{PolicyWord, StageName, MachineName, FileName, StageText, Number, Numbers, Tables}
@@ -13,14 +11,6 @@ use Rattle.plant_keys.specs.Walk.{has_kind, keeps_name_rule, is_policy, may_be_n
 use Rattle.plant_lint.specs.declared.fault.Wants.TheVariants.{Between}
 use Rattle.plant_lint.specs.declared.fault.Fault.{Fault}
 use Rattle.plant_lint.specs.Faults.{wanting, all_of}
-
--- the refusal of a class at a place
-abbrev pub error_at : Class → List ℕ → PlantError
-error_at UnknownKeys place = UnknownKey place
-error_at MissingKeys place = Missing place
-error_at WrongTypes place = WrongType place
-error_at BadNames place = BadName place
-error_at OutOfRanges place = OutOfRange place
 
 -- a value of a kind is within its limits; a list has an element, where it needs one
 abbrev pub is_in_range : Kind → Data → Bool

@@ -72,12 +72,16 @@ is_later names i name = list_any (bytes_eq name) names && not (list_any (bytes_e
 abbrev pub shown_name : List ℕ → List ℕ
 shown_name text = if is_filled text then shown text else codes "?"
 
--- 8, of the name that stands at `feeds` of stage i, where all stages have these names
-abbrev pub fed_faults : List (List ℕ) → ℕ → List ℕ → List Fault
-fed_faults names i name =
+-- 8, of the name that stands at `feeds` of stage i, which is that of a later stage or isn't
+abbrev pub fed_fault : Bool → ℕ → List ℕ → List Fault
+fed_fault later i name =
     wanting
     (wants.LaterThan (shown_name name))
-    (refuse_if (not (is_later names i name)) (FeedsNotLater (key_of (InStage i) (codes "feeds"))))
+    (refuse_if (not later) (FeedsNotLater (key_of (InStage i) (codes "feeds"))))
+
+-- the same, where all stages have these names
+abbrev pub fed_faults : List (List ℕ) → ℕ → List ℕ → List Fault
+fed_faults names i name = fed_fault (is_later names i name) i name
 
 -- 8, of stage i
 abbrev pub feeds_faults : List (List ℕ) → ℕ → Data → List Fault

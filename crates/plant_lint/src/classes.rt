@@ -1,8 +1,8 @@
 //! What a class of refusals asks of the value at a key, what it wants there, and what it says where it refuses.
 ghost use Rattle.std.specs.Prelude.{◌≡◌, if◌then◌else◌};
-ghost use Rattle.plant_keys.specs.Code.{views};
+ghost use Rattle.plant_keys.specs.Code.{refusal, views};
 ghost use Rattle.plant_keys.specs.Readers.{is_filled};
-ghost use Rattle.plant_lint.specs.Classes.{error_at, passes, is_in_range, limit_of_numbers, limit_in};
+ghost use Rattle.plant_lint.specs.Classes.{passes, is_in_range, limit_of_numbers, limit_in};
 ghost use Rattle.plant_lint.specs.Faults.{wanted, wanted_name, wanted_range, wanted_type};
 ghost use Rattle.toml.specs.View.{view};
 
@@ -16,8 +16,8 @@ use plant_model::{PlantError, is_reserved};
 use toml::Value;
 
 /// The refusal of a class at a place.
-pub(crate) fn error_at(class: Class, place: Text) -> PlantError
-    ensures { result ≡ error_at class place }
+pub(crate) fn refusal(class: Class, place: Text) -> PlantError
+    ensures { result ≡ refusal class place }
 {
     match class {
         Class::UnknownKeys => PlantError::UnknownKey { place },

@@ -1,10 +1,11 @@
 //! The stages that feed no later one, and those beside the last that feed none.
-ghost use Rattle.std.specs.Prelude.{◌≡◌, ◌+◌, ◌++◌, [], ℕ, List, map, take, OnOk};
+ghost use Rattle.std.specs.List.{list_any};
+ghost use Rattle.std.specs.Prelude.{◌≡◌, ◌+◌, ◌++◌, ◌&&◌, [], ℕ, List, bytes_eq, map, not, take, OnOk};
 ghost use Rattle.plant_keys.specs.Code.{views};
 ghost use Rattle.plant_keys.specs.Readers.{name_in};
 ghost use Rattle.plant_lint.specs.Faults.{all_of};
 ghost use Rattle.plant_lint.specs.Seen.{HaveSame};
-ghost use Rattle.plant_lint.specs.Trees.{shown_name, fed_faults, feeds_faults};
+ghost use Rattle.plant_lint.specs.Trees.{shown_name, fed_fault, feeds_faults};
 ghost use Rattle.toml.specs.View.{view};
 
 use crate::fault::Wants;
@@ -63,23 +64,26 @@ fn find_feed(
         → OnOk result (faults.new ≡ faults.old ++ feeds_faults names i (view stage.now)) }
 {
     match value_at(stage, "feeds") {
-        Some(fed) => find_fed(all, before, i, text_of(fed), faults),
+        Some(fed) => {
+            let name = text_of(fed);
+            find_fed(is_later(all, before, name), i, name, faults)
+        }
         None => Ok(()),
     }
 }
 
-/// The same of the name that stands at `feeds`.
-fn find_fed(
-    all: &Seen<'_>,
-    before: &Seen<'_>,
-    i: usize,
-    name: &str,
-    faults: &mut Faults,
-) -> Result<(), AllocError>
-    ensures { (names : List (List ℕ)) → HaveSame all.now names → HaveSame before.now (take (i + 1) names)
-        → OnOk result (faults.new ≡ faults.old ++ fed_faults names i name.now) }
+/// Whether a later stage has the name, where these are the names of all stages, and of those up to the one that feeds it.
+fn is_later(all: &Seen<'_>, before: &Seen<'_>, name: &str) -> bool
+    ensures { result ≡ (list_any (bytes_eq name.now) all.now && not (list_any (bytes_eq name.now) before.now)) }
 {
-    if all.has(name) && !before.has(name) {
+    all.has(name) && !before.has(name)
+}
+
+/// Adds that stage `i` feeds no later one, if the one of this name isn't later.
+fn find_fed(later: bool, i: usize, name: &str, faults: &mut Faults) -> Result<(), AllocError>
+    ensures { OnOk result (faults.new ≡ faults.old ++ fed_fault later i name.now) }
+{
+    if later {
         return Ok(());
     }
     let place = key_place(faults.alloc, FileTable::InStage(i), "feeds")?;

@@ -1,10 +1,13 @@
 //! The names that stand twice, and the stages that feed no later one.
-ghost use Rattle.std.specs.Prelude.{◌≡◌, ◌++◌, [], ◌∷◌, map, take, OnOk};
+ghost use Rattle.std.specs.Prelude.{◌≡◌, ◌++◌, [], ◌∷◌, not, codes, map, take, OnOk};
 ghost use Rattle.plant_keys.specs.Code.{views};
 ghost use Rattle.plant_keys.specs.Readers.{name_in};
-ghost use Rattle.plant_keys.specs.Walk.{name_twice, machine_name_twice, stage_name_twice};
+ghost use Rattle.plant_keys.specs.Walk.{machine_name_twice, stage_name_twice};
 ghost use Rattle.plant_lint.specs.Faults.{plain, all_of};
 ghost use Rattle.plant_lint.specs.Seen.{HaveSame};
+ghost use Rattle.plant_model.specs.Place.{key_of};
+ghost use Rattle.plant_model.specs.Refusals.{refuse_if};
+ghost use Rattle.plant_model.specs.declared.error.PlantError.TheVariants.{NameTwice};
 ghost use Rattle.toml.specs.View.{view};
 
 use crate::fault::Wants;
@@ -44,7 +47,8 @@ fn find_in_stage<'a>(
     ensures found { OnOk result (faults.new ≡ faults.old
         ++ plain (stage_name_twice seen.old i (view stage.now))) }
 {
-    find_name(seen, FileTable::InStage(i), text_at(stage, "name"), faults)?;
+    let is_new = seen.add(text_at(stage, "name"))?;
+    find_name(FileTable::InStage(i), is_new, faults)?;
     let mut names = Seen::new(faults.alloc);
     let found = find_in_machines(i, tables_at(stage, "machine"), &mut names, faults);
     drop(names);
@@ -63,24 +67,18 @@ fn find_in_machines<'a>(
         (machine_name_twice i (map name_in (views machines.now)) j (view m))) machines.now) }
 {
     for (j, machine) in machines.iter().enumerate() {
-        let table = FileTable::InMachine(i, j);
-        find_name(seen, table, text_at(machine, "name"), faults)?;
+        let is_new = seen.add(text_at(machine, "name"))?;
+        find_name(FileTable::InMachine(i, j), is_new, faults)?;
     }
     Ok(())
 }
 
-/// Adds the name that a table has to those before, and finds whether it is among them.
-fn find_name<'a>(
-    seen: &mut Seen<'a>,
-    table: FileTable,
-    name: &'a str,
-    faults: &mut Faults,
-) -> Result<(), AllocError>
-    ensures added { OnOk result (HaveSame seen.new (seen.old ++ name.now ∷ [])) }
-    ensures found { OnOk result (faults.new ≡ faults.old
-        ++ plain (name_twice table seen.old name.now)) }
+/// Adds that the name of a table stands twice, unless it is new.
+fn find_name(table: FileTable, is_new: bool, faults: &mut Faults) -> Result<(), AllocError>
+    ensures { OnOk result (faults.new ≡ faults.old
+        ++ plain (refuse_if (not is_new) (NameTwice (key_of table (codes "name"))))) }
 {
-    if seen.add(name)? {
+    if is_new {
         return Ok(());
     }
     let place = key_place(faults.alloc, table, "name")?;

@@ -9,7 +9,7 @@ ghost use Rattle.plant_lint.specs.Trees.{key_faults, keys_faults, table_faults, 
 ghost use Rattle.plant_lint.specs.Classes.{limit_faults};
 ghost use Rattle.toml.specs.View.{view, table_view};
 
-use crate::classes::{error_at, limit_of_numbers, passes, wanted};
+use crate::classes::{limit_of_numbers, passes, refusal, wanted};
 use crate::fault::Wants;
 use crate::faults::Faults;
 use crate::rows::{Rows, find_in_rows};
@@ -186,7 +186,7 @@ impl<'a> Table<'a> {
         }
         let place = key_place(faults.alloc, self.place, key.name)?;
         let wants = wanted(self.class, key.kind, value);
-        faults.add(error_at(self.class, place), wants)
+        faults.add(refusal(self.class, place), wants)
     }
 
     /// Adds each number of a list that is outside its limits, where the class is that of limits.

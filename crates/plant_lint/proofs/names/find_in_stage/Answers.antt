@@ -1,8 +1,16 @@
+use Rattle.std.proofs.Common.{ap, ◌++◌, ◌∙◌}
 use Rattle.toml.specs.View.{view}
+use Rattle.plant_model.specs.declared.place.FileTable.TheVariants.{InStage}
+use Rattle.plant_keys.specs.Readers.{name_in}
+use Rattle.plant_lint.specs.Faults.{plain}
+use Rattle.plant_lint.proofs.SeenNames.{twice_found}
 use Rattle.plant_lint.proofs.FaultLists.{stage_twice_faults, then_more}
 use Rattle.plant_lint.proofs.names.find_in_stage.Goals as goal
 
 pub returns-clause-found : goal.returns-clause-found
 returns-clause-found c =
     rw (stage_twice_faults c.args.seen.now c.args.i (view c.args.stage.now) c.tables_at.result.now c.tables_at.ensures)
-    (then_more _ _ _ _ _ _ (rw c.text_at.ensures at c.in_ok-find_name.ensures.found) c.find_in_machines-found.ensures)
+    (then_more _ _ _ _ _ _
+    (c.in_ok-find_name.ensures
+    ∙ ap (λ found. c.args.faults.now ++ plain found) (twice_found (InStage c.args.i) c.args.seen.now (name_in (view c.args.stage.now)) _ (rw c.text_at.ensures at c.in_ok-is_new.ensures.differs)))
+    c.find_in_machines-found.ensures)
