@@ -5,7 +5,7 @@ use Rattle.std.specs.List.{list_any}
 use Rattle.std.specs.Option.{option_map_or}
 use Rattle.plant_model.specs.declared.place.FileTable.{FileTable}
 use Rattle.plant_model.specs.declared.place.FileTable.TheVariants.{Top, InStage, InMachine, InLoop}
-use Rattle.plant_model.specs.declared.error.PlantError.TheVariants.{FeedsNotLater, TwoFinals}
+use Rattle.plant_model.specs.declared.error.PlantError.TheVariants.{NameTwice, FeedsNotLater, TwoFinals}
 use Rattle.plant_model.specs.Place.{place_of, key_of}
 use Rattle.plant_model.specs.Refusals.{refuse_if}
 use Rattle.toml.specs.Data.{Data, get}
@@ -63,6 +63,10 @@ walk_faults class top =
     table_faults class Top top (top_keys top)
     ++ (all_of (stage_faults class (has_stage_cards top)) (tables_at (codes "stage") top)
     ++ all_of (loop_faults class) (tables_at (codes "loop") top))
+
+-- 6, of the name of a table, which is new or isn't
+abbrev pub name_faults : FileTable → Bool → List Fault
+name_faults table is_new = plain (refuse_if (not is_new) (NameTwice (key_of table (codes "name"))))
 
 -- a later stage than stage i has the name, and none up to that one
 abbrev pub is_later : List (List ℕ) → ℕ → List ℕ → Bool

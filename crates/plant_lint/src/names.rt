@@ -1,13 +1,11 @@
 //! The names that stand twice, and the stages that feed no later one.
-ghost use Rattle.std.specs.Prelude.{◌≡◌, ◌++◌, [], ◌∷◌, not, codes, map, take, OnOk};
+ghost use Rattle.std.specs.Prelude.{◌≡◌, ◌++◌, [], ◌∷◌, map, take, OnOk};
 ghost use Rattle.plant_keys.specs.Code.{views};
 ghost use Rattle.plant_keys.specs.Readers.{name_in};
 ghost use Rattle.plant_keys.specs.Walk.{machine_name_twice, stage_name_twice};
 ghost use Rattle.plant_lint.specs.Faults.{plain, all_of};
 ghost use Rattle.plant_lint.specs.Seen.{HaveSame};
-ghost use Rattle.plant_model.specs.Place.{key_of};
-ghost use Rattle.plant_model.specs.Refusals.{refuse_if};
-ghost use Rattle.plant_model.specs.declared.error.PlantError.TheVariants.{NameTwice};
+ghost use Rattle.plant_lint.specs.Trees.{name_faults};
 ghost use Rattle.toml.specs.View.{view};
 
 use crate::fault::Wants;
@@ -75,8 +73,7 @@ fn find_in_machines<'a>(
 
 /// Adds that the name of a table stands twice, unless it is new.
 fn find_name(table: FileTable, is_new: bool, faults: &mut Faults) -> Result<(), AllocError>
-    ensures { OnOk result (faults.new ≡ faults.old
-        ++ plain (refuse_if (not is_new) (NameTwice (key_of table (codes "name"))))) }
+    ensures { OnOk result (faults.new ≡ faults.old ++ name_faults table is_new) }
 {
     if is_new {
         return Ok(());

@@ -14,10 +14,10 @@ loop-j-init c = (gathered_none _ _ _, none_seen _ c.requires)
 
 pub loop-j-preserved : goal.loop-j-preserved
 loop-j-preserved c =
-    let rows = c.args.machines.now in
-    let names = map name_in (views rows) in
+    let x = c.index-machines-j.result in
     let j = c.loop-j.j in
-    let x = c.index-machines-j.result in (
+    let rows = c.args.machines.now in
+    let names = map name_in (views rows) in (
       gathers (λ j m. plain (machine_name_twice c.args.i names j (view m))) rows j x _ _ _ c.loop-j.invariant.0 (omega arith) c.index-machines-j.is
           (c.in_ok-find_name.ensures
           ∙ ap (λ found. c.loop-j.faults ++ plain found) (twice_found (InMachine c.args.i j) c.loop-j.seen (name_in (view x)) _ (rw c.text_at.ensures at c.in_ok-is_new.ensures.differs) ∙ name_twice-same (InMachine c.args.i j) c.loop-j.seen (take j names) (name_in (view x)) c.loop-j.invariant.1)),
