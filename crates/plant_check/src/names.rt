@@ -1,6 +1,6 @@
 ghost use Rattle.std.specs.List.{list_any};
 ghost use Rattle.std.specs.Prelude.{◌≡◌, ◌≤◌, length, bytes_eq};
-ghost use Rattle.plant_model.specs.Refusals.{AnswersFirst, bad_name, bad_names, machine_name_twice, stage_name_twice, names_twice};
+ghost use Rattle.plant_model.specs.Refusals.{AnswersFirst, each, bad_name, bad_names, machine_name_twice, stage_name_twice, names_twice};
 
 use line_base::Name;
 use plant_model::{FileTable, Machine, Plant, PlantError, Stage, is_reserved, key_place};
@@ -53,7 +53,13 @@ fn check_stage_repeated(
         let place = key_place(alloc, FileTable::InStage(i), "name")?;
         return Err(PlantError::NameTwice { place });
     }
-    let machines = stage.machines.as_slice();
+    check_machines_repeated(alloc, i, stage.machines.as_slice())
+}
+
+/// Whether no two of these machines of stage `i` have one name.
+fn check_machines_repeated(alloc: Global, i: usize, machines: &[Machine]) -> Result<(), PlantError>
+    ensures { AnswersFirst result (each (machine_name_twice i machines.now) machines.now) }
+{
     for (j, machine) in machines.iter().enumerate() {
         check_machine_repeated(alloc, i, machines, j, machine)?;
     }

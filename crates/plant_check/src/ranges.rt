@@ -162,11 +162,27 @@ fn check_numbers(
 ) -> Result<(), PlantError>
     ensures { AnswersFirst result (each (element_above (key_of table key.now) limit) numbers.now) }
 {
-    for (k, number) in numbers.as_slice().iter().enumerate() {
-        if *number > limit {
-            let place = element_place(alloc, table, key, k)?;
-            return Err(PlantError::OutOfRange { place });
-        }
+    let items = numbers.as_slice();
+    for (k, number) in items.iter().enumerate() {
+        check_element(alloc, table, key, limit, k, *number)?;
+    }
+    Ok(())
+}
+
+/// Whether number `k` of a list is at most its limit.
+fn check_element(
+    alloc: Global,
+    table: FileTable,
+    key: &str,
+    limit: u64,
+    k: usize,
+    number: u64,
+) -> Result<(), PlantError>
+    ensures { AnswersFirst result (element_above (key_of table key.now) limit k number) }
+{
+    if number > limit {
+        let place = element_place(alloc, table, key, k)?;
+        return Err(PlantError::OutOfRange { place });
     }
     Ok(())
 }

@@ -30,8 +30,8 @@ pub(crate) fn find_on_paths(
         ++ (too_few_cards paths.now ++ loops_not_downstream paths.now)) }
 {
     find_few_by_policy(alloc, paths, refusals)?;
-    find_in_loops(alloc, paths, LoopRule::EnoughCards, refusals)?;
-    find_in_loops(alloc, paths, LoopRule::Downstream, refusals)
+    LoopRule::EnoughCards.find_in_loops(alloc, paths, refusals)?;
+    LoopRule::Downstream.find_in_loops(alloc, paths, refusals)
 }
 
 /// Adds each place where the policy's cards are fewer than starting stock needs.
@@ -109,45 +109,47 @@ fn find_few_in_stages(
     Ok(())
 }
 
-/// Adds each loop that breaks a rule.
-fn find_in_loops(
-    alloc: Global,
-    paths: &PathTable,
-    rule: LoopRule,
-    refusals: &mut Vec<PlantError>,
-) -> Result<(), AllocError>
-    ensures { OnOk result (refusals.new.items ≡ refusals.old.items
-        ++ each (refused_loop rule paths.now) paths.now.loops) }
-{
-    let loops = paths.plant().loops.as_slice();
-    for (k, card_loop) in loops.iter().enumerate() {
-        find_in_loop(alloc, paths, rule, k, card_loop, refusals)?;
+impl LoopRule {
+    /// Adds each loop that breaks the rule.
+    fn find_in_loops(
+        self,
+        alloc: Global,
+        paths: &PathTable,
+        refusals: &mut Vec<PlantError>,
+    ) -> Result<(), AllocError>
+        ensures { OnOk result (refusals.new.items ≡ refusals.old.items
+            ++ each (refused_loop self paths.now) paths.now.loops) }
+    {
+        let loops = paths.plant().loops.as_slice();
+        for (k, card_loop) in loops.iter().enumerate() {
+            self.find_in_loop(alloc, paths, k, card_loop, refusals)?;
+        }
+        Ok(())
     }
-    Ok(())
-}
 
-/// Adds loop `k`, if it breaks a rule.
-fn find_in_loop(
-    alloc: Global,
-    paths: &PathTable,
-    rule: LoopRule,
-    k: usize,
-    card_loop: &CardLoop,
-    refusals: &mut Vec<PlantError>,
-) -> Result<(), AllocError>
-    ensures { OnOk result (refusals.new.items ≡ refusals.old.items
-        ++ refused_loop rule paths.now k card_loop.now) }
-{
-    match (rule, stock_of_loop(paths, card_loop)) {
-        (LoopRule::EnoughCards, Some(stock)) => {
-            let cards = u64::from(card_loop.cards);
-            find_few(alloc, FileTable::InLoop(k), cards, stock, refusals)
+    /// Adds loop `k`, if it breaks the rule.
+    fn find_in_loop(
+        self,
+        alloc: Global,
+        paths: &PathTable,
+        k: usize,
+        card_loop: &CardLoop,
+        refusals: &mut Vec<PlantError>,
+    ) -> Result<(), AllocError>
+        ensures { OnOk result (refusals.new.items ≡ refusals.old.items
+            ++ refused_loop self paths.now k card_loop.now) }
+    {
+        match (self, stock_of_loop(paths, card_loop)) {
+            (LoopRule::EnoughCards, Some(stock)) => {
+                let cards = u64::from(card_loop.cards);
+                find_few(alloc, FileTable::InLoop(k), cards, stock, refusals)
+            }
+            (LoopRule::Downstream, None) => {
+                let place = table_place(alloc, FileTable::InLoop(k))?;
+                refuse(refusals, PlantError::LoopNotDownstream { place })
+            }
+            (LoopRule::EnoughCards, None) | (LoopRule::Downstream, Some(_)) => Ok(()),
         }
-        (LoopRule::Downstream, None) => {
-            let place = table_place(alloc, FileTable::InLoop(k))?;
-            refuse(refusals, PlantError::LoopNotDownstream { place })
-        }
-        (LoopRule::EnoughCards, None) | (LoopRule::Downstream, Some(_)) => Ok(()),
     }
 }
 

@@ -4,4 +4,4 @@ use Rattle.plant_model.proofs.Passes.{Passed}
 use Rattle.plant_check.proofs.ranges.check_numbers.Given as goal
 
 abbrev pub invariant-loop-k : goal.invariant-loop-k
-invariant-loop-k l = Passed (element_above (key_of l.table l.key) l.limit) l.numbers l.k
+invariant-loop-k l = Passed (element_above (key_of l.table l.key) l.limit) l.items l.k
