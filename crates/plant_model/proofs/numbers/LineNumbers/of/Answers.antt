@@ -18,14 +18,13 @@ pub overflow_add-len : goal.overflow_add-len
 overflow_add-len c = omega (arith, few_stages _ c.requires)
 
 pub overflow_cast-machines : goal.overflow_cast-machines
-overflow_cast-machines c = let h = next (goal.at.overflow_cast-machines c).After-len-machines in omega (arith, h.1)
+overflow_cast-machines c = omega (arith, (next (goal.at.overflow_cast-machines c).After-len-machines).1)
 
 pub overflow_add-station : goal.overflow_add-station
-overflow_add-station c = let h = next (goal.at.overflow_add-station c).After-len-machines in omega (arith, h.1)
+overflow_add-station c = omega (arith, (next (goal.at.overflow_add-station c).After-len-machines).1)
 
 pub overflow_add-station-in-loop-stage : goal.overflow_add-station-in-loop-stage
-overflow_add-station-in-loop-stage c =
-    let h = next (goal.at.overflow_add-station-in-loop-stage c).After-len-machines in omega (arith, h.1)
+overflow_add-station-in-loop-stage c = omega (arith, (next (goal.at.overflow_add-station-in-loop-stage c).After-len-machines).1)
 
 pub overflow_mul-arc : goal.overflow_mul-arc
 overflow_mul-arc c = let h = next (goal.at.overflow_mul-arc c).After-len-machines in omega (arith, h.3)
