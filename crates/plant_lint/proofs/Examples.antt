@@ -1,5 +1,5 @@
 -- The definitions at small files, against lines that were written by hand.
-use Rattle.std.specs.Prelude.{◌≡◌, ℕ, pos, List, [], ◌∷◌, ◌++◌, codes, refl}
+use Rattle.std.specs.Prelude.{◌≡◌, ℕ, pos, List, [], ◌++◌, codes, refl}
 use Rattle.std.specs.Fmt.{digits}
 use Rattle.toml.specs.Data.{Data, string, integer, array, table, no_items, item, no_members, member}
 use Rattle.plant_lint.specs.FileLints.{lint_of_tree}
