@@ -11,6 +11,7 @@ use Rattle.plant_model.specs.declared.error.PlantError.{PlantError}
 use Rattle.plant_model.specs.declared.place.FileTable.{FileTable}
 use Rattle.plant_model.specs.declared.place.FileTable.TheVariants.{InMachine}
 use Rattle.plant_model.specs.declared.plant.CardLoop.{CardLoop}
+use Rattle.plant_model.specs.declared.plant.Plant.{Plant}
 use Rattle.plant_model.specs.declared.plant.Policy.{Policy}
 use Rattle.plant_model.specs.declared.plant.Policy.TheVariants.{Kanban, Conwip, BaseStock, Extended}
 use Rattle.plant_model.specs.Line.{no_stage, stations_of, station_count, next, stock_under, starting, feeds, is_first, path_within, path, up_to, is_downstream, path_stock, stock_between}
@@ -235,3 +236,8 @@ finished-counted d dates t jobs are none nothing =
     let within : stays_within jobs d.stages ≡ true = ap (λ n. stays_within n d.stages) are ∙ stays_within-sound d dates t whole in
     ap (λ rs. plant_or_first rs (plant_with d dates t)) whole
     ∙ ap (λ b. Ok (plant_with d dates (table_within b t))) (sym within)
+
+-- the plant that is made, where the columns of one that is too large are left out
+pub plant-left_out : (made : Plant) (d : DraftPlant) (dates : Option (List ℕ)) (jobs : ℕ) (stages : List DraftStage) (table times : Option JobTimes) → made ≡ plant_with d dates table → table ≡ table_within (stays_within jobs stages) times → stages ≡ d.stages → made ≡ plant_with d dates (table_within (stays_within jobs d.stages) times)
+plant-left_out made d dates jobs stages table times is left same =
+    is ∙ ap (plant_with d dates) (left ∙ ap (λ all. table_within (stays_within jobs all) times) same)

@@ -1,9 +1,9 @@
 //! The draft of a plant file, read from its tree. What the walk refuses is read as the value of an absent key.
-ghost use Rattle.std.specs.Prelude.{◌≡◌, ◌≤◌, ◌++◌, [], ◌∷◌, map, position, bytes_eq, OnOk};
+ghost use Rattle.std.specs.Prelude.{◌≡◌, ◌≤◌, ◌++◌, [], ◌∷◌, codes, map, position, bytes_eq, OnOk};
 ghost use Rattle.line_base.specs.declared.limits.TheConstants.{MAX_CARDS};
 ghost use Rattle.plant_file.specs.Code.{Builds};
 ghost use Rattle.plant_file.specs.Reading.{count_at, time_at, column_at, policy_of, demands_of, times_file_of, times_of, machine_of, feeds_of, stage_of, loop_of, draft_of};
-ghost use Rattle.plant_keys.specs.Readers.{number_in, number_of, number_at, numbers_at, text_at, name_in, stage_names};
+ghost use Rattle.plant_keys.specs.Readers.{number_in, number_of, number_at, numbers_at, tables_at, text_at, name_in, stage_names};
 ghost use Rattle.toml.specs.View.{view};
 
 use crate::draft::{DraftDemands, DraftLoop, DraftMachine, DraftPlant, DraftStage, DraftTimes};
@@ -260,13 +260,10 @@ fn loop_of(names: &Names<'_>, card_loop: &Value) -> Result<DraftLoop, PlantError
 }
 
 /// The loops of a file whose stages have these names.
-fn loops_of(
-    alloc: Global,
-    names: &Names<'_>,
-    loops: &[Value],
-) -> Result<Items<DraftLoop>, PlantError>
-    ensures { Builds result (map (λ l. loop_of names.now (view l)) loops.now) }
+fn loops_of(alloc: Global, names: &Names<'_>, top: &Value) -> Result<Items<DraftLoop>, PlantError>
+    ensures { Builds result (map (loop_of names.now) (tables_at (codes "loop") (view top.now))) }
 {
+    let loops = tables_at(top, "loop");
     let mut drafts = Vec::with_capacity(alloc, loops.len())?;
     for card_loop in loops {
         push(&mut drafts, loop_of(names, card_loop)?)?;
@@ -294,7 +291,7 @@ pub(crate) fn draft_of(
     let demands = demands_of(alloc, top)?;
     let times_file = times_file_of(alloc, top)?;
     let observe = numbers_at(alloc, top, "observe", MAX_OBSERVE_DATE)?;
-    let loops = loops_of(alloc, names, tables_at(top, "loop"))?;
+    let loops = loops_of(alloc, names, top)?;
     let stages = stages_of(alloc, names, tables_at(top, "stage"))?;
     Ok(DraftPlant {
         policy: policy_of(top),

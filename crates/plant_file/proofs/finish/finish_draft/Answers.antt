@@ -1,11 +1,10 @@
 use Rattle.std.proofs.Common.{Ok, Err, refl, subst, sym, ap, ◌∙◌}
 use Rattle.plant_model.specs.Refusals.{whole_refusals, first}
 use Rattle.plant_file.specs.Draft.{IsSoundDraft}
-use Rattle.plant_file.specs.Counts.{stays_within, table_within}
 use Rattle.plant_file.specs.Finish.{plant_with}
 use Rattle.plant_file.proofs.PlantParts.{HasColumns-within, AreDates-from, parts-none}
 use Rattle.plant_file.proofs.FinishAnswers.{AnswersPlant-refused}
-use Rattle.plant_file.proofs.LeftOut.{first-counted, whole_refusals-counted, finished-counted}
+use Rattle.plant_file.proofs.LeftOut.{plant-left_out, first-counted, whole_refusals-counted, finished-counted}
 use Rattle.plant_file.proofs.finish.finish_draft.Goals as goal
 
 pub plant_with-requires : goal.plant_with-requires
@@ -33,8 +32,7 @@ returns-in-Err-clause-plant c =
 pub returns-in-Err-check_whole-clause-plant : goal.returns-in-Err-check_whole-clause-plant
 returns-in-Err-check_whole-clause-plant c =
     let d = c.into_plant-draft.result in
-    let table = c.table_within-times.ensures ∙ ap (λ stages. table_within (stays_within c.count_demands-jobs.result stages) c.args.times) c.as_slice-2.ensures in
-    let plant = c.in_ok-plant.ensures.plant ∙ ap (plant_with d _) table in
+    let plant = plant-left_out _ d _ c.count_demands-jobs.result _ _ c.args.times c.in_ok-plant.ensures.plant c.table_within-times.ensures c.as_slice-2.ensures in
     let counted = rw c.as_slice.ensures at c.in-Ok.ensures in
     let whole = ap whole_refusals plant ∙ whole_refusals-counted d _ c.args.times c.count_demands-jobs.result c.count_demands-jobs.ensures counted in
     rw (← c.into_plant-draft.ensures.plant)
@@ -45,8 +43,7 @@ returns-in-Err-check_whole-clause-plant c =
 pub returns-in-Ok-check_whole-clause-plant : goal.returns-in-Ok-check_whole-clause-plant
 returns-in-Ok-check_whole-clause-plant c =
     let d = c.into_plant-draft.result in
-    let table = c.table_within-times.ensures ∙ ap (λ stages. table_within (stays_within c.count_demands-jobs.result stages) c.args.times) c.as_slice-2.ensures in
-    let plant = c.in_ok-plant.ensures.plant ∙ ap (plant_with d _) table in
+    let plant = plant-left_out _ d _ c.count_demands-jobs.result _ _ c.args.times c.in_ok-plant.ensures.plant c.table_within-times.ensures c.as_slice-2.ensures in
     let counted = rw c.as_slice.ensures at c.in-Ok.ensures in
     let none = ap whole_refusals (sym plant) ∙ c.in-Ok-check_whole.ensures.first in
     rw (← c.into_plant-draft.ensures.plant)
