@@ -1,6 +1,7 @@
 -- What a function that reads words answers, by the command that the words are.
 use Rattle.std.proofs.Common.{◌≡◌, ℕ, List, [], ◌∷◌, true, refl}
-use Rattle.std.specs.Prelude.{Option, Some, None, Ok, Err, option_map}
+use Rattle.std.specs.Prelude.{Option, Some, None, Result, Ok, Err, IsErrAnd, option_map}
+use Rattle.std.proofs.lemmas.Result.{err_from_is_err_and}
 use Rattle.line_base.specs.Text.{is_file_name}
 use Rattle.command_line.specs.Ranges.{IsInRange}
 use Rattle.command_line.specs.ReadAs.{IsReadAs}
@@ -18,8 +19,13 @@ pub reads : (c : Command) (command : Option Command) → command ≡ Some c → 
 reads c command is range = record { command_is = is; usage = (λ e. cc, λ none. cc); range = range }
 
 -- no memory for it
-pub lacks : (error : WordsError) (c : Command) (command : Option Command) → error ≡ NoMemory → command ≡ Some c → IsReadAs (Err error) command
+lacks : (error : WordsError) (c : Command) (command : Option Command) → error ≡ NoMemory → command ≡ Some c → IsReadAs (Err error) command
 lacks error c command out is = rw out (record { command_is = tt; usage = (λ e. cc, λ none. cc); range = tt })
+
+-- what the exit of a `?` returns, where the words are a command
+pub lacks_for : (result : Result Command WordsError) (c : Command) (command : Option Command) → IsErrAnd result (λ error. error ≡ NoMemory) → command ≡ Some c → IsReadAs result command
+lacks_for result c command told is =
+    let p = err_from_is_err_and result told in rw p.1 (lacks p.0 c command p.2 is)
 
 -- no command
 pub reads_none : (command : Option Command) → command ≡ None → IsReadAs (Err Usage) command

@@ -40,15 +40,8 @@ seen options = record {
 
 -- no option
 abbrev pub none_given : Given
-none_given = record {
-  workers = None;
-  stop_after = None;
-  save = None;
-  every = None;
-  room = None;
-  slots = false;
-  stand = false;
-}
+none_given =
+    record { workers = None; stop_after = None; save = None; every = None; room = None; slots = false; stand = false }
 
 -- the checkpoint that a word names
 abbrev pub checkpoint_in : List ℕ → Option (List ℕ)

@@ -15,6 +15,8 @@ use Rattle.command_line.specs.declared.words.Question.{Question}
 use Rattle.command_line.specs.declared.words.Question.TheVariants as question
 use Rattle.command_line.specs.declared.words.FileQuestion.{FileQuestion}
 use Rattle.command_line.specs.declared.words.FileQuestion.TheVariants as file_question
+use Rattle.command_line.specs.declared.words.WaitQuestion.{WaitQuestion}
+use Rattle.command_line.specs.declared.words.WaitQuestion.TheVariants as wait_question
 
 -- a command with no word behind it
 abbrev pub alone : Command → List (List ℕ) → Option Command
@@ -76,6 +78,12 @@ asking question.Table plant = Table plant
 abbrev pub asking_of_file : FileQuestion → List ℕ → List ℕ → Command
 asking_of_file file_question.Replay plant schedule = Replay plant schedule
 asking_of_file file_question.WhatIf plant edits = WhatIf plant edits
+
+-- `cards PLANT WAIT`, `cards PLANT WAIT --each` and `latest PLANT WAIT`
+abbrev pub asking_of_wait : WaitQuestion → List ℕ → ℕ → Command
+asking_of_wait wait_question.Cards plant wait = Cards plant wait
+asking_of_wait wait_question.CardsEach plant wait = CardsEach plant wait
+asking_of_wait wait_question.Latest plant wait = Latest plant wait
 
 -- one word, which names a file
 abbrev pub one_file : List (List ℕ) → Option (List ℕ)

@@ -1,5 +1,5 @@
 ghost use Rattle.std.specs.Prelude.{◌≡◌};
-ghost use Rattle.command_line.specs.declared.command.WordsError.{WordsError};
+ghost use Rattle.command_line.specs.declared.command.WordsError.TheVariants.{NoMemory};
 
 use crate::file_name::FileName;
 use crate::screens::Topic;
@@ -181,7 +181,7 @@ pub enum WordsError {
 }
 
 impl From<AllocError> for WordsError {
-    ghost from_gives = { λ _ e. e ≡ WordsError.NoMemory };
+    ghost from_gives = { λ _ e. e ≡ NoMemory };
 
     fn from(_: AllocError) -> Self {
         WordsError::NoMemory

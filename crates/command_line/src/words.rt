@@ -1,16 +1,16 @@
-ghost use Rattle.std.specs.Prelude.{◌≡◌, ◌≤◌, ◌↔◌, IfOk, IsErrOf, Some, None, option_and_then, option_map};
+ghost use Rattle.std.specs.Prelude.{◌≡◌, ◌≢◌, ◌≤◌, ◌↔◌, IfOk, IsErrOf, Some, None, option_and_then, option_map};
 ghost use Rattle.command_line.specs.Numbers.{number_in, longest_wait};
 ghost use Rattle.command_line.specs.Options.{texts};
-ghost use Rattle.command_line.specs.Ranges.{IsInRange};
+ghost use Rattle.command_line.specs.Ranges.{IsInRange, AreSettingsInRange};
 ghost use Rattle.line_base.specs.Limits.{most_cards};
-ghost use Rattle.command_line.specs.Settings.{settings_seen, asked};
+ghost use Rattle.command_line.specs.Settings.{settings_seen, asked, way_seen};
 ghost use Rattle.command_line.specs.ReadAs.{IsReadAs};
 ghost use Rattle.command_line.specs.Words.{alone, asking, run_command, resume_command, resume_slots_command};
-ghost use Rattle.command_line.specs.Words.{with_options, one_file, after_big, after_resume, cards_command};
-ghost use Rattle.command_line.specs.Words.{each_command, after_cards, after_counts, after_curve, latest_command};
+ghost use Rattle.command_line.specs.Words.{with_options, one_file, after_big, after_resume};
+ghost use Rattle.command_line.specs.Words.{after_cards, after_counts, after_curve};
 ghost use Rattle.command_line.specs.Words.{after_latest, why_command, after_why, window_command, after_chart};
 ghost use Rattle.command_line.specs.Words.{plant_command, after_plant_word, help_of, after_help, is_help, after_word};
-ghost use Rattle.command_line.specs.Words.{asking_of_file, command_of};
+ghost use Rattle.command_line.specs.Words.{asking_of_file, asking_of_wait, command_of};
 
 use crate::command::{Command, Stop, WordsError};
 use crate::file_name::FileName;
@@ -19,7 +19,7 @@ use crate::label::is_label_word;
 use crate::limits::{MAX_COUNTS, MAX_WAIT};
 use crate::number::{cards_in, number_in};
 use crate::screens::{Topic, topic_of};
-use crate::settings::{Mode, settings_of};
+use crate::settings::{Mode, Settings, settings_of};
 use line_base::{MAX_DEMANDS, is_checkpoint_name, is_file_name};
 use std::alloc::{AllocError, Global};
 
@@ -173,15 +173,30 @@ fn run(alloc: Global, plant: &str, words: &[String]) -> Result<Command, WordsErr
     let Some(settings) = settings_of(words) else {
         return Err(WordsError::Usage);
     };
+    if let Mode::FromSlots = settings.mode {
+        return Err(WordsError::Usage);
+    }
+    Ok(run_by(alloc, plant, settings)?)
+}
+
+/// The command `run PLANT` with these settings.
+fn run_by(alloc: Global, plant: &str, settings: Settings<'_>) -> Result<Command, AllocError>
+    requires range { AreSettingsInRange settings }
+    requires mode { settings.mode ≢ Mode.FromSlots }
+    ensures command { IfOk result
+        (λ command. run_command plant.now settings.entry.workers (way_seen settings.entry.mode) ≡ Some command) }
+    ensures range { IfOk result IsInRange }
+{
     let workers = settings.workers;
+    let plant = FileName::of(alloc, plant)?;
     match settings.mode {
         Mode::Whole => Ok(Command::Run {
-            plant: FileName::of(alloc, plant)?,
+            plant,
             workers,
             stop: None,
         }),
         Mode::Stopped { after, save } => Ok(Command::Run {
-            plant: FileName::of(alloc, plant)?,
+            plant,
             workers,
             stop: Some(Stop {
                 after,
@@ -189,20 +204,17 @@ fn run(alloc: Global, plant: &str, words: &[String]) -> Result<Command, WordsErr
             }),
         }),
         Mode::Saving { every } => Ok(Command::RunSlots {
-            plant: FileName::of(alloc, plant)?,
+            plant,
             every,
             workers,
         }),
         Mode::Bounded { room } => Ok(Command::RunRoom {
-            plant: FileName::of(alloc, plant)?,
+            plant,
             room,
             workers,
         }),
-        Mode::Standing => Ok(Command::RunStand {
-            plant: FileName::of(alloc, plant)?,
-            workers,
-        }),
-        Mode::FromSlots => Err(WordsError::Usage),
+        Mode::Standing => Ok(Command::RunStand { plant, workers }),
+        Mode::FromSlots => unreachable!(),
     }
 }
 
@@ -361,36 +373,52 @@ fn cards(alloc: Global, plant: &str, words: &[String]) -> Result<Command, WordsE
     ensures { IsReadAs result (after_cards plant.now (texts words.now)) }
 {
     match words {
-        [wait] => cards_of_all(alloc, plant, wait.as_str()),
-        [wait, option] if option.as_str() == "--each" => cards_of_each(alloc, plant, wait.as_str()),
+        [wait] => ask_wait(alloc, plant, wait.as_str(), WaitQuestion::Cards),
+        [wait, option] if option.as_str() == "--each" => {
+            ask_wait(alloc, plant, wait.as_str(), WaitQuestion::CardsEach)
+        }
         _ => Err(WordsError::Usage),
     }
 }
 
-/// The command `cards PLANT WAIT`.
-fn cards_of_all(alloc: Global, plant: &str, wait: &str) -> Result<Command, WordsError>
-    ensures { IsReadAs result (cards_command plant.now wait.now) }
-{
-    let Some(wait) = number_in(wait, 0, MAX_WAIT) else {
-        return Err(WordsError::Usage);
-    };
-    Ok(Command::Cards {
-        plant: FileName::of(alloc, plant)?,
-        wait,
-    })
+/// What is asked of a plant and of a longest wait.
+#[derive(Clone, Copy)]
+enum WaitQuestion {
+    /// `cards PLANT WAIT`.
+    Cards,
+    /// `cards PLANT WAIT --each`.
+    CardsEach,
+    /// `latest PLANT WAIT`.
+    Latest,
 }
 
-/// The command `cards PLANT WAIT --each`.
-fn cards_of_each(alloc: Global, plant: &str, wait: &str) -> Result<Command, WordsError>
-    ensures { IsReadAs result (each_command plant.now wait.now) }
+/// The command of a question, a plant and a word, which is a wait.
+fn ask_wait(
+    alloc: Global,
+    plant: &str,
+    word: &str,
+    question: WaitQuestion,
+) -> Result<Command, WordsError>
+    ensures { IsReadAs result (option_map (asking_of_wait question plant.now) (number_in 0 longest_wait word.now)) }
 {
-    let Some(wait) = number_in(wait, 0, MAX_WAIT) else {
+    let Some(wait) = number_in(word, 0, MAX_WAIT) else {
         return Err(WordsError::Usage);
     };
-    Ok(Command::CardsEach {
-        plant: FileName::of(alloc, plant)?,
-        wait,
-    })
+    let plant = FileName::of(alloc, plant)?;
+    Ok(asking_of_wait(question, plant, wait))
+}
+
+/// The command of a question that names a longest wait.
+fn asking_of_wait(question: WaitQuestion, plant: FileName, wait: u64) -> Command
+    requires { wait ≤ longest_wait }
+    ensures asking { result ≡ asking_of_wait question plant wait }
+    ensures range { IsInRange result }
+{
+    match question {
+        WaitQuestion::Cards => Command::Cards { plant, wait },
+        WaitQuestion::CardsEach => Command::CardsEach { plant, wait },
+        WaitQuestion::Latest => Command::Latest { plant, wait },
+    }
 }
 
 /// The command of the words behind `curve PLANT`.
@@ -447,22 +475,9 @@ fn latest(alloc: Global, plant: &str, words: &[String]) -> Result<Command, Words
     ensures { IsReadAs result (after_latest plant.now (texts words.now)) }
 {
     match words {
-        [wait] => latest_dates(alloc, plant, wait.as_str()),
+        [wait] => ask_wait(alloc, plant, wait.as_str(), WaitQuestion::Latest),
         _ => Err(WordsError::Usage),
     }
-}
-
-/// The command `latest PLANT WAIT`.
-fn latest_dates(alloc: Global, plant: &str, wait: &str) -> Result<Command, WordsError>
-    ensures { IsReadAs result (latest_command plant.now wait.now) }
-{
-    let Some(wait) = number_in(wait, 0, MAX_WAIT) else {
-        return Err(WordsError::Usage);
-    };
-    Ok(Command::Latest {
-        plant: FileName::of(alloc, plant)?,
-        wait,
-    })
 }
 
 /// The command of the words behind `why PLANT`.

@@ -1,19 +1,17 @@
 use Rattle.std.proofs.Common.{◌≡◌, true, [], ◌∷◌, ◌∙◌, sym}
-use Rattle.std.proofs.lemmas.Result.{err_from_is_err_and}
 use Rattle.line_base.specs.Text.{is_file_name}
 use Rattle.command_line.specs.Options.{texts}
-use Rattle.command_line.proofs.ReadCommands.{file_asked, lacks, reads}
+use Rattle.command_line.proofs.ReadCommands.{file_asked, lacks_for, reads}
 use Rattle.command_line.proofs.Texts.{one_text}
 use Rattle.command_line.proofs.words.ask_file.Goals as goal
 
 pub returns-in_err-plant : goal.returns-in_err-plant
 returns-in_err-plant c =
     let file = c.as_bytes.result.now in
-    let p = err_from_is_err_and c.from_residual.result c.from_residual.ensures.1 in
     let word = one_text c.args.words.now c.file-item.result c.in-len1.len_at_least c.in-len1.len_below c.file-item.is in
     let alone : texts c.args.words.now ≡ file ∷ [] = rw c.as_bytes.ensures.value word in
     let is : is_file_name file ≡ true = sym c.is_file_name.ensures ∙ c.if-not-is_file_name.false in
-    rw p.1 (lacks p.0 _ _ p.2 (file_asked c.args.question c.args.plant.now file _ alone is))
+    lacks_for c.from_residual.result _ _ c.from_residual.ensures.1 (file_asked c.args.question c.args.plant.now file _ alone is)
 
 pub returns : goal.returns
 returns c =
