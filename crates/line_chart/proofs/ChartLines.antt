@@ -14,6 +14,9 @@ use Rattle.line_io.proofs.OutgoingLemmas.{pushed_after, pushed_element}
 use Rattle.line_chart.specs.declared.window.Window.{Window}
 use Rattle.line_chart.specs.declared.lanes.Lanes.{Lanes}
 use Rattle.line_chart.specs.declared.bar.Bar.{Bar}
+use Rattle.line_chart.specs.declared.run.ChartRun.{ChartRun}
+use Rattle.line_chart.specs.Machines.{IsMachineOf}
+use Rattle.line_chart.specs.Picture.{IsOfRun}
 use Rattle.event_graph.specs.Network.{jobs}
 use Rattle.line_chart.specs.Bars.{bar, meets, machine_bars}
 use Rattle.line_chart.specs.ChartText.{numbered, lane_number}
@@ -84,6 +87,11 @@ count-read f ms i m below is =
 -- what holds of each holds of the one that was read
 pub all-read : {X : Type 0} (P : X → Type 0) (xs : List X) (i : ℕ) (x : X) → All P xs → i < length xs → x ≡ get_or xs i x → P x
 all-read P xs i x all below is = subst P (sym is) (all i x below)
+
+-- the machine of a run that was read at its number is one of the run's graph
+pub machine_read : (run : ChartRun) (g : Parts) (i : ℕ) (m : Lanes) → IsOfRun run → g ≡ run.live.graph → i < length run.machines.items → m ≡ get_or run.machines.items i m → IsMachineOf g m
+machine_read run g i m of_run same below is =
+    all-read (IsMachineOf g) run.machines.items i m (subst (λ h. All (IsMachineOf h) run.machines.items) (sym (same ∙ of_run.of_plant.live_graph)) of_run.each) below is
 
 pub few_machine_bars : (g : Parts) (x : Table) (w : Window) (m : Lanes) → length (machine_bars g x w m) ≤ jobs g
 unfolding machine_bars

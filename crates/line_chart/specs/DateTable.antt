@@ -1,9 +1,11 @@
 -- The text of a `DateTable`, and of which plant a finished run is.
-use Rattle.std.specs.Prelude.{◌≡◌, ℕ, List, map}
+use Rattle.std.specs.Prelude.{◌≡◌, ℕ, false, List, map}
 use Rattle.plant_model.specs.declared.plant.Plant.{Plant}
 use Rattle.plant_model.specs.Line.{stage_numbers, path_stock}
 use Rattle.event_graph.specs.Table.{date_in}
 use Rattle.line_stats.specs.PlantDates.{PlantDates, AreOfPlant}
+use Rattle.line_core.specs.Run.{IsLeastTable}
+use Rattle.line_io.specs.Outgoing.{Pending, emptied}
 use Rattle.line_chart.specs.TableText.{table_text}
 use Rattle.line_chart.specs.declared.table_run.TableRun.{TableRun}
 
@@ -20,3 +22,7 @@ pub record IsTableRun (run : TableRun) : Type 0 where
   pub of_plant : AreOfPlant run.plant run.live run.table
   pub numbers : run.numbers ≡ run.plant
   pub stocks : run.stocks.items ≡ path_stocks run.plant
+
+-- the dates of a run can be written: they are the least solution, and nothing is held back
+abbrev pub IsWritable : TableRun → Pending → Type 0
+IsWritable run out = IsTableRun run × IsLeastTable run.table × (out ≡ emptied false)

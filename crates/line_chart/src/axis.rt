@@ -9,16 +9,6 @@ use crate::text::write_interleaved;
 use crate::window::Window;
 use line_io::{Outgoing, Sink};
 
-/// The line of a date between its numbers.
-const LINE: [&[u8]; 6] = [
-    b"<line class=\"g\" x1=\"",
-    b"\" y1=\"36\" x2=\"",
-    b"\" y2=\"",
-    b"\"/><text class=\"m\" x=\"",
-    b"\" y=\"30\">",
-    b"</text>\n",
-];
-
 /// The step of the axis of a window that has this many dates.
 fn axis_step(span: u64) -> u64
     ensures step { result ≡ axis_step span }
@@ -50,6 +40,16 @@ fn axis_place(window: Window, date: u64) -> u64
 {
     170 + (date - window.from) * 1000 / (window.to - window.from)
 }
+
+/// The line of a date between its numbers.
+const LINE: [&[u8]; 6] = [
+    b"<line class=\"g\" x1=\"",
+    b"\" y1=\"36\" x2=\"",
+    b"\" y2=\"",
+    b"\"/><text class=\"m\" x=\"",
+    b"\" y=\"30\">",
+    b"</text>\n",
+];
 
 /// Writes the line of a date, down to `end`, and its number.
 fn write_line<K: Sink>(out: &mut Outgoing, sink: &mut K, window: Window, end: u64, date: u64)

@@ -1,19 +1,14 @@
-ghost use Rattle.std.specs.Prelude.{◌≡◌, ◌≤◌, false, IfOk, IfErr};
+ghost use Rattle.std.specs.Prelude.{◌≡◌, IfOk, IfErr};
 ghost use Rattle.event_graph.specs.Table.{date_in};
-ghost use Rattle.line_chart.specs.Machines.{AreLanesOf};
-ghost use Rattle.line_chart.specs.Picture.{Picture, IsDrawn, IsOfRun, IsReason, IsRunOf, IsWindow, MayBeAskedFor};
-ghost use Rattle.line_chart.specs.Picture.{Stays, bars_and_lanes, picture_of, text_of};
+ghost use Rattle.line_chart.specs.Picture.{Picture, IsDrawn, IsReason, IsWindow, MayBeAskedFor, Stays, text_of};
 ghost use Rattle.line_chart.specs.Window.{window_of};
-ghost use Rattle.line_io.specs.Outgoing.{emptied};
 ghost use Rattle.line_io.specs.SinkView.{WritesText};
 ghost use Rattle.line_stats.specs.Counts.{last_date};
 ghost use Rattle.line_stats.specs.PlantDates.{AreOfPlant};
 ghost use Rattle.plant_model.specs.Graph.{graph};
-ghost use Rattle.plant_model.specs.Sound.{IsSound};
 
-use crate::bars::count_bars;
 use crate::error::ChartError;
-use crate::lanes::{Lanes, all_lanes};
+use crate::making::{room_for, run_of};
 use crate::picture::write_picture;
 use crate::run::ChartRun;
 use crate::window::Window;
@@ -21,12 +16,12 @@ use line_core::Table;
 use line_io::{Failed, Outgoing, Sink};
 use line_stats::last;
 use live_check::Live;
-use plant_model::{LineNumbers, Plant};
-use std::alloc::{AllocError, Global};
+use plant_model::Plant;
+use std::alloc::Global;
 use std::marker::Model;
 
 /// The most bars and lanes that a picture may have together.
-const MAX_BARS: u64 = 20_000;
+pub(crate) const MAX_BARS: u64 = 20_000;
 
 /// A picture of a finished run of a plant, and the memory for writing it. Contracts see the plant, the dates and the
 /// window.
@@ -64,67 +59,6 @@ fn window_of(table: &Table, window: Option<(u64, u64)>) -> Window
             to: last(table).max(1),
         },
     }
-}
-
-/// The numbers of the stations of a plant, the lanes of its machines, and how many these are.
-fn lanes_of(alloc: Global, plant: &Plant) -> Result<(LineNumbers, Vec<Lanes>, u64), AllocError>
-    requires { IsSound plant.now }
-    ensures { IfOk result (λ made. AreLanesOf plant.now made.0 made.1.items made.2) }
-{
-    let numbers = LineNumbers::of(alloc, plant)?;
-    match all_lanes(alloc, plant, &numbers) {
-        Ok((machines, lanes)) => Ok((numbers, machines, lanes)),
-        Err(error) => {
-            drop(numbers);
-            Err(error)
-        }
-    }
-}
-
-/// What is drawn of a run of a plant in a window.
-fn run_of(
-    alloc: Global,
-    plant: Plant,
-    live: Live,
-    table: Table,
-    window: Window,
-) -> Result<ChartRun, AllocError>
-    requires of_plant { AreOfPlant plant live table }
-    requires window { IsWindow window }
-    ensures { IfOk result (IsRunOf plant table window) }
-{
-    let _graph = live.graph();
-    match lanes_of(alloc, &plant) {
-        Ok((numbers, machines, lanes)) => Ok(ChartRun {
-            plant,
-            numbers,
-            live,
-            table,
-            machines,
-            lanes,
-            window,
-        }),
-        Err(error) => {
-            drop(plant);
-            drop(live);
-            drop(table);
-            Err(error)
-        }
-    }
-}
-
-/// Room for one piece of the text. A picture of too many bars and lanes is refused.
-fn room_for(alloc: Global, run: &ChartRun) -> Result<Outgoing, ChartError>
-    requires { IsOfRun run.now }
-    ensures room { IfOk result (λ out. out ≡ emptied false) }
-    ensures small { IfOk result (λ _. bars_and_lanes (picture_of run.now) ≤ 20_000) }
-    ensures refused { IfErr result (IsReason (picture_of run.now)) }
-{
-    let bars = count_bars(run) + run.lanes;
-    if bars > MAX_BARS {
-        return Err(ChartError::TooLarge { bars });
-    }
-    Ok(Outgoing::new(alloc)?)
 }
 
 impl Chart {

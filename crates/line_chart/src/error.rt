@@ -1,5 +1,5 @@
 ghost use Rattle.std.specs.Prelude.{◌≡◌};
-ghost use Rattle.line_chart.specs.declared.error.ChartError.{ChartError};
+ghost use Rattle.line_chart.specs.declared.error.ChartError.TheVariants.{NoMemory};
 
 use std::alloc::AllocError;
 
@@ -13,7 +13,7 @@ pub enum ChartError {
 }
 
 impl From<AllocError> for ChartError {
-    ghost from_gives = { λ _ e. e ≡ ChartError.NoMemory };
+    ghost from_gives = { λ _ e. e ≡ NoMemory };
 
     fn from(_: AllocError) -> Self {
         ChartError::NoMemory

@@ -1,7 +1,6 @@
 ghost use Rattle.event_graph.specs.Live.{IsLive};
-ghost use Rattle.line_chart.specs.Laws.{NoneLeavesEarlier, OneServerLeavesThen, ServersAreFreeAtStarts};
+ghost use Rattle.line_chart.specs.Laws.{NoneLeavesEarlier, OneServerLeavesThen, ServersAreFreeAtStarts, AreasAreCounts};
 ghost use Rattle.line_chart.specs.Laws.{PartsServeBehindStock, BarsAreOfJobs, EachJobHasOneBar, BarsStayApart};
-ghost use Rattle.line_chart.specs.Laws.{AreasAreCounts};
 ghost use Rattle.plant_model.specs.Graph.{graph};
 ghost use Rattle.plant_model.specs.Sound.{IsSound};
 ghost use Rattle.plant_model.specs.declared.plant.Plant.{Plant};

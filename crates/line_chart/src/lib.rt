@@ -12,6 +12,8 @@ mod dates;
 mod error;
 mod lanes;
 mod laws;
+mod machines;
+mod making;
 mod names;
 mod picture;
 mod records;

@@ -24,17 +24,14 @@ pub struct DateTable {
 }
 
 impl Model for DateTable {
-    ghost use Rattle.std.specs.Prelude.{◌≡◌, false};
-    ghost use Rattle.line_chart.specs.DateTable.{IsTableRun};
-    ghost use Rattle.line_core.specs.Run.{IsLeastTable};
-    ghost use Rattle.line_io.specs.Outgoing.{emptied};
+    ghost use Rattle.line_chart.specs.DateTable.{IsWritable};
     ghost use Rattle.line_stats.specs.PlantDates.{PlantDates};
 
     ghost Value = { PlantDates };
 
     ghost view = { λ d. record { plant = d.run.plant; rows = d.run.table.rows } };
 
-    ghost invariant = { λ d. IsTableRun d.run × IsLeastTable d.run.table × (d.out ≡ emptied false) };
+    ghost invariant = { λ d. IsWritable d.run d.out };
 }
 
 /// The numbers of a plant's stations, the stock on the path of each stage, and room for one piece of the text.
@@ -44,9 +41,9 @@ fn memory_for(alloc: Global, plant: &Plant) -> Result<(LineNumbers, Vec<u64>, Ou
     ensures stocks { IfOk result (λ made. made.1.items ≡ path_stocks plant.now) }
     ensures out { IfOk result (λ made. made.2 ≡ emptied false) }
 {
-    let out = Outgoing::new(alloc)?;
     let numbers = LineNumbers::of(alloc, plant)?;
     let stocks = path_stocks(alloc, plant)?;
+    let out = Outgoing::new(alloc)?;
     Ok((numbers, stocks, out))
 }
 
@@ -65,24 +62,22 @@ impl DateTable {
         ensures least { IfOk result AreLeastDates }
     {
         let _stations = table.stations();
-        match memory_for(alloc, &plant) {
-            Ok((numbers, stocks, out)) => Ok(DateTable {
-                run: TableRun {
-                    plant,
-                    numbers,
-                    stocks,
-                    live,
-                    table,
-                },
-                out,
-            }),
-            Err(error) => {
-                drop(plant);
-                drop(live);
-                drop(table);
-                Err(error)
-            }
-        }
+        let Ok((numbers, stocks, out)) = memory_for(alloc, &plant) else {
+            drop(plant);
+            drop(live);
+            drop(table);
+            return Err(AllocError);
+        };
+        Ok(DateTable {
+            run: TableRun {
+                plant,
+                numbers,
+                stocks,
+                live,
+                table,
+            },
+            out,
+        })
     }
 
     /// Writes the table to the sink, from its beginning: the names of the fields, and then a record for each station and

@@ -3,10 +3,9 @@ use Rattle.std.proofs.lemmas.List.{take_all}
 use Rattle.plant_model.specs.Graph.{graph}
 use Rattle.event_graph.specs.Table.{date_in}
 use Rattle.line_io.proofs.OutgoingLemmas.{pushed_none}
-use Rattle.line_chart.specs.Machines.{IsMachineOf}
 use Rattle.line_chart.specs.Bars.{machine_bars, bars}
 use Rattle.line_chart.specs.ChartText.{bar_line}
-use Rattle.line_chart.proofs.ChartLines.{pushed_bars_read, all-read}
+use Rattle.line_chart.proofs.ChartLines.{pushed_bars_read, machine_read}
 use Rattle.line_chart.proofs.bars.write_all_bars.Goals as goal
 
 pub loop-number-init : goal.loop-number-init
@@ -14,9 +13,7 @@ loop-number-init g c = pushed_none _
 
 pub write_bars_of-requires-clause-machine : goal.write_bars_of-requires-clause-machine
 write_bars_of-requires-clause-machine g c =
-    let is = c.graph-graph.ensures.graph ∙ c.requires.of_plant.live_graph in
-    let below : c.loop-number.number < length c.args.run.now.machines.items = omega (arith, c.args.run.now.machines.ok.0) in
-    rw is (all-read (IsMachineOf (graph c.args.run.now.plant)) c.args.run.now.machines.items c.loop-number.number c.index-machine.result.now c.requires.each below c.index-machine.ensures)
+    machine_read c.args.run.now _ c.loop-number.number c.index-machine.result.now c.requires c.graph-graph.ensures.graph (omega (arith, c.args.run.now.machines.ok.0)) c.index-machine.ensures
 
 pub loop-number-preserved : goal.loop-number-preserved
 loop-number-preserved g c =

@@ -3,7 +3,7 @@ use Rattle.line_io.specs.Outgoing.{Pushed, stream}
 use Rattle.line_chart.specs.ChartText.{lane_line}
 use Rattle.line_chart.proofs.names.write_names_of.Given as goal
 
--- the names of the lanes before are written
+-- the names of earlier lanes are written
 abbrev pub invariant-loop-lane : goal.invariant-loop-lane
 invariant-loop-lane g l =
     Pushed (stream (g.K.Sink.shown l.initial.sink) l.initial.out)

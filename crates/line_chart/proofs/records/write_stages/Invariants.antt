@@ -4,7 +4,7 @@ use Rattle.event_graph.specs.Table.{date_in}
 use Rattle.line_chart.specs.TableText.{stage_records}
 use Rattle.line_chart.proofs.records.write_stages.Given as goal
 
--- the records of the stages before are written
+-- the records of earlier stages are written
 abbrev pub invariant-loop-stage : goal.invariant-loop-stage
 invariant-loop-stage g l =
     Pushed (stream (g.K.Sink.shown l.initial.sink) l.initial.out)

@@ -4,7 +4,7 @@ use Rattle.plant_model.specs.Graph.{graph}
 use Rattle.event_graph.specs.Live.{IsLive}
 use Rattle.line_chart.specs.Machines.{IsMachineOf}
 use Rattle.line_chart.proofs.LaneFacts.{are_machines}
-use Rattle.line_chart.proofs.chart.run_of.Goals as goal
+use Rattle.line_chart.proofs.making.run_of.Goals as goal
 
 pub returns-in-Ok : goal.returns-in-Ok
 returns-in-Ok c =

@@ -2,7 +2,7 @@ use Rattle.std.proofs.Common.{◌≡◌, ◌*◌, ◌≤◌}
 use Rattle.std.specs.List.{flat_map, range_with_len}
 use Rattle.plant_model.specs.Line.{release}
 use Rattle.line_chart.specs.Bars.{lanes_of_stages, stage_machines}
-use Rattle.line_chart.proofs.lanes.all_lanes.Given as goal
+use Rattle.line_chart.proofs.machines.all_lanes.Given as goal
 
 -- the lanes of the stages before
 abbrev pub invariant-loop-stage : goal.invariant-loop-stage

@@ -1,7 +1,7 @@
 use Rattle.std.proofs.Common.{◌≡◌, ◌+◌, ◌*◌, ◌≤◌, ◌++◌, map}
 use Rattle.std.specs.List.{range_with_len}
 use Rattle.line_chart.specs.Bars.{lanes_before, machine_lanes}
-use Rattle.line_chart.proofs.lanes.add_stage.Given as goal
+use Rattle.line_chart.proofs.machines.add_stage.Given as goal
 
 -- the lanes of the machines before
 abbrev pub invariant-loop-before : goal.invariant-loop-before

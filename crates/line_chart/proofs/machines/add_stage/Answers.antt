@@ -5,7 +5,7 @@ use Rattle.plant_model.proofs.LayoutFacts.{small_last_machine}
 use Rattle.plant_model.proofs.SoundPlants.{HasSoundSizes-sound}
 use Rattle.line_chart.specs.Bars.{lanes, lanes_before}
 use Rattle.line_chart.proofs.LaneFacts.{machine-read, machines-count, lanes-more, few_lanes, lanes_before-next, stage_lanes-read}
-use Rattle.line_chart.proofs.lanes.add_stage.Goals as goal
+use Rattle.line_chart.proofs.machines.add_stage.Goals as goal
 use Rattle.line_graph.proofs.Sizes.{jobs-graph}
 
 pub overflow_cast-most : goal.overflow_cast-most

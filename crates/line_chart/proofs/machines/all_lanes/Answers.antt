@@ -3,7 +3,7 @@ use Rattle.std.specs.List.{flat_map, range_with_len}
 use Rattle.plant_model.proofs.LayoutFacts.{few_stages}
 use Rattle.line_chart.specs.Bars.{lanes_of_stages, lane_count, machines, stage_machines}
 use Rattle.line_chart.proofs.LaneFacts.{machines-more, small_count}
-use Rattle.line_chart.proofs.lanes.all_lanes.Goals as goal
+use Rattle.line_chart.proofs.machines.all_lanes.Goals as goal
 
 pub overflow_cast-stage : goal.overflow_cast-stage
 overflow_cast-stage c = omega (arith, few_stages c.args.plant.now c.requires.sound)
