@@ -38,13 +38,17 @@ no_later-each o f (x ∷ xs) h zero d low = no_later-first o (f x) (earliest f x
 no_later-each o f (x ∷ xs) h (suc k) d low =
     no_later-each o f xs (no_later-second o (f x) (earliest f xs) h) k d (omega arith)
 
-pub no_later-all : (o : Option ℕ) (f : ℕ → Option ℕ) (xs : List ℕ) → All (λ x. IsNoLater o (f x)) xs → IsNoLater o (earliest f xs)
+-- what holds of no date, and of the earlier of any two of which it holds, holds of the earliest where it holds of each
+earliest-all : (P : Option ℕ → Type 0) (f : ℕ → Option ℕ) (xs : List ℕ) → P None → ((a b : Option ℕ) → P a → P b → P (earlier a b)) → All (λ x. P (f x)) xs → P (earliest f xs)
 unfolding earliest
-no_later-all o f [] all = tt
-no_later-all o f (x ∷ xs) all =
-    no_later-both o (f x) (earliest f xs)
-    (All-head (λ y. IsNoLater o (f y)) x xs all)
-    (no_later-all o f xs (All-tail (λ y. IsNoLater o (f y)) x xs all))
+earliest-all P f [] none both all = none
+earliest-all P f (x ∷ xs) none both all =
+    both (f x) (earliest f xs)
+    (All-head (λ y. P (f y)) x xs all)
+    (earliest-all P f xs none both (All-tail (λ y. P (f y)) x xs all))
+
+pub no_later-all : (o : Option ℕ) (f : ℕ → Option ℕ) (xs : List ℕ) → All (λ x. IsNoLater o (f x)) xs → IsNoLater o (earliest f xs)
+no_later-all o f xs all = earliest-all (IsNoLater o) f xs tt (no_later-both o) all
 
 -- a date, if it is one, is at most so much
 abbrev pub IsWithin : ℕ → Option ℕ → Type 0
@@ -57,12 +61,7 @@ within-both most (Some a) None first second = first
 within-both most (Some a) (Some b) first second = omega arith
 
 pub within-all : (most : ℕ) (f : ℕ → Option ℕ) (xs : List ℕ) → All (λ x. IsWithin most (f x)) xs → IsWithin most (earliest f xs)
-unfolding earliest
-within-all most f [] all = tt
-within-all most f (x ∷ xs) all =
-    within-both most (f x) (earliest f xs)
-    (All-head (λ y. IsWithin most (f y)) x xs all)
-    (within-all most f xs (All-tail (λ y. IsWithin most (f y)) x xs all))
+within-all most f xs all = earliest-all (IsWithin most) f xs tt (within-both most) all
 
 -- functions that agree on a list have the same earliest value there
 pub earliest-same : (f h : ℕ → Option ℕ) (xs : List ℕ) → All (λ x. f x ≡ h x) xs → earliest f xs ≡ earliest h xs

@@ -1,11 +1,12 @@
 -- What contracts see of a `Latest`, and when none is answered.
-use Rattle.std.specs.Prelude.{◌≡◌, ℕ, ◌+◌, ◌-◌, ◌*◌, ◌≤◌, List, length, slice_index_or, Option, None, Some, ⊤}
+use Rattle.std.specs.Prelude.{◌≡◌, ℕ, ◌+◌, ◌-◌, ◌*◌, ◌≤◌, false, List, length, slice_index_or, Option, None, Some, ⊤}
 use Rattle.line_base.specs.declared.event.Parts.{Parts}
 use Rattle.event_graph.specs.Network.{stations, jobs, arc, delay}
 use Rattle.event_graph.specs.Table.{Table, date_in}
 use Rattle.event_graph.specs.Term.{work}
 use Rattle.live_check.specs.Order.{LiveGraph}
 use Rattle.line_core.specs.Run.{IsLeastTable}
+use Rattle.line_io.specs.Outgoing.{Pending, emptied}
 use Rattle.what_if.specs.Page.{IsDate}
 use Rattle.what_if.specs.Sheet.{date_count}
 use Rattle.card_sizing.specs.Serving.{wait_until, NoneWaitsLonger, IsFirstLate}
@@ -84,3 +85,7 @@ found_of run = record { live = run.live; rows = run.table.rows; may = run.wait; 
 pub record IsRun (run : LatestRun) : Type 0 where
   pub of_graph : run.table.graph ≡ run.live.graph
   pub found : IsFound (found_of run)
+
+-- the latest dates of a run can be written: they are found, and nothing is held back
+abbrev pub IsWritable : LatestRun → Pending → Type 0
+IsWritable run out = IsRun run × (out ≡ emptied false)

@@ -1,5 +1,5 @@
 ghost use Rattle.std.specs.Prelude.{◌≡◌};
-ghost use Rattle.latest_dates.specs.declared.error.LatestError.{LatestError};
+ghost use Rattle.latest_dates.specs.declared.error.LatestError.TheVariants.{NoMemory};
 
 use std::alloc::AllocError;
 
@@ -13,7 +13,7 @@ pub enum LatestError {
 }
 
 impl From<AllocError> for LatestError {
-    ghost from_gives = { λ _ e. e ≡ LatestError.NoMemory };
+    ghost from_gives = { λ _ e. e ≡ NoMemory };
 
     fn from(_: AllocError) -> Self {
         LatestError::NoMemory

@@ -1,15 +1,11 @@
-ghost use Rattle.std.specs.Prelude.{◌≡◌, ◌^◌, ◌<◌, false, IfOk, IfErr, OnOk};
+ghost use Rattle.std.specs.Prelude.{◌≡◌, ◌^◌, ◌<◌, IfOk, IfErr};
 ghost use Rattle.event_graph.specs.Table.{date_in};
-ghost use Rattle.latest_dates.specs.Found.{latest_in, HasDates, NoneIsBefore, IsFound, IsInTime, IsLatestRefusal, text_of};
-ghost use Rattle.latest_dates.specs.Latest.{AreLatest};
-ghost use Rattle.line_io.specs.Outgoing.{emptied};
+ghost use Rattle.latest_dates.specs.Found.{IsFound, IsLatestRefusal, text_of};
 ghost use Rattle.line_io.specs.SinkView.{WritesText};
 
 use crate::error::LatestError;
-use crate::latest_date::LatestDate;
-use crate::pass::latest_of;
+use crate::pass::dates_of;
 use crate::run::LatestRun;
-use crate::waits::first_late;
 use crate::writing::write_latest;
 use line_core::Table;
 use line_io::{Failed, Outgoing, Sink};
@@ -26,44 +22,13 @@ pub struct Latest {
 }
 
 impl Model for Latest {
-    ghost use Rattle.std.specs.Prelude.{◌≡◌, false};
-    ghost use Rattle.line_io.specs.Outgoing.{emptied};
-    ghost use Rattle.latest_dates.specs.Found.{Found, found_of, IsRun};
+    ghost use Rattle.latest_dates.specs.Found.{Found, found_of, IsWritable};
 
     ghost Value = { Found };
 
     ghost view = { λ latest. found_of latest.run };
 
-    ghost invariant = { λ latest. IsRun latest.run × (latest.out ≡ emptied false) };
-}
-
-/// The latest dates of a run, and room for one piece of their text; or the first job that waits longer than `wait`.
-fn dates_of(
-    alloc: Global,
-    live: &Live,
-    table: &Table,
-    wait: u64,
-) -> Result<(Vec<LatestDate>, Outgoing), LatestError>
-    requires of_graph { table.now.graph ≡ live.now.graph }
-    requires small { wait < 2 ^ 63 }
-    ensures in_time { OnOk result (IsInTime live.now.graph (date_in table.now.rows) wait) }
-    ensures places { IfOk result (λ made. HasDates live.now made.0.items) }
-    ensures latest { IfOk result
-        (λ made. AreLatest live.now.graph wait (latest_in live.now made.0.items)) }
-    ensures not_before { IfOk result
-        (λ made. NoneIsBefore live.now.graph (date_in table.now.rows) (latest_in live.now made.0.items)) }
-    ensures room { IfOk result (λ made. made.1 ≡ emptied false) }
-    ensures refused { IfErr result (IsLatestRefusal live.now.graph (date_in table.now.rows) wait) }
-{
-    if let Some(late) = first_late(live.graph(), table, wait) {
-        return Err(LatestError::Late {
-            job: late.job,
-            wait: late.wait,
-        });
-    }
-    let out = Outgoing::new(alloc)?;
-    let dates = latest_of(alloc, live, table, wait)?;
-    Ok((dates, out))
+    ghost invariant = { λ latest. IsWritable latest.run latest.out };
 }
 
 /// How late each job may be at each station, so that every customer waits at most `wait`, over a run of a live graph.
@@ -89,8 +54,6 @@ pub fn latest_dates(
     ensures found { IfOk result IsFound }
     ensures refused { IfErr result (IsLatestRefusal live.graph (date_in table.rows) wait) }
 {
-    // For its clause that the dates are the least solution.
-    let _least = table.stations();
     match dates_of(alloc, &live, &table, wait) {
         Ok((dates, out)) => Ok(Latest {
             run: LatestRun {

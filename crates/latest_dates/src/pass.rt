@@ -1,15 +1,19 @@
-ghost use Rattle.std.specs.Prelude.{◌≡◌, ◌-◌, ◌*◌, ◌^◌, ◌<◌, ◌≤◌, IfOk};
+ghost use Rattle.std.specs.Prelude.{◌≡◌, ◌-◌, ◌*◌, ◌^◌, ◌<◌, ◌≤◌, false, IfOk, IfErr};
 ghost use Rattle.event_graph.specs.Network.{stations, jobs};
 ghost use Rattle.event_graph.specs.Table.{date_in};
 ghost use Rattle.latest_dates.specs.ArcBounds.{AreBoundsOf};
-ghost use Rattle.latest_dates.specs.Found.{latest_in, HasDates, IsInTime, NoneIsBefore};
+ghost use Rattle.latest_dates.specs.Found.{latest_in, HasDates, IsFound, IsInTime, IsLatestRefusal, NoneIsBefore};
 ghost use Rattle.latest_dates.specs.Latest.{AreLatest};
 ghost use Rattle.latest_dates.specs.Pass.{AreLatestFrom, IsServable};
+ghost use Rattle.line_io.specs.Outgoing.{emptied};
 
 use crate::arc_bounds::{ArcBound, arc_bounds};
 use crate::bounds::{earliest_bound, place};
+use crate::error::LatestError;
 use crate::latest_date::LatestDate;
+use crate::waits::check_waits;
 use line_core::Table;
+use line_io::Outgoing;
 use live_check::Live;
 use std::alloc::{AllocError, Global};
 
@@ -39,7 +43,7 @@ fn find_job(dates: &mut [LatestDate], bounds: &[ArcBound], live: &Live, wait: u6
 /// date to the first, by job and then by the rank of the station, and takes memory for the dates and the arcs alone.
 ///
 /// Source of the rule: Baccelli, Cohen, Olsder and Quadrat, Synchronization and Linearity, backward equations.
-pub fn latest_of(
+fn latest_of(
     alloc: Global,
     live: &Live,
     table: &Table,
@@ -65,4 +69,30 @@ pub fn latest_of(
         find_job(&mut dates, &bounds, live, wait, jobs - behind);
     }
     Ok(dates)
+}
+
+/// The latest dates of a run, and room for one piece of their text; or the first job that waits longer than `wait`.
+pub fn dates_of(
+    alloc: Global,
+    live: &Live,
+    table: &Table,
+    wait: u64,
+) -> Result<(Vec<LatestDate>, Outgoing), LatestError>
+    requires of_graph { table.now.graph ≡ live.now.graph }
+    requires small { wait < 2 ^ 63 }
+    ensures found { IfOk result (λ made. IsFound (record {
+      live = live.now;
+      rows = table.now.rows;
+      may = wait;
+      dates = made.0.items;
+    })) }
+    ensures room { IfOk result (λ made. made.1 ≡ emptied false) }
+    ensures refused { IfErr result (IsLatestRefusal live.now.graph (date_in table.now.rows) wait) }
+{
+    // For its clause that the dates are the least solution.
+    let _least = table.stations();
+    check_waits(live.graph(), table, wait)?;
+    let out = Outgoing::new(alloc)?;
+    let dates = latest_of(alloc, live, table, wait)?;
+    Ok((dates, out))
 }

@@ -1,20 +1,13 @@
 //! How long jobs wait for their delivery.
-ghost use Rattle.std.specs.Prelude.{◌≡◌, ◌≤◌, MatchOption};
+ghost use Rattle.std.specs.Prelude.{◌≡◌, ◌≤◌, MatchResult};
 ghost use Rattle.event_graph.specs.Network.{jobs};
 ghost use Rattle.event_graph.specs.Table.{date_in};
-ghost use Rattle.latest_dates.specs.Found.{wait_of, IsInTime};
-ghost use Rattle.card_sizing.specs.Serving.{IsFirstLate};
+ghost use Rattle.latest_dates.specs.Found.{wait_of, IsInTime, IsLatestRefusal};
 
+use crate::error::LatestError;
 use event_graph::Graph;
 use line_core::Table;
 use plant_model::FEED;
-
-/// A job, and how long it waits for its delivery.
-#[derive(Clone, Copy)]
-pub struct LateJob {
-    pub job: u32,
-    pub wait: u64,
-}
 
 /// How long job `n` waits, from its demand until the last station is done with it.
 fn wait_of(table: &Table, n: u32) -> u64
@@ -26,19 +19,19 @@ fn wait_of(table: &Table, n: u32) -> u64
     delivered.saturating_sub(table.date(FEED, n))
 }
 
-/// The first job that waits longer than `may`. It takes no memory.
-pub fn first_late(graph: &Graph, table: &Table, may: u64) -> Option<LateJob>
+/// Refuses the first job that waits longer than `may`. It takes no memory.
+pub fn check_waits(graph: &Graph, table: &Table, may: u64) -> Result<(), LatestError>
     requires of_graph { table.now.graph ≡ graph.now }
-    ensures { MatchOption result
-        (IsInTime graph.now (date_in table.now.rows) may)
-        (λ late. IsFirstLate (wait_of graph.now (date_in table.now.rows)) (jobs graph.now) may late.job late.wait) }
+    ensures { MatchResult result
+        (λ _. IsInTime graph.now (date_in table.now.rows) may)
+        (IsLatestRefusal graph.now (date_in table.now.rows) may) }
 {
     for before in 0..graph.jobs() {
         let job = before + 1;
         let wait = wait_of(table, job);
         if wait > may {
-            return Some(LateJob { job, wait });
+            return Err(LatestError::Late { job, wait });
         }
     }
-    None
+    Ok(())
 }

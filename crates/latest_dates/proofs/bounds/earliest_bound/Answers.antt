@@ -18,11 +18,11 @@ loop-a-preserved c =
 pub returns : goal.returns
 unfolding earliest_bound
 returns c =
-    let live = c.args.live.now in
-    let bounds = bound live.graph (latest_in live c.args.dates.now) c.args.n in
+    let graph = c.args.live.now.graph in
+    let bounds = bound graph (latest_in c.args.live.now c.args.dates.now) c.args.n in
     let items = c.outs-outs.result.now in
     let is = c.graph-graph.ensures.graph in
     sym (earliest-past bounds items c.loop-a.a-index c.loop-a.earliest (omega arith))
     ∙ c.loop-a.invariant
     ∙ ap (λ o. earlier o (earliest bounds items)) (c.promised-earliest.ensures ∙ ap (λ (h : Parts). promised h c.args.wait c.args.t c.args.n) is)
-    ∙ ap (λ (l : List ℕ). earlier (promised live.graph c.args.wait c.args.t c.args.n) (earliest bounds l)) (c.outs-outs.ensures.arcs ∙ ap (λ (h : Parts). outs h c.args.t) is)
+    ∙ ap (λ (l : List ℕ). earlier (promised graph c.args.wait c.args.t c.args.n) (earliest bounds l)) (c.outs-outs.ensures.arcs ∙ ap (λ (h : Parts). outs h c.args.t) is)

@@ -43,11 +43,8 @@ loop-next-preserved g c =
 
 pub returns-clause-written : goal.returns-clause-written
 returns-clause-written g c =
-    let h = c.args.run.now.live.graph in
-    let x = date_in c.args.run.now.table.rows in
-    let y = latest_of (found_of c.args.run.now) in
-    let all : c.loop-next.next ≡ jobs h = omega (arith, c.jobs-jobs.ensures.count, ap jobs c.graph-graph.ensures.graph, c.loop-next.invariant.within) in
-    rw (all, job_lines-all h x y c.args.t) at c.loop-next.invariant.lines
+    let all : c.loop-next.next ≡ jobs c.args.run.now.live.graph = omega (arith, c.jobs-jobs.ensures.count, ap jobs c.graph-graph.ensures.graph, c.loop-next.invariant.within) in
+    rw (all, job_lines-all) at c.loop-next.invariant.lines
 
 pub returns-clause-tight : goal.returns-clause-tight
 returns-clause-tight g c =

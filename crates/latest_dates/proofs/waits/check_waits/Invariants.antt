@@ -1,7 +1,7 @@
 use Rattle.std.proofs.Common.{ℕ, ◌≤◌}
 use Rattle.event_graph.specs.Table.{date_in}
 use Rattle.latest_dates.specs.Found.{wait_of}
-use Rattle.latest_dates.proofs.waits.first_late.Given as goal
+use Rattle.latest_dates.proofs.waits.check_waits.Given as goal
 
 -- no job before waits longer
 abbrev pub invariant-loop-before : goal.invariant-loop-before
