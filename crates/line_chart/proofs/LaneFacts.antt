@@ -9,7 +9,7 @@ use Rattle.std.proofs.lemmas.List.FromFn.{map-range_with_len_more, length-map-ra
 use Rattle.std.proofs.lemmas.List.Sums.{sum_by-append, sum_by-cons}
 use Rattle.std.proofs.lemmas.List.Elements.{All-weaker}
 use Rattle.line_base.specs.declared.event.Arc.{Arc}
-use Rattle.line_base.proofs.RangeLists.{All-map-range, All-flat_map-range, flat_map-range_more, range-more}
+use Rattle.line_base.proofs.RangeLists.{All-map-range, All-flat_map-range, flat_map-range_more}
 use Rattle.plant_model.specs.declared.plant.Plant.{Plant}
 use Rattle.plant_model.specs.Stages.{Stage, Machine}
 use Rattle.plant_model.specs.Line.{no_stage, no_machine, stage_at, machine_at, machine_station, release, stage_numbers}
@@ -18,7 +18,7 @@ use Rattle.plant_model.specs.Sound.{IsSound}
 use Rattle.plant_model.proofs.LayoutStations.{last_machine-below, release-next, release-all}
 use Rattle.plant_model.proofs.LayoutFacts.{few_stations}
 use Rattle.plant_model.proofs.SoundPlants.{IsSoundMachine-sound, HasSoundSizes-sound}
-use Rattle.event_graph.specs.Network.{arc, jobs}
+use Rattle.event_graph.specs.Network.{arc}
 use Rattle.event_graph.specs.Circuit.{IsCircuit}
 use Rattle.event_graph.specs.Live.{IsLive}
 use Rattle.line_graph.proofs.Sizes.{stations-graph}

@@ -1,5 +1,5 @@
 -- The text of a table at a small plant, against a text that was written by hand.
-use Rattle.std.specs.Prelude.{◌≡◌, ℕ, List, [], ◌∷◌, ◌++◌, Option, None, Some, codes, refl}
+use Rattle.std.specs.Prelude.{◌≡◌, ◌++◌, codes, refl}
 use Rattle.std.specs.Fmt.{digits}
 use Rattle.plant_model.specs.Graph.{graph, labels, rows}
 use Rattle.plant_model.proofs.TwoStage.{kanban_line, kanban_dates}

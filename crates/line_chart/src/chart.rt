@@ -90,11 +90,11 @@ impl Chart {
         let window = window_of(&table, window);
         let run = run_of(alloc, plant, live, table, window)?;
         match room_for(alloc, &run) {
-            Ok(out) => Ok(Chart { run, out }),
             Err(error) => {
                 drop(run);
                 Err(error)
             }
+            Ok(out) => Ok(Chart { run, out }),
         }
     }
 

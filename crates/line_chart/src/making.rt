@@ -1,5 +1,6 @@
-//! What a picture is made of.
+//! What a picture and a table are made of.
 ghost use Rattle.std.specs.Prelude.{◌≡◌, ◌≤◌, false, IfOk, IfErr};
+ghost use Rattle.line_chart.specs.DateTable.{path_stocks};
 ghost use Rattle.line_chart.specs.Machines.{AreLanesOf};
 ghost use Rattle.line_chart.specs.Picture.{IsOfRun, IsReason, IsRunOf, IsWindow, bars_and_lanes, picture_of};
 ghost use Rattle.line_io.specs.Outgoing.{emptied};
@@ -12,6 +13,7 @@ use crate::error::ChartError;
 use crate::lanes::Lanes;
 use crate::machines::all_lanes;
 use crate::run::ChartRun;
+use crate::stocks::path_stocks;
 use crate::window::Window;
 use line_core::Table;
 use line_io::Outgoing;
@@ -78,4 +80,21 @@ pub fn room_for(alloc: Global, run: &ChartRun) -> Result<Outgoing, ChartError>
         return Err(ChartError::TooLarge { bars });
     }
     Ok(Outgoing::new(alloc)?)
+}
+
+/// What a table takes: the numbers of a plant's stations, the stock on the path of each stage, and room for one piece of
+/// the text.
+pub fn memory_for(
+    alloc: Global,
+    plant: &Plant,
+) -> Result<(LineNumbers, Vec<u64>, Outgoing), AllocError>
+    requires { IsSound plant.now }
+    ensures numbers { IfOk result (λ made. made.0 ≡ plant.now) }
+    ensures stocks { IfOk result (λ made. made.1.items ≡ path_stocks plant.now) }
+    ensures out { IfOk result (λ made. made.2 ≡ emptied false) }
+{
+    let numbers = LineNumbers::of(alloc, plant)?;
+    let stocks = path_stocks(alloc, plant)?;
+    let out = Outgoing::new(alloc)?;
+    Ok((numbers, stocks, out))
 }

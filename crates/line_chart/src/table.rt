@@ -1,17 +1,15 @@
-ghost use Rattle.std.specs.Prelude.{◌≡◌, false, IfOk};
-ghost use Rattle.line_chart.specs.DateTable.{path_stocks, text_of};
-ghost use Rattle.line_io.specs.Outgoing.{emptied};
+ghost use Rattle.std.specs.Prelude.{◌≡◌, IfOk};
+ghost use Rattle.line_chart.specs.DateTable.{text_of};
 ghost use Rattle.line_io.specs.SinkView.{WritesText};
 ghost use Rattle.line_stats.specs.PlantDates.{AreLeastDates, AreOfPlant, Stays};
-ghost use Rattle.plant_model.specs.Sound.{IsSound};
 
+use crate::making::memory_for;
 use crate::records::write_table;
-use crate::stocks::path_stocks;
 use crate::table_run::TableRun;
 use line_core::Table;
 use line_io::{Failed, Outgoing, Sink};
 use live_check::Live;
-use plant_model::{LineNumbers, Plant};
+use plant_model::Plant;
 use std::alloc::{AllocError, Global};
 use std::marker::Model;
 
@@ -34,19 +32,6 @@ impl Model for DateTable {
     ghost invariant = { λ d. IsWritable d.run d.out };
 }
 
-/// The numbers of a plant's stations, the stock on the path of each stage, and room for one piece of the text.
-fn memory_for(alloc: Global, plant: &Plant) -> Result<(LineNumbers, Vec<u64>, Outgoing), AllocError>
-    requires { IsSound plant.now }
-    ensures numbers { IfOk result (λ made. made.0 ≡ plant.now) }
-    ensures stocks { IfOk result (λ made. made.1.items ≡ path_stocks plant.now) }
-    ensures out { IfOk result (λ made. made.2 ≡ emptied false) }
-{
-    let numbers = LineNumbers::of(alloc, plant)?;
-    let stocks = path_stocks(alloc, plant)?;
-    let out = Outgoing::new(alloc)?;
-    Ok((numbers, stocks, out))
-}
-
 impl DateTable {
     /// The dates of a sound plant, its live graph, and a table of that graph. It takes all memory that writing takes:
     /// the numbers of the stations, the stock on each stage's path, and room for one piece of the text.
@@ -61,13 +46,14 @@ impl DateTable {
         ensures dates { IfOk result (λ dates. dates.rows ≡ table.rows) }
         ensures least { IfOk result AreLeastDates }
     {
-        let _stations = table.stations();
         let Ok((numbers, stocks, out)) = memory_for(alloc, &plant) else {
             drop(plant);
             drop(live);
             drop(table);
             return Err(AllocError);
         };
+        // For its clause that the dates are the least solution.
+        let _least = table.stations();
         Ok(DateTable {
             run: TableRun {
                 plant,

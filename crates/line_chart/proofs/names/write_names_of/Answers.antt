@@ -9,8 +9,7 @@ loop-lane-init g c = pushed_none _
 pub loop-lane-preserved : goal.loop-lane-preserved
 unfolding lane_line
 loop-lane-preserved g c =
-    let label = rw c.label.ensures.text at c.push.ensures in
-    let line = c.write_interleaved.ensures ⨟ label ⨟ c.write_lane_number.ensures ⨟ c.push-in-loop-lane.ensures in
+    let line = c.write_interleaved.ensures ⨟ (rw c.label.ensures.text at c.push.ensures) ⨟ c.write_lane_number.ensures ⨟ c.push-in-loop-lane.ensures in
     pushed_next (lane_line c.args.graph.now c.args.machine) 0 c.loop-lane.lane c.loop-lane.lane (omega arith) c.loop-lane.invariant line
 
 pub returns : goal.returns

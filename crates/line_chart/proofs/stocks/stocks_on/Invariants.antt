@@ -1,7 +1,7 @@
 use Rattle.std.proofs.Common.{◌≡◌, map}
 use Rattle.std.specs.List.{range_with_len}
 use Rattle.plant_model.specs.Line.{path_stock}
-use Rattle.line_chart.proofs.stocks.path_stocks.Given as goal
+use Rattle.line_chart.proofs.stocks.stocks_on.Given as goal
 
 -- the stocks of the stages before
 abbrev pub invariant-loop-stage : goal.invariant-loop-stage
