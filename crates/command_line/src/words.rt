@@ -458,15 +458,15 @@ fn curve_between(
     let Some(settings) = settings_of(options) else {
         return Err(WordsError::Usage);
     };
-    match settings.mode {
-        Mode::Whole => Ok(Command::Curve {
-            plant: FileName::of(alloc, plant)?,
-            from,
-            to,
-            workers: settings.workers,
-        }),
-        _ => Err(WordsError::Usage),
-    }
+    let Mode::Whole = settings.mode else {
+        return Err(WordsError::Usage);
+    };
+    Ok(Command::Curve {
+        plant: FileName::of(alloc, plant)?,
+        from,
+        to,
+        workers: settings.workers,
+    })
 }
 
 /// The command of the words behind `latest PLANT`.
