@@ -22,15 +22,15 @@ pub struct Changes {
 }
 
 impl Model for Changes {
-    ghost use Rattle.std.specs.Prelude.{◌≡◌, false};
-    ghost use Rattle.line_io.specs.Outgoing.{emptied};
+    ghost use Rattle.std.specs.Prelude.{◌≡◌};
+    ghost use Rattle.answers.specs.Written.{IsEmptied};
     ghost use Rattle.what_if.specs.Page.{Page};
 
     ghost Value = { Page };
 
     ghost view = { λ c. c.sheet };
 
-    ghost invariant = { λ c. (c.live ≡ c.sheet.live) × (c.out ≡ emptied false) };
+    ghost invariant = { λ c. (c.live ≡ c.sheet.live) × IsEmptied c.out };
 }
 
 /// Writes the line of a job at the station with this label, the date of the table and the present one, where these
@@ -115,18 +115,16 @@ impl Changes {
         requires { live ≡ sheet.live }
         ensures { IfOk result (λ changes. changes ≡ sheet) }
     {
-        match Outgoing::new(alloc) {
-            Ok(out) => Ok(Changes { live, sheet, out }),
-            Err(none) => {
-                drop(live);
-                drop(sheet);
-                Err(none)
-            }
-        }
+        let Ok(out) = Outgoing::new(alloc) else {
+            drop(live);
+            drop(sheet);
+            return Err(AllocError);
+        };
+        Ok(Changes { live, sheet, out })
     }
 
     /// Writes the lines to the sink, from the first on, in pieces of 4,096 bytes and a last one that may be shorter. After
-    /// `Failed` a front of them was written. It takes no memory.
+    /// `Failed` a prefix of them was written. It takes no memory.
     pub fn write<K: Sink>(&mut self, sink: &mut K) -> Result<(), Failed>
         ensures puts { WritesText (K.shown sink.old) (K.shown sink.new) (changes_text self.old) result }
         ensures same { self.new ≡ self.old }

@@ -1,10 +1,10 @@
 //! A curve that is asked for.
 ghost use Rattle.std.specs.Prelude.{◌≡◌, ◌≤◌};
-ghost use Rattle.answers.specs.Curves.{IsAsked, CurveIsPut};
+ghost use Rattle.answers.specs.Curves.{IsAsked, CurveIsPut, unwritten_of};
 
 use crate::unwritten::Unwritten;
 use line_io::Sink;
-use line_summary::write_curve;
+use line_summary::{CurveError, write_curve};
 use plant_model::Plant;
 use std::alloc::Global;
 use std::marker::Model;
@@ -68,5 +68,16 @@ impl Curve {
             sink,
         )?;
         Ok(())
+    }
+}
+
+impl From<CurveError> for Unwritten {
+    ghost from_gives = { λ error e. e ≡ unwritten_of error };
+
+    fn from(error: CurveError) -> Self {
+        match error {
+            CurveError::Failed => Unwritten::Failed,
+            CurveError::NoMemory => Unwritten::NoMemory,
+        }
     }
 }
