@@ -8,6 +8,7 @@ mod lists;
 mod log;
 mod read;
 mod reader;
+mod stop;
 mod tokens;
 mod word_room;
 mod words;

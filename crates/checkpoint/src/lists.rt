@@ -11,8 +11,9 @@ ghost use Rattle.line_core.specs.declared.error.StateError.TheVariants as Core;
 
 use crate::error::CheckpointError;
 use crate::format::Format;
-use crate::log::{LineDates, Stop, read_log};
+use crate::log::{LineDates, read_log};
 use crate::reader::Reader;
+use crate::stop::Stop;
 use crate::tokens::read_place;
 use event_graph::{Graph, Marking};
 use line_base::Logs;

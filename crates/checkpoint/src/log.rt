@@ -1,38 +1,16 @@
 //! Lists of dates, as a line has them.
 ghost use Rattle.std.specs.Prelude.{◌≡◌, ◌^◌, ◌<◌, ◌≤◌, ◌++◌, [], length, true, if◌then◌else◌, nat_lt, decimal, codes, IfSome, IfOk};
-ghost use Rattle.checkpoint.specs.Answers.{stopped_at};
 ghost use Rattle.checkpoint.specs.Reading.{KeepsDates, KeepsLine, TellsCount, TellsDate, TellsDates, TellsLine};
 ghost use Rattle.checkpoint.specs.Text.{date_word};
 ghost use Rattle.line_base.specs.Roomy.{with_date};
 ghost use Rattle.line_core.specs.Parts.{LATEST_GIVEN};
 
-use crate::error::CheckpointError;
 use crate::format::Format;
 use crate::reader::Reader;
+use crate::stop::Stop;
 use crate::words::date_of;
 use line_base::{Date, Log, number_of};
 use std::alloc::Global;
-
-/// Why a line was not read.
-#[derive(Clone, Copy)]
-pub enum Stop {
-    /// It is not of the form.
-    Form,
-    /// Memory ran out.
-    Memory,
-}
-
-impl Stop {
-    /// The error, where line `number` was not read.
-    pub fn at_line(self, number: u64) -> CheckpointError
-        ensures { result ≡ stopped_at self number }
-    {
-        match self {
-            Stop::Form => CheckpointError::Line { number },
-            Stop::Memory => CheckpointError::NoMemory,
-        }
-    }
-}
 
 /// Reads how many dates follow, where this many may stand in what is left.
 pub fn read_count(reader: &mut Reader) -> Option<u32>

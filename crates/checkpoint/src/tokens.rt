@@ -9,8 +9,9 @@ ghost use Rattle.line_core.specs.Parts.{refuse_if};
 ghost use Rattle.line_core.specs.declared.error.StateError.TheVariants as Core;
 
 use crate::format::Format;
-use crate::log::{Stop, read_count, read_date};
+use crate::log::{read_count, read_date};
 use crate::reader::Reader;
+use crate::stop::Stop;
 use event_graph::Graph;
 use line_base::{Date, Logs};
 use line_core::{StateError, Tokens};
