@@ -48,7 +48,6 @@ pub fn dead_circuit(
     ensures { IfOk result (λ arcs. IsDeadCircuit graph.now arcs.items) }
 {
     let stations = graph.stations();
-    let arcs = graph.arcs();
     let mut left = vec![in alloc; stations; stations as usize]?;
     let mut path = Vec::with_capacity(alloc, stations as usize)?;
     let mut at = start;
@@ -56,7 +55,7 @@ pub fn dead_circuit(
         left[at as usize] = path.len() as u32;
         let a = arc_on(graph, ranks, at);
         path.push_reserved(a);
-        at = arcs[a as usize].to;
+        at = graph.arc(a).to;
     }
     rest_of(alloc, &path, left[at as usize] as usize)
 }

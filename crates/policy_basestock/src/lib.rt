@@ -9,20 +9,6 @@ use line_base::Arc;
 use plant_model::{FEED, Layout, Plant};
 use std::alloc::{AllocError, Global};
 
-/// The arcs of the demands, one a stage in order: from the feed to the stage's release, without a token (Dallery and
-/// Liberopoulos 2000).
-pub fn arcs(alloc: Global, plant: &Plant) -> Result<Vec<Arc>, AllocError>
-    requires sound { IsSound plant.now }
-    ensures { IfOk result (λ arcs. arcs.items ≡ arcs_of (base_stock_rows plant.now)) }
-{
-    let layout = Layout::of(alloc, plant)?;
-    let mut arcs = Vec::with_capacity(alloc, layout.stages() as usize)?;
-    for stage in 0..layout.stages() {
-        arcs.push(demand_arc(&layout, stage))?;
-    }
-    Ok(arcs)
-}
-
 /// The arc on which demands come to a stage.
 pub fn demand_arc(layout: &Layout, stage: u32) -> Arc
     requires { stage < length layout.now.stages }
@@ -34,4 +20,19 @@ pub fn demand_arc(layout: &Layout, stage: u32) -> Arc
         tokens: 0,
         worked: false,
     }
+}
+
+/// The arcs of the demands, one a stage in order: from the feed to the stage's release, without a token (Dallery and
+/// Liberopoulos 2000).
+pub fn arcs(alloc: Global, plant: &Plant) -> Result<Vec<Arc>, AllocError>
+    requires sound { IsSound plant.now }
+    ensures { IfOk result (λ arcs. arcs.items ≡ arcs_of (base_stock_rows plant.now)) }
+{
+    let layout = Layout::of(alloc, plant)?;
+    let stages = layout.stages();
+    let mut arcs = Vec::with_capacity(alloc, stages as usize)?;
+    for stage in 0..stages {
+        arcs.push(demand_arc(&layout, stage))?;
+    }
+    Ok(arcs)
 }
