@@ -1,7 +1,7 @@
 ghost use Rattle.std.specs.Prelude.{◌≡◌};
 ghost use Rattle.event_graph.specs.declared.error.GraphError.{GraphError};
 
-use std::alloc::AllocError;
+use std::alloc;
 
 /// Why parts give no graph.
 #[derive(Clone, Copy, Debug, PartialEq, Eq)]
@@ -16,10 +16,10 @@ pub enum GraphError {
     NoMemory,
 }
 
-impl From<AllocError> for GraphError {
+impl From<alloc::AllocError> for GraphError {
     ghost from_gives = { λ _ e. e ≡ GraphError.NoMemory };
 
-    fn from(_: AllocError) -> Self {
+    fn from(_: alloc::AllocError) -> Self {
         GraphError::NoMemory
     }
 }
