@@ -13,13 +13,11 @@ pub(crate) fn station_labels(alloc: Global, plant: &Plant) -> Result<Vec<Label>,
     ensures rule { IfOk result (λ all. AreLabels all.items) }
 {
     let mut all = Vec::new(alloc);
-    match fill_labels(alloc, plant, &mut all) {
-        Ok(()) => Ok(all),
-        Err(error) => {
-            drop(all);
-            Err(error)
-        }
+    if let Err(error) = fill_labels(alloc, plant, &mut all) {
+        drop(all);
+        return Err(error);
     }
+    Ok(all)
 }
 
 /// Puts the labels of the stations into an empty list.

@@ -5,6 +5,12 @@ ghost use Rattle.plant_model.specs.Graph.{graph};
 ghost use Rattle.plant_model.specs.Sound.{IsSound};
 ghost use Rattle.plant_model.specs.declared.plant.Plant.{Plant};
 
+/// A law of the definitions: in a plant's graph each station with a list of times has an arc to itself with one token, so that
+/// its jobs stay in order.
+pub fn plants_keep_lists_in_order()
+    ensures { (p : Plant) → ListsKeepOrder (graph p) }
+{}
+
 /// A law of the policies: a plant under extended kanban in which each stage has as many cards as stock has the least
 /// solution that it has under kanban. A card that comes back has passed a delivery, and so a demand.
 pub fn extended_is_kanban()
@@ -15,12 +21,6 @@ pub fn extended_is_kanban()
 /// each job has the least solution that it has under base stock. No job waits for a card then.
 pub fn extended_is_base_stock()
     ensures { (p : Plant) → IsSound p → ExtendedIsBaseStock p }
-{}
-
-/// A law of the definitions: in a plant's graph each station with a list of times has an arc to itself with one token, so that
-/// its jobs stay in order.
-pub fn plants_keep_lists_in_order()
-    ensures { (p : Plant) → ListsKeepOrder (graph p) }
 {}
 
 /// The law *More tokens, never later*, on plants: where two plants differ in cards and stock alone, the first is live, and each

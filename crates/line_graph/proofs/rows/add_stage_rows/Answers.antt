@@ -19,8 +19,7 @@ pub loop-place-preserved : goal.loop-place-preserved
 loop-place-preserved c =
     let p = c.args.layout.now in
     let more = c.in_ok-add_machine_rows.ensures in
-    let so_far = c.loop-place.invariant in
     record {
-      arcs = more.arcs ∙ machine_more (λ r. r.arc) p c.args.number c.loop-place.place c.args.all.now.arcs.items _ _ _ so_far.arcs refl;
-      delays = more.delays ∙ machine_more (λ r. r.delay) p c.args.number c.loop-place.place c.args.all.now.delays.items _ _ _ so_far.delays refl;
+      arcs = more.arcs ∙ machine_more (λ r. r.arc) p c.args.number c.loop-place.place c.args.all.now.arcs.items _ _ _ c.loop-place.invariant.arcs refl;
+      delays = more.delays ∙ machine_more (λ r. r.delay) p c.args.number c.loop-place.place c.args.all.now.delays.items _ _ _ c.loop-place.invariant.delays refl;
     }
