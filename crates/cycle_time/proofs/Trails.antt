@@ -82,6 +82,11 @@ pub record IsTrail (g : Parts) (p : Potentials) (path left : List ℕ) (start at
   pub last : (k : ℕ) → k + 1 ≡ length path → (arc g (get_or path k 0)).from ≡ at
   pub steps : AreLeftSteps (stations g) (ends g) path left
 
+-- the same, with room for an arc of each station
+pub record IsRoomyTrail (g : Parts) (p : Potentials) (path left : List ℕ) (start at capacity : ℕ) : Type 0 where
+  pub trail : IsTrail g p path left start at
+  pub room : stations g ≤ capacity
+
 pub trail_none : (g : Parts) (p : Potentials) (start : ℕ) → start < stations g → IsTrail g p [] (replicate (stations g) (stations g)) start start
 trail_none g p start here = record {
   walk = refl;
@@ -181,6 +186,15 @@ trail_reaches g w p path left start at graph grown h fresh free =
 
 pub step_read : (g : Parts) (p : Potentials) (path left : List ℕ) (start at step : ℕ) → IsTrail g p path left start at → step ≡ get_or left at step → step ≡ get_or left at 0
 step_read g p path left start at step h read = get_or_read left at step (omega (arith, h.steps.left_for_each, h.here)) read 0
+
+-- where the walk ends, at a station whose step is not that of a station not left yet, the station was left
+pub left_before : (g : Parts) (p : Potentials) (path left : List ℕ) (start at step none : ℕ) → IsTrail g p path left start at → step ≡ get_or left at step → step ≢ none → none ≡ stations g → get_or left at 0 ≢ stations g
+left_before g p path left start at step none h read differs is =
+    λ same. differs (step_read g p path left start at step h read ∙ (same ∙ sym is))
+
+pub step_below : (g : Parts) (p : Potentials) (path left : List ℕ) (start at step : ℕ) → IsTrail g p path left start at → get_or left at 0 ≢ stations g → step ≡ get_or left at step → step < length path
+step_below g p path left start at step h seen read =
+    omega (arith, step_read g p path left start at step h read, h.steps.step_of at h.here seen)
 
 pub entry_read : (g : Parts) (p : Potentials) (at entry : ℕ) (entries : List ℕ) → length p.entries ≡ stations g → at < stations g → entries ≡ p.entries → entry ≡ get_or entries at entry → entry ≡ get_or p.entries at 0
 entry_read g p at entry entries each here is read =

@@ -1,6 +1,6 @@
 ghost use Rattle.std.specs.Prelude.{◌≡◌, ◌≤◌, ◌^◌, map, pos, All, IfOk};
 ghost use Rattle.cycle_time.specs.Ratio.{Holds};
-ghost use Rattle.cycle_time.specs.declared.certificate.CycleError.{CycleError};
+ghost use Rattle.cycle_time.specs.declared.certificate.CycleError.TheVariants.{NoMemory};
 
 use crate::ratio::Ratio;
 use line_base::Items;
@@ -32,7 +32,7 @@ pub enum CycleError {
 }
 
 impl From<AllocError> for CycleError {
-    ghost from_gives = { λ _ e. e ≡ CycleError.NoMemory };
+    ghost from_gives = { λ _ e. e ≡ NoMemory };
 
     fn from(_: AllocError) -> Self {
         CycleError::NoMemory

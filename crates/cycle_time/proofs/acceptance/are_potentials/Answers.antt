@@ -1,4 +1,4 @@
-use Rattle.std.proofs.Common.{◌<◌, length, below_more, arith}
+use Rattle.std.proofs.Common.{ℕ, ◌<◌, length, below_more, ap, refl, arith}
 use Rattle.std.specs.Prelude.{pos}
 use Rattle.std.proofs.lemmas.Int.{ints}
 use Rattle.event_graph.specs.Network.{arc}
@@ -18,8 +18,11 @@ loop-a-preserved c =
     (rw c.as_slice-potentials.ensures
     (omega (arith, ints, covered, c.requires.potentials_low (arc g a).from (pos 0) from, c.requires.potentials_high (arc g a).from (pos 0) from, c.requires.potentials_low (arc g a).to (pos 0) to, c.requires.potentials_high (arc g a).to (pos 0) to)))
 
--- the potential at the start of an arc is within the bounds
-start : (c : goal.After-is_covered-arg-in-loop-a-1) → (arc c.args.graph.now c.loop-a.a).from < length c.args.given.now.potentials
+-- the station at which an arc starts, which has a potential
+abbrev from : goal.After-is_covered-arg-in-loop-a-1 → ℕ
+from c = (arc c.args.graph.now c.loop-a.a).from
+
+start : (c : goal.After-is_covered-arg-in-loop-a-1) → from c < length c.args.given.now.potentials
 start c =
     let graph = c.arcs-arc-items.ensures.graph in
     let there = rw c.arcs-arc-items.ensures.arcs at c.loop-a-test.true in
@@ -27,20 +30,23 @@ start c =
 
 pub is_covered-requires-clause-start_low : goal.is_covered-requires-clause-start_low
 is_covered-requires-clause-start_low c =
-    let from = start c in
-    let t = (arc c.args.graph.now c.loop-a.a).from in
     rw (c.as_slice-potentials.ensures, c.arcs-arc-items.ensures.arcs)
-    (omega (arith, ints, c.requires.potentials_low t (pos 0) from, c.requires.potentials_high t (pos 0) from))
+    (omega (arith, ints, c.requires.potentials_low (from c) (pos 0) (start c), c.requires.potentials_high (from c) (pos 0) (start c)))
 
 pub is_covered-requires-clause-start_high : goal.is_covered-requires-clause-start_high
 is_covered-requires-clause-start_high c =
-    let from = start c in
-    let t = (arc c.args.graph.now c.loop-a.a).from in
     rw (c.as_slice-potentials.ensures, c.arcs-arc-items.ensures.arcs)
-    (omega (arith, ints, c.requires.potentials_low t (pos 0) from, c.requires.potentials_high t (pos 0) from))
+    (omega (arith, ints, c.requires.potentials_low (from c) (pos 0) (start c), c.requires.potentials_high (from c) (pos 0) (start c)))
 
 pub is_covered-requires-clause-weight_low : goal.is_covered-requires-clause-weight_low
 is_covered-requires-clause-weight_low c = omega (arith, ints, c.weight_of-weight.ensures.low, c.weight_of-weight.ensures.high)
 
 pub is_covered-requires-clause-weight_high : goal.is_covered-requires-clause-weight_high
 is_covered-requires-clause-weight_high c = omega (arith, ints, c.weight_of-weight.ensures.low, c.weight_of-weight.ensures.high)
+
+pub returns : goal.returns
+returns c = (
+  λ yes a exists.
+      rw c.as_slice-potentials.ensures at (c.loop-a.invariant a (omega (arith, exists, ap (λ xs. length xs) c.arcs-arc-items.ensures.arcs, c.loop-a-test.false))),
+  λ covers. refl,
+)

@@ -20,3 +20,6 @@ returns-in-Potentials c =
     let holds = rw c.deref.ensures.value at c.certified.ensures in
     IfOk-weaker c.certified.result (Holds r potentials) (IsCycleTime g)
     (λ certificate is. cycle_time g r potentials certificate ranked.sound ranked.limits c.requires c.loop-best.invariant final is) holds
+
+pub loop-best-preserved : goal.loop-best-preserved
+loop-best-preserved c = rw c.graph-graph.ensures.graph at c.ratio_of-best.ensures.ratio

@@ -1,8 +1,10 @@
-use Rattle.std.proofs.Common.{◌≡◌, ◌≢◌, ◌≤◌, ◌<◌, sym, ap, ◌∙◌, subst, arith, get_or, length, replicate, reverse, drop, vec_len}
+use Rattle.std.proofs.Common.{◌≡◌, ◌≤◌, ◌<◌, sym, ap, ◌∙◌, subst, arith, get_or, length, replicate, reverse, drop, vec_len}
+use Rattle.std.proofs.lemmas.List.{length_push}
 use Rattle.event_graph.specs.Network.{arc_count, stations}
 use Rattle.cycle_time.specs.Search.{IsHeavy}
-use Rattle.cycle_time.proofs.Trails.{trail_starts, trail_room, trail_reaches, trail_heavy, trail_more_read, step_read, entry_read}
+use Rattle.cycle_time.proofs.Trails.{trail_starts, trail_room, trail_reaches, trail_heavy, trail_more_read, step_read, step_below, left_before, entry_read}
 use Rattle.cycle_time.proofs.tree.Tree.circuit_behind.Goals as goal
+use Rattle.cycle_time.proofs.tree.Tree.circuit_behind.Goals.{After-len}
 
 pub returns-then-entry-arcs : goal.returns-then-entry-arcs
 returns-then-entry-arcs c = λ w grown.
@@ -43,9 +45,8 @@ returns c = λ w grown.
     let path = c.loop-arcs.path.items in
     let left = c.loop-arcs.left.items in
     let at = c.loop-arcs.at in
-    let first = step_read g p path left c.args.t at c.index.result.now trail c.index.ensures in
+    let seen = left_before g p path left c.args.t at c.index.result.now c.stations-stations.result trail c.index.ensures c.loop-arcs-test.false all.count in
     let second = step_read g p path left c.args.t at c.index-2.result.now trail c.index-2.ensures in
-    let seen : get_or left at 0 ≢ stations g = λ same. c.loop-arcs-test.false (first ∙ (same ∙ sym all.count)) in
     let heavy = trail_heavy g w p path left c.args.t at grown trail seen in
     let is = c.in_ok-circuit.ensures ∙ (ap (λ xs. reverse (drop c.index-2.result.now xs)) c.deref.ensures.value ∙ ap (λ k. reverse (drop k path)) second) in
     subst (IsHeavy g w) (sym is) heavy)
@@ -88,11 +89,20 @@ pub turned_rest-requires : goal.turned_rest-requires
 turned_rest-requires c =
     let g = c.args.graph.now in
     let p = c.args.self.now in
-    let trail = c.loop-arcs.invariant.trail in
-    let left = c.loop-arcs.left.items in
-    let path = c.loop-arcs.path.items in
-    let at = c.loop-arcs.at in
-    let first = step_read g p path left c.args.t at c.index.result.now trail c.index.ensures in
-    let second = step_read g p path left c.args.t at c.index-2.result.now trail c.index-2.ensures in
-    let seen : get_or left at 0 ≢ stations g = λ same. c.loop-arcs-test.false (first ∙ (same ∙ sym c.stations-stations.ensures.count)) in
-    omega (arith, second, trail.steps.step_of at trail.here seen, ap (λ xs. length xs) c.deref.ensures.value)
+    let at = c.loop-arcs in
+    let trail = at.invariant.trail in
+    let seen = left_before g p at.path.items at.left.items c.args.t at.at c.index.result.now c.stations-stations.result trail c.index.ensures c.loop-arcs-test.false c.stations-stations.ensures.count in
+    omega (arith, step_below g p at.path.items at.left.items c.args.t at.at c.index-2.result.now trail seen c.index-2.ensures, ap (λ xs. length xs) c.deref.ensures.value)
+
+pub loop-arcs-smaller : goal.loop-arcs-smaller
+loop-arcs-smaller c =
+    omega (arith, room (goal.at.loop-arcs-smaller c).After-len, ap (λ xs. length xs) c.push_reserved.ensures.items, length_push c.loop-arcs.path.items c.index-entry.result.now)
+
+pub push_reserved-requires : goal.push_reserved-requires
+push_reserved-requires c = omega (arith, room (goal.at.push_reserved-requires c).After-len, c.loop-arcs.invariant.room)
+
+pub index_mut-requires : goal.index_mut-requires
+index_mut-requires c = omega (arith, c.loop-arcs.invariant.trail.here, c.loop-arcs.invariant.trail.steps.left_for_each)
+
+pub bounds-arcs-entry : goal.bounds-arcs-entry
+bounds-arcs-entry c = c.if-entry-arcs.false
