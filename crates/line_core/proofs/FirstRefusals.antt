@@ -109,6 +109,9 @@ module _ (n : ℕ) (f : ℕ → List StateError) where
   pub each_none : ((i : ℕ) → i < n → f i ≡ []) → each_below n f ≡ []
   each_none none = none_below_all n (omega arith) (none_upto n (omega arith) none)
 
+-- for a walk over the numbers that stops at the first refusal: none at its start, none more behind a test that refuses nothing
+pub ruleset none_so_far = (none_below_0, none_below_next)
+
 -- the exit of a `?` at number i
 pub handed_on_at : {refusal : StateError} (n : ℕ) (f : ℕ → List StateError) (i : ℕ) (r : Result ⊤ StateError) → IsErrAnd r (λ e. e ≡ refusal) → i < n → first (f i) ≡ Some refusal → NoneBelow n f i → AnswersFirst r (each_below n f)
 handed_on_at n f i r was low found before = handed_on r (each_below n f) was (found_at n f i _ low found before)

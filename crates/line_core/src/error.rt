@@ -2,7 +2,7 @@ ghost use Rattle.std.specs.Prelude.{◌≡◌};
 ghost use Rattle.line_core.specs.declared.error.ReplayError.{ReplayError};
 ghost use Rattle.line_core.specs.declared.error.StateError.{StateError};
 
-use std::alloc::AllocError;
+use std::alloc;
 
 /// Why a station didn't fire.
 #[derive(Clone, Copy)]
@@ -26,14 +26,6 @@ pub enum ReplayError {
     Unfinished { station: u32, have: u64 },
     /// Memory ran out.
     NoMemory,
-}
-
-impl From<AllocError> for ReplayError {
-    ghost from_gives = { λ _ e. e ≡ ReplayError.NoMemory };
-
-    fn from(_: AllocError) -> Self {
-        ReplayError::NoMemory
-    }
 }
 
 /// Why logs and places are no state that firings reach: the first thing that is wrong with them. Stations and arcs are
@@ -72,10 +64,18 @@ pub enum StateError {
     NoMemory,
 }
 
-impl From<AllocError> for StateError {
+impl From<alloc::AllocError> for ReplayError {
+    ghost from_gives = { λ _ e. e ≡ ReplayError.NoMemory };
+
+    fn from(_: alloc::AllocError) -> Self {
+        ReplayError::NoMemory
+    }
+}
+
+impl From<alloc::AllocError> for StateError {
     ghost from_gives = { λ _ e. e ≡ StateError.NoMemory };
 
-    fn from(_: AllocError) -> Self {
+    fn from(_: alloc::AllocError) -> Self {
         StateError::NoMemory
     }
 }

@@ -40,6 +40,7 @@ fn check_log(graph: &Graph, logs: &Logs, station: u32) -> Result<(), StateError>
 }
 
 /// Refuses the first log that is longer than there are jobs.
+#[tactic(auto, using(crate::proofs::FirstRefusals::none_so_far))]
 fn check_logs(graph: &Graph, logs: &Logs) -> Result<(), StateError>
     requires { length logs.now.logs ≡ stations graph.now }
     ensures { AnswersFirst result (long_logs graph.now (dates_of logs.now)) }
@@ -82,6 +83,7 @@ fn check_marking(graph: &Graph, logs: &Logs, places: &Places, arc: u32) -> Resul
 }
 
 /// Refuses the first place with another number of tokens than the logs leave there.
+#[tactic(auto, using(crate::proofs::FirstRefusals::none_so_far))]
 fn check_markings(graph: &Graph, logs: &Logs, places: &Places) -> Result<(), StateError>
     requires parts { AreParts graph.now logs.now places.now }
     requires few { long_logs graph.now (dates_of logs.now) ≡ [] }
@@ -112,6 +114,7 @@ fn check_marked_at(
 }
 
 /// Refuses the first place that has another number of tokens by a marking than the logs leave there.
+#[tactic(auto, using(crate::proofs::FirstRefusals::none_so_far))]
 fn check_counts(graph: &Graph, logs: &Logs, marking: &Marking) -> Result<(), StateError>
     requires a_log_each { length logs.now.logs ≡ stations graph.now }
     requires few { long_logs graph.now (dates_of logs.now) ≡ [] }
@@ -195,15 +198,15 @@ fn check_date(
     ensures { AnswersFirst result (wrong_date graph.now (dates_of logs.now) station job) }
 {
     let need = due_date(graph, logs, station, job + 1);
-    if have != need {
-        return Err(StateError::Date {
-            station,
-            job: job + 1,
-            have,
-            need,
-        });
+    if have == need {
+        return Ok(());
     }
-    Ok(())
+    Err(StateError::Date {
+        station,
+        job: job + 1,
+        have,
+        need,
+    })
 }
 
 /// Refuses the first date of a station that isn't the one of its equation over the logs.
@@ -222,6 +225,7 @@ fn check_dates_at(graph: &Graph, logs: &Logs, station: u32) -> Result<(), StateE
 }
 
 /// Refuses the first date that isn't the one of its equation over the logs.
+#[tactic(auto, using(crate::proofs::FirstRefusals::none_so_far))]
 fn check_dates(graph: &Graph, logs: &Logs) -> Result<(), StateError>
     requires logs { AreLogs graph.now logs.now }
     requires few { long_logs graph.now (dates_of logs.now) ≡ [] }
@@ -261,6 +265,7 @@ fn check_tokens_on(graph: &Graph, logs: &Logs, places: &Places, arc: u32) -> Res
 }
 
 /// Refuses the first token that isn't the one that the logs leave there.
+#[tactic(auto, using(crate::proofs::FirstRefusals::none_so_far))]
 fn check_tokens(graph: &Graph, logs: &Logs, places: &Places) -> Result<(), StateError>
     requires parts { AreParts graph.now logs.now places.now }
     requires few { long_logs graph.now (dates_of logs.now) ≡ [] }

@@ -77,6 +77,7 @@ fn ended(state: State, live: &Live) -> Result<State, ReplayError>
         None => Ok(state),
         Some(station) => {
             let have = state.log(station).len() as u64;
+            drop(state);
             Err(ReplayError::Unfinished { station, have })
         }
     }
@@ -97,6 +98,11 @@ pub fn replay(alloc: Global, live: &Live, schedule: &[u8]) -> Result<State, Repl
     ensures refused { IfErr result (IsRefusal live.now.graph schedule.now) }
 {
     let mut state = State::start(alloc, live)?;
-    follow_lines(&mut state, live, schedule)?;
-    ended(state, live)
+    match follow_lines(&mut state, live, schedule) {
+        Ok(()) => ended(state, live),
+        Err(error) => {
+            drop(state);
+            Err(error)
+        }
+    }
 }

@@ -14,8 +14,7 @@ returns-clause-start c =
 
 pub returns-in_err-logs : goal.returns-in_err-logs
 returns-in_err-logs c =
-    let p = err_from_is_err_and c.from_residual.result c.from_residual.ensures.1 in
-    rw p.1 (record { start = tt; reached = tt })
+    rw (err_from_is_err_and c.from_residual.result c.from_residual.ensures.1).1 (record { start = tt; reached = tt })
 
 pub returns-clause-reached : goal.returns-clause-reached
 returns-clause-reached c =
