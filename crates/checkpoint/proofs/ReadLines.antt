@@ -12,8 +12,8 @@ use Rattle.checkpoint.specs.Text.{dates_text, Line, Fixed, Dated, filled, lines,
 use Rattle.line_base.specs.Roomy.{RoomyLog, RoomyLogs, dates_of}
 use Rattle.checkpoint.specs.declared.error.CheckpointError.{CheckpointError}
 use Rattle.checkpoint.specs.declared.error.CheckpointError.TheVariants.{Line as LineError}
-use Rattle.checkpoint.specs.declared.stop.Stop.{Stop}
-use Rattle.checkpoint.specs.declared.stop.Stop.TheVariants.{Form, Memory}
+use Rattle.checkpoint.specs.declared.error.Stop.{Stop}
+use Rattle.checkpoint.specs.declared.error.Stop.TheVariants.{Form, Memory}
 use Rattle.checkpoint.specs.Answers.{stopped_at, Tells}
 use Rattle.checkpoint.specs.FirstBadLine.{BeginsWell, IsFirstBadLine}
 use Rattle.checkpoint.specs.Reading.{Reading, HasRead, head_count, dated}

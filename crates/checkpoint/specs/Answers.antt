@@ -10,8 +10,8 @@ use Rattle.line_core.specs.declared.error.StateError.TheVariants as Core
 use Rattle.line_core.specs.Parts.{first, long_logs, state_refusal}
 use Rattle.line_core.specs.Marked.{HaveCounts}
 use Rattle.line_core.specs.Run.{Run}
-use Rattle.checkpoint.specs.declared.stop.Stop.{Stop}
-use Rattle.checkpoint.specs.declared.stop.Stop.TheVariants.{Form, Memory}
+use Rattle.checkpoint.specs.declared.error.Stop.{Stop}
+use Rattle.checkpoint.specs.declared.error.Stop.TheVariants.{Form, Memory}
 use Rattle.checkpoint.specs.declared.error.CheckpointError.{CheckpointError}
 use Rattle.checkpoint.specs.declared.error.CheckpointError.TheVariants.{Line, Count, Marking, Date, PlaceDate, NoMemory}
 use Rattle.checkpoint.specs.Text.{IsTextOf, AreGiven}

@@ -7,8 +7,8 @@ use Rattle.line_core.specs.declared.error.StateError.TheVariants.{PlaceDate}
 use Rattle.line_core.specs.Consistent.{tokens_left}
 use Rattle.line_core.specs.Parts.{LATEST_GIVEN, list_at, refuse_if, each_below, first, long_log}
 use Rattle.line_core.specs.Marked.{HaveCounts}
-use Rattle.checkpoint.specs.declared.stop.Stop.{Stop}
-use Rattle.checkpoint.specs.declared.stop.Stop.TheVariants.{Memory}
+use Rattle.checkpoint.specs.declared.error.Stop.{Stop}
+use Rattle.checkpoint.specs.declared.error.Stop.TheVariants.{Memory}
 use Rattle.line_base.specs.declared.event.Parts.{Parts}
 use Rattle.checkpoint.specs.declared.format.Format.{Format}
 use Rattle.checkpoint.specs.declared.format.Format.TheVariants.{Dates, Differences}

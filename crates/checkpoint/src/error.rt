@@ -1,4 +1,5 @@
 ghost use Rattle.std.specs.Prelude.{◌≡◌};
+ghost use Rattle.checkpoint.specs.Answers.{stopped_at};
 ghost use Rattle.checkpoint.specs.Refusals.{of_state_error};
 
 use line_core::StateError;
@@ -94,6 +95,27 @@ impl From<StateError> for CheckpointError {
                 need,
             },
             StateError::NoMemory => CheckpointError::NoMemory,
+        }
+    }
+}
+
+/// Why a line was not read.
+#[derive(Clone, Copy)]
+pub enum Stop {
+    /// It is not of the form.
+    Form,
+    /// Memory ran out.
+    Memory,
+}
+
+impl Stop {
+    /// The error, where line `number` was not read.
+    pub fn at_line(self, number: u64) -> CheckpointError
+        ensures { result ≡ stopped_at self number }
+    {
+        match self {
+            Stop::Form => CheckpointError::Line { number },
+            Stop::Memory => CheckpointError::NoMemory,
         }
     }
 }

@@ -8,7 +8,6 @@ mod lists;
 mod log;
 mod read;
 mod reader;
-mod stop;
 mod tokens;
 mod word_room;
 mod words;

@@ -9,11 +9,10 @@ ghost use Rattle.line_core.specs.ArcTokens.{HasRoom};
 ghost use Rattle.line_core.specs.Parts.{refuse_if};
 ghost use Rattle.line_core.specs.declared.error.StateError.TheVariants as Core;
 
-use crate::error::CheckpointError;
+use crate::error::{CheckpointError, Stop};
 use crate::format::Format;
 use crate::log::{LineDates, read_log};
 use crate::reader::Reader;
-use crate::stop::Stop;
 use crate::tokens::read_place;
 use event_graph::{Graph, Marking};
 use line_base::Logs;

@@ -5,9 +5,9 @@ ghost use Rattle.checkpoint.specs.Text.{date_word};
 ghost use Rattle.line_base.specs.Roomy.{with_date};
 ghost use Rattle.line_core.specs.Parts.{LATEST_GIVEN};
 
+use crate::error::Stop;
 use crate::format::Format;
 use crate::reader::Reader;
-use crate::stop::Stop;
 use crate::words::date_of;
 use line_base::{Date, Log, number_of};
 use std::alloc::Global;

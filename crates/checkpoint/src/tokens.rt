@@ -8,10 +8,10 @@ ghost use Rattle.line_core.specs.Consistent.{tokens_left};
 ghost use Rattle.line_core.specs.Parts.{refuse_if};
 ghost use Rattle.line_core.specs.declared.error.StateError.TheVariants as Core;
 
+use crate::error::Stop;
 use crate::format::Format;
 use crate::log::{read_count, read_date};
 use crate::reader::Reader;
-use crate::stop::Stop;
 use event_graph::Graph;
 use line_base::{Date, Logs};
 use line_core::{StateError, Tokens};
