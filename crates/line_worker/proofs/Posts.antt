@@ -76,6 +76,10 @@ logs-of shelf stations are =
     let low : i < length stations = omega (arith, there, count) in
     get_or-map log_of stations i no_station (record { dates = []; room = 0 }) low ∙ sym (are.each i low).log)
 
+-- and of a team, as contracts see it
+pub logs-in_team : (shelf : WorkShelf) (stations : List WorkStation) (team : WorkTeam) → record { stations = stations; shelf = shelf.queues } ≡ team → AreAt shelf stations → shelf.logs ≡ map log_of team.stations
+logs-in_team shelf stations team view are = sym (logs-of shelf stations are) ∙ ap (λ (t : WorkTeam). map log_of t.stations) view
+
 -- how many dates they have together
 pub dates-map : (stations : List WorkStation) → sum_by dates_in (map log_of stations) ≡ sum_by dates_of stations
 dates-map [] = refl

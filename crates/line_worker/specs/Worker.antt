@@ -22,6 +22,21 @@ pub record LineWorker : Type 0 where
   pub order : List ℕ  -- in which its stations step, each by its number in the team
   pub spare : RoomyLogs  -- where the logs go when the line is closed
 
+-- the worker with these parts
+abbrev pub seen_worker : LiveGraph → State → ℕ → Option ℕ → ℕ → ℕ → WorkTeam → ℕ → List ℕ → RoomyLogs → LineWorker
+seen_worker live begun worker_count room worker_number first team target order spare = record {
+  live = live;
+  begun = begun;
+  worker_count = worker_count;
+  room = room;
+  worker_number = worker_number;
+  first = first;
+  team = team;
+  target = target;
+  order = order;
+  spare = spare;
+}
+
 -- each of this many stations, from the first on, is listed once, in the order of their places
 pub record IsOrder (places : List ℕ) (first count : ℕ) (order : List ℕ) : Type 0 where
   pub exists : (p : ℕ) → p < length order → slice_index order p < count

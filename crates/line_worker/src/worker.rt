@@ -55,35 +55,15 @@ pub struct Worker {
 }
 
 impl Model for Worker {
-    ghost use Rattle.line_worker.specs.Worker.{LineWorker, IsWorker};
+    ghost use Rattle.line_worker.specs.Worker.{LineWorker, IsWorker, seen_worker};
 
     ghost Value = { LineWorker };
 
-    ghost view = { λ c. record {
-      live = c.live.value;
-      begun = c.begun.value.state;
-      worker_count = c.worker_count;
-      room = c.room.value;
-      worker_number = c.worker_number;
-      first = c.first;
-      team = c.team;
-      target = c.target;
-      order = c.order.items;
-      spare = c.spare;
-    } };
+    ghost view = { λ c. seen_worker c.live.value c.begun.value.state c.worker_count c.room.value c.worker_number c.first
+        c.team c.target c.order.items c.spare };
 
-    ghost invariant = { λ c. IsWorker (record {
-      live = c.live.value;
-      begun = c.begun.value.state;
-      worker_count = c.worker_count;
-      room = c.room.value;
-      worker_number = c.worker_number;
-      first = c.first;
-      team = c.team;
-      target = c.target;
-      order = c.order.items;
-      spare = c.spare;
-    }) };
+    ghost invariant = { λ c. IsWorker (seen_worker c.live.value c.begun.value.state c.worker_count c.room.value
+        c.worker_number c.first c.team c.target c.order.items c.spare) };
 }
 
 impl Worker {

@@ -1,4 +1,4 @@
-use Rattle.std.proofs.Common.{◌≡◌, ◌<◌, length, refl, ap, ◌∙◌, sum_by, arith}
+use Rattle.std.proofs.Common.{◌≡◌, ◌<◌, ◌≤◌, length, refl, ap, ◌∙◌, sum_by, arith}
 use Rattle.std.proofs.lemmas.List.{get_or_read, take_all}
 use Rattle.std.proofs.lemmas.List.Sums.{sum_by_more}
 use Rattle.line_worker.specs.Team.{member, no_station}
@@ -28,11 +28,9 @@ pub overflow_add-turns : goal.overflow_add-turns
 overflow_add-turns c =
     omega (arith, c.loop-i.invariant.few, counted c, c.requires.few c.loop-i.i (there c), c.requires.count, there c)
 
-pub returns-clause-few : goal.returns-clause-few
-returns-clause-few c =
-    omega (arith, c.loop-i.invariant.few, c.loop-i.auto.i-end, c.len-i-end.ensures, c.args.stations.now.ok.0, c.requires.count)
-
-pub returns-clause-turns : goal.returns-clause-turns
-returns-clause-turns c =
-    c.loop-i.invariant.made
-    ∙ ap (sum_by turns_of) (take_all c.loop-i.i c.args.stations.now.items (omega (arith, c.loop-i-test.false, c.len-i-end.ensures, c.args.stations.now.ok.0)))
+pub returns : goal.returns
+returns c =
+    let all : length c.args.stations.now.items ≤ c.loop-i.i = omega (arith, c.loop-i-test.false, c.len-i-end.ensures, c.args.stations.now.ok.0) in record {
+      turns = c.loop-i.invariant.made ∙ ap (sum_by turns_of) (take_all c.loop-i.i c.args.stations.now.items all);
+      few = omega (arith, c.loop-i.invariant.few, c.loop-i.auto.i-end, c.len-i-end.ensures, c.args.stations.now.ok.0, c.requires.count);
+    }

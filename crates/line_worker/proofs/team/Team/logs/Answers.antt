@@ -1,12 +1,7 @@
-use Rattle.std.proofs.Common.{map, sym, ap, ◌∙◌}
-use Rattle.line_worker.specs.Logs.{log_of}
-use Rattle.line_worker.specs.Team.{WorkTeam}
-use Rattle.line_worker.proofs.Posts.{logs-of}
+use Rattle.std.proofs.Common.{◌∙◌}
+use Rattle.line_worker.proofs.Posts.{logs-in_team}
 use Rattle.line_worker.proofs.team.Team.logs.Goals as goal
 
 pub returns : goal.returns
 returns c =
-    let t = c.self.inside in
-    c.logs.ensures
-    ∙ sym (logs-of t.shelf t.stations.items c.self.invariant)
-    ∙ ap (λ (u : WorkTeam). map log_of u.stations) c.self.view_is
+    c.logs.ensures ∙ logs-in_team c.self.inside.shelf c.self.inside.stations.items c.args.self.now c.self.view_is c.self.invariant
