@@ -110,27 +110,25 @@ bounded-bare (outlet.Ring put) = refl
 bounded-bare (outlet.Room put) = refl
 bounded-bare (outlet.Local q) = refl
 
-any_bounded-bare : (outlets : List Outlet) → list_any is_bounded (map bare_outlet outlets) ≡ list_any is_bounded outlets
-any_bounded-bare [] = refl
-any_bounded-bare (o ∷ outlets) =
-    ap (λ (b : Bool). b || list_any is_bounded (map bare_outlet outlets)) (bounded-bare o)
-    ∙ ap (λ (b : Bool). is_bounded o || b) (any_bounded-bare outlets)
-
 ring-bare : (o : Outlet) → is_ring (bare_outlet o) ≡ is_ring o
 ring-bare (outlet.Ring put) = refl
 ring-bare (outlet.Room put) = refl
 ring-bare (outlet.Local q) = refl
 
-any_ring-bare : (outlets : List Outlet) → list_any is_ring (map bare_outlet outlets) ≡ list_any is_ring outlets
-any_ring-bare [] = refl
-any_ring-bare (o ∷ outlets) =
-    ap (λ (b : Bool). b || list_any is_ring (map bare_outlet outlets)) (ring-bare o)
-    ∙ ap (λ (b : Bool). is_ring o || b) (any_ring-bare outlets)
+-- a test that sees neither an outlet's tokens nor what it has seen, of one of them
+any-bare : (test : Outlet → Bool) → ((o : Outlet) → test (bare_outlet o) ≡ test o) → (outlets : List Outlet) → list_any test (map bare_outlet outlets) ≡ list_any test outlets
+any-bare test bare [] = refl
+any-bare test bare (o ∷ outlets) =
+    ap (λ (b : Bool). b || list_any test (map bare_outlet outlets)) (bare o)
+    ∙ ap (λ (b : Bool). test o || b) (any-bare test bare outlets)
+
+any-same : (test : Outlet → Bool) → ((o : Outlet) → test (bare_outlet o) ≡ test o) → (before after : List Outlet) → map bare_outlet after ≡ map bare_outlet before → list_any test before ≡ list_any test after
+any-same test bare before after same =
+    sym (any-bare test bare before) ∙ ap (list_any test) (sym same) ∙ any-bare test bare after
 
 -- the same outlets but for their tokens and what they have seen are over rings, or not
 pub rings-same : (before after : List Outlet) → map bare_outlet after ≡ map bare_outlet before → list_any is_ring before ≡ list_any is_ring after
-rings-same before after same =
-    sym (any_ring-bare before) ∙ ap (list_any is_ring) (sym same) ∙ any_ring-bare after
+rings-same before after same = any-same is_ring ring-bare before after same
 
 -- what a station notes stays where beside its inputs and outlets all stands as before, and its outlets are the same but
 -- for their tokens and what they have seen
@@ -139,14 +137,8 @@ noted-same g t before after outlets outlets' fixed worked bounded rings extras d
   extras_are = λ is job. extras is ∙ noted.extras_are is job;
   worked_is = noted.worked_is;
   delays_are = delays ∙ noted.delays_are;
-  bounded_is = noted.bounded_is
-      ∙ sym (any_bounded-bare (outlets_of outlets))
-      ∙ ap (list_any is_bounded) (sym same)
-      ∙ any_bounded-bare (outlets_of outlets');
-  rings_are = noted.rings_are
-      ∙ sym (any_ring-bare (outlets_of outlets))
-      ∙ ap (list_any is_ring) (sym same)
-      ∙ any_ring-bare (outlets_of outlets');
+  bounded_is = noted.bounded_is ∙ any-same is_bounded bounded-bare (outlets_of outlets) (outlets_of outlets') same;
+  rings_are = noted.rings_are ∙ rings-same (outlets_of outlets) (outlets_of outlets') same;
 }
 
 has_space : (o : Outlet) → (is_bounded o ≡ true → ⊥) → HasSpace o

@@ -1,7 +1,7 @@
 -- The queues of a shelf by their counts and the logs: what is read there, and what a take or a date more changes.
 use Rattle.std.proofs.Common.{◌≡◌, ◌≢◌, ℕ, ◌+◌, ◌-◌, ◌^◌, ◌<◌, ◌≤◌, List, [], ◌∷◌, ◌++◌, length, get_or, set, take, drop, map, refl, sym, ap, ◌∙◌, subst, arith, ⊎_elim, append_assoc, length-append, length-drop, get_or-set_same, get_or-set_other}
 use Rattle.std.specs.Prelude.{Option, None, Some, IsNone, ◌↔◌, option_to_list, slice_index}
-use Rattle.std.proofs.lemmas.List.{append-nil, length-map, length-set, map-set, map_push, get_or-map, set-get_or, length-take-le, get_or-take, get_or-drop, get_or_append_left, get_or-append_right, drop_more, drop_all, drop-append-le, take_more, take-append-le, get_or_past}
+use Rattle.std.proofs.lemmas.List.{append-nil, length-map, length-set, map-set, map_push, get_or-map, set-get_or, length-take-le, get_or-take, get_or-drop, get_or_append_left, get_or-append_right, drop_more, drop_all, drop-append-le, take_more, take-append-le, get_or_past, get_or_read}
 use Rattle.std.proofs.Math.Seq.{map-set_same}
 use Rattle.std.proofs.Math.ListN.{get_or-map as at_map}
 use Rattle.std.proofs.lemmas.Bool.{cases_lt, cases_eq}
@@ -32,9 +32,17 @@ source-seen tallies k = at_map (λ (tally : Tally). tally.source) tallies k no_t
 pub tally_there : (firsts : List ℕ) (room : ℕ) (logs : List RoomyLog) (tallies : List Tally) (queues : List PlainQueue) (k : ℕ) → seen_queues firsts room logs tallies ≡ queues → k < length queues → k < length tallies
 tally_there firsts room logs tallies queues k is low = omega (arith, low, ap length is, length-seen firsts room logs tallies)
 
-queue-set : (old new : List PlainQueue) (k : ℕ) (queue : PlainQueue) → k < length old → new ≡ set old k queue → queue_at new k ≡ queue
-queue-set old new k queue low is =
-    ap (λ (shelf : List PlainQueue). queue_at shelf k) is ∙ get_or-set_same old k queue no_queue low
+-- the tally of queue k, as the shelf lends it
+pub record IsLent (firsts : List ℕ) (room : ℕ) (logs : List RoomyLog) (tallies : List Tally) (k : ℕ) (lent : Tally) : Type 0 where
+  pub there : k < length tallies
+  pub at : lent ≡ tally_at tallies k
+  pub sound : IsTally firsts room logs lent
+
+pub tally-lent : (firsts : List ℕ) (room : ℕ) (logs : List RoomyLog) (tallies : List Tally) (queues : List PlainQueue) (k : ℕ) (lent : Tally) → seen_queues firsts room logs tallies ≡ queues → k < length queues → lent ≡ get_or tallies k lent → AreTallies firsts room logs tallies → IsLent firsts room logs tallies k lent
+tally-lent firsts room logs tallies queues k lent is low read are =
+    let there = tally_there firsts room logs tallies queues k is low in
+    let at : lent ≡ tally_at tallies k = get_or_read tallies k lent there read no_tally in
+    record { there = there; at = at; sound = subst (IsTally firsts room logs) (sym at) (are k there) }
 
 -- ---- one queue
 
@@ -148,6 +156,18 @@ take-none shelf k low front = record {
   puts = refl;
 }
 
+-- and where one is there, it is counted
+pub take-some : (shelf : List PlainQueue) (k token : ℕ) → k < length shelf → token ∷ [] ≡ take 1 (plain_waiting (queue_at shelf k)) → TakenFrom shelf (set shelf k (counted (queue_at shelf k))) k (Some token)
+take-some shelf k token low front =
+    let was = queue_at shelf k in
+    let now : queue_at (set shelf k (counted was)) k ≡ counted was = get_or-set_same shelf k (counted was) no_queue low in
+    record {
+      only = ap (set shelf k) (sym now);
+      taken = ap plain_taken now ∙ front-more (plain_tokens was) was.takes token front;
+      none = (λ none. absurd (cc), λ empty. absurd (omega (arith, ap length (front ∙ ap (take 1) empty))));
+      puts = ap untaken now;
+    }
+
 module _ (firsts : List ℕ) (room : ℕ) (logs : List RoomyLog) (tallies : List Tally) (k token : ℕ) (is : AreTallies firsts room logs tallies) (low : k < length tallies) (front : token ∷ [] ≡ take 1 (plain_waiting (seen_queue firsts room logs (tally_at tallies k)))) where
   abbrev taken_from : Tally
   taken_from = tally_at tallies k
@@ -157,26 +177,6 @@ module _ (firsts : List ℕ) (room : ℕ) (logs : List RoomyLog) (tallies : List
 
   abbrev new : List PlainQueue
   new = seen_queues firsts room logs (set tallies k (one_taken taken_from))
-
-  pub take-some : TakenFrom old new k (Some token)
-  take-some =
-      let was = seen_queue firsts room logs taken_from in
-      let set_is : new ≡ set old k (seen_queue firsts room logs (one_taken taken_from)) =
-      map-set (seen_queue firsts room logs) tallies k (one_taken taken_from) in
-      let now : queue_at new k ≡ record was { takes = was.takes + 1 } =
-      queue-set old new k (counted was) (omega (arith, low, length-seen firsts room logs tallies)) set_is in
-      let before : queue_at old k ≡ was = queue-seen firsts room logs tallies k low in
-      record {
-        only = set_is ∙ ap (set old k) (sym now);
-        taken = ap plain_taken now
-            ∙ front-more (plain_tokens was) was.takes token front
-            ∙ ap (λ (queue : PlainQueue). plain_taken queue ++ token ∷ []) (sym before);
-        none = (
-          λ none. absurd (cc),
-          λ empty. absurd (omega (arith, ap length (front ∙ ap (λ (queue : PlainQueue). take 1 (plain_waiting queue)) (sym before) ∙ ap (take 1) empty))),
-        );
-        puts = ap untaken now ∙ ap untaken (sym before);
-      }
 
   -- what is seen of all queues after it
   pub take-counted : new ≡ set old k (counted (queue_at old k))
@@ -281,35 +281,30 @@ module _ (firsts : List ℕ) (room : ℕ) (logs : List RoomyLog) (tallies : List
       (λ (past : length tallies ≤ q). ap plain_taken (add-else q (λ there. absurd (omega (arith, there, past)))))
       (cases_lt q (length tallies))
 
-  -- the tallies are sound over it, where there was room
+  -- a tally is sound over it, where there was room for what came
+  sound-over : (tally : Tally) → IsTally firsts room logs tally → length (dates_for logs tally) ≤ length (dates_for longer tally) → length (dates_for longer tally) ≤ tally.made + room → IsTally firsts room longer tally
+  sound-over tally sound grown fits = record {
+    began = sound.began;
+    counted = sound.counted;
+    few = sound.few;
+    there = omega (arith, sound.there, length-set logs i log);
+    made_there = omega (arith, sound.made_there, grown);
+    taken_there = omega (arith, sound.taken_there, sound.made_there, grown);
+    fits = fits;
+  }
+
+  -- and so are all of them
   pub add-sound : ((q : ℕ) → q < length tallies → (tally_at tallies q).source.station ≡ i → length (queue_at was q).added < room) → AreTallies firsts room longer tallies
   add-sound has q there =
       let tally = tally_at tallies q in
       let sound = is q there in
-      let count : length longer ≡ length logs = length-set logs i log in
       ⊎_elim
       (λ (e : tally.source.station ≡ i).
       let more : length (dates_for longer tally) ≡ length (dates_for logs tally) + 1 = ap length (dates-here tally e) ∙ length-append (dates_for logs tally) (date ∷ []) in
       let fits : length (dates_for logs tally) - tally.made < room =
       omega (arith, has q there e, ap (λ (queue : PlainQueue). length queue.added) (queue-seen firsts room logs tallies q there), length-added firsts room logs tally sound) in
-      record {
-        began = sound.began;
-        counted = sound.counted;
-        few = sound.few;
-        there = omega (arith, sound.there, count);
-        made_there = omega (arith, sound.made_there, more);
-        taken_there = omega (arith, sound.taken_there, sound.made_there, more);
-        fits = omega (arith, fits, more, sound.made_there);
-      })
+      sound-over tally sound (omega (arith, more)) (omega (arith, fits, more, sound.made_there)))
       (λ (ne : tally.source.station ≢ i).
       let same : length (dates_for longer tally) ≡ length (dates_for logs tally) = ap length (dates-else tally ne) in
-      record {
-        began = sound.began;
-        counted = sound.counted;
-        few = sound.few;
-        there = omega (arith, sound.there, count);
-        made_there = omega (arith, sound.made_there, same);
-        taken_there = omega (arith, sound.taken_there, same);
-        fits = omega (arith, sound.fits, same);
-      })
+      sound-over tally sound (omega (arith, same)) (omega (arith, sound.fits, same)))
       (cases_eq tally.source.station i)

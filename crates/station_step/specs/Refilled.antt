@@ -1,10 +1,15 @@
 -- What came of a refill of a station's hands: only the station itself reads these words.
-use Rattle.std.specs.Prelude.{ℕ, List, ⊤, slice_index, unwrap_or}
+use Rattle.std.specs.Prelude.{ℕ, List, Option, None, Some, ⊤, slice_index, unwrap_or}
 use Rattle.station_step.specs.declared.input.Input.{Input}
 use Rattle.station_step.specs.declared.refilled.Refilled.{Refilled}
 use Rattle.station_step.specs.declared.refilled.Refilled.TheVariants.{Full, Empty}
 use Rattle.station_step.specs.Input.{input_at}
 use Rattle.station_step.specs.Kept.{saturating}
+
+-- what came of it, by the first hand that is empty, if one is, and the date that the tokens in the hands ask for
+abbrev pub refilled : Option ℕ → ℕ → Refilled
+refilled None latest = Full latest
+refilled (Some k) latest = Empty k
 
 -- where all hands are full, this holds of the date that their tokens ask for
 abbrev pub IfFull : Refilled → (ℕ → Type 0) → Type 0

@@ -72,10 +72,7 @@ pub(crate) fn refill(inputs: &mut Vec<NotedInput>, shelf: &mut Shelf) -> Refille
         }
         latest = latest.max(noted.input.hand.unwrap_or(0).saturating_add(noted.extra));
     }
-    match first {
-        None => Refilled::Full(latest),
-        Some(k) => Refilled::Empty(k),
-    }
+    Refilled::of(first, latest)
 }
 
 /// Takes the tokens out of all hands.

@@ -1,3 +1,6 @@
+ghost use Rattle.std.specs.Prelude.{◌≡◌};
+ghost use Rattle.station_step.specs.Refilled.{refilled};
+
 use line_base::Date;
 
 /// What came of a refill of a station's hands.
@@ -6,4 +9,17 @@ pub(crate) enum Refilled {
     Full(Date),
     /// The hand of this input is empty: the first such, in the order of the arcs.
     Empty(usize),
+}
+
+impl Refilled {
+    /// What came of it, by the first hand that is empty, if one is, and the date that the tokens in the hands ask for.
+    #[inline(always)]
+    pub(crate) fn of(first: Option<usize>, latest: Date) -> Refilled
+        ensures { result ≡ refilled first latest }
+    {
+        match first {
+            None => Refilled::Full(latest),
+            Some(k) => Refilled::Empty(k),
+        }
+    }
 }

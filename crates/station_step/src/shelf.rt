@@ -140,9 +140,8 @@ impl Shelf {
         ensures logs { self.new.logs ≡ self.old.logs }
         ensures sources { self.new.sources ≡ self.old.sources }
     {
-        let tally = &mut self.queues[k as usize];
-        let token = tally.front(self.firsts.as_slice(), &self.logs)?;
-        tally.note_take();
+        let token = self.front(k)?;
+        self.count_take(k);
         Some(token)
     }
 

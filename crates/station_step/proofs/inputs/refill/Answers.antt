@@ -1,5 +1,5 @@
 use Rattle.std.proofs.Common.{◌≡◌, ◌≢◌, ◌<◌, ◌+◌, ℕ, subst, sym, ap, ◌∙◌, arith, List, length, set, get_or, refl}
-use Rattle.std.specs.Prelude.{Option, None, Some, IfSome, unwrap_or, slice_index}
+use Rattle.std.specs.Prelude.{Option, None, Some, IsSome, IfSome, unwrap_or, slice_index}
 use Rattle.std.specs.List.{range_with_len}
 use Rattle.event_graph.specs.Firing.{greatest}
 use Rattle.station_step.specs.declared.input.Input.{Input}
@@ -12,8 +12,8 @@ use Rattle.station_step.specs.Noted.{inputs_of, extras_of}
 use Rattle.station_step.specs.Refilled.{hand_asks}
 use Rattle.station_step.proofs.Dates.{latest-none, latest-more}
 use Rattle.station_step.proofs.Noting.{no_input, input-lent, input-at, extra-at, inputs-count, inputs-set, extras-stay}
-use Rattle.station_step.proofs.Refilling.{RefilledUpTo, IsFirstEmpty, refilled_none, refilled_more, first-none, first-empty, first-full}
-use Rattle.station_step.proofs.inputs.refill.Goals.{then-is_none, else-is_none, After-loop-k, In-None, In-Some}
+use Rattle.station_step.proofs.Refilling.{RefilledUpTo, IsFirstEmpty, refilled_none, refilled_more, first-none, first-empty, first-full, full-where_none, empty-where_some}
+use Rattle.station_step.proofs.inputs.refill.Goals.{then-is_none, else-is_none, After-loop-k}
 use Rattle.station_step.proofs.inputs.refill.Goals as goal
 
 pub loop-k-init : goal.loop-k-init
@@ -110,99 +110,63 @@ each c k low = c.loop-k.invariant.refilled.done k (omega (arith, low, all c))
 others : (c : After-loop-k) (q : ℕ) → NoneTakes q (inputs_of c.args.inputs.now.items) → queue_at c.loop-k.shelf.queues q ≡ queue_at c.args.shelf.now.queues q
 others c q none = c.loop-k.invariant.refilled.others q (λ j less. none j (omega (arith, less, all c)))
 
-none_empty : (c : In-None) → IsFirstEmpty c.loop-k.k None (inputs_of c.loop-k.inputs.items)
-none_empty c =
-    subst (λ (found : Option ℕ). IsFirstEmpty c.loop-k.k found (inputs_of c.loop-k.inputs.items)) c.in-None.is c.loop-k.invariant.found
+found : (c : After-loop-k) (answer : Option ℕ) → c.loop-k.first ≡ answer → IsFirstEmpty c.loop-k.k answer (inputs_of c.loop-k.inputs.items)
+found c answer is = subst (λ (first : Option ℕ). IsFirstEmpty c.loop-k.k first (inputs_of c.loop-k.inputs.items)) is c.loop-k.invariant.found
 
-first_is : (c : In-Some) → IsFirstEmpty c.loop-k.k (Some c.in-Some.k) (inputs_of c.loop-k.inputs.items)
-first_is c =
-    subst (λ (found : Option ℕ). IsFirstEmpty c.loop-k.k found (inputs_of c.loop-k.inputs.items)) c.in-Some.is c.loop-k.invariant.found
+pub returns-clause-count : goal.returns-clause-count
+returns-clause-count c = c.loop-k.invariant.refilled.count
+
+pub returns-clause-extras : goal.returns-clause-extras
+returns-clause-extras c = c.loop-k.invariant.extras
+
+pub returns-clause-same : goal.returns-clause-same
+returns-clause-same c = c.loop-k.invariant.refilled.same
+
+pub returns-clause-each : goal.returns-clause-each
+returns-clause-each c = each (goal.at.returns-clause-each c).After-loop-k
+
+pub returns-clause-only_takes : goal.returns-clause-only_takes
+returns-clause-only_takes c = c.loop-k.invariant.refilled.only_takes
+
+pub returns-clause-others : goal.returns-clause-others
+returns-clause-others c = others (goal.at.returns-clause-others c).After-loop-k
+
+pub returns-clause-logs : goal.returns-clause-logs
+returns-clause-logs c = c.loop-k.invariant.logs
+
+pub returns-clause-sources : goal.returns-clause-sources
+returns-clause-sources c = c.loop-k.invariant.sources
 
 -- ---- all hands are full
 
-pub returns-in-None-clause-count : goal.returns-in-None-clause-count
-returns-in-None-clause-count c = c.loop-k.invariant.refilled.count
-
-pub returns-in-None-clause-extras : goal.returns-in-None-clause-extras
-returns-in-None-clause-extras c = c.loop-k.invariant.extras
-
-pub returns-in-None-clause-same : goal.returns-in-None-clause-same
-returns-in-None-clause-same c = c.loop-k.invariant.refilled.same
-
-pub returns-in-None-clause-each : goal.returns-in-None-clause-each
-returns-in-None-clause-each c = each (goal.at.returns-in-None-clause-each c).After-loop-k
-
-pub returns-in-None-clause-only_takes : goal.returns-in-None-clause-only_takes
-returns-in-None-clause-only_takes c = c.loop-k.invariant.refilled.only_takes
-
-pub returns-in-None-clause-others : goal.returns-in-None-clause-others
-returns-in-None-clause-others c = others (goal.at.returns-in-None-clause-others c).After-loop-k
-
-pub returns-in-None-clause-logs : goal.returns-in-None-clause-logs
-returns-in-None-clause-logs c = c.loop-k.invariant.logs
-
-pub returns-in-None-clause-sources : goal.returns-in-None-clause-sources
-returns-in-None-clause-sources c = c.loop-k.invariant.sources
-
-pub returns-in-None-clause-full : goal.returns-in-None-clause-full
-returns-in-None-clause-full c k low =
-    let count = all (goal.at.returns-in-None-clause-full c).After-loop-k in
-    (none_empty c).none k (omega (arith, low, count, c.loop-k.invariant.refilled.count))
-
-pub returns-in-None-clause-date : goal.returns-in-None-clause-date
-returns-in-None-clause-date c =
+pub returns-clause-full : goal.returns-clause-full
+returns-clause-full c =
+    let from = (goal.at.returns-clause-full c).After-loop-k in
     let inputs = inputs_of c.loop-k.inputs.items in
-    c.loop-k.invariant.date
-    ∙ ap (λ n. greatest (hand_asks (extras_of c.loop-k.inputs.items) inputs) (range_with_len 0 n)) (all (goal.at.returns-in-None-clause-date c).After-loop-k ∙ sym c.loop-k.invariant.refilled.count)
+    full-where_none c.of.result c.loop-k.first c.loop-k.latest (λ _. (k : ℕ) → k < length inputs → IsSome (input_at inputs k).hand) c.of.ensures
+    (λ none k low. (found from None none).none k (omega (arith, low, all from, c.loop-k.invariant.refilled.count)))
 
-pub returns-in-None-clause-there : goal.returns-in-None-clause-there
-returns-in-None-clause-there c = tt
-
-pub returns-in-None-clause-empty : goal.returns-in-None-clause-empty
-returns-in-None-clause-empty c = tt
-
-pub returns-in-None-clause-first : goal.returns-in-None-clause-first
-returns-in-None-clause-first c = tt
+pub returns-clause-date : goal.returns-clause-date
+returns-clause-date c =
+    let inputs = inputs_of c.loop-k.inputs.items in
+    let asks = hand_asks (extras_of c.loop-k.inputs.items) inputs in
+    full-where_none c.of.result c.loop-k.first c.loop-k.latest (λ date. date ≡ greatest asks (range_with_len 0 (length inputs))) c.of.ensures
+    (λ none. c.loop-k.invariant.date ∙ ap (λ n. greatest asks (range_with_len 0 n)) (all (goal.at.returns-clause-date c).After-loop-k ∙ sym c.loop-k.invariant.refilled.count))
 
 -- ---- a hand stays empty
 
-pub returns-in-Some-clause-count : goal.returns-in-Some-clause-count
-returns-in-Some-clause-count c = c.loop-k.invariant.refilled.count
+pub returns-clause-there : goal.returns-clause-there
+returns-clause-there c =
+    let from = (goal.at.returns-clause-there c).After-loop-k in
+    empty-where_some c.of.result c.loop-k.first c.loop-k.latest (λ k. k < length (inputs_of c.loop-k.inputs.items)) c.of.ensures
+    (λ k some. omega (arith, (found from (Some k) some).there, all from, c.loop-k.invariant.refilled.count))
 
-pub returns-in-Some-clause-extras : goal.returns-in-Some-clause-extras
-returns-in-Some-clause-extras c = c.loop-k.invariant.extras
+pub returns-clause-empty : goal.returns-clause-empty
+returns-clause-empty c =
+    empty-where_some c.of.result c.loop-k.first c.loop-k.latest (λ k. (input_at (inputs_of c.loop-k.inputs.items) k).hand ≡ None) c.of.ensures
+    (λ k some. (found (goal.at.returns-clause-empty c).After-loop-k (Some k) some).empty)
 
-pub returns-in-Some-clause-same : goal.returns-in-Some-clause-same
-returns-in-Some-clause-same c = c.loop-k.invariant.refilled.same
-
-pub returns-in-Some-clause-each : goal.returns-in-Some-clause-each
-returns-in-Some-clause-each c = each (goal.at.returns-in-Some-clause-each c).After-loop-k
-
-pub returns-in-Some-clause-only_takes : goal.returns-in-Some-clause-only_takes
-returns-in-Some-clause-only_takes c = c.loop-k.invariant.refilled.only_takes
-
-pub returns-in-Some-clause-others : goal.returns-in-Some-clause-others
-returns-in-Some-clause-others c = others (goal.at.returns-in-Some-clause-others c).After-loop-k
-
-pub returns-in-Some-clause-logs : goal.returns-in-Some-clause-logs
-returns-in-Some-clause-logs c = c.loop-k.invariant.logs
-
-pub returns-in-Some-clause-sources : goal.returns-in-Some-clause-sources
-returns-in-Some-clause-sources c = c.loop-k.invariant.sources
-
-pub returns-in-Some-clause-full : goal.returns-in-Some-clause-full
-returns-in-Some-clause-full c = tt
-
-pub returns-in-Some-clause-date : goal.returns-in-Some-clause-date
-returns-in-Some-clause-date c = tt
-
-pub returns-in-Some-clause-there : goal.returns-in-Some-clause-there
-returns-in-Some-clause-there c =
-    let count = all (goal.at.returns-in-Some-clause-there c).After-loop-k in
-    omega (arith, (first_is c).there, count, c.loop-k.invariant.refilled.count)
-
-pub returns-in-Some-clause-empty : goal.returns-in-Some-clause-empty
-returns-in-Some-clause-empty c = (first_is c).empty
-
-pub returns-in-Some-clause-first : goal.returns-in-Some-clause-first
-returns-in-Some-clause-first c = (first_is c).first
+pub returns-clause-first : goal.returns-clause-first
+returns-clause-first c =
+    empty-where_some c.of.result c.loop-k.first c.loop-k.latest (λ k. (j : ℕ) → j < k → IsSome (input_at (inputs_of c.loop-k.inputs.items) j).hand) c.of.ensures
+    (λ k some. (found (goal.at.returns-clause-first c).After-loop-k (Some k) some).first)

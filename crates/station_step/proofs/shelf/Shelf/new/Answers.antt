@@ -2,15 +2,18 @@ use Rattle.std.proofs.Common.{◌≡◌, ◌<◌, ◌≤◌, ℕ, ◌+◌, ◌^�
 use Rattle.std.specs.Prelude.{Vec, slice_index_or}
 use Rattle.std.specs.declared.alloc.Global.{Global}
 use Rattle.std.proofs.lemmas.List.{get_or-map, get_or_default, length-map}
-use Rattle.std.proofs.lemmas.Result.{IfOk-from_err}
+use Rattle.std.proofs.lemmas.Result.{err_from_is_err_and}
 use Rattle.line_base.specs.Roomy.{RoomyLog}
 use Rattle.station_step.specs.declared.source.Source.{Source}
 use Rattle.station_step.specs.declared.tally.Tally.{Tally}
-use Rattle.station_step.specs.Shelf.{source_at, log_on, new_queue}
+use Rattle.station_step.specs.Shelf.{source_at, log_on}
 use Rattle.station_step.specs.Counts.{new_tally, dates_for, seen_queue, AreTallies}
 use Rattle.station_step.proofs.Laying.{LaidUpTo, items_of, laid_none, laid_more, seen-laid, sources-laid, tallies-laid, new-queues}
 use Rattle.station_step.proofs.shelf.Shelf.new.Goals as goal
 use Rattle.station_step.proofs.shelf.Shelf.new.Goals.{After-index-source}
+
+pub returns-in_err-queues : goal.returns-in_err-queues
+returns-in_err-queues c = rw (err_from_is_err_and c.from_residual.result c.from_residual.ensures.1).1 (record { logs = tt; sources = tt; queues = tt })
 
 pub loop-first-init : goal.loop-first-init
 loop-first-init c =
@@ -137,38 +140,8 @@ loop-first-preserved c =
 pub returns-clause-logs : goal.returns-clause-logs
 returns-clause-logs c = refl
 
-pub returns-in_err-queues-clause-logs : goal.returns-in_err-queues-clause-logs
-returns-in_err-queues-clause-logs c =
-    IfOk-from_err c.from_residual.result (λ shelf. shelf.logs ≡ c.args.logs.items) c.from_residual.ensures.0
+pub returns-in_err-push : goal.returns-in_err-push
+returns-in_err-push c = rw (err_from_is_err_and c.from_residual-in_err-push.result c.from_residual-in_err-push.ensures.1).1 (record { logs = tt; sources = tt; queues = tt })
 
-pub returns-in_err-queues-clause-sources : goal.returns-in_err-queues-clause-sources
-returns-in_err-queues-clause-sources c =
-    IfOk-from_err c.from_residual.result (λ shelf. shelf.sources ≡ c.args.sources.items) c.from_residual.ensures.0
-
-pub returns-in_err-queues-clause-queues : goal.returns-in_err-queues-clause-queues
-returns-in_err-queues-clause-queues c =
-    IfOk-from_err c.from_residual.result (λ shelf. shelf.queues ≡ map (λ (tokens : Vec ℕ Global). new_queue c.args.room tokens.items) c.args.firsts.items) c.from_residual.ensures.0
-
-pub returns-in_err-push-clause-logs : goal.returns-in_err-push-clause-logs
-returns-in_err-push-clause-logs c =
-    IfOk-from_err c.from_residual-in_err-push.result (λ shelf. shelf.logs ≡ c.args.logs.items) c.from_residual-in_err-push.ensures.0
-
-pub returns-in_err-push-clause-sources : goal.returns-in_err-push-clause-sources
-returns-in_err-push-clause-sources c =
-    IfOk-from_err c.from_residual-in_err-push.result (λ shelf. shelf.sources ≡ c.args.sources.items) c.from_residual-in_err-push.ensures.0
-
-pub returns-in_err-push-clause-queues : goal.returns-in_err-push-clause-queues
-returns-in_err-push-clause-queues c =
-    IfOk-from_err c.from_residual-in_err-push.result (λ shelf. shelf.queues ≡ map (λ (tokens : Vec ℕ Global). new_queue c.args.room tokens.items) c.args.firsts.items) c.from_residual-in_err-push.ensures.0
-
-pub returns-in_err-extend_from_slice-clause-logs : goal.returns-in_err-extend_from_slice-clause-logs
-returns-in_err-extend_from_slice-clause-logs c =
-    IfOk-from_err c.from_residual-in_err-extend_from_slice.result (λ shelf. shelf.logs ≡ c.args.logs.items) c.from_residual-in_err-extend_from_slice.ensures.0
-
-pub returns-in_err-extend_from_slice-clause-sources : goal.returns-in_err-extend_from_slice-clause-sources
-returns-in_err-extend_from_slice-clause-sources c =
-    IfOk-from_err c.from_residual-in_err-extend_from_slice.result (λ shelf. shelf.sources ≡ c.args.sources.items) c.from_residual-in_err-extend_from_slice.ensures.0
-
-pub returns-in_err-extend_from_slice-clause-queues : goal.returns-in_err-extend_from_slice-clause-queues
-returns-in_err-extend_from_slice-clause-queues c =
-    IfOk-from_err c.from_residual-in_err-extend_from_slice.result (λ shelf. shelf.queues ≡ map (λ (tokens : Vec ℕ Global). new_queue c.args.room tokens.items) c.args.firsts.items) c.from_residual-in_err-extend_from_slice.ensures.0
+pub returns-in_err-extend_from_slice : goal.returns-in_err-extend_from_slice
+returns-in_err-extend_from_slice c = rw (err_from_is_err_and c.from_residual-in_err-extend_from_slice.result c.from_residual-in_err-extend_from_slice.ensures.1).1 (record { logs = tt; sources = tt; queues = tt })

@@ -2,7 +2,7 @@ use Rattle.std.proofs.Common.{◌≡◌, ◌<◌, arith, refl, zero, suc, [], �
 use Rattle.std.specs.Prelude.{None, Bool, true, false, IsTrue, not}
 use Rattle.std.specs.List.{list_any}
 use Rattle.std.proofs.lemmas.List.{length-map}
-use Rattle.std.proofs.lemmas.Result.{IfOk-from_err}
+use Rattle.std.proofs.lemmas.Result.{err_from_is_err_and}
 use Rattle.line_base.specs.declared.event.Parts.{Parts}
 use Rattle.line_base.specs.Roomy.{RoomyLog}
 use Rattle.card_queue.specs.Plain.{PlainQueue}
@@ -60,57 +60,17 @@ with_delays-requires-clause-an_outlet_each c =
 
 -- ---- where memory runs out
 
--- what is kept of a station where it is fresh
-abbrev KeptWhereFresh : WorkStation → Type 0
-KeptWhereFresh s = (shelf : List PlainQueue) → IsFresh shelf s → IsKept shelf s
+pub returns-in_err-worked : goal.returns-in_err-worked
+returns-in_err-worked c = rw (err_from_is_err_and c.from_residual.result c.from_residual.ensures.1).1 (record { made = tt; station = tt; kept = tt })
 
-pub returns-in_err-worked-clause-made : goal.returns-in_err-worked-clause-made
-returns-in_err-worked-clause-made c =
-    IfOk-from_err c.from_residual.result (λ s. s ≡ new_station c.args.live.now.graph c.args.t c.args.inlets.items c.args.outlets.items c.args.log.now) c.from_residual.ensures.0
+pub returns-in_err-inputs : goal.returns-in_err-inputs
+returns-in_err-inputs c = rw (err_from_is_err_and c.from_residual-in_err-inputs.result c.from_residual-in_err-inputs.ensures.1).1 (record { made = tt; station = tt; kept = tt })
 
-pub returns-in_err-worked-clause-station : goal.returns-in_err-worked-clause-station
-returns-in_err-worked-clause-station c =
-    IfOk-from_err c.from_residual.result IsStation c.from_residual.ensures.0
+pub returns-in_err-fronts : goal.returns-in_err-fronts
+returns-in_err-fronts c = rw (err_from_is_err_and c.from_residual-in_err-fronts.result c.from_residual-in_err-fronts.ensures.1).1 (record { made = tt; station = tt; kept = tt })
 
-pub returns-in_err-worked-clause-kept : goal.returns-in_err-worked-clause-kept
-returns-in_err-worked-clause-kept c =
-    IfOk-from_err c.from_residual.result KeptWhereFresh c.from_residual.ensures.0
-
-pub returns-in_err-inputs-clause-made : goal.returns-in_err-inputs-clause-made
-returns-in_err-inputs-clause-made c =
-    IfOk-from_err c.from_residual-in_err-inputs.result (λ s. s ≡ new_station c.args.live.now.graph c.args.t c.args.inlets.items c.args.outlets.items c.args.log.now) c.from_residual-in_err-inputs.ensures.0
-
-pub returns-in_err-inputs-clause-station : goal.returns-in_err-inputs-clause-station
-returns-in_err-inputs-clause-station c =
-    IfOk-from_err c.from_residual-in_err-inputs.result IsStation c.from_residual-in_err-inputs.ensures.0
-
-pub returns-in_err-inputs-clause-kept : goal.returns-in_err-inputs-clause-kept
-returns-in_err-inputs-clause-kept c =
-    IfOk-from_err c.from_residual-in_err-inputs.result KeptWhereFresh c.from_residual-in_err-inputs.ensures.0
-
-pub returns-in_err-fronts-clause-made : goal.returns-in_err-fronts-clause-made
-returns-in_err-fronts-clause-made c =
-    IfOk-from_err c.from_residual-in_err-fronts.result (λ s. s ≡ new_station c.args.live.now.graph c.args.t c.args.inlets.items c.args.outlets.items c.args.log.now) c.from_residual-in_err-fronts.ensures.0
-
-pub returns-in_err-fronts-clause-station : goal.returns-in_err-fronts-clause-station
-returns-in_err-fronts-clause-station c =
-    IfOk-from_err c.from_residual-in_err-fronts.result IsStation c.from_residual-in_err-fronts.ensures.0
-
-pub returns-in_err-fronts-clause-kept : goal.returns-in_err-fronts-clause-kept
-returns-in_err-fronts-clause-kept c =
-    IfOk-from_err c.from_residual-in_err-fronts.result KeptWhereFresh c.from_residual-in_err-fronts.ensures.0
-
-pub returns-in_err-outlets-clause-made : goal.returns-in_err-outlets-clause-made
-returns-in_err-outlets-clause-made c =
-    IfOk-from_err c.from_residual-in_err-outlets.result (λ s. s ≡ new_station c.args.live.now.graph c.args.t c.args.inlets.items c.args.outlets.items c.args.log.now) c.from_residual-in_err-outlets.ensures.0
-
-pub returns-in_err-outlets-clause-station : goal.returns-in_err-outlets-clause-station
-returns-in_err-outlets-clause-station c =
-    IfOk-from_err c.from_residual-in_err-outlets.result IsStation c.from_residual-in_err-outlets.ensures.0
-
-pub returns-in_err-outlets-clause-kept : goal.returns-in_err-outlets-clause-kept
-returns-in_err-outlets-clause-kept c =
-    IfOk-from_err c.from_residual-in_err-outlets.result KeptWhereFresh c.from_residual-in_err-outlets.ensures.0
+pub returns-in_err-outlets : goal.returns-in_err-outlets
+returns-in_err-outlets c = rw (err_from_is_err_and c.from_residual-in_err-outlets.result c.from_residual-in_err-outlets.ensures.1).1 (record { made = tt; station = tt; kept = tt })
 
 -- ---- the station that is made, as contracts see it
 
@@ -200,13 +160,10 @@ invariant_of-result c =
       noted = subst (λ (h : Parts). IsNoted h t inputs outlets (not c.varies-fixed.result) c.in_ok-worked.worked.items c.kinds_of-bounded.result.0 c.kinds_of-bounded.result.1) (sym c.of-2.ensures) noted;
     }
 
-pub returns-clause-made : goal.returns-clause-made
-returns-clause-made c = made_is c
-
-pub returns-clause-station : goal.returns-clause-station
-returns-clause-station c = is_station c
-
-pub returns-clause-kept : goal.returns-clause-kept
-returns-clause-kept c =
-    subst (λ (s : WorkStation). (shelf : List PlainQueue) → IsFresh shelf s → IsKept shelf s) (sym (made_is c))
-    (kept-fresh c.args.live.now.graph c.args.t c.args.inlets.items c.args.outlets.items c.args.log.now c.requires.untaken c.requires.unfilled c.requires.ring_room)
+pub returns : goal.returns
+returns c = record {
+  made = made_is c;
+  station = is_station c;
+  kept = subst (λ (s : WorkStation). (shelf : List PlainQueue) → IsFresh shelf s → IsKept shelf s) (sym (made_is c))
+      (kept-fresh c.args.live.now.graph c.args.t c.args.inlets.items c.args.outlets.items c.args.log.now c.requires.untaken c.requires.unfilled c.requires.ring_room);
+}
