@@ -289,15 +289,15 @@ new-stands g begun worker_count w ends shelf made logs any low size are logs_are
     }
 
 -- one log more
-pub one_more_log : (g : Parts) (begun : State) (first t : ℕ) (logs : List RoomyLog) (copy : RoomyLog) → first + length logs ≡ t → AreNewLogs g begun first logs → copy.dates ≡ log begun t → copy.room ≡ jobs g → length (log begun t) ≤ jobs g → AreNewLogs g begun first (logs ++ copy ∷ [])
-one_more_log g begun first t logs copy count are dates room few =
+pub one_more_log : (g : Parts) (begun : State) (first t : ℕ) (logs now : List RoomyLog) (copy : RoomyLog) → now ≡ logs ++ copy ∷ [] → first + length logs ≡ t → AreNewLogs g begun first logs → copy.dates ≡ log begun t → copy.room ≡ jobs g → length (log begun t) ≤ jobs g → AreNewLogs g begun first now
+one_more_log g begun first t logs now copy pushed count are dates room few =
     let none : RoomyLog = record { dates = []; room = 0 } in
     let early : (i : ℕ) → i < length logs → log_on (logs ++ copy ∷ []) i ≡ log_on logs i = λ i low. get_or_append_left logs (copy ∷ []) none i low in
     let late : (i : ℕ) → i < length (logs ++ copy ∷ []) → length logs ≤ i → log_on (logs ++ copy ∷ []) i ≡ copy =
     λ i low past. get_or_push logs copy none i (omega (arith, low, past, length_push logs copy)) in
     let at : (i : ℕ) → i < length (logs ++ copy ∷ []) → length logs ≤ i → t ≡ first + i =
     λ i low past. omega (arith, low, past, length_push logs copy, count) in
-    record {
+    subst (AreNewLogs g begun first) (sym pushed) (record {
       dates = λ i low.
           ⊎_elim
           (λ before. ap (λ (l : RoomyLog). l.dates) (early i before) ∙ are.dates i before)
@@ -313,7 +313,7 @@ one_more_log g begun first t logs copy count are dates room few =
           (λ before. omega (arith, ap (λ (l : RoomyLog). length l.dates) (early i before), are.few i before))
           (λ past. omega (arith, ap (λ (l : RoomyLog). length l.dates) (late i low past), ap length dates, few))
           (cases_lt i (length logs));
-    }
+    })
 
 pub no_logs : (g : Parts) (begun : State) (first : ℕ) (logs : List RoomyLog) → logs ≡ [] → AreNewLogs g begun first logs
 no_logs g begun first logs none = record {

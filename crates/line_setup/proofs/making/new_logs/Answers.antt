@@ -1,7 +1,5 @@
-use Rattle.std.proofs.Common.{List, length, ap, sym, subst, arith}
+use Rattle.std.proofs.Common.{length, ap, arith}
 use Rattle.std.proofs.lemmas.List.{length_push}
-use Rattle.line_base.specs.Roomy.{RoomyLog}
-use Rattle.line_setup.specs.Making.{AreNewLogs}
 use Rattle.line_setup.proofs.MadeStations.{no_logs, one_more_log}
 use Rattle.line_setup.proofs.making.new_logs.Goals as goal
 
@@ -20,15 +18,10 @@ push_reserved-requires c =
 
 pub loop-t-preserved : goal.loop-t-preserved
 loop-t-preserved c =
-    let g = c.args.live.now.graph in
-    let begun = c.args.state.now.state in
     let before = c.loop-t.invariant in
-    let pushed = c.push_reserved.ensures.items in
     let copied = c.in_ok-log.ensures in
     record {
-      count = omega (arith, before.count, ap length pushed, length_push c.loop-t.logs.items c.in_ok-log.log);
-      logs =
-          subst (λ (l : List RoomyLog). AreNewLogs g begun c.args.first l) (sym pushed) (
-          one_more_log g begun c.args.first c.loop-t.t c.loop-t.logs.items c.in_ok-log.log before.count before.logs copied.dates copied.room copied.few);
+      count = omega (arith, before.count, ap length c.push_reserved.ensures.items, length_push c.loop-t.logs.items c.in_ok-log.log);
+      logs = one_more_log c.args.live.now.graph c.args.state.now.state c.args.first c.loop-t.t c.loop-t.logs.items c.push_reserved.new.self.items c.in_ok-log.log c.push_reserved.ensures.items before.count before.logs copied.dates copied.room copied.few;
       room = omega (arith, before.room, c.push_reserved.ensures.capacity);
     }

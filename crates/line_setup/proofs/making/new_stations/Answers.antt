@@ -1,6 +1,6 @@
 use Rattle.std.proofs.Common.{◌≡◌, ℕ, ◌+◌, ◌-◌, ◌<◌, ap, ◌∙◌, subst, sym, refl, List, length, arith}
 use Rattle.std.proofs.lemmas.List.{length_push, get_or_default}
-use Rattle.std.proofs.lemmas.Result.{IfOk-from_err}
+use Rattle.std.proofs.lemmas.Result.{err_from_is_err_and}
 use Rattle.line_base.specs.Roomy.{RoomyLog}
 use Rattle.event_graph.specs.State.{log}
 use Rattle.station_step.specs.Shelf.{log_on}
@@ -74,26 +74,8 @@ pub push_reserved-requires : goal.push_reserved-requires
 push_reserved-requires c =
     omega (arith, c.loop-t.made.ok.0, c.loop-t.invariant.count, c.loop-t.invariant.room, c.loop-t-test.true)
 
-pub returns-in_err-made-clause-count : goal.returns-in_err-made-clause-count
-returns-in_err-made-clause-count c =
-    IfOk-from_err c.from_residual.result (λ made. c.args.first + length made.items ≡ c.args.next) c.from_residual.ensures.0
+pub returns-in_err-made : goal.returns-in_err-made
+returns-in_err-made c = rw (err_from_is_err_and c.from_residual.result c.from_residual.ensures.1).1 (record { count = tt; made = tt; logs = tt; rest = tt; shelves = tt; arcs = tt })
 
-pub returns-in_err-made-clause-made : goal.returns-in_err-made-clause-made
-returns-in_err-made-clause-made c =
-    IfOk-from_err c.from_residual.result (λ made. AreNewStations c.args.live.now.graph c.args.state.now.state c.args.first c.args.ends.now made.items) c.from_residual.ensures.0
-
-pub returns-in_err-made-clause-logs : goal.returns-in_err-made-clause-logs
-returns-in_err-made-clause-logs c =
-    IfOk-from_err c.from_residual.result (λ made. (i : ℕ) → i < length made.items → (member made.items i).log ≡ log_on c.args.logs.now.items i) c.from_residual.ensures.0
-
-pub returns-in_err-station-clause-count : goal.returns-in_err-station-clause-count
-returns-in_err-station-clause-count c =
-    IfOk-from_err c.from_residual-in_err-station.result (λ made. c.args.first + length made.items ≡ c.args.next) c.from_residual-in_err-station.ensures.0
-
-pub returns-in_err-station-clause-made : goal.returns-in_err-station-clause-made
-returns-in_err-station-clause-made c =
-    IfOk-from_err c.from_residual-in_err-station.result (λ made. AreNewStations c.args.live.now.graph c.args.state.now.state c.args.first c.args.ends.now made.items) c.from_residual-in_err-station.ensures.0
-
-pub returns-in_err-station-clause-logs : goal.returns-in_err-station-clause-logs
-returns-in_err-station-clause-logs c =
-    IfOk-from_err c.from_residual-in_err-station.result (λ made. (i : ℕ) → i < length made.items → (member made.items i).log ≡ log_on c.args.logs.now.items i) c.from_residual-in_err-station.ensures.0
+pub returns-in_err-station : goal.returns-in_err-station
+returns-in_err-station c = rw (err_from_is_err_and c.from_residual-in_err-station.result c.from_residual-in_err-station.ensures.1).1 (record { count = tt; made = tt; logs = tt; rest = tt; shelves = tt; arcs = tt })

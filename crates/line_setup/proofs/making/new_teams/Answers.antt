@@ -1,6 +1,6 @@
-use Rattle.std.proofs.Common.{ℕ, ◌≡◌, ◌+◌, ap, subst, sym, refl, List, length, arith}
+use Rattle.std.proofs.Common.{ℕ, ◌+◌, ap, subst, sym, refl, List, length, arith}
 use Rattle.std.proofs.lemmas.List.{length_push}
-use Rattle.std.proofs.lemmas.Result.{IfOk-from_err}
+use Rattle.std.proofs.lemmas.Result.{err_from_is_err_and}
 use Rattle.event_graph.specs.Network.{stations}
 use Rattle.line_worker.specs.Share.{first_of}
 use Rattle.line_worker.specs.Team.{WorkTeam}
@@ -58,21 +58,11 @@ push_reserved-requires c =
 pub new_team-requires-clause-shelves : goal.new_team-requires-clause-shelves
 new_team-requires-clause-shelves c = omega (arith, c.loop-worker_number.invariant.shelves.count, c.requires.shelves)
 
-pub returns-in_err-teams-clause-count : goal.returns-in_err-teams-clause-count
-returns-in_err-teams-clause-count c =
-    IfOk-from_err c.from_residual.result (λ teams. length teams.items ≡ c.args.worker_count) c.from_residual.ensures.0
+pub returns-in_err-teams : goal.returns-in_err-teams
+returns-in_err-teams c = rw (err_from_is_err_and c.from_residual.result c.from_residual.ensures.1).1 (record { count = tt; teams = tt })
 
-pub returns-in_err-teams-clause-teams : goal.returns-in_err-teams-clause-teams
-returns-in_err-teams-clause-teams c =
-    IfOk-from_err c.from_residual.result (λ teams. AreNewTeams c.args.live.now.graph c.args.state.now.state c.args.worker_count c.args.ends.now teams.items) c.from_residual.ensures.0
-
-pub returns-in_err-team-clause-count : goal.returns-in_err-team-clause-count
-returns-in_err-team-clause-count c =
-    IfOk-from_err c.from_residual-in_err-team.result (λ teams. length teams.items ≡ c.args.worker_count) c.from_residual-in_err-team.ensures.0
-
-pub returns-in_err-team-clause-teams : goal.returns-in_err-team-clause-teams
-returns-in_err-team-clause-teams c =
-    IfOk-from_err c.from_residual-in_err-team.result (λ teams. AreNewTeams c.args.live.now.graph c.args.state.now.state c.args.worker_count c.args.ends.now teams.items) c.from_residual-in_err-team.ensures.0
+pub returns-in_err-team : goal.returns-in_err-team
+returns-in_err-team c = rw (err_from_is_err_and c.from_residual-in_err-team.result c.from_residual-in_err-team.ensures.1).1 (record { count = tt; teams = tt })
 
 pub new_team-requires-clause-arcs : goal.new_team-requires-clause-arcs
 new_team-requires-clause-arcs c = omega (arith, c.loop-worker_number.invariant.shelves.arc_count, c.requires.arcs)

@@ -1,28 +1,25 @@
-use Rattle.std.proofs.Common.{◌≡◌, ap, ◌∙◌, sym, arith}
+use Rattle.std.proofs.Common.{◌≡◌, ℕ, ap, ◌∙◌, sym, arith}
 use Rattle.line_base.specs.declared.event.Arc.{Arc}
-use Rattle.event_graph.specs.Network.{stations}
+use Rattle.event_graph.specs.Network.{stations, arc}
 use Rattle.line_worker.specs.Share.{worker_of}
 use Rattle.line_worker.proofs.Share.{worker_number-below}
 use Rattle.line_setup.specs.Making.{putter, taker}
 use Rattle.line_setup.proofs.laying.Ends.join.Goals as goal
 use Rattle.line_setup.proofs.laying.Ends.join.Goals.{After-worker_of-taker}
 
--- the workers of the two stations
-putter_is : (c : After-worker_of-taker) → c.worker_of-putter.result ≡ putter c.args.start.now.live.now.graph c.args.start.now.worker_count c.args.a
-putter_is c =
+-- the worker of the station at one end of the arc
+worker_at : (c : After-worker_of-taker) (end : Arc → ℕ) → worker_of c.args.start.now.worker_count c.stations-stations.result (end c.arc_at-arc.result) ≡ worker_of c.args.start.now.worker_count (stations c.args.start.now.live.now.graph) (end (arc c.args.start.now.live.now.graph c.args.a))
+worker_at c end =
     let worker_count = c.args.start.now.worker_count in
     let many = c.stations-stations.ensures.count ∙ ap stations c.graph.ensures.graph in
-    c.worker_of-putter.ensures
-    ∙ ap (λ n. worker_of worker_count n c.arc_at-arc.result.from) many
-    ∙ ap (λ (arc : Arc). worker_of worker_count (stations c.args.start.now.live.now.graph) arc.from) c.arc_at-arc.ensures.arc
+    ap (λ n. worker_of worker_count n (end c.arc_at-arc.result)) many
+    ∙ ap (λ (a : Arc). worker_of worker_count (stations c.args.start.now.live.now.graph) (end a)) c.arc_at-arc.ensures.arc
+
+putter_is : (c : After-worker_of-taker) → c.worker_of-putter.result ≡ putter c.args.start.now.live.now.graph c.args.start.now.worker_count c.args.a
+putter_is c = c.worker_of-putter.ensures ∙ worker_at c (λ (a : Arc). a.from)
 
 taker_is : (c : After-worker_of-taker) → c.worker_of-taker.result ≡ taker c.args.start.now.live.now.graph c.args.start.now.worker_count c.args.a
-taker_is c =
-    let worker_count = c.args.start.now.worker_count in
-    let many = c.stations-stations.ensures.count ∙ ap stations c.graph.ensures.graph in
-    c.worker_of-taker.ensures
-    ∙ ap (λ n. worker_of worker_count n c.arc_at-arc.result.to) many
-    ∙ ap (λ (arc : Arc). worker_of worker_count (stations c.args.start.now.live.now.graph) arc.to) c.arc_at-arc.ensures.arc
+taker_is c = c.worker_of-taker.ensures ∙ worker_at c (λ (a : Arc). a.to)
 
 pub join_within-requires-clause-puts : goal.join_within-requires-clause-puts
 join_within-requires-clause-puts c = sym (putter_is (goal.at.join_within-requires-clause-puts c).After-worker_of-taker)

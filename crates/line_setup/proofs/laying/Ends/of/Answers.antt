@@ -1,5 +1,5 @@
 use Rattle.std.proofs.Common.{◌≡◌, ℕ, List, [], length, replicate, ap, ◌∙◌, subst, arith}
-use Rattle.std.proofs.lemmas.Result.{IfOk-from_err}
+use Rattle.std.proofs.lemmas.Result.{err_from_is_err_and}
 use Rattle.station_step.specs.declared.ends.Inlet.{Inlet}
 use Rattle.station_step.specs.declared.ends.Outlet.{Outlet}
 use Rattle.event_graph.specs.Network.{stations, arc_count}
@@ -36,18 +36,8 @@ returns-clause-laid c =
     omega (arith, c.loop-a-test.false, c.loop-a.auto.a-end, ap length c.arcs.ensures.arcs, ap arc_count c.graph-graph.ensures.graph) in
     subst (λ (n : ℕ). AreLaidFor start c.loop-a.ends n) all c.loop-a.invariant.laid
 
-pub returns-in_err-ends-clause-laid : goal.returns-in_err-ends-clause-laid
-returns-in_err-ends-clause-laid c =
-    IfOk-from_err c.from_residual.result (λ ends. AreLaidFor c.args.start.now ends (arc_count c.args.start.now.live.now.graph)) c.from_residual.ensures.0
+pub returns-in_err-ends : goal.returns-in_err-ends
+returns-in_err-ends c = rw (err_from_is_err_and c.from_residual.result c.from_residual.ensures.1).1 (record { laid = tt; room = tt; sound = tt; some_station = tt; few_arcs = tt })
 
-pub returns-in_err-ends-clause-room : goal.returns-in_err-ends-clause-room
-returns-in_err-ends-clause-room c =
-    IfOk-from_err c.from_residual.result (λ ends. ends.room ≡ c.args.start.now.room) c.from_residual.ensures.0
-
-pub returns-in_err-join-clause-laid : goal.returns-in_err-join-clause-laid
-returns-in_err-join-clause-laid c =
-    IfOk-from_err c.from_residual-in_err-join.result (λ ends. AreLaidFor c.args.start.now ends (arc_count c.args.start.now.live.now.graph)) c.from_residual-in_err-join.ensures.0
-
-pub returns-in_err-join-clause-room : goal.returns-in_err-join-clause-room
-returns-in_err-join-clause-room c =
-    IfOk-from_err c.from_residual-in_err-join.result (λ ends. ends.room ≡ c.args.start.now.room) c.from_residual-in_err-join.ensures.0
+pub returns-in_err-join : goal.returns-in_err-join
+returns-in_err-join c = rw (err_from_is_err_and c.from_residual-in_err-join.result c.from_residual-in_err-join.ensures.1).1 (record { laid = tt; room = tt; sound = tt; some_station = tt; few_arcs = tt })
