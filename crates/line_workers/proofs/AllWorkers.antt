@@ -1,7 +1,8 @@
 -- The workers of a line as teams, and a meeting among them.
-use Rattle.std.proofs.Common.{◌≡◌, ℕ, ◌+◌, ◌-◌, ◌<◌, ◌≤◌, List, Option, length, set, refl, ap, ◌∙◌, sym, subst, arith, ⊎_elim, ◌⊎◌}
+use Rattle.std.proofs.Common.{◌≡◌, ℕ, ◌+◌, ◌-◌, ◌*◌, ◌<◌, ◌≤◌, List, Option, length, take, get_or, set, add-mul, one-mul, refl, ap, ◌∙◌, sym, subst, arith, ⊎_elim, ◌⊎◌}
 use Rattle.std.proofs.lemmas.Bool.{cases_eq}
-use Rattle.std.proofs.lemmas.List.{length-set, get_or-set_other, map-set}
+use Rattle.std.proofs.lemmas.List.{length-set, get_or-set_other, get_or_read, map-set, take_all}
+use Rattle.std.proofs.lemmas.List.Sums.{sum_by_more}
 use Rattle.line_base.specs.declared.event.Parts.{Parts}
 use Rattle.event_graph.specs.Network.{stations, arc, arc_count, ins, outs}
 use Rattle.live_check.specs.Order.{LiveGraph, IsRanked}
@@ -384,6 +385,23 @@ meeting_goes_on live old now next Some More a inv narrow same meets =
     }
 
 -- ---- totals
+
+-- what the teams of the first k workers have of something, of which none has more than that
+pub record CountedUpTo (count : WorkTeam → ℕ) (most k : ℕ) (workers : List LineWorker) (so_far : ℕ) : Type 0 where
+  pub made : so_far ≡ sum_by (λ (worker : LineWorker). count worker.team) (take k workers)
+  pub few : so_far ≤ k * most
+
+pub counted_more : (count : WorkTeam → ℕ) (most k : ℕ) (workers : List LineWorker) (worker : LineWorker) (so_far more : ℕ) → k < length workers → worker ≡ get_or workers k worker → more ≡ count worker.team → more ≤ most → CountedUpTo count most k workers so_far → CountedUpTo count most (k + 1) workers (so_far + more)
+counted_more count most k workers worker so_far more low read more_is fits before =
+    let at = get_or_read workers k worker low read no_worker in
+    record {
+      made = omega (arith, before.made, more_is, ap (λ (w : LineWorker). count w.team) at, sum_by_more (λ (w : LineWorker). count w.team) workers k no_worker low);
+      few = omega (arith, before.few, fits, add-mul k 1 most, one-mul most);
+    }
+
+pub counted_all : (count : WorkTeam → ℕ) (most k : ℕ) (workers : List LineWorker) (so_far : ℕ) → length workers ≤ k → CountedUpTo count most k workers so_far → so_far ≡ sum_by (λ (worker : LineWorker). count worker.team) workers
+counted_all count most k workers so_far all counted =
+    counted.made ∙ ap (λ (l : List LineWorker). sum_by (λ (worker : LineWorker). count worker.team) l) (take_all k workers all)
 
 -- what the stations of all workers have of something together is the sum over the stations of the graph
 total : (f : WorkStation → ℕ) (workers : List LineWorker) → AreWorkers workers → sum_by (λ (worker : LineWorker). sum_by f worker.team.stations) workers ≡ sum_by (λ t. f (station_of (graph_of workers) (teams_of workers) t)) (range_with_len 0 (stations (graph_of workers)))

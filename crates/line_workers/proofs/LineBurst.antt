@@ -24,7 +24,7 @@ use Rattle.line_worker.specs.Worker.{LineWorker, teams_of}
 use Rattle.line_worker.specs.Work.{dates_of, turns_of, most_sweeps, TurnsBelow}
 use Rattle.line_worker.specs.Workers.{worker_at, no_worker, live_of, graph_of, begun_of, room_of, AreWorkers}
 use Rattle.line_workers.specs.Burst.{AllMade, EachMade, WorkersBurst}
-use Rattle.line_workers.specs.Line.{WorkLine, turns_among, line_of, run_in, KeepsPace, AreAtRest, IsLine, IsWithinRooms, LogsGrow, WorksAt, EachWorks}
+use Rattle.line_workers.specs.Line.{WorkLine, turns_among, line_of, run_in, KeepsPace, AreAtRest, IsLine, IsWithinRooms, LogsGrow, EachWorks}
 use Rattle.line_workers.proofs.AllWorkers.{ranked, workers_are_teams, seat_there, seated, of_seat}
 use Rattle.line_worker.proofs.Standing.{log-among, stands_for_reached, can_fire_is_ready}
 use Rattle.line_worker.proofs.Spacing.{spaces, free-spaces, few-spaces, first_can_fire}

@@ -1,7 +1,7 @@
 -- The list of the arcs between two workers, and a meeting of their ends.
-use Rattle.std.proofs.Common.{true≢false, ◌≡◌, ℕ, ◌+◌, ◌<◌, ◌≤◌, Bool, true, false, not, cond, eqb, List, [], ◌∷◌, ◌++◌, map, length, get_or, refl, sym, ap, ◌∙◌, subst, arith, ⊎_elim, ◌⊎◌, inl, inr}
-use Rattle.std.specs.List.{filter, range_with_len, All, Contains}
-use Rattle.std.proofs.lemmas.Bool.{eqb-true, eq-eqb, ne_eqb, cases_eq}
+use Rattle.std.proofs.Common.{true≢false, ◌≡◌, ℕ, ◌+◌, ◌<◌, ◌≤◌, true, false, not, cond, List, [], ◌∷◌, ◌++◌, map, length, get_or, refl, sym, ap, ◌∙◌, subst, arith, ⊎_elim, inl, inr}
+use Rattle.std.specs.List.{filter, range_with_len, Contains}
+use Rattle.std.proofs.lemmas.Bool.{eq-eqb, ne_eqb, cases_eq}
 use Rattle.std.proofs.lemmas.List.{append-nil, map-append, length-map, get_or-map, get_or_default}
 use Rattle.std.proofs.lemmas.List.Elements.{All-filter, filter_passes}
 use Rattle.line_base.specs.declared.event.Parts.{Parts}
@@ -10,7 +10,7 @@ use Rattle.event_graph.specs.Network.{stations, arc, arc_count}
 use Rattle.event_graph.proofs.Ranges.{Contains-filter-range, All-range}
 use Rattle.live_check.specs.Order.{LiveGraph}
 use Rattle.line_worker.specs.Share.{worker_of}
-use Rattle.line_worker.specs.Teams.{IsMetOn, AreAllMet}
+use Rattle.line_worker.specs.Teams.{AreAllMet}
 use Rattle.line_worker.specs.Worker.{LineWorker, teams_of}
 use Rattle.line_worker.specs.Workers.{live_of, AreWorkers}
 use Rattle.line_workers.specs.declared.link.Link.{Link}

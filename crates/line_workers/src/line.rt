@@ -97,6 +97,10 @@ impl Line {
         ensures stands { IfOk result (StandsIn room live.now state.now.state worker_count) }
     {
         let made = state.fired();
+        let counts = Counts {
+            fired: made,
+            steps: 0,
+        };
         let start = Start {
             live,
             state,
@@ -108,10 +112,7 @@ impl Line {
         Ok(Line {
             workers,
             made,
-            counts: Counts {
-                fired: made,
-                steps: 0,
-            },
+            counts,
             all: firings_of(live),
             links: Links::Listed(links),
             threading: Threading::new(),
@@ -287,13 +288,14 @@ impl Line {
     {
         let mut workers = workers;
         let made = gather_workers(&mut workers, live);
+        let counts = Counts {
+            fired: made,
+            steps: 0,
+        };
         Line {
             workers,
             made,
-            counts: Counts {
-                fired: made,
-                steps: 0,
-            },
+            counts,
             all: firings_of(live),
             links: Links::Unlisted,
             threading: Threading::new(),

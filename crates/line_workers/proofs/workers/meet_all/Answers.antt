@@ -12,19 +12,16 @@ use Rattle.line_workers.proofs.workers.meet_all.Goals as goal
 begins : (live : LiveGraph) (workers : List LineWorker) → AreWorkers workers → live ≡ live_of workers → IsMeeting live workers workers (λ b. b < 0)
 begins live workers are made_for = meeting_begins live workers (λ b. b < 0) (λ b low. absurd (omega (arith, low))) are made_for
 
-pub returns-then-workers-eq1-clause-same : goal.returns-then-workers-eq1-clause-same
-returns-then-workers-eq1-clause-same c = (begins c.args.live.now c.args.workers.now c.requires.workers c.requires.made_for).same
-
-pub returns-then-workers-eq1-clause-worked : goal.returns-then-workers-eq1-clause-worked
-returns-then-workers-eq1-clause-worked c = (begins c.args.live.now c.args.workers.now c.requires.workers c.requires.made_for).worked
-
-pub returns-then-workers-eq1-clause-still : goal.returns-then-workers-eq1-clause-still
-returns-then-workers-eq1-clause-still c = (begins c.args.live.now c.args.workers.now c.requires.workers c.requires.made_for).still
-
-pub returns-then-workers-eq1-clause-met : goal.returns-then-workers-eq1-clause-met
-returns-then-workers-eq1-clause-met c =
+pub returns-then-workers-eq1 : goal.returns-then-workers-eq1
+returns-then-workers-eq1 c =
+    let meeting = begins c.args.live.now c.args.workers.now c.requires.workers c.requires.made_for in
     let one : length c.args.workers.now ≡ 1 = omega (arith, c.if-workers-eq1.true) in
-    λ a listed. alone_is_met c.args.workers.now c.requires.workers c.args.live.now c.requires.made_for a listed one
+    record {
+      same = meeting.same;
+      worked = meeting.worked;
+      still = meeting.still;
+      met = λ a listed. alone_is_met c.args.workers.now c.requires.workers c.args.live.now c.requires.made_for a listed one;
+    }
 
 pub loop-a-init : goal.loop-a-init
 loop-a-init c = begins c.args.live.now c.args.workers.now c.requires.workers c.requires.made_for
@@ -49,15 +46,12 @@ loop-a-preserved c =
     (λ b low. ⊎_elim inl (λ apart. inr (omega (arith, low, apart))) (cases_eq b a))
     c.meet_on.ensures.same c.meet_on.ensures.met
 
-pub returns-clause-same : goal.returns-clause-same
-returns-clause-same c = c.loop-a.invariant.same
-
-pub returns-clause-worked : goal.returns-clause-worked
-returns-clause-worked c = c.loop-a.invariant.worked
-
-pub returns-clause-still : goal.returns-clause-still
-returns-clause-still c = c.loop-a.invariant.still
-
-pub returns-clause-met : goal.returns-clause-met
-returns-clause-met c =
-    λ a listed. c.loop-a.invariant.met a listed (omega (arith, listed, c.loop-a-test.false, ap length c.arcs.ensures.arcs, ap arc_count c.graph.ensures.graph))
+pub returns : goal.returns
+returns c =
+    let meeting = c.loop-a.invariant in
+    record {
+      same = meeting.same;
+      worked = meeting.worked;
+      still = meeting.still;
+      met = λ a listed. meeting.met a listed (omega (arith, listed, c.loop-a-test.false, ap length c.arcs.ensures.arcs, ap arc_count c.graph.ensures.graph));
+    }

@@ -1,26 +1,12 @@
-use Rattle.std.proofs.Common.{List, ap, ◌∙◌, arith}
-use Rattle.std.specs.List.{sum_by}
-use Rattle.std.proofs.lemmas.List.{take_all, get_or_read}
-use Rattle.std.proofs.lemmas.List.Sums.{sum_by_more}
-use Rattle.line_worker.specs.Worker.{LineWorker}
+use Rattle.std.proofs.Common.{◌^◌, ◌∙◌}
 use Rattle.line_worker.specs.Work.{turns_made}
-use Rattle.line_worker.specs.Workers.{no_worker}
-use Rattle.line_workers.proofs.AllWorkers.{turns-total}
+use Rattle.line_workers.proofs.AllWorkers.{counted_more, counted_all, turns-total}
 use Rattle.line_workers.proofs.workers.turns_of.Goals as goal
 
 pub loop-worker-preserved : goal.loop-worker-preserved
 loop-worker-preserved c =
-    let workers = c.args.workers.now in
-    let k = c.loop-worker.worker-index in
-    let low = c.loop-worker-test.true in
-    let at = get_or_read workers k c.worker-item.result low c.worker-item.is no_worker in
-    record {
-      made = omega (arith, c.loop-worker.invariant.made, c.steps-turns.ensures.steps, ap (λ (x : LineWorker). turns_made x.team) at, sum_by_more (λ (x : LineWorker). turns_made x.team) workers k no_worker low);
-      few = omega (arith, c.loop-worker.invariant.few, c.steps-turns.ensures.few);
-    }
+    counted_more turns_made (2 ^ 50) c.loop-worker.worker-index c.args.workers.now c.worker-item.result c.loop-worker.turns c.steps-turns.result c.loop-worker-test.true c.worker-item.is c.steps-turns.ensures.steps c.steps-turns.ensures.few c.loop-worker.invariant
 
 pub returns : goal.returns
 returns c =
-    c.loop-worker.invariant.made
-    ∙ ap (λ (l : List LineWorker). sum_by (λ (worker : LineWorker). turns_made worker.team) l) (take_all c.loop-worker.worker-index c.args.workers.now c.loop-worker-test.false)
-    ∙ turns-total c.args.workers.now c.requires.workers
+    counted_all turns_made (2 ^ 50) c.loop-worker.worker-index c.args.workers.now c.loop-worker.turns c.loop-worker-test.false c.loop-worker.invariant ∙ turns-total c.args.workers.now c.requires.workers
