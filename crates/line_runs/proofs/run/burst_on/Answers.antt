@@ -7,8 +7,7 @@ burst-requires-clause-made_for g c = λ κs within. c.requires.made_for
 
 pub returns : goal.returns
 returns g c =
-    let e = c.burst.ensures in
-    record {
+    let e = c.burst.ensures in record {
       line = e.line;
       frame = e.frame;
       logs = e.logs;

@@ -11,9 +11,7 @@ pub loop-line-init : goal.loop-line-init
 loop-line-init g c = record { made_for = c.requires; led = record { count = 0; bursts = none } }
 
 pub loop-line-smaller : goal.loop-line-smaller
-loop-line-smaller g c =
-    let undone : ¬ IsDone c.loop-line.line = search rules in
-    burst_leaves_less c.loop-line.line c.burst_on.new.line c.finished.ensures.line undone c.burst_on.ensures
+loop-line-smaller g c = burst_leaves_less c.loop-line.line c.burst_on.new.line c.finished.ensures.line (search rules) c.burst_on.ensures
 
 pub loop-line-preserved : goal.loop-line-preserved
 loop-line-preserved g c =
@@ -27,21 +25,19 @@ loop-line-preserved g c =
       led = led_more (all_firings c.args.live.now.graph) c.args.line line c.burst_on.new.line inv.led left c.burst_on.ensures;
     }
 
-pub returns-clause-bursts : goal.returns-clause-bursts
-returns-clause-bursts g c =
-    let done : IsDone c.loop-line.line = search rules in
-    finishes (all_firings c.args.live.now.graph) c.args.line c.loop-line.line c.loop-line.invariant.led c.finished.ensures.line done c.table_of.result c.table_of.ensures.dates
-
 pub burst_on-requires-clause-made_for : goal.burst_on-requires-clause-made_for
 burst_on-requires-clause-made_for g c = λ κs within. c.loop-line.invariant.made_for
 
 pub burst_on-requires-clause-undone : goal.burst_on-requires-clause-undone
-burst_on-requires-clause-undone g c =
-    let undone : ¬ IsDone c.loop-line.line = search rules in
-    λ κs within. undone
+burst_on-requires-clause-undone g c = let undone : ¬ IsDone c.loop-line.line = search rules in λ κs within. undone
+
+pub returns : goal.returns
+returns g c =
+    let done : IsDone c.loop-line.line = search rules in
+    record {
+      least = c.table_of.ensures.table;
+      bursts = finishes (all_firings c.args.live.now.graph) c.args.line c.loop-line.line c.loop-line.invariant.led c.finished.ensures.line done c.table_of.result c.table_of.ensures.dates;
+    }
 
 pub table_of-requires-clause-made_for : goal.table_of-requires-clause-made_for
 table_of-requires-clause-made_for g c = c.loop-line.invariant.made_for
-
-pub returns-clause-least : goal.returns-clause-least
-returns-clause-least g c = c.table_of.ensures.table

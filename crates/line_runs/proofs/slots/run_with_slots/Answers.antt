@@ -64,9 +64,7 @@ pub burst_on-requires-clause-made_for : goal.burst_on-requires-clause-made_for
 burst_on-requires-clause-made_for g c = λ κs within. c.loop-alloc.invariant.made_for
 
 pub burst_on-requires-clause-undone : goal.burst_on-requires-clause-undone
-burst_on-requires-clause-undone g c =
-    let undone : ¬ IsDone c.loop-alloc.line = search rules in
-    λ κs within. undone
+burst_on-requires-clause-undone g c = let undone : ¬ IsDone c.loop-alloc.line = search rules in λ κs within. undone
 
 pub save_if_due-requires-clause-made_for : goal.save_if_due-requires-clause-made_for
 save_if_due-requires-clause-made_for g c =

@@ -7,8 +7,14 @@ use Rattle.slot_store.specs.Crash.{bytes_now}
 use Rattle.slot_store.specs.Layout.{content}
 use Rattle.slot_store.specs.Loads.{HasLoaded}
 use Rattle.line_runs.specs.Resume.{Resumes}
-use Rattle.line_runs.proofs.SlotsResumed.{not_loaded, load_fault, not_resumed, resumed}
+use Rattle.line_runs.proofs.SlotsResumed.{Found, not_loaded, load_fault, not_resumed, resumed}
+use Rattle.line_runs.proofs.slots_resuming.resume_slots.Given.{Over}
 use Rattle.line_runs.proofs.slots_resuming.resume_slots.Goals as goal
+use Rattle.line_runs.proofs.slots_resuming.resume_slots.Goals.{In-Ok}
+
+-- the bytes that were loaded
+loaded : (g : Over) (c : In-Ok g) → Found g.D.Disk.tells (g.D.Disk.shown c.args.disk.now) (g.D.Disk.shown c.load.new.self.disk.now) MAX_ROOM c.in-Ok.text.items
+loaded g c = record { told = λ told. let saved = c.in-Ok.ensures.saved told in cc; read = search rules }
 
 pub not_loaded-requires : goal.not_loaded-requires
 not_loaded-requires g c = λ have is. c.in-Err.ensures.never_too_long have (ap (λ (refusal : SlotError). Err refusal) is)
@@ -32,29 +38,19 @@ returns-in-Err-clause-disk_fault g c = λ fault.
 
 pub returns-in_err-resume-in-Ok-clause-resumes : goal.returns-in_err-resume-in-Ok-clause-resumes
 returns-in_err-resume-in-Ok-clause-resumes g c =
-    let old = g.D.Disk.shown c.args.disk.now in
-    let new = g.D.Disk.shown c.disk-1.given.0 in
-    let given : c.load.new.self.disk.now ≡ c.disk-1.given.0 = search rules in
     let bytes = c.in-Ok.text.items in
     let error = c.in_err-resume-in-Ok.field-0.0 in
     let p = err_from_is_err_and c.from_residual.result c.from_residual.ensures.1 in
-    let told : IsTrue g.D.Disk.tells → content (bytes_now old) MAX_ROOM ≡ Some bytes =
-    λ told. let saved = c.in-Ok.ensures.saved told in cc in
-    let loaded : HasLoaded MAX_ROOM old (g.D.Disk.shown c.load.new.self.disk.now) (Ok bytes) = search rules in
-    let read : HasLoaded MAX_ROOM old new (Ok bytes) = rw given at loaded in
+    let given : c.load.new.self.disk.now ≡ c.disk-1.given.0 = search rules in
+    let found = rw given at (loaded g (goal.at.returns-in_err-resume-in-Ok-clause-resumes g c).In-Ok) in
     let resumes = subst (λ (xs : List ℕ). Resumes c.args.live.now.graph xs (Err error)) c.as_slice.ensures.value c.in_err-resume-in-Ok.ensures in
-    rw (p.1, p.2) (not_resumed g.D.Disk.tells old new MAX_ROOM c.args.live.now.graph bytes error (record { told = told; read = read }) resumes)
+    rw (p.1, p.2) (not_resumed g.D.Disk.tells (g.D.Disk.shown c.args.disk.now) (g.D.Disk.shown c.disk-1.given.0) MAX_ROOM c.args.live.now.graph bytes error found resumes)
 
 pub returns-in_ok-resume-in-Ok-clause-resumes : goal.returns-in_ok-resume-in-Ok-clause-resumes
 returns-in_ok-resume-in-Ok-clause-resumes g c =
-    let old = g.D.Disk.shown c.args.disk.now in
-    let new = g.D.Disk.shown c.disk-1.given.0 in
-    let given : c.load.new.self.disk.now ≡ c.disk-1.given.0 = search rules in
     let bytes = c.in-Ok.text.items in
     let dates = c.in_ok-resume-in-Ok.field-0 in
-    let told : IsTrue g.D.Disk.tells → content (bytes_now old) MAX_ROOM ≡ Some bytes =
-    λ told. let saved = c.in-Ok.ensures.saved told in cc in
-    let loaded : HasLoaded MAX_ROOM old (g.D.Disk.shown c.load.new.self.disk.now) (Ok bytes) = search rules in
-    let read : HasLoaded MAX_ROOM old new (Ok bytes) = rw given at loaded in
+    let given : c.load.new.self.disk.now ≡ c.disk-1.given.0 = search rules in
+    let found = rw given at (loaded g (goal.at.returns-in_ok-resume-in-Ok-clause-resumes g c).In-Ok) in
     let resumes = subst (λ (xs : List ℕ). Resumes c.args.live.now.graph xs (Ok dates)) c.as_slice.ensures.value c.in_ok-resume-in-Ok.ensures in
-    resumed g.D.Disk.tells old new MAX_ROOM c.args.live.now.graph bytes dates (record { told = told; read = read }) resumes
+    resumed g.D.Disk.tells (g.D.Disk.shown c.args.disk.now) (g.D.Disk.shown c.disk-1.given.0) MAX_ROOM c.args.live.now.graph bytes dates found resumes
