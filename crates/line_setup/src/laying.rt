@@ -265,7 +265,10 @@ impl Ends {
         let graph = start.live.graph();
         let mut ends = Ends::none(alloc, graph.stations(), start.worker_count, start.room)?;
         for a in 0..graph.arcs().len() as u32 {
-            ends.join(alloc, start, a)?;
+            if let Err(error) = ends.join(alloc, start, a) {
+                drop(ends);
+                return Err(error);
+            }
         }
         Ok(ends)
     }

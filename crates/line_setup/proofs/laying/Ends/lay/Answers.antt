@@ -1,4 +1,5 @@
 use Rattle.std.proofs.Common.{ap}
+use Rattle.std.proofs.lemmas.Result.{err_from_is_err_and}
 use Rattle.line_setup.specs.Making.{QueueEnds}
 use Rattle.line_setup.proofs.LaidLists.{map-with_one}
 use Rattle.line_setup.proofs.LaidEnds.{ends-same}
@@ -22,3 +23,9 @@ returns c =
     (ap (λ (e : QueueEnds). e.shelves) c.self.view_is)
     (ap (λ (e : QueueEnds). e.arcs) c.self.view_is)
     (ap (λ (e : QueueEnds). e.room) c.self.view_is)
+
+pub returns-in_err-push : goal.returns-in_err-push
+returns-in_err-push c = rw (err_from_is_err_and c.from_residual.result c.from_residual.ensures.1).1 tt
+
+pub returns-in_err-push-2 : goal.returns-in_err-push-2
+returns-in_err-push-2 c = rw (err_from_is_err_and c.from_residual-in_err-push-2.result c.from_residual-in_err-push-2.ensures.1).1 tt

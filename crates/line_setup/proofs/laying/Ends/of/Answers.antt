@@ -26,7 +26,7 @@ loop-a-init c =
 
 pub loop-a-preserved : goal.loop-a-preserved
 loop-a-preserved c =
-    let laid = c.in_ok-join.ensures in
+    let laid = c.in_default.ensures in
     record { laid = laid.laid; room = laid.room ∙ c.loop-a.invariant.room }
 
 pub returns-clause-laid : goal.returns-clause-laid
@@ -39,5 +39,5 @@ returns-clause-laid c =
 pub returns-in_err-ends : goal.returns-in_err-ends
 returns-in_err-ends c = rw (err_from_is_err_and c.from_residual.result c.from_residual.ensures.1).1 (record { laid = tt; room = tt; sound = tt; some_station = tt; few_arcs = tt })
 
-pub returns-in_err-join : goal.returns-in_err-join
-returns-in_err-join c = rw (err_from_is_err_and c.from_residual-in_err-join.result c.from_residual-in_err-join.ensures.1).1 (record { laid = tt; room = tt; sound = tt; some_station = tt; few_arcs = tt })
+pub returns-in-Err : goal.returns-in-Err
+returns-in-Err c = record { laid = tt; room = tt; sound = tt; some_station = tt; few_arcs = tt }
