@@ -10,11 +10,8 @@ load-put-inside-requires c = (search rules, grind arith, may_load_head _ _ _ _ (
 
 pub tell-requires-clause-from : goal.tell-requires-clause-from
 tell-requires-clause-from c =
-    ap (λ (t : RoomTakeEnd). t.ring.table) c.take.view_is
-    ∙ ap (λ (r : Ring). r.table) c.requires
-    ∙ sym (ap (λ (p : RoomPutEnd). p.ring.table) c.put.view_is)
-    ∙ c.put.invariant.seated.table
-    ∙ sym (ap (λ w. w.shared.table_id) c.deref.ensures)
+    ap (λ (t : RoomTakeEnd). t.ring.table) c.take.view_is ∙ ap (λ (r : Ring). r.table) c.requires ∙ sym (ap (λ (p : RoomPutEnd). p.ring.table) c.put.view_is)
+    ∙ c.put.invariant.seated.table ∙ sym (ap (λ w. w.shared.table_id) c.deref.ensures)
 
 pub tell-requires-clause-to : goal.tell-requires-clause-to
 tell-requires-clause-to c = c.put.invariant.seated.table ∙ sym (ap (λ w. w.shared.table_id) c.deref.ensures)
