@@ -1,4 +1,4 @@
-use Rattle.std.proofs.Common.{◌≡◌, ℕ, IsTrue, List, None, Some, Ok, Err, ap, subst, arith, rules}
+use Rattle.std.proofs.Common.{◌≡◌, ℕ, IsTrue, List, None, Ok, Err, ap, subst, arith, rules}
 use Rattle.std.proofs.lemmas.Result.{err_from_is_err_and}
 use Rattle.slot_store.specs.declared.error.SlotError.{SlotError}
 use Rattle.slot_store.specs.declared.error.SlotError.TheVariants.{NoneSaved}
