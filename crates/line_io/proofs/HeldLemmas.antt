@@ -1,6 +1,6 @@
 -- What a store in memory keeps, after one more name or one more file.
 use Rattle.std.proofs.Common.{◌≡◌, ◌≢◌, ◌⊎◌, inl, inr, ℕ, ◌+◌, ◌≤◌, List, [], ◌∷◌, ◌++◌, take, drop, Bool, true, false, cond, Vec, String, string_bytes, refl, sym, ap, ◌∙◌, subst, arith}
-use Rattle.std.specs.Prelude.{Option, Some, None, Result, Ok, Err, IsTrue, IfOk, IsErr, option_map}
+use Rattle.std.specs.Prelude.{Option, Some, None, Result, Ok, Err, IsTrue, IfOk, OnOk, IsErr, option_map}
 use Rattle.std.specs.Bool.{OnTrue, OnFalse}
 use Rattle.std.specs.declared.alloc.Global.{Global}
 use Rattle.std.specs.Str.{bytes_eq}
@@ -93,6 +93,11 @@ due_or_absent false found items held is told none =
 pub bytes_held : (held : Option (List ℕ)) (bytes : List ℕ) (result : Result (Vec ℕ Global) StoreError) → held ≡ Some bytes → IfOk result (λ v. v.items ≡ bytes) → IfOk result (λ v. held ≡ Some v.items)
 bytes_held held bytes (Ok v) is same = is ∙ ap (λ (xs : List ℕ). Some xs) (sym same)
 bytes_held held bytes (Err error) is same = tt
+
+-- what holds anyway holds where something was answered
+pub ok_anyway : {T E A : Type 0} (result : Result T E) → A → OnOk result A
+ok_anyway (Ok v) holds = holds
+ok_anyway (Err error) holds = tt
 
 -- an error answers nothing
 pub no_answer : {T E : Type 0} (result : Result T E) (P : T → Type 0) → IsErr result → IfOk result P

@@ -114,6 +114,11 @@ then_ended First Next old new first = (
   },
 )
 
+-- one more call is behind those before
+pub one_more : (first mid new calls : List FilesCall) (call : FilesCall) → mid ≡ first ++ calls → new ≡ mid ++ call ∷ [] → new ≡ first ++ (calls ++ call ∷ [])
+one_more first mid new calls call before once =
+    once ∙ ap (λ xs. xs ++ call ∷ []) before ∙ append_assoc first calls (call ∷ [])
+
 -- so far these calls were made: whatever writes the rest after them writes all
 abbrev pub WritesSoFar : List ℕ → ℕ → List FilesCall → Type 0
 WritesSoFar bytes taken calls = (rest : List FilesCall) (whole : Bool) → WritesOn (drop taken bytes) rest whole → WritesOn bytes (calls ++ rest) whole
@@ -142,6 +147,18 @@ writes_refused bytes taken calls answer so_far less none =
 pub writes_all : (bytes : List ℕ) (taken : ℕ) (calls : List FilesCall) → WritesSoFar bytes taken calls → length bytes ≤ taken → WritesOn bytes calls true
 writes_all bytes taken calls so_far all = rw append-nil at (so_far [] true (drop_all taken bytes all, refl))
 
+-- one more call that wrote behind those so far, and took some
+pub puts_more : (bytes : List ℕ) (taken count : ℕ) (old mid new : FilesView) → Asks old mid (λ calls. WritesSoFar bytes taken calls) → (answer : Option ℕ) × (new.asked ≡ mid.asked ++ Writes (drop taken bytes) answer ∷ []) × (count_of answer ≡ count) → taken < length bytes → 0 < count → Asks old new (λ calls. WritesSoFar bytes (taken + count) calls)
+puts_more bytes taken count old mid new before once less some =
+    let call = Writes (drop taken bytes) once.0 in
+    (before.0 ++ call ∷ [], one_more old.asked mid.asked new.asked before.0 call before.1 once.1, writes_more bytes taken before.0 once.0 count before.2 less once.2 some)
+
+-- and took none
+pub puts_refused : (bytes : List ℕ) (taken count : ℕ) (old mid new : FilesView) → Asks old mid (λ calls. WritesSoFar bytes taken calls) → (answer : Option ℕ) × (new.asked ≡ mid.asked ++ Writes (drop taken bytes) answer ∷ []) × (count_of answer ≡ count) → taken < length bytes → count ≡ 0 → Asks old new (λ calls. WritesOn bytes calls false)
+puts_refused bytes taken count old mid new before once less none =
+    let call = Writes (drop taken bytes) once.0 in
+    (before.0 ++ call ∷ [], one_more old.asked mid.asked new.asked before.0 call before.1 once.1, writes_refused bytes taken before.0 once.0 before.2 less (once.2 ∙ none))
+
 -- what a read gave, by its answer
 pub given-ok : {E : Type 0} (answer : Result ℕ E) (n : ℕ) (bytes : List ℕ) → answer ≡ Ok n → given answer bytes ≡ Some (take n bytes)
 given-ok answer n bytes is = ap (λ r. given r bytes) is
@@ -149,13 +166,6 @@ given-ok answer n bytes is = ap (λ r. given r bytes) is
 pub given-err : {E : Type 0} (answer : Result ℕ E) (bytes : List ℕ) → false ≡ is_ok answer → given answer bytes ≡ None
 given-err (Ok n) bytes is = absurd (false≢true is)
 given-err (Err error) bytes is = refl
-
--- one more call is behind those before
-pub one_more : (first mid new calls : List FilesCall) (most : ℕ) (was is : Option (List ℕ)) → mid ≡ first ++ calls → new ≡ mid ++ Reads most was ∷ [] → was ≡ is → new ≡ first ++ (calls ++ Reads most is ∷ [])
-one_more first mid new calls most was is before once same =
-    once ∙ ap (λ answer. mid ++ Reads most answer ∷ []) same
-    ∙ ap (λ xs. xs ++ Reads most is ∷ []) before
-    ∙ append_assoc first calls (Reads most is ∷ [])
 
 -- how many bytes were given, after one more read
 pub taken_more : (calls : List FilesCall) (most : ℕ) (before got : List ℕ) (taken count : ℕ) → before ≡ given_by calls → taken ≡ length before → length got ≡ count → taken + count ≡ length (given_by (calls ++ Reads most (Some got) ∷ []))
@@ -169,9 +179,13 @@ pub taken_same : (calls : List FilesCall) (most : ℕ) (before : List ℕ) (take
 taken_same calls most before taken is size =
     size ∙ ap (λ (xs : List ℕ). length xs) (is ∙ sym (given_by-refused calls most))
 
--- the same of an answer that is shown to be this one
-pub reads_as : (limit : ℕ) (calls : List FilesCall) (answer is : Result (List ℕ) StoreError) → answer ≡ is → ReadsOn limit [] calls is → ReadsOn limit [] calls answer
-reads_as limit calls answer is same reads = subst (λ a. ReadsOn limit [] calls a) (sym same) reads
+-- a read that ends with this call, and is shown to answer so
+pub reads_with : (limit : ℕ) (first mid new calls : List FilesCall) (call : FilesCall) (taken : ℕ) (answer is : Result (List ℕ) StoreError) → mid ≡ first ++ calls → new ≡ mid ++ call ∷ [] → answer ≡ is → ReadsOn limit [] (calls ++ call ∷ []) is → taken ≡ length (given_by (calls ++ call ∷ [])) → (all : List FilesCall) × (new ≡ first ++ all) × (ReadsOn limit [] all answer × (taken ≡ length (given_by all)))
+reads_with limit first mid new calls call taken answer is before once same reads bytes = (
+  calls ++ call ∷ [],
+  one_more first mid new calls call before once,
+  (subst (λ a. ReadsOn limit [] (calls ++ call ∷ []) a) (sym same) reads, bytes),
+)
 
 -- what was left, after one more read
 pub left_more : (first mid new before after got : List ℕ) → first ≡ before ++ mid → mid ≡ got ++ new → after ≡ before ++ got → first ≡ after ++ new

@@ -3,7 +3,7 @@ use Rattle.std.proofs.Common.{◌≡◌, ◌≢◌, inl, inr, ℕ, List, [], ◌
 use Rattle.std.specs.Prelude.{Result, Ok, Err, Some, is_ok, OnOk, OnErr, IsTrue}
 use Rattle.std.proofs.lemmas.Bool.{true≢false}
 use Rattle.line_io.specs.Contents.{IsTorn}
-use Rattle.line_io.specs.RawFiles.{RawName, Named, Spare, FilesCall, Opens, Reads, Looks, Creates, CreatesSpare, Writes, Syncs, Renames, Removes, FilesView, Asks, SameNamed, OthersHeld, WritesInPlace, WritesBeside, WritesFile, WithoutSpare, AfterMaking, Replaces, AfterLook, AfterLookRefused, AsksToWrite, bars_new_files, is_absent, empties}
+use Rattle.line_io.specs.RawFiles.{RawName, Named, Spare, FilesCall, Opens, Reads, Looks, Creates, CreatesSpare, Writes, Syncs, Renames, Removes, FilesView, Asks, SameHeld, SameNamed, OthersHeld, WritesInPlace, WritesBeside, WritesFile, WithoutSpare, AfterMaking, Replaces, AfterLook, AfterLookRefused, AsksToWrite, bars_new_files, is_absent, empties}
 use Rattle.std.specs.declared.io.ErrorKind.{ErrorKind}
 use Rattle.line_io.proofs.RawFilesModel.{named_not_spare}
 
@@ -79,9 +79,13 @@ pub after_making : (spare name bytes : List ℕ) (kind : ErrorKind) (barred : Bo
 after_making spare name bytes kind barred is calls whole writes = subst (λ b. WithoutSpare b name bytes calls whole) is writes
 
 -- where a name was looked at: what that answered decides
-pub asks_behind : (spare name bytes : List ℕ) (answer is : Result Bool ErrorKind) → answer ≡ is → (calls : List FilesCall) (whole : Bool) → AfterLook is spare name bytes calls whole → AsksToWrite spare name bytes (Looks name answer ∷ calls) whole
-asks_behind spare name bytes answer is same calls whole writes =
-    (refl, subst (λ a. AfterLook a spare name bytes calls whole) (sym same) writes)
+pub after_answer : (spare name bytes : List ℕ) (answer is : Result Bool ErrorKind) → answer ≡ is → (calls : List FilesCall) (whole : Bool) → AfterLook is spare name bytes calls whole → AfterLook answer spare name bytes calls whole
+after_answer spare name bytes answer is same calls whole writes =
+    subst (λ a. AfterLook a spare name bytes calls whole) (sym same) writes
+
+pub looks_behind : {E : Type 0} (tells : Bool) (old mid new : FilesView) (spare name bytes : List ℕ) (answer : Result Bool ErrorKind) (Next : List FilesCall → Bool → Type 0) (result : Result (Unit {0}) E) → mid.asked ≡ old.asked ++ Looks name answer ∷ [] → SameHeld tells old mid → ((calls : List FilesCall) (whole : Bool) → Next calls whole → AfterLook answer spare name bytes calls whole) → WritesFile tells mid new spare name bytes Next result → WritesFile tells old new spare name bytes (AsksToWrite spare name bytes) result
+looks_behind tells old mid new spare name bytes answer Next result asked stays after writes =
+    writes_behind tells old mid new spare name bytes (Looks name answer ∷ []) Next (AsksToWrite spare name bytes) result asked (λ calls. refl) (λ calls whole is. (refl, after calls whole is)) (λ told q other. stays told q) writes
 
 pub after_look : (spare name bytes : List ℕ) (kind : ErrorKind) (absent : Bool) → absent ≡ is_absent kind → (calls : List FilesCall) (whole : Bool) → AfterLookRefused absent spare name bytes calls whole → AfterLook (Err kind) spare name bytes calls whole
 after_look spare name bytes kind absent is calls whole writes =

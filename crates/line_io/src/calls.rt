@@ -9,7 +9,6 @@ use line_base::Transcript;
 use std::marker::Model;
 
 /// Names to a transcript what contracts see of a read. No value of it is made.
-#[derive(Drop)]
 pub struct ReadCall {}
 
 impl Model for ReadCall {
@@ -22,7 +21,6 @@ impl Model for ReadCall {
 }
 
 /// Names to a transcript what contracts see of a write. No value of it is made.
-#[derive(Drop)]
 pub struct WriteCall {}
 
 impl Model for WriteCall {

@@ -13,6 +13,9 @@ use std::io::ErrorKind;
 #[derive(Drop)]
 pub struct Refused;
 
+/// Whether the machine did what it was asked.
+type Outcome = Result<(), Refused>;
+
 /// Writes the bytes behind the first ones, once, and answers how many the machine took: none where it refused.
 fn write_once<F: RawFiles>(files: &mut F, bytes: &[u8], from: usize) -> usize
     requires open { (F.shown files.old).is_open ≡ true }
@@ -29,7 +32,7 @@ fn write_once<F: RawFiles>(files: &mut F, bytes: &[u8], from: usize) -> usize
 }
 
 /// Writes bytes until all were taken, or the machine refuses, or takes nothing.
-fn put<F: RawFiles>(files: &mut F, bytes: &[u8]) -> Result<(), Refused>
+fn put<F: RawFiles>(files: &mut F, bytes: &[u8]) -> Outcome
     requires open { (F.shown files.old).is_open ≡ true }
     ensures asks { Asks (F.shown files.old) (F.shown files.new) (λ calls. WritesOn bytes.now calls (is_ok result)) }
     ensures open_stays { (F.shown files.new).is_open ≡ true }
@@ -48,7 +51,7 @@ fn put<F: RawFiles>(files: &mut F, bytes: &[u8]) -> Result<(), Refused>
 }
 
 /// Syncs the file that is open.
-fn sync_open<F: RawFiles>(files: &mut F) -> Result<(), Refused>
+fn sync_open<F: RawFiles>(files: &mut F) -> Outcome
     requires open { (F.shown files.old).is_open ≡ true }
     ensures asks { Asks (F.shown files.old) (F.shown files.new) (λ calls. SyncsOnce calls (is_ok result)) }
     ensures stays { IsTrue F.tells → StaysOpen (F.shown files.old) (F.shown files.new) }
@@ -60,7 +63,7 @@ fn sync_open<F: RawFiles>(files: &mut F) -> Result<(), Refused>
 }
 
 /// Fills the file that is open: writes all bytes, and syncs it.
-fn fill<F: RawFiles>(files: &mut F, bytes: &[u8]) -> Result<(), Refused>
+fn fill<F: RawFiles>(files: &mut F, bytes: &[u8]) -> Outcome
     requires open { (F.shown files.old).is_open ≡ true }
     ensures asks { Asks (F.shown files.old) (F.shown files.new) (λ calls. Fills bytes.now calls (is_ok result)) }
     ensures written { OnOk result (IsTrue F.tells → Grows (F.shown files.old) (F.shown files.new) bytes.now) }
@@ -73,7 +76,7 @@ fn fill<F: RawFiles>(files: &mut F, bytes: &[u8]) -> Result<(), Refused>
 }
 
 /// Writes a file in its place. Where this fails the file may hold a front of the bytes, and what it held is gone.
-fn write_in_place<F: RawFiles>(files: &mut F, name: &str, bytes: &[u8]) -> Result<(), Refused>
+fn write_in_place<F: RawFiles>(files: &mut F, name: &str, bytes: &[u8]) -> Outcome
     ensures asks { Asks (F.shown files.old) (F.shown files.new)
         (λ calls. WritesInPlace name.now bytes.now calls (is_ok result)) }
     ensures written { OnOk result (IsTrue F.tells
@@ -103,7 +106,7 @@ fn make_spare<F: RawFiles>(files: &mut F, spare: &str) -> io::Result<()>
 }
 
 /// Gives a spare file the name of a file.
-fn rename_spare<F: RawFiles>(files: &mut F, spare: &str, name: &str) -> Result<(), Refused>
+fn rename_spare<F: RawFiles>(files: &mut F, spare: &str, name: &str) -> Outcome
     ensures asks { Asks (F.shown files.old) (F.shown files.new)
         (λ calls. RenamesOnce spare.now name.now calls (is_ok result)) }
     ensures moved { OnOk result (IsTrue F.tells
@@ -118,12 +121,7 @@ fn rename_spare<F: RawFiles>(files: &mut F, spare: &str, name: &str) -> Result<(
 }
 
 /// Fills the spare file that is open, and gives it the name.
-fn fill_and_rename<F: RawFiles>(
-    files: &mut F,
-    spare: &str,
-    name: &str,
-    bytes: &[u8],
-) -> Result<(), Refused>
+fn fill_and_rename<F: RawFiles>(files: &mut F, spare: &str, name: &str, bytes: &[u8]) -> Outcome
     requires open { (F.shown files.old).is_open ≡ true }
     requires empty { IsTrue F.tells → IsEmptyOpen (F.shown files.old) (Spare spare.now) }
     ensures asks { Asks (F.shown files.old) (F.shown files.new)
@@ -141,20 +139,11 @@ fn fill_and_rename<F: RawFiles>(
 }
 
 /// The same, and where the machine refuses the spare file is removed. The named file is as it was then.
-fn write_beside<F: RawFiles>(
-    files: &mut F,
-    spare: &str,
-    name: &str,
-    bytes: &[u8],
-) -> Result<(), Refused>
+fn write_beside<F: RawFiles>(files: &mut F, spare: &str, name: &str, bytes: &[u8]) -> Outcome
     requires open { (F.shown files.old).is_open ≡ true }
     requires empty { IsTrue F.tells → IsEmptyOpen (F.shown files.old) (Spare spare.now) }
-    ensures asks { Asks (F.shown files.old) (F.shown files.new)
-        (λ calls. WritesBeside spare.now name.now bytes.now calls (is_ok result)) }
-    ensures written { OnOk result (IsTrue F.tells
-        → (F.shown files.new).held (Named name.now) ≡ Some bytes.now) }
-    ensures unharmed { OnErr result (SameNamed F.tells (F.shown files.old) (F.shown files.new)) }
-    ensures others_stay { OthersHeld F.tells (F.shown files.old) (F.shown files.new) spare.now name.now }
+    ensures { WritesFile F.tells (F.shown files.old) (F.shown files.new) spare.now name.now bytes.now
+        (WritesBeside spare.now name.now bytes.now) result }
 {
     match fill_and_rename(files, spare, name, bytes) {
         Ok(()) => Ok(()),
@@ -176,7 +165,7 @@ fn bars_new_files(kind: ErrorKind) -> bool
 }
 
 /// Replaces a file by a spare one that is filled first; or writes it in its place where none can be made.
-fn replace<F: RawFiles>(files: &mut F, spare: &str, name: &str, bytes: &[u8]) -> Result<(), Refused>
+fn replace<F: RawFiles>(files: &mut F, spare: &str, name: &str, bytes: &[u8]) -> Outcome
     ensures { WritesFile F.tells (F.shown files.old) (F.shown files.new) spare.now name.now bytes.now
         (Replaces spare.now name.now bytes.now) result }
 {

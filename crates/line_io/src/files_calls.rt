@@ -9,16 +9,15 @@ use std::io;
 use std::marker::Model;
 
 /// Names to a transcript what contracts see of a call. No value of it is made.
-#[derive(Drop)]
 pub struct FilesCallName {}
 
 impl Model for FilesCallName {
-    ghost use Rattle.std.specs.Prelude.{false};
-    ghost use Rattle.line_io.specs.RawFiles.{FilesCall, Syncs};
+    ghost use Rattle.std.specs.Prelude.{[], false};
+    ghost use Rattle.line_io.specs.RawFiles.{FilesCall, Opens};
 
     ghost Value = { FilesCall };
 
-    ghost view = { λ _. Syncs false };
+    ghost view = { λ _. Opens [] false };
 }
 
 /// The calls with their answers, which only contracts see.

@@ -19,7 +19,6 @@ pub trait RawOut {
 }
 
 /// Names to a transcript what contracts see of a call. No value of it is made.
-#[derive(Drop)]
 pub struct OutCallName {}
 
 impl Model for OutCallName {

@@ -55,11 +55,10 @@ fn hand_on<O: RawOut>(out: &mut O, piece: &[u8]) -> Result<(), Failed>
 {
     let mut taken = 0;
     while taken < piece.len() {
-        let count = hand_on_once(out, piece, taken);
-        if count == 0 {
-            return Err(Failed);
+        match hand_on_once(out, piece, taken) {
+            0 => return Err(Failed),
+            count => taken += count,
         }
-        taken += count;
     }
     Ok(())
 }

@@ -1,7 +1,6 @@
-use Rattle.std.proofs.Common.{◌<◌, ◌++◌, ◌∷◌, [], drop, sym, ap, ◌∙◌, append_assoc, append-nil, arith}
-use Rattle.line_io.specs.RawFiles.{Writes}
+use Rattle.std.proofs.Common.{◌<◌, [], sym, append-nil, arith}
 use Rattle.line_io.proofs.RawFilesModel.{grows_none, grows_more, grows_torn, grows_all, front_of_all}
-use Rattle.line_io.proofs.RawFilesRuns.{writes_none, writes_more, writes_refused, writes_all}
+use Rattle.line_io.proofs.RawFilesRuns.{writes_none, writes_all, puts_more, puts_refused}
 use Rattle.line_io.proofs.file_writing.put.Goals as goal
 
 pub loop-taken-init : goal.loop-taken-init
@@ -16,24 +15,20 @@ pub loop-taken-preserved : goal.loop-taken-preserved
 loop-taken-preserved g c =
     let before = c.loop-taken.invariant in
     let once = c.write_once-count.ensures in
-    let taken = c.loop-taken.taken in
-    let count = c.write_once-count.result in
-    let call = Writes (drop taken c.args.bytes.now) once.recorded.0 in
-    let some : 0 < count = omega (arith, c.if-count-eq0.false) in
+    let old = g.F.RawFiles.shown c.args.files.now in
+    let mid = g.F.RawFiles.shown c.loop-taken.files in
+    let new = g.F.RawFiles.shown c.write_once-count.new.files in
+    let some : 0 < c.write_once-count.result = omega (arith, c.if-count-eq0.false) in
     record {
       within = omega (arith, once.bound);
       is_open = once.open_stays;
-      calls = (before.calls.0 ++ call ∷ [], once.recorded.1 ∙ ap (λ xs. xs ++ call ∷ []) before.calls.1 ∙ append_assoc _ before.calls.0 (call ∷ []), writes_more c.args.bytes.now taken before.calls.0 once.recorded.0 count before.calls.2 c.loop-taken-test.true once.recorded.2 some);
-      written = λ told. grows_more (g.F.RawFiles.shown c.args.files.now) (g.F.RawFiles.shown c.loop-taken.files) (g.F.RawFiles.shown c.write_once-count.new.files) c.args.bytes.now taken count (before.written told) (once.written some told);
+      calls = puts_more c.args.bytes.now c.loop-taken.taken c.write_once-count.result old mid new before.calls once.recorded c.loop-taken-test.true some;
+      written = λ told. grows_more old mid new c.args.bytes.now c.loop-taken.taken c.write_once-count.result (before.written told) (once.written some told);
     }
 
 pub returns-then-count-eq0-clause-asks : goal.returns-then-count-eq0-clause-asks
 returns-then-count-eq0-clause-asks g c =
-    let before = c.loop-taken.invariant in
-    let once = c.write_once-count.ensures in
-    let taken = c.loop-taken.taken in
-    let call = Writes (drop taken c.args.bytes.now) once.recorded.0 in
-    (before.calls.0 ++ call ∷ [], once.recorded.1 ∙ ap (λ xs. xs ++ call ∷ []) before.calls.1 ∙ append_assoc _ before.calls.0 (call ∷ []), writes_refused c.args.bytes.now taken before.calls.0 once.recorded.0 before.calls.2 c.loop-taken-test.true (once.recorded.2 ∙ c.if-count-eq0.true))
+    puts_refused c.args.bytes.now c.loop-taken.taken c.write_once-count.result (g.F.RawFiles.shown c.args.files.now) (g.F.RawFiles.shown c.loop-taken.files) (g.F.RawFiles.shown c.write_once-count.new.files) c.loop-taken.invariant.calls c.write_once-count.ensures.recorded c.loop-taken-test.true c.if-count-eq0.true
 
 pub returns-then-count-eq0-clause-torn : goal.returns-then-count-eq0-clause-torn
 returns-then-count-eq0-clause-torn g c = λ told.

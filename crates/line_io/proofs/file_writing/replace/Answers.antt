@@ -1,7 +1,7 @@
 use Rattle.std.proofs.Common.{◌∷◌, [], refl, ap, true, false}
 use Rattle.std.specs.Prelude.{Ok, Err}
 use Rattle.line_io.specs.RawFiles.{Removes, CreatesSpare, WritesBeside, WritesInPlace, Replaces, by_kind}
-use Rattle.line_io.proofs.WritesFileLemmas.{writes_behind, writes_none, writes_in_place, writes_beside, replaces_behind, after_making}
+use Rattle.line_io.proofs.WritesFileLemmas.{writes_behind, writes_none, writes_in_place, replaces_behind, after_making}
 use Rattle.line_io.proofs.file_writing.replace.Goals as goal
 
 pub returns-in-Ok : goal.returns-in-Ok
@@ -11,9 +11,7 @@ returns-in-Ok g c =
     let bytes = c.args.bytes.now in
     let mid = g.F.RawFiles.shown c.make_spare.new.files in
     let made = c.in-Ok.ensures in
-    let beside = c.write_beside.ensures in
-    writes_behind g.F.RawFiles.tells (g.F.RawFiles.shown c.args.files.now) mid (g.F.RawFiles.shown c.write_beside.new.files) spare name bytes (Removes spare made.recorded.0 ∷ (CreatesSpare spare (Ok tt) ∷ [])) (WritesBeside spare name bytes) (Replaces spare name bytes) c.write_beside.result made.recorded.1 (λ calls. refl) (λ calls whole is. (refl, refl, is)) made.others_stay
-    (writes_beside _ _ _ spare name bytes c.write_beside.result beside.asks beside.written beside.unharmed beside.others_stay)
+    writes_behind g.F.RawFiles.tells (g.F.RawFiles.shown c.args.files.now) mid (g.F.RawFiles.shown c.write_beside.new.files) spare name bytes (Removes spare made.recorded.0 ∷ (CreatesSpare spare (Ok tt) ∷ [])) (WritesBeside spare name bytes) (Replaces spare name bytes) c.write_beside.result made.recorded.1 (λ calls. refl) (λ calls whole is. (refl, refl, is)) made.others_stay c.write_beside.ensures
 
 pub returns-in-Err : goal.returns-in-Err
 returns-in-Err g c =

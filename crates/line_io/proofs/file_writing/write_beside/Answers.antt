@@ -3,27 +3,31 @@ use Rattle.std.specs.Prelude.{is_ok}
 use Rattle.std.proofs.lemmas.Bool.{false≢true, true≢false}
 use Rattle.line_io.specs.RawFiles.{Named, Removes}
 use Rattle.line_io.proofs.RawFilesModel.{named_not_spare}
+use Rattle.line_io.proofs.WritesFileLemmas.{writes_beside}
 use Rattle.line_io.proofs.file_writing.write_beside.Goals as goal
 
-pub returns-in-Ok-clause-asks : goal.returns-in-Ok-clause-asks
-returns-in-Ok-clause-asks g c =
-    let filled = c.in-Ok.ensures.asks in (
-      filled.0,
-      filled.1,
+pub returns-in-Ok : goal.returns-in-Ok
+returns-in-Ok g c =
+    let filled = c.in-Ok.ensures in
+    writes_beside g.F.RawFiles.tells (g.F.RawFiles.shown c.args.files.now) (g.F.RawFiles.shown c.fill_and_rename.new.files) c.args.spare.now c.args.name.now c.args.bytes.now _ (
+      filled.asks.0,
+      filled.asks.1,
       record {
-        first = filled.0;
+        first = filled.asks.0;
         last = [];
-        split = sym (append-nil filled.0);
-        are = filled.2;
+        split = sym (append-nil filled.asks.0);
+        are = filled.asks.2;
         keeps = λ well. refl;
         removes = λ is. absurd (true≢false is);
       },
-    )
+    ) filled.written tt c.fill_and_rename.ensures.others_stay
 
-pub returns-in-Err-clause-asks : goal.returns-in-Err-clause-asks
-returns-in-Err-clause-asks g c =
+pub returns-in-Err : goal.returns-in-Err
+returns-in-Err g c =
     let filled = c.in-Err.ensures.asks in
-    let last = Removes c.args.spare.now (is_ok c.remove.result) ∷ [] in (
+    let spare = c.args.spare.now in
+    let last = Removes spare (is_ok c.remove.result) ∷ [] in
+    writes_beside g.F.RawFiles.tells (g.F.RawFiles.shown c.args.files.now) (g.F.RawFiles.shown c.remove.new.self) spare c.args.name.now c.args.bytes.now _ (
       filled.0 ++ last,
       c.remove.ensures.recorded ∙ ap (λ xs. xs ++ last) filled.1 ∙ append_assoc _ filled.0 last,
       record {
@@ -34,13 +38,4 @@ returns-in-Err-clause-asks g c =
         keeps = λ is. absurd (false≢true is);
         removes = λ wrong. (is_ok c.remove.result, refl);
       },
-    )
-
-pub returns-in-Err-clause-unharmed : goal.returns-in-Err-clause-unharmed
-returns-in-Err-clause-unharmed g c = λ told q.
-    let apart = named_not_spare q c.args.spare.now in
-    c.remove.ensures.others_stay told (Named q) apart ∙ c.in-Err.ensures.unharmed told (Named q) apart
-
-pub returns-in-Err-clause-others_stay : goal.returns-in-Err-clause-others_stay
-returns-in-Err-clause-others_stay g c = λ told q other apart.
-    c.remove.ensures.others_stay told q apart ∙ c.fill_and_rename.ensures.others_stay told q other apart
+    ) tt (λ told q. c.remove.ensures.others_stay told (Named q) (named_not_spare q spare) ∙ c.in-Err.ensures.unharmed told (Named q) (named_not_spare q spare)) (λ told q other apart. c.remove.ensures.others_stay told q apart ∙ c.fill_and_rename.ensures.others_stay told q other apart)
