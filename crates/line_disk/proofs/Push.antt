@@ -1,7 +1,10 @@
 -- One more call of a disk in memory.
 use Rattle.std.proofs.Common.{◌≡◌, ◌+◌, ◌⊎◌, inl, inr, ◌||◌, ◌↔◌, ℕ, zero, suc, Bool, true, false, not, List, [], ◌∷◌, ◌++◌, length, take, refl, sym, ◌∙◌, ap, subst, arith, Result, Ok, Err, is_ok, IfOk, OnOk, OnErr, IsErrOf, IsTrue}
+use Rattle.std.specs.Result.{IsErrAnd}
 use Rattle.std.proofs.lemmas.Bool.{false≢true}
 use Rattle.std.proofs.lemmas.List.{take_all, take-append-le, length-append}
+use Rattle.std.proofs.lemmas.Result.{err_from_is_err_and}
+use Rattle.line_disk.specs.Counted.{CountsFault}
 use Rattle.line_disk.specs.DiskView.{Image, Held, DiskRead, Passes, Torn, IsAsBefore, IsPendingWithin, is_within, awaiting, bytes_at}
 use Rattle.line_disk.specs.Memory.{after_call, held_after}
 use Rattle.line_disk.specs.declared.disk.DiskError.{DiskError}
@@ -44,8 +47,37 @@ on_ok (Err e) a f = a
 pub error_alone : {T E : Type 0} {e : E} (r : Result T E) (P : T → Type 0) → r ≡ Err e → IfOk r P
 error_alone {T} {E} {e} r P is = subst (λ q. IfOk q P) (sym is) tt
 
+-- an error that is told by what it is
+pub error_is : {T E : Type 0} (result : Result T E) (error : E) → IsErrAnd result (λ e. e ≡ error) → result ≡ Err error
+error_is {T} {E} result error is =
+    let told = err_from_is_err_and result is in
+    told.1 ∙ ap (λ (e : E). let r : Result T E = Err e in r) told.2
+
+-- a call without memory is no fault
+pub counts_none : {T : Type 0} (faults : ℕ) (result : Result T DiskError) → result ≡ Err NoMemory → CountsFault faults faults result
+counts_none faults result is = subst (λ r. CountsFault faults faults r) (sym is) (record {
+  cause = λ failed. cc;
+  once = λ failed. cc;
+  memory_is_no_fault = λ memory. refl;
+  faults_stay = tt;
+  stays_or_rises = omega arith;
+})
+
+-- the same error, where something else was to be answered
+pub same_error : {T U : Type 0} (error is : DiskError) → IsErrOf {T = T} (Err error) is → IsErrOf {T = U} (Err error) is
+same_error error is failed = let same : error ≡ is = cc in ap (λ (e : DiskError). Err e) same
+
+pub counts_as : {T U : Type 0} (before now : ℕ) (error : DiskError) (result : Result U DiskError) → result ≡ Err error → CountsFault {T = T} before now (Err error) → CountsFault before now result
+counts_as before now error result is counts = subst (λ r. CountsFault before now r) (sym is) (record {
+  cause = λ failed. counts.cause (same_error error _ failed);
+  once = λ failed. counts.once (same_error error _ failed);
+  memory_is_no_fault = λ memory. counts.memory_is_no_fault (same_error error _ memory);
+  faults_stay = tt;
+  stays_or_rises = counts.stays_or_rises;
+})
+
 -- a call that was answered, or failed, found memory
-ok_found : (x : Unit {0}) → ¬ (IsErrOf {T = Unit {0}} {E = DiskError} (Ok x) NoMemory)
+pub ok_found : (x : Unit {0}) → ¬ (IsErrOf {T = Unit {0}} {E = DiskError} (Ok x) NoMemory)
 ok_found x memory = cc
 
 pub failed_found : (r : Result (Unit {0}) DiskError) → IsErrOf r Failed → ¬ (IsErrOf r NoMemory)

@@ -3,7 +3,7 @@ use Rattle.std.proofs.Common.{◌≡◌, ℕ, ◌+◌, ◌-◌, ◌<◌, ◌≤�
 use Rattle.std.specs.Prelude.{Option, Some, None, replicate}
 use Rattle.std.proofs.lemmas.List.{length-drop, length-take, drop-drop, drop_all, take_all}
 use Rattle.line_io.specs.RawOut.{count_of}
-use Rattle.line_disk.specs.RawFile.{RawCall, Opens, Reads, Writes, Syncs, ReadsOn, WritesOn, given_by, zeros_behind}
+use Rattle.line_disk.specs.RawFile.{RawCall, Opens, Reads, Writes, Syncs, Asks, ReadsOn, WritesOn, given_by, zeros_behind}
 
 -- so far these calls were made: whatever reads the rest after them reads all
 abbrev pub ReadsSoFar : ℕ → ℕ → ℕ → List RawCall → Type 0
@@ -85,6 +85,17 @@ writes_refused at bytes taken calls answer so_far less none =
 -- after all were taken
 pub writes_all : (at : ℕ) (bytes : List ℕ) (taken : ℕ) (calls : List RawCall) → WritesSoFar at bytes taken calls → length bytes ≤ taken → WritesOn at bytes calls true
 writes_all at bytes taken calls so_far all = rw append-nil at (so_far [] true (drop_all taken bytes all, refl))
+
+-- one more call that wrote behind those so far, and took some or none
+pub puts_more : (at : ℕ) (bytes : List ℕ) (taken count : ℕ) (first mid new : List RawCall) → Asks first mid (λ calls. WritesSoFar at bytes taken calls) → (answer : Option ℕ) × (new ≡ mid ++ Writes (at + taken) (drop taken bytes) answer ∷ []) × (count_of answer ≡ count) → taken < length bytes → 0 < count → Asks first new (λ calls. WritesSoFar at bytes (taken + count) calls)
+puts_more at bytes taken count first mid new before once less some =
+    let call = Writes (at + taken) (drop taken bytes) once.0 in
+    (before.0 ++ call ∷ [], once.1 ∙ ap (λ xs. xs ++ call ∷ []) before.1 ∙ append_assoc first before.0 (call ∷ []), writes_more at bytes taken before.0 once.0 count before.2 less once.2 some)
+
+pub puts_refused : (at : ℕ) (bytes : List ℕ) (taken count : ℕ) (first mid new : List RawCall) → Asks first mid (λ calls. WritesSoFar at bytes taken calls) → (answer : Option ℕ) × (new ≡ mid ++ Writes (at + taken) (drop taken bytes) answer ∷ []) × (count_of answer ≡ count) → taken < length bytes → count ≡ 0 → Asks first new (λ calls. WritesOn at bytes calls false)
+puts_refused at bytes taken count first mid new before once less none =
+    let call = Writes (at + taken) (drop taken bytes) once.0 in
+    (before.0 ++ call ∷ [], once.1 ∙ ap (λ xs. xs ++ call ∷ []) before.1 ∙ append_assoc first before.0 (call ∷ []), writes_refused at bytes taken before.0 once.0 before.2 less (once.2 ∙ none))
 
 -- a buffer that was cleared behind what was read, at the end of the file
 pub cleared_given : (mid : List ℕ) (filled n : ℕ) (calls : List RawCall) (at m : ℕ) → length mid ≡ n → filled ≤ n → take filled mid ≡ given_by calls → take filled mid ++ replicate (length mid - filled) 0 ≡ zeros_behind n (given_by (calls ++ Reads at m (Some []) ∷ []))

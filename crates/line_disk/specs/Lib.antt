@@ -4,4 +4,5 @@ pub mod MemDisk
 pub mod RawFile
 pub mod HostFile
 pub mod Reads
+pub mod Counted
 pub mod Limits

@@ -1,13 +1,15 @@
-ghost use Rattle.std.specs.Prelude.{◌≡◌, ◌+◌, ◌-◌, ◌<◌, ◌≤◌, ◌++◌, ◌∷◌, [], ℕ, Option, length, take, drop, replicate, true, is_ok, IsTrue, IfOk, IfErr, OnOk, OnErr, IsErrOf};
+ghost use Rattle.std.specs.Prelude.{◌≡◌, ◌+◌, ◌-◌, ◌<◌, ◌≤◌, ◌++◌, ◌∷◌, [], ℕ, Option, length, take, drop, replicate, true, false, is_ok, IsTrue, IfOk, IfErr, OnOk, OnErr, IsErrOf};
+ghost use Rattle.line_disk.specs.Counted.{CountsFault};
 ghost use Rattle.line_disk.specs.DiskView.{Passes, Torn, written, synced, bytes_at};
 ghost use Rattle.line_disk.specs.RawFile.{Reads, Writes, Syncs, Asks, ReadsOn, WritesOn, AsksToRead, AsksToWrite, AsksToSync, zeros_behind, given_by, given, raw_now, disk_of};
+ghost use Rattle.line_disk.specs.Reads.{reads_of};
 ghost use Rattle.line_io.specs.Faults.{Rose, RoseByOne};
 ghost use Rattle.line_io.specs.RawOut.{count_of};
 
 use crate::disk::{DISK_END, Disk, DiskError};
 use crate::opening::Opening;
 use crate::raw_file::{HostFile, RawFile};
-use crate::reads::ReadLog;
+use crate::reads::{ReadLog, note_read};
 use std::alloc::Global;
 use std::os::unix::fs::FileExt;
 use std::rt::Files;
@@ -28,9 +30,6 @@ pub struct FileDisk<F: RawFile + Drop> {
 struct Refused;
 
 impl<F: RawFile + Drop> FileDisk<F> {
-    ghost use Rattle.std.specs.Prelude.{false};
-    ghost use Rattle.line_disk.specs.Reads.{reads_of};
-
     /// A file as a disk of which nothing was asked.
     pub fn over(file: F) -> Self
         ensures file { result.file ≡ file }
@@ -58,9 +57,8 @@ impl<R: Files + Drop> FileDisk<HostFile<R>>
 where
     R::File: FileExt,
 {
-    ghost use Rattle.std.specs.Prelude.{false, None};
+    ghost use Rattle.std.specs.Prelude.{None};
     ghost use Rattle.line_disk.specs.HostFile.{calls_of};
-    ghost use Rattle.line_disk.specs.Reads.{reads_of};
 
     /// The file `pull.slots` of the machine as a disk: the runtime that opens files, or a reference to it.
     pub fn new(rt: R) -> Self
@@ -290,47 +288,38 @@ fn counted(answer: Result<(), Refused>, faults: &mut u64) -> Result<(), DiskErro
     }
 }
 
-impl<F: RawFile + Drop> FileDisk<F> {
-    ghost use Rattle.line_disk.specs.RawFile.{disk_with};
-    ghost use Rattle.line_disk.specs.Reads.{reads_of};
-
-    /// What a read answers, which isn't noted.
-    fn answer_read(&mut self, alloc: Global, at: u64, len: u32) -> Result<Vec<u8>, DiskError>
-        requires inside { at + len ≤ DISK_END }
-        ensures asks { ¬ (IsErrOf result DiskError.NoMemory)
-            → Asks (F.shown self.old.file).asked (F.shown self.new.file).asked (λ calls.
-            AsksToRead self.old.broken (F.shown self.old.file).is_open at len calls (is_ok result)
-            × IfOk result (λ v. v.items ≡ zeros_behind len (given_by calls))) }
-        ensures asks_nothing { IsErrOf result DiskError.NoMemory → self.new.file ≡ self.old.file }
-        ensures reads_stay { self.new.reads ≡ self.old.reads }
-        ensures broken_stays { self.new.broken ≡ self.old.broken }
-        ensures count { IfOk result (λ v. length v.items ≡ len) }
-        ensures bytes { IfOk result
-            (λ v. IsTrue F.tells → v.items ≡ bytes_at (raw_now (F.shown self.old.file)).bytes at len) }
-        ensures stays { IsTrue F.tells → raw_now (F.shown self.new.file) ≡ raw_now (F.shown self.old.file) }
-        ensures time { IsTrue F.tells → Passes
-            (disk_with (F.shown self.old.file) self.old.faults (reads_of self.old.reads))
-            (disk_with (F.shown self.new.file) self.new.faults (reads_of self.new.reads)) }
-        ensures cause { IsErrOf result DiskError.Failed → Rose self.old.faults self.new.faults }
-        ensures once { IsErrOf result DiskError.Failed → RoseByOne self.old.faults self.new.faults }
-        ensures memory_is_no_fault { IsErrOf result DiskError.NoMemory → self.new.faults ≡ self.old.faults }
-        ensures faults_stay { OnOk result (self.new.faults ≡ self.old.faults) }
-        ensures faults_stay_or_rise { self.old.faults ≤ self.new.faults }
-    {
-        let mut bytes = vec![in alloc; 0; len as usize]?;
-        counted(
-            read_file(&mut self.file, self.broken, at, &mut bytes),
-            &mut self.faults,
-        )?;
-        Ok(bytes)
-    }
+/// Reads as many bytes as are asked for, and counts a fault where the machine refused. Without memory for them
+/// nothing is asked.
+fn read_counted<F: RawFile>(
+    alloc: Global,
+    file: &mut F,
+    broken: bool,
+    at: u64,
+    len: u32,
+    faults: &mut u64,
+) -> Result<Vec<u8>, DiskError>
+    requires inside { at + len ≤ DISK_END }
+    ensures asks { ¬ (IsErrOf result DiskError.NoMemory)
+        → Asks (F.shown file.old).asked (F.shown file.new).asked (λ calls.
+        AsksToRead broken (F.shown file.old).is_open at len calls (is_ok result)
+        × IfOk result (λ v. v.items ≡ zeros_behind len (given_by calls))) }
+    ensures asks_nothing { IsErrOf result DiskError.NoMemory → file.new ≡ file.old }
+    ensures count { IfOk result (λ v. length v.items ≡ len) }
+    ensures bytes { IfOk result
+        (λ v. IsTrue F.tells → v.items ≡ bytes_at (raw_now (F.shown file.old)).bytes at len) }
+    ensures stays { IsTrue F.tells → raw_now (F.shown file.new) ≡ raw_now (F.shown file.old) }
+    ensures time { IsTrue F.tells → Passes (disk_of (F.shown file.old)) (disk_of (F.shown file.new)) }
+    ensures faults { CountsFault faults.old faults.new result }
+{
+    let mut bytes = vec![in alloc; 0; len as usize]?;
+    counted(read_file(file, broken, at, &mut bytes), faults)?;
+    Ok(bytes)
 }
 
 impl<F: RawFile + Drop> Disk for FileDisk<F> {
     ghost use Rattle.std.specs.Prelude.{is_err};
     ghost use Rattle.line_disk.specs.DiskView.{disk_read};
     ghost use Rattle.line_disk.specs.RawFile.{disk_with};
-    ghost use Rattle.line_disk.specs.Reads.{reads_of};
 
     ghost tells = { F.tells };
 
@@ -358,8 +347,15 @@ impl<F: RawFile + Drop> Disk for FileDisk<F> {
         ensures faults_stay { OnOk result (self.new.faults ≡ self.old.faults) }
         ensures faults_stay_or_rise { self.old.faults ≤ self.new.faults }
     {
-        let answer = self.answer_read(alloc, at, len);
-        self.reads.note(at, len, answer)
+        let answer = read_counted(
+            alloc,
+            &mut self.file,
+            self.broken,
+            at,
+            len,
+            &mut self.faults,
+        );
+        note_read(&mut self.reads, at, len, answer)
     }
 
     fn write_at(&mut self, at: u64, bytes: &[u8]) -> Result<(), DiskError>

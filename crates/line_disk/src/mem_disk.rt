@@ -1,4 +1,5 @@
 ghost use Rattle.std.specs.Prelude.{◌≡◌, ◌+◌, ◌-◌, ◌^◌, ◌≤◌, ◌↔◌, ◌++◌, [], length, map, min, not, is_ok, IsTrue, IfOk, OnOk, OnErr, IsErrOf};
+ghost use Rattle.line_disk.specs.Counted.{CountsFault};
 ghost use Rattle.line_disk.specs.Memory.{span_of, after_call, left_by, spans_left};
 ghost use Rattle.line_io.specs.Faults.{Rose, RoseByOne};
 
@@ -7,7 +8,7 @@ use crate::patch::{
     Copied, DiskCall, Patch, byte_after, byte_of, copy_patches, copy_writes, in_effect,
     settled_count,
 };
-use crate::reads::ReadLog;
+use crate::reads::{ReadLog, note_read};
 use std::alloc::{AllocError, Global};
 
 /// A disk in memory, zeros at first. It keeps each call but those that found no memory, so it can tell what a crash
@@ -114,11 +115,7 @@ impl MemDisk {
             (λ v. v.items ≡ bytes_at (held_now (mem_view self.old)).bytes at len) }
         ensures stays { held_now (mem_view self.new) ≡ held_now (mem_view self.old) }
         ensures time { Passes (mem_view self.old) (mem_view self.new) }
-        ensures cause { IsErrOf result DiskError.Failed → Rose self.old.faults self.new.faults }
-        ensures once { IsErrOf result DiskError.Failed → RoseByOne self.old.faults self.new.faults }
-        ensures memory_is_no_fault { IsErrOf result DiskError.NoMemory → self.new.faults ≡ self.old.faults }
-        ensures faults_stay { OnOk result (self.new.faults ≡ self.old.faults) }
-        ensures faults_stay_or_rise { self.old.faults ≤ self.new.faults }
+        ensures faults { CountsFault self.old.faults self.new.faults result }
     {
         let failed = self.is_due();
         let bytes = self.bytes_at(alloc, at, len)?;
@@ -140,11 +137,7 @@ impl MemDisk {
         ensures no_memory { IsErrOf result DiskError.NoMemory
             → held_now (mem_view self.new) ≡ held_now (mem_view self.old) }
         ensures time { Passes (mem_view self.old) (mem_view self.new) }
-        ensures cause { IsErrOf result DiskError.Failed → Rose self.old.faults self.new.faults }
-        ensures once { IsErrOf result DiskError.Failed → RoseByOne self.old.faults self.new.faults }
-        ensures memory_is_no_fault { IsErrOf result DiskError.NoMemory → self.new.faults ≡ self.old.faults }
-        ensures faults_stay { OnOk result (self.new.faults ≡ self.old.faults) }
-        ensures faults_stay_or_rise { self.old.faults ≤ self.new.faults }
+        ensures faults { CountsFault self.old.faults self.new.faults result }
     {
         self.calls.push(call)?;
         answer(&mut self.faults, failed)
@@ -232,7 +225,7 @@ impl Disk for MemDisk {
         ensures faults_stay_or_rise { self.old.faults ≤ self.new.faults }
     {
         let answer = self.answer_read(alloc, at, len);
-        self.reads.note(at, len, answer)
+        note_read(&mut self.reads, at, len, answer)
     }
 
     fn write_at(&mut self, at: u64, bytes: &[u8]) -> Result<(), DiskError>

@@ -8,8 +8,10 @@ use line_base::Transcript;
 use std::io;
 use std::marker::Model;
 
+/// How many bytes the machine read or took.
+type Count = io::Result<usize>;
+
 /// Names to a transcript what contracts see of a call. No value of it is made.
-#[derive(Drop)]
 pub struct RawCallName {}
 
 impl Model for RawCallName {
@@ -29,12 +31,7 @@ pub struct RawCalls {
 
 /// Notes a call, which the caller's proof picks from the address and the bytes that were given to it and from its
 /// answer, and hands on the answer.
-fn note_call(
-    calls: &mut Transcript<RawCallName>,
-    at: u64,
-    bytes: &[u8],
-    answer: io::Result<usize>,
-) -> io::Result<usize>
+fn note_call(calls: &mut Transcript<RawCallName>, at: u64, bytes: &[u8], answer: Count) -> Count
     ghost call: { RawCall }
     ensures same { result ≡ answer }
     ensures noted { calls.new.items ≡ calls.old.items ++ call ∷ [] }
@@ -63,12 +60,7 @@ impl RawCalls {
     }
 
     /// Notes that bytes were read, and hands on the answer.
-    pub fn note_read(
-        &mut self,
-        at: u64,
-        bytes: &[u8],
-        answer: io::Result<usize>,
-    ) -> io::Result<usize>
+    pub fn note_read(&mut self, at: u64, bytes: &[u8], answer: Count) -> Count
         ensures same { result ≡ answer }
         ensures noted { calls_of self.new ≡ calls_of self.old ++ read_call at bytes.now result ∷ [] }
     {
@@ -76,12 +68,7 @@ impl RawCalls {
     }
 
     /// Notes that bytes were written, and hands on the answer.
-    pub fn note_write(
-        &mut self,
-        at: u64,
-        bytes: &[u8],
-        answer: io::Result<usize>,
-    ) -> io::Result<usize>
+    pub fn note_write(&mut self, at: u64, bytes: &[u8], answer: Count) -> Count
         ensures same { result ≡ answer }
         ensures noted { calls_of self.new ≡ calls_of self.old ++ write_call at bytes.now result ∷ [] }
     {

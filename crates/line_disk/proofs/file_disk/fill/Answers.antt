@@ -28,10 +28,10 @@ pub loop-filled-preserved : goal.loop-filled-preserved
 loop-filled-preserved g c =
     let before = c.loop-filled.invariant in
     let once = c.in-Ok.ensures in
-    let filled = c.loop-filled.filled in
-    let count = c.in-Ok.count in
-    let n = length c.args.bytes.now in
     let new = c.read_once.new.bytes in
+    let count = c.in-Ok.count in
+    let filled = c.loop-filled.filled in
+    let n = length c.args.bytes.now in
     let got = take count (drop filled new) in
     let image = (raw_now (g.F.RawFile.shown c.args.file.now)).bytes in
     let size : length got ≡ count = omega (arith, length-take count (drop filled new), length-drop filled new, once.bound, once.size) in

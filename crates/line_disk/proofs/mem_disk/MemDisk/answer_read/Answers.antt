@@ -1,61 +1,69 @@
-use Rattle.std.proofs.Common.{sym, ap, ◌∙◌, length}
-use Rattle.std.specs.Prelude.{Err}
-use Rattle.std.proofs.lemmas.Result.{err_from_is_err_and}
-use Rattle.line_disk.specs.declared.disk.DiskError.{DiskError}
+use Rattle.std.proofs.Common.{refl, sym, ap, ◌∙◌, subst, length}
+use Rattle.std.specs.Prelude.{IsErr}
+use Rattle.line_disk.specs.declared.disk.DiskError.TheVariants as disk_error
 use Rattle.line_disk.specs.DiskView.{held_now}
 use Rattle.line_disk.specs.MemDisk.{mem_view}
-use Rattle.line_disk.proofs.Push.{found_or_not, length-bytes_at, error_alone}
+use Rattle.line_disk.proofs.RawModel.{passes_here}
+use Rattle.line_disk.proofs.Push.{error_is, ok_found, counts_none, same_error, counts_as, found_or_not, length-bytes_at, error_alone}
 use Rattle.line_disk.proofs.mem_disk.MemDisk.answer_read.Goals as goal
 
-pub returns-in_err-count_call-clause-stays : goal.returns-in_err-count_call-clause-stays
-returns-in_err-count_call-clause-stays c = found_or_not c.count_call.result c.count_call.ensures.held c.count_call.ensures.no_memory
+pub returns-in_err-bytes : goal.returns-in_err-bytes
+returns-in_err-bytes c =
+    let result = c.from_residual.result in
+    let is = error_is result disk_error.NoMemory c.from_residual.ensures.1 in
+    record {
+      reads_stay = refl;
+      due = λ due. subst (λ r. IsErr r) (sym is) refl;
+      refused = λ failed. cc (sym is ∙ failed);
+      failing_stays = refl;
+      counted = λ found. absurd (found is);
+      not_counted = λ memory. refl;
+      count = error_alone result _ is;
+      bytes = error_alone result _ is;
+      stays = refl;
+      time = passes_here (mem_view c.args.self.now);
+      faults = counts_none _ result is;
+    }
 
-pub returns-clause-count : goal.returns-clause-count
-returns-clause-count c = ap length c.in_ok-bytes.ensures ∙ length-bytes_at (held_now (mem_view c.args.self.now)).bytes c.args.at c.args.len
+pub returns-in_err-count_call : goal.returns-in_err-count_call
+returns-in_err-count_call c =
+    let result = c.from_residual-in_err-count_call.result in
+    let error = c.in_err-count_call.field-0.0 in
+    let is = error_is result error c.from_residual-in_err-count_call.ensures.1 in
+    let call = c.in_err-count_call.ensures in
+    record {
+      reads_stay = call.reads_stay;
+      due = λ due. subst (λ r. IsErr r) (sym is) refl;
+      refused = λ failed. c.is_due-failed.ensures.0 (call.failed (same_error error _ (sym is ∙ failed)));
+      failing_stays = call.failing_stays;
+      counted = λ found. call.counted (λ memory. found (is ∙ same_error error _ memory));
+      not_counted = λ memory. call.not_counted (same_error error _ (sym is ∙ memory));
+      count = error_alone result _ is;
+      bytes = error_alone result _ is;
+      stays = found_or_not c.count_call.result c.count_call.ensures.held c.count_call.ensures.no_memory;
+      time = call.time;
+      faults = counts_as _ _ error result is call.faults;
+    }
 
-pub returns-clause-stays : goal.returns-clause-stays
-returns-clause-stays c = found_or_not c.count_call.result c.count_call.ensures.held c.count_call.ensures.no_memory
-
-pub returns-in_err-bytes-clause-count : goal.returns-in_err-bytes-clause-count
-returns-in_err-bytes-clause-count c =
-    error_alone c.from_residual.result _ (err_from_is_err_and c.from_residual.result c.from_residual.ensures.1).1
-
-pub returns-in_err-bytes-clause-bytes : goal.returns-in_err-bytes-clause-bytes
-returns-in_err-bytes-clause-bytes c =
-    error_alone c.from_residual.result _ (err_from_is_err_and c.from_residual.result c.from_residual.ensures.1).1
-
-pub returns-in_err-bytes-clause-faults_stay : goal.returns-in_err-bytes-clause-faults_stay
-returns-in_err-bytes-clause-faults_stay c =
-    error_alone c.from_residual.result _ (err_from_is_err_and c.from_residual.result c.from_residual.ensures.1).1
-
-pub returns-in_err-count_call-clause-count : goal.returns-in_err-count_call-clause-count
-returns-in_err-count_call-clause-count c =
-    error_alone c.from_residual-in_err-count_call.result _ (err_from_is_err_and c.from_residual-in_err-count_call.result c.from_residual-in_err-count_call.ensures.1).1
-
-pub returns-in_err-count_call-clause-bytes : goal.returns-in_err-count_call-clause-bytes
-returns-in_err-count_call-clause-bytes c =
-    error_alone c.from_residual-in_err-count_call.result _ (err_from_is_err_and c.from_residual-in_err-count_call.result c.from_residual-in_err-count_call.ensures.1).1
-
-pub returns-in_err-count_call-clause-faults_stay : goal.returns-in_err-count_call-clause-faults_stay
-returns-in_err-count_call-clause-faults_stay c =
-    error_alone c.from_residual-in_err-count_call.result _ (err_from_is_err_and c.from_residual-in_err-count_call.result c.from_residual-in_err-count_call.ensures.1).1
-
-pub returns-in_err-bytes-clause-counted : goal.returns-in_err-bytes-clause-counted
-returns-in_err-bytes-clause-counted c = λ found.
-    let p = err_from_is_err_and c.from_residual.result c.from_residual.ensures.1 in
-    absurd (found (p.1 ∙ ap (λ (e : DiskError). Err e) p.2))
-
-pub returns-in_err-bytes-clause-cause : goal.returns-in_err-bytes-clause-cause
-returns-in_err-bytes-clause-cause c = λ failed.
-    let p = err_from_is_err_and c.from_residual.result c.from_residual.ensures.1 in
-    cc (sym (p.1 ∙ ap (λ (e : DiskError). Err e) p.2) ∙ failed)
-
-pub returns-in_err-bytes-clause-once : goal.returns-in_err-bytes-clause-once
-returns-in_err-bytes-clause-once c = λ failed.
-    let p = err_from_is_err_and c.from_residual.result c.from_residual.ensures.1 in
-    cc (sym (p.1 ∙ ap (λ (e : DiskError). Err e) p.2) ∙ failed)
-
-pub returns-in_err-bytes-clause-refused : goal.returns-in_err-bytes-clause-refused
-returns-in_err-bytes-clause-refused c = λ failed.
-    let p = err_from_is_err_and c.from_residual.result c.from_residual.ensures.1 in
-    cc (sym (p.1 ∙ ap (λ (e : DiskError). Err e) p.2) ∙ failed)
+pub returns : goal.returns
+returns c =
+    let call = c.in_ok-count_call.ensures in
+    record {
+      reads_stay = call.reads_stay;
+      due = λ due. call.due (c.is_due-failed.ensures.1 due);
+      refused = λ failed. cc;
+      failing_stays = call.failing_stays;
+      counted = λ found. call.counted (ok_found tt);
+      not_counted = λ memory. cc;
+      count = ap length c.in_ok-bytes.ensures ∙ length-bytes_at (held_now (mem_view c.args.self.now)).bytes c.args.at c.args.len;
+      bytes = c.in_ok-bytes.ensures;
+      stays = found_or_not c.count_call.result c.count_call.ensures.held c.count_call.ensures.no_memory;
+      time = call.time;
+      faults = record {
+        cause = λ failed. cc;
+        once = λ failed. cc;
+        memory_is_no_fault = λ memory. cc;
+        faults_stay = call.faults.faults_stay;
+        stays_or_rises = call.faults.stays_or_rises;
+      };
+    }

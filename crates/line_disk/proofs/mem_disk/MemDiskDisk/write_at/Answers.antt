@@ -12,33 +12,36 @@ use Rattle.line_disk.proofs.mem_disk.MemDiskDisk.write_at.Goals as goal
 abbrev Leaves : MemDisk → MemDisk → Patch → Bool → Type 0
 Leaves old new patch done = held_now (mem_view new) ≡ after_call (held_now (mem_view old)) (call.Write patch done)
 
-pub returns-clause-written : goal.returns-clause-written
-returns-clause-written c =
+pub returns : goal.returns
+returns c =
     let held = held_now (mem_view c.args.self.now) in
     let patch : Patch = record { at = c.args.at; bytes = c.in_ok-to_vec.field-0 } in
     let same : c.in_ok-to_vec.field-0.items ≡ c.args.bytes.now = search rules in
-    on_ok c.count_call.result
-    (on_done (Leaves c.args.self.now c.count_call.new.self patch) (not c.is_due-failed.result) c.count_call.result c.count_call.ensures.told c.count_call.ensures.held)
-    (λ done. done ∙ ap (λ bytes. written held c.args.at bytes) same)
-
-pub returns-clause-torn : goal.returns-clause-torn
-returns-clause-torn c = λ err.
-    let held = held_now (mem_view c.args.self.now) in
-    let patch : Patch = record { at = c.args.at; bytes = c.in_ok-to_vec.field-0 } in
-    let same : c.in_ok-to_vec.field-0.items ≡ c.args.bytes.now = search rules in
-    let found = failed_found c.count_call.result err in
-    let failed : Leaves c.args.self.now c.count_call.new.self patch false =
-    subst (Leaves c.args.self.now c.count_call.new.self patch) (c.count_call.ensures.told found ∙ ap is_ok err) (c.count_call.ensures.held found) in
-    subst (λ (bytes : List ℕ). Torn held (held_now (mem_view c.count_call.new.self)) c.args.at (length bytes)) same (torn_by held _ c.args.at c.in_ok-to_vec.field-0.items failed)
-
-pub returns-clause-counted : goal.returns-clause-counted
-returns-clause-counted c = λ memory.
-    let patch : Patch = record { at = c.args.at; bytes = c.in_ok-to_vec.field-0 } in
-    let same : c.in_ok-to_vec.field-0.items ≡ c.args.bytes.now = search rules in
+    let left = Leaves c.args.self.now c.count_call.new.self patch in
+    let counts = c.count_call.ensures in
     record {
-      patch = patch;
-      at = refl;
-      bytes = same;
-      counted = c.count_call.ensures.counted memory
-          ∙ ap (λ done. c.args.self.now.calls.items ++ call.Write patch done ∷ []) (c.count_call.ensures.told memory);
+      reads_stay = counts.reads_stay;
+      due = λ due. counts.due (c.is_due-failed.ensures.1 due);
+      refused = λ failed. c.is_due-failed.ensures.0 (counts.failed failed);
+      failing_stays = counts.failing_stays;
+      counted = λ memory. record {
+        patch = patch;
+        at = refl;
+        bytes = same;
+        counted = counts.counted memory ∙ ap (λ done. c.args.self.now.calls.items ++ call.Write patch done ∷ []) (counts.told memory);
+      };
+      not_counted = counts.not_counted;
+      written = on_ok c.count_call.result (on_done left (not c.is_due-failed.result) c.count_call.result counts.told counts.held)
+          (λ done. done ∙ ap (λ bytes. written held c.args.at bytes) same);
+      torn = λ err.
+          let found = failed_found c.count_call.result err in
+          let failed : left false = subst left (counts.told found ∙ ap is_ok err) (counts.held found) in
+          subst (λ (bytes : List ℕ). Torn held (held_now (mem_view c.count_call.new.self)) c.args.at (length bytes)) same (torn_by held _ c.args.at c.in_ok-to_vec.field-0.items failed);
+      no_memory = counts.no_memory;
+      time = counts.time;
+      cause = counts.faults.cause;
+      once = counts.faults.once;
+      memory_is_no_fault = counts.faults.memory_is_no_fault;
+      faults_stay = counts.faults.faults_stay;
+      faults_stay_or_rise = counts.faults.stays_or_rises;
     }

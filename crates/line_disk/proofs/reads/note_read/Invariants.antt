@@ -1,6 +1,6 @@
 use Rattle.std.proofs.Common.{◌++◌, ◌∷◌, []}
 use Rattle.line_disk.specs.DiskView.{disk_read}
-use Rattle.line_disk.proofs.reads.ReadLog.note.Given as goal
+use Rattle.line_disk.proofs.reads.note_read.Given as goal
 
 -- the calls of before, and this one
 abbrev pub ghost-of : goal.ghost-of
