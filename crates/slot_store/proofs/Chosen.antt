@@ -1,8 +1,9 @@
 -- The slot that a save writes to lies beside the one that holds the content.
-use Rattle.std.proofs.Common.{◌≡◌, ℕ, ◌+◌, ◌==◌, Bool, true, false, cond, List, refl, sym, ◌∙◌, ap, subst, Option, Some, None}
+use Rattle.std.proofs.Common.{◌≡◌, ℕ, ◌+◌, ◌≤◌, ◌==◌, IsTrue, arith, Bool, true, false, cond, List, refl, sym, ◌∙◌, ap, subst, Option, Some, None}
+use Rattle.std.proofs.lemmas.Bool.Decides.{nat_tests}
 use Rattle.line_disk.specs.DiskView.{Image, bytes_at}
 use Rattle.slot_store.specs.Layout.{start_of, header_at, is_open, Saved, content_from, saved_in, next, newer, bytes_of, content, newer_by, newer_header, target_by}
-use Rattle.slot_store.specs.Crash.{other, number_after, IsTarget}
+use Rattle.slot_store.specs.Crash.{other, number_after, IsTarget, TellsGate}
 use Rattle.slot_store.specs.declared.header.Header.{Header}
 use Rattle.slot_store.specs.declared.header.Slot.{Slot}
 use Rattle.slot_store.specs.declared.header.Slot.TheVariants.{Zero, One}
@@ -91,3 +92,30 @@ newest image room slot header is =
     by.content_is
     ∙ ap (λ (xs : List ℕ). Some xs) (pick-content image room slot)
     ∙ ap (λ (h : Header). let v : Option (List ℕ) = Some (bytes_at image (start_of room slot + 16) h.length) in v) (sym (by.head_is ∙ pick-head image room slot))
+
+-- and there is none where no slot is open
+none_both : (after : Bool) (zero one : Header) → newer_by true true after zero one ≡ None → ⊥
+none_both true zero one is = cc
+none_both false zero one is = cc
+
+none_by : (z o : Bool) (zero one : Header) (a b : List ℕ) → newer_by z o (one.number == next zero.number) zero one ≡ None → bytes_of (newer (by_head z zero a) (by_head o one b)) ≡ None
+none_by false false zero one a b is = refl
+none_by false true zero one a b is = absurd (none_some (sym is))
+none_by true false zero one a b is = absurd (none_some (sym is))
+none_by true true zero one a b is = absurd (none_both (one.number == next zero.number) zero one is)
+
+pub none_newest : (image : Image) (room : ℕ) → newer_header room (header_at image (start_of room Zero)) (header_at image (start_of room One)) ≡ None → content image room ≡ None
+none_newest image room is =
+    let zero = header_at image (start_of room Zero) in
+    let one = header_at image (start_of room One) in
+    none_by (is_open room zero) (is_open room one) zero one (content_from image (start_of room Zero)) (content_from image (start_of room One)) is
+
+-- the content of a slot that is open has room
+pub open_fits : (room : ℕ) (header : Header) → IsTrue (is_open room header) → header.length ≤ room
+open_fits room header is = grind (arith, nat_tests)
+
+-- whether a target's gate is open is as the heads say
+pub gate_told : (image : Image) (room : ℕ) (found : Option (Slot × Header)) → TellsGate image room (target_by found (header_at image (start_of room Zero)) (header_at image (start_of room One)))
+gate_told image room None = refl
+gate_told image room (Some (Zero, header)) = refl
+gate_told image room (Some (One, header)) = refl

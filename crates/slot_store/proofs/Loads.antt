@@ -1,13 +1,15 @@
 -- The reads of a load, put together of those of its parts.
-use Rattle.std.proofs.Common.{◌≡◌, ℕ, List, [], ◌∷◌, ◌++◌, refl, ap, sym, ◌∙◌, append_assoc}
-use Rattle.std.specs.Prelude.{Option, Some, None, Result, Ok, Err}
+use Rattle.std.proofs.Common.{◌≡◌, ℕ, ◌≤◌, List, [], ◌∷◌, ◌++◌, refl, ap, sym, ◌∙◌, append_assoc, arith}
+use Rattle.std.specs.Prelude.{Option, Some, None, Result, Ok, Err, IsErrOf}
 use Rattle.line_disk.specs.DiskView.{DiskRead, DiskView}
 use Rattle.line_disk.specs.declared.disk.DiskError.{DiskError}
+use Rattle.line_disk.specs.declared.disk.DiskError.TheVariants as disk
+use Rattle.line_io.specs.Faults.{Rose}
 use Rattle.slot_store.specs.Errors.{error_of}
 use Rattle.slot_store.specs.Layout.{start_of, header_of_bytes, newer_header}
 use Rattle.slot_store.specs.Loads.{head_read, content_read, head_of, ReadsHead, Heads, zero_failed, one_failed, both_read, content_of, Loads, heads_failed, none_open, one_open, ReadsHeads, HasLoaded}
 use Rattle.slot_store.specs.declared.error.SlotError.{SlotError}
-use Rattle.slot_store.specs.declared.error.SlotError.TheVariants.{NoneSaved}
+use Rattle.slot_store.specs.declared.error.SlotError.TheVariants.{DiskFault, NoneSaved, TooLong}
 use Rattle.slot_store.specs.declared.header.Header.{Header}
 use Rattle.slot_store.specs.declared.header.Slot.{Slot}
 use Rattle.slot_store.specs.declared.header.Slot.TheVariants.{Zero, One}
@@ -91,4 +93,35 @@ load_content room old mid new zero one slot header given read newer last = recor
   reads = read.reads ++ content_read (start_of room slot) header given ∷ [];
   read = reads_both old mid new read.reads (content_read (start_of room slot) header given ∷ []) read.read last;
   loads = one_open zero one read.reads slot header given read.heads newer refl refl;
+}
+
+-- the error of a disk to who saves is neither of the slots' own, and a fault is a failed call
+not_none : (error : DiskError) → ¬ (error_of error ≡ NoneSaved)
+not_none disk.Failed is = cc
+not_none disk.NoMemory is = cc
+
+not_long : (error : DiskError) (have : ℕ) → ¬ (error_of error ≡ TooLong have)
+not_long disk.Failed have is = cc
+not_long disk.NoMemory have is = cc
+
+is_fault : (error : DiskError) → error_of error ≡ DiskFault → error ≡ disk.Failed
+is_fault disk.Failed is = refl
+is_fault disk.NoMemory is = cc
+
+fails_as : {T : Type 0} (result : Result T SlotError) (error other : SlotError) → result ≡ Err error → IsErrOf result other → error ≡ other
+fails_as result error other is failed = let same = sym is ∙ failed in cc
+
+-- what a save or a load that gave up says of the calls of the disk
+pub record GaveUp {T : Type 0} (result : Result T SlotError) (before now : ℕ) : Type 0 where
+  pub none_saved : ¬ (IsErrOf result NoneSaved)
+  pub too_long : (have : ℕ) → ¬ (IsErrOf result (TooLong have))
+  pub fault : IsErrOf result DiskFault → Rose before now
+
+pub gave_up : {T U : Type 0} (result : Result T SlotError) (error : DiskError) (before mid now : ℕ) → result ≡ Err (error_of error) → before ≤ mid → (IsErrOf {T = U} (Err error) disk.Failed → Rose mid now) → GaveUp result before now
+gave_up result error before mid now is later cause = record {
+  none_saved = λ failed. not_none error (fails_as result (error_of error) NoneSaved is failed);
+  too_long = λ have failed. not_long error have (fails_as result (error_of error) (TooLong have) is failed);
+  fault = λ failed.
+      let rose = cause (ap (λ (e : DiskError). Err e) (is_fault error (fails_as result (error_of error) DiskFault is failed))) in
+      omega (arith, rose, later);
 }

@@ -1,8 +1,15 @@
 -- The parts of a save one after another, and the newer slot as a load reads it.
-use Rattle.std.proofs.Common.{◌≡◌, inl, inr, ℕ, List, refl, sym, ◌∙◌, ap, Some}
+use Rattle.std.proofs.Common.{◌≡◌, inl, inr, ℕ, ◌≤◌, List, Bool, IsTrue, refl, sym, ◌∙◌, ap, subst, Some, Result, Err, OnOk, IsErrOf, arith}
 use Rattle.line_disk.specs.DiskView.{Image, Held, MayLeave, DiskView, held_now, LeavesOnly}
+use Rattle.line_disk.specs.declared.disk.DiskError.{DiskError}
+use Rattle.line_disk.specs.declared.disk.DiskError.TheVariants.{Failed}
+use Rattle.line_disk.proofs.Push.{on_ok, error_alone, same_error}
+use Rattle.line_io.specs.Faults.{Rose}
 use Rattle.slot_store.specs.Layout.{content}
-use Rattle.slot_store.specs.Crash.{CouldLeave, IsOldOrNew, SameContent, IsKeptOrNew, bytes_now}
+use Rattle.slot_store.specs.Crash.{CouldLeave, IsOldOrNew, IsSaved, SameContent, IsKeptOrNew, bytes_now}
+use Rattle.slot_store.specs.Saving.{IsHarmless, SavesContent}
+use Rattle.slot_store.specs.Within.{OutsideStays}
+use Rattle.slot_store.proofs.Outside.{outside_on}
 use Rattle.line_disk.proofs.Moments.{leaves_also, leaves_on, leaves_last}
 
 -- what a read gives may be left
@@ -38,3 +45,39 @@ pub keeps_new : {start mid now : DiskView} {room : ℕ} {staged bytes : List ℕ
 keeps_new {start} {mid} {now} {room} {staged} {bytes} keeps is only =
     leaves_on start mid now (IsOldOrNew (held_now start) room bytes) keeps.leaves
     (leaves_also mid now (IsKeptOrNew (bytes_now mid) room staged) (IsOldOrNew (held_now start) room bytes) (λ image which. old_or_new (held_now start) room (bytes_now mid) staged bytes image keeps.could is which) only)
+
+-- so far a save keeps the content, leaves each byte behind both slots, and has counted no fault away
+pub record Saves (tells : Bool) (room : ℕ) (bytes : List ℕ) (start now : DiskView) : Type 0 where
+  pub keeps : IsTrue tells → Keeps start now room bytes
+  pub outside : OutsideStays tells room start now
+  pub later : start.faults ≤ now.faults
+
+pub saves_found : {tells : Bool} {room : ℕ} {start now : DiskView} (bytes : List ℕ) → (IsTrue tells → LeavesOnly start now (MayLeave (held_now start))) → OutsideStays tells room start now → start.faults ≤ now.faults → Saves tells room bytes start now
+saves_found {tells} {room} bytes only outside later = record { keeps = λ told. keeps_found room bytes (only told); outside = outside; later = later }
+
+pub saves_same : {tells : Bool} {room : ℕ} {bytes : List ℕ} {start mid now : DiskView} → Saves tells room bytes start mid → IsHarmless tells room mid now → mid.faults ≤ now.faults → Saves tells room bytes start now
+saves_same {tells} {room} {bytes} {start} {mid} {now} saves harmless later = record {
+  keeps = λ told. keeps_same (saves.keeps told) (harmless.any_moment told);
+  outside = outside_on tells room start mid now saves.outside harmless.outside_stays;
+  later = (let before = saves.later in omega arith);
+}
+
+-- a save that then gave up
+pub saves_not : {T : Type 0} {tells : Bool} {room : ℕ} {bytes : List ℕ} {start now : DiskView} (result : Result (Unit {0}) DiskError) (error : DiskError) (before : ℕ) → result ≡ Err error → start.faults ≤ before → (IsErrOf {T = T} (Err error) Failed → Rose before now.faults) → Saves tells room bytes start now → SavesContent tells room bytes start now result
+saves_not result error before is later cause saves = record {
+  any_moment = λ told. (saves.keeps told).leaves;
+  saved = error_alone result _ is;
+  outside_stays = saves.outside;
+  cause = λ failed. let rose = cause (same_error error _ (sym is ∙ failed)) in omega (arith, rose, later);
+  faults_stay_or_rise = saves.later;
+}
+
+-- and one whose gate was to be opened last
+pub saves_last : {tells : Bool} {room : ℕ} {bytes staged : List ℕ} {start mid now : DiskView} (result : Result (Unit {0}) DiskError) → Saves tells room bytes start mid → (IsTrue tells → staged ≡ bytes) → (IsTrue tells → LeavesOnly mid now (IsKeptOrNew (bytes_now mid) room staged)) → OnOk result (IsTrue tells → IsSaved (held_now now) room staged) → OutsideStays tells room mid now → (IsErrOf result Failed → Rose mid.faults now.faults) → mid.faults ≤ now.faults → SavesContent tells room bytes start now result
+saves_last {tells} {room} {bytes} {staged} {start} {mid} {now} result saves is only saved outside cause rises = record {
+  any_moment = λ told. keeps_new (saves.keeps told) (is told) (only told);
+  saved = on_ok result saved (λ stands told. subst (λ xs. IsSaved (held_now now) room xs) (is told) (stands told));
+  outside_stays = outside_on tells room start mid now saves.outside outside;
+  cause = λ failed. let rose = cause failed in let later = saves.later in omega arith;
+  faults_stay_or_rise = (let later = saves.later in omega arith);
+}

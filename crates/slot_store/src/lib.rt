@@ -2,6 +2,7 @@
 #![tactic(auto)]
 
 mod error;
+mod finding;
 mod header;
 mod limits;
 mod saving;

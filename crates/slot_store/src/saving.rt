@@ -1,21 +1,27 @@
-//! What a save writes, in three parts. Each says what a crash leaves while it runs.
+//! What a save writes, in three parts, each of which says what a crash leaves while it runs; and the save of them.
 ghost use Rattle.std.specs.Int.{w64, to_be_bytes};
 ghost use Rattle.std.specs.Prelude.{◌≡◌, ◌⊎◌, ◌∷◌, ◌+◌, ◌≤◌, Some, length, IsTrue, IfOk, OnOk, IsErrOf};
 ghost use Rattle.line_disk.specs.DiskView.{MayLeave, LeavesOnly, held_now};
 ghost use Rattle.line_io.specs.Faults.{Rose};
-ghost use Rattle.slot_store.specs.Crash.{KeepsContent, TellsGate, IsSettled, IsClosed, IsStaged, IsReady, IsSaved, IsKeptOrNew, bytes_now, staged_in};
+ghost use Rattle.slot_store.specs.Crash.{TellsGate, IsSettled, IsClosed, IsStaged, IsReady, IsSaved, IsKeptOrNew, bytes_now, staged_in};
 ghost use Rattle.slot_store.specs.Layout.{header_at, newer_header, start_of, content, target_by};
+ghost use Rattle.slot_store.specs.Saving.{IsHarmless, SavesContent};
 ghost use Rattle.slot_store.specs.Within.{WritesWithin, OutsideStays};
 
+use crate::finding::find_target;
 use crate::header::{HEADER, MAX_ROOM, OPEN, Slot};
 use crate::target::Target;
 use line_disk::{Disk, DiskError};
+use std::alloc::Global;
 
 /// The gate of a slot that is not open.
 const CLOSED: u8 = 0;
 
+/// What a part of a save answers.
+type Outcome = Result<(), DiskError>;
+
 /// Writes the gate of a slot, and makes it stand. Nothing else is written.
-fn write_gate<D: Disk>(disk: &mut D, room: u64, slot: Slot, gate: u8) -> Result<(), DiskError>
+fn write_gate<D: Disk>(disk: &mut D, room: u64, slot: Slot, gate: u8) -> Outcome
     requires room { room ≤ MAX_ROOM }
     requires settled { IsTrue D.tells → IsSettled (held_now (D.shown disk.old)) }
     ensures within { IsTrue D.tells
@@ -32,12 +38,11 @@ fn write_gate<D: Disk>(disk: &mut D, room: u64, slot: Slot, gate: u8) -> Result<
 }
 
 /// Closes the gate of the target where it is open. A crash leaves the content as it is.
-pub fn close_gate<D: Disk>(disk: &mut D, room: u64, target: Target) -> Result<(), DiskError>
+fn close_gate<D: Disk>(disk: &mut D, room: u64, target: Target) -> Outcome
     requires room { room ≤ MAX_ROOM }
     requires ready { IsTrue D.tells → IsReady (D.shown disk.old) room target }
     requires gate { IsTrue D.tells → TellsGate (bytes_now (D.shown disk.old)) room target }
-    ensures outside_stays { OutsideStays D.tells room (D.shown disk.old) (D.shown disk.new) }
-    ensures any_moment { KeepsContent D.tells (D.shown disk.old) (D.shown disk.new) room }
+    ensures harmless { IsHarmless D.tells room (D.shown disk.old) (D.shown disk.new) }
     ensures ready { OnOk result (IsTrue D.tells → IsReady (D.shown disk.new) room target) }
     ensures closed { OnOk result
         (IsTrue D.tells → IsClosed (bytes_now (D.shown disk.new)) room target) }
@@ -62,18 +67,12 @@ fn number_and_length(number: u8, length: u64) -> [u8; 9]
 }
 
 /// Writes the number, the length and the content behind the closed gate. A crash leaves the content as it is.
-pub fn write_content<D: Disk>(
-    disk: &mut D,
-    room: u64,
-    target: Target,
-    bytes: &[u8],
-) -> Result<(), DiskError>
+fn write_content<D: Disk>(disk: &mut D, room: u64, target: Target, bytes: &[u8]) -> Outcome
     requires room { room ≤ MAX_ROOM }
     requires fits { length bytes.now ≤ room }
     requires ready { IsTrue D.tells → IsReady (D.shown disk.old) room target }
     requires closed { IsTrue D.tells → IsClosed (bytes_now (D.shown disk.old)) room target }
-    ensures outside_stays { OutsideStays D.tells room (D.shown disk.old) (D.shown disk.new) }
-    ensures any_moment { KeepsContent D.tells (D.shown disk.old) (D.shown disk.new) room }
+    ensures harmless { IsHarmless D.tells room (D.shown disk.old) (D.shown disk.new) }
     ensures ready { OnOk result (IsTrue D.tells → IsReady (D.shown disk.new) room target) }
     ensures staged { OnOk result
         (IsTrue D.tells → IsStaged (bytes_now (D.shown disk.new)) room target bytes.now) }
@@ -92,7 +91,7 @@ pub fn write_content<D: Disk>(
 
 /// Opens the gate before what was written. A crash leaves the content as it was, or what was written; after `Ok` it
 /// leaves the latter.
-pub fn open_gate<D: Disk>(disk: &mut D, room: u64, target: Target) -> Result<(), DiskError>
+fn open_gate<D: Disk>(disk: &mut D, room: u64, target: Target) -> Outcome
     requires room { room ≤ MAX_ROOM }
     requires ready { IsTrue D.tells → IsReady (D.shown disk.old) room target }
     requires staged { IsTrue D.tells → IsStaged (bytes_now (D.shown disk.old)) room target
@@ -110,4 +109,16 @@ pub fn open_gate<D: Disk>(disk: &mut D, room: u64, target: Target) -> Result<(),
     ensures faults_stay_or_rise { (D.shown disk.old).faults ≤ (D.shown disk.new).faults }
 {
     write_gate(disk, room, target.slot, OPEN)
+}
+
+/// Saves bytes as the content, in the slot that is not the newer one.
+pub fn save_content<D: Disk>(disk: &mut D, alloc: Global, room: u64, bytes: &[u8]) -> Outcome
+    requires room { room ≤ MAX_ROOM }
+    requires fits { length bytes.now ≤ room }
+    ensures { SavesContent D.tells room bytes.now (D.shown disk.old) (D.shown disk.new) result }
+{
+    let target = find_target(disk, alloc, room)?;
+    close_gate(disk, room, target)?;
+    write_content(disk, room, target, bytes)?;
+    open_gate(disk, room, target)
 }

@@ -3,8 +3,7 @@ ghost use Rattle.slot_store.specs.declared.header.TheConstants.{MAX_ROOM};
 
 use crate::error::SlotError;
 use crate::header::{HEADER, MAX_ROOM, newer, read_headers};
-use crate::saving::{close_gate, open_gate, write_content};
-use crate::target::find_target;
+use crate::saving::save_content;
 use line_disk::Disk;
 use std::alloc::Global;
 
@@ -67,11 +66,7 @@ impl<'a, D: Disk> Slots<'a, D> {
         if have > self.room {
             return Err(SlotError::TooLong { have });
         }
-        let target = find_target(self.disk, alloc, self.room)?;
-        close_gate(self.disk, self.room, target)?;
-        write_content(self.disk, self.room, target, bytes)?;
-        open_gate(self.disk, self.room, target)?;
-        Ok(())
+        Ok(save_content(self.disk, alloc, self.room, bytes)?)
     }
 
     /// The content that was saved last. It changes nothing.

@@ -1,4 +1,4 @@
-use Rattle.std.proofs.Common.{◌≡◌, ◌≢◌, ℕ, arith}
+use Rattle.std.proofs.Common.{◌≡◌, ◌≢◌, ℕ, refl, arith}
 use Rattle.std.proofs.lemmas.Bool.{not-false}
 use Rattle.line_disk.specs.DiskView.{held_now}
 use Rattle.slot_store.specs.Crash.{SameContent, bytes_now}
@@ -12,14 +12,22 @@ use Rattle.slot_store.proofs.saving.close_gate.Goals as goal
 shut : (gate : ℕ) → gate ≡ 0 → gate ≢ 1
 shut gate is = omega arith
 
-pub returns-then-not-target-clause-any_moment : goal.returns-then-not-target-clause-any_moment
-returns-then-not-target-clause-any_moment g c = λ told.
-    leaves_here (g.D.Disk.shown c.args.disk.now) (SameContent (bytes_now (g.D.Disk.shown c.args.disk.now)) c.args.room)
-    (λ image left. settled_content (held_now (g.D.Disk.shown c.args.disk.now)) image c.args.room (c.requires.ready told).settled left)
+pub returns-then-not-target-clause-harmless : goal.returns-then-not-target-clause-harmless
+returns-then-not-target-clause-harmless g c = record {
+  any_moment = λ told.
+      leaves_here (g.D.Disk.shown c.args.disk.now) (SameContent (bytes_now (g.D.Disk.shown c.args.disk.now)) c.args.room)
+      (λ image left. settled_content (held_now (g.D.Disk.shown c.args.disk.now)) image c.args.room (c.requires.ready told).settled left);
+  outside_stays = λ told i behind. refl;
+}
 
-pub returns-clause-any_moment : goal.returns-clause-any_moment
-returns-clause-any_moment g c = λ told.
-    closing (g.D.Disk.shown c.args.disk.now) (g.D.Disk.shown c.write_gate.new.disk) c.args.room c.args.target (c.requires.ready told) (c.requires.gate told) (not-false _ c.if-not-target.false) (c.write_gate.ensures.within told)
+pub returns-clause-harmless : goal.returns-clause-harmless
+returns-clause-harmless g c =
+    let old = g.D.Disk.shown c.args.disk.now in
+    let new = g.D.Disk.shown c.write_gate.new.disk in
+    record {
+      any_moment = λ told. closing old new c.args.room c.args.target (c.requires.ready told) (c.requires.gate told) (not-false _ c.if-not-target.false) (c.write_gate.ensures.within told);
+      outside_stays = outside_within g.D.Disk.tells c.args.room (start_of c.args.room c.args.target.slot) 1 old new c.write_gate.ensures.within (omega (arith, start_low c.args.room c.args.target.slot));
+    }
 
 pub returns-clause-ready : goal.returns-clause-ready
 returns-clause-ready g c = on_ok c.write_gate.result c.write_gate.ensures.stands (λ stands told.
@@ -30,7 +38,3 @@ returns-clause-closed g c = on_ok c.write_gate.result c.write_gate.ensures.gate 
 
 pub returns-clause-closed_by_zero : goal.returns-clause-closed_by_zero
 returns-clause-closed_by_zero g c = on_ok c.write_gate.result c.write_gate.ensures.gate (λ gate was_open told. gate told)
-
-pub returns-clause-outside_stays : goal.returns-clause-outside_stays
-returns-clause-outside_stays g c =
-    outside_within g.D.Disk.tells c.args.room (start_of c.args.room c.args.target.slot) 1 (g.D.Disk.shown c.args.disk.now) (g.D.Disk.shown c.write_gate.new.disk) c.write_gate.ensures.within (omega (arith, start_low c.args.room c.args.target.slot))

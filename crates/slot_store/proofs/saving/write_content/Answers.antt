@@ -1,8 +1,10 @@
-use Rattle.std.proofs.Common.{◌≡◌, ◌+◌, length, arith, sym, ap, subst}
+use Rattle.std.proofs.Common.{◌≡◌, ℕ, Bool, ◌+◌, length, arith, sym, ap, subst}
 use Rattle.std.specs.Prelude.{IsTrue}
-use Rattle.line_disk.specs.DiskView.{held_now}
+use Rattle.line_disk.specs.DiskView.{DiskView, held_now}
 use Rattle.slot_store.specs.Layout.{start_of}
-use Rattle.slot_store.specs.Crash.{IsStaged, bytes_now}
+use Rattle.slot_store.specs.Crash.{IsReady, IsClosed, IsStaged, bytes_now}
+use Rattle.slot_store.specs.Saving.{IsHarmless}
+use Rattle.slot_store.specs.declared.target.Target.{Target}
 use Rattle.line_disk.proofs.Push.{on_ok}
 use Rattle.slot_store.specs.Within.{WritesWithin}
 use Rattle.slot_store.proofs.Calls.{went_nowhere, went_write, went_sync, settled_by}
@@ -33,22 +35,27 @@ settled : (g : Over) (c : After-sync g) → IsTrue g.D.Disk.tells → WritesWith
 settled g c told before =
     went_sync (start_of c.args.room c.args.target.slot + 1) (15 + c.args.room) (g.D.Disk.shown c.args.disk.now) (g.D.Disk.shown c.write_at-2.new.self) (g.D.Disk.shown c.sync.new.self) c.sync.result c.sync.ensures.synced c.sync.ensures.stays c.sync.ensures.time told before
 
-pub returns-in_err-write_at-clause-any_moment : goal.returns-in_err-write_at-clause-any_moment
-returns-in_err-write_at-clause-any_moment g c = λ told.
-    let first = named g (goal.at.returns-in_err-write_at-clause-any_moment g c).After-write_at told in
-    staging (g.D.Disk.shown c.args.disk.now) (g.D.Disk.shown c.write_at.new.self) c.args.room c.args.target (c.requires.ready told) (c.requires.closed told) first
+-- and so it does no harm
+harmless : (tells : Bool) (room : ℕ) (target : Target) (old new : DiskView) → (IsTrue tells → IsReady old room target) → (IsTrue tells → IsClosed (bytes_now old) room target) → (IsTrue tells → WritesWithin (start_of room target.slot + 1) (15 + room) old new) → IsHarmless tells room old new
+harmless tells room target old new ready closed wrote = record {
+  any_moment = λ told. staging old new room target (ready told) (closed told) (wrote told);
+  outside_stays = outside_within tells room (start_of room target.slot + 1) (15 + room) old new wrote (omega (arith, start_low room target.slot));
+}
 
-pub returns-in_err-write_at-2-clause-any_moment : goal.returns-in_err-write_at-2-clause-any_moment
-returns-in_err-write_at-2-clause-any_moment g c = λ told.
-    let here = goal.at.returns-in_err-write_at-2-clause-any_moment g c in
-    let second = put g here.After-write_at-2 told (named g here.After-write_at told) in
-    staging (g.D.Disk.shown c.args.disk.now) (g.D.Disk.shown c.write_at-2.new.self) c.args.room c.args.target (c.requires.ready told) (c.requires.closed told) second
+pub returns-in_err-write_at-clause-harmless : goal.returns-in_err-write_at-clause-harmless
+returns-in_err-write_at-clause-harmless g c =
+    let here = goal.at.returns-in_err-write_at-clause-harmless g c in
+    harmless _ c.args.room c.args.target (g.D.Disk.shown c.args.disk.now) (g.D.Disk.shown c.write_at.new.self) c.requires.ready c.requires.closed (λ told. named g here.After-write_at told)
 
-pub returns-clause-any_moment : goal.returns-clause-any_moment
-returns-clause-any_moment g c = λ told.
-    let here = goal.at.returns-clause-any_moment g c in
-    let third = settled g here.After-sync told (put g here.After-write_at-2 told (named g here.After-write_at told)) in
-    staging (g.D.Disk.shown c.args.disk.now) (g.D.Disk.shown c.sync.new.self) c.args.room c.args.target (c.requires.ready told) (c.requires.closed told) third
+pub returns-in_err-write_at-2-clause-harmless : goal.returns-in_err-write_at-2-clause-harmless
+returns-in_err-write_at-2-clause-harmless g c =
+    let here = goal.at.returns-in_err-write_at-2-clause-harmless g c in
+    harmless _ c.args.room c.args.target (g.D.Disk.shown c.args.disk.now) (g.D.Disk.shown c.write_at-2.new.self) c.requires.ready c.requires.closed (λ told. put g here.After-write_at-2 told (named g here.After-write_at told))
+
+pub returns-clause-harmless : goal.returns-clause-harmless
+returns-clause-harmless g c =
+    let here = goal.at.returns-clause-harmless g c in
+    harmless _ c.args.room c.args.target (g.D.Disk.shown c.args.disk.now) (g.D.Disk.shown c.sync.new.self) c.requires.ready c.requires.closed (λ told. settled g here.After-sync told (put g here.After-write_at-2 told (named g here.After-write_at told)))
 
 pub returns-clause-ready : goal.returns-clause-ready
 returns-clause-ready g c = on_ok c.sync.result c.sync.ensures.synced (λ synced told.
@@ -73,18 +80,3 @@ returns-clause-staged g c = on_ok c.sync.result c.sync.ensures.synced (λ synced
     (c.in_ok-write_at.ensures.written told) (c.in_ok-write_at-2.ensures.written told) (synced told)
     (ap (λ i. i + 1) c.start-start.ensures) c.number_and_length.ensures (ap (λ i. i + 16) c.start-start.ensures) in
     subst (λ i. IsStaged i c.args.room c.args.target bytes) (sym is) (is_staged (bytes_now start) c.args.room c.args.target bytes (omega arith)))
-
-pub returns-in_err-write_at-clause-outside_stays : goal.returns-in_err-write_at-clause-outside_stays
-returns-in_err-write_at-clause-outside_stays g c =
-    let here = goal.at.returns-in_err-write_at-clause-outside_stays g c in
-    outside_within g.D.Disk.tells c.args.room (start_of c.args.room c.args.target.slot + 1) (15 + c.args.room) (g.D.Disk.shown c.args.disk.now) (g.D.Disk.shown c.write_at.new.self) (λ told. named g here.After-write_at told) (omega (arith, start_low c.args.room c.args.target.slot))
-
-pub returns-in_err-write_at-2-clause-outside_stays : goal.returns-in_err-write_at-2-clause-outside_stays
-returns-in_err-write_at-2-clause-outside_stays g c =
-    let here = goal.at.returns-in_err-write_at-2-clause-outside_stays g c in
-    outside_within g.D.Disk.tells c.args.room (start_of c.args.room c.args.target.slot + 1) (15 + c.args.room) (g.D.Disk.shown c.args.disk.now) (g.D.Disk.shown c.write_at-2.new.self) (λ told. put g here.After-write_at-2 told (named g here.After-write_at told)) (omega (arith, start_low c.args.room c.args.target.slot))
-
-pub returns-clause-outside_stays : goal.returns-clause-outside_stays
-returns-clause-outside_stays g c =
-    let here = goal.at.returns-clause-outside_stays g c in
-    outside_within g.D.Disk.tells c.args.room (start_of c.args.room c.args.target.slot + 1) (15 + c.args.room) (g.D.Disk.shown c.args.disk.now) (g.D.Disk.shown c.sync.new.self) (λ told. settled g here.After-sync told (put g here.After-write_at-2 told (named g here.After-write_at told))) (omega (arith, start_low c.args.room c.args.target.slot))

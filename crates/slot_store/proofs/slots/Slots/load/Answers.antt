@@ -1,69 +1,112 @@
-use Rattle.std.proofs.Common.{◌≡◌, ◌+◌, ℕ, List, [], ◌∷◌, ◌++◌, sym, ◌∙◌, ap, subst, Some, None, Ok, Err, Option, rules}
-use Rattle.std.proofs.lemmas.Result.{err_from_is_err_and}
+use Rattle.std.proofs.Common.{◌≡◌, ◌+◌, ◌≤◌, ℕ, List, [], ◌∷◌, ◌++◌, length, refl, sym, ◌∙◌, ap, subst, Some, None, Ok, Err, Option, IsTrue, arith, rules}
+use Rattle.std.specs.Prelude.{IfSome}
 use Rattle.line_disk.specs.DiskView.{Held, bytes_at}
 use Rattle.slot_store.specs.Crash.{bytes_now}
-use Rattle.slot_store.specs.Layout.{start_of, header_at, newer_header}
-use Rattle.slot_store.specs.Loads.{content_read}
+use Rattle.slot_store.specs.Errors.{error_of}
+use Rattle.slot_store.specs.Layout.{start_of, header_at, is_open, newer_header}
+use Rattle.slot_store.specs.Loads.{HasLoaded, content_read, items_of}
 use Rattle.slot_store.specs.declared.header.Slot.TheVariants.{Zero, One}
-use Rattle.slot_store.proofs.Chosen.{newest}
 use Rattle.line_disk.proofs.Moments.{stays_on, stays_by}
-use Rattle.slot_store.proofs.Loads.{load_unread, load_none, load_content}
+use Rattle.line_disk.proofs.Push.{error_is, error_alone}
+use Rattle.slot_store.proofs.Chosen.{newest, none_newest, open_fits}
+use Rattle.slot_store.proofs.Loads.{load_unread, load_none, load_content, gave_up}
 use Rattle.slot_store.proofs.slots.Slots.load.Goals as goal
 
-pub returns-in_err-read-clause-stays : goal.returns-in_err-read-clause-stays
-returns-in_err-read-clause-stays g c = λ told.
-    let seen = g.D.Disk.shown c.read_headers.new.disk in
-    let now = g.D.Disk.shown c.read.new.self in
-    stays_on (g.D.Disk.shown c.args.self.now.disk.now) seen now (c.read_headers.ensures.stays told) (stays_by seen now (c.read.ensures.stays told) (c.read.ensures.time told))
+pub returns-in_err-zero : goal.returns-in_err-zero
+returns-in_err-zero g c =
+    let old = g.D.Disk.shown c.args.self.now.disk.now in
+    let new = g.D.Disk.shown c.read_headers.new.disk in
+    let error = c.in_err-zero.field-0.0 in
+    let is = error_is c.from_residual.result (error_of error) c.from_residual.ensures.1 in
+    let fails = gave_up c.from_residual.result error old.faults old.faults new.faults is (omega arith) c.in_err-zero.ensures.cause in
+    record {
+      same_disk = refl;
+      same_room = refl;
+      within_room = error_alone c.from_residual.result _ is;
+      saved = error_alone c.from_residual.result _ is;
+      none_saved = λ none. absurd (fails.none_saved none);
+      read = subst (λ r. HasLoaded c.args.self.now.room old new (items_of r)) (sym is) (load_unread c.args.self.now.room old new error c.in_err-zero.ensures.read);
+      stays = c.read_headers.ensures.stays;
+      disk_fault = fails.fault;
+      never_too_long = fails.too_long;
+      faults_stay_or_rise = c.read_headers.ensures.faults_stay_or_rise;
+    }
 
-pub returns-clause-stays : goal.returns-clause-stays
-returns-clause-stays g c = λ told.
-    let seen = g.D.Disk.shown c.read_headers.new.disk in
-    let now = g.D.Disk.shown c.read.new.self in
-    stays_on (g.D.Disk.shown c.args.self.now.disk.now) seen now (c.read_headers.ensures.stays told) (stays_by seen now (c.read.ensures.stays told) (c.read.ensures.time told))
-
-pub returns-clause-saved : goal.returns-clause-saved
-returns-clause-saved g c = λ told.
-    let start = g.D.Disk.shown c.args.self.now.disk.now in
+pub returns-in_default : goal.returns-in_default
+returns-in_default g c =
+    let old = g.D.Disk.shown c.args.self.now.disk.now in
     let room = c.args.self.now.room in
-    let found : newer_header room (header_at (bytes_now start) (start_of room Zero)) (header_at (bytes_now start) (start_of room One)) ≡ Some (c.in-Some.slot, c.in-Some.header) =
-    ap (λ h. newer_header room h (header_at (bytes_now start) (start_of room One))) (sym (c.in_ok-zero.ensures.zero told))
-    ∙ ap (λ h. newer_header room c.in_ok-zero.zero h) (sym (c.in_ok-zero.ensures.one told))
-    ∙ sym c.newer.ensures.newer ∙ c.in-Some.is in
-    newest (bytes_now start) room c.in-Some.slot c.in-Some.header found
-    ∙ ap (λ (h : Held). let v : Option (List ℕ) = Some (bytes_at h.bytes (start_of room c.in-Some.slot + 16) c.in-Some.header.length) in v) (sym (c.read_headers.ensures.stays told).held)
-    ∙ ap (λ i. let v : Option (List ℕ) = Some (bytes_at (bytes_now (g.D.Disk.shown c.read_headers.new.disk)) (i + 16) c.in-Some.header.length) in v) (sym c.start-start.ensures)
-    ∙ ap (λ (xs : List ℕ). Some xs) (sym (c.in_ok-read.ensures.bytes told))
+    let none : newer_header room c.in_ok-zero.zero c.in_ok-zero.one ≡ None = search rules in
+    record {
+      same_disk = refl;
+      same_room = refl;
+      within_room = tt;
+      saved = tt;
+      none_saved = λ is told.
+          none_newest (bytes_now old) room (
+          ap (λ h. newer_header room h (header_at (bytes_now old) (start_of room One))) (sym (c.in_ok-zero.ensures.zero told))
+          ∙ ap (λ h. newer_header room c.in_ok-zero.zero h) (sym (c.in_ok-zero.ensures.one told))
+          ∙ none
+          );
+      read = load_none room old (g.D.Disk.shown c.read_headers.new.disk) c.in_ok-zero.zero c.in_ok-zero.one c.in_ok-zero.ensures.read none;
+      stays = c.read_headers.ensures.stays;
+      disk_fault = λ failed. cc;
+      never_too_long = λ have long. cc;
+      faults_stay_or_rise = c.read_headers.ensures.faults_stay_or_rise;
+    }
 
-pub returns-in_err-zero-clause-read : goal.returns-in_err-zero-clause-read
-returns-in_err-zero-clause-read g c =
-    let old = g.D.Disk.shown c.args.self.now.disk.now in
-    let new = g.D.Disk.shown c.read_headers.new.disk in
-    let p = err_from_is_err_and c.from_residual.result c.from_residual.ensures.1 in
-    rw (p.1, p.2) (load_unread c.args.self.now.room old new c.in_err-zero.field-0.0 c.in_err-zero.ensures.read)
-
-pub returns-in_default-clause-read : goal.returns-in_default-clause-read
-returns-in_default-clause-read g c =
-    let old = g.D.Disk.shown c.args.self.now.disk.now in
-    let new = g.D.Disk.shown c.read_headers.new.disk in
-    let none : newer_header c.args.self.now.room c.in_ok-zero.zero c.in_ok-zero.one ≡ None = search rules in
-    load_none c.args.self.now.room old new c.in_ok-zero.zero c.in_ok-zero.one c.in_ok-zero.ensures.read none
-
-pub returns-in_err-read-clause-read : goal.returns-in_err-read-clause-read
-returns-in_err-read-clause-read g c =
+pub returns-in_err-read : goal.returns-in_err-read
+returns-in_err-read g c =
     let old = g.D.Disk.shown c.args.self.now.disk.now in
     let mid = g.D.Disk.shown c.read_headers.new.disk in
     let new = g.D.Disk.shown c.read.new.self in
+    let result = c.from_residual-in_err-read.result in
     let error = c.in_err-read.field-0.0 in
-    let p = err_from_is_err_and c.from_residual-in_err-read.result c.from_residual-in_err-read.ensures.1 in
+    let is = error_is result (error_of error) c.from_residual-in_err-read.ensures.1 in
+    let fails = gave_up result error old.faults mid.faults new.faults is c.read_headers.ensures.faults_stay_or_rise c.in_err-read.ensures.cause in
     let last = subst (λ (start : ℕ). new.reads ≡ mid.reads ++ content_read start c.in-Some.header (Err error) ∷ []) c.start-start.ensures c.in_err-read.ensures.recorded in
-    rw (p.1, p.2) (load_content c.args.self.now.room old mid new c.in_ok-zero.zero c.in_ok-zero.one c.in-Some.slot c.in-Some.header (Err error) c.in_ok-zero.ensures.read (sym c.newer.ensures.newer ∙ c.in-Some.is) last)
+    record {
+      same_disk = refl;
+      same_room = refl;
+      within_room = error_alone result _ is;
+      saved = error_alone result _ is;
+      none_saved = λ none. absurd (fails.none_saved none);
+      read = subst (λ r. HasLoaded c.args.self.now.room old new (items_of r)) (sym is) (load_content c.args.self.now.room old mid new c.in_ok-zero.zero c.in_ok-zero.one c.in-Some.slot c.in-Some.header (Err error) c.in_ok-zero.ensures.read (sym c.newer.ensures.newer ∙ c.in-Some.is) last);
+      stays = λ told. stays_on old mid new (c.read_headers.ensures.stays told) (stays_by mid new (c.read.ensures.stays told) (c.read.ensures.time told));
+      disk_fault = fails.fault;
+      never_too_long = fails.too_long;
+      faults_stay_or_rise = omega (arith, c.read_headers.ensures.faults_stay_or_rise, c.read.ensures.faults_stay_or_rise);
+    }
 
-pub returns-clause-read : goal.returns-clause-read
-returns-clause-read g c =
+pub returns : goal.returns
+returns g c =
     let old = g.D.Disk.shown c.args.self.now.disk.now in
     let mid = g.D.Disk.shown c.read_headers.new.disk in
     let new = g.D.Disk.shown c.read.new.self in
+    let room = c.args.self.now.room in
+    let slot = c.in-Some.slot in
+    let header = c.in-Some.header in
     let bytes = c.in_ok-read.field-0.items in
-    let last = subst (λ (start : ℕ). new.reads ≡ mid.reads ++ content_read start c.in-Some.header (Ok bytes) ∷ []) c.start-start.ensures c.in_ok-read.ensures.recorded in
-    load_content c.args.self.now.room old mid new c.in_ok-zero.zero c.in_ok-zero.one c.in-Some.slot c.in-Some.header (Ok bytes) c.in_ok-zero.ensures.read (sym c.newer.ensures.newer ∙ c.in-Some.is) last
+    let found = sym c.newer.ensures.newer ∙ c.in-Some.is in
+    let is_opened = subst (λ f. IfSome f (λ found. IsTrue (is_open room found.1))) c.in-Some.is c.newer.ensures.is_open in
+    let last = subst (λ (start : ℕ). new.reads ≡ mid.reads ++ content_read start header (Ok bytes) ∷ []) c.start-start.ensures c.in_ok-read.ensures.recorded in
+    record {
+      same_disk = refl;
+      same_room = refl;
+      within_room = (let fits = open_fits room header is_opened in omega (arith, fits, c.in_ok-read.ensures.count));
+      saved = λ told.
+          newest (bytes_now old) room slot header (
+          ap (λ h. newer_header room h (header_at (bytes_now old) (start_of room One))) (sym (c.in_ok-zero.ensures.zero told))
+          ∙ ap (λ h. newer_header room c.in_ok-zero.zero h) (sym (c.in_ok-zero.ensures.one told))
+          ∙ found
+          )
+          ∙ ap (λ (h : Held). let v : Option (List ℕ) = Some (bytes_at h.bytes (start_of room slot + 16) header.length) in v) (sym (c.read_headers.ensures.stays told).held)
+          ∙ ap (λ i. let v : Option (List ℕ) = Some (bytes_at (bytes_now mid) (i + 16) header.length) in v) (sym c.start-start.ensures)
+          ∙ ap (λ (xs : List ℕ). Some xs) (sym (c.in_ok-read.ensures.bytes told));
+      none_saved = λ none. cc;
+      read = load_content room old mid new c.in_ok-zero.zero c.in_ok-zero.one slot header (Ok bytes) c.in_ok-zero.ensures.read found last;
+      stays = λ told. stays_on old mid new (c.read_headers.ensures.stays told) (stays_by mid new (c.read.ensures.stays told) (c.read.ensures.time told));
+      disk_fault = λ failed. cc;
+      never_too_long = λ have long. cc;
+      faults_stay_or_rise = omega (arith, c.read_headers.ensures.faults_stay_or_rise, c.read.ensures.faults_stay_or_rise);
+    }

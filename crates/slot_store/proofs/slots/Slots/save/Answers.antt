@@ -1,48 +1,45 @@
-use Rattle.slot_store.proofs.Outside.{outside_on}
-use Rattle.slot_store.proofs.Save.{keeps_found, keeps_same, keeps_new}
+use Rattle.std.proofs.Common.{refl, arith}
+use Rattle.line_disk.proofs.Push.{error_is, error_alone}
+use Rattle.slot_store.specs.Errors.{error_of}
+use Rattle.slot_store.proofs.Loads.{gave_up}
 use Rattle.slot_store.proofs.slots.Slots.save.Goals as goal
 
-pub returns-in_err-close_gate-clause-any_moment : goal.returns-in_err-close_gate-clause-any_moment
-returns-in_err-close_gate-clause-any_moment g c = λ told.
-    let found = keeps_found c.args.self.now.room c.args.bytes.now (c.find_target.ensures.any_moment told) in
-    (keeps_same found (c.close_gate.ensures.any_moment told)).leaves
+pub returns-in_err-save_content : goal.returns-in_err-save_content
+returns-in_err-save_content g c =
+    let old = g.D.Disk.shown c.args.self.now.disk.now in
+    let new = g.D.Disk.shown c.save_content.new.disk in
+    let result = c.from_residual.result in
+    let error = c.in_err-save_content.field-0.0 in
+    let is = error_is result (error_of error) c.from_residual.ensures.1 in
+    let saves = c.in_err-save_content.ensures in
+    let fails = gave_up result error old.faults old.faults new.faults is (omega arith) saves.cause in
+    record {
+      same_disk = refl;
+      same_room = refl;
+      any_moment = saves.any_moment;
+      saved = error_alone result _ is;
+      outside_stays = saves.outside_stays;
+      too_long = ((λ long. absurd (fails.too_long _ long)), λ more. absurd (omega arith));
+      have = λ have long. absurd (fails.too_long have long);
+      untouched = λ more. absurd (omega arith);
+      disk_fault = fails.fault;
+      never_none_saved = fails.none_saved;
+      faults_stay_or_rise = saves.faults_stay_or_rise;
+    }
 
-pub returns-in_err-write_content-clause-any_moment : goal.returns-in_err-write_content-clause-any_moment
-returns-in_err-write_content-clause-any_moment g c = λ told.
-    let found = keeps_found c.args.self.now.room c.args.bytes.now (c.find_target.ensures.any_moment told) in
-    let shut = keeps_same found (c.close_gate.ensures.any_moment told) in
-    (keeps_same shut (c.write_content.ensures.any_moment told)).leaves
-
-pub returns-in_err-open_gate-clause-any_moment : goal.returns-in_err-open_gate-clause-any_moment
-returns-in_err-open_gate-clause-any_moment g c = λ told.
-    let found = keeps_found c.args.self.now.room c.args.bytes.now (c.find_target.ensures.any_moment told) in
-    let shut = keeps_same found (c.close_gate.ensures.any_moment told) in
-    let put = keeps_same shut (c.write_content.ensures.any_moment told) in
-    keeps_new put (c.in_ok-write_content.ensures.staged told).content_is (c.open_gate.ensures.any_moment told)
-
-pub returns-clause-any_moment : goal.returns-clause-any_moment
-returns-clause-any_moment g c = λ told.
-    let found = keeps_found c.args.self.now.room c.args.bytes.now (c.find_target.ensures.any_moment told) in
-    let shut = keeps_same found (c.close_gate.ensures.any_moment told) in
-    let put = keeps_same shut (c.write_content.ensures.any_moment told) in
-    keeps_new put (c.in_ok-write_content.ensures.staged told).content_is (c.open_gate.ensures.any_moment told)
-
-pub returns-in_err-close_gate-clause-outside_stays : goal.returns-in_err-close_gate-clause-outside_stays
-returns-in_err-close_gate-clause-outside_stays g c = outside_on g.D.Disk.tells c.args.self.now.room (g.D.Disk.shown c.args.self.now.disk.now) (g.D.Disk.shown c.find_target.new.disk) (g.D.Disk.shown c.close_gate.new.disk) c.find_target.ensures.outside_stays c.close_gate.ensures.outside_stays
-
-pub returns-in_err-write_content-clause-outside_stays : goal.returns-in_err-write_content-clause-outside_stays
-returns-in_err-write_content-clause-outside_stays g c =
-    let shut = outside_on g.D.Disk.tells c.args.self.now.room (g.D.Disk.shown c.args.self.now.disk.now) (g.D.Disk.shown c.find_target.new.disk) (g.D.Disk.shown c.close_gate.new.disk) c.find_target.ensures.outside_stays c.close_gate.ensures.outside_stays in
-    outside_on g.D.Disk.tells c.args.self.now.room (g.D.Disk.shown c.args.self.now.disk.now) (g.D.Disk.shown c.close_gate.new.disk) (g.D.Disk.shown c.write_content.new.disk) shut c.write_content.ensures.outside_stays
-
-pub returns-in_err-open_gate-clause-outside_stays : goal.returns-in_err-open_gate-clause-outside_stays
-returns-in_err-open_gate-clause-outside_stays g c =
-    let shut = outside_on g.D.Disk.tells c.args.self.now.room (g.D.Disk.shown c.args.self.now.disk.now) (g.D.Disk.shown c.find_target.new.disk) (g.D.Disk.shown c.close_gate.new.disk) c.find_target.ensures.outside_stays c.close_gate.ensures.outside_stays in
-    let put = outside_on g.D.Disk.tells c.args.self.now.room (g.D.Disk.shown c.args.self.now.disk.now) (g.D.Disk.shown c.close_gate.new.disk) (g.D.Disk.shown c.write_content.new.disk) shut c.write_content.ensures.outside_stays in
-    outside_on g.D.Disk.tells c.args.self.now.room (g.D.Disk.shown c.args.self.now.disk.now) (g.D.Disk.shown c.write_content.new.disk) (g.D.Disk.shown c.open_gate.new.disk) put c.open_gate.ensures.outside_stays
-
-pub returns-clause-outside_stays : goal.returns-clause-outside_stays
-returns-clause-outside_stays g c =
-    let shut = outside_on g.D.Disk.tells c.args.self.now.room (g.D.Disk.shown c.args.self.now.disk.now) (g.D.Disk.shown c.find_target.new.disk) (g.D.Disk.shown c.close_gate.new.disk) c.find_target.ensures.outside_stays c.close_gate.ensures.outside_stays in
-    let put = outside_on g.D.Disk.tells c.args.self.now.room (g.D.Disk.shown c.args.self.now.disk.now) (g.D.Disk.shown c.close_gate.new.disk) (g.D.Disk.shown c.write_content.new.disk) shut c.write_content.ensures.outside_stays in
-    outside_on g.D.Disk.tells c.args.self.now.room (g.D.Disk.shown c.args.self.now.disk.now) (g.D.Disk.shown c.write_content.new.disk) (g.D.Disk.shown c.open_gate.new.disk) put c.open_gate.ensures.outside_stays
+pub returns : goal.returns
+returns g c =
+    let saves = c.in_ok-save_content.ensures in
+    record {
+      same_disk = refl;
+      same_room = refl;
+      any_moment = saves.any_moment;
+      saved = saves.saved;
+      outside_stays = saves.outside_stays;
+      too_long = ((λ long. cc), λ more. absurd (omega arith));
+      have = λ have long. cc;
+      untouched = λ more. absurd (omega arith);
+      disk_fault = λ failed. cc;
+      never_none_saved = λ none. cc;
+      faults_stay_or_rise = saves.faults_stay_or_rise;
+    }

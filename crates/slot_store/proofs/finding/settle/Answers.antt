@@ -1,6 +1,6 @@
 use Rattle.line_disk.specs.DiskView.{held_now}
 use Rattle.slot_store.proofs.Outside.{synced_bytes}
-use Rattle.slot_store.proofs.target.settle.Goals as goal
+use Rattle.slot_store.proofs.finding.settle.Goals as goal
 
 pub returns-clause-bytes_stay : goal.returns-clause-bytes_stay
 returns-clause-bytes_stay g c =

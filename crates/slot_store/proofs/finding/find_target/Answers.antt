@@ -1,0 +1,69 @@
+use Rattle.std.proofs.Common.{◌≡◌, sym, ◌∙◌, ap, subst, IsTrue, arith}
+use Rattle.line_disk.specs.DiskView.{Held}
+use Rattle.slot_store.specs.Layout.{start_of, header_at, newer_header, target_by}
+use Rattle.slot_store.specs.Crash.{IsSettled, IsTarget, TellsGate, bytes_now}
+use Rattle.slot_store.specs.declared.header.Slot.TheVariants.{Zero, One}
+use Rattle.line_disk.proofs.Moments.{leaves_stay}
+use Rattle.line_disk.proofs.Push.{error_is, error_alone, same_error}
+use Rattle.slot_store.proofs.Chosen.{chosen, gate_told}
+use Rattle.slot_store.proofs.finding.find_target.Goals as goal
+
+pub returns-in_err-settle : goal.returns-in_err-settle
+returns-in_err-settle g c =
+    let result = c.from_residual.result in
+    let is = error_is result c.in_err-settle.field-0.0 c.from_residual.ensures.1 in
+    let settle = c.in_err-settle.ensures in
+    record {
+      outside_stays = λ told i behind. settle.bytes_stay told i;
+      any_moment = settle.any_moment;
+      ready = error_alone result _ is;
+      gate = error_alone result _ is;
+      cause = λ failed. settle.cause (same_error c.in_err-settle.field-0.0 _ (sym is ∙ failed));
+      faults_stay_or_rise = settle.faults_stay_or_rise;
+    }
+
+pub returns-in_err-zero : goal.returns-in_err-zero
+returns-in_err-zero g c =
+    let result = c.from_residual-in_err-zero.result in
+    let is = error_is result c.in_err-zero.field-0.0 c.from_residual-in_err-zero.ensures.1 in
+    let settle = c.settle.ensures in
+    let read = c.read_headers.ensures in
+    record {
+      outside_stays = λ told i behind. ap (λ (h : Held). h.bytes i) (read.stays told).held ∙ settle.bytes_stay told i;
+      any_moment = λ told. leaves_stay (g.D.Disk.shown c.args.disk.now) (g.D.Disk.shown c.settle.new.disk) (g.D.Disk.shown c.read_headers.new.disk) (settle.any_moment told) (read.stays told);
+      ready = error_alone result _ is;
+      gate = error_alone result _ is;
+      cause = λ failed.
+          let rose = c.in_err-zero.ensures.cause (same_error c.in_err-zero.field-0.0 _ (sym is ∙ failed)) in
+          omega (arith, rose, settle.faults_stay_or_rise);
+      faults_stay_or_rise = omega (arith, settle.faults_stay_or_rise, read.faults_stay_or_rise);
+    }
+
+pub returns : goal.returns
+returns g c =
+    let settled = g.D.Disk.shown c.settle.new.disk in
+    let settle = c.settle.ensures in
+    let read = c.read_headers.ensures in
+    let room = c.args.room in
+    let zero = header_at (bytes_now settled) (start_of room Zero) in
+    let one = header_at (bytes_now settled) (start_of room One) in
+    let target = λ (told : IsTrue g.D.Disk.tells).
+    c.target_of.ensures
+    ∙ ap (λ h. target_by (newer_header room h c.in_ok-zero.one) h c.in_ok-zero.one) (c.in_ok-zero.ensures.zero told)
+    ∙ ap (λ h. target_by (newer_header room zero h) zero h) (c.in_ok-zero.ensures.one told) in
+    record {
+      outside_stays = λ told i behind. ap (λ (h : Held). h.bytes i) (read.stays told).held ∙ settle.bytes_stay told i;
+      any_moment = λ told. leaves_stay (g.D.Disk.shown c.args.disk.now) settled (g.D.Disk.shown c.read_headers.new.disk) (settle.any_moment told) (read.stays told);
+      ready = λ told.
+          let same = sym (read.stays told).held in
+          let is : IsTarget (bytes_now settled) room c.target_of.result = subst (λ t. IsTarget (bytes_now settled) room t) (sym (target told)) (chosen (bytes_now settled) room) in
+          record {
+            settled = subst (λ (h : Held). IsSettled h) same (c.in_ok-settle.ensures.settled told);
+            target_is = subst (λ (h : Held). IsTarget h.bytes room c.target_of.result) same is;
+          };
+      gate = λ told.
+          let told_of : TellsGate (bytes_now settled) room c.target_of.result = subst (λ t. TellsGate (bytes_now settled) room t) (sym (target told)) (gate_told (bytes_now settled) room (newer_header room zero one)) in
+          subst (λ (h : Held). TellsGate h.bytes room c.target_of.result) (sym (read.stays told).held) told_of;
+      cause = λ failed. cc;
+      faults_stay_or_rise = omega (arith, settle.faults_stay_or_rise, read.faults_stay_or_rise);
+    }

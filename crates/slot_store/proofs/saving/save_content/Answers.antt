@@ -1,0 +1,35 @@
+use Rattle.std.proofs.Common.{arith}
+use Rattle.line_disk.proofs.Push.{error_is}
+use Rattle.slot_store.proofs.Save.{saves_found, saves_same, saves_not, saves_last}
+use Rattle.slot_store.proofs.saving.save_content.Goals as goal
+
+pub returns-in_err-target : goal.returns-in_err-target
+returns-in_err-target g c =
+    let error = c.in_err-target.field-0.0 in
+    saves_not c.from_residual.result error (g.D.Disk.shown c.args.disk.now).faults (error_is c.from_residual.result error c.from_residual.ensures.1) (omega arith) c.in_err-target.ensures.cause
+    (saves_found c.args.bytes.now c.find_target.ensures.any_moment c.find_target.ensures.outside_stays c.find_target.ensures.faults_stay_or_rise)
+
+pub returns-in_err-close_gate : goal.returns-in_err-close_gate
+returns-in_err-close_gate g c =
+    let found = saves_found c.args.bytes.now c.find_target.ensures.any_moment c.find_target.ensures.outside_stays c.find_target.ensures.faults_stay_or_rise in
+    let error = c.in_err-close_gate.field-0.0 in
+    let is = error_is c.from_residual-in_err-close_gate.result error c.from_residual-in_err-close_gate.ensures.1 in
+    saves_not c.from_residual-in_err-close_gate.result error (g.D.Disk.shown c.find_target.new.disk).faults is found.later c.in_err-close_gate.ensures.cause
+    (saves_same found c.close_gate.ensures.harmless c.close_gate.ensures.faults_stay_or_rise)
+
+pub returns-in_err-write_content : goal.returns-in_err-write_content
+returns-in_err-write_content g c =
+    let found = saves_found c.args.bytes.now c.find_target.ensures.any_moment c.find_target.ensures.outside_stays c.find_target.ensures.faults_stay_or_rise in
+    let shut = saves_same found c.close_gate.ensures.harmless c.close_gate.ensures.faults_stay_or_rise in
+    let error = c.in_err-write_content.field-0.0 in
+    let is = error_is c.from_residual-in_err-write_content.result error c.from_residual-in_err-write_content.ensures.1 in
+    saves_not c.from_residual-in_err-write_content.result error (g.D.Disk.shown c.close_gate.new.disk).faults is shut.later c.in_err-write_content.ensures.cause
+    (saves_same shut c.write_content.ensures.harmless c.write_content.ensures.faults_stay_or_rise)
+
+pub returns : goal.returns
+returns g c =
+    let found = saves_found c.args.bytes.now c.find_target.ensures.any_moment c.find_target.ensures.outside_stays c.find_target.ensures.faults_stay_or_rise in
+    let shut = saves_same found c.close_gate.ensures.harmless c.close_gate.ensures.faults_stay_or_rise in
+    let put = saves_same shut c.write_content.ensures.harmless c.write_content.ensures.faults_stay_or_rise in
+    let last = c.open_gate.ensures in
+    saves_last c.open_gate.result put (λ told. (c.in_ok-write_content.ensures.staged told).content_is) last.any_moment last.saved last.outside_stays last.cause last.faults_stay_or_rise
