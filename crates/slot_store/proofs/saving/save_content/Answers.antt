@@ -1,7 +1,36 @@
-use Rattle.std.proofs.Common.{arith}
+use Rattle.std.proofs.Common.{◌≤◌, List, ℕ, length, refl, sym, ap, ◌∙◌, subst, arith}
 use Rattle.line_disk.proofs.Push.{error_is}
 use Rattle.slot_store.proofs.Save.{saves_found, saves_same, saves_not, saves_last}
 use Rattle.slot_store.proofs.saving.save_content.Goals as goal
+
+pub close_gate-requires : goal.close_gate-requires
+close_gate-requires g c = record {
+  room = c.requires.room;
+  ready = c.in_ok-target.ensures.ready;
+  gate = c.in_ok-target.ensures.gate;
+}
+
+pub write_content-requires : goal.write_content-requires
+write_content-requires g c = record {
+  room = c.requires.room;
+  fits = c.requires.fits;
+  ready = c.in_ok-close_gate.ensures.ready;
+  closed = c.in_ok-close_gate.ensures.closed;
+}
+
+pub open_gate-requires : goal.open_gate-requires
+open_gate-requires g c =
+    let staged = c.in_ok-write_content.ensures.staged in
+    record {
+      room = c.requires.room;
+      ready = c.in_ok-write_content.ensures.ready;
+      staged = λ told. record {
+        number_is = (staged told).number_is;
+        length_is = (staged told).length_is ∙ ap (λ (xs : List ℕ). length xs) (sym (staged told).content_is);
+        content_is = refl;
+      };
+      fits = λ told. subst (λ (xs : List ℕ). length xs ≤ c.args.room) (sym (staged told).content_is) c.requires.fits;
+    }
 
 pub returns-in_err-target : goal.returns-in_err-target
 returns-in_err-target g c =
