@@ -1,33 +1,28 @@
-use Rattle.std.proofs.Common.{◌≡◌, ◌+◌, map, ap, ◌∙◌, arith}
-use Rattle.std.specs.List.{range_with_len}
+use Rattle.std.proofs.Common.{◌≡◌, ◌+◌, refl, ap, ◌∙◌, arith}
 use Rattle.event_graph.specs.Network.{jobs, demand}
-use Rattle.what_if.proofs.Made.{made_more}
+use Rattle.what_if.proofs.Made.{values, made_none, made_room, made_more}
 use Rattle.what_if.specs.Edited.{inputs_of}
 use Rattle.what_if.proofs.copies.demands_of.Goals as goal
 
 pub loop-n-init : goal.loop-n-init
-loop-n-init c = record {
-  made = c.in_ok-dates.ensures.items;
-  count = c.in_ok-dates.ensures.len;
-  room = c.in_ok-dates.ensures.capacity;
-}
+loop-n-init c =
+    let made = c.in_ok-dates.ensures in
+    made_none (values (demand c.args.graph.now) 1) c.jobs-jobs.result _ refl made.items made.len made.capacity
 
 pub demand-requires-clause-job : goal.demand-requires-clause-job
 demand-requires-clause-job c = omega (arith, c.loop-n-test.true, c.jobs-jobs.ensures.count)
 
 pub push_reserved-requires : goal.push_reserved-requires
-push_reserved-requires c = omega (arith, c.loop-n.invariant.count, c.loop-n.invariant.room, c.loop-n-test.true)
+push_reserved-requires c =
+    made_room (values (demand c.args.graph.now) 1) c.jobs-jobs.result _ _ c.loop-n.invariant c.loop-n-test.true
 
 pub loop-n-preserved : goal.loop-n-preserved
-loop-n-preserved c = record {
-  made = made_more (demand c.args.graph.now) 1 c.loop-n.n (c.loop-n.n + 1) _ _ _ c.push_reserved.ensures.items c.loop-n.invariant.made c.demand.ensures.date (omega arith);
-  count = omega (arith, c.push_reserved.ensures.len, c.loop-n.invariant.count);
-  room = omega (arith, c.push_reserved.ensures.capacity, c.loop-n.invariant.room);
-}
+loop-n-preserved c =
+    let pushed = c.push_reserved.ensures in
+    made_more (demand c.args.graph.now) 1 c.jobs-jobs.result c.loop-n.n (c.loop-n.n + 1) _ _ _ (omega arith) c.demand.ensures.date c.loop-n.invariant pushed.items pushed.len pushed.capacity
 
 pub returns : goal.returns
 unfolding inputs_of
 returns c =
-    let g = c.args.graph.now in
-    let all : c.loop-n.n ≡ jobs g = omega (arith, c.loop-n-test.false, c.loop-n.auto.n-end, c.jobs-jobs.ensures.count) in
-    c.from_vec.ensures ∙ c.loop-n.invariant.made ∙ ap (λ k. map (demand g) (range_with_len 1 k)) all
+    let all : c.loop-n.n ≡ jobs c.args.graph.now = omega (arith, c.loop-n-test.false, c.loop-n.auto.n-end, c.jobs-jobs.ensures.count) in
+    c.from_vec.ensures ∙ c.loop-n.invariant.items ∙ ap (values (demand c.args.graph.now) 1) all

@@ -1,32 +1,26 @@
-use Rattle.std.proofs.Common.{◌≤◌, ◌<◌, length, ap, ◌∙◌, arith}
-use Rattle.std.proofs.lemmas.List.{take_all}
+use Rattle.std.proofs.Common.{◌≤◌, ◌<◌, length, refl, ap, arith}
 use Rattle.event_graph.specs.Network.{stations}
-use Rattle.what_if.proofs.Made.{taken_more}
+use Rattle.what_if.proofs.Made.{copied, made_none, made_room, copied_more, copied_all}
 use Rattle.what_if.proofs.copies.ranks_of.Goals as goal
 
 pub loop-t-init : goal.loop-t-init
-loop-t-init c = record {
-  made = c.in_ok-ranks.ensures.items;
-  count = c.in_ok-ranks.ensures.len;
-  room = c.in_ok-ranks.ensures.capacity;
-}
+loop-t-init c =
+    let made = c.in_ok-ranks.ensures in
+    made_none (copied c.args.live.now.ranks) c.stations-stations.result _ refl made.items made.len made.capacity
 
 pub push_reserved-requires : goal.push_reserved-requires
-push_reserved-requires c = omega (arith, c.loop-t.invariant.count, c.loop-t.invariant.room, c.loop-t-test.true)
+push_reserved-requires c =
+    made_room (copied c.args.live.now.ranks) c.stations-stations.result _ _ c.loop-t.invariant c.loop-t-test.true
 
 pub loop-t-preserved : goal.loop-t-preserved
 loop-t-preserved c =
     let ranks = c.args.live.now.ranks in
-    let t = c.loop-t.t in
-    let there : t < length ranks = omega (arith, c.loop-t-test.true, c.stations-stations.ensures.count, ap stations c.graph.ensures.graph, c.graph.ensures.ranked.upward.place_for_each) in
-    record {
-      made = taken_more ranks t 0 _ _ _ c.push_reserved.ensures.items c.loop-t.invariant.made c.place_of.ensures.rank there;
-      count = omega (arith, c.push_reserved.ensures.len, c.loop-t.invariant.count);
-      room = omega (arith, c.push_reserved.ensures.capacity, c.loop-t.invariant.room);
-    }
+    let there : c.loop-t.t < length ranks = omega (arith, c.loop-t-test.true, c.stations-stations.ensures.count, ap stations c.graph.ensures.graph, c.graph.ensures.ranked.upward.place_for_each) in
+    let pushed = c.push_reserved.ensures in
+    copied_more ranks c.stations-stations.result c.loop-t.t 0 _ _ _ there c.place_of.ensures.rank c.loop-t.invariant pushed.items pushed.len pushed.capacity
 
 pub returns : goal.returns
 returns c =
     let ranks = c.args.live.now.ranks in
-    let all : length ranks ≤ c.loop-t.t = omega (arith, c.loop-t-test.false, c.stations-stations.ensures.count, ap stations c.graph.ensures.graph, c.graph.ensures.ranked.upward.place_for_each) in
-    c.loop-t.invariant.made ∙ take_all c.loop-t.t ranks all
+    let over : length ranks ≤ c.loop-t.t = omega (arith, c.loop-t-test.false, c.stations-stations.ensures.count, ap stations c.graph.ensures.graph, c.graph.ensures.ranked.upward.place_for_each) in
+    copied_all ranks c.stations-stations.result c.loop-t.t _ over c.loop-t.invariant
