@@ -9,9 +9,14 @@ use Rattle.plant_model.specs.declared.plant.Plant.{Plant}
 use Rattle.plant_model.specs.Stages.{Stage}
 use Rattle.plant_model.specs.Line.{stage_at, no_stage}
 use Rattle.event_graph.specs.Table.{Table}
+use Rattle.line_io.specs.Outgoing.{Stream, Pushed}
 pub use Rattle.line_io.proofs.OutgoingLemmas.{text_written}
 use Rattle.line_stats.specs.Counts.{in_process, in_move, in_stock}
 use Rattle.line_report.specs.ReportText.{line, stage_line}
+
+-- the lines of the first few numbers are written
+abbrev pub AreWritten : (ℕ → List ℕ) → ℕ → Stream → Stream → Type 0
+AreWritten line count old new = Pushed old new (flat_map line (range_with_len 0 count))
 
 -- the lines of numbers from a on, and the next line
 pub lines_more : (f : ℕ → List ℕ) (a n j : ℕ) → a + n ≡ j → flat_map f (range_with_len a (n + 1)) ≡ flat_map f (range_with_len a n) ++ f j

@@ -92,6 +92,12 @@ module _ (g : Parts) (x : Table) where
       ∙ ap (λ l. numbered_lines g x from (next - from) ++ l) (job_lines-numbered (next / jobs g) (next % jobs g) n next within (div-add-mod' next (jobs g)))
       ∙ numbered-append from (next - from) n next (next + n - from) (omega arith) (omega arith)
 
+  -- and those that were added, where the jobs of a station were counted
+  pub numbered-added : (from next n count : ℕ) (old new : List ℕ) → count ≡ jobs g → 0 < jobs g → from ≤ next → n ≤ count - next % count → new ≡ old ++ job_lines g x (next / count) (next % count) n → old ≡ numbered_lines g x from (next - from) → new ≡ numbered_lines g x from (next + n - from)
+  numbered-added from next n count old new is some begun few added lines =
+      let least : next % jobs g < jobs g = mod-lt next some in
+      (rw is at added) ∙ numbered-next from next n old begun (omega (arith, least, rw is at few)) lines
+
   -- one more job
   pub job_lines-more : (t before n : ℕ) → job_lines g x t before (n + 1) ≡ job_lines g x t before n ++ date_line g x t (before + n + 1)
   unfolding job_lines

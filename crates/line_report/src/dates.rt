@@ -115,9 +115,8 @@ fn fill_portions<R: Threads + Sync>(
     );
 }
 
-/// Writes the lines from number `from` on and below number `to`, which threads format first.
-fn write_round<R: Threads + Sync, K: Sink>(
-    rt: &R,
+/// Writes the lines from number `from` on and below number `to`: of each portion its share, and then the others.
+fn write_portions<K: Sink>(
     out: &mut Outgoing,
     sink: &mut K,
     graph: &Graph,
@@ -125,19 +124,17 @@ fn write_round<R: Threads + Sync, K: Sink>(
     from: u32,
     to: u32,
     each: u32,
-    portions: &mut [Portion],
+    portions: &[Portion],
 )
     requires of_graph { table.now.graph ≡ graph.now }
     requires ordered { from ≤ to }
     requires within { to ≤ stations graph.now * jobs graph.now }
-    requires some { 0 < length portions.old }
-    ensures number { length portions.new ≡ length portions.old }
-    ensures lines { Pushed (stream (K.shown sink.old) out.old)
+    requires shares { HaveShares graph.now (date_in table.now.rows) from to each portions.now }
+    ensures { Pushed (stream (K.shown sink.old) out.old)
         (stream (K.shown sink.new) out.new) (numbered_lines graph.now (date_in table.now.rows) from (to - from)) }
 {
-    fill_portions(rt, graph, table, from, to, each, portions);
     let mut next = from;
-    for portion in portions.iter() {
+    for portion in portions {
         let end = share_end(next, to, each);
         write_portion(out, sink, graph, table, portion, next, end);
         next = end;
@@ -181,7 +178,8 @@ pub fn write_dates<R: Threads + Sync, K: Sink>(
     let mut next = 0;
     while next < lines {
         let end = share_end(next, lines, round);
-        write_round(rt, out, sink, graph, table, next, end, each, portions);
+        fill_portions(rt, graph, table, next, end, each, portions);
+        write_portions(out, sink, graph, table, next, end, each, portions);
         next = end;
     }
 }

@@ -15,5 +15,5 @@ mod words;
 
 pub use laws::schedules_agree;
 pub use report::Report;
-pub use totals::write_bound;
+pub use totals::write_peak_end;
 pub use words::{write_number_behind, write_number_line};

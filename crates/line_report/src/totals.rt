@@ -1,6 +1,6 @@
 //! What is said of a whole run: the peak of each stage, how long the jobs wait, and the last date.
 ghost use Rattle.std.specs.List.{flat_map};
-ghost use Rattle.std.specs.Prelude.{◌≡◌, ◌<◌, ◌++◌, length};
+ghost use Rattle.std.specs.Prelude.{◌≡◌, ◌<◌, ◌++◌, codes, decimal, length};
 ghost use Rattle.event_graph.specs.Table.{date_in};
 ghost use Rattle.line_io.specs.Outgoing.{Pushed, stream};
 ghost use Rattle.line_report.specs.ReportText.{bound_word, peak_line, waiting_line, last_line, end_lines};
@@ -16,7 +16,7 @@ use line_stats::{last, peak, waiting_total};
 use plant_model::bound_of;
 
 /// Writes the bound of a stage, or that it has none.
-pub fn write_bound<K: Sink>(out: &mut Outgoing, sink: &mut K, bound: Option<u32>)
+fn write_bound<K: Sink>(out: &mut Outgoing, sink: &mut K, bound: Option<u32>)
     ensures { Pushed (stream (K.shown sink.old) out.old)
         (stream (K.shown sink.new) out.new) (bound_word bound) }
 {
@@ -24,6 +24,23 @@ pub fn write_bound<K: Sink>(out: &mut Outgoing, sink: &mut K, bound: Option<u32>
         Some(number) => out.push_number(sink, number as u64),
         None => out.push(sink, b"none"),
     }
+}
+
+/// Writes how the line of a stage ends: words, the most parts that are ever in it, and its bound.
+pub fn write_peak_end<K: Sink>(
+    out: &mut Outgoing,
+    sink: &mut K,
+    words: &[u8],
+    most: u32,
+    bound: Option<u32>,
+)
+    ensures { Pushed (stream (K.shown sink.old) out.old) (stream (K.shown sink.new) out.new)
+        ((words.now ++ decimal most) ++ (codes " of " ++ (bound_word bound ++ codes "\n"))) }
+{
+    write_number_behind(out, sink, words, most as u64);
+    out.push(sink, b" of ");
+    write_bound(out, sink, bound);
+    out.push(sink, b"\n");
 }
 
 /// Writes the most parts that are ever in a stage, and its bound.
@@ -36,15 +53,8 @@ fn write_peak<K: Sink>(out: &mut Outgoing, sink: &mut K, run: &FinishedRun, stag
     let part = &run.plant.stages.as_slice()[stage as usize];
     out.push(sink, b"peak ");
     out.push(sink, part.name.text());
-    write_number_behind(
-        out,
-        sink,
-        b" ",
-        peak(&run.plant, &run.numbers, &run.table, stage) as u64,
-    );
-    out.push(sink, b" of ");
-    write_bound(out, sink, bound_of(&run.plant, stage));
-    out.push(sink, b"\n");
+    let most = peak(&run.plant, &run.numbers, &run.table, stage);
+    write_peak_end(out, sink, b" ", most, bound_of(&run.plant, stage));
 }
 
 /// Writes the peaks of all stages, in order.

@@ -11,18 +11,19 @@ loop-next-init g c = record {
   lines = pushed-no_lines c.args.graph.now (date_in c.args.table.now.rows) 0 0 refl;
 }
 
+pub fill_portions-requires-clause-some : goal.fill_portions-requires-clause-some
+fill_portions-requires-clause-some g c = omega (arith, c.requires.some, c.loop-next.invariant.number)
+
 pub loop-next-preserved : goal.loop-next-preserved
 loop-next-preserved g c =
-    let before = c.loop-next.invariant in
     let next = c.loop-next.next in
-    let end = c.share_end-end.result in
-    let is = c.share_end-end.ensures in
+    let end = c.share_end-end in
     record {
-      within = omega (arith, is);
-      number = c.write_round.ensures.number ∙ before.number;
+      within = omega (arith, end.ensures);
+      number = c.fill_portions.ensures.number ∙ c.loop-next.invariant.number;
       lines =
-          pushed-more_lines c.args.graph.now (date_in c.args.table.now.rows) 0 next next (end - next) end
-          (omega arith) (omega (arith, is, before.within)) before.lines c.write_round.ensures.lines;
+          pushed-more_lines c.args.graph.now (date_in c.args.table.now.rows) 0 next next (end.result - next) end.result
+          (omega arith) (omega (arith, end.ensures, c.loop-next.invariant.within)) c.loop-next.invariant.lines c.write_portions.ensures;
     }
 
 pub returns-clause-lines : goal.returns-clause-lines

@@ -1,8 +1,6 @@
-use Rattle.std.proofs.Common.{◌-◌, ◌%◌, ◌<◌, refl, sym, ◌∙◌, arith}
-use Rattle.std.proofs.Math.Nat.{mod-lt}
-use Rattle.event_graph.specs.Network.{jobs}
+use Rattle.std.proofs.Common.{◌-◌, refl, sym, arith}
 use Rattle.event_graph.specs.Table.{date_in}
-use Rattle.line_report.proofs.Portions.{numbered-none, numbered-next, station_there, job_there}
+use Rattle.line_report.proofs.Portions.{numbered-none, numbered-added, station_there, job_there}
 use Rattle.line_report.proofs.portion.write_lines.Goals as goal
 use Rattle.line_report.proofs.portion.write_lines.Goals.{else-loop-next-test, then-loop-next-test+then-added-count}
 
@@ -17,20 +15,17 @@ loop-next-init c = record {
 
 pub loop-next-preserved : goal.loop-next-preserved
 loop-next-preserved c =
-    let g = c.args.graph.now in
-    let x = date_in c.args.table.now.rows in
     let before = c.loop-next.invariant in
-    let next = c.loop-next.next in
     let added = c.write_jobs-added in
-    let count = c.jobs-jobs.ensures.count in
-    let least : next % jobs g < jobs g = mod-lt next (omega (arith, c.jobs-jobs.ensures.limits.some_job)) in
-    let lines = rw count at added.ensures.lines in
     record {
       begun = omega (arith, before.begun);
       within = omega (arith, c.min-count.ensures, added.ensures.few, before.within);
       room = omega (arith, added.ensures.end, added.auto.room);
       size = omega (arith, added.auto.room, before.size);
-      lines = lines ∙ numbered-next g x c.args.from next added.result.count _ before.begun (omega (arith, least, rw count at c.min-count.ensures, added.ensures.few)) before.lines;
+      lines =
+          numbered-added c.args.graph.now (date_in c.args.table.now.rows) c.args.from c.loop-next.next added.result.count c.jobs-jobs.result _ _
+          c.jobs-jobs.ensures.count c.jobs-jobs.ensures.limits.some_job before.begun
+          (omega (arith, c.min-count.ensures, added.ensures.few)) added.ensures.lines before.lines;
     }
 
 pub write_jobs-added-requires-clause-station : goal.write_jobs-added-requires-clause-station
@@ -46,14 +41,8 @@ pub returns-clause-lines : goal.returns-clause-lines
 returns-clause-lines c = elim c.loop-next-test.branch [
   | else-loop-next-test w ↦ rw (w.room-is, w.end-is, w.next-is) c.loop-next.invariant.lines
   | then-loop-next-test+then-added-count w ↦
-      let g = c.args.graph.now in
-      let x = date_in c.args.table.now.rows in
-      let before = c.loop-next.invariant in
-      let next = c.loop-next.next in
-      let added = w.write_jobs-added in
-      let count = c.jobs-jobs.ensures.count in
-      let least : next % jobs g < jobs g = mod-lt next (omega (arith, c.jobs-jobs.ensures.limits.some_job)) in
-      let lines = rw count at added.ensures.lines in
       rw (w.room-is, w.end-is, w.next-is)
-      (lines ∙ numbered-next g x c.args.from next added.result.count _ before.begun (omega (arith, least, rw count at w.min-count.ensures, added.ensures.few)) before.lines)
+      (numbered-added c.args.graph.now (date_in c.args.table.now.rows) c.args.from c.loop-next.next w.write_jobs-added.result.count c.jobs-jobs.result _ _
+      c.jobs-jobs.ensures.count c.jobs-jobs.ensures.limits.some_job c.loop-next.invariant.begun
+      (omega (arith, w.min-count.ensures, w.write_jobs-added.ensures.few)) w.write_jobs-added.ensures.lines c.loop-next.invariant.lines)
 ]

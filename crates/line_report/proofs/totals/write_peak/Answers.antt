@@ -13,7 +13,5 @@ returns g c =
     stage_read plant c.args.stage c.as_slice.result.now c.index-as_slice-stage.result c.as_slice.ensures c.requires.exists c.index-as_slice-stage.is
     in
     let name = rw c.text.ensures.text at c.push-2.ensures in
-    let peak = rw c.peak.ensures.peak at c.write_number_behind.ensures in
-    let bound = rw c.bound_of.ensures.bound at c.write_bound.ensures in
-    rw (← read)
-    (c.push.ensures ⨟ name ⨟ peak ⨟ c.push-3.ensures ⨟ bound ⨟ c.push-4.ensures)
+    let end = rw (c.peak-most.ensures.peak, c.bound_of.ensures.bound) at c.write_peak_end.ensures in
+    rw (← read) (c.push.ensures ⨟ name ⨟ end)

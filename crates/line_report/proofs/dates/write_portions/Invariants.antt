@@ -2,7 +2,7 @@ use Rattle.std.proofs.Common.{◌≡◌, ◌-◌, ◌≤◌}
 use Rattle.line_io.specs.Outgoing.{Pushed, stream}
 use Rattle.event_graph.specs.Table.{date_in}
 use Rattle.line_report.specs.Portions.{numbered_lines, share_start}
-use Rattle.line_report.proofs.dates.write_round.Given as goal
+use Rattle.line_report.proofs.dates.write_portions.Given as goal
 
 -- the shares before are written
 abbrev pub invariant-loop-portion : goal.invariant-loop-portion
