@@ -1,9 +1,9 @@
 -- Texts that are made of one line after another.
-use Rattle.std.proofs.Common.{◌≡◌, ℕ, ◌+◌, ◌<◌, Bool, true, false, List, [], ◌∷◌, ◌++◌, length, get_or, sym, ap, ◌∙◌, refl, ◌≤◌, map-id}
+use Rattle.std.proofs.Common.{◌≡◌, ℕ, ◌+◌, ◌<◌, Bool, true, false, List, [], ◌∷◌, ◌++◌, length, get_or, take, drop, sym, ap, ◌∙◌, refl, ◌≤◌, map-id, arith}
 use Rattle.std.specs.List.{flat_map, range_with_len}
 use Rattle.std.specs.Prelude.{codes, decimal, nat_lt, if◌then◌else◌}
 use Rattle.std.proofs.lemmas.Bool.{lt-ltb, le-ltb}
-use Rattle.std.proofs.lemmas.List.{flat_map_more, get_or_read}
+use Rattle.std.proofs.lemmas.List.{flat_map_more, get_or_read, take-append-le, take_all}
 use Rattle.std.proofs.lemmas.List.FromFn.{map-range_with_len_more}
 use Rattle.plant_model.specs.declared.plant.Plant.{Plant}
 use Rattle.plant_model.specs.Stages.{Stage}
@@ -23,6 +23,11 @@ pub lines_more : (f : ℕ → List ℕ) (a n j : ℕ) → a + n ≡ j → flat_m
 lines_more f a n j at =
     ap (flat_map f) (sym (map-id _) ∙ map-range_with_len_more (λ k. k) a n j at ∙ ap (λ l. l ++ j ∷ []) (map-id _))
     ∙ sym (flat_map_more f [] (range_with_len a n) j)
+
+-- as many values as were lent take their place
+pub given_back : {X : Type 0} (count : ℕ) (new lent : List X) → length new ≡ count → take count (new ++ drop (length new) lent) ≡ new
+given_back count new lent same =
+    take-append-le count new (drop (length new) lent) (omega (arith, same)) ∙ take_all count new (omega (arith, same))
 
 -- the element that was read at a number
 pub stage_read : (p : Plant) (i : ℕ) (stages : List Stage) (s : Stage) → stages ≡ p.stages → i < length p.stages → s ≡ get_or stages i s → s ≡ stage_at p i

@@ -121,10 +121,10 @@ fn write_portions<K: Sink>(
     sink: &mut K,
     graph: &Graph,
     table: &Table,
+    portions: &[Portion],
+    each: u32,
     from: u32,
     to: u32,
-    each: u32,
-    portions: &[Portion],
 )
     requires of_graph { table.now.graph ≡ graph.now }
     requires ordered { from ≤ to }
@@ -179,7 +179,7 @@ pub fn write_dates<R: Threads + Sync, K: Sink>(
     while next < lines {
         let end = share_end(next, lines, round);
         fill_portions(rt, graph, table, next, end, each, portions);
-        write_portions(out, sink, graph, table, next, end, each, portions);
+        write_portions(out, sink, graph, table, portions, each, next, end);
         next = end;
     }
 }

@@ -1,8 +1,9 @@
-use Rattle.std.proofs.Common.{subst, arith}
+use Rattle.std.proofs.Common.{◌≡◌, length, vec_len, subst, arith}
 use Rattle.line_base.specs.declared.event.Parts.{Parts}
 use Rattle.line_core.specs.Run.{IsLeastTable}
 use Rattle.line_report.specs.Reported.{IsReported}
 use Rattle.line_io.proofs.OutgoingLemmas.{text_written}
+use Rattle.line_report.proofs.Lines.{given_back}
 use Rattle.line_report.proofs.report.Report.write.Goals as goal
 
 pub write_text-requires-clause-run : goal.write_text-requires-clause-run
@@ -24,3 +25,9 @@ returns-clause-stays g c =
       same = c.self.view_is;
       least = subst IsReported c.self.view_is (record { sound = of_plant.sound; least = least });
     }
+
+pub invariant_of-self : goal.invariant_of-self
+invariant_of-self g c =
+    let before = c.self.invariant in
+    let number : length c.write_text.new.portions ≡ vec_len c.self.inside.portions = omega (arith, c.write_text.ensures.number, c.deref_mut.ensures.len) in
+    (before.0, before.1, c.finish.ensures.as_new, before.3, rw (given_back _ _ c.self.inside.portions.items number) (omega (arith, before.4, number, c.self.inside.portions.ok.0)))
