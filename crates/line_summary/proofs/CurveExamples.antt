@@ -14,16 +14,11 @@ use Rattle.line_summary.specs.Waits.{most_wait, worst_job}
 use Rattle.line_summary.specs.CurveText.{too_few_row, dead_row, figures_row, rows_from}
 use Rattle.line_summary.specs.declared.point.Point.TheVariants.{TooFew, Dead, Alive}
 
--- its dates with two cards at each stage
+-- its dates with two cards at each stage, where both stages release and the last delivers at the same dates
 abbrev with_two : List (List ℕ)
 with_two =
-    (0 ∷ 2 ∷ 4 ∷ [])
-    ∷ (0 ∷ 2 ∷ 5 ∷ [])
-    ∷ (3 ∷ 6 ∷ 9 ∷ [])
-    ∷ (0 ∷ 2 ∷ 5 ∷ [])
-    ∷ (5 ∷ 10 ∷ 15 ∷ [])
-    ∷ (0 ∷ 2 ∷ 5 ∷ [])
-    ∷ []
+    let released = 0 ∷ 2 ∷ 5 ∷ [] in
+    (0 ∷ 2 ∷ 4 ∷ []) ∷ released ∷ (3 ∷ 6 ∷ 9 ∷ []) ∷ released ∷ (5 ∷ 10 ∷ 15 ∷ []) ∷ released ∷ []
 
 rows :
     rows_from 0 (Dead ∷ Alive (figures (sized kanban_line 1) (date_in kanban_dates)) ∷ Alive (figures (sized kanban_line 2) (date_in with_two)) ∷ [])

@@ -1,6 +1,5 @@
 -- Where a curve ends early, what was put is a prefix of the rows of all its counts.
-use Rattle.std.proofs.Common.{◌≡◌, ℕ, ◌+◌, ◌≤◌, true, List, [], ◌∷◌, ◌++◌, length, Result, OnErr, IfErr, refl, sym, ap, ◌∙◌, append_assoc, append-nil, arith}
-use Rattle.std.proofs.lemmas.Result.{IfErr-weaker}
+use Rattle.std.proofs.Common.{◌≡◌, ℕ, ◌+◌, ◌≤◌, true, List, [], ◌∷◌, ◌++◌, length, refl, sym, ap, ◌∙◌, append_assoc, append-nil, arith}
 use Rattle.line_base.specs.Limits.{most_cards}
 use Rattle.plant_model.specs.declared.plant.Plant.{Plant}
 use Rattle.plant_model.specs.Sound.{IsSound}
@@ -44,6 +43,6 @@ module _ (p : Plant) (sound : IsSound p) (single : has_single_count p ≡ true) 
   early_prefix c count old new Failed within early =
       prefix_of_all c count old new early.points within early.few early.each early.puts
 
-  pub prefix_on_err : {T : Type 0} (c count : ℕ) (old new : SinkView) (r : Result T CurveError) → c + count ≤ most_cards + 1 → IfErr r (EndsEarly p c count old new) → OnErr r (PutsPrefixOfCurve p c count old new)
-  prefix_on_err c count old new r within early =
-      IfErr-weaker r (EndsEarly p c count old new) (λ e. PutsPrefixOfCurve p c count old new) (λ e is. early_prefix c count old new e within is) early
+  -- what ends early, with the prefix that it leaves
+  pub ends_early : (c count : ℕ) (old new : SinkView) (error : CurveError) → c + count ≤ most_cards + 1 → EndsEarly p c count old new error → EndsEarly p c count old new error × PutsPrefixOfCurve p c count old new
+  ends_early c count old new error within early = (early, early_prefix c count old new error within early)

@@ -25,14 +25,18 @@ rows_from-append c d (x ∷ xs) ys at =
     ap (λ l. row_of c x ++ l) (rows_from-append (c + 1) d xs ys (omega arith)) ∙ sym (append_assoc (row_of c x) (rows_from (c + 1) xs) (rows_from d ys))
 
 -- no row was put
-pub no_rows : (p : Plant) (c : ℕ) (v : SinkView) → PutsRows p c 0 v v
-no_rows p c v = record {
+pub no_rows : (p : Plant) (c n : ℕ) (v : SinkView) → n ≡ 0 → PutsRows p c n v v
+no_rows p c n v none = record {
   points = [];
-  number = refl;
+  number = sym none;
   each = tt;
   puts = puts_none v.written;
   faults_stay_or_rise = omega arith;
 }
+
+-- and memory ran out
+pub none_put : (p : Plant) (c count : ℕ) (v : SinkView) → 0 < count → EndsEarly p c count v v NoMemory
+none_put p c count v some = record { done = 0; fewer = some; rows = no_rows p c 0 v refl }
 
 -- one row was put
 pub one_row : (p : Plant) (c : ℕ) (point : Point) (old new : SinkView) → IsPoint p c point → PutsAll old new (row_of c point) → old.faults ≤ new.faults → PutsRows p c 1 old new
@@ -57,18 +61,15 @@ rows_after p c d n m all old between new at sum first later =
       faults_stay_or_rise = omega (arith, first.faults_stay_or_rise, later.faults_stay_or_rise);
     }
 
--- a prefix of a row was put, after rows
-pub row_cut : (p : Plant) (c d n all : ℕ) (point : Point) (old between new : SinkView) → c + n ≡ d → n + 1 ≤ all → PutsRows p c n old between → IsPoint p d point → PutsPrefix between new (row_of d point) → Rose between.faults new.faults → PutsPrefixOfRows p c all old new
-row_cut p c d n all point old between new at few first is front rose =
-    let here : c + length first.points ≡ d = omega (arith, first.number) in
-    record {
-      points = first.points ++ point ∷ [];
-      few = omega (arith, length-append first.points (point ∷ []), first.number);
-      each = points-append p c d first.points (point ∷ []) here first.each (is, tt);
-      puts = rw (rows_from-append c d first.points (point ∷ []) here, append-nil)
-          (puts_front_after old.written between.written new.written (rows_from c first.points) (row_of d point) first.puts front);
-      cause = rose_after old.faults between.faults new.faults first.faults_stay_or_rise rose;
-    }
+-- a prefix of one row was put
+pub one_cut : (p : Plant) (c : ℕ) (point : Point) (old new : SinkView) → IsPoint p c point → PutsPrefix old new (row_of c point) → Rose old.faults new.faults → PutsPrefixOfRows p c 1 old new
+one_cut p c point old new is front rose = record {
+  points = point ∷ [];
+  few = omega arith;
+  each = (is, tt);
+  puts = rw append-nil front;
+  cause = rose;
+}
 
 -- rows that end early, after rows
 pub early_after : (p : Plant) (c d n m all : ℕ) (old between new : SinkView) (error : CurveError) → c + n ≡ d → n + m ≤ all → PutsRows p c n old between → EndsEarly p d m between new error → EndsEarly p c all old new error
@@ -79,13 +80,16 @@ early_after p c d n m all old between new NoMemory at few first early = record {
 }
 early_after p c d n m all old between new Failed at few first early =
     let here : c + length first.points ≡ d = omega (arith, first.number) in
+    let points = first.points ++ early.points in
+    let most : length points ≤ all = omega (arith, length-append first.points early.points, first.number, early.few) in
+    let rose = rose_after old.faults between.faults new.faults first.faults_stay_or_rise early.cause in
     record {
-      points = first.points ++ early.points;
-      few = omega (arith, length-append first.points early.points, first.number, early.few);
+      points = points;
+      few = most;
       each = points-append p c d first.points early.points here first.each early.each;
       puts = rw (rows_from-append c d first.points early.points here)
           (puts_front_after old.written between.written new.written (rows_from c first.points) (rows_from d early.points) first.puts early.puts);
-      cause = rose_after old.faults between.faults new.faults first.faults_stay_or_rise early.cause;
+      cause = rose;
     }
 
 -- what was found of a count is its point

@@ -150,38 +150,6 @@ fn write_block<R: Threads + Sync, K: Sink>(
     Ok(())
 }
 
-/// Writes the rows of the counts from `from` to `to`, block by block.
-fn write_blocks<R: Threads + Sync, K: Sink>(
-    rt: &R,
-    alloc: Global,
-    plant: &Plant,
-    from: u32,
-    to: u32,
-    workers: u32,
-    sink: &mut K,
-) -> Result<(), CurveError>
-    requires sound { IsSound plant.now }
-    requires single { has_single_count plant.now ≡ true }
-    requires ordered { from ≤ to }
-    requires within { to ≤ most_cards }
-    requires workers { 1 ≤ workers }
-    ensures rows { OnOk result (PutsRows plant.now from (to + 1 - from)
-        (K.shown sink.old) (K.shown sink.new)) }
-    ensures early { IfErr result (EndsEarly plant.now from (to + 1 - from)
-        (K.shown sink.old) (K.shown sink.new)) }
-{
-    let least = lowest_count(alloc, plant)?;
-    let mut out = Outgoing::new(alloc)?;
-    let most = block_size(plant, workers);
-    let mut next = from;
-    while next <= to {
-        let size = most.min(to + 1 - next);
-        write_block(rt, alloc, plant, least, next, size, workers, &mut out, sink)?;
-        next += size;
-    }
-    Ok(())
-}
-
 /// Writes a row for each count of cards from `from` to `to`: what the plant gives with this many cards at each stage, or
 /// for the line under CONWIP. The counts are shared among at most `workers` threads, and the text doesn't depend on how
 /// many these are. They go in blocks, and the rows of a block are put, each to its end, before the next is begun. No
@@ -208,5 +176,14 @@ pub fn write_curve<R: Threads + Sync, K: Sink>(
         (K.shown sink.old) (K.shown sink.new)) }
 {
     keep_memory(alloc);
-    write_blocks(rt, alloc, plant, from, to, workers, sink)
+    let least = lowest_count(alloc, plant)?;
+    let mut out = Outgoing::new(alloc)?;
+    let most = block_size(plant, workers);
+    let mut next = from;
+    while next <= to {
+        let size = most.min(to + 1 - next);
+        write_block(rt, alloc, plant, least, next, size, workers, &mut out, sink)?;
+        next += size;
+    }
+    Ok(())
 }

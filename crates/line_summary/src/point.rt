@@ -89,5 +89,8 @@ fn figures_of(alloc: Global, plant: &Plant, live: &Live) -> Result<Figures, Allo
     let numbers = LineNumbers::of(alloc, plant)?;
     let end = run(alloc, live)?;
     let table = end.into_table(live);
-    Ok(Figures::of(plant, &numbers, &table))
+    let figures = Figures::of(plant, &numbers, &table);
+    drop(table);
+    drop(numbers);
+    Ok(figures)
 }

@@ -1,32 +1,22 @@
 //! The rows of a curve.
-ghost use Rattle.std.specs.Prelude.{◌≡◌, false};
+ghost use Rattle.std.specs.Prelude.{◌≡◌, ◌++◌, codes, decimal, false};
 ghost use Rattle.line_io.specs.Outgoing.{Pushed, stream, emptied};
 ghost use Rattle.line_io.specs.SinkView.{WritesText};
-ghost use Rattle.line_summary.specs.CurveText.{too_few_row, dead_row, figures_row, row_of};
+ghost use Rattle.line_summary.specs.CurveText.{figures_row, row_of};
 
 use crate::figures::Figures;
 use crate::point::Point;
-use crate::thousandths::push_thousandths;
+use crate::thousandths::write_ratio;
 use line_io::{Failed, Outgoing, Sink};
+use line_report::write_number_behind;
 
-/// Writes that this many cards are fewer than the stock needs.
-fn push_too_few<K: Sink>(out: &mut Outgoing, sink: &mut K, count: u32)
+/// Writes a row of this many cards without figures, and why there are none.
+fn push_reason<K: Sink>(out: &mut Outgoing, sink: &mut K, count: u32, reason: &[u8])
     ensures { Pushed (stream (K.shown sink.old) out.old)
-        (stream (K.shown sink.new) out.new) (too_few_row count) }
+        (stream (K.shown sink.new) out.new) ((codes "cards " ++ decimal count) ++ reason.now) }
 {
-    out.push(sink, b"cards ");
-    out.push_number(sink, count as u64);
-    out.push(sink, b" too few\n");
-}
-
-/// Writes that the line isn't live with this many cards.
-fn push_dead<K: Sink>(out: &mut Outgoing, sink: &mut K, count: u32)
-    ensures { Pushed (stream (K.shown sink.old) out.old)
-        (stream (K.shown sink.new) out.new) (dead_row count) }
-{
-    out.push(sink, b"cards ");
-    out.push_number(sink, count as u64);
-    out.push(sink, b" dead\n");
+    write_number_behind(out, sink, b"cards ", count as u64);
+    out.push(sink, reason);
 }
 
 /// Writes the figures of the line with this many cards.
@@ -34,23 +24,14 @@ fn push_figures<K: Sink>(out: &mut Outgoing, sink: &mut K, count: u32, figures: 
     ensures { Pushed (stream (K.shown sink.old) out.old)
         (stream (K.shown sink.new) out.new) (figures_row count figures.now) }
 {
-    out.push(sink, b"cards ");
-    out.push_number(sink, count as u64);
-    out.push(sink, b" last ");
-    out.push_number(sink, figures.last);
-    out.push(sink, b" throughput ");
-    push_thousandths(
-        out,
-        sink,
-        u128::from(figures.jobs),
-        u128::from(figures.last),
-    );
-    out.push(sink, b" wait mean ");
-    push_thousandths(out, sink, figures.waited, u128::from(figures.jobs));
-    out.push(sink, b" most ");
-    out.push_number(sink, figures.most);
-    out.push(sink, b" wip mean ");
-    push_thousandths(out, sink, figures.parts, u128::from(figures.last));
+    let jobs = u128::from(figures.jobs);
+    let last = u128::from(figures.last);
+    write_number_behind(out, sink, b"cards ", count as u64);
+    write_number_behind(out, sink, b" last ", figures.last);
+    write_ratio(out, sink, b" throughput ", jobs, last);
+    write_ratio(out, sink, b" wait mean ", figures.waited, jobs);
+    write_number_behind(out, sink, b" most ", figures.most);
+    write_ratio(out, sink, b" wip mean ", figures.parts, last);
     out.push(sink, b"\n");
 }
 
@@ -60,8 +41,8 @@ fn push_row<K: Sink>(out: &mut Outgoing, sink: &mut K, count: u32, point: &Point
         (stream (K.shown sink.new) out.new) (row_of count point.now) }
 {
     match point {
-        Point::TooFew => push_too_few(out, sink, count),
-        Point::Dead => push_dead(out, sink, count),
+        Point::TooFew => push_reason(out, sink, count, b" too few\n"),
+        Point::Dead => push_reason(out, sink, count, b" dead\n"),
         Point::Alive { figures } => push_figures(out, sink, count, figures),
     }
 }

@@ -1,23 +1,23 @@
 //! The lines of a summary.
 ghost use Rattle.std.specs.List.{flat_map, range_with_len};
-ghost use Rattle.std.specs.Prelude.{◌≡◌, ◌<◌, ◌++◌, ◌^◌, length, slice_index_or};
+ghost use Rattle.std.specs.Prelude.{◌≡◌, ◌<◌, ◌++◌, length, slice_index_or};
 ghost use Rattle.event_graph.specs.Table.{date_in};
 ghost use Rattle.line_io.specs.Outgoing.{Pushed, stream};
 ghost use Rattle.line_summary.specs.Machines.{label_of};
 ghost use Rattle.line_summary.specs.Summarized.{IsRead};
-ghost use Rattle.line_summary.specs.SummaryText.{job_lines, wait_line, percentile_line, at_once_line, backlog_line, parts_line, head_lines, mean_words, stage_line, machine_line, busiest_line, summary_text};
+ghost use Rattle.line_summary.specs.SummaryText.{job_lines, wait_line, percentile_line, at_once_line, backlog_line, parts_line, head_lines, stage_line, machine_line, busiest_line, summary_text};
 ghost use Rattle.plant_model.specs.Line.{stage_at, machine_at, no_machine, stage_numbers};
 
 use crate::figures::Figures;
 use crate::machines::{MachineUse, busiest};
 use crate::percentiles::Percentiles;
 use crate::stages::{stage_count, stage_sums};
-use crate::thousandths::push_thousandths;
+use crate::thousandths::write_ratio;
 use crate::waits::most_backlog;
 use line_base::Date;
 use line_core::Table;
 use line_io::{Outgoing, Sink};
-use line_report::{write_bound, write_number_behind, write_number_line};
+use line_report::{write_number_behind, write_number_line, write_peak_end};
 use line_stats::peak;
 use plant_model::{LineNumbers, Machine, Plant, bound_of};
 
@@ -32,16 +32,6 @@ pub struct Reading {
     pub percentiles: Percentiles,
     /// Its machines, in order.
     pub uses: Vec<MachineUse>,
-}
-
-/// Writes words, and a ratio behind them.
-fn write_ratio<K: Sink>(out: &mut Outgoing, sink: &mut K, words: &[u8], part: u128, whole: u128)
-    requires { whole < 2 ^ 100 }
-    ensures { Pushed (stream (K.shown sink.old) out.old)
-        (stream (K.shown sink.new) out.new) (mean_words words.now part whole) }
-{
-    out.push(sink, words);
-    push_thousandths(out, sink, part, whole);
 }
 
 /// Writes how many jobs there are, the last date, and the throughput.
@@ -66,8 +56,8 @@ fn write_waits<K: Sink>(out: &mut Outgoing, sink: &mut K, figures: &Figures)
     ensures { Pushed (stream (K.shown sink.old) out.old) (stream (K.shown sink.new) out.new)
         (wait_line figures.now.waited figures.now.jobs figures.now.most figures.now.worst) }
 {
-    out.push(sink, b"wait mean ");
-    push_thousandths(out, sink, figures.waited, u128::from(figures.jobs));
+    let jobs = u128::from(figures.jobs);
+    write_ratio(out, sink, b"wait mean ", figures.waited, jobs);
     write_number_behind(out, sink, b" most ", figures.most);
     write_number_behind(out, sink, b" job ", figures.worst as u64);
     out.push(sink, b"\n");
@@ -145,15 +135,8 @@ fn write_stage<K: Sink>(out: &mut Outgoing, sink: &mut K, line: &Reading, stage:
     write_ratio(out, sink, b" process ", sums.process, u128::from(last));
     write_ratio(out, sink, b" move ", sums.moving, u128::from(last));
     write_ratio(out, sink, b" stock ", sums.stock, u128::from(last));
-    write_number_behind(
-        out,
-        sink,
-        b" peak ",
-        peak(&line.plant, &line.numbers, &line.table, stage) as u64,
-    );
-    out.push(sink, b" of ");
-    write_bound(out, sink, bound_of(&line.plant, stage));
-    out.push(sink, b"\n");
+    let most = peak(&line.plant, &line.numbers, &line.table, stage);
+    write_peak_end(out, sink, b" peak ", most, bound_of(&line.plant, stage));
 }
 
 /// Writes the lines of all stages, in order.

@@ -1,5 +1,6 @@
 ghost use Rattle.std.specs.Prelude.{◌≡◌, ◌<◌, ◌^◌};
 ghost use Rattle.line_io.specs.Outgoing.{Pushed, stream};
+ghost use Rattle.line_summary.specs.SummaryText.{mean_words};
 ghost use Rattle.line_summary.specs.Thousandths.{three_digits, thousandths};
 
 use line_io::{Outgoing, Sink};
@@ -31,4 +32,14 @@ pub fn push_thousandths<K: Sink>(out: &mut Outgoing, sink: &mut K, part: u128, w
     out.push_wide_number(sink, part / whole + nearest / 1000);
     out.push(sink, b".");
     push_three_digits(out, sink, (nearest % 1000) as u64);
+}
+
+/// Writes words, and a ratio behind them.
+pub fn write_ratio<K: Sink>(out: &mut Outgoing, sink: &mut K, words: &[u8], part: u128, whole: u128)
+    requires { whole < 2 ^ 100 }
+    ensures { Pushed (stream (K.shown sink.old) out.old)
+        (stream (K.shown sink.new) out.new) (mean_words words.now part whole) }
+{
+    out.push(sink, words);
+    push_thousandths(out, sink, part, whole);
 }

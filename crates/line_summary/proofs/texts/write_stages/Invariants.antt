@@ -1,12 +1,10 @@
-use Rattle.std.specs.List.{flat_map, range_with_len}
-use Rattle.line_io.specs.Outgoing.{Pushed, stream}
+use Rattle.line_io.specs.Outgoing.{stream}
 use Rattle.event_graph.specs.Table.{date_in}
+use Rattle.line_report.proofs.Lines.{AreWritten}
 use Rattle.line_summary.specs.SummaryText.{stage_line}
 use Rattle.line_summary.proofs.texts.write_stages.Given as goal
 
 -- the lines of the stages before are written
 abbrev pub invariant-loop-stage : goal.invariant-loop-stage
 invariant-loop-stage g l =
-    Pushed (stream (g.K.Sink.shown l.initial.sink) l.initial.out)
-    (stream (g.K.Sink.shown l.sink) l.out)
-    (flat_map (stage_line l.line.plant (date_in l.line.table.rows)) (range_with_len 0 l.stage))
+    AreWritten (stage_line l.line.plant (date_in l.line.table.rows)) l.stage (stream (g.K.Sink.shown l.initial.sink) l.initial.out) (stream (g.K.Sink.shown l.sink) l.out)

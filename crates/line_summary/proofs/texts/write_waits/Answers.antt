@@ -5,5 +5,5 @@ use Rattle.line_summary.proofs.texts.write_waits.Goals as goal
 pub returns : goal.returns
 unfolding wait_line
 returns g c =
-    let ratio = rw c.from.ensures at c.push_thousandths.ensures in
-    c.push.ensures ⨟ ratio ⨟ c.write_number_behind.ensures ⨟ c.write_number_behind-2.ensures ⨟ c.push-2.ensures
+    let ratio = rw c.from-jobs.ensures at c.write_ratio.ensures in
+    ratio ⨟ c.write_number_behind.ensures ⨟ c.write_number_behind-2.ensures ⨟ c.push.ensures

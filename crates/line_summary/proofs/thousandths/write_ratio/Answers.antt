@@ -1,5 +1,5 @@
 use Rattle.line_io.proofs.OutgoingLemmas.{◌⨟◌}
-use Rattle.line_summary.proofs.texts.write_ratio.Goals as goal
+use Rattle.line_summary.proofs.thousandths.write_ratio.Goals as goal
 
 pub returns : goal.returns
 returns g c = c.push.ensures ⨟ c.push_thousandths.ensures

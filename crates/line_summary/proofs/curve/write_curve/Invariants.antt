@@ -1,7 +1,7 @@
 use Rattle.std.proofs.Common.{◌≡◌, ◌+◌, ◌-◌, ◌≤◌, false}
 use Rattle.line_io.specs.Outgoing.{emptied}
 use Rattle.line_summary.specs.Curve.{PutsRows}
-use Rattle.line_summary.proofs.curve.write_blocks.Given as goal
+use Rattle.line_summary.proofs.curve.write_curve.Given as goal
 
 -- the rows of the counts before are put, each to its end
 abbrev pub invariant-loop-next : goal.invariant-loop-next
