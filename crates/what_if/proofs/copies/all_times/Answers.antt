@@ -16,8 +16,8 @@ push_reserved-requires c =
 
 pub loop-t-preserved : goal.loop-t-preserved
 loop-t-preserved c =
-    let pushed = c.push_reserved.ensures in
-    made_more (times_of c.args.graph.now) 0 c.stations-stations.result c.loop-t.t c.loop-t.t _ _ _ (omega arith) c.in_ok-times_of.ensures c.loop-t.invariant pushed.items pushed.len pushed.capacity
+    made_more (times_of c.args.graph.now) 0 c.stations-stations.result c.loop-t.t c.loop-t.t _ _ _ (omega arith) c.in_ok-times_of.ensures
+    c.loop-t.invariant c.push_reserved.ensures.items c.push_reserved.ensures.len c.push_reserved.ensures.capacity
 
 pub returns : goal.returns
 unfolding inputs_of
