@@ -143,16 +143,16 @@ module _ (p : Plant) (counts : List ℕ) (sound : IsSound p) (has : has_stage_co
         some_stage = omega (arith, n, of.some_stage);
         few_stages = omega (arith, n, of.few_stages);
         few_stations = subst (λ (n : ℕ). n ≤ most_stations) stations of.few_stations;
-        some_demand = of.some_demand;
-        few_demands = of.few_demands;
+        some_demand = facts.sizes.some_demand;
+        few_demands = facts.sizes.few_demands;
         small_table = subst (λ (n : ℕ). n * length p.demands ≤ most_dates) stations of.small_table;
-        few_observed = of.few_observed;
-        few_loops = of.few_loops;
-        short_card_time = of.short_card_time;
-        few_line_cards = of.few_line_cards;
-        early_demands = of.early_demands;
-        ordered_demands = of.ordered_demands;
-        early_observed = of.early_observed;
+        few_observed = facts.sizes.few_observed;
+        few_loops = facts.sizes.few_loops;
+        short_card_time = facts.sizes.short_card_time;
+        few_line_cards = facts.sizes.few_line_cards;
+        early_demands = facts.sizes.early_demands;
+        ordered_demands = facts.sizes.ordered_demands;
+        early_observed = facts.sizes.early_observed;
       }
 
   enough-under : (policy : Policy) → p.policy ≡ policy → (i : ℕ) → i < length p.stages → policy ≡ Extended → (stage_at p i).stock ≤ get_or counts i 0

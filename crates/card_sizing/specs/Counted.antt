@@ -60,6 +60,12 @@ pub record IsLeastCount (p : Plant) (may : ℕ) (counts : List ℕ) (i c : ℕ) 
   pub none : (d : ℕ) → d < c → ¬ ServeEach p may (with_count counts i d)
   pub no_more : c ≤ slice_index counts i
 
+-- the counts with that of stage i lowered to the least with which the line is in time, the others as they stood
+pub record IsLowered (p : Plant) (may : ℕ) (old : List ℕ) (i : ℕ) (new : List ℕ) : Type 0 where
+  pub count : ℕ
+  pub least : IsLeastCount p may old i count
+  pub lowered : new ≡ with_count old i count
+
 -- the stages from number `from` on have no less count with which the line is in time, the others as they stand
 abbrev pub NoneServesLessFrom : Plant → ℕ → List ℕ → ℕ → Type 0
 NoneServesLessFrom p may counts from =

@@ -12,7 +12,7 @@ ghost use Rattle.plant_model.specs.Graph.{graph};
 ghost use Rattle.plant_model.specs.Sound.{IsSound};
 
 use crate::each::EachSizing;
-use crate::lowering::{lowered, total_of, with_reasons};
+use crate::lowering::{lower_each, total_of, with_reasons};
 use crate::lowest::{has_single_count, has_stage_counts, highest_count, lowest_count};
 use crate::sizing::{Below, Sizing, SizingError};
 use crate::trying::try_count;
@@ -137,9 +137,11 @@ pub fn least_each(alloc: Global, plant: &Plant, wait: u64) -> Result<EachSizing,
         Err(refusal) => return Err(refusal),
     };
     let mut tries = start.tries;
-    let counts = lowered(alloc, plant, wait, start.cards, &mut tries)?;
-    let stages = with_reasons(alloc, plant, wait, counts.as_slice(), &mut tries)?;
-    let total = total_of(plant, counts.as_slice());
+    let mut counts = vec![in alloc; start.cards; plant.stages.len()]?;
+    lower_each(alloc, plant, wait, counts.as_mut_slice(), &mut tries)?;
+    let lowered = counts.as_slice();
+    let stages = with_reasons(alloc, plant, wait, lowered, &mut tries)?;
+    let total = total_of(plant, lowered);
     Ok(EachSizing {
         stages,
         total,

@@ -1,8 +1,7 @@
 //! What lowering the counts of the stages takes: one stage after the other, and why none can have one less.
 ghost use Rattle.std.specs.Prelude.{◌≡◌, ◌+◌, ◌*◌, ◌<◌, ◌≤◌, true, map, sum, length, IfOk, OnOk};
-ghost use Rattle.card_sizing.specs.Counted.{has_stage_counts, least_at, counted, AreCounts, ServeEach, with_count, IsLeastCount, NoneServesLess};
+ghost use Rattle.card_sizing.specs.Counted.{has_stage_counts, least_at, counted, AreCounts, ServeEach, with_count, IsLowered, NoneServesLess};
 ghost use Rattle.card_sizing.specs.Each.{counts_of, names_of, IsBelowAt, HaveReasons};
-ghost use Rattle.card_sizing.specs.Serving.{Serves};
 ghost use Rattle.card_sizing.specs.Trying.{Tells};
 ghost use Rattle.line_base.specs.Limits.{most_cards};
 ghost use Rattle.plant_model.specs.Sound.{IsSound};
@@ -16,47 +15,44 @@ use line_base::Items;
 use plant_model::Plant;
 use std::alloc::{AllocError, Global};
 
-/// Counts that serve, of which no one can be less, the others as they stand.
-pub fn lowered(
+/// Lowers counts that serve until no one can be less, the others as they stand.
+pub fn lower_each(
     alloc: Global,
     plant: &Plant,
     may: u64,
-    start: u32,
+    counts: &mut [u32],
     tries: &mut u32,
-) -> Result<Vec<u32>, AllocError>
+) -> Result<(), AllocError>
     requires sound { IsSound plant.now }
     requires counts { has_stage_counts plant.now ≡ true }
-    requires serves { Serves plant.now may start }
+    requires serves { ServeEach plant.now may counts.old }
     requires few_tries { tries.old ≤ 15 }
-    ensures serves { IfOk result (λ counts. ServeEach plant.now may counts.items) }
-    ensures least { IfOk result (λ counts. NoneServesLess plant.now may counts.items) }
+    ensures serves { OnOk result (ServeEach plant.now may counts.new) }
+    ensures least { OnOk result (NoneServesLess plant.now may counts.new) }
     ensures counted { OnOk result (tries.new ≤ tries.old + 14 * length plant.now.stages) }
 {
     let stages = plant.stages.len();
-    let mut counts = vec![in alloc; start; stages]?;
     for done in 0..stages {
-        let stage = stages - 1 - done;
-        let least = lower(alloc, plant, may, counts.as_slice(), stage, tries)?;
-        counts[stage] = least;
+        lower(alloc, plant, may, counts, stages - 1 - done, tries)?;
     }
-    Ok(counts)
+    Ok(())
 }
 
-/// The least count of a stage with which the line is in time, the others as they stand.
+/// Lowers the count of a stage to the least with which the line is in time, the others as they stand.
 fn lower(
     alloc: Global,
     plant: &Plant,
     may: u64,
-    counts: &[u32],
+    counts: &mut [u32],
     stage: usize,
     tries: &mut u32,
-) -> Result<u32, AllocError>
+) -> Result<(), AllocError>
     requires sound { IsSound plant.now }
     requires counts { has_stage_counts plant.now ≡ true }
-    requires serves { ServeEach plant.now may counts.now }
+    requires serves { ServeEach plant.now may counts.old }
     requires stage { stage < length plant.now.stages }
     requires few_tries { tries.old < 980 }
-    ensures least { IfOk result (IsLeastCount plant.now may counts.now stage) }
+    ensures least { OnOk result (IsLowered plant.now may counts.old stage counts.new) }
     ensures counted { OnOk result (tries.new ≤ tries.old + 14) }
 {
     let mut low = least_count(plant, stage);
@@ -71,7 +67,8 @@ fn lower(
             }
         }
     }
-    Ok(high)
+    counts[stage] = high;
+    Ok(())
 }
 
 /// Why the line isn't in time with `count` cards at a stage, the others as they stand; `None` where it is. It counts as

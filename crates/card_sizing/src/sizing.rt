@@ -5,17 +5,6 @@ ghost use Rattle.card_sizing.specs.declared.sizing.SizingError.{SizingError};
 use line_base::{Items, Label};
 use std::alloc::AllocError;
 
-/// The least count of cards that serves, and why one less doesn't.
-#[derive(Drop)]
-pub struct Sizing {
-    /// How many cards each stage has under kanban and extended kanban, and the line under CONWIP.
-    pub cards: u32,
-    /// Why it can't be one less.
-    pub below: Below,
-    /// How many counts were tried.
-    pub tries: u32,
-}
-
 /// Why a count of cards can't be one less.
 #[derive(Drop)]
 pub enum Below {
@@ -27,6 +16,17 @@ pub enum Below {
     /// With one less the line isn't live: these are the labels of the stations along a circuit without a token, from
     /// the station with the least number on.
     Dead { labels: Items<Label> },
+}
+
+/// The least count of cards that serves, and why one less doesn't.
+#[derive(Drop)]
+pub struct Sizing {
+    /// How many cards each stage has under kanban and extended kanban, and the line under CONWIP.
+    pub cards: u32,
+    /// Why it can't be one less.
+    pub below: Below,
+    /// How many counts were tried.
+    pub tries: u32,
 }
 
 /// Why there is no count of cards to answer.

@@ -66,16 +66,8 @@ returns-in_ok-halve-in-None c =
     let single = sym c.has_single_count.ensures ∙ c.if-not-has_single_count.false in
     let found = c.in_ok-halve-in-None.field-0 in
     let told = c.in_ok-halve-in-None.ensures in
-    record {
-      serves = told.serves;
-      least = told.least;
-      below = told.below;
-      few_tries = told.few_tries;
-      halved = told.halved;
-      refused = tt;
-      no_single_count = told_some found _ single;
-      most_serve = serves_more c.args.plant.now c.requires.sound single c.args.wait found.cards MAX_CARDS told.serves told.serves.within (omega arith);
-    }
+    let most = serves_more c.args.plant.now c.requires.sound single c.args.wait found.cards MAX_CARDS told.serves told.serves.within (omega arith) in
+    record { serves = told.serves; least = told.least; below = told.below; few_tries = told.few_tries; halved = told.halved; refused = tt; no_single_count = told_some found _ single; most_serve = most }
 
 pub returns-in-Job : goal.returns-in-Job
 returns-in-Job c =
@@ -84,13 +76,5 @@ returns-in-Job c =
     let fails = rw c.in-Some.is at c.in_ok-try_count.ensures.told in
     let late = rw c.in-Job.is at fails in
     let at_highest = subst (λ (h : ℕ). IsLate (sized p h) c.args.wait c.in-Job.job c.in-Job.wait) c.highest_count-highest.ensures late in
-    record {
-      serves = tt;
-      least = tt;
-      below = tt;
-      few_tries = tt;
-      halved = tt;
-      refused = (single, highest_late p c.requires.sound single c.args.wait c.in-Job.job c.in-Job.wait at_highest);
-      no_single_count = told_late c.in-Job.job c.in-Job.wait _ single;
-      most_serve = tt;
-    }
+    let refused = highest_late p c.requires.sound single c.args.wait c.in-Job.job c.in-Job.wait at_highest in
+    record { serves = tt; least = tt; below = tt; few_tries = tt; halved = tt; refused = (single, refused); no_single_count = told_late c.in-Job.job c.in-Job.wait _ single; most_serve = tt }

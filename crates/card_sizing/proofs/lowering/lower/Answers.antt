@@ -54,7 +54,11 @@ try_counts-requires-clause-few c = omega (arith, c.loop-low.invariant.search.no_
 pub returns-clause-least : goal.returns-clause-least
 returns-clause-least c =
     let search = c.loop-low.invariant.search in
-    record { serves = search.serves; none = λ d low. search.none d (omega (arith, low, c.loop-low-test.false)); no_more = search.no_more }
+    record {
+      count = c.loop-low.high;
+      least = record { serves = search.serves; none = λ d low. search.none d (omega (arith, low, c.loop-low-test.false)); no_more = search.no_more };
+      lowered = refl;
+    }
 
 pub returns-clause-counted : goal.returns-clause-counted
 returns-clause-counted c = omega (arith, c.loop-low.invariant.tries.all)

@@ -1,5 +1,5 @@
 use Rattle.std.proofs.Common.{◌≡◌, ℕ, ◌+◌, ◌<◌, List, [], ◌∷◌, ◌++◌, length, get_or, map, sym, ap, ◌∙◌, subst, arith}
-use Rattle.std.proofs.lemmas.List.{length-map, length-take, take_all}
+use Rattle.std.proofs.lemmas.List.{take_all}
 use Rattle.std.proofs.lemmas.Result.{err_from_is_err_and}
 use Rattle.plant_model.proofs.SoundPlants.{HasSoundSizes-sound}
 use Rattle.plant_model.specs.Stages.{Stage}
@@ -11,6 +11,13 @@ use Rattle.card_sizing.proofs.lowering.with_reasons.Goals as goal
 pub reason_of-requires-clause-few_tries : goal.reason_of-requires-clause-few_tries
 reason_of-requires-clause-few_tries c =
     omega (arith, c.loop-i.invariant.tries, c.requires.few_tries, c.loop-i-test.true, ap (λ (ss : List Stage). length ss) c.as_slice-stages.ensures, (HasSoundSizes-sound c.args.plant.now c.requires.sound).few_stages)
+
+pub bounds-counts-i : goal.bounds-counts-i
+bounds-counts-i c =
+    omega (arith, c.loop-i-test.true, ap (λ (ss : List Stage). length ss) c.as_slice-stages.ensures, c.requires.fit.number)
+
+pub push_reserved-requires : goal.push_reserved-requires
+push_reserved-requires c = omega (arith, c.loop-i.invariant.count, c.loop-i.invariant.room, c.loop-i-test.true)
 
 pub loop-i-preserved : goal.loop-i-preserved
 loop-i-preserved c =
@@ -24,12 +31,13 @@ loop-i-preserved c =
     let is : new ≡ old ++ s ∷ [] = c.push_reserved.ensures.items in
     let stages = ap (λ (ss : List Stage). length ss) c.as_slice-stages.ensures in
     let low : i < length counts = omega (arith, c.loop-i-test.true, stages, c.requires.fit.number) in
-    let long : length old ≡ i = sym (length-map old (λ (t : StageSizing). t.cards)) ∙ ap (λ (l : List ℕ). length l) before.counts ∙ omega (arith, length-take i counts, low) in
+    let long : length old ≡ i = omega (arith, c.loop-i.sizings.ok.0, before.count) in
     record {
       counts = counts_more old new s counts i is before.counts (λ _. get_or counts i 0) low;
       named = names_more old new s c.as_slice-stages.result.now i c.index-stages-i.result is before.named (c.in_ok-copy.ensures ∙ ap (λ (t : Stage). t.name) c.index-stages-i.is) c.loop-i-test.true;
       below = subst (λ (l : List StageSizing). HaveReasons p c.args.may counts l (i + 1)) (sym is) (reasons_more p c.args.may counts old s i long before.below c.in_ok-below.ensures.below);
       tries = omega (arith, c.in_ok-below.ensures.counted, before.tries);
+      count = omega (arith, before.count, c.push_reserved.ensures.len);
       room = omega (arith, before.room, c.push_reserved.ensures.capacity);
     }
 
@@ -39,6 +47,7 @@ loop-i-init c = record {
   named = ap names_of c.in_ok-sizings.ensures.items;
   below = λ i low. absurd (omega (arith, low));
   tries = omega arith;
+  count = c.in_ok-sizings.ensures.len;
   room = c.in_ok-sizings.ensures.capacity;
 }
 

@@ -1,4 +1,4 @@
-use Rattle.std.proofs.Common.{◌≡◌, ◌+◌, ◌≤◌, length, take, map, vec_capacity}
+use Rattle.std.proofs.Common.{◌≡◌, ◌+◌, ◌≤◌, length, take, map, vec_len, vec_capacity}
 use Rattle.card_sizing.specs.Each.{counts_of, names_of, HaveReasons}
 use Rattle.card_sizing.proofs.lowering.with_reasons.Given as goal
 
@@ -8,5 +8,6 @@ invariant-loop-i l = record {
   named : names_of l.sizings.items ≡ map (λ s. s.name) (take l.i l.stages);
   below : HaveReasons l.plant l.may l.counts l.sizings.items l.i;
   tries : l.tries ≤ l.initial.tries + l.i;
+  count : vec_len l.sizings ≡ l.i;
   room : length l.stages ≤ vec_capacity l.sizings;
 }
