@@ -1,5 +1,5 @@
 -- Rows of the curve of a small plant, against texts by hand.
-use Rattle.std.specs.Prelude.{◌≡◌, ℕ, List, [], ◌∷◌, Option, None, Some, codes, refl}
+use Rattle.std.specs.Prelude.{◌≡◌, ℕ, List, [], ◌∷◌, codes, refl}
 use Rattle.std.specs.Fmt.{digits}
 use Rattle.plant_model.specs.Graph.{graph, labels}
 use Rattle.plant_model.proofs.TwoStage.{kanban_line, kanban_dates}

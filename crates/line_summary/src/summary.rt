@@ -67,24 +67,20 @@ impl Summary {
         ensures least { IfOk result AreLeastDates }
     {
         let _stations = table.stations();
-        match memory_for(alloc, &plant, &table) {
-            Ok((numbers, percentiles, uses, out)) => Ok(Summary {
-                line: Reading {
-                    figures: Figures::of(&plant, &numbers, &table),
-                    plant,
-                    numbers,
-                    table,
-                    percentiles,
-                    uses,
-                },
-                out,
-            }),
-            Err(error) => {
-                drop(plant);
-                drop(table);
-                Err(error)
-            }
-        }
+        let Ok((numbers, percentiles, uses, out)) = memory_for(alloc, &plant, &table) else {
+            drop(plant);
+            drop(table);
+            return Err(AllocError);
+        };
+        let line = Reading {
+            figures: Figures::of(&plant, &numbers, &table),
+            plant,
+            numbers,
+            table,
+            percentiles,
+            uses,
+        };
+        Ok(Summary { line, out })
     }
 
     /// Writes the summary to the sink, from its beginning: what the jobs wait, a line for each stage and each
