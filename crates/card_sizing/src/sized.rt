@@ -4,7 +4,7 @@ ghost use Rattle.card_sizing.specs.Counted.{stage_counted, counted};
 ghost use Rattle.card_sizing.specs.Sized.{policy_with, cards_under, stage_with, sized};
 ghost use Rattle.plant_model.specs.Line.{stage_numbers};
 
-use line_base::Items;
+use line_base::{Date, Items};
 use plant_model::{CardLoop, Machine, Plant, Policy, Stage};
 use std::alloc::{AllocError, Global};
 
@@ -14,14 +14,46 @@ use std::alloc::{AllocError, Global};
 pub fn sized_plant(alloc: Global, plant: &Plant, count: u32) -> Result<Plant, AllocError>
     ensures { IfOk result (λ copy. copy ≡ sized plant.now count) }
 {
+    let stages = copy_of_stages(alloc, plant.policy, plant.stages.as_slice(), count)?;
+    with_stages(alloc, plant, policy_with(plant.policy, count), stages)
+}
+
+/// A copy of the plant with this policy and these stages.
+fn with_stages(
+    alloc: Global,
+    plant: &Plant,
+    policy: Policy,
+    stages: Items<Stage>,
+) -> Result<Plant, AllocError>
+    ensures { IfOk result (λ copy. copy ≡ record plant.now { policy = policy; stages = stages }) }
+{
+    let Ok((loops, demands, observe)) = lists_of(alloc, plant) else {
+        drop(stages);
+        return Err(AllocError);
+    };
     Ok(Plant {
-        policy: policy_with(plant.policy, count),
-        loops: copy_of_loops(alloc, plant.loops.as_slice())?,
+        policy,
+        loops,
         card_time: plant.card_time,
-        demands: plant.demands.copy(alloc)?,
-        observe: plant.observe.copy(alloc)?,
-        stages: copy_of_stages(alloc, plant.policy, plant.stages.as_slice(), count)?,
+        demands,
+        observe,
+        stages,
     })
+}
+
+/// Copies of the plant's loops, of its demands, and of the dates that are looked at.
+fn lists_of(
+    alloc: Global,
+    plant: &Plant,
+) -> Result<(Items<CardLoop>, Items<Date>, Items<Date>), AllocError>
+    ensures loops { IfOk result (λ lists. lists.0 ≡ plant.now.loops) }
+    ensures demands { IfOk result (λ lists. lists.1 ≡ plant.now.demands) }
+    ensures observe { IfOk result (λ lists. lists.2 ≡ plant.now.observe) }
+{
+    let loops = copy_of_loops(alloc, plant.loops.as_slice())?;
+    let demands = plant.demands.copy(alloc)?;
+    let observe = plant.observe.copy(alloc)?;
+    Ok((loops, demands, observe))
 }
 
 /// The policy, with `count` cards for the line.
@@ -67,14 +99,8 @@ pub fn counted_plant(alloc: Global, plant: &Plant, counts: &[u32]) -> Result<Pla
     requires { length counts.now ≡ length plant.now.stages }
     ensures { IfOk result (λ copy. copy ≡ counted plant.now counts.now) }
 {
-    Ok(Plant {
-        policy: plant.policy,
-        loops: copy_of_loops(alloc, plant.loops.as_slice())?,
-        card_time: plant.card_time,
-        demands: plant.demands.copy(alloc)?,
-        observe: plant.observe.copy(alloc)?,
-        stages: counted_stages(alloc, plant, counts)?,
-    })
+    let stages = counted_stages(alloc, plant, counts)?;
+    with_stages(alloc, plant, plant.policy, stages)
 }
 
 /// A copy of the stages, each with its count of cards.
