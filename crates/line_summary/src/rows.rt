@@ -1,8 +1,8 @@
 //! The rows of a curve.
-ghost use Rattle.std.specs.Prelude.{◌≡◌, ◌++◌, codes, decimal, false};
+ghost use Rattle.std.specs.Prelude.{◌≡◌, false};
 ghost use Rattle.line_io.specs.Outgoing.{Pushed, stream, emptied};
 ghost use Rattle.line_io.specs.SinkView.{WritesText};
-ghost use Rattle.line_summary.specs.CurveText.{figures_row, row_of};
+ghost use Rattle.line_summary.specs.CurveText.{too_few_row, dead_row, figures_row, row_of};
 
 use crate::figures::Figures;
 use crate::point::Point;
@@ -10,13 +10,22 @@ use crate::thousandths::write_ratio;
 use line_io::{Failed, Outgoing, Sink};
 use line_report::write_number_behind;
 
-/// Writes a row of this many cards without figures, and why there are none.
-fn push_reason<K: Sink>(out: &mut Outgoing, sink: &mut K, count: u32, reason: &[u8])
+/// Writes that this many cards are fewer than the stock needs.
+fn push_too_few<K: Sink>(out: &mut Outgoing, sink: &mut K, count: u32)
     ensures { Pushed (stream (K.shown sink.old) out.old)
-        (stream (K.shown sink.new) out.new) ((codes "cards " ++ decimal count) ++ reason.now) }
+        (stream (K.shown sink.new) out.new) (too_few_row count) }
 {
     write_number_behind(out, sink, b"cards ", count as u64);
-    out.push(sink, reason);
+    out.push(sink, b" too few\n");
+}
+
+/// Writes that the line isn't live with this many cards.
+fn push_dead<K: Sink>(out: &mut Outgoing, sink: &mut K, count: u32)
+    ensures { Pushed (stream (K.shown sink.old) out.old)
+        (stream (K.shown sink.new) out.new) (dead_row count) }
+{
+    write_number_behind(out, sink, b"cards ", count as u64);
+    out.push(sink, b" dead\n");
 }
 
 /// Writes the figures of the line with this many cards.
@@ -41,8 +50,8 @@ fn push_row<K: Sink>(out: &mut Outgoing, sink: &mut K, count: u32, point: &Point
         (stream (K.shown sink.new) out.new) (row_of count point.now) }
 {
     match point {
-        Point::TooFew => push_reason(out, sink, count, b" too few\n"),
-        Point::Dead => push_reason(out, sink, count, b" dead\n"),
+        Point::TooFew => push_too_few(out, sink, count),
+        Point::Dead => push_dead(out, sink, count),
         Point::Alive { figures } => push_figures(out, sink, count, figures),
     }
 }
