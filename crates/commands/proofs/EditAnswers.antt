@@ -5,6 +5,7 @@ use Rattle.std.specs.declared.alloc.AllocError.{AllocError}
 use Rattle.answers.specs.declared.answer.Answer.TheVariants.{Changed}
 use Rattle.commands.proofs.OrNoMemory.{OrNoMemory, said}
 use Rattle.commands.specs.Answers.{IsPageOf, IsRefusedLine, IsWhatIf}
+use Rattle.commands.specs.Dated.{IsFirstSheet}
 use Rattle.event_graph.specs.Least.{IsLeast}
 use Rattle.event_graph.specs.Table.{date_in}
 use Rattle.line_base.specs.declared.event.Parts.{Parts}
@@ -23,24 +24,15 @@ use Rattle.what_if.specs.Sheet.{IsBegun}
 use Rattle.what_if.specs.declared.edits.RefusedLine.{RefusedLine}
 
 -- the sheet as it begins, of the table of a finished state
-pub first_begun : (live : LiveGraph) (rows : List (List ℕ)) (sheet : Result Page AllocError) →
-    IfOk sheet (IsBegun live rows) → IfOk sheet (λ page. IsBegun live page.first page)
-first_begun live rows (Ok page) begins = record {
-  live_is = begins.live_is;
-  inputs_are = begins.inputs_are;
-  first_are = refl;
-  dates_are = begins.dates_are ∙ sym begins.first_are;
-  no_mark = begins.no_mark;
-  none_evaluated = begins.none_evaluated;
-}
-first_begun live rows (Err none) begins = tt
-
-pub first_least : (live : LiveGraph) (rows : List (List ℕ)) (sheet : Result Page AllocError) →
-    IfOk sheet (IsBegun live rows) → IsLeast live.graph (date_in rows) →
-    IfOk sheet (λ page. IsLeast live.graph (date_in page.first))
-first_least live rows (Ok page) begins least =
-    subst (λ (first : List (List ℕ)). IsLeast live.graph (date_in first)) (sym begins.first_are) least
-first_least live rows (Err none) begins least = tt
+pub first_sheet : (live : LiveGraph) (rows : List (List ℕ)) (sheet : Result Page AllocError) →
+    IfOk sheet (IsBegun live rows) → IsLeast live.graph (date_in rows) → IfOk sheet (IsFirstSheet live)
+first_sheet live rows (Ok page) begins least =
+    let first_are = sym begins.first_are in
+    record {
+      begun = subst (λ (first : List (List ℕ)). IsBegun live first page) first_are begins;
+      least = subst (λ (first : List (List ℕ)). IsLeast live.graph (date_in first)) first_are least;
+    }
+first_sheet live rows (Err none) begins least = tt
 
 -- edits, from the sheet as it begins
 module _ (live : LiveGraph) (edits : List ℕ) (begun : Page) (begins : IsBegun live begun.first begun) where

@@ -3,6 +3,7 @@ pub mod CardAnswers
 pub mod Checkpoints
 pub mod CycleAnswers
 pub mod DateAnswers
+pub mod DatedPlants
 pub mod EditAnswers
 pub mod LeastTables
 pub mod OrNoMemory

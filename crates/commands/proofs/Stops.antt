@@ -15,6 +15,7 @@ use Rattle.line_io.specs.Calls.{Asked, none_asked}
 use Rattle.line_io.specs.StoreView.{StoreView}
 use Rattle.line_runs.specs.Headline.{MayBeResumed}
 use Rattle.line_runs.specs.AllFirings.{all_firings}
+use Rattle.line_runs.specs.Bursts.{BurstsBelow}
 use Rattle.line_runs.specs.Stop.{EndsFirst, IsShort, IsStopAt}
 use Rattle.line_runs.specs.declared.stop.Outcome.{Outcome}
 use Rattle.line_runs.specs.declared.stop.Outcome.TheVariants.{Finished, Stopped}
@@ -30,7 +31,7 @@ use Rattle.refusals.specs.declared.refusal.Refusal.TheVariants.{NoMemory}
 use Rattle.live_plant.specs.Actions.{DiskOver, HasCause, DoesOnStore}
 use Rattle.live_plant.specs.Outside.{StoreOver, store_over}
 use Rattle.commands.proofs.Actions.{no_memory_caused, does_also, leaves_store}
-use Rattle.commands.specs.FirstEnd.{IsDoneFirst, IsFirstEnd, EndsAtFirst}
+use Rattle.commands.specs.FirstEnd.{IsDoneFirst, IsFirstEnd, IsLedBelow, EndsAtFirst}
 use Rattle.commands.specs.Reports.{IsReport}
 use Rattle.commands.specs.Saving.{WritesText, AsksNothing, SavesText, RunsUntil}
 use Rattle.answers.specs.declared.answer.Answer.{Answer}
@@ -66,33 +67,25 @@ short_of p g n sound same counts =
 
 -- ---- the first burst's end
 
+-- bursts led a new line at the start on to this one
+led_below : (live : LiveGraph) (n workers count : ℕ) (first last : WorkLine) →
+    Stands live (start live.graph) workers first → BurstsBelow n first count last → IsLedBelow live.graph n workers last
+led_below live n workers count first last stands bursts =
+    record { live = live; graph_is = refl; first = first; begins = stands; count = count; bursts = bursts }
+
 -- a run of a new line at the start ends at the first burst's end with n firings
 pub ends_at_first : (live : LiveGraph) (n workers : ℕ) (first : WorkLine) (o : Outcome) →
     Stands live (start live.graph) workers first → EndsFirst n first o → EndsAtFirst live.graph n workers o
 ends_at_first live n workers first (Finished d) stands ends = record {
   last = ends.last;
-  led = record {
-    live = live;
-    graph_is = refl;
-    first = first;
-    begins = stands;
-    count = ends.count;
-    bursts = ends.bursts;
-  };
+  led = led_below live n workers ends.count first ends.last stands ends.bursts;
   done = ends.done;
 }
 ends_at_first live n workers first (Stopped r) stands ends =
     let same : r.state ≡ ends.last.state = ap (λ (run : Run). run.state) ends.state in
     record {
       last = ends.last;
-      led = record {
-        live = live;
-        graph_is = refl;
-        first = first;
-        begins = stands;
-        count = ends.count;
-        bursts = ends.bursts;
-      };
+      led = led_below live n workers ends.count first ends.last stands ends.bursts;
       state_is = same;
       enough = subst (λ (s : State). n ≤ fired s) (sym same) ends.enough;
     }

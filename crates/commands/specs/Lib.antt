@@ -1,4 +1,5 @@
 pub mod Answers
+pub mod Dated
 pub mod FirstEnd
 pub mod Reports
 pub mod Saving

@@ -14,7 +14,7 @@ use crate::dates::{chart, date_table, summary};
 use crate::edits::what_if;
 use crate::graphs::{check, cycle_of};
 use crate::lateness::latest;
-use crate::replaying::replay_schedule;
+use crate::replaying::replay;
 use crate::runs::{resume, run_whole};
 use crate::slots::{resume_slots, run_with_slots};
 use crate::task::{AloneQuestion, DiskQuestion, FileQuestion, PlantQuestion};
@@ -105,7 +105,7 @@ pub fn ask_file<R: Threads + Sync, G: Gate>(
 {
     match question {
         FileQuestion::Resume { workers } => resume(rt, alloc, line, bytes, workers, gate),
-        FileQuestion::Replay => replay_schedule(alloc, line, bytes),
+        FileQuestion::Replay => replay(alloc, line, bytes),
         FileQuestion::WhatIf => what_if(alloc, line, bytes),
     }
 }
@@ -129,7 +129,7 @@ pub fn ask_disk<R: Threads + Sync, G: Gate, D: Disk>(
             run_with_slots(rt, alloc, line, workers, every, gate, disk)
         }
         DiskQuestion::ResumeSlots { workers } => {
-            resume_slots(rt, alloc, line, workers, gate, disk)
+            resume_slots(rt, alloc, line, disk, workers, gate)
         }
     }
 }

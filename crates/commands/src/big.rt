@@ -5,9 +5,10 @@ ghost use Rattle.command_line.specs.Ranges.{AreWorkers};
 ghost use Rattle.commands.specs.Answers.{IsSummary};
 ghost use Rattle.live_plant.specs.LivePlant.{IsLivePlant};
 
-use crate::reports::report_over;
+use crate::dates::{DatedPlant, dated};
 use crate::runs::table_of;
 use answers::Answer;
+use line_report::Report;
 use line_workers::Gate;
 use live_plant::{LivePlant, big_plant, live_plant_of};
 use refusals::Refusal;
@@ -22,13 +23,14 @@ pub(crate) fn big<R: Threads + Sync, G: Gate>(
     workers: u32,
     gate: &G,
 ) -> Result<Answer, Refusal>
-    requires workers { AreWorkers workers }
+    requires { AreWorkers workers }
     ensures { IsSummary seed result ⊎ (result ≡ Err Refusal.NoMemory) }
 {
     let line = big_line(alloc, seed)?;
     let table = table_of(rt, alloc, &line.live, workers, None, gate);
+    let DatedPlant { plant, live, table } = dated(line, table)?;
     // The summary has no lines of dates, so it is written by one.
-    let report = report_over(alloc, line, table, 1)?;
+    let report = Report::new(alloc, plant, live, table, 1)?;
     Ok(Answer::Summarized { report })
 }
 

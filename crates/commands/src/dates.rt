@@ -2,9 +2,9 @@
 ghost use Rattle.std.specs.Prelude.{◌≡◌, ◌⊎◌, Err, IfOk, IfSome};
 ghost use Rattle.command_line.specs.Ranges.{IsWindowGiven};
 ghost use Rattle.commands.specs.Answers.{IsChart, IsDateTable, IsLineSummary};
+ghost use Rattle.commands.specs.Dated.{IsDatedOf};
 ghost use Rattle.line_runs.specs.Table.{IsLeastOf};
 ghost use Rattle.live_plant.specs.LivePlant.{IsLivePlant};
-ghost use Rattle.plant_model.specs.Graph.{graph};
 
 use answers::Answer;
 use line_chart::{Chart, ChartError, DateTable};
@@ -30,16 +30,28 @@ pub(crate) struct DatedPlant {
 /// A live plant with its dates, by firings on one thread. The only error is no memory.
 pub(crate) fn find_dates(alloc: Global, line: LivePlant) -> Result<DatedPlant, AllocError>
     requires { IsLivePlant line }
-    ensures plant { IfOk result (λ dated. dated.plant ≡ line.plant) }
-    ensures live { IfOk result (λ dated. dated.live ≡ line.live) }
-    ensures least { IfOk result (λ dated. IsLeastOf (graph line.plant) dated.table) }
+    ensures { IfOk result (IsDatedOf line) }
 {
-    let LivePlant { plant, live } = line;
-    match least_table(alloc, &live) {
-        Ok(table) => Ok(DatedPlant { plant, live, table }),
+    let table = least_table(alloc, &line.live);
+    dated(line, table)
+}
+
+/// A live plant with the dates that a run of it answered, where there was memory for the run.
+pub(crate) fn dated(
+    line: LivePlant,
+    table: Result<Table, AllocError>,
+) -> Result<DatedPlant, AllocError>
+    requires plant { IsLivePlant line }
+    requires table { IfOk table (IsLeastOf line.live.graph) }
+    ensures { IfOk result (IsDatedOf line) }
+{
+    match table {
+        Ok(table) => {
+            let LivePlant { plant, live } = line;
+            Ok(DatedPlant { plant, live, table })
+        }
         Err(none) => {
-            drop(plant);
-            drop(live);
+            drop(line);
             Err(none)
         }
     }

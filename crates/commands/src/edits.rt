@@ -1,10 +1,8 @@
 //! What edits change of the dates of a live plant.
 ghost use Rattle.std.specs.Prelude.{◌≡◌, ◌⊎◌, Err, IfErr, IfOk};
 ghost use Rattle.commands.specs.Answers.{IsPageOf, IsRefusedLine, IsWhatIf};
-ghost use Rattle.event_graph.specs.Least.{IsLeast};
-ghost use Rattle.event_graph.specs.Table.{date_in};
+ghost use Rattle.commands.specs.Dated.{IsFirstSheet};
 ghost use Rattle.live_plant.specs.LivePlant.{IsLivePlant};
-ghost use Rattle.what_if.specs.Sheet.{IsBegun};
 
 use crate::dates::least_table;
 use answers::{Answer, Changes};
@@ -55,8 +53,7 @@ fn settled_sheet(alloc: Global, live: &Live, edits: &[u8]) -> Result<Sheet, Refu
 
 /// The dates of a live graph, of which no edit changes one.
 fn first_sheet(alloc: Global, live: &Live) -> Result<Sheet, AllocError>
-    ensures begun { IfOk result (λ sheet. IsBegun live.now sheet.first sheet) }
-    ensures least { IfOk result (λ sheet. IsLeast live.now.graph (date_in sheet.first)) }
+    ensures { IfOk result (IsFirstSheet live.now) }
 {
     let table = least_table(alloc, live)?;
     let sheet = Sheet::new(alloc, live, &table);

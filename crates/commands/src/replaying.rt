@@ -7,21 +7,16 @@ ghost use Rattle.plant_model.specs.Graph.{graph};
 
 use crate::reports::report_of;
 use answers::Answer;
-use line_core::replay;
 use live_plant::LivePlant;
 use refusals::{Refusal, schedule_refusal};
 use std::alloc::Global;
 
 /// The report of a live plant whose stations fire by a schedule, or why it can't be followed.
-pub(crate) fn replay_schedule(
-    alloc: Global,
-    line: LivePlant,
-    schedule: &[u8],
-) -> Result<Answer, Refusal>
+pub(crate) fn replay(alloc: Global, line: LivePlant, schedule: &[u8]) -> Result<Answer, Refusal>
     requires { IsLivePlant line }
     ensures { IsEnd line.plant (follow (graph line.plant) schedule.now) result ⊎ (result ≡ Err Refusal.NoMemory) }
 {
-    match replay(alloc, &line.live, schedule) {
+    match line_core::replay(alloc, &line.live, schedule) {
         Ok(end) => {
             let table = end.into_table(&line.live);
             report_of(alloc, line, table, 1)

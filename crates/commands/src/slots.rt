@@ -38,7 +38,7 @@ pub fn run_with_slots<R: Threads + Sync, G: Gate, D: Disk>(
         (RunsWithSlots line.plant every) result }
 {
     match Line::prepare(alloc, &line.live, workers) {
-        Ok(work) => run_saving(rt, alloc, line, work, workers, every, gate, disk),
+        Ok(work) => run_saving(rt, alloc, line, workers, work, every, gate, disk),
         Err(_) => {
             drop(line);
             Err(Refusal::NoMemory)
@@ -51,8 +51,8 @@ fn run_saving<R: Threads + Sync, G: Gate, D: Disk>(
     rt: &R,
     alloc: Global,
     line: LivePlant,
-    work: Line,
     workers: u32,
+    work: Line,
     every: u64,
     gate: &G,
     disk: &mut D,
@@ -91,9 +91,9 @@ pub fn resume_slots<R: Threads + Sync, G: Gate, D: Disk>(
     rt: &R,
     alloc: Global,
     line: LivePlant,
+    disk: &mut D,
     workers: u32,
     gate: &G,
-    disk: &mut D,
 ) -> Result<Answer, Refusal>
     requires plant { IsLivePlant line }
     requires workers { AreWorkers workers }

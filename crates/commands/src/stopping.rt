@@ -1,11 +1,9 @@
 //! The run of a live plant that is asked to stop: its report, or the save of the state in which it stops.
 ghost use Rattle.std.specs.Prelude.{◌≡◌, IfOk, IsErrOf};
 ghost use Rattle.command_line.specs.Ranges.{AreWorkers};
-ghost use Rattle.commands.specs.FirstEnd.{EndsAtFirst};
+ghost use Rattle.commands.specs.FirstEnd.{EndsAsAsked};
 ghost use Rattle.commands.specs.Saving.{AnswersWrite, RunsUntil, SavesText};
 ghost use Rattle.line_core.specs.Consistent.{fired};
-ghost use Rattle.line_runs.specs.Headline.{EndsWell};
-ghost use Rattle.line_runs.specs.Stop.{CountsWell};
 ghost use Rattle.line_runs.specs.Store.{text_of};
 ghost use Rattle.live_plant.specs.Actions.{DoesOnStore};
 ghost use Rattle.live_plant.specs.LivePlant.{IsLivePlant};
@@ -60,9 +58,7 @@ fn outcome_of<R: Threads + Sync, G: Gate>(
     gate: &G,
 ) -> Result<Outcome, AllocError>
     requires workers { AreWorkers workers }
-    ensures well { IfOk result (EndsWell live.now.graph) }
-    ensures count { IfOk result (CountsWell live.now.graph firings 0) }
-    ensures first { IfOk result (EndsAtFirst live.now.graph firings workers) }
+    ensures { IfOk result (EndsAsAsked live.now.graph firings workers) }
 {
     let work = Line::prepare(alloc, live, workers)?;
     Ok(line_runs::run_until(rt, live, work, firings, gate))
@@ -78,9 +74,7 @@ fn end_run<S: Store>(
     store: &mut S,
 ) -> Result<Answer, Refusal>
     requires plant { IsLivePlant line }
-    requires well { EndsWell line.live.graph outcome }
-    requires count { CountsWell line.live.graph stop.after 0 outcome }
-    requires first { EndsAtFirst line.live.graph stop.after workers outcome }
+    requires outcome { EndsAsAsked line.live.graph stop.after workers outcome }
     ensures { DoesOnStore (store_over S.tells (S.shown store.old) (S.shown store.new))
         (RunsUntil line.plant workers stop.after stop.save) result }
 {

@@ -1,7 +1,9 @@
 use Rattle.std.proofs.Common.{inl, inr}
+use Rattle.std.proofs.lemmas.Bool.{true_from_ne_false}
 use Rattle.std.proofs.lemmas.Result.{err_from_is_err_and}
 use Rattle.card_sizing.specs.Each.{IsEachRefusal}
-use Rattle.commands.proofs.CardAnswers.{each_found, no_error}
+use Rattle.card_sizing.specs.Counted.{has_stage_counts}
+use Rattle.commands.proofs.CardAnswers.{no_error}
 use Rattle.commands.proofs.OrNoMemory.{refused_for}
 use Rattle.refusals.specs.Refusals.{sizing_refusal}
 use Rattle.commands.proofs.cards.cards_each.Goals as goal
@@ -19,8 +21,16 @@ returns-in_err-each c =
 
 pub returns : goal.returns
 returns c =
-    let asked = c.in_ok-each.ensures in
     let each = c.in_ok-each.each in
-    each_found c.args.line.now.plant c.args.wait each c.in_ok-text.text
-    (λ none. no_error each (asked.no_single_count.1 none)) asked.serves asked.least asked.below asked.named
-    asked.total c.in_ok-text.ensures
+    let sized = c.in_ok-each.ensures in
+    inl (inl (record {
+      each = each;
+      counted = true_from_ne_false (has_stage_counts c.args.line.now.plant)
+          (λ none. no_error each (sized.no_single_count.1 none));
+      serves = sized.serves;
+      least = sized.least;
+      below = sized.below;
+      named = sized.named;
+      total = sized.total;
+      written = c.in_ok-text.ensures;
+    }))

@@ -1,7 +1,7 @@
-use Rattle.std.proofs.Common.{◌∙◌, refl}
+use Rattle.std.proofs.Common.{refl}
 use Rattle.std.specs.Prelude.{Ok}
 use Rattle.answers.specs.declared.answer.Answer.TheVariants.{Summary}
-use Rattle.commands.proofs.LeastTables.{writes_least}
+use Rattle.commands.proofs.DatedPlants.{writes_dated}
 use Rattle.line_summary.specs.SummaryText.{summary_text}
 use Rattle.commands.proofs.dates.summary.Goals as goal
 
@@ -12,8 +12,6 @@ new-requires c =
 
 pub returns : goal.returns
 returns c =
-    let dates = c.in_ok-plant.ensures in
     let made = c.in_ok-summary.summary in
-    let is = c.in_ok-summary.ensures in
-    writes_least summary_text c.args.line.plant made.plant made.rows (Ok (Summary made)) (is.plant ∙ dates.plant)
-    (rw is.dates dates.least.least) refl
+    writes_dated c.args.line c.in_ok-plant.field-0 summary_text made.plant made.rows (Ok (Summary made))
+    c.in_ok-plant.ensures c.in_ok-summary.ensures.plant c.in_ok-summary.ensures.dates refl

@@ -1,4 +1,5 @@
-use Rattle.commands.proofs.CycleAnswers.{cycle_found, cycle_refused}
+use Rattle.std.proofs.Common.{refl, inl}
+use Rattle.commands.proofs.CycleAnswers.{cycle_refused}
 use Rattle.refusals.proofs.CycleRefusals.{names_station}
 use Rattle.commands.proofs.graphs.cycle_of.Goals as goal
 
@@ -9,9 +10,14 @@ cycle_refusal-requires c =
 
 pub returns-in_ok-text-in-Ok : goal.returns-in_ok-text-in-Ok
 returns-in_ok-text-in-Ok c =
-    cycle_found c.args.line.now.plant c.in-Ok.certificate c.in_ok-text-in-Ok.text
-    (rw c.requires.graph at c.in-Ok.ensures.fixed) (rw c.requires.graph at c.in-Ok.ensures.cycle_time)
-    (rw (c.graph.ensures.graph, c.requires.graph) at c.in_ok-text-in-Ok.ensures)
+    inl (inl (record {
+      certificate = c.in-Ok.certificate;
+      fixed = rw c.requires.graph at c.in-Ok.ensures.fixed;
+      cycle_time = rw c.requires.graph at c.in-Ok.ensures.cycle_time;
+      text = c.in_ok-text-in-Ok.text;
+      certified = rw (c.graph.ensures.graph, c.requires.graph) at c.in_ok-text-in-Ok.ensures;
+      written = refl;
+    }))
 
 pub returns-in-Err : goal.returns-in-Err
 returns-in-Err c =

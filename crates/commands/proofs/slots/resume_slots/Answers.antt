@@ -3,7 +3,7 @@ use Rattle.std.specs.Prelude.{Err}
 use Rattle.line_base.specs.declared.event.Parts.{Parts}
 use Rattle.line_runs.specs.declared.error.ResumeError.{ResumeError}
 use Rattle.commands.specs.Saving.{NamesStationOf, IsResumeRefusal}
-use Rattle.commands.proofs.Resumings.{Loaded, slots_least, slots_name, slots_report, slots_refused}
+use Rattle.commands.proofs.Resumings.{slots_least, slots_name, slots_report, slots_refused}
 use Rattle.commands.proofs.slots.resume_slots.Goals as goal
 
 pub report_of-requires-clause-table : goal.report_of-requires-clause-table
@@ -19,26 +19,18 @@ resume_refusal-refusal-requires g c =
 
 pub returns-in-Ok : goal.returns-in-Ok
 returns-in-Ok g c =
-    let old = g.D.Disk.shown c.args.disk.now in
-    let new = g.D.Disk.shown c.resume_slots.new.disk in
-    let loaded : Loaded g.D.Disk.tells old new = record {
-      stays = c.resume_slots.ensures.stays;
-      faults = c.resume_slots.ensures.faults_stay_or_rise;
-    } in
-    slots_report g.D.Disk.tells old new c.args.line.plant loaded c.args.line.live.graph c.requires.plant.graph
-    c.in-Ok.table c.report_of.result c.in-Ok.ensures.resumes c.report_of.ensures
+    slots_report g.D.Disk.tells (g.D.Disk.shown c.args.disk.now) (g.D.Disk.shown c.resume_slots.new.disk)
+    c.args.line.plant
+    (record { stays = c.resume_slots.ensures.stays; faults = c.resume_slots.ensures.faults_stay_or_rise })
+    c.args.line.live.graph c.requires.plant.graph c.in-Ok.table c.report_of.result c.in-Ok.ensures.resumes c.report_of.ensures
 
 pub returns-in-Err : goal.returns-in-Err
 returns-in-Err g c =
-    let old = g.D.Disk.shown c.args.disk.now in
-    let new = g.D.Disk.shown c.resume_slots.new.disk in
-    let loaded : Loaded g.D.Disk.tells old new = record {
-      stays = c.resume_slots.ensures.stays;
-      faults = c.resume_slots.ensures.faults_stay_or_rise;
-    } in
     let refusal = c.resume_refusal-refusal.result in
-    slots_refused g.D.Disk.tells old new c.args.line.plant loaded c.args.line.live.graph c.requires.plant.graph
-    c.in-Err.error refusal c.in-Err.ensures.resumes
+    slots_refused g.D.Disk.tells (g.D.Disk.shown c.args.disk.now) (g.D.Disk.shown c.resume_slots.new.disk)
+    c.args.line.plant
+    (record { stays = c.resume_slots.ensures.stays; faults = c.resume_slots.ensures.faults_stay_or_rise })
+    c.args.line.live.graph c.requires.plant.graph c.in-Err.error refusal c.in-Err.ensures.resumes
     (λ is. c.in-Err.ensures.disk_fault (ap (λ (error : ResumeError). Err error) is))
     (subst (λ (h : Parts). IsResumeRefusal h c.in-Err.error refusal) c.graph.ensures.graph
     c.resume_refusal-refusal.ensures)

@@ -10,24 +10,24 @@ use Rattle.commands.proofs.Stops.{ends_run, stops_run, short_of}
 use Rattle.commands.proofs.stopping.end_run.Goals as goal
 
 pub report_of-requires-clause-table : goal.report_of-requires-clause-table
-report_of-requires-clause-table g c = subst (EndsWell c.args.line.live.graph) c.in-Finished.is c.requires.well
+report_of-requires-clause-table g c = subst (EndsWell c.args.line.live.graph) c.in-Finished.is c.requires.outcome.well
 
 pub save-requires : goal.save-requires
 save-requires g c =
     let well : (c.in-Stopped.state.graph ≡ c.args.line.live.graph) ×
     MayBeResumed c.args.line.live.graph c.in-Stopped.state.state =
-    subst (EndsWell c.args.line.live.graph) c.in-Stopped.is c.requires.well in
+    subst (EndsWell c.args.line.live.graph) c.in-Stopped.is c.requires.outcome.well in
     sym well.0
 
 pub returns-in-Finished : goal.returns-in-Finished
 returns-in-Finished g c =
     let line = c.args.line in
     let first : IsDoneFirst line.live.graph c.args.stop.after c.args.workers =
-    subst (EndsAtFirst line.live.graph c.args.stop.after c.args.workers) c.in-Finished.is c.requires.first in
+    subst (EndsAtFirst line.live.graph c.args.stop.after c.args.workers) c.in-Finished.is c.requires.outcome.first in
     ends_run g.S.Store.tells (g.S.Store.shown c.args.store.now) line.plant c.args.workers c.args.stop.after
     c.args.stop.save c.report_of.result
     (short_of line.plant line.live.graph c.args.stop.after c.requires.plant.sound c.requires.plant.graph
-    (subst (CountsWell line.live.graph c.args.stop.after 0) c.in-Finished.is c.requires.count))
+    (subst (CountsWell line.live.graph c.args.stop.after 0) c.in-Finished.is c.requires.outcome.count))
     (subst (λ (h : Parts). IsDoneFirst h c.args.stop.after c.args.workers) c.requires.plant.graph first)
     c.report_of.ensures
 
@@ -37,11 +37,11 @@ returns-in-Stopped g c =
     let state = c.in-Stopped.state in
     let of_plant = c.requires.plant.graph in
     let well : (state.graph ≡ line.live.graph) × MayBeResumed line.live.graph state.state =
-    subst (EndsWell line.live.graph) c.in-Stopped.is c.requires.well in
+    subst (EndsWell line.live.graph) c.in-Stopped.is c.requires.outcome.well in
     let count : IsStopAt line.live.graph c.args.stop.after 0 (fired state.state) =
-    subst (CountsWell line.live.graph c.args.stop.after 0) c.in-Stopped.is c.requires.count in
+    subst (CountsWell line.live.graph c.args.stop.after 0) c.in-Stopped.is c.requires.outcome.count in
     let first : IsFirstEnd line.live.graph c.args.stop.after c.args.workers state.state =
-    subst (EndsAtFirst line.live.graph c.args.stop.after c.args.workers) c.in-Stopped.is c.requires.first in
+    subst (EndsAtFirst line.live.graph c.args.stop.after c.args.workers) c.in-Stopped.is c.requires.outcome.first in
     stops_run (store_over g.S.Store.tells (g.S.Store.shown c.args.store.now) (g.S.Store.shown c.save.new.store))
     line.plant c.args.workers c.args.stop.after c.args.stop.save state c.save.result
     (fits_limit line c.requires.plant) (well.0 ∙ of_plant)

@@ -3,7 +3,7 @@ use Rattle.commands.proofs.LeastTables.{is_least_table}
 use Rattle.commands.proofs.ScheduleAnswers.{end_reported, end_refused}
 use Rattle.line_core.specs.Run.{Dates}
 use Rattle.refusals.proofs.ScheduleErrors.{names_existing}
-use Rattle.commands.proofs.replaying.replay_schedule.Goals as goal
+use Rattle.commands.proofs.replaying.replay.Goals as goal
 
 pub report_of-requires-clause-table : goal.report_of-requires-clause-table
 report_of-requires-clause-table c =
