@@ -66,16 +66,17 @@ no_other_status status old new bytes not_0 not_5 not_6 (inr (inr six, torn)) = n
 module _ (store : StoreOver) (sink : SinkOver) (disk : DiskOver) (answer : Result Answer Refusal) (status : ℕ)
     (ended : Finishes sink answer status) (asks : Asked) (asked : store.new.asked ≡ with_asked store.old.asked asks)
     (changes : Changes store asks.writes) (known : IsTrue store.tells) where
-  -- a run stopped, and wrote its state
-  record StopsIn (c : Command) : Type 0 where
-    pub name : List ℕ
-    pub workers : ℕ
-    pub stop : Stop
-    pub is : c ≡ command.Run name workers (Some stop)
+  -- a run of this plant file stopped, and wrote its state
+  record HasStopped (name : List ℕ) (workers : ℕ) (stop : Stop) : Type 0 where
     pub plant : Plant
     pub read : IsPlantRead plant name store
     pub after : List Read
     pub stops : Stops plant workers stop.after stop.save (record asks { reads = after }) answer
+
+  -- so did the run that is this command
+  abbrev StopsIn : Command → Type 0
+  StopsIn (command.Run name workers (Some stop)) = HasStopped name workers stop
+  StopsIn other = ⊥
 
   none_written : asks.writes ≡ [] → (q : List ℕ) → store.new.files q ≡ store.old.files q
   none_written none = subst (Changes store) none changes known
@@ -90,19 +91,9 @@ module _ (store : StoreOver) (sink : SinkOver) (disk : DiskOver) (answer : Resul
   -- a run that is asked to stop
   until_writes : (name : List ℕ) (workers : ℕ) (stop : Stop) (p : Plant) (after : List Read) →
       IsPlantRead p name store → RunsUntil p workers stop.after stop.save (record asks { reads = after }) disk answer →
-      (asks.writes ≡ []) ⊎ StopsIn (command.Run name workers (Some stop))
+      (asks.writes ≡ []) ⊎ HasStopped name workers stop
   until_writes name workers stop p after read runs =
-      ⊎_elim
-      (λ stops. inr (record {
-        name = name;
-        workers = workers;
-        stop = stop;
-        is = refl;
-        plant = p;
-        read = read;
-        after = after;
-        stops = stops;
-      }))
+      ⊎_elim (λ stops. inr (record { plant = p; read = read; after = after; stops = stops }))
       (λ whole. inl (⊎_elim (λ ended_first. unwritten asks after ended_first.nothing)
       (λ wanting. unwritten asks after wanting.0) whole))
       runs.answers
@@ -111,7 +102,7 @@ module _ (store : StoreOver) (sink : SinkOver) (disk : DiskOver) (answer : Resul
       (before after : List Read) → asks.reads ≡ before ++ after →
       OfPlantNamed store.tells store.old.files name before between →
       DoesOn (λ p. RunsUntil p workers stop.after stop.save) between (record asks { reads = after }) disk answer →
-      (asks.writes ≡ []) ⊎ StopsIn (command.Run name workers (Some stop))
+      (asks.writes ≡ []) ⊎ HasStopped name workers stop
   stop_writes name workers stop (Ok p) before after split first on =
       until_writes name workers stop p after (plant_read store asks asked name p before after split first) on
   stop_writes name workers stop (Err refusal) before after split first on = inl (unwritten asks after on.0)
@@ -134,18 +125,20 @@ module _ (store : StoreOver) (sink : SinkOver) (disk : DiskOver) (answer : Resul
   writes_of_words c (inl does) = writes_of c does
   writes_of_words c (inr wanting) = inl (ap (λ (a : Asked). a.writes) wanting.0)
 
+  -- what was written where a run stopped
+  state_written : (name : List ℕ) (workers : ℕ) (stop : Stop) (s : HasStopped name workers stop) →
+      WritesOne store (write_of stop.save (text Differences (graph s.plant) s.stops.state) s.stops.saved.given)
+  state_written name workers stop s =
+      subst (Changes store) (ap (λ (a : Asked). a.writes) s.stops.saved.writes) changes
+
   -- files but the one in which the run saves
   others_of : (c : Command) → (asks.writes ≡ []) ⊎ StopsIn c → (q : List ℕ) → save_of (Some c) ≢ Some q →
       store.new.files q ≡ store.old.files q
   others_of c (inl none) q other = none_written none q
-  others_of c (inr s) q other =
-      let bytes = text Differences (graph s.plant) s.stops.state in
-      let given = s.stops.saved.given in
-      let one : asks.writes ≡ write_of s.stop.save bytes given ∷ [] =
-      ap (λ (a : Asked). a.writes) s.stops.saved.writes in
-      let wrote : WritesOne store (write_of s.stop.save bytes given) = subst (Changes store) one changes in
-      let saves : save_of (Some c) ≡ Some s.stop.save = ap (λ (k : Command). save_of (Some k)) s.is in
-      wrote.others_stay known q (λ same. other (saves ∙ ap (λ (n : List ℕ). Some n) (sym same)))
+  others_of (command.Run name workers (Some stop)) (inr s) q other =
+      (state_written name workers stop s).others_stay known q
+      (λ same. other (ap (λ (n : List ℕ). Some n) (sym same)))
+  others_of c (inr s) q other = absurd s
 
   others : (w : Option Command) → OfWords store.tells store.old.files w asks disk answer → (q : List ℕ) →
       save_of w ≢ Some q → store.new.files q ≡ store.old.files q
@@ -166,36 +159,28 @@ module _ (store : StoreOver) (sink : SinkOver) (disk : DiskOver) (answer : Resul
   left file bytes count (Err store_error.TooLong) leaves answers = absurd answers
   left file bytes count (Err store_error.NoMemory) leaves answers = inl (leaves known)
 
-  saved_in : (c : Command) (s : StopsIn c) → StaysOrSaves s.name s.stop store sink status
-  saved_in c s =
-      let bytes = text Differences (graph s.plant) s.stops.state in
-      let given = s.stops.saved.given in
-      let one : asks.writes ≡ write_of s.stop.save bytes given ∷ [] =
-      ap (λ (a : Asked). a.writes) s.stops.saved.writes in
-      let wrote : WritesOne store (write_of s.stop.save bytes given) = subst (Changes store) one changes in
+  saved_in : (name : List ℕ) (workers : ℕ) (stop : Stop) → HasStopped name workers stop →
+      StaysOrSaves name stop store sink status
+  saved_in name workers stop s =
       ⊎_elim (λ same. inl same)
       (λ says. inr (record {
         plant = s.plant;
         read = s.read;
         state = s.stops.state;
         stopped = s.stops.resumed;
-        workers = s.workers;
+        workers = workers;
         first_end = s.stops.first_end;
         count = s.stops.stop;
         leaves = says.0;
         says = says.1;
       }))
-      (left s.stop.save bytes (fired s.stops.state) given wrote.leaves s.stops.saved.answers)
+      (left stop.save (text Differences (graph s.plant) s.stops.state) (fired s.stops.state) s.stops.saved.given
+      (state_written name workers stop s).leaves s.stops.saved.answers)
 
   saved_so : (name : List ℕ) (workers : ℕ) (stop : Stop) →
-      (asks.writes ≡ []) ⊎ StopsIn (command.Run name workers (Some stop)) → StaysOrSaves name stop store sink status
+      (asks.writes ≡ []) ⊎ HasStopped name workers stop → StaysOrSaves name stop store sink status
   saved_so name workers stop (inl none) = inl (none_written none stop.save)
-  saved_so name workers stop (inr s) =
-      let same_name : s.name ≡ name = let is = s.is in cc in
-      let same_stop : s.stop ≡ stop = let is = s.is in cc in
-      subst (λ (n : List ℕ). StaysOrSaves n stop store sink status) same_name
-      (subst (λ (t : Stop). StaysOrSaves s.name t store sink status) same_stop
-      (saved_in (command.Run name workers (Some stop)) s))
+  saved_so name workers stop (inr s) = saved_in name workers stop s
 
   saved : (w : Option Command) → OfWords store.tells store.old.files w asks disk answer →
       (name : List ℕ) (workers : ℕ) (stop : Stop) → w ≡ Some (command.Run name workers (Some stop)) →

@@ -3,6 +3,7 @@ use Rattle.std.proofs.Common.{◌≡◌, ◌⊎◌, ℕ, ◌≤◌, List, [], �
 use Rattle.std.specs.Prelude.{Option, Some, None, Result, Ok, Err}
 use Rattle.checkpoint.specs.Text.{text}
 use Rattle.checkpoint.specs.declared.format.Format.TheVariants.{Differences}
+use Rattle.command_line.specs.Words.{command_of}
 use Rattle.command_line.specs.declared.command.Command.{Command}
 use Rattle.command_line.specs.declared.command.Command.TheVariants as command
 use Rattle.command_line.specs.declared.command.Stop.{Stop}
@@ -122,17 +123,15 @@ on_plainly next (Err refusal) asked after disk answer unwritten untouched on = (
 plainly_then : {A B : Type 0} (first : Step A) (next : A → Step B) (asked : Asked) (disk : DiskOver)
     (answer : Result B Refusal) → Plainly (Then first next) asked disk answer →
     ThenDoes first (λ x. Plainly (next x)) asked disk answer
-plainly_then first next asked disk answer plain =
-    let steps = plain.answers in
-    record {
-      before = steps.before;
-      after = steps.after;
-      split = steps.split;
-      between = steps.between;
-      answers = steps.answers;
-      does_on = on_plainly next steps.between asked steps.after disk answer plain.unwritten plain.untouched
-          steps.goes_on;
-    }
+plainly_then first next asked disk answer plain = record {
+  before = plain.answers.before;
+  after = plain.answers.after;
+  split = plain.answers.split;
+  between = plain.answers.between;
+  answers = plain.answers.answers;
+  does_on = on_plainly next plain.answers.between asked plain.answers.after disk answer plain.unwritten
+      plain.untouched plain.answers.goes_on;
+}
 
 -- what a call read first, where that is the live plant of this plant file
 pub plant_read : (store : StoreOver) (asks : Asked) → store.new.asked ≡ with_asked store.old.asked asks →
@@ -321,21 +320,24 @@ module _ (store : StoreOver) (sink : SinkOver) (disk : DiskOver) (answer : Resul
   done_whole c (inr wanting) = absurd (no_refusal sink answer NoMemory ended wanting.2)
 
 -- both halves of the headline follow from how the call ends
-pub reports_of : (words : List (List ℕ)) (store : StoreOver) (sink : SinkOver) (disk : DiskOver) (status : ℕ) →
-    Ends words store sink disk status → RunReports words store sink status
-reports_of words store sink disk status ends c name is runs zero =
-    let ended = subst (Finishes sink ends.answer) zero ends.finishes in
-    let does = ends.does in
-    of_run store sink disk ends.answer ended does.asks does.asked does.changes c name runs
-    (done_whole store sink disk ends.answer ended does.asks does.asked does.changes c
-    (subst (λ (o : Option Command). OfWords store.tells store.old.files o does.asks disk ends.answer) is does.answers))
+module _ (words : List (List ℕ)) (store : StoreOver) (sink : SinkOver) (disk : DiskOver) (status : ℕ)
+    (ends : Ends words store sink disk status) where
+  finished : status ≡ 0 → Finishes sink ends.answer 0
+  finished zero = subst (Finishes sink ends.answer) zero ends.finishes
 
-pub stops_of : (words : List (List ℕ)) (store : StoreOver) (sink : SinkOver) (disk : DiskOver) (status : ℕ) →
-    Ends words store sink disk status → StopsAndResumes words store sink status
-stops_of words store sink disk status ends name workers stop is zero =
-    let ended = subst (Finishes sink ends.answer) zero ends.finishes in
-    let does = ends.does in
-    of_stop store sink disk ends.answer ended does.asks does.asked does.changes name workers stop
-    (done_whole store sink disk ends.answer ended does.asks does.asked does.changes
-    (command.Run name workers (Some stop)) (subst (λ (o : Option Command).
-    OfWords store.tells store.old.files o does.asks disk ends.answer) is does.answers))
+  done : (c : Command) → command_of words ≡ Some c → status ≡ 0 →
+      OfCommand store.tells store.old.files c ends.does.asks disk ends.answer
+  done c is zero =
+      done_whole store sink disk ends.answer (finished zero) ends.does.asks ends.does.asked ends.does.changes c
+      (subst (λ (o : Option Command). OfWords store.tells store.old.files o ends.does.asks disk ends.answer) is
+      ends.does.answers)
+
+  pub reports_of : RunReports words store sink status
+  reports_of c name is runs zero =
+      of_run store sink disk ends.answer (finished zero) ends.does.asks ends.does.asked ends.does.changes c name runs
+      (done c is zero)
+
+  pub stops_of : StopsAndResumes words store sink status
+  stops_of name workers stop is zero =
+      of_stop store sink disk ends.answer (finished zero) ends.does.asks ends.does.asked ends.does.changes name workers
+      stop (done (command.Run name workers (Some stop)) is zero)
