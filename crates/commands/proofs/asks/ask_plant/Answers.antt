@@ -7,6 +7,15 @@ returns-in-Run g c = rw c.in-Run.is c.run_whole.ensures
 pub returns-in-RunRoom : goal.returns-in-RunRoom
 returns-in-RunRoom g c = rw c.in-RunRoom.is c.run_whole-in-RunRoom.ensures
 
+pub returns-in-Check : goal.returns-in-Check
+returns-in-Check g c = rw c.in-Check.is c.check-answer.ensures
+
+pub returns-in-Cycle : goal.returns-in-Cycle
+returns-in-Cycle g c = rw c.in-Cycle.is c.cycle_of-answer.ensures
+
+pub returns-in-Cards : goal.returns-in-Cards
+returns-in-Cards g c = rw c.in-Cards.is c.cards-answer.ensures
+
 pub returns-in-CardsEach : goal.returns-in-CardsEach
 returns-in-CardsEach g c = rw c.in-CardsEach.is c.cards_each-answer.ensures
 
