@@ -17,7 +17,6 @@ use Rattle.live_plant.specs.LintSteps.{LintsPlant}
 use Rattle.live_plant.specs.Outside.{StoreOver}
 use Rattle.live_plant.specs.PlantSteps.{OfPlantNamed}
 use Rattle.live_plant.specs.Steps.{Step, LooksAt, Settles, Then}
-use Rattle.plant_model.specs.declared.plant.Plant.{Plant}
 use Rattle.refusals.specs.declared.refusal.Refusal.{Refusal}
 use Rattle.refusals.specs.declared.refusal.Refusal.TheVariants.{NoMemory, Usage}
 
