@@ -4,6 +4,7 @@ pub mod CardsAlike
 pub mod DatesAlike
 pub mod EditsAlike
 pub mod FileNames
+pub mod FirstSteps
 pub mod LintsAlike
 pub mod OverFiles
 pub mod ResumeEnds

@@ -29,6 +29,7 @@ use Rattle.live_plant.proofs.PlantsOfFiles.{of_live_plant}
 use Rattle.pull_cli.specs.Verdict.{OfTask, OfWords}
 use Rattle.pull_laws.specs.Recorded.{IsAnswer, IsReadOf, ReadsFrom, with_file, telling, over_files, HasEnded}
 use Rattle.pull_laws.specs.Resuming.{Call}
+use Rattle.pull_laws.proofs.FirstSteps.{also_then}
 
 -- the front of a list has what the list has
 pub all_front : {X : Type 0} (P : X → Type 0) (xs ys : List X) → All P (xs ++ ys) → All P xs
@@ -91,14 +92,9 @@ module _ (store : StoreOver) (before after : Contents) where
   plant_then : {A : Type 0} (next : Plant → Step A) (name : List ℕ) (reads : List Read) (answer : Result A Refusal) →
       Then (OfPlantNamed store.tells own name) next reads answer → All Held reads →
       Then (OfPlantNamed true before name) next reads answer
-  plant_then next name reads answer steps held = record {
-    before = steps.before;
-    after = steps.after;
-    split = steps.split;
-    between = steps.between;
-    answers = plant_named name steps.before steps.after reads steps.between steps.answers steps.split held;
-    goes_on = steps.goes_on;
-  }
+  plant_then next name reads answer steps held =
+      also_then (OfPlantNamed store.tells own name) (OfPlantNamed true before name) next reads answer steps
+      (plant_named name steps.before steps.after reads steps.between steps.answers steps.split held)
 
   plant_plainly : {A : Type 0} (next : Plant → Step A) (name : List ℕ) (asks : Asked) (disk : DiskOver)
       (answer : Result A Refusal) → Plainly (Then (OfPlantNamed store.tells own name) next) asks disk answer →

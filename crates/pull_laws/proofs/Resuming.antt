@@ -22,7 +22,7 @@ use Rattle.pull_laws.proofs.SoundFiles.{plant_of-sound}
 use Rattle.live_plant.specs.Actions.{Changes}
 use Rattle.pull_cli.specs.RunReports.{run_of, HasReported, Reports}
 use Rattle.pull_laws.specs.Resuming.{Call, files_before, files_after, CallsFor, HasStopped, IsResumedBy, IsWholeRun}
-use Rattle.pull_laws.specs.Resuming.{WroteTheSame}
+use Rattle.pull_laws.specs.Resuming.{ResumingWritesTheSame, WroteTheSame}
 use Rattle.pull_laws.proofs.FileNames.{IsPlain, file_is_plain, reading_sound, same_plant}
 use Rattle.pull_cli.proofs.HeadlineLemmas.{reports_of}
 use Rattle.command_line.proofs.ResumeWords.{names_files}
@@ -100,3 +100,7 @@ module _ (p : Plant) (name : List ℕ) (stop : Stop) (first : Call) (stopped : H
         let sound : IsSound p =
         plant_of-sound name files p (reading_sound (bytes_at files name)) (stopped.read.of_files stopped.calls.known) in
         same_bytes sound second whole (second_reports zero) (whole_reports whole run)
+
+pub resuming_writes_the_same : ResumingWritesTheSame
+resuming_writes_the_same p name stop first second whole stopped resumed zero run =
+    writes_the_same p name stop first stopped second resumed zero whole run

@@ -19,6 +19,7 @@ use Rattle.pull_laws.specs.Recorded.{ReadsFrom, with_file, telling, over_files, 
 use Rattle.pull_laws.specs.Resuming.{Call, CallsFor, HasStopped, IsResumedBy, EndsResumed, WroteTheSame}
 use Rattle.pull_laws.specs.Resuming.{reported, unread, unwritten, no_memory}
 use Rattle.pull_laws.specs.ResumingRecorded.{EndsFor, SavesState, bytes_saved, ResumesWhatWasRead, RunsWhole}
+use Rattle.pull_laws.specs.ResumingRecorded.{ResumingRecordedWritesTheSame}
 use Rattle.pull_laws.proofs.OverFiles.{all_front, with_file-named, with_file-other, reads_fit, asks_told}
 use Rattle.pull_laws.proofs.OverFiles.{ends_over_files}
 use Rattle.pull_laws.proofs.ResumeEnds.{ends_resumed}
@@ -181,3 +182,7 @@ module _ (p : Plant) (name : List ℕ) (stop : Stop) (first second : Call) (save
         status = runs.status;
         over = λ q. refl;
       })
+
+pub resuming_recorded_writes_the_same : ResumingRecordedWritesTheSame
+resuming_recorded_writes_the_same p name stop first second whole saves resumes zero run =
+    writes_the_same_recorded p name stop first second saves resumes zero whole run

@@ -56,6 +56,7 @@ use Rattle.pull_laws.proofs.AnswersAlike.{resumed_alike, done_or_free, run_done,
 use Rattle.pull_laws.proofs.CardsAlike.{cards_alike, each_alike, curves_alike}
 use Rattle.pull_laws.proofs.DatesAlike.{latest_alike, whys_alike, charts_alike}
 use Rattle.pull_laws.proofs.EditsAlike.{edits_alike}
+use Rattle.pull_laws.proofs.FirstSteps.{also_then}
 use Rattle.pull_laws.proofs.LintsAlike.{lints_agree}
 
 -- ---- each question
@@ -94,14 +95,8 @@ file_alike file.WhatIf p known bytes one other is also = edits_alike p known.sou
 of_live : {B : Type 0} (tells : Bool) (files : Contents) (name : List ℕ) (next : Plant → Step B) (reads : List Read)
     (answer : Result B Refusal) → Then (OfPlantNamed tells files name) next reads answer →
     Then (OfLivePlant name) next reads answer
-of_live tells files name next reads answer steps = record {
-  before = steps.before;
-  after = steps.after;
-  split = steps.split;
-  between = steps.between;
-  answers = steps.answers.answers;
-  goes_on = steps.goes_on;
-}
+of_live tells files name next reads answer steps =
+    also_then (OfPlantNamed tells files name) (OfLivePlant name) next reads answer steps steps.answers.answers
 
 -- a command that was refused its plant with a free refusal, and one that goes on
 stopped_free : (one : Result Plant Refusal) (next : Plant → Action Answer) (asked : Asked) (disk : DiskOver)
