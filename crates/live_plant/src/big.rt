@@ -1,8 +1,9 @@
 ghost use Rattle.std.specs.Prelude.{◌≡◌, ◌+◌, ◌<◌, length, IfOk, OnOk, IsTrue};
-ghost use Rattle.live_plant.specs.Big.{machine_from, machines_from, stage_name, fed_by, stage_from, stages_of, dates_from, big_plant};
-ghost use Rattle.live_plant.specs.Generator.{state_after};
 ghost use Rattle.event_graph.specs.Live.{IsLive};
 ghost use Rattle.line_base.specs.Text.{is_name};
+ghost use Rattle.live_plant.specs.Big.{machine_from, machines_from, stage_name, fed_by, stage_from};
+ghost use Rattle.live_plant.specs.Big.{stages_of, dates_from, big_plant};
+ghost use Rattle.live_plant.specs.Generator.{state_after};
 ghost use Rattle.plant_model.specs.Graph.{graph};
 ghost use Rattle.plant_model.specs.Line.{station_count};
 ghost use Rattle.plant_model.specs.Sound.{IsSound};
