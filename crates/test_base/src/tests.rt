@@ -1,6 +1,6 @@
 mod got;
+mod kept;
 mod mem_files;
-mod new_disk;
 mod of_card_queue;
 mod of_file_disk;
 mod of_file_store;
@@ -8,5 +8,7 @@ mod of_line_disk;
 mod of_line_io;
 mod of_room_ring;
 mod of_slot_store;
+mod parts;
 mod same;
 mod short_file;
+mod texts;

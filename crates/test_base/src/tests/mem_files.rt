@@ -1,5 +1,6 @@
 ghost use Rattle.std.specs.Prelude.{◌≡◌, ◌≤◌, length, true, IfOk, OnOk, IsErr};
 
+use crate::tests::parts::{copy_first, first};
 use line_io::{FilesCalls, RawFiles};
 use std::alloc::{AllocError, Global};
 use std::io;
@@ -31,7 +32,7 @@ impl MemFile {
 }
 
 /// Which calls of files in memory fail, by their numbers from 1.
-#[derive(Clone, Copy, Debug, PartialEq, Eq)]
+#[derive(Clone, Copy)]
 pub enum Failing {
     None,
     /// The one of this number.
@@ -143,8 +144,7 @@ impl MemFiles {
             return refused();
         };
         let left = file.bytes.get(self.read..).unwrap_or(&[]);
-        let count = left.len().min(bytes.len()).min(self.most);
-        bytes[..count].copy_from_slice(&left[..count]);
+        let count = copy_first(left, bytes, self.most);
         self.read = self.read.saturating_add(count);
         Ok(count)
     }
@@ -170,7 +170,7 @@ impl MemFiles {
         if self.is_due() {
             return refused();
         }
-        self.named = Some(MemFile::empty(self.alloc));
+        put_in(&mut self.named, Some(MemFile::empty(self.alloc)));
         self.is_open = true;
         self.writes_spare = false;
         Ok(())
@@ -190,7 +190,7 @@ impl MemFiles {
         if self.spare.is_some() {
             return Err(ErrorKind::AlreadyExists.into());
         }
-        self.spare = Some(MemFile::empty(self.alloc));
+        put_in(&mut self.spare, Some(MemFile::empty(self.alloc)));
         self.is_open = true;
         self.writes_spare = true;
         Ok(())
@@ -205,14 +205,14 @@ impl MemFiles {
         if self.is_due() {
             return refused();
         }
-        let count = bytes.len().min(self.most);
+        let taken = first(bytes, self.most);
         let written = if self.writes_spare {
-            append(&mut self.spare, &bytes[..count])
+            append(&mut self.spare, taken)
         } else {
-            append(&mut self.named, &bytes[..count])
+            append(&mut self.named, taken)
         };
         match written {
-            Ok(()) => Ok(count),
+            Ok(()) => Ok(taken.len()),
             Err(_) => refused(),
         }
     }
@@ -225,9 +225,9 @@ impl MemFiles {
             return refused();
         }
         let settled = if self.writes_spare {
-            settle(self.alloc, &mut self.spare)
+            settle(&mut self.spare)
         } else {
-            settle(self.alloc, &mut self.named)
+            settle(&mut self.named)
         };
         match settled {
             Ok(()) => Ok(()),
@@ -242,7 +242,8 @@ impl MemFiles {
         if self.is_due() || self.spare.is_none() {
             return refused();
         }
-        self.named = self.spare.take();
+        let spare = self.spare.take();
+        put_in(&mut self.named, spare);
         Ok(())
     }
 
@@ -253,25 +254,33 @@ impl MemFiles {
         if self.is_due() || self.spare.is_none() {
             return refused();
         }
-        self.spare = None;
+        put_in(&mut self.spare, None);
         Ok(())
     }
+}
+
+/// Puts a file, or none, in the place of another, which is let go here.
+fn put_in(place: &mut Option<MemFile>, file: Option<MemFile>) {
+    *place = file;
 }
 
 /// Puts bytes behind those of a file.
 fn append(file: &mut Option<MemFile>, bytes: &[u8]) -> Result<(), AllocError> {
     match file {
-        Some(file) => Ok(file.bytes.extend_from_slice(bytes)?),
+        Some(file) => file.bytes.extend_from_slice(bytes),
         None => Ok(()),
     }
 }
 
 /// Makes what was written to a file stand.
-fn settle(alloc: Global, file: &mut Option<MemFile>) -> Result<(), AllocError> {
-    if let Some(file) = file {
-        file.synced = file.bytes.to_vec(alloc)?;
+fn settle(file: &mut Option<MemFile>) -> Result<(), AllocError> {
+    match file {
+        Some(file) => {
+            file.synced.clear();
+            file.synced.extend_from_slice(&file.bytes)
+        }
+        None => Ok(()),
     }
-    Ok(())
 }
 
 impl RawFiles for MemFiles {

@@ -1,26 +1,23 @@
 use crate::tests::got::got;
+use crate::tests::kept::kept;
 use crate::tests::mem_files::{Failing, MemFile, MemFiles};
 use crate::tests::same::same;
+use crate::tests::texts::{TEXTS, rank_among};
 use line_io::{FileStore, Store, StoreError};
 use std::alloc::Global;
 use std::process::Abort;
 
-/// What is written one after the other.
-const TEXTS: [&[u8]; 3] = [b"hello", b"world", b"again"];
-
-/// A store over one file, which holds `old`.
+/// A store over one file, which holds `old`. It is leaked.
 fn store_of(
     rt: &impl Abort,
     alloc: Global,
     most: usize,
     failing: Failing,
     bars_spare: bool,
-) -> FileStore<MemFiles> {
+) -> &'static mut FileStore<MemFiles> {
     let old = got(rt, MemFile::of(alloc, b"old"));
-    FileStore::over(
-        alloc,
-        MemFiles::new(alloc, Some(old), most, failing, bars_spare),
-    )
+    let files = MemFiles::new(alloc, Some(old), most, failing, bars_spare);
+    got(rt, kept(alloc, FileStore::over(alloc, files)))
 }
 
 /// What a read of the file answers.
@@ -45,7 +42,7 @@ fn write_all(store: &mut FileStore<MemFiles>) -> (u32, usize) {
 fn rank_of(store: &FileStore<MemFiles>, after_crash: bool) -> usize {
     match store.files().content(after_crash) {
         Some(b"old") => 3,
-        Some(bytes) => TEXTS.iter().position(|text| *text == bytes).unwrap_or(9),
+        Some(bytes) => rank_among(bytes),
         None => 9,
     }
 }
@@ -54,30 +51,26 @@ fn rank_of(store: &FileStore<MemFiles>, after_crash: bool) -> usize {
 fn writes_and_reads_go_on_after_short_calls(rt: HostRuntime) {
     let alloc = rt.alloc();
     for most in [1, 3, 64] {
-        let mut store = store_of(&rt, alloc, most, Failing::None, false);
-        same(&rt, write_all(&mut store), (3, 2));
-        let bytes = got(&rt, read(&mut store, alloc, 5));
+        let store = store_of(&rt, alloc, most, Failing::None, false);
+        same(&rt, write_all(store), (3, 2));
+        let bytes = got(&rt, read(store, alloc, 5));
         assert!(rt; bytes.as_slice() == TEXTS[2]);
-        same(
-            &rt,
-            read(&mut store, alloc, 4).err(),
-            Some(StoreError::TooLong),
-        );
-        drop(store);
+        drop(bytes);
+        same(&rt, read(store, alloc, 4).err(), Some(StoreError::TooLong));
     }
 }
 
 /// Whether three writes end as they should, where this one of their calls fails. Each asks for six calls: to look at the name,
 /// to remove a spare file, to make one, to write it, to sync it, and to rename it. Where the second fails, all goes well.
 fn ends_well_where_one_fails(rt: &impl Abort, alloc: Global, number: u32) -> bool {
-    let mut store = store_of(rt, alloc, 64, Failing::One(number), false);
-    let (count, last) = write_all(&mut store);
+    let store = store_of(rt, alloc, 64, Failing::One(number), false);
+    let (count, last) = write_all(store);
     let goes_well = number % 6 == 2;
     let is_last = number > 12 && !goes_well;
     count == if goes_well { 3 } else { 2 }
         && last == if is_last { 1 } else { 2 }
-        && rank_of(&store, false) == last
-        && rank_of(&store, true) == last
+        && rank_of(store, false) == last
+        && rank_of(store, true) == last
         && !store.files().has_spare()
 }
 
@@ -93,11 +86,11 @@ fn each_call_that_fails_is_a_fault_of_its_write_alone_and_leaves_the_file_as_it_
 
 /// Whether a machine that stops at this one of the calls of three writes leaves the last text that was acknowledged.
 fn stands_where_it_stops(rt: &impl Abort, alloc: Global, number: u32) -> bool {
-    let mut store = store_of(rt, alloc, 64, Failing::From(number), false);
-    let (count, last) = write_all(&mut store);
+    let store = store_of(rt, alloc, 64, Failing::From(number), false);
+    let (count, last) = write_all(store);
     count == number.saturating_sub(1) / 6
         && last == [3, 0, 1, 2][count.min(3) as usize]
-        && rank_of(&store, true) == last
+        && rank_of(store, true) == last
 }
 
 #[test]
@@ -111,9 +104,9 @@ fn a_stop_at_any_call_leaves_what_was_acknowledged(rt: HostRuntime) {
 /// What is left of three writes in place, where one of their calls fails, and after a crash. Each asks for six calls: to look
 /// at the name, to remove and to make a spare file, to empty the file, to write it, and to sync it.
 fn left_in_place(rt: &impl Abort, alloc: Global, failing: Failing) -> (u32, usize, usize) {
-    let mut store = store_of(rt, alloc, 64, failing, true);
-    let (count, _) = write_all(&mut store);
-    (count, rank_of(&store, false), rank_of(&store, true))
+    let store = store_of(rt, alloc, 64, failing, true);
+    let (count, _) = write_all(store);
+    (count, rank_of(store, false), rank_of(store, true))
 }
 
 #[test]
@@ -127,8 +120,8 @@ fn a_file_is_written_in_its_place_where_no_other_can_be_made(rt: HostRuntime) {
 
 /// What a read answers of which this call fails: to open, to read, and to find the end.
 fn read_where_one_fails(rt: &impl Abort, alloc: Global, number: u32) -> Option<StoreError> {
-    let mut store = store_of(rt, alloc, 64, Failing::One(number), false);
-    read(&mut store, alloc, 64).err()
+    let store = store_of(rt, alloc, 64, Failing::One(number), false);
+    read(store, alloc, 64).err()
 }
 
 #[test]

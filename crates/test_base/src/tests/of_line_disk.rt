@@ -1,66 +1,46 @@
 use crate::tests::same::same;
-use line_disk::FileDisk;
+use line_disk::{Disk, FileDisk};
 use slot_store::{SlotError, Slots};
 use std::alloc::Global;
 use std::fs;
-use std::os::unix::fs::FileExt;
-use std::rt::Files;
 use std::test::Fail;
 
 /// The file of the disk over the machine.
 const FILE: &str = "pull.slots";
 
-/// What is loaded from the file of the machine, after these bytes were saved in it, where some are given.
-fn load_file<R: Files + Drop>(
-    rt: &R,
+/// Whether `hello` is loaded from a disk, after these bytes were saved in it, where some are given.
+fn loads_hello<D: Disk>(
+    disk: &mut D,
     alloc: Global,
     saved: Option<&[u8]>,
-) -> Result<Vec<u8>, SlotError>
-where
-    R::File: FileExt,
-{
-    let mut disk = FileDisk::new(rt);
-    let mut slots = Slots::new(&mut disk, 32);
+) -> Result<bool, SlotError> {
+    let mut slots = Slots::new(disk, 32);
     if let Some(bytes) = saved {
         slots.save(alloc, bytes)?;
     }
-    slots.load(alloc)
+    let bytes = slots.load(alloc)?;
+    Ok(bytes.as_slice() == b"hello".as_slice())
 }
 
-/// Whether `hello` is loaded from the file of the machine, after these bytes were saved in it, where some are given.
-fn loads_hello<R: Files + Drop>(
-    rt: &R,
-    alloc: Global,
-    saved: Option<&[u8]>,
-) -> Result<bool, SlotError>
-where
-    R::File: FileExt,
-{
-    let bytes = load_file(rt, alloc, saved)?;
-    Ok(bytes.as_slice() == b"hello".as_slice())
+/// The same of the file of the machine. The runtime is named here, since a function for any runtime that makes this disk
+/// is dear to prove.
+fn file_loads_hello(rt: &HostRuntime, saved: Option<&[u8]>) -> Result<bool, SlotError> {
+    let mut disk = FileDisk::new(rt);
+    loads_hello(&mut disk, rt.alloc(), saved)
 }
 
 #[test]
 fn the_file_of_the_machine_is_a_disk_and_a_folder_in_its_place_a_fault(
     rt: HostRuntime,
 ) -> Result<(), Fail> {
-    let alloc = rt.alloc();
     let hello = b"hello".as_slice();
-    same(
-        &rt,
-        loads_hello(&rt, alloc, None),
-        Err(SlotError::NoneSaved),
-    );
+    same(&rt, file_loads_hello(&rt, None), Err(SlotError::NoneSaved));
     assert!(rt; !fs::exists(&rt, FILE)?);
-    same(&rt, loads_hello(&rt, alloc, Some(hello)), Ok(true));
-    same(&rt, loads_hello(&rt, alloc, None), Ok(true));
+    same(&rt, file_loads_hello(&rt, Some(hello)), Ok(true));
+    same(&rt, file_loads_hello(&rt, None), Ok(true));
     fs::remove_file(&rt, FILE)?;
     fs::create_dir(&rt, FILE)?;
-    same(
-        &rt,
-        loads_hello(&rt, alloc, None),
-        Err(SlotError::DiskFault),
-    );
+    same(&rt, file_loads_hello(&rt, None), Err(SlotError::DiskFault));
     fs::remove_dir(&rt, FILE)?;
     Ok(())
 }

@@ -6,7 +6,7 @@ use std::cell::Cell;
 use std::fmt::Display;
 use std::fs::Files as _;
 use std::process::Abort;
-use std::{fs, io};
+use std::{env, fs, io, process};
 
 /// A sink whose put of this number fails and keeps nothing.
 fn sink_of(rt: &impl Abort, alloc: Global, failing: u32) -> MemSink {
@@ -54,71 +54,99 @@ fn long_texts_go_out_in_pieces_of_4096_bytes(rt: HostRuntime) {
     goes_out(&rt, rt.alloc(), 12_288, 3, (false, 8_192));
 }
 
-/// What is read of a file of the machine, after these bytes were written to it, where some are given.
-fn read<R: std::rt::Files + AllocGlobal + Drop>(
-    rt: &R,
+/// What is read of a file of a store, after these bytes were written to it, where some are given.
+fn read_after<S: Store>(
+    store: &mut S,
+    alloc: Global,
+    name: &str,
+    written: Option<&[u8]>,
+    limit: u64,
+) -> Result<Vec<u8>, StoreError> {
+    if let Some(bytes) = written {
+        store.write(name, bytes)?;
+    }
+    store.read(alloc, name, limit)
+}
+
+/// The same of a file of the machine. The runtime is named here, since a function for any runtime that makes this store
+/// takes twice as long to prove.
+fn read(
+    rt: &HostRuntime,
     name: &str,
     written: Option<&[u8]>,
     limit: u64,
 ) -> Result<Vec<u8>, StoreError> {
     let mut store = FileStore::new(rt);
-    let written = match written {
-        Some(bytes) => store.write(name, bytes),
-        None => Ok(()),
-    };
-    let read = store.read(rt.alloc(), name, limit);
+    let read = read_after(&mut store, rt.alloc(), name, written, limit);
     drop(store);
-    written?;
     read
 }
 
+/// Whether these bytes are read of a file of the machine, after they were written to it where that is asked for.
+fn gives(rt: &HostRuntime, name: &str, is_written: bool, bytes: &[u8]) -> bool {
+    let written = if is_written { Some(bytes) } else { None };
+    match read(rt, name, written, 40_000) {
+        Ok(have) => have.as_slice() == bytes,
+        Err(_) => false,
+    }
+}
+
 /// Whether a file of the machine holds these bytes once they were written to this one, which is that file or a link to it.
-fn holds<R: std::rt::Files + AllocGlobal + Abort + Drop>(
-    rt: &R,
-    name: &str,
-    to: &str,
-    bytes: &[u8],
-) -> bool {
-    let have = got(rt, read(rt, to, Some(bytes), 40_000));
-    let again = got(rt, read(rt, name, None, 40_000));
-    have.as_slice() == bytes && again.as_slice() == bytes
+fn holds(rt: &HostRuntime, name: &str, to: &str, bytes: &[u8]) -> bool {
+    gives(rt, to, true, bytes) && gives(rt, name, false, bytes)
 }
 
-/// Asserts that a file is written through this link to it, which stays a link.
-fn is_written_through<R: std::rt::Files + AllocGlobal + Abort + Drop>(
-    rt: &R,
-    name: &str,
-    link: &str,
-) {
-    got(rt, rt.symlink(name, link));
-    assert!(rt; holds(rt, name, link, b"by a link"));
-    assert!(rt; got(rt, rt.symlink_metadata(link)).is_symlink());
-    got(rt, fs::remove_file(rt, link));
+/// Why a file of the machine isn't read under this limit, if it isn't.
+fn refusal(rt: &HostRuntime, name: &str, limit: u64) -> Option<StoreError> {
+    read(rt, name, None, limit).err()
 }
 
-// Of the 40,000 bytes those at one place in two pieces of 4,096 bytes differ.
+/// The name of a file of this process among those of the machine that needn't stay, with this ending.
+fn name_of(rt: &HostRuntime, ending: &str) -> io::Result<String> {
+    let folder = env::temp_dir(rt)?;
+    let id = process::id(rt.process());
+    let name = match folder.as_path().to_str() {
+        Some(folder) => format!(in rt.alloc(); "{folder}/pull_{id}.test{ending}"),
+        None => return Err(io::ErrorKind::InvalidData.into()),
+    };
+    drop(folder);
+    Ok(name?)
+}
+
+/// Whether a file holds each of these texts once it was written to it. Of the 40,000 bytes of the long one those at one place
+/// in two pieces of 4,096 bytes differ.
+fn holds_each(rt: &HostRuntime, name: &str) -> io::Result<bool> {
+    let long = b"0123456789abcdefghijklmno".repeat(rt.alloc(), 1_600)?;
+    let bytes = long.as_slice();
+    let well = holds(rt, name, name, bytes)
+        && holds(rt, name, name, b"shorter")
+        && holds(rt, name, name, bytes);
+    drop(long);
+    Ok(well)
+}
+
+/// Whether a file is written through this link to it, which stays a link.
+fn is_written_through(rt: &HostRuntime, name: &str, link: &str) -> io::Result<bool> {
+    rt.symlink(name, link)?;
+    let well = holds(rt, name, link, b"by a link") && rt.symlink_metadata(link)?.is_symlink();
+    fs::remove_file(rt, link)?;
+    Ok(well)
+}
+
 #[test]
 fn a_file_of_the_machine_is_written_and_read(rt: HostRuntime) {
-    let alloc = rt.alloc();
-    let folder = got(&rt, std::env::temp_dir(&rt));
-    let folder = got(&rt, folder.as_path().to_str().ok_or("not text"));
-    let id = std::process::id(rt.process());
-    let name = got(&rt, format!(in alloc; "{folder}/pull_{id}.test"));
+    let name = got(&rt, name_of(&rt, ""));
     let name = name.as_str();
-    let letters = b"0123456789abcdefghijklmno".as_slice();
-    let bytes = got(&rt, letters.repeat(alloc, 1_600));
-    for text in [bytes.as_slice(), b"shorter".as_slice(), bytes.as_slice()] {
-        assert!(rt; holds(&rt, name, name, text));
-    }
-    let beside = got(&rt, format!(in alloc; "{name}.new"));
+    assert!(rt; got(&rt, holds_each(&rt, name)));
+    let beside = got(&rt, name_of(&rt, ".new"));
     assert!(rt; !got(&rt, fs::exists(&rt, beside.as_str())));
-    let long = read(&rt, name, None, 39_999).err();
-    same(&rt, long, Some(StoreError::TooLong));
-    let link = got(&rt, format!(in alloc; "{name}.link"));
-    is_written_through(&rt, name, link.as_str());
+    drop(beside);
+    same(&rt, refusal(&rt, name, 39_999), Some(StoreError::TooLong));
+    let link = got(&rt, name_of(&rt, ".link"));
+    assert!(rt; got(&rt, is_written_through(&rt, name, link.as_str())));
+    drop(link);
     got(&rt, fs::remove_file(&rt, name));
-    let gone = read(&rt, name, None, 40_000).err();
-    same(&rt, gone, Some(StoreError::Failed));
+    same(&rt, refusal(&rt, name, 40_000), Some(StoreError::Failed));
 }
 
 /// A printer that refuses what goes past its room.

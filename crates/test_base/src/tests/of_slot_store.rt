@@ -1,20 +1,20 @@
-use crate::tests::new_disk::new_disk;
+use crate::tests::kept::kept;
 use crate::tests::same::same;
-use line_disk::MemDisk;
+use crate::tests::texts::{TEXTS, rank_among};
+use line_disk::{Disk, MemDisk};
 use slot_store::{SlotError, Slots};
 use std::alloc::Global;
 use std::test::Fail;
 
 const ROOM: u64 = 32;
 
-/// What is saved one after the other.
-const TEXTS: [&[u8]; 3] = [b"hello", b"world", b"again"];
-
-fn save(alloc: Global, disk: &mut MemDisk, bytes: &[u8]) -> Result<(), SlotError> {
+/// Saves bytes in the slots of a disk.
+pub fn save<D: Disk>(alloc: Global, disk: &mut D, bytes: &[u8]) -> Result<(), SlotError> {
     Slots::new(disk, ROOM).save(alloc, bytes)
 }
 
-fn load(alloc: Global, disk: &mut MemDisk) -> Result<Vec<u8>, SlotError> {
+/// What is loaded from the slots of a disk.
+pub fn load<D: Disk>(alloc: Global, disk: &mut D) -> Result<Vec<u8>, SlotError> {
     Slots::new(disk, ROOM).load(alloc)
 }
 
@@ -23,7 +23,7 @@ fn saved(
     alloc: Global,
     failing: Vec<u32>,
 ) -> Result<(&'static mut MemDisk, [Result<(), SlotError>; 3]), Fail> {
-    let disk = new_disk(alloc, failing)?;
+    let disk = kept(alloc, MemDisk::new(alloc, failing))?;
     let first = save(alloc, disk, TEXTS[0]);
     let second = save(alloc, disk, TEXTS[1]);
     let third = save(alloc, disk, TEXTS[2]);
@@ -33,19 +33,14 @@ fn saved(
 /// The rank among the three texts of what a load gives, or 3 where it gives nothing.
 fn rank_of(alloc: Global, disk: &mut MemDisk) -> Result<usize, SlotError> {
     match load(alloc, disk) {
-        Ok(bytes) => Ok(
-            TEXTS
-                .iter()
-                .position(|text| *text == bytes.as_slice())
-                .unwrap_or(9),
-        ),
+        Ok(bytes) => Ok(rank_among(bytes.as_slice())),
         Err(SlotError::NoneSaved) => Ok(3),
         Err(error) => Err(error),
     }
 }
 
 /// The same of a disk as a crash leaves it.
-fn rank_after(alloc: Global, disk: &MemDisk, call: u32, pick: u8) -> Result<usize, Fail> {
+pub fn rank_after(alloc: Global, disk: &MemDisk, call: u32, pick: u8) -> Result<usize, Fail> {
     if call > disk.calls() || pick > 2 {
         return Ok(9);
     }

@@ -1,6 +1,7 @@
 ghost use Rattle.std.specs.Prelude.{◌≡◌, ◌≢◌, ◌+◌, ◌≤◌, length, true, IfOk, IfSome};
 ghost use Rattle.line_disk.specs.declared.opening.Opening.TheVariants.{Opened};
 
+use crate::tests::parts::{copy_first, first};
 use line_disk::{DISK_END, Disk, MemDisk, Opening, RawCalls, RawFile};
 use std::alloc::Global;
 use std::io;
@@ -70,8 +71,8 @@ impl ShortFile {
         };
         match self.disk.read(self.alloc, at, most) {
             Ok(read) => {
-                let count = read.len().min(bytes.len());
-                bytes[..count].copy_from_slice(&read[..count]);
+                let count = copy_first(&read, bytes, most as usize);
+                drop(read);
                 Ok(count)
             }
             Err(_) => Err(io::ErrorKind::Other.into()),
@@ -87,9 +88,9 @@ impl ShortFile {
         let Some(most) = self.share(at, bytes.len()) else {
             return Err(io::ErrorKind::FileTooLarge.into());
         };
-        let count = bytes.len().min(most as usize);
-        match self.disk.write_at(at, &bytes[..count]) {
-            Ok(()) => Ok(count),
+        let taken = first(bytes, most as usize);
+        match self.disk.write_at(at, taken) {
+            Ok(()) => Ok(taken.len()),
             Err(_) => Err(io::ErrorKind::StorageFull.into()),
         }
     }
