@@ -52,6 +52,14 @@ fn status_of<R: Threads + Wait + Sync, S: Store, K: Sink, D: Disk>(
     pull(rt, alloc, words, store, sink, &FreeGate, disk)
 }
 
+/// The status where the words can't be had.
+fn status_without_words(error: &io::Error) -> u8 {
+    match error.kind() {
+        io::ErrorKind::OutOfMemory => NO_MEMORY,
+        _ => NO_WORDS,
+    }
+}
+
 fn main(rt: HostRuntime) -> ExitCode {
     // Where the program is started without standard input, output or error, the file that is opened
     // next gets its number. These get it first, and can only be read: a write to standard output
@@ -61,15 +69,15 @@ fn main(rt: HostRuntime) -> ExitCode {
         fs::open(&rt, "/dev/null"),
         fs::open(&rt, "/dev/null"),
     ];
-    let words = match words_of(&rt) {
-        Ok(words) => words,
-        Err(error) if error.kind() == io::ErrorKind::OutOfMemory => return end(&rt, NO_MEMORY, &[]),
-        Err(_) => return end(&rt, NO_WORDS, &[]),
-    };
-    let mut store = FileStore::new(&rt);
-    let mut sink = StdSink::new(rt.stdout());
-    let mut disk = FileDisk::new(&rt);
-    let words = words.as_slice();
-    let status = status_of(&rt, rt.alloc(), words, &mut store, &mut sink, &mut disk);
-    end(&rt, status, words)
+    match words_of(&rt) {
+        Ok(words) => {
+            let words = words.as_slice();
+            let mut store = FileStore::new(&rt);
+            let mut sink = StdSink::new(rt.stdout());
+            let mut disk = FileDisk::new(&rt);
+            let status = status_of(&rt, rt.alloc(), words, &mut store, &mut sink, &mut disk);
+            end(&rt, status, words)
+        }
+        Err(error) => end(&rt, status_without_words(&error), &[]),
+    }
 }
