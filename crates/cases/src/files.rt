@@ -141,7 +141,7 @@ fn add_line(text: &mut Vec<u8>, line: &str) -> Result<bool, Reason> {
 }
 
 /// What a file holds; nothing where it isn't there.
-pub fn held<'a>(files: &'a Files, name: &str) -> &'a [u8] {
+pub fn content_of<'a>(files: &'a Files, name: &str) -> &'a [u8] {
     match files.get(name) {
         Some(bytes) => bytes.as_slice(),
         None => &[],

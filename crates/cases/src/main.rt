@@ -1,18 +1,19 @@
 //! Runs the cases of the case files, and prints a line for each.
 #![tactic(auto)]
 
-mod came;
+mod ending;
 mod files;
+mod findings;
 mod lines;
 mod looks;
 mod reason;
 mod run;
 mod runner;
 mod slots;
-mod told;
 mod words;
 
 use files::read_file;
+use findings::Findings;
 use line_io::{FileStore, Sink, StdSink, Store, put_all};
 use lines::{is_comment, line_at, lines_of};
 use reason::Reason;
@@ -21,7 +22,6 @@ use std::alloc::{AllocError, Global};
 use std::process::ExitCode;
 use std::sync::Wait;
 use std::thread::Threads;
-use told::Told;
 
 /// The file that names the case files in order, one a line.
 const LIST: &str = "CASES.txt";
@@ -96,9 +96,9 @@ fn run_cases<R: Threads + Wait + Sync, S: Store, K: Sink>(
         let (line, below) = line_at(&*lines, index);
         if let Some(title) = line.strip_prefix("case ") {
             has_case = true;
-            let told = run_case(rt, alloc, lines.len(), below, folder);
-            let reported = report(alloc, name, title, &told, sink);
-            drop(told);
+            let findings = run_case(rt, alloc, lines.len(), below, folder);
+            let reported = report(alloc, name, title, &findings, sink);
+            drop(findings);
             all_well &= reported?;
         } else if !has_case && !is_comment(line) {
             return Err(Reason::NoCase);
@@ -107,28 +107,28 @@ fn run_cases<R: Threads + Wait + Sync, S: Store, K: Sink>(
     Ok(all_well)
 }
 
-/// Prints the line of a case that was run, with what is told of it. Answers whether it did what is wanted.
+/// Prints the line of a case that was run, with its findings. Answers whether it did what is wanted.
 fn report<K: Sink>(
     alloc: Global,
     name: &str,
     title: &str,
-    told: &Told,
+    findings: &Findings,
     sink: &mut K,
 ) -> Result<bool, Reason> {
     let mut line = format!(in alloc; "{name}: {title}")?;
-    let well = write_outcome(&mut line, told)?;
+    let well = write_outcome(&mut line, findings)?;
     print(sink, line.as_bytes())?;
-    print(sink, &told.text)?;
+    print(sink, &findings.text)?;
     Ok(well)
 }
 
 /// Writes whether a case did what is wanted. Answers whether it did.
-fn write_outcome(line: &mut String, told: &Told) -> Result<bool, AllocError> {
-    if let Some(reason) = told.stopped {
-        write!(line, ", line {}: {reason}\n", told.line)?;
+fn write_outcome(line: &mut String, findings: &Findings) -> Result<bool, AllocError> {
+    if let Some(reason) = findings.stopped {
+        write!(line, ", line {}: {reason}\n", findings.line)?;
         return Ok(false);
     }
-    let well = told.text.is_empty();
+    let well = findings.text.is_empty();
     line.push_str(if well { " ok\n" } else { " FAILED\n" })?;
     Ok(well)
 }

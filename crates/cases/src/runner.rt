@@ -1,11 +1,11 @@
-//! Runs a case, and tells what came that isn't wanted.
-use crate::came::{Came, call};
+//! Runs a case, and finds what it does that isn't wanted.
+use crate::ending::{Ending, call};
 use crate::files::{output_of, put_file, wanted_files};
+use crate::findings::Findings;
 use crate::lines::{belongs, line_at};
 use crate::reason::{Reason, put_in, where_well, with};
 use crate::run::{Faults, Run, run_of};
 use crate::slots::Slots;
-use crate::told::Told;
 use crate::words::{Words, command_words};
 use line_io::{Files, Store};
 use std::alloc::Global;
@@ -47,35 +47,35 @@ struct Bench<'a, R, S> {
     alloc: Global,
     /// The folder of the case files.
     folder: &'a mut S,
-    told: &'a mut Told,
+    findings: &'a mut Findings,
     /// How many lines the case file has.
     lines: usize,
 }
 
-/// What is told of the case of a file of this many lines that begins above these.
+/// What is found in the case of a file of this many lines that begins above these.
 pub fn run_case<R: Threads + Wait + Sync, S: Store>(
     rt: &R,
     alloc: Global,
     lines: usize,
     below: &[&str],
     folder: &mut S,
-) -> Told {
+) -> Findings {
     let mut found = Found {
         files: Files::new(alloc),
         slots: Slots::blank(alloc),
     };
-    let mut told = Told::new(alloc);
+    let mut findings = Findings::new(alloc);
     let mut bench = Bench {
         rt,
         alloc,
         folder,
-        told: &mut told,
+        findings: &mut findings,
         lines,
     };
     let ran = bench.run_steps(below, &mut found);
     drop(found);
-    told.stopped = ran.err();
-    told
+    findings.stopped = ran.err();
+    findings
 }
 
 impl<'a, R: Threads + Wait + Sync, S: Store> Bench<'a, R, S> {
@@ -108,7 +108,7 @@ impl<'a, R: Threads + Wait + Sync, S: Store> Bench<'a, R, S> {
     ) -> Result<Option<&'b str>, Reason> {
         let mut words = Words::of(line);
         let word = words.word();
-        self.told.line = self.lines.saturating_sub(below.len());
+        self.findings.line = self.lines.saturating_sub(below.len());
         match word {
             "file" => put_file(self.alloc, words, below, &mut found.files, self.folder)?,
             "$" => self.run_command(line, words.rest(), below, found)?,
@@ -169,9 +169,9 @@ impl<'a, R: Threads + Wait + Sync, S: Store> Bench<'a, R, S> {
         for line in run.lines {
             self.run_line(&attempt, *line)?;
         }
-        let came = self.tried(&attempt)?;
-        let left = came.left(self.alloc, run.crash);
-        drop(came);
+        let ending = self.tried(&attempt)?;
+        let left = ending.left(self.alloc, run.crash);
+        drop(ending);
         left
     }
 
@@ -263,28 +263,28 @@ impl<'a, R: Threads + Wait + Sync, S: Store> Bench<'a, R, S> {
         })
     }
 
-    /// Tries a command, and lets go what comes of it; it is told where it isn't wanted.
+    /// Tries a command, and lets go how it ends, which is among the findings where it isn't wanted.
     fn check(&mut self, attempt: &Attempt) -> Result<(), Reason> {
         drop(self.tried(attempt)?);
         Ok(())
     }
 
-    /// What comes of an attempt; it is told where it isn't wanted.
-    fn tried(&mut self, attempt: &Attempt) -> Result<Came, Reason> {
-        let came = call(self.rt, self.alloc, attempt)?;
-        let judged = self.judge(attempt, &came);
-        where_well(came, judged)
+    /// How an attempt ends, which is among the findings where it isn't wanted.
+    fn tried(&mut self, attempt: &Attempt) -> Result<Ending, Reason> {
+        let ending = call(self.rt, self.alloc, attempt)?;
+        let judged = self.judge(attempt, &ending);
+        where_well(ending, judged)
     }
 
-    /// Tells what came of an attempt where it isn't wanted.
-    fn judge(&mut self, attempt: &Attempt, came: &Came) -> Result<(), Reason> {
-        if u32::from(came.status) == attempt.status
-            && came.written() == attempt.output
-            && *came.files() == *attempt.files
+    /// Adds how an attempt ends to the findings where it isn't wanted.
+    fn judge(&mut self, attempt: &Attempt, ending: &Ending) -> Result<(), Reason> {
+        if u32::from(ending.status) == attempt.status
+            && ending.written() == attempt.output
+            && *ending.files() == *attempt.files
         {
             Ok(())
         } else {
-            self.told.add(attempt, came)
+            self.findings.add(attempt, ending)
         }
     }
 }

@@ -64,8 +64,8 @@ abbrev pub LinesGive : Run → List ℕ → Result State ReplayError → Type 0
 LinesGive r schedule end = follow_lines r.graph (lines_of schedule) 1 r.state ≡ end
 
 -- what comes of a run when there are no more lines
-abbrev pub ended : Run → Result State ReplayError
-ended r = end_at r.state (first_unfinished r.graph r.state)
+abbrev pub run_end : Run → Result State ReplayError
+run_end r = end_at r.state (first_unfinished r.graph r.state)
 
 -- the state after the firings that the lines of a schedule name, or the first refusal
 abbrev pub follow : Parts → List ℕ → Result State ReplayError

@@ -2,7 +2,7 @@ ghost use Rattle.std.specs.Prelude.{◌≡◌, ◌<◌, Ok, Err, IfOk, IfErr, If
 ghost use Rattle.event_graph.specs.Network.{stations};
 ghost use Rattle.line_core.specs.Consistent.{IsFinished};
 ghost use Rattle.line_core.specs.Run.{IsReached};
-ghost use Rattle.line_core.specs.Schedule.{station_with, LineGives, LinesGive, ended, follow, IsRefusal};
+ghost use Rattle.line_core.specs.Schedule.{station_with, LineGives, LinesGive, run_end, follow, IsRefusal};
 
 use crate::error::{FireError, ReplayError};
 use crate::lines::{behind, end_before, prefix, without_return};
@@ -47,7 +47,7 @@ fn follow_line(state: &mut State, live: &Live, line: u64, text: &[u8]) -> Result
 /// Follows all lines of a schedule, one after the other.
 fn follow_lines(state: &mut State, live: &Live, schedule: &[u8]) -> Result<(), ReplayError>
     requires made_for { live.now.graph ≡ state.old.graph }
-    ensures followed { OnOk result (LinesGive state.old schedule.now (ended state.new)) }
+    ensures followed { OnOk result (LinesGive state.old schedule.now (run_end state.new)) }
     ensures refused { IfErr result (λ error. LinesGive state.old schedule.now (Err error)) }
     ensures graph { state.new.graph ≡ state.old.graph }
 {
@@ -66,12 +66,12 @@ fn follow_lines(state: &mut State, live: &Live, schedule: &[u8]) -> Result<(), R
 }
 
 /// The state, where every station has fired once for each job.
-fn ended(state: State, live: &Live) -> Result<State, ReplayError>
+fn run_end(state: State, live: &Live) -> Result<State, ReplayError>
     requires made_for { live.now.graph ≡ state.graph }
-    ensures ended { IfOk result (λ end. end ≡ state) }
+    ensures same { IfOk result (λ end. end ≡ state) }
     ensures finished { OnOk result (IsFinished state.graph state.state) }
-    ensures followed { IfOk result (λ end. ended state ≡ Ok end.state) }
-    ensures refused { IfErr result (λ error. ended state ≡ Err error) }
+    ensures followed { IfOk result (λ end. run_end state ≡ Ok end.state) }
+    ensures refused { IfErr result (λ error. run_end state ≡ Err error) }
 {
     match state.first_unfinished(live) {
         None => Ok(state),
@@ -99,7 +99,7 @@ pub fn replay(alloc: Global, live: &Live, schedule: &[u8]) -> Result<State, Repl
 {
     let mut state = State::start(alloc, live)?;
     match follow_lines(&mut state, live, schedule) {
-        Ok(()) => ended(state, live),
+        Ok(()) => run_end(state, live),
         Err(error) => {
             drop(state);
             Err(error)

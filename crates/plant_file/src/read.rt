@@ -65,7 +65,7 @@ fn read_named(alloc: Global, names: &Names<'_>, top: &Value) -> Result<Draft, Pl
     check_tree(alloc, Class::OutOfRanges, top)?;
     let plant = draft_of(alloc, names, top)?;
     match check_flow(alloc, plant.stages.as_slice()) {
-        Ok(()) => sealed(alloc, plant),
+        Ok(()) => draft_with_columns(alloc, plant),
         Err(refusal) => {
             drop(plant);
             Err(refusal)
@@ -74,7 +74,7 @@ fn read_named(alloc: Global, names: &Names<'_>, top: &Value) -> Result<Draft, Pl
 }
 
 /// The draft of what a plant file says, where nothing is wrong with it.
-fn sealed(alloc: Global, plant: DraftPlant) -> Result<Draft, PlantError>
+fn draft_with_columns(alloc: Global, plant: DraftPlant) -> Result<Draft, PlantError>
     requires { IsSoundDraft plant }
     ensures { Builds result plant }
 {

@@ -19,8 +19,8 @@ returns-in-Err c =
     rw c.in_ok-check_tree.ensures
     (stops_last (Err c.in-Err.refusal) _ _ refl (rw (← same) c.in-Err.ensures))
 
-pub sealed-requires : goal.sealed-requires
-sealed-requires c =
+pub draft_with_columns-requires : goal.draft_with_columns-requires
+draft_with_columns-requires c =
     let top = view c.args.top.now in
     let same : c.as_slice.result.now ≡ (draft_of top).stages =
     c.as_slice.ensures ∙ ap (λ plant. plant.stages) c.in_ok-plant.ensures in
@@ -38,4 +38,4 @@ returns-in-Ok c =
     let flow : feeds_not_later_in (draft_of top).stages ++ second_finals_in (draft_of top).stages ≡ [] =
     rw (← same) c.in-Ok.ensures in
     rw (c.in_ok-check_tree.ensures, flow)
-    (builds_reading c.sealed.result (draft_of top) (rw (← c.in_ok-plant.ensures) c.sealed.ensures))
+    (builds_reading c.draft_with_columns.result (draft_of top) (rw (← c.in_ok-plant.ensures) c.draft_with_columns.ensures))

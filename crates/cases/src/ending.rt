@@ -1,5 +1,5 @@
 //! A command over files, a sink and a disk in memory.
-use crate::files::held;
+use crate::files::content_of;
 use crate::looks::{arcs_of, circuits_of};
 use crate::reason::{Reason, where_well, with};
 use crate::run::Faults;
@@ -13,16 +13,16 @@ use std::alloc::Global;
 use std::sync::Wait;
 use std::thread::Threads;
 
-/// What comes of a command: its status, and the files, the sink and the disk as it leaves them.
+/// How a command ends: its status, and the files, the sink and the disk as it leaves them.
 #[derive(Drop)]
-pub struct Came {
+pub struct Ending {
     pub status: u8,
     store: MemStore,
     sink: MemSink,
     disk: MemDisk,
 }
 
-impl Came {
+impl Ending {
     /// What a command finds.
     fn before(alloc: Global, attempt: &Attempt) -> Result<Self, Reason> {
         let faults = attempt.faults;
@@ -30,7 +30,7 @@ impl Came {
         let (sink, store) = with(sink, store_of(alloc, &attempt.found.files, faults))?;
         let disk = attempt.found.slots.disk(alloc, faults.disk);
         let ((sink, store), disk) = with((sink, store), disk)?;
-        Ok(Came {
+        Ok(Ending {
             status: 0,
             store,
             sink,
@@ -83,10 +83,10 @@ pub fn call<R: Threads + Wait + Sync>(
     rt: &R,
     alloc: Global,
     attempt: &Attempt,
-) -> Result<Came, Reason> {
-    let mut came = Came::before(alloc, attempt)?;
-    let ran = run_words(rt, alloc, attempt, &mut came);
-    where_well(came, ran)
+) -> Result<Ending, Reason> {
+    let mut ending = Ending::before(alloc, attempt)?;
+    let ran = run_words(rt, alloc, attempt, &mut ending);
+    where_well(ending, ran)
 }
 
 /// Runs the words of a command.
@@ -94,21 +94,21 @@ fn run_words<R: Threads + Wait + Sync>(
     rt: &R,
     alloc: Global,
     attempt: &Attempt,
-    came: &mut Came,
+    ending: &mut Ending,
 ) -> Result<(), Reason> {
     let Some((program, words)) = attempt.words.split_first() else {
         return Err(Reason::NoDirective);
     };
     if program.as_str() != "pull" {
-        return look(alloc, program.as_str(), words, attempt, &mut came.sink);
+        return look(alloc, program.as_str(), words, attempt, &mut ending.sink);
     }
-    came.status = status_of(
+    ending.status = status_of(
         rt,
         alloc,
         words,
-        &mut came.store,
-        &mut came.sink,
-        &mut came.disk,
+        &mut ending.store,
+        &mut ending.sink,
+        &mut ending.disk,
     );
     Ok(())
 }
@@ -150,8 +150,8 @@ fn look_of(
     let found = attempt.found;
     match (name, words) {
         ("slots", []) => found.slots.text(alloc),
-        ("arcs", [file]) => arcs_of(alloc, held(&found.files, file.as_str())),
-        ("circuits", [file]) => circuits_of(alloc, held(&found.files, file.as_str())),
+        ("arcs", [file]) => arcs_of(alloc, content_of(&found.files, file.as_str())),
+        ("circuits", [file]) => circuits_of(alloc, content_of(&found.files, file.as_str())),
         _ => Err(Reason::NoDirective),
     }
 }

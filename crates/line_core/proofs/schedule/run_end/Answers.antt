@@ -1,7 +1,7 @@
 use Rattle.std.proofs.Common.{◌∙◌, sym}
 use Rattle.line_core.proofs.Consistency.{reached_is_consistent}
 use Rattle.line_core.proofs.Searches.{is_finished}
-use Rattle.line_core.proofs.schedule.ended.Goals as goal
+use Rattle.line_core.proofs.schedule.run_end.Goals as goal
 
 pub returns-in-None-clause-finished : goal.returns-in-None-clause-finished
 returns-in-None-clause-finished c =

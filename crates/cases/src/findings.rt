@@ -1,37 +1,37 @@
 //! What is said of a command that does something that isn't wanted.
-use crate::came::Came;
+use crate::ending::Ending;
 use crate::reason::Reason;
 use crate::runner::Attempt;
 use crate::slots::add_number;
 use line_io::Files;
 use std::alloc::{AllocError, Global};
 
-/// What is told of a case.
+/// What is found in a case.
 #[derive(Drop)]
-pub struct Told {
+pub struct Findings {
     /// The number of the line of the step that is run.
     pub line: usize,
     /// Why this line can't be followed, if it can't.
     pub stopped: Option<Reason>,
-    /// What came that isn't wanted; nothing where all is.
+    /// How commands end that isn't wanted; nothing where all is wanted.
     pub text: Vec<u8>,
 }
 
-impl Told {
-    /// Nothing is told so far.
+impl Findings {
+    /// Nothing is found so far.
     pub fn new(alloc: Global) -> Self {
-        Told {
+        Findings {
             line: 0,
             stopped: None,
             text: Vec::new(alloc),
         }
     }
 
-    /// Adds what came of an attempt: its status, all that it wrote, and the files that changed.
-    pub fn add(&mut self, attempt: &Attempt, came: &Came) -> Result<(), Reason> {
-        self.add_head(attempt, came.status)?;
-        self.text.extend_from_slice(came.written())?;
-        Ok(add_changed(&mut self.text, &attempt.found.files, came.files())?)
+    /// Adds how an attempt ends: its status, all that it wrote, and the files that changed.
+    pub fn add(&mut self, attempt: &Attempt, ending: &Ending) -> Result<(), Reason> {
+        self.add_head(attempt, ending.status)?;
+        self.text.extend_from_slice(ending.written())?;
+        Ok(add_changed(&mut self.text, &attempt.found.files, ending.files())?)
     }
 
     /// Adds the line of the command, the line below it that asks for the attempt, and the status that it ended with.
