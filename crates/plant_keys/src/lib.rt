@@ -14,6 +14,7 @@ pub use keys::{
     Class, Key, Kind, has_column, has_stage_cards, loop_keys, machine_keys, stage_keys, top_keys,
 };
 pub use names::{Names, names_of_stages};
+pub use refuse::refusal;
 pub use rules::{is_policy, keeps_name_rule, shown};
 pub use unknown::is_allowed;
 pub use values::{elements_of, has, tables_at, tables_of, text_at, text_of, value_at};

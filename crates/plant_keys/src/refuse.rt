@@ -24,7 +24,7 @@ pub(crate) fn refuse_unless(
 }
 
 /// The refusal of a class at a place.
-fn refusal(class: Class, place: Text) -> PlantError
+pub fn refusal(class: Class, place: Text) -> PlantError
     ensures { result ≡ refusal class place }
 {
     match class {

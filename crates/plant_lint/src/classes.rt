@@ -1,32 +1,18 @@
 //! What a class of refusals asks of the value at a key, what it wants there, and what it says where it refuses.
 ghost use Rattle.std.specs.Prelude.{◌≡◌, if◌then◌else◌};
-ghost use Rattle.plant_keys.specs.Code.{refusal, views};
+ghost use Rattle.plant_keys.specs.Code.{views};
 ghost use Rattle.plant_keys.specs.Readers.{is_filled};
 ghost use Rattle.plant_lint.specs.Classes.{passes, is_in_range, limit_of_numbers, limit_in};
 ghost use Rattle.plant_lint.specs.Faults.{wanted, wanted_name, wanted_range, wanted_type};
 ghost use Rattle.toml.specs.View.{view};
 
 use crate::fault::Wants;
-use line_base::Text;
 use plant_keys::{
     Class, Kind, elements_of, has_kind, has_right_size, is_policy, keeps_name_rule, may_be_number,
     tables_of, text_of,
 };
-use plant_model::{PlantError, is_reserved};
+use plant_model::is_reserved;
 use toml::Value;
-
-/// The refusal of a class at a place.
-pub(crate) fn refusal(class: Class, place: Text) -> PlantError
-    ensures { result ≡ refusal class place }
-{
-    match class {
-        Class::UnknownKeys => PlantError::UnknownKey { place },
-        Class::MissingKeys => PlantError::Missing { place },
-        Class::WrongTypes => PlantError::WrongType { place },
-        Class::BadNames => PlantError::BadName { place },
-        Class::OutOfRanges => PlantError::OutOfRange { place },
-    }
-}
 
 /// Whether what stands at a key passes a class. The numbers of a list are asked one by one after that.
 pub(crate) fn passes(class: Class, kind: Kind, value: &Value) -> bool

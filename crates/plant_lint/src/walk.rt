@@ -9,13 +9,13 @@ ghost use Rattle.plant_lint.specs.Trees.{key_faults, keys_faults, table_faults, 
 ghost use Rattle.plant_lint.specs.Classes.{limit_faults};
 ghost use Rattle.toml.specs.View.{view, table_view};
 
-use crate::classes::{limit_of_numbers, passes, refusal, wanted};
+use crate::classes::{limit_of_numbers, passes, wanted};
 use crate::fault::Wants;
 use crate::faults::Faults;
 use crate::rows::{Rows, find_in_rows};
 use plant_keys::{
     Class, Key, elements_of, has_stage_cards, is_allowed, loop_keys, machine_keys, may_be_number,
-    shown, stage_keys, tables_at, top_keys, value_at,
+    refusal, shown, stage_keys, tables_at, top_keys, value_at,
 };
 use plant_model::{FileTable, PlantError, element_place, key_place};
 use std::alloc::AllocError;
