@@ -1,6 +1,6 @@
 -- The names in a set beside the list of them.
 use Rattle.std.proofs.Common.{◌≡◌, ℕ, suc, ◌+◌, ◌<◌, ◌≤◌, Bool, true, false, not, ◌||◌, cond, List, [], ◌∷◌, ◌++◌, map, take, length, get_or, Some, None, refl, ap, sym, ◌∙◌, Bor, ltb, arith}
-use Rattle.std.specs.Prelude.{position}
+use Rattle.std.specs.Prelude.{bytes_eq, position}
 use Rattle.std.specs.List.{list_any, prefix_len, position_or_len}
 use Rattle.std.proofs.lemmas.Bool.{ltb-false}
 use Rattle.std.proofs.lemmas.List.{take_more}
@@ -9,7 +9,7 @@ use Rattle.std.proofs.Math.ListN.{get_or-map}
 use Rattle.std.proofs.lemmas.List.{length-map}
 use Rattle.toml.specs.View.{view}
 use Rattle.toml.specs.declared.value.Value.{Value}
-use Rattle.plant_keys.specs.Code.{views}
+use Rattle.plant_keys.specs.Code.{views, with_name}
 use Rattle.plant_keys.specs.Readers.{name_in}
 
 texts : List (Bor (List ℕ)) → List (List ℕ)
@@ -22,6 +22,16 @@ list_any_texts p (n ∷ ns) = ap (λ rest. p n.now || rest) (list_any_texts p ns
 pub texts_more : (names : List (Bor (List ℕ))) (name : Bor (List ℕ)) → map (λ n. n.now) (names ++ name ∷ []) ≡ map (λ n. n.now) names ++ name.now ∷ []
 texts_more [] name = refl
 texts_more (n ∷ ns) name = ap (λ rest. n.now ∷ rest) (texts_more ns name)
+
+-- the texts of a set after a name was put into it
+pub texts_with : (keys after : List (Bor (List ℕ))) (name : Bor (List ℕ)) → after ≡ cond (list_any (λ n. bytes_eq name.now n.now) keys) keys (keys ++ name ∷ []) → map (λ n. n.now) after ≡ with_name name.now (map (λ n. n.now) keys)
+texts_with keys after name is =
+    rw (is, list_any_texts (bytes_eq name.now) keys, ← texts_more keys name)
+    (texts_of_either (list_any (λ n. bytes_eq name.now n.now) keys) keys (keys ++ name ∷ []))
+  where
+    texts_of_either : (b : Bool) (xs ys : List (Bor (List ℕ))) → map (λ n. n.now) (cond b xs ys) ≡ cond b (map (λ n. n.now) xs) (map (λ n. n.now) ys)
+    texts_of_either true xs ys = refl
+    texts_of_either false xs ys = refl
 
 pub length_texts : (names : List (Bor (List ℕ))) → length (map (λ n. n.now) names) ≡ length names
 length_texts [] = refl

@@ -1,7 +1,7 @@
-ghost use Rattle.std.specs.List.{position_or_len};
-ghost use Rattle.std.specs.Prelude.{◌≡◌, ◌++◌, [], ◌∷◌, length, map, take, OnOk, bytes_eq, position, codes};
+ghost use Rattle.std.specs.List.{list_any, position_or_len};
+ghost use Rattle.std.specs.Prelude.{◌≡◌, ◌++◌, [], ◌∷◌, length, map, not, take, IfOk, OnOk, bytes_eq, position, codes};
 ghost use Rattle.plant_model.specs.Refusals.{AnswersFirst, each};
-ghost use Rattle.plant_keys.specs.Code.{GivesNames, views};
+ghost use Rattle.plant_keys.specs.Code.{GivesNames, views, with_name};
 ghost use Rattle.plant_keys.specs.Readers.{name_in, stage_names};
 ghost use Rattle.plant_keys.specs.Walk.{name_twice, machine_name_twice, stage_name_twice, names_twice};
 ghost use Rattle.toml.specs.View.{view};
@@ -9,7 +9,7 @@ ghost use Rattle.toml.specs.View.{view};
 use crate::values::{tables_at, text_at};
 use indexmap::IndexSet;
 use plant_model::{FileTable, PlantError, key_place};
-use std::alloc::Global;
+use std::alloc::{AllocError, Global};
 use std::marker::Model;
 use toml::Value;
 
@@ -29,7 +29,7 @@ impl<'a> Model for Names<'a> {
 
 impl<'a> Names<'a> {
     /// No names. It takes no memory.
-    fn new(alloc: Global) -> Self
+    pub fn new(alloc: Global) -> Self
         ensures { result ≡ [] }
     {
         Names {
@@ -37,13 +37,22 @@ impl<'a> Names<'a> {
         }
     }
 
+    /// Adds a name at the end, unless it is among those before, and tells whether it is new.
+    #[tactic(auto, using(crate::proofs::NameLists::list_any_texts))]
+    pub fn add(&mut self, name: &'a str) -> Result<bool, AllocError>
+        ensures differs { IfOk result (λ is_new. is_new ≡ not (list_any (bytes_eq name.now) self.old)) }
+        ensures added { OnOk result (self.new ≡ with_name name.now self.old) }
+    {
+        let (_, is_new) = self.set.insert_full(name)?;
+        Ok(is_new)
+    }
+
     /// Adds a name of a table at the end, or refuses it where it is among those before.
-    #[tactic(auto, using(crate::proofs::NameLists::list_any_texts, crate::proofs::NameLists::texts_more))]
     fn add_name(&mut self, alloc: Global, table: FileTable, name: &'a str) -> Result<(), PlantError>
         ensures first { AnswersFirst result (name_twice table self.old name.now) }
         ensures added { OnOk result (self.new ≡ self.old ++ name.now ∷ []) }
     {
-        let Ok((_, is_new)) = self.set.insert_full(name) else {
+        let Ok(is_new) = self.add(name) else {
             return Err(PlantError::NoMemory);
         };
         if is_new {
@@ -94,6 +103,14 @@ impl<'a> Names<'a> {
             self.add_name(alloc, FileTable::InMachine(i, j), text_at(machine, "name"))?;
         }
         Ok(())
+    }
+
+    /// Whether a name is among these. It takes no memory.
+    #[tactic(auto, using(crate::proofs::NameLists::list_any_texts))]
+    pub fn has(&self, name: &str) -> bool
+        ensures { result ≡ list_any (bytes_eq name.now) self.now }
+    {
+        self.set.contains(name)
     }
 
     /// The number of a name; none where it isn't among these. It takes no memory.

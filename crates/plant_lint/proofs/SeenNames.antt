@@ -1,5 +1,5 @@
 -- Names that came so far beside the list of all.
-use Rattle.std.proofs.Common.{◌≡◌, ℕ, ◌+◌, ◌<◌, Bool, true, false, not, ◌&&◌, ◌||◌, List, [], ◌∷◌, ◌++◌, map, take, length, get_or, cond, Bor, refl, ap, sym, ◌∙◌}
+use Rattle.std.proofs.Common.{◌≡◌, ℕ, ◌+◌, ◌<◌, Bool, true, false, not, ◌&&◌, ◌||◌, List, [], ◌∷◌, ◌++◌, map, take, length, get_or, cond, refl, ap, sym, ◌∙◌}
 use Rattle.std.specs.Prelude.{bytes_eq, codes}
 use Rattle.std.specs.List.{list_any}
 use Rattle.plant_model.specs.declared.place.FileTable.{FileTable}
@@ -10,39 +10,36 @@ use Rattle.plant_model.specs.Refusals.{refuse_if}
 use Rattle.toml.specs.Data.{Data}
 use Rattle.toml.specs.View.{view}
 use Rattle.toml.specs.declared.value.Value.{Value}
-use Rattle.plant_keys.specs.Code.{views}
+use Rattle.plant_keys.specs.Code.{views, with_name}
 use Rattle.plant_keys.specs.Readers.{name_in, tables_at}
 use Rattle.plant_keys.specs.Walk.{name_twice, machine_names_twice, stage_name_twice}
 use Rattle.std.proofs.lemmas.List.Folds.{list_any-append}
 use Rattle.std.proofs.lemmas.Slice.Eq.{bytes_eq-Decides}
-use Rattle.plant_keys.proofs.NameLists.{names_more, list_any_texts, texts_more}
+use Rattle.plant_keys.proofs.NameLists.{names_more}
 use Rattle.plant_lint.specs.Seen.{HaveSame}
 use Rattle.plant_lint.specs.Trees.{fed_fault, fed_faults}
 
--- a name that came is one that came before
-known-same : (seen : List (List ℕ)) (name : List ℕ) → list_any (bytes_eq name) seen ≡ true → HaveSame seen (seen ++ name ∷ [])
-known-same seen name known =
-    record {
-      same = λ q.
-          sym
-          (list_any-append (bytes_eq q) seen (name ∷ [])
-          ∙ known_either (list_any (bytes_eq q) seen) (bytes_eq q name) (λ is. ap (λ text. list_any (bytes_eq text) seen) ((bytes_eq-Decides q name).0 is) ∙ known));
-    }
+-- the names that came, with one more or without it where it came before
+with_name-same : (seen : List (List ℕ)) (name : List ℕ) → HaveSame (with_name name seen) (seen ++ name ∷ [])
+with_name-same seen name =
+    elim (list_any (bytes_eq name) seen) as (λ b. list_any (bytes_eq name) seen ≡ b → HaveSame (cond b seen (seen ++ name ∷ [])) (seen ++ name ∷ [])) [
+      | true ↦ λ known. record {
+        same = λ q.
+            sym
+            (list_any-append (bytes_eq q) seen (name ∷ [])
+            ∙ known_either (list_any (bytes_eq q) seen) (bytes_eq q name) (λ is. ap (λ text. list_any (bytes_eq text) seen) ((bytes_eq-Decides q name).0 is) ∙ known));
+      }
+      | false ↦ λ _. record { same = λ q. refl }
+    ] refl
   where
     known_either : (there here : Bool) → (here ≡ true → there ≡ true) → (there || (here || false)) ≡ there
     known_either true here h = refl
     known_either false true h = sym (h refl)
     known_either false false h = refl
 
--- a set after a name was put into it
-pub put-same : (keys after : List (Bor (List ℕ))) (name : Bor (List ℕ)) → after ≡ cond (list_any (λ n. bytes_eq name.now n.now) keys) keys (keys ++ name ∷ []) → HaveSame (map (λ n. n.now) after) (map (λ n. n.now) keys ++ name.now ∷ [])
-put-same keys after name is =
-    put_by (list_any (λ n. bytes_eq name.now n.now) keys) refl is
-  where
-    put_by : (b : Bool) → list_any (λ n. bytes_eq name.now n.now) keys ≡ b → after ≡ cond b keys (keys ++ name ∷ []) → HaveSame (map (λ n. n.now) after) (map (λ n. n.now) keys ++ name.now ∷ [])
-    put_by true known is =
-        rw is (known-same (map (λ n. n.now) keys) name.now (list_any_texts (bytes_eq name.now) keys ∙ known))
-    put_by false known is = rw (is, texts_more keys name) (record { same = λ q. refl })
+-- the names that came, after one was added
+pub added_same : (seen now : List (List ℕ)) (name : List ℕ) → now ≡ with_name name seen → HaveSame now (seen ++ name ∷ [])
+added_same seen now name is = rw is (with_name-same seen name)
 
 -- one name more in both
 pub same-push : (seen now names : List (List ℕ)) (name : List ℕ) → HaveSame seen names → HaveSame now (seen ++ name ∷ []) → HaveSame now (names ++ name ∷ [])

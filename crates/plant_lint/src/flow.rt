@@ -11,15 +11,14 @@ ghost use Rattle.toml.specs.View.{view};
 use crate::fault::Wants;
 use crate::faults::Faults;
 use crate::rows::Rows;
-use crate::seen::Seen;
-use plant_keys::{has, shown, text_at, text_of, value_at};
+use plant_keys::{Names, has, shown, text_at, text_of, value_at};
 use plant_model::{FileTable, PlantError, Text, key_place, table_place};
 use std::alloc::AllocError;
 use toml::Value;
 
 /// Adds each stage that feeds one which isn't there or stands no later, where these are the names of all.
 pub(crate) fn find_feeds(
-    all: &Seen<'_>,
+    all: &Names<'_>,
     stages: &[Value],
     faults: &mut Faults,
 ) -> Result<(), AllocError>
@@ -27,7 +26,7 @@ pub(crate) fn find_feeds(
     ensures { OnOk result (faults.new ≡ faults.old
         ++ all_of (λ i s. feeds_faults (map name_in (views stages.now)) i (view s)) stages.now) }
 {
-    let mut earlier = Seen::new(faults.alloc);
+    let mut earlier = Names::new(faults.alloc);
     let found = find_each_feed(all, &mut earlier, stages, faults);
     drop(earlier);
     found
@@ -35,8 +34,8 @@ pub(crate) fn find_feeds(
 
 /// The same, where the names of the stages before each are gathered here; there is none yet.
 fn find_each_feed<'a>(
-    all: &Seen<'_>,
-    earlier: &mut Seen<'a>,
+    all: &Names<'_>,
+    earlier: &mut Names<'a>,
     stages: &'a [Value],
     faults: &mut Faults,
 ) -> Result<(), AllocError>
@@ -54,8 +53,8 @@ fn find_each_feed<'a>(
 
 /// Adds that stage `i` feeds no later one, where these are the names of all stages, and of those up to this one.
 fn find_feed(
-    all: &Seen<'_>,
-    before: &Seen<'_>,
+    all: &Names<'_>,
+    before: &Names<'_>,
     i: usize,
     stage: &Value,
     faults: &mut Faults,
@@ -73,7 +72,7 @@ fn find_feed(
 }
 
 /// Whether a later stage has the name, where these are the names of all stages, and of those up to the one that feeds it.
-fn is_later(all: &Seen<'_>, before: &Seen<'_>, name: &str) -> bool
+fn is_later(all: &Names<'_>, before: &Names<'_>, name: &str) -> bool
     ensures { result ≡ (list_any (bytes_eq name.now) all.now && not (list_any (bytes_eq name.now) before.now)) }
 {
     all.has(name) && !before.has(name)

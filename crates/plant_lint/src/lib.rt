@@ -15,7 +15,6 @@ mod plant;
 mod position;
 mod records;
 mod rows;
-mod seen;
 mod tree;
 mod unused;
 mod walk;

@@ -10,8 +10,7 @@ ghost use Rattle.toml.specs.View.{view};
 
 use crate::fault::Wants;
 use crate::faults::Faults;
-use crate::seen::Seen;
-use plant_keys::{tables_at, text_at};
+use plant_keys::{Names, tables_at, text_at};
 use plant_model::{FileTable, PlantError, key_place};
 use std::alloc::AllocError;
 use toml::Value;
@@ -20,7 +19,7 @@ use toml::Value;
 /// stages, of which none came before.
 pub(crate) fn find_twice<'a>(
     stages: &'a [Value],
-    seen: &mut Seen<'a>,
+    seen: &mut Names<'a>,
     faults: &mut Faults,
 ) -> Result<(), AllocError>
     requires { seen.old ≡ [] }
@@ -36,7 +35,7 @@ pub(crate) fn find_twice<'a>(
 
 /// Adds the name of stage `i` to those before, and finds whether it, or one of its machines' names, stands twice.
 fn find_in_stage<'a>(
-    seen: &mut Seen<'a>,
+    seen: &mut Names<'a>,
     i: usize,
     stage: &'a Value,
     faults: &mut Faults,
@@ -47,7 +46,7 @@ fn find_in_stage<'a>(
 {
     let is_new = seen.add(text_at(stage, "name"))?;
     find_name(FileTable::InStage(i), is_new, faults)?;
-    let mut names = Seen::new(faults.alloc);
+    let mut names = Names::new(faults.alloc);
     let found = find_in_machines(i, tables_at(stage, "machine"), &mut names, faults);
     drop(names);
     found
@@ -57,7 +56,7 @@ fn find_in_stage<'a>(
 fn find_in_machines<'a>(
     i: usize,
     machines: &'a [Value],
-    seen: &mut Seen<'a>,
+    seen: &mut Names<'a>,
     faults: &mut Faults,
 ) -> Result<(), AllocError>
     requires { seen.old ≡ [] }

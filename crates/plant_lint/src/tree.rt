@@ -10,9 +10,8 @@ use crate::faults::Faults;
 use crate::flow::{Finals, find_feeds};
 use crate::names::find_twice;
 use crate::rows::find_in_rows;
-use crate::seen::Seen;
 use crate::walk::find_in_tree;
-use plant_keys::{Class, tables_at};
+use plant_keys::{Class, Names, tables_at};
 use std::alloc::{AllocError, Global};
 use toml::Value;
 
@@ -34,7 +33,7 @@ fn find_in_classes(top: &Value, faults: &mut Faults) -> Result<(), AllocError>
     find_in_tree(Class::MissingKeys, top, faults)?;
     find_in_tree(Class::WrongTypes, top, faults)?;
     find_in_tree(Class::BadNames, top, faults)?;
-    let mut names = Seen::new(faults.alloc);
+    let mut names = Names::new(faults.alloc);
     let found = find_from_names_on(top, &mut names, faults);
     drop(names);
     found
@@ -43,7 +42,7 @@ fn find_in_classes(top: &Value, faults: &mut Faults) -> Result<(), AllocError>
 /// Adds the names that stand twice, and what comes after them. No name came before.
 fn find_from_names_on<'a>(
     top: &'a Value,
-    names: &mut Seen<'a>,
+    names: &mut Names<'a>,
     faults: &mut Faults,
 ) -> Result<(), AllocError>
     requires { names.old ≡ [] }

@@ -6,7 +6,7 @@ use Rattle.plant_keys.specs.Readers.{name_in}
 use Rattle.plant_keys.specs.Walk.{machine_name_twice}
 use Rattle.plant_lint.specs.Faults.{plain}
 use Rattle.plant_lint.proofs.Gathering.{gathered_none, gathers, gathered_all}
-use Rattle.plant_lint.proofs.SeenNames.{none_seen, seen_more, twice_found, name_twice-same}
+use Rattle.plant_lint.proofs.SeenNames.{none_seen, added_same, seen_more, twice_found, name_twice-same}
 use Rattle.plant_lint.proofs.names.find_in_machines.Goals as goal
 
 pub loop-j-init : goal.loop-j-init
@@ -21,7 +21,7 @@ loop-j-preserved c =
       gathers (λ j m. plain (machine_name_twice c.args.i names j (view m))) rows j x _ _ _ c.loop-j.invariant.0 (omega arith) c.index-machines-j.is
           (c.in_ok-find_name.ensures
           ∙ ap (λ found. c.loop-j.faults ++ plain found) (twice_found (InMachine c.args.i j) c.loop-j.seen (name_in (view x)) _ (rw c.text_at.ensures at c.in_ok-is_new.ensures.differs) ∙ name_twice-same (InMachine c.args.i j) c.loop-j.seen (take j names) (name_in (view x)) c.loop-j.invariant.1)),
-      seen_more rows j x _ _ c.loop-j.invariant.1 (rw c.text_at.ensures at c.in_ok-is_new.ensures.added) (omega arith) c.index-machines-j.is,
+      seen_more rows j x _ _ c.loop-j.invariant.1 (added_same _ _ _ (rw c.text_at.ensures at c.in_ok-is_new.ensures.added)) (omega arith) c.index-machines-j.is,
     )
 
 pub returns : goal.returns

@@ -1,9 +1,10 @@
 use Rattle.std.proofs.Common.{ap, ◌++◌, ◌∙◌}
+use Rattle.std.proofs.lemmas.Result.{on_ok_weaker}
 use Rattle.toml.specs.View.{view}
 use Rattle.plant_model.specs.declared.place.FileTable.TheVariants.{InStage}
 use Rattle.plant_keys.specs.Readers.{name_in}
 use Rattle.plant_lint.specs.Faults.{plain}
-use Rattle.plant_lint.proofs.SeenNames.{twice_found}
+use Rattle.plant_lint.proofs.SeenNames.{added_same, twice_found}
 use Rattle.plant_lint.proofs.FaultLists.{stage_twice_faults, then_more}
 use Rattle.plant_lint.proofs.names.find_in_stage.Goals as goal
 
@@ -14,3 +15,8 @@ returns-clause-found c =
     (c.in_ok-find_name.ensures
     ∙ ap (λ found. c.args.faults.now ++ plain found) (twice_found (InStage c.args.i) c.args.seen.now (name_in (view c.args.stage.now)) _ (rw c.text_at.ensures at c.in_ok-is_new.ensures.differs)))
     c.find_in_machines-found.ensures)
+
+pub returns-clause-added : goal.returns-clause-added
+returns-clause-added c =
+    on_ok_weaker c.find_in_machines-found.result
+    (λ _. added_same c.args.seen.now _ _ (rw c.text_at.ensures at c.in_ok-is_new.ensures.added)) c.find_in_machines-found.ensures
