@@ -1,7 +1,6 @@
 //! What lint says of a plant file and of the files that it names.
-ghost use Rattle.std.specs.Prelude.{◌≡◌, ◌⊎◌, ◌≤◌, IfSome, Ok, Err, is_some, length, option_copied};
-ghost use Rattle.line_base.specs.declared.limits.TheConstants.{MAX_CHECKPOINT_BYTES};
-ghost use Rattle.plant_file.specs.Draft.{demands_file};
+ghost use Rattle.std.specs.Prelude.{◌≡◌, ◌⊎◌, Ok, Err, option_copied};
+ghost use Rattle.plant_file.specs.Finish.{AreFilesOf};
 ghost use Rattle.plant_lint.specs.FileLints.{LintsFile};
 ghost use Rattle.plant_lint.specs.PlantLints.{clean_text};
 ghost use Rattle.plant_lint.specs.declared.file.FileLint.TheVariants as lint;
@@ -76,9 +75,7 @@ fn lint_bytes(
     demands: Option<&[u8]>,
     times: Option<&[u8]>,
 ) -> Result<Items<u8>, Refusal>
-    requires demands_where_used { is_some demands ≡ is_some (demands_file file.draft) }
-    requires times_where_used { is_some times ≡ is_some file.draft.times_file }
-    requires times_size { IfSome times (λ bytes. length bytes.now ≤ MAX_CHECKPOINT_BYTES) }
+    requires { AreFilesOf file.draft demands times }
     ensures { IsDraftLint file (option_copied demands.entry) (option_copied times.entry) result
         ⊎ (result ≡ Err NoMemory) }
 {

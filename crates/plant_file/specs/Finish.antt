@@ -1,8 +1,10 @@
 -- The plant of a draft and of what its files say, and which refusals of the classes 10 to 15 it meets.
-use Rattle.std.specs.Prelude.{◌≡◌, ◌≢◌, ◌≤◌, ⊤, ℕ, All, Contains, IfSome, List, [], ◌∷◌, ◌++◌, length, map, Option, unwrap_or, Result, Ok, Err, MatchResult}
+use Rattle.std.specs.Prelude.{◌≡◌, ◌≢◌, ◌≤◌, ⊤, ℕ, All, Contains, IfSome, List, [], ◌∷◌, ◌++◌, length, map, Option, is_some, unwrap_or, Result, Ok, Err, MatchResult}
+use Rattle.std.specs.Borrow.{Bor}
 use Rattle.std.specs.Option.{option_and_then, option_map_or}
 use Rattle.std.specs.Result.{result_ok}
 use Rattle.line_base.specs.Limits.{longest_time}
+use Rattle.line_base.specs.declared.limits.TheConstants.{MAX_CHECKPOINT_BYTES}
 use Rattle.line_base.specs.declared.times.Times.{Times}
 use Rattle.line_base.specs.declared.times.Times.TheVariants as made
 use Rattle.plant_model.specs.declared.error.PlantError.{PlantError}
@@ -96,6 +98,12 @@ plant_or_first (refusal ∷ _) p = Err refusal
 -- the plant of a draft with these dates and times, or the first of its refusals 11 to 15
 abbrev pub finished : DraftPlant → Option (List ℕ) → Option JobTimes → Result Plant PlantError
 finished d dates table = plant_or_first (whole_refusals (plant_with d dates table)) (plant_with d dates table)
+
+-- the bytes of a draft's files, each given exactly where the draft names it, of the times file at most a checkpoint's
+pub record AreFilesOf (d : DraftPlant) (demands times : Option (Bor (List ℕ))) : Type 0 where
+  pub demands_where_used : is_some demands ≡ is_some (demands_file d)
+  pub times_where_used : is_some times ≡ is_some d.times_file
+  pub times_size : IfSome times (λ bytes. length bytes.now ≤ MAX_CHECKPOINT_BYTES)
 
 -- 10, of a file: the number of its first bad record
 abbrev pub bad_record : {A : Type 0} → List ℕ → Held A → List PlantError

@@ -5,7 +5,7 @@ ghost use Rattle.demand_feed.specs.Times.{times_of};
 ghost use Rattle.line_base.specs.declared.limits.TheConstants.{MAX_CHECKPOINT_BYTES, MAX_DEMAND_DATE};
 ghost use Rattle.plant_file.specs.Draft.{demands_file, demands_column, columns_of};
 ghost use Rattle.plant_file.specs.Complete.{HoldsDates, HoldsTimes, refusal_of};
-ghost use Rattle.plant_file.specs.Finish.{AnswersPlant, HasColumn, HasColumns, IsWithinLimit, bad_record_in, bad_records, plant_of_bytes, completed, dates_with, finished, loop_with, machine_with, plant_with, stage_with, times_with};
+ghost use Rattle.plant_file.specs.Finish.{AnswersPlant, AreFilesOf, HasColumn, HasColumns, IsWithinLimit, bad_record_in, bad_records, plant_of_bytes, completed, dates_with, finished, loop_with, machine_with, plant_with, stage_with, times_with};
 ghost use Rattle.plant_file.specs.PlantOfFiles.{Contents, IsReadFrom, plant_of};
 ghost use Rattle.plant_model.specs.Refusals.{all_feeds_not_later, first, whole_refusals};
 ghost use Rattle.plant_model.specs.Sound.{IsSound};
@@ -68,9 +68,7 @@ pub fn complete_draft(
     demands: Option<&[u8]>,
     times: Option<&[u8]>,
 ) -> Result<Plant, PlantError>
-    requires demands_where_used { is_some demands ≡ is_some (demands_file draft) }
-    requires times_where_used { is_some times ≡ is_some draft.times_file }
-    requires times_size { IfSome times (λ bytes. length bytes.now ≤ MAX_CHECKPOINT_BYTES) }
+    requires { AreFilesOf draft demands times }
     ensures plant { AnswersPlant result (completed draft (option_copied demands.entry) (option_copied times.entry)) }
     ensures sound { IfOk result IsSound }
 
@@ -97,9 +95,7 @@ pub fn assemble_plant(
     demands: Option<&[u8]>,
     times: Option<&[u8]>,
 ) -> Result<Plant, PlantError>
-    requires demands_where_used { is_some demands ≡ is_some (demands_file draft) }
-    requires times_where_used { is_some times ≡ is_some draft.times_file }
-    requires times_size { IfSome times (λ bytes. length bytes.now ≤ MAX_CHECKPOINT_BYTES) }
+    requires { AreFilesOf draft demands times }
     ensures plant { IfOk result (λ made.
         made ≡ plant_of_bytes draft (option_copied demands.entry) (option_copied times.entry)) }
     ensures feeds { IfOk result (λ made. all_feeds_not_later made ≡ []) }
@@ -146,9 +142,7 @@ fn tables_in(
     demands: Option<&[u8]>,
     times: Option<&[u8]>,
 ) -> Result<(Option<Vec<Date>>, Option<Columns>), PlantError>
-    requires demands_where_used { is_some demands ≡ is_some (demands_file draft.now) }
-    requires times_where_used { is_some times ≡ is_some draft.now.times_file }
-    requires times_size { IfSome times (λ bytes. length bytes.now ≤ MAX_CHECKPOINT_BYTES) }
+    requires { AreFilesOf draft.now demands times }
     ensures dates { IfOk result (λ tables. HoldsDates draft.now (option_copied demands.entry) tables.0) }
     ensures times { IfOk result (λ tables. HoldsTimes draft.now (option_copied times.entry) tables.1) }
     ensures refused { IfErr result (λ e. e ≢ PlantError.NoMemory

@@ -1,10 +1,9 @@
 -- What lint says of a draft, which nothing is wrong with by itself, and of the bytes of the files that it names.
-use Rattle.std.specs.Prelude.{◌≡◌, ◌≤◌, ℕ, List, [], ◌∷◌, length, Option, None, Some, IfSome, is_some, option_copied}
+use Rattle.std.specs.Prelude.{◌≡◌, ℕ, List, [], ◌∷◌, Option, None, Some, option_copied}
 use Rattle.std.specs.Borrow.{Bor}
-use Rattle.line_base.specs.declared.limits.TheConstants.{MAX_CHECKPOINT_BYTES}
 use Rattle.plant_file.specs.declared.draft.DraftPlant.{DraftPlant}
 use Rattle.plant_file.specs.Draft.{demands_file}
-use Rattle.plant_file.specs.Finish.{plant_of_bytes}
+use Rattle.plant_file.specs.Finish.{AreFilesOf, plant_of_bytes}
 use Rattle.plant_model.specs.declared.plant.Plant.{Plant}
 use Rattle.plant_model.specs.Sound.{IsSound}
 use Rattle.plant_lint.specs.declared.draft_lint.DraftLint.{DraftLint}
@@ -16,11 +15,9 @@ use Rattle.plant_lint.specs.PlantLints.{lint_of_plant}
 use Rattle.plant_lint.specs.Records.{record_faults}
 use Rattle.plant_lint.specs.Texts.{fault_lines}
 
--- the bytes of a draft's files, each given exactly where the draft names it, of which no record is bad
+-- the bytes of a draft's files, of which no record is bad
 pub record AreGoodFiles (d : DraftPlant) (demands times : Option (Bor (List ℕ))) : Type 0 where
-  pub demands_where_used : is_some demands ≡ is_some (demands_file d)
-  pub times_where_used : is_some times ≡ is_some d.times_file
-  pub times_size : IfSome times (λ bytes. length bytes.now ≤ MAX_CHECKPOINT_BYTES)
+  pub files : AreFilesOf d demands times
   pub good : record_faults d (option_copied demands) (option_copied times) ≡ []
 
 -- the lines of the faults, and where there is none what else is said

@@ -1,7 +1,7 @@
 //! What lint says of a draft, which nothing is wrong with by itself, and of the files that it names.
-ghost use Rattle.std.specs.Prelude.{◌≡◌, ◌≤◌, [], IfOk, IfSome, is_some, length, option_copied, option_map};
+ghost use Rattle.std.specs.Prelude.{◌≡◌, ◌≤◌, [], IfOk, IfSome, length, option_copied, option_map};
 ghost use Rattle.line_base.specs.declared.limits.TheConstants.{MAX_CHECKPOINT_BYTES};
-ghost use Rattle.plant_file.specs.Draft.{demands_file};
+ghost use Rattle.plant_file.specs.Finish.{AreFilesOf};
 ghost use Rattle.plant_lint.specs.DraftLints.{lines_if_any, AreGoodFiles, LintsDraft, LintsWhole};
 ghost use Rattle.plant_lint.specs.Records.{record_faults};
 ghost use Rattle.plant_model.specs.Refusals.{all_feeds_not_later, whole_refusals};
@@ -26,9 +26,7 @@ pub fn lint_draft(
     demands: Option<&[u8]>,
     times: Option<&[u8]>,
 ) -> Result<DraftLint, AllocError>
-    requires demands_where_used { is_some demands ≡ is_some (demands_file draft) }
-    requires times_where_used { is_some times ≡ is_some draft.times_file }
-    requires times_size { IfSome times (λ bytes. length bytes.now ≤ MAX_CHECKPOINT_BYTES) }
+    requires { AreFilesOf draft demands times }
     ensures { IfOk result (LintsDraft draft (option_copied demands.entry) (option_copied times.entry)) }
 {
     match refused_records(alloc, &draft, demands, times) {

@@ -4,9 +4,7 @@ use Rattle.plant_lint.proofs.draft.lint_draft.Goals as goal
 
 pub lint_tables-requires : goal.lint_tables-requires
 lint_tables-requires c = record {
-  demands_where_used = c.requires.demands_where_used;
-  times_where_used = c.requires.times_where_used;
-  times_size = c.requires.times_size;
+  files = c.requires;
   good = none_found _ (sym c.in-Ok-None.field-0-is ∙ c.in-Ok-None.ensures);
 }
 

@@ -3,11 +3,7 @@ use Rattle.plant_lint.proofs.DraftLints.{none_bad}
 use Rattle.plant_lint.proofs.draft.lint_tables.Goals as goal
 
 pub assemble_plant-requires : goal.assemble_plant-requires
-assemble_plant-requires c = record {
-  demands_where_used = c.requires.demands_where_used;
-  times_where_used = c.requires.times_where_used;
-  times_size = c.requires.times_size;
-}
+assemble_plant-requires c = c.requires.files
 
 pub lint_whole-requires : goal.lint_whole-requires
 lint_whole-requires c = record {
