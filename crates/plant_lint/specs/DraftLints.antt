@@ -1,9 +1,8 @@
 -- What lint says of a draft, which nothing is wrong with by itself, and of the bytes of the files that it names.
-use Rattle.std.specs.Prelude.{◌≡◌, ℕ, List, [], ◌∷◌, Option, None, Some, option_copied}
-use Rattle.std.specs.Borrow.{Bor}
+use Rattle.std.specs.Prelude.{◌≡◌, ℕ, List, [], ◌∷◌, Option, None, Some}
 use Rattle.plant_file.specs.declared.draft.DraftPlant.{DraftPlant}
 use Rattle.plant_file.specs.Draft.{demands_file}
-use Rattle.plant_file.specs.Finish.{AreFilesOf, plant_of_bytes}
+use Rattle.plant_file.specs.Finish.{plant_of_bytes}
 use Rattle.plant_model.specs.declared.plant.Plant.{Plant}
 use Rattle.plant_model.specs.Sound.{IsSound}
 use Rattle.plant_lint.specs.declared.draft_lint.DraftLint.{DraftLint}
@@ -14,11 +13,6 @@ use Rattle.plant_lint.specs.declared.file.FileLint.TheVariants.{Refused, Sound}
 use Rattle.plant_lint.specs.PlantLints.{lint_of_plant}
 use Rattle.plant_lint.specs.Records.{record_faults}
 use Rattle.plant_lint.specs.Texts.{fault_lines}
-
--- the bytes of a draft's files, of which no record is bad
-pub record AreGoodFiles (d : DraftPlant) (demands times : Option (Bor (List ℕ))) : Type 0 where
-  pub files : AreFilesOf d demands times
-  pub good : record_faults d (option_copied demands) (option_copied times) ≡ []
 
 -- the lines of the faults, and where there is none what else is said
 abbrev pub faults_or : List Fault → FileLint → FileLint

@@ -2,7 +2,7 @@
 ghost use Rattle.std.specs.Prelude.{◌≡◌, ◌≤◌, [], IfOk, IfSome, length, option_copied, option_map};
 ghost use Rattle.line_base.specs.declared.limits.TheConstants.{MAX_CHECKPOINT_BYTES};
 ghost use Rattle.plant_file.specs.Finish.{AreFilesOf};
-ghost use Rattle.plant_lint.specs.DraftLints.{lines_if_any, AreGoodFiles, LintsDraft, LintsWhole};
+ghost use Rattle.plant_lint.specs.DraftLints.{lines_if_any, LintsDraft, LintsWhole};
 ghost use Rattle.plant_lint.specs.Records.{record_faults};
 ghost use Rattle.plant_model.specs.Refusals.{all_feeds_not_later, whole_refusals};
 ghost use Rattle.plant_model.specs.Sound.{IsSound};
@@ -77,7 +77,8 @@ fn lint_tables(
     demands: Option<&[u8]>,
     times: Option<&[u8]>,
 ) -> Result<DraftLint, AllocError>
-    requires { AreGoodFiles draft demands times }
+    requires files { AreFilesOf draft demands times }
+    requires good { record_faults draft (option_copied demands) (option_copied times) ≡ [] }
     ensures { IfOk result (LintsDraft draft (option_copied demands.entry) (option_copied times.entry)) }
 {
     match copy_of(alloc, draft.demands_file()) {
