@@ -288,10 +288,10 @@ pub(crate) fn draft_of(
     requires { names.now ≡ stage_names (view top.now) }
     ensures { Builds result (draft_of (view top.now)) }
 {
-    let demands = demands_of(alloc, top)?;
-    let times_file = times_file_of(alloc, top)?;
     let observe = numbers_at(alloc, top, "observe", MAX_OBSERVE_DATE)?;
     let loops = loops_of(alloc, names, top)?;
+    let times_file = times_file_of(alloc, top)?;
+    let demands = demands_of(alloc, top)?;
     let stages = stages_of(alloc, names, tables_at(top, "stage"))?;
     Ok(DraftPlant {
         policy: policy_of(top),

@@ -1,5 +1,5 @@
 //! A draft becomes a plant, once the files that it names have been read.
-ghost use Rattle.std.specs.Prelude.{◌≡◌, ◌≢◌, ◌≤◌, ◌<◌, [], ◌∷◌, ℕ, List, Option, All, Ok, Some, IfErr, IfOk, IfSome, OnOk, map, is_some, option_map, option_copied, length, vec_len};
+ghost use Rattle.std.specs.Prelude.{◌≡◌, ◌≢◌, ◌≤◌, ◌<◌, ◌++◌, [], ◌∷◌, ℕ, List, Option, All, Ok, Some, IfErr, IfOk, IfSome, OnOk, map, is_some, option_map, option_copied, length, vec_len};
 ghost use Rattle.demand_feed.specs.Dates.{dates_of};
 ghost use Rattle.demand_feed.specs.Times.{times_of};
 ghost use Rattle.line_base.specs.declared.limits.TheConstants.{MAX_CHECKPOINT_BYTES, MAX_DEMAND_DATE};
@@ -354,18 +354,18 @@ impl<'a> TimesSource<'a> {
     {
         let mut made = Vec::with_capacity(self.alloc, stages.len())?;
         for stage in stages.into_vec() {
-            push(&mut made, self.stage(stage)?)?;
+            self.add_stage(stage, &mut made)?;
         }
         Ok(Items::from_vec(made))
     }
 
-    /// A stage with the job times of its machines.
-    fn stage(&self, stage: DraftStage) -> Result<Stage, AllocError>
+    /// Adds a stage with the job times of its machines.
+    fn add_stage(&self, stage: DraftStage, made: &mut Vec<Stage>) -> Result<(), AllocError>
         requires { HasColumns self.now.table.now stage }
-        ensures { IfOk result (λ made. made ≡ stage_with self.now.table.now stage) }
+        ensures { OnOk result (made.new.items ≡ made.old.items ++ stage_with self.now.table.now stage ∷ []) }
     {
         let machines = self.machines(stage.machines)?;
-        Ok(Stage {
+        let stage = Stage {
             name: stage.name,
             feeds: stage.feeds,
             cards: stage.cards,
@@ -373,7 +373,8 @@ impl<'a> TimesSource<'a> {
             travel: stage.travel,
             card_time: stage.card_time,
             machines,
-        })
+        };
+        push(made, stage)
     }
 
     /// The machines with their job times.
