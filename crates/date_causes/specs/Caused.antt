@@ -1,10 +1,10 @@
 -- What contracts see of a `Causes`.
-use Rattle.std.specs.Prelude.{◌≡◌, ℕ, ◌<◌, List, All}
+use Rattle.std.specs.Prelude.{◌≡◌, ℕ, ◌<◌, ◌≤◌, List, All}
 use Rattle.line_base.specs.declared.event.Parts.{Parts}
 use Rattle.plant_model.specs.declared.plant.Plant.{Plant}
 use Rattle.plant_model.specs.Graph.{graph}
 use Rattle.plant_model.specs.Sound.{IsSound}
-use Rattle.event_graph.specs.Network.{stations}
+use Rattle.event_graph.specs.Network.{stations, jobs}
 use Rattle.event_graph.specs.Table.{date_in}
 use Rattle.live_check.specs.Order.{LiveGraph}
 use Rattle.line_core.specs.Run.{Dates}
@@ -28,6 +28,13 @@ pub record AreOfPlant (p : Plant) (live : LiveGraph) (table : Dates) : Type 0 wh
   pub sound : IsSound p
   pub live_graph : live.graph ≡ graph p
   pub table_graph : table.graph ≡ graph p
+
+-- the plant has this station, and a job of this number
+abbrev pub HasStation : Plant → ℕ → Type 0
+HasStation p t = t < stations (graph p)
+
+abbrev pub HasJob : Plant → ℕ → Type 0
+HasJob p n = n ≤ jobs (graph p)
 
 -- the links are the chain of causes of job n at station t in the graph of the plant
 abbrev pub IsChainOf : Dates → ℕ → ℕ → Caused → Type 0

@@ -1,19 +1,13 @@
-ghost use Rattle.std.specs.Prelude.{◌≡◌, ◌<◌, ◌≤◌, false, IfOk};
-ghost use Rattle.date_causes.specs.Caused.{text_of, AreOfPlant, IsChainOf, IsWritable};
-ghost use Rattle.date_causes.specs.Chain.{IsChain};
-ghost use Rattle.event_graph.specs.Network.{stations, jobs};
-ghost use Rattle.event_graph.specs.Table.{date_in};
-ghost use Rattle.line_io.specs.Outgoing.{emptied};
+ghost use Rattle.std.specs.Prelude.{◌≡◌, ◌≤◌, IfOk};
+ghost use Rattle.date_causes.specs.Caused.{text_of, AreOfPlant, IsChainOf, HasStation, HasJob};
 ghost use Rattle.line_io.specs.SinkView.{WritesText};
-ghost use Rattle.plant_model.specs.Graph.{graph};
 
-use crate::chain::causes;
-use crate::shares::shares_of;
+use crate::making::chain_of;
 use crate::writing::{Chain, write_chain};
 use line_core::Table;
 use line_io::{Failed, Outgoing, Sink};
 use live_check::Live;
-use plant_model::{LineNumbers, Plant};
+use plant_model::Plant;
 use std::alloc::{AllocError, Global};
 use std::marker::Model;
 
@@ -38,37 +32,6 @@ impl Model for Causes {
     ghost invariant = { λ c. IsWritable c.plant c.live.graph c.chain × (c.out ≡ emptied false) };
 }
 
-/// The chain of causes of the date of job `n` at station `t`, and room for one piece of its text.
-fn chain_of(
-    alloc: Global,
-    plant: &Plant,
-    live: &Live,
-    table: &Table,
-    t: u32,
-    n: u32,
-) -> Result<(Chain, Outgoing), AllocError>
-    requires of_plant { AreOfPlant plant.now live.now table.now }
-    requires station { t < stations live.now.graph }
-    requires from_one { 1 ≤ n }
-    requires job { n ≤ jobs live.now.graph }
-    ensures chain { IfOk result (λ r. IsChain live.now.graph (date_in table.now.rows) t n r.0.links) }
-    ensures writable { IfOk result (λ r. IsWritable plant.now live.now.graph r.0) }
-    ensures out { IfOk result (λ r. r.1 ≡ emptied false) }
-{
-    // For its clause that the dates are the least solution, and so none is late.
-    let _least = table.stations();
-    let out = Outgoing::new(alloc)?;
-    let numbers = LineNumbers::of(alloc, plant)?;
-    let links = causes(alloc, live, table, t, n)?;
-    let shares = shares_of(alloc, links.as_slice(), live.graph().stations())?;
-    let chain = Chain {
-        links,
-        shares,
-        numbers,
-    };
-    Ok((chain, out))
-}
-
 impl Causes {
     /// The chain of causes of the date of job `n` at station `t`, in a run of a sound plant with this live graph and this
     /// table. It takes all memory that writing takes: the chain, a number a station, and room for one piece of the text.
@@ -81,9 +44,9 @@ impl Causes {
         n: u32,
     ) -> Result<Causes, AllocError>
         requires of_plant { AreOfPlant plant live table.now }
-        requires station { t < stations (graph plant) }
+        requires station { HasStation plant t }
         requires from_one { 1 ≤ n }
-        requires job { n ≤ jobs (graph plant) }
+        requires job { HasJob plant n }
         ensures plant { IfOk result (λ causes. causes.plant ≡ plant) }
         ensures chain { IfOk result (IsChainOf table.now t n) }
     {

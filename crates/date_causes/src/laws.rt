@@ -1,4 +1,4 @@
-ghost use Rattle.std.specs.Prelude.{◌≡◌, ℕ, ◌<◌};
+ghost use Rattle.std.specs.Prelude.{ℕ, ◌<◌};
 ghost use Rattle.date_causes.specs.Kinds.{kind_at, IsOfKind};
 ghost use Rattle.date_causes.specs.Laws.{ChainsSumToDates, ChainsAreWalks, NoWalkSumsToMore, DatesHaveOneChain, SharesSumToDates};
 ghost use Rattle.event_graph.specs.Least.{IsLeast};

@@ -6,6 +6,7 @@ mod chain;
 mod kind;
 mod laws;
 mod link;
+mod making;
 mod named;
 mod shares;
 mod terms;

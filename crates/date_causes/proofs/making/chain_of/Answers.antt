@@ -3,8 +3,8 @@ use Rattle.event_graph.specs.Network.{stations}
 use Rattle.event_graph.specs.Table.{date_in}
 use Rattle.date_causes.specs.Caused.{IsOfPlant}
 use Rattle.date_causes.proofs.Writable.{chain_stations, chain_small, writable}
-use Rattle.date_causes.proofs.caused.chain_of.Goals as goal
-use Rattle.date_causes.proofs.caused.chain_of.Goals.{After-as_slice, After-stations}
+use Rattle.date_causes.proofs.making.chain_of.Goals as goal
+use Rattle.date_causes.proofs.making.chain_of.Goals.{After-as_slice, After-stations}
 
 listed : (c : After-as_slice) → c.as_slice.result.now ≡ c.in_ok-links.links
 listed c = cc (c.as_slice.ensures, c.links.view_is)
@@ -29,3 +29,12 @@ returns-clause-writable c =
     record { sound = c.requires.of_plant.sound; numbers_are = c.in_ok-numbers.ensures; graph_is = c.requires.of_plant.live_graph } in
     writable c.args.plant.now c.args.live.now.graph (date_in c.args.table.now.rows) c.args.t c.args.n c.stations.result c.as_slice.result.now _ of_plant
     c.in_ok-links.ensures.chain (listed at.After-as_slice) (counted at.After-stations) c.in_ok-shares.ensures
+
+pub causes-requires-clause-station : goal.causes-requires-clause-station
+causes-requires-clause-station c = rw c.requires.of_plant.live_graph c.requires.station
+
+pub causes-requires-clause-job : goal.causes-requires-clause-job
+causes-requires-clause-job c = rw c.requires.of_plant.live_graph c.requires.job
+
+pub returns-clause-chain : goal.returns-clause-chain
+returns-clause-chain c = rw c.requires.of_plant.live_graph at c.in_ok-links.ensures.chain

@@ -1,0 +1,45 @@
+//! What the chain of a date is made of.
+ghost use Rattle.std.specs.Prelude.{◌≡◌, ◌≤◌, false, IfOk};
+ghost use Rattle.date_causes.specs.Caused.{AreOfPlant, HasStation, HasJob, IsChainOf, IsWritable};
+ghost use Rattle.line_io.specs.Outgoing.{emptied};
+
+use crate::chain::causes;
+use crate::shares::shares_of;
+use crate::writing::Chain;
+use line_core::Table;
+use line_io::Outgoing;
+use live_check::Live;
+use plant_model::{LineNumbers, Plant};
+use std::alloc::{AllocError, Global};
+
+/// The chain of causes of the date of job `n` at station `t`, and room for one piece of its text.
+pub fn chain_of(
+    alloc: Global,
+    plant: &Plant,
+    live: &Live,
+    table: &Table,
+    t: u32,
+    n: u32,
+) -> Result<(Chain, Outgoing), AllocError>
+    requires of_plant { AreOfPlant plant.now live.now table.now }
+    requires station { HasStation plant.now t }
+    requires from_one { 1 ≤ n }
+    requires job { HasJob plant.now n }
+    ensures chain { IfOk result
+        (λ r. IsChainOf table.now t n (record { plant = plant.now; links = r.0.links })) }
+    ensures writable { IfOk result (λ r. IsWritable plant.now live.now.graph r.0) }
+    ensures out { IfOk result (λ r. r.1 ≡ emptied false) }
+{
+    // For its clause that the dates are the least solution, and so none is late.
+    let _least = table.stations();
+    let out = Outgoing::new(alloc)?;
+    let numbers = LineNumbers::of(alloc, plant)?;
+    let links = causes(alloc, live, table, t, n)?;
+    let shares = shares_of(alloc, links.as_slice(), live.graph().stations())?;
+    let chain = Chain {
+        links,
+        shares,
+        numbers,
+    };
+    Ok((chain, out))
+}
