@@ -9,8 +9,7 @@ use Rattle.commands.specs.declared.dates.DatedPlant.{DatedPlant}
 use Rattle.date_causes.specs.Caused.{AreOfPlant as AreCausesOf}
 use Rattle.event_graph.specs.Least.{IsLeast}
 use Rattle.event_graph.specs.Table.{date_in}
-use Rattle.line_report.specs.Reported.{AreOfPlant as AreReportOf}
-use Rattle.line_stats.specs.PlantDates.{AreOfPlant}
+use Rattle.line_stats.specs.PlantDates.{AreOfPlant, AreOfPlant as AreReportOf}
 use Rattle.live_check.specs.Order.{LiveGraph}
 use Rattle.live_plant.specs.LivePlant.{IsLivePlant}
 use Rattle.live_plant.specs.declared.live_plant.LivePlant.{LivePlant}

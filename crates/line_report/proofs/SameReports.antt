@@ -11,9 +11,9 @@ use Rattle.event_graph.specs.Network.{stations, jobs, label}
 use Rattle.event_graph.specs.Table.{Table, date_in, IsSameTable}
 use Rattle.event_graph.specs.Least.{IsLeast}
 use Rattle.line_stats.specs.Counts.{job_numbers}
+use Rattle.line_stats.specs.PlantDates.{PlantDates}
 use Rattle.line_stats.proofs.SameCounts.{All-numbers, in_process-same, in_move-same, in_stock-same, backlog-same, last_date-same, peak-same, waiting-same}
 use Rattle.line_report.specs.ReportText.{line, date_line, station_lines, date_lines, stage_line, backlog_line, observed_lines, peak_line, waiting_line, last_line, report}
-use Rattle.line_report.specs.Reported.{Reported}
 use Rattle.line_report.specs.Laws.{HasOneReport, HaveOneText}
 
 -- the same lines for each element
@@ -64,7 +64,7 @@ pub one_report : (p : Plant) → IsSound p → HasOneReport p
 one_report p sound x y least_x least_y =
     report-same p sound x y (λ t n there one within. omega (arith, least_x.least y least_y.solves t n there one within, least_y.least x least_x.solves t n there one within))
 
-pub one_text : (r s : Reported) → HaveOneText r s
+pub one_text : (r s : PlantDates) → HaveOneText r s
 one_text r s same of_r of_s =
     let least : IsLeast (graph r.plant) (date_in s.rows) = subst (λ (p : Plant). IsLeast (graph p) (date_in s.rows)) (sym same) of_s.least.least in
     one_report r.plant of_r.sound (date_in r.rows) (date_in s.rows) of_r.least.least least ∙ ap (λ (p : Plant). report p (date_in s.rows)) same

@@ -1,5 +1,5 @@
 ghost use Rattle.line_report.specs.Laws.{HasOneReport, HaveOneText};
-ghost use Rattle.line_report.specs.Reported.{Reported};
+ghost use Rattle.line_stats.specs.PlantDates.{PlantDates};
 ghost use Rattle.plant_model.specs.Sound.{IsSound};
 ghost use Rattle.plant_model.specs.declared.plant.Plant.{Plant};
 
@@ -9,5 +9,5 @@ ghost use Rattle.plant_model.specs.declared.plant.Plant.{Plant};
 /// It runs nothing: its contract is the law.
 pub fn schedules_agree()
     ensures tables { (p : Plant) → IsSound p → HasOneReport p }
-    ensures reports { (r s : Reported) → HaveOneText r s }
+    ensures reports { (r s : PlantDates) → HaveOneText r s }
 {}

@@ -5,11 +5,13 @@ mod dates;
 mod laws;
 pub mod line_end;
 pub mod line_start;
+mod making;
 mod observed;
 mod portion;
 mod report;
 mod run;
 mod summary;
+mod texts;
 mod totals;
 mod words;
 

@@ -1,5 +1,5 @@
 //! How the lines of a station begin, job after job.
-ghost use Rattle.std.specs.Prelude.{◌≡◌, ◌+◌, ◌%◌, ◌<◌, ◌≤◌, ◌++◌, ◌∷◌, [], IsTrue, codes, decimal, length, take};
+ghost use Rattle.std.specs.Prelude.{◌≡◌, ◌+◌, ◌%◌, ◌<◌, ◌≤◌, ◌++◌, IsTrue, codes, decimal, length, take};
 ghost use Rattle.line_base.specs.Text.{is_label};
 ghost use Rattle.line_report.specs.Portions.{start_text};
 

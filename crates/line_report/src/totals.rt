@@ -1,6 +1,6 @@
 //! What is said of a whole run: the peak of each stage, how long the jobs wait, and the last date.
 ghost use Rattle.std.specs.List.{flat_map};
-ghost use Rattle.std.specs.Prelude.{◌≡◌, ◌<◌, ◌++◌, codes, decimal, length};
+ghost use Rattle.std.specs.Prelude.{◌<◌, ◌++◌, codes, decimal, length};
 ghost use Rattle.event_graph.specs.Table.{date_in};
 ghost use Rattle.line_io.specs.Outgoing.{Pushed, stream};
 ghost use Rattle.line_report.specs.ReportText.{bound_word, peak_line, waiting_line, last_line, end_lines};

@@ -1,7 +1,7 @@
 use Rattle.std.proofs.Common.{◌≡◌, length, vec_len, subst, arith}
 use Rattle.line_base.specs.declared.event.Parts.{Parts}
 use Rattle.line_core.specs.Run.{IsLeastTable}
-use Rattle.line_report.specs.Reported.{IsReported}
+use Rattle.line_stats.specs.PlantDates.{AreLeastDates}
 use Rattle.line_io.proofs.OutgoingLemmas.{text_written}
 use Rattle.line_report.proofs.Lines.{given_back}
 use Rattle.line_report.proofs.report.Report.write.Goals as goal
@@ -23,7 +23,7 @@ returns-clause-stays g c =
     let least = subst (λ (h : Parts). IsLeastTable (record { graph = h; rows = run.table.rows })) of_plant.table_graph c.self.invariant.1 in
     record {
       same = c.self.view_is;
-      least = subst IsReported c.self.view_is (record { sound = of_plant.sound; least = least });
+      least = subst AreLeastDates c.self.view_is (record { sound = of_plant.sound; least = least });
     }
 
 pub invariant_of-self : goal.invariant_of-self

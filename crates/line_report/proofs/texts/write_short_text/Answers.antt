@@ -1,7 +1,7 @@
 use Rattle.std.proofs.Common.{◌∙◌}
 use Rattle.line_io.proofs.OutgoingLemmas.{◌⨟◌}
 use Rattle.line_report.specs.SummaryText.{summary}
-use Rattle.line_report.proofs.report.write_short_text.Goals as goal
+use Rattle.line_report.proofs.texts.write_short_text.Goals as goal
 
 pub returns : goal.returns
 unfolding summary

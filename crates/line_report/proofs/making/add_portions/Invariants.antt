@@ -1,5 +1,5 @@
 use Rattle.std.proofs.Common.{◌≡◌, ◌+◌, length}
-use Rattle.line_report.proofs.report.add_portions.Given as goal
+use Rattle.line_report.proofs.making.add_portions.Given as goal
 
 -- a portion was added for each worker so far
 abbrev pub invariant-loop : goal.invariant-loop

@@ -1,7 +1,7 @@
 use Rattle.std.proofs.Common.{◌∙◌}
 use Rattle.line_io.proofs.OutgoingLemmas.{◌⨟◌}
 use Rattle.line_report.specs.ReportText.{report}
-use Rattle.line_report.proofs.report.write_text.Goals as goal
+use Rattle.line_report.proofs.texts.write_text.Goals as goal
 
 pub returns-clause-text : goal.returns-clause-text
 unfolding report
