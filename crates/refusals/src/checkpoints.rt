@@ -12,10 +12,7 @@ pub fn checkpoint_refusal(alloc: Global, graph: &Graph, error: CheckpointError) 
     requires { NamesStation graph.now error }
     ensures { (result ≡ Refusal.NoMemory) ⊎ (result ≡ checkpoint_refusal graph.now error) }
 {
-    match labelled_refusal(alloc, graph, error) {
-        Ok(refusal) => refusal,
-        Err(_) => Refusal::NoMemory,
-    }
+    labelled_refusal(alloc, graph, error).unwrap_or(Refusal::NoMemory)
 }
 
 /// The refusal, if there is memory for its line.

@@ -12,10 +12,7 @@ pub fn schedule_refusal(alloc: Global, graph: &Graph, error: ReplayError) -> Ref
     requires { NamesExisting graph.now error }
     ensures { (result ≡ Refusal.NoMemory) ⊎ (result ≡ schedule_refusal graph.now error) }
 {
-    match labelled_refusal(alloc, graph, error) {
-        Ok(refusal) => refusal,
-        Err(_) => Refusal::NoMemory,
-    }
+    labelled_refusal(alloc, graph, error).unwrap_or(Refusal::NoMemory)
 }
 
 /// The refusal, if there is memory for its line.
@@ -25,8 +22,8 @@ fn labelled_refusal(alloc: Global, graph: &Graph, error: ReplayError) -> Result<
 {
     match error {
         ReplayError::NoStation { line } => {
-            let text = format!(in alloc; "replay: line {line} is no station")?;
-            Ok(not_followed(text.into_bytes()))
+            let text = format!(in alloc; "replay: line {line} is no station")?.into_bytes();
+            Ok(not_followed(text))
         }
         ReplayError::Done { line, station } => {
             let mut text = line_words(alloc, line, graph.label(station))?;
