@@ -36,13 +36,19 @@ pub record CallsFor (command : Command) (call : Call) : Type 0 where
   pub known : IsTrue call.store.tells
   pub ends : Ends call.words call.store call.sink call.disk call.status
 
--- a run of the plant file that was asked to stop has ended with status 0 and has saved a state of this plant
-pub record HasStopped (p : Plant) (name : List ℕ) (stop : Stop) (call : Call) : Type 0 where
+-- A run of the plant file that was asked to stop, a call as this says of a command, has ended with status 0, and has
+-- written a state of this plant into FILE.
+pub record StopsBy (IsFor : Command → Call → Type 0) (p : Plant) (name : List ℕ) (stop : Stop)
+    (call : Call) : Type 0 where
   pub workers : ℕ
-  pub calls : CallsFor (Run name workers (Some stop)) call
+  pub calls : IsFor (Run name workers (Some stop)) call
   pub status : call.status ≡ 0
   pub read : IsPlantRead p name call.store
   pub saved : HasSaved p stop call.store call.sink
+
+-- over a store that tells its files
+abbrev pub HasStopped : Plant → List ℕ → Stop → Call → Type 0
+HasStopped = StopsBy CallsFor
 
 -- the second call resumes from the file that the first has saved, by any number of workers, over the files that it left
 pub record IsResumedBy (name : List ℕ) (stop : Stop) (first second : Call) : Type 0 where

@@ -11,24 +11,18 @@ use Rattle.command_line.specs.declared.command.Stop.{Stop}
 use Rattle.line_io.specs.Contents.{Contents}
 use Rattle.plant_model.specs.declared.plant.Plant.{Plant}
 use Rattle.plant_model.specs.Graph.{graph}
-use Rattle.pull_cli.specs.RunReports.{IsPlantRead}
-use Rattle.pull_cli.specs.StopsAndResumes.{HasSaved}
 use Rattle.pull_laws.specs.Recorded.{ReadsFrom, with_file, HasEnded}
-use Rattle.pull_laws.specs.Resuming.{Call, EndsResumed, WroteTheSame}
+use Rattle.pull_laws.specs.Resuming.{Call, StopsBy, EndsResumed, WroteTheSame}
 
 -- a call for this command, over any store, that has ended as every call of `pull` does
 pub record EndsFor (command : Command) (call : Call) : Type 0 where
   pub asked : command_of call.words ≡ Some command
   pub ends : HasEnded call
 
--- A run of the plant file that was asked to stop has ended with status 0, and has written a state of this plant into
--- FILE.
-pub record SavesState (p : Plant) (name : List ℕ) (stop : Stop) (call : Call) : Type 0 where
-  pub workers : ℕ
-  pub calls : EndsFor (Run name workers (Some stop)) call
-  pub status : call.status ≡ 0
-  pub read : IsPlantRead p name call.store
-  pub saved : HasSaved p stop call.store call.sink
+-- over any store, a run of the plant file that was asked to stop has ended with status 0, and has written a state of
+-- this plant into FILE
+abbrev pub SavesState : Plant → List ℕ → Stop → Call → Type 0
+SavesState = StopsBy EndsFor
 
 -- the bytes that it has written
 abbrev pub bytes_saved : {p : Plant} {name : List ℕ} {stop : Stop} {call : Call} → SavesState p name stop call → List ℕ
