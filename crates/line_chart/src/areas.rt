@@ -150,6 +150,7 @@ fn write_stage<K: Sink>(out: &mut Outgoing, sink: &mut K, run: &ChartRun, stage:
 }
 
 /// Writes the areas of all stages, in order.
+#[tactic(auto, using(line_io::proofs::OutgoingLemmas::pushed_none))]
 pub fn write_stages<K: Sink>(out: &mut Outgoing, sink: &mut K, run: &ChartRun)
     requires { IsOfRun run.now }
     ensures { Pushed (stream (K.shown sink.old) out.old) (stream (K.shown sink.new) out.new)

@@ -1,7 +1,7 @@
 //! The axis of a picture.
 ghost use Rattle.std.specs.Prelude.{◌≡◌, ◌≤◌, ◌<◌, ◌+◌, ◌-◌};
 ghost use Rattle.line_io.specs.Outgoing.{Pushed, stream};
-ghost use Rattle.line_chart.specs.Axis.{step_from, axis_step, axis_place};
+ghost use Rattle.line_chart.specs.Axis.{axis_step, axis_place};
 ghost use Rattle.line_chart.specs.ChartText.{axis_line, axis_text};
 ghost use Rattle.line_chart.specs.Picture.{IsWindow};
 

@@ -1,9 +1,8 @@
 //! The bars of a picture.
 ghost use Rattle.std.specs.List.{flat_map};
-ghost use Rattle.std.specs.Prelude.{◌≡◌, ◌<◌, ◌≤◌, ◌≢◌, length};
-ghost use Rattle.event_graph.specs.Network.{stations, jobs};
+ghost use Rattle.std.specs.Prelude.{◌≡◌, ◌<◌, ◌≤◌, length};
+ghost use Rattle.event_graph.specs.Network.{jobs};
 ghost use Rattle.event_graph.specs.Table.{date_in};
-ghost use Rattle.line_core.specs.Run.{IsLeastTable};
 ghost use Rattle.line_io.specs.Outgoing.{Pushed, stream};
 ghost use Rattle.line_chart.specs.Bars.{bar, meets, machine_bars, bars};
 ghost use Rattle.line_chart.specs.ChartText.{bar_line, bars_text};

@@ -1,6 +1,6 @@
 //! The dates at which a count may change. None takes memory.
 ghost use Rattle.std.specs.List.Sorted.{IsNonDecreasing};
-ghost use Rattle.std.specs.Prelude.{◌≡◌, ◌<◌, ◌≤◌, ℕ, [], length, slice_index_or};
+ghost use Rattle.std.specs.Prelude.{◌≡◌, ◌<◌, ◌≤◌, [], length, slice_index_or};
 ghost use Rattle.event_graph.specs.Table.{date_in};
 ghost use Rattle.line_chart.specs.Areas.{count_of};
 ghost use Rattle.line_chart.specs.Counts.{IsCountOf, NoneBetween, IsStill};

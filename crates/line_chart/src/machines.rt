@@ -1,7 +1,7 @@
 //! The lanes of all machines.
 ghost use Rattle.std.specs.Prelude.{◌≡◌, ◌≤◌, ◌<◌, ◌+◌, ◌*◌, ◌++◌, length, IfOk};
 ghost use Rattle.line_chart.specs.Bars.{lanes_of_stages, stage_machines, lane_count, machines};
-ghost use Rattle.plant_model.specs.Line.{release, stage_at};
+ghost use Rattle.plant_model.specs.Line.{release};
 ghost use Rattle.plant_model.specs.Sound.{IsSound};
 
 use crate::lanes::Lanes;

@@ -1,8 +1,8 @@
 //! The whole picture.
-ghost use Rattle.std.specs.Prelude.{◌≡◌, ◌≤◌, ◌+◌, ◌*◌, length};
+ghost use Rattle.std.specs.Prelude.{◌≤◌, ◌+◌, ◌*◌};
 ghost use Rattle.event_graph.specs.Table.{date_in};
 ghost use Rattle.line_io.specs.Outgoing.{Pushed, stream};
-ghost use Rattle.line_chart.specs.ChartText.{head_text, areas_end, area_count, picture};
+ghost use Rattle.line_chart.specs.ChartText.{head_text, picture};
 ghost use Rattle.line_chart.specs.Picture.{IsOfRun};
 
 use crate::areas::{write_backlog, write_stages};

@@ -1,11 +1,11 @@
 //! The records of all jobs at all stations.
 ghost use Rattle.std.specs.List.{flat_map, range_with_len};
-ghost use Rattle.std.specs.Prelude.{◌≡◌, ◌<◌, ◌≤◌, ◌+◌, ◌^◌, ◌∷◌, [], decimal, length};
+ghost use Rattle.std.specs.Prelude.{◌≡◌, ◌<◌, ◌+◌, ◌^◌, ◌∷◌, [], decimal, length};
 ghost use Rattle.event_graph.specs.Network.{stations};
 ghost use Rattle.event_graph.specs.Table.{date_in};
 ghost use Rattle.line_chart.specs.DateTable.{IsTableRun};
 ghost use Rattle.line_chart.specs.Serves.{customer};
-ghost use Rattle.line_chart.specs.TableText.{field, csv_record, job_record, station_records, machine_records_behind, stage_records, table_text};
+ghost use Rattle.line_chart.specs.TableText.{field, csv_record, station_records, machine_records_behind, stage_records, table_text};
 ghost use Rattle.line_io.specs.Outgoing.{Pushed, stream};
 ghost use Rattle.plant_model.specs.Line.{stage_numbers};
 
@@ -134,6 +134,7 @@ fn write_stage<K: Sink>(out: &mut Outgoing, sink: &mut K, run: &TableRun, stage:
 }
 
 /// Writes the records of all stages, in order.
+#[tactic(auto, using(line_io::proofs::OutgoingLemmas::pushed_none))]
 fn write_stages<K: Sink>(out: &mut Outgoing, sink: &mut K, run: &TableRun)
     requires { IsTableRun run.now }
     ensures { Pushed (stream (K.shown sink.old) out.old) (stream (K.shown sink.new) out.new)

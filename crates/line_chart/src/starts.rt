@@ -4,7 +4,6 @@ ghost use Rattle.event_graph.specs.Network.{stations, jobs, arc, arc_count};
 ghost use Rattle.event_graph.specs.Table.{date_in};
 ghost use Rattle.event_graph.specs.Term.{token_date};
 ghost use Rattle.line_chart.specs.Starts.{start};
-ghost use Rattle.line_core.specs.Run.{IsLeastTable};
 
 use event_graph::Graph;
 use line_base::Date;

@@ -1,6 +1,5 @@
-ghost use Rattle.std.specs.Prelude.{◌≡◌, ◌<◌, length, IfOk};
+ghost use Rattle.std.specs.Prelude.{◌≡◌, ◌<◌, IfOk};
 ghost use Rattle.line_chart.specs.DateTable.{path_stocks};
-ghost use Rattle.plant_model.specs.Line.{stage_at};
 ghost use Rattle.plant_model.specs.Sound.{IsSound};
 
 use plant_model::{PathTable, Plant};

@@ -1,15 +1,12 @@
 use Rattle.std.proofs.Common.{arith}
 use Rattle.plant_model.proofs.LayoutFacts.{few_stages}
 use Rattle.event_graph.specs.Table.{date_in}
-use Rattle.line_io.proofs.OutgoingLemmas.{pushed_none, pushed_next}
+use Rattle.line_io.proofs.OutgoingLemmas.{pushed_next}
 use Rattle.line_chart.specs.ChartText.{stage_area}
 use Rattle.line_chart.proofs.areas.write_stages.Goals as goal
 
 pub overflow_cast-stage : goal.overflow_cast-stage
 overflow_cast-stage g c = omega (arith, few_stages c.args.run.now.plant c.requires.of_plant.sound)
-
-pub loop-stage-init : goal.loop-stage-init
-loop-stage-init g c = pushed_none _
 
 pub loop-stage-preserved : goal.loop-stage-preserved
 loop-stage-preserved g c =
