@@ -1,20 +1,20 @@
 -- Texts that go to a sink one after another, each whole or a prefix of it.
 use Rattle.std.proofs.Common.{ℕ, ◌≤◌, List, ◌++◌, arith}
 use Rattle.std.specs.Prelude.{Result, Ok, Err}
-use Rattle.line_io.proofs.WrittenLemmas.{puts_all_after, puts_front_after, puts_front_longer}
+use Rattle.line_io.proofs.WrittenLemmas.{puts_all_after, puts_prefix_after, puts_prefix_longer}
 use Rattle.line_io.specs.SinkView.{SinkView, PutsAll, WritesText}
 
 -- a text, and then another
 pub writes_after : {T E : Type 0} {a b c : SinkView} (xs ys : List ℕ) (r : Result T E) → PutsAll a b xs → a.faults ≤ b.faults → WritesText b c ys r → WritesText a c (xs ++ ys) r
 writes_after xs ys (Ok done) first rise next = record {
   written = puts_all_after _ _ _ xs ys first next.written;
-  front = tt;
+  prefix = tt;
   cause = tt;
   faults_stay_or_rise = omega (arith, rise, next.faults_stay_or_rise);
 }
 writes_after xs ys (Err error) first rise next = record {
   written = tt;
-  front = puts_front_after _ _ _ xs ys first next.front;
+  prefix = puts_prefix_after _ _ _ xs ys first next.prefix;
   cause = omega (arith, rise, next.cause);
   faults_stay_or_rise = omega (arith, rise, next.faults_stay_or_rise);
 }
@@ -23,7 +23,7 @@ writes_after xs ys (Err error) first rise next = record {
 pub breaks_off : {T E : Type 0} {a b : SinkView} (xs ys : List ℕ) (error : E) → WritesText {T = T} a b xs (Err error) → WritesText {T = T} a b (xs ++ ys) (Err error)
 breaks_off xs ys error broke = record {
   written = tt;
-  front = puts_front_longer _ _ xs ys broke.front;
+  prefix = puts_prefix_longer _ _ xs ys broke.prefix;
   cause = broke.cause;
   faults_stay_or_rise = broke.faults_stay_or_rise;
 }

@@ -1,6 +1,6 @@
 -- What `cycle` writes of a certificate: `cycle TIME/CARDS`, `circuit LABEL .. time W cards M`, and `potential LABEL V`
 -- for each station.
-use Rattle.std.specs.Prelude.{◌≡◌, ℕ, ℤ, pos, List, ◌∷◌, ◌++◌, slice_index_or, codes, decimal}
+use Rattle.std.specs.Prelude.{◌≡◌, ℕ, ℤ, pos, List, ◌∷◌, ◌++◌, length, slice_index_or, codes, decimal}
 use Rattle.std.specs.Fmt.{signed_decimal}
 use Rattle.std.specs.List.{flat_map, range_with_len}
 use Rattle.line_base.specs.declared.event.Parts.{Parts}
@@ -37,6 +37,10 @@ pub record IsCircuitText (g : Parts) (arcs before after : List ℕ) : Type 0 whe
   pub stations : List ℕ
   pub turned : IsTurned (starting_stations g arcs) stations
   pub text : after ≡ before ++ circuit_line g arcs stations
+
+-- there is a potential for each station
+abbrev pub HaveOneEach : Parts → List ℤ → Type 0
+HaveOneEach g potentials = length potentials ≡ stations g
 
 -- the potential of a station with this label, and of station t
 abbrev pub potential_words : List ℕ → ℤ → List ℕ

@@ -1,6 +1,6 @@
 //! What a command writes that is done.
 ghost use Rattle.std.specs.Prelude.{◌≡◌};
-ghost use Rattle.answers.specs.Answer.{answer_bytes, version, whole_of, IsPut};
+ghost use Rattle.answers.specs.Answer.{answer_bytes, whole_of, IsPut};
 ghost use Rattle.answers.specs.declared.answer.Answer.TheVariants.{Stopped};
 ghost use Rattle.line_io.specs.SinkView.{WritesText};
 

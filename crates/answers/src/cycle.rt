@@ -1,9 +1,7 @@
 //! What `cycle` writes.
-ghost use Rattle.std.specs.List.{flat_map, range_with_len};
-ghost use Rattle.std.specs.Prelude.{◌≡◌, ◌++◌, length, IfOk, OnOk};
-ghost use Rattle.answers.specs.CycleText.{IsCycleText, ratio_line, sums_words, potential_words, potential_line};
+ghost use Rattle.std.specs.Prelude.{◌≡◌, ◌++◌, IfOk, OnOk};
+ghost use Rattle.answers.specs.CycleText.{IsCycleText, HaveOneEach, ratio_line, sums_words, potential_words, potential_lines};
 ghost use Rattle.cycle_time.specs.Certificate.{IsSmall};
-ghost use Rattle.event_graph.specs.Network.{stations};
 
 use crate::circuit::add_circuit_stations;
 use crate::words::{add_number, add_words};
@@ -56,9 +54,8 @@ fn add_sums(text: &mut Vec<u8>, time: u64, cards: u64) -> Result<(), AllocError>
 
 /// Adds the lines of the potentials, in the order of the stations.
 fn add_potentials(text: &mut Vec<u8>, graph: &Graph, potentials: &[i128]) -> Result<(), AllocError>
-    requires { length potentials.now ≡ stations graph.now }
-    ensures { OnOk result (text.new.items ≡ text.old.items
-        ++ flat_map (potential_line graph.now potentials.now) (range_with_len 0 (stations graph.now))) }
+    requires { HaveOneEach graph.now potentials.now }
+    ensures { OnOk result (text.new.items ≡ text.old.items ++ potential_lines graph.now potentials.now) }
 {
     for t in 0..graph.stations() {
         add_potential(text, graph.label(t), &potentials[t as usize])?;

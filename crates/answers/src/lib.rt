@@ -4,6 +4,7 @@
 
 mod answer;
 mod cards;
+mod change_lines;
 mod changes;
 mod check;
 mod circuit;

@@ -89,15 +89,15 @@ fn try_counts(
     requires enough { least_at plant.now stage ≤ count }
     requires few { count ≤ most_cards }
     requires few_tries { tries.old < 1_000 }
-    ensures told { IfOk result (Tells (counted plant.now (with_count counts.now stage count)) may) }
+    ensures tells { IfOk result (Tells (counted plant.now (with_count counts.now stage count)) may) }
     ensures counted { tries.new ≡ tries.old + 1 }
 {
     *tries += 1;
     let with = counts_with(alloc, counts, stage, count)?;
     let counted = counted_plant(alloc, plant, with.as_slice())?;
-    let told = try_plant(alloc, &counted, may);
+    let known = try_plant(alloc, &counted, may);
     drop(counted);
-    told
+    known
 }
 
 /// The counts with another one at a stage.

@@ -48,14 +48,14 @@ pub fn try_count(
     requires enough { lowest plant.now ≤ count }
     requires few { count ≤ most_cards }
     requires few_tries { tries.old < 1_000 }
-    ensures told { IfOk result (Tells (sized plant.now count) may) }
+    ensures tells { IfOk result (Tells (sized plant.now count) may) }
     ensures counted { tries.new ≡ tries.old + 1 }
 {
     *tries += 1;
     let sized = sized_plant(alloc, plant, count)?;
-    let told = try_plant(alloc, &sized, may);
+    let known = try_plant(alloc, &sized, may);
     drop(sized);
-    told
+    known
 }
 
 /// The first job of a live line that waits longer than `may`.

@@ -82,7 +82,11 @@ fn text_of<S: Store>(
     folder: &mut S,
 ) -> Result<Vec<u8>, Reason> {
     let count = count_of(words)?;
-    let mut text = whole_text(alloc, words, below, folder)?;
+    let mut text = if words.passes("from") {
+        read_file(alloc, folder, words.word())?
+    } else {
+        text_of_lines(alloc, below)?
+    };
     text.truncate(count);
     where_well(text, words.expect_end())
 }
@@ -96,18 +100,10 @@ fn count_of(words: &mut Words) -> Result<usize, Reason> {
     }
 }
 
-/// All bytes of a file of the folder, or of the text of these lines.
-fn whole_text<S: Store>(
-    alloc: Global,
-    words: &mut Words,
-    below: &[&str],
-    folder: &mut S,
-) -> Result<Vec<u8>, Reason> {
-    if words.passes("from") {
-        return read_file(alloc, folder, words.word());
-    }
+/// The text of these lines.
+fn text_of_lines(alloc: Global, lines: &[&str]) -> Result<Vec<u8>, Reason> {
     let mut text = Vec::new(alloc);
-    let added = add_text(&mut text, below);
+    let added = add_text(&mut text, lines);
     where_well(text, added)
 }
 

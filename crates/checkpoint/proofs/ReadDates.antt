@@ -27,7 +27,7 @@ pub record ArePartlyRead (format : Format) (text : List ℕ) (count : ℕ) (date
   pub given : All IsGiven dates
   pub early : IsGiven before
   pub read : (more after : List ℕ) → rest ≡ date_words format before more ++ after → text ≡ date_words format 0 (dates ++ more) ++ after
-  pub told : (all after : List ℕ) → All IsGiven all → length all ≡ count → EndsWord after → text ≡ date_words format 0 all ++ after → AreLeft format count before number rest after
+  pub tells : (all after : List ℕ) → All IsGiven all → length all ≡ count → EndsWord after → text ≡ date_words format 0 all ++ after → AreLeft format count before number rest after
 
 pub read_none : (format : Format) (text : List ℕ) (count : ℕ) (dates : List ℕ) → dates ≡ [] → ArePartlyRead format text count dates 0 0 text
 read_none format text count dates none = record {
@@ -35,7 +35,7 @@ read_none format text count dates none = record {
   given = subst (All IsGiven) (sym none) (All-nil IsGiven);
   early = omega arith;
   read = λ more after is. is ∙ ap (λ l. date_words format 0 (l ++ more) ++ after) (sym none);
-  told = λ all after given counted ends is. record {
+  tells = λ all after given counted ends is. record {
     dates = all;
     given = given;
     counted = omega (arith, counted);
@@ -59,14 +59,14 @@ module _ (format : Format) (text : List ℕ) (count : ℕ) (dates : List ℕ) (b
       next [] given counted is = absurd (omega (arith, counted, low))
       next (date ∷ dates_) given counted is =
           let whole = is ∙ ap (λ l. codes " " ++ l) (append_assoc (date_word format before date) (date_words format date dates_) after) in
-          let told = tells date (date_words format date dates_ ++ after) (All-head IsGiven date dates_ given) (ends-date_words format date dates_ after ends) whole in (
+          let known = tells date (date_words format date dates_ ++ after) (All-head IsGiven date dates_ given) (ends-date_words format date dates_ after ends) whole in (
             date,
-            told.0,
+            known.0,
             record {
               dates = dates_;
               given = All-tail IsGiven date dates_ given;
               counted = omega (arith, counted);
-              is = told.1;
+              is = known.1;
             },
           )
 
@@ -79,15 +79,15 @@ module _ (format : Format) (text : List ℕ) (count : ℕ) (dates : List ℕ) (b
     read = λ more after rest_is.
         partly.read (date ∷ more) after (is ∙ ap (λ l. codes " " ++ (date_word format before date ++ l)) rest_is ∙ ap (λ l. codes " " ++ l) (sym (append_assoc (date_word format before date) (date_words format date more) after)))
         ∙ ap (λ l. date_words format 0 l ++ after) (sym (append_assoc dates (date ∷ []) more));
-    told = λ all after all_given all_counted ends all_is.
-        let found = next_told (Some date) left after low tells ends (partly.told all after all_given all_counted ends all_is) in
+    tells = λ all after all_given all_counted ends all_is.
+        let found = next_told (Some date) left after low tells ends (partly.tells all after all_given all_counted ends all_is) in
         let same : date ≡ found.0 = cc found.1 in
         subst (λ d. AreLeft format count d (number + 1) left after) (sym same) found.2;
   }
 
   pub next_missing : (left : List ℕ) → number < count → TellsDate format before rest None left → (all after : List ℕ) → All IsGiven all → length all ≡ count → EndsWord after → text ≡ date_words format 0 all ++ after → ⊥
   next_missing left low tells all after all_given all_counted ends all_is =
-      let found = next_told None left after low tells ends (partly.told all after all_given all_counted ends all_is) in
+      let found = next_told None left after low tells ends (partly.tells all after all_given all_counted ends all_is) in
       cc found.1
 
   pub read_all : text ≡ date_words format 0 dates ++ rest
@@ -96,7 +96,7 @@ module _ (format : Format) (text : List ℕ) (count : ℕ) (dates : List ℕ) (b
 
   pub left_after_all : number ≡ count → (all after : List ℕ) → All IsGiven all → length all ≡ count → EndsWord after → text ≡ date_words format 0 all ++ after → rest ≡ after
   unfolding date_words
-  left_after_all whole all after all_given all_counted ends all_is = none (partly.told all after all_given all_counted ends all_is)
+  left_after_all whole all after all_given all_counted ends all_is = none (partly.tells all after all_given all_counted ends all_is)
     where
       none : AreLeft format count before number rest after → rest ≡ after
       none left = none_left left.dates left.counted left.is
@@ -154,15 +154,15 @@ line_kept format text counted dated ended kept count room is k end = record {
 module _ (format : Format) (text counted dates after : List ℕ) (given : All IsGiven dates) (is : text ≡ dates_text format dates ++ after) where
   pub count_missing : TellsCount text None counted → ⊥
   count_missing tells =
-      let told = count_told format text counted dates after None tells given is in
-      cc told.0
+      let known = count_told format text counted dates after None tells given is in
+      cc known.0
 
   module _ (count : ℕ) (tells : TellsCount text (Some count) counted) where
     dates_left : (read : Bool) (dated : List ℕ) → TellsDates format count counted read dated → (read ≡ true) × (dated ≡ codes "\n" ++ after)
     dates_left read dated tells_dates =
-        let told = count_told format text counted dates after (Some count) tells given is in
-        let same : length dates ≡ count = cc told.0 in
-        tells_dates dates (codes "\n" ++ after) given same refl told.1
+        let known = count_told format text counted dates after (Some count) tells given is in
+        let same : length dates ≡ count = cc known.0 in
+        tells_dates dates (codes "\n" ++ after) given same refl known.1
 
     pub dates_missing : (dated : List ℕ) → TellsDates format count counted false dated → ⊥
     dates_missing dated tells_dates =

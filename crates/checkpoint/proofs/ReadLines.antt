@@ -334,11 +334,11 @@ pub dated_stop : (format : Format) (g : Parts) (n : ℕ) (lists : List (List ℕ
     → HasRead format g n lists r → IsReadFor format g → 1 ≤ n → n < length (lines format g) → length text < 2 ^ 32 → r.text ≡ text → line_at format g n ≡ Dated words
     → ((dates after : List ℕ) → All IsGiven dates → r.rest ≡ words ++ (dates_text format dates ++ after) → stop ≡ Memory)
     → number ≡ n + 1 → error ≡ stopped_at stop number → Tells g text error
-dated_stop format g n lists r text words stop number error has read some low short same line told is_number is =
+dated_stop format g n lists r text words stop number error has read some low short same line known is_number is =
     let short_text : length r.text < 2 ^ 64 = omega (arith, short, ap length same) in
     tells_stop g text stop number error is
     (λ other.
-    let bad = first_bad_dated format g n lists r has words read some low short_text line (λ dates after given rest. other (told dates after given rest)) in
+    let bad = first_bad_dated format g n lists r has words read some low short_text line (λ dates after given rest. other (known dates after given rest)) in
     rw (is_number) (subst (λ t. IsFirstBadLine g t (n + 1)) same bad))
 
 -- ---- the ends of a text

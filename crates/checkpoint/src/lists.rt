@@ -24,7 +24,7 @@ fn pass_station(reader: &mut Reader, graph: &Graph, t: u32) -> bool
     requires { t < stations graph.now }
     ensures passed { result ≡ true
         → reader.old.rest ≡ station_words graph.now t ++ reader.new.rest }
-    ensures told { TellsPassing (station_words graph.now t) reader.old.rest result reader.new.rest }
+    ensures tells { TellsPassing (station_words graph.now t) reader.old.rest result reader.new.rest }
     ensures text { reader.new.text ≡ reader.old.text }
 {
     if !reader.pass(b"station ") {
@@ -50,7 +50,7 @@ fn read_station(
         (λ line. KeepsLine format (station_words graph.now t) line.count (jobs graph.now)
         reader.old.rest line.log.dates reader.new.rest) }
     ensures room { IfOk result (λ line. line.log.room ≡ jobs graph.now) }
-    ensures told { TellsLine format (station_words graph.now t) reader.old.rest result }
+    ensures tells { TellsLine format (station_words graph.now t) reader.old.rest result }
     ensures text { reader.new.text ≡ reader.old.text }
 {
     if !pass_station(reader, graph, t) {

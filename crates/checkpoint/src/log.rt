@@ -17,7 +17,7 @@ pub fn read_count(reader: &mut Reader) -> Option<u32>
     requires { length reader.old.rest < 2 ^ 32 }
     ensures read { IfSome result (λ count. reader.old.rest ≡ decimal count ++ reader.new.rest) }
     ensures few { IfSome result (λ count. count < 2 ^ 31) }
-    ensures told { TellsCount reader.old.rest result reader.new.rest }
+    ensures tells { TellsCount reader.old.rest result reader.new.rest }
     ensures text { reader.new.text ≡ reader.old.text }
 {
     let number = number_of(reader.word(), u64::MAX)?;
@@ -34,7 +34,7 @@ pub fn read_date(reader: &mut Reader, format: Format, before: Date) -> Option<Da
     ensures read { IfSome result (λ date. reader.old.rest
         ≡ codes " " ++ (date_word format before date ++ reader.new.rest)) }
     ensures given { IfSome result (λ date. date ≤ LATEST_GIVEN) }
-    ensures told { TellsDate format before reader.old.rest result reader.new.rest }
+    ensures tells { TellsDate format before reader.old.rest result reader.new.rest }
     ensures text { reader.new.text ≡ reader.old.text }
 {
     if !reader.pass(b" ") {
@@ -60,7 +60,7 @@ fn read_dates(reader: &mut Reader, log: &mut Log, format: Format, count: u32, ro
     requires room { room ≤ log.old.room }
     ensures read { result ≡ true
         → KeepsDates format count room reader.old.rest log.new.dates reader.new.rest }
-    ensures told { TellsDates format count reader.old.rest result reader.new.rest }
+    ensures tells { TellsDates format count reader.old.rest result reader.new.rest }
     ensures room { log.new.room ≡ log.old.room }
     ensures text { reader.new.text ≡ reader.old.text }
 {
@@ -95,7 +95,7 @@ pub fn read_log(
     ensures read { IfOk result
         (λ line. KeepsLine format [] line.count room reader.old.rest line.log.dates reader.new.rest) }
     ensures room { IfOk result (λ line. line.log.room ≡ room) }
-    ensures told { TellsLine format [] reader.old.rest result }
+    ensures tells { TellsLine format [] reader.old.rest result }
     ensures text { reader.new.text ≡ reader.old.text }
 {
     let Some(count) = read_count(reader) else {

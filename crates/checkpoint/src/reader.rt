@@ -56,7 +56,7 @@ impl<'a> Reader<'a> {
     /// Passes over this, where it stands next; else nothing is passed over.
     pub fn pass(&mut self, expected: &[u8]) -> bool
         ensures passed { result ≡ true → self.old.rest ≡ expected.now ++ self.new.rest }
-        ensures told { TellsPassing expected.now self.old.rest result self.new.rest }
+        ensures tells { TellsPassing expected.now self.old.rest result self.new.rest }
         ensures kept { result ≡ false → self.new.rest ≡ self.old.rest }
         ensures text { self.new.text ≡ self.old.text }
     {
@@ -70,7 +70,7 @@ impl<'a> Reader<'a> {
     /// Passes over the decimal text of this number, where it stands next.
     pub fn pass_number(&mut self, number: u32) -> bool
         ensures passed { result ≡ true → self.old.rest ≡ decimal number ++ self.new.rest }
-        ensures told { TellsPassing (decimal number) self.old.rest result self.new.rest }
+        ensures tells { TellsPassing (decimal number) self.old.rest result self.new.rest }
         ensures text { self.new.text ≡ self.old.text }
     {
         let mut buffer = [0; 40];
@@ -81,7 +81,7 @@ impl<'a> Reader<'a> {
     /// Passes over the word that stands next, up to a space, a line feed or the end.
     pub fn word(&mut self) -> &'a [u8]
         ensures word { self.old.rest ≡ result.now ++ self.new.rest }
-        ensures told { TellsWord self.old.rest result.now self.new.rest }
+        ensures tells { TellsWord self.old.rest result.now self.new.rest }
         ensures text { self.new.text ≡ self.old.text }
     {
         let start = self.at;

@@ -67,7 +67,7 @@ fn compare_dates(
     requires { count < 2 ^ 31 }
     ensures read { result ≡ true
         → Compares format a count left.entry reader.old.rest reader.new.rest noted.old noted.new }
-    ensures told { TellsDates format count reader.old.rest result reader.new.rest }
+    ensures tells { TellsDates format count reader.old.rest result reader.new.rest }
     ensures text { reader.new.text ≡ reader.old.text }
 {
     let mut tokens = left;
@@ -85,7 +85,7 @@ fn compare_dates(
 /// Passes over the words with which the line of arc `a` begins.
 fn pass_place(reader: &mut Reader, a: u32) -> bool
     ensures passed { result ≡ true → reader.old.rest ≡ place_words a ++ reader.new.rest }
-    ensures told { TellsPassing (place_words a) reader.old.rest result reader.new.rest }
+    ensures tells { TellsPassing (place_words a) reader.old.rest result reader.new.rest }
     ensures text { reader.new.text ≡ reader.old.text }
 {
     if !reader.pass(b"place ") {
@@ -113,7 +113,7 @@ pub fn read_place(
     ensures read { IfOk result
         (λ count. ComparesLine format a count (tokens_left graph.now (dates_of logs.now) a)
         reader.old.rest reader.new.rest noted.old noted.new) }
-    ensures told { TellsLine format (place_words a) reader.old.rest result }
+    ensures tells { TellsLine format (place_words a) reader.old.rest result }
     ensures text { reader.new.text ≡ reader.old.text }
 {
     if !pass_place(reader, a) {

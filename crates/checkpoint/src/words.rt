@@ -14,7 +14,7 @@ pub const LAST_DATE: Date = 1_000_000_000_000_000_000;
 fn earlier(text: &[u8], before: Date) -> Option<Date>
     ensures read { IfSome result (λ date. text.now ≡ decimal (before - date)) }
     ensures earlier { IfSome result (λ date. date < before) }
-    ensures told { (date : ℕ) → date < before → text.now ≡ decimal (before - date)
+    ensures tells { (date : ℕ) → date < before → text.now ≡ decimal (before - date)
         → result ≡ Some date }
 {
     let less = number_of(text, before)?;
@@ -30,7 +30,7 @@ fn later(text: &[u8], before: Date) -> Option<Date>
     ensures read { IfSome result (λ date. text.now ≡ decimal (date - before)) }
     ensures later { IfSome result (λ date. before ≤ date) }
     ensures given { IfSome result (λ date. date ≤ LATEST_GIVEN) }
-    ensures told { (date : ℕ) → before ≤ date → date ≤ LATEST_GIVEN
+    ensures tells { (date : ℕ) → before ≤ date → date ≤ LATEST_GIVEN
         → text.now ≡ decimal (date - before)
         → result ≡ Some date }
 {
@@ -43,7 +43,7 @@ fn date_by_difference(word: &[u8], before: Date) -> Option<Date>
     requires { before ≤ LATEST_GIVEN }
     ensures read { IfSome result (λ date. word.now ≡ date_word Differences before date) }
     ensures given { IfSome result (λ date. date ≤ LATEST_GIVEN) }
-    ensures told { (date : ℕ) → date ≤ LATEST_GIVEN → word.now ≡ date_word Differences before date
+    ensures tells { (date : ℕ) → date ≤ LATEST_GIVEN → word.now ≡ date_word Differences before date
         → result ≡ Some date }
 {
     match word.strip_prefix(b"-") {
@@ -57,7 +57,7 @@ pub fn date_of(word: &[u8], format: Format, before: Date) -> Option<Date>
     requires { before ≤ LATEST_GIVEN }
     ensures read { IfSome result (λ date. word.now ≡ date_word format before date) }
     ensures given { IfSome result (λ date. date ≤ LATEST_GIVEN) }
-    ensures told { (date : ℕ) → date ≤ LATEST_GIVEN → word.now ≡ date_word format before date
+    ensures tells { (date : ℕ) → date ≤ LATEST_GIVEN → word.now ≡ date_word format before date
         → result ≡ Some date }
 {
     match format {

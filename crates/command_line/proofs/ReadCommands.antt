@@ -24,8 +24,8 @@ lacks error c command out is = rw out (record { command_is = tt; usage = (λ e. 
 
 -- what the exit of a `?` returns, where the words are a command
 pub lacks_for : (result : Result Command WordsError) (c : Command) (command : Option Command) → IsErrAnd result (λ error. error ≡ NoMemory) → command ≡ Some c → IsReadAs result command
-lacks_for result c command told is =
-    let p = err_from_is_err_and result told in rw p.1 (lacks p.0 c command p.2 is)
+lacks_for result c command known is =
+    let p = err_from_is_err_and result known in rw p.1 (lacks p.0 c command p.2 is)
 
 -- no command
 pub reads_none : (command : Option Command) → command ≡ None → IsReadAs (Err Usage) command

@@ -9,7 +9,7 @@ use Rattle.commands.specs.declared.dates.DatedPlant.{DatedPlant}
 use Rattle.date_causes.specs.Caused.{AreOfPlant as AreCausesOf}
 use Rattle.event_graph.specs.Least.{IsLeast}
 use Rattle.event_graph.specs.Table.{date_in}
-use Rattle.line_stats.specs.PlantDates.{AreOfPlant, AreOfPlant as AreReportOf}
+use Rattle.line_stats.specs.PlantDates.{AreOfPlant}
 use Rattle.live_check.specs.Order.{LiveGraph}
 use Rattle.live_plant.specs.LivePlant.{IsLivePlant}
 use Rattle.live_plant.specs.declared.live_plant.LivePlant.{LivePlant}
@@ -28,13 +28,9 @@ module _ (line : LivePlant) (dated : DatedPlant) (is : IsLivePlant line) (of : I
   table_graph : dated.table.graph ≡ graph dated.plant
   table_graph = of.least.graph_is ∙ ap graph (sym of.plant)
 
-  -- a report
-  pub reported_of : AreReportOf dated.plant dated.live dated.table
-  reported_of = record { sound = sound; live_graph = live_graph; table_graph = table_graph }
-
-  -- a picture, and every date
-  pub drawn_of : AreOfPlant dated.plant dated.live dated.table
-  drawn_of = record { sound = sound; live_graph = live_graph; table_graph = table_graph }
+  -- a report, a picture, and every date
+  pub dated_of : AreOfPlant dated.plant dated.live dated.table
+  dated_of = record { sound = sound; live_graph = live_graph; table_graph = table_graph }
 
   -- a chain of causes
   pub caused_of : AreCausesOf dated.plant dated.live dated.table

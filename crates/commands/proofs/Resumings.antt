@@ -144,7 +144,7 @@ module _ (tells : Bool) (old new : DiskView) (p : Plant) (loaded : Loaded tells 
     slots_nothing of = slots_do (Err NothingSaved) (λ store. tt)
         (inl (record {
           saved = of.saved;
-          known = of.told;
+          known = of.known;
           read = of.read tt;
           answers = saved_nothing p g of.saved of.answers;
         }))
@@ -156,7 +156,7 @@ module _ (tells : Bool) (old new : DiskView) (p : Plant) (loaded : Loaded tells 
         (⊎_elim
         (λ (report : IsReport p answer). inl (record {
           saved = of.saved;
-          known = of.told;
+          known = of.known;
           read = of.read tt;
           answers = saved_resumes p g of.saved d answer same of.answers report;
         }))
@@ -185,7 +185,7 @@ module _ (tells : Bool) (old new : DiskView) (p : Plant) (loaded : Loaded tells 
         (⊎_elim
         (λ (answers : IsResumedOf p of.saved (Err refusal)). inl (record {
           saved = of.saved;
-          known = of.told;
+          known = of.known;
           read = of.read tt;
           answers = answers;
         }))

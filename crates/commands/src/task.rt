@@ -13,7 +13,7 @@ pub enum Task {
         /// What is asked.
         question: AloneQuestion,
     },
-    /// All that is wrong with a plant file and with the files that it names is told.
+    /// It answers all that is wrong with a plant file and with the files that it names.
     Linting {
         /// The plant file.
         plant: FileName,

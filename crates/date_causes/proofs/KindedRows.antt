@@ -93,7 +93,7 @@ parts-joined part p =
     map-append part (stages_part p) (kinded Demand (feed_row p) ∷ later_part p)
     ∙ ap (λ ys. map part (stages_part p) ++ part (kinded Demand (feed_row p)) ∷ ys) (map-append part (policy_part p.policy p) (loops_part p))
 
--- what is told of each row of the policy, and of all rows
+-- what is known of each row of the policy, and of all rows
 abbrev policy_told : {Z : Type 0} → (KindedRow → Z) → Policy → Plant → List Z
 policy_told part Kanban p = map (λ i. part (kinded Card (card_row p 0 i))) (stage_numbers p)
 policy_told part (Conwip cards) p = map (λ i. part (kinded Card (line_card_row p i))) (first_stages p)
@@ -101,15 +101,15 @@ policy_told part BaseStock p = map (λ i. part (kinded Demand (demand_row p i)))
 policy_told part Extended p =
     flat_map (λ i. part (kinded Demand (demand_row p i)) ∷ part (kinded Card (extended_card p i)) ∷ []) (stage_numbers p)
 
-policy_part-told : {Z : Type 0} (part : KindedRow → Z) (policy : Policy) (p : Plant) → map part (policy_part policy p) ≡ policy_told part policy p
-policy_part-told part Kanban p = map-map part (λ i. kinded Card (card_row p 0 i)) (stage_numbers p)
-policy_part-told part (Conwip cards) p = map-map part (λ i. kinded Card (line_card_row p i)) (first_stages p)
-policy_part-told part BaseStock p = map-map part (λ i. kinded Demand (demand_row p i)) (stage_numbers p)
-policy_part-told part Extended p =
+policy_part-known : {Z : Type 0} (part : KindedRow → Z) (policy : Policy) (p : Plant) → map part (policy_part policy p) ≡ policy_told part policy p
+policy_part-known part Kanban p = map-map part (λ i. kinded Card (card_row p 0 i)) (stage_numbers p)
+policy_part-known part (Conwip cards) p = map-map part (λ i. kinded Card (line_card_row p i)) (first_stages p)
+policy_part-known part BaseStock p = map-map part (λ i. kinded Demand (demand_row p i)) (stage_numbers p)
+policy_part-known part Extended p =
     map-flat_map part (λ i. kinded Demand (demand_row p i) ∷ kinded Card (extended_card p i) ∷ []) (stage_numbers p)
 
-all_parts-told : {Z : Type 0} (part : KindedRow → Z) (p : Plant) (stages policy loops : List Z) → map part (stages_part p) ≡ stages → map part (policy_part p.policy p) ≡ policy → map part (loops_part p) ≡ loops → map part (all_parts p) ≡ stages ++ part (kinded Demand (feed_row p)) ∷ (policy ++ loops)
-all_parts-told part p stages policy loops of_stages of_policy of_loops =
+all_parts-known : {Z : Type 0} (part : KindedRow → Z) (p : Plant) (stages policy loops : List Z) → map part (stages_part p) ≡ stages → map part (policy_part p.policy p) ≡ policy → map part (loops_part p) ≡ loops → map part (all_parts p) ≡ stages ++ part (kinded Demand (feed_row p)) ∷ (policy ++ loops)
+all_parts-known part p stages policy loops of_stages of_policy of_loops =
     parts-joined part p
     ∙ ap (λ ys. ys ++ part (kinded Demand (feed_row p)) ∷ (map part (policy_part p.policy p) ++ map part (loops_part p))) of_stages
     ∙ ap (λ ys. stages ++ part (kinded Demand (feed_row p)) ∷ (ys ++ map part (loops_part p))) of_policy
@@ -133,27 +133,27 @@ stages_part-kinds p =
     ∙ flat_map-same (λ i. map kind_of (stage_part p i)) (stage_kinds p) (stage_numbers p) (stage_part-kinds p)
 
 policy_part-rows : (p : Plant) (policy : Policy) → map row_of (policy_part policy (with_policy policy p)) ≡ policy_rows (with_policy policy p)
-policy_part-rows p Kanban = policy_part-told row_of Kanban (with_policy Kanban p)
-policy_part-rows p (Conwip cards) = policy_part-told row_of (Conwip cards) (with_policy (Conwip cards) p)
-policy_part-rows p BaseStock = policy_part-told row_of BaseStock (with_policy BaseStock p)
-policy_part-rows p Extended = policy_part-told row_of Extended (with_policy Extended p)
+policy_part-rows p Kanban = policy_part-known row_of Kanban (with_policy Kanban p)
+policy_part-rows p (Conwip cards) = policy_part-known row_of (Conwip cards) (with_policy (Conwip cards) p)
+policy_part-rows p BaseStock = policy_part-known row_of BaseStock (with_policy BaseStock p)
+policy_part-rows p Extended = policy_part-known row_of Extended (with_policy Extended p)
 
 policy_part-kinds : (p : Plant) (policy : Policy) → map kind_of (policy_part policy (with_policy policy p)) ≡ policy_kinds (with_policy policy p)
-policy_part-kinds p Kanban = policy_part-told kind_of Kanban (with_policy Kanban p)
-policy_part-kinds p (Conwip cards) = policy_part-told kind_of (Conwip cards) (with_policy (Conwip cards) p)
-policy_part-kinds p BaseStock = policy_part-told kind_of BaseStock (with_policy BaseStock p)
-policy_part-kinds p Extended = policy_part-told kind_of Extended (with_policy Extended p)
+policy_part-kinds p Kanban = policy_part-known kind_of Kanban (with_policy Kanban p)
+policy_part-kinds p (Conwip cards) = policy_part-known kind_of (Conwip cards) (with_policy (Conwip cards) p)
+policy_part-kinds p BaseStock = policy_part-known kind_of BaseStock (with_policy BaseStock p)
+policy_part-kinds p Extended = policy_part-known kind_of Extended (with_policy Extended p)
 
 all_parts-rows : (p : Plant) → map row_of (all_parts p) ≡ rows p
 unfolding rows
 all_parts-rows p =
-    all_parts-told row_of p (flat_map (stage_rows p) (stage_numbers p)) (policy_rows p) (map (loop_row p) p.loops) (stages_part-rows p) (policy_part-rows p p.policy)
+    all_parts-known row_of p (flat_map (stage_rows p) (stage_numbers p)) (policy_rows p) (map (loop_row p) p.loops) (stages_part-rows p) (policy_part-rows p p.policy)
     (map-map row_of (λ l. kinded Loop (loop_row p l)) p.loops)
 
 all_parts-kinds : (p : Plant) → map kind_of (all_parts p) ≡ kinds p
 unfolding kinds
 all_parts-kinds p =
-    all_parts-told kind_of p (flat_map (stage_kinds p) (stage_numbers p)) (policy_kinds p) (map (λ l. Loop) p.loops) (stages_part-kinds p) (policy_part-kinds p p.policy)
+    all_parts-known kind_of p (flat_map (stage_kinds p) (stage_numbers p)) (policy_kinds p) (map (λ l. Loop) p.loops) (stages_part-kinds p) (policy_part-kinds p p.policy)
     (map-map kind_of (λ l. kinded Loop (loop_row p l)) p.loops)
 
 -- ---- each row is what its kind says

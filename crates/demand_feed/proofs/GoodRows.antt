@@ -90,10 +90,10 @@ rows_of-rows used most records rows h = by (find (λ row. lacks_number used most
         (rows-good used most (jobs used records) e, omega arith)
     by (Some bad) e same = cc same
 
--- what the pass over a file holds, where its rows are told
+-- what the pass over a file holds, where its rows are known
 pub record Accepted (used : List ℕ) (most : ℕ) (records : List Record) (numbers : List ℕ) (count : ℕ) : Type 0 where
   pub rows : List (List ℕ)
-  pub told : rows_of used most records ≡ Ok rows
+  pub tells : rows_of used most records ≡ Ok rows
   pub good : AllByRecursion (IsRow (length used) most) rows
   pub few : count ≤ length records
   pub joined : numbers ≡ concat rows
@@ -106,7 +106,7 @@ Accepted-held used most records numbers count held = by (rows_of used most recor
     by : (read : Held (List (List ℕ))) → rows_of used most records ≡ read → HoldsRows read numbers count → Accepted used most records numbers count
     by (Ok rows) e h =
         let good = rows_of-rows used most records rows e in
-        record { rows = rows; told = e; good = good.0; few = omega (arith, h.1, good.1); joined = h.0; counted = h.1 }
+        record { rows = rows; tells = e; good = good.0; few = omega (arith, h.1, good.1); joined = h.0; counted = h.1 }
     by (Err place) e h = absurd h
 
 -- rows joined have as many numbers as rows times columns

@@ -60,23 +60,23 @@ keeps-up xs up i j order within = elim (cases_lt i j) [
 pub place-found : (columns : List ℕ) (column p : ℕ) (r : Result ℕ ℕ) → r ≡ Ok p → IsStrictlyIncreasing columns
     → IsBinarySearchResult (λ y. nat_cmp y column) columns r → (p < length columns) × (position_or_len (λ other. eqb other column) columns ≡ p)
 place-found columns column p r is up found =
-    let told = rw is at (searched columns column r found (keeps-up columns up)) in
-    let inside = told.0 in (
+    let known = rw is at (searched columns column r found (keeps-up columns up)) in
+    let inside = known.0 in (
       inside,
       position_or_len_is (λ other. eqb other column) columns p 0 (omega arith)
-          (λ k below. let lower = rises columns up k p below inside in ne_eqb (get_or columns k 0) column (λ same. absurd (omega (arith, told.1))))
-          (λ _. eq-eqb (get_or columns p 0) column told.1),
+          (λ k below. let lower = rises columns up k p below inside in ne_eqb (get_or columns k 0) column (λ same. absurd (omega (arith, known.1))))
+          (λ _. eq-eqb (get_or columns p 0) column known.1),
     )
 
 -- and misses none that is there
 pub place-missing : (columns : List ℕ) (column i : ℕ) (r : Result ℕ ℕ) → r ≡ Err i → IsStrictlyIncreasing columns
     → IsBinarySearchResult (λ y. nat_cmp y column) columns r → Contains columns column → ⊥
 place-missing columns column i r is up missing (k, inside, there) =
-    let told = rw is at (searched columns column r missing (keeps-up columns up)) in
+    let known = rw is at (searched columns column r missing (keeps-up columns up)) in
     let here : get_or columns k 0 ≡ column = get_or_default columns k 0 column inside ∙ there in
     elim (cases_lt k i) [
-      | inl below ↦ omega (arith, told.1 k below)
-      | inr above ↦ omega (arith, told.2 k above inside)
+      | inl below ↦ omega (arith, known.1 k below)
+      | inr above ↦ omega (arith, known.2 k above inside)
     ]
 
 -- a place in a row is a place among all numbers
@@ -155,4 +155,4 @@ pub times_of-held : (columns kept file numbers : List ℕ) (jobs : ℕ) → kept
     → HoldsRows (rows_of columns MAX_TIME (records_of file)) numbers jobs → times_of columns file ≡ Ok (job_times kept jobs numbers)
 times_of-held columns kept file numbers jobs same held =
     let all = Accepted-held columns MAX_TIME (records_of file) numbers jobs held in
-    ap (under_columns columns) all.told ∙ job_times-rows columns kept numbers jobs all.rows same all.good all.joined all.counted
+    ap (under_columns columns) all.tells ∙ job_times-rows columns kept numbers jobs all.rows same all.good all.joined all.counted

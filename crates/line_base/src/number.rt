@@ -21,7 +21,7 @@ pub fn digits(n: u128, buffer: &mut [u8; 40]) -> u32
 pub fn number_of(text: &[u8], most: u64) -> Option<u64>
     ensures read { IfSome result (λ n. text.now ≡ decimal n) }
     ensures small { IfSome result (λ n. n ≤ most) }
-    ensures told { (n : ℕ) → n ≤ most → text.now ≡ decimal n → result ≡ Some n }
+    ensures tells { (n : ℕ) → n ≤ most → text.now ≡ decimal n → result ≡ Some n }
 {
     if !starts_plainly(text) {
         return None;

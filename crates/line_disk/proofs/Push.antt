@@ -47,11 +47,11 @@ on_ok (Err e) a f = a
 pub error_alone : {T E : Type 0} {e : E} (r : Result T E) (P : T → Type 0) → r ≡ Err e → IfOk r P
 error_alone {T} {E} {e} r P is = subst (λ q. IfOk q P) (sym is) tt
 
--- an error that is told by what it is
+-- an error that is known by what it is
 pub error_is : {T E : Type 0} (result : Result T E) (error : E) → IsErrAnd result (λ e. e ≡ error) → result ≡ Err error
 error_is {T} {E} result error is =
-    let told = err_from_is_err_and result is in
-    told.1 ∙ ap (λ (e : E). let r : Result T E = Err e in r) told.2
+    let known = err_from_is_err_and result is in
+    known.1 ∙ ap (λ (e : E). let r : Result T E = Err e in r) known.2
 
 -- a call without memory is no fault
 pub counts_none : {T : Type 0} (faults : ℕ) (result : Result T DiskError) → result ≡ Err NoMemory → CountsFault faults faults result
@@ -91,13 +91,13 @@ found_or_not (Err NoMemory) found none = none refl
 
 -- what holds of a call that was done or not, where it was done, and where it was not or found no memory
 pub on_done : (A : Bool → Type 0) (done : Bool) (r : Result (Unit {0}) DiskError) → (¬ (IsErrOf r NoMemory) → done ≡ is_ok r) → (¬ (IsErrOf r NoMemory) → A done) → OnOk r (A true)
-on_done A done (Ok x) told a = subst A (told (ok_found x)) (a (ok_found x))
-on_done A done (Err e) told a = tt
+on_done A done (Ok x) known a = subst A (known (ok_found x)) (a (ok_found x))
+on_done A done (Err e) known a = tt
 
 pub on_failed : (A : Bool → Type 0) (done : Bool) (r : Result (Unit {0}) DiskError) → (¬ (IsErrOf r NoMemory) → done ≡ is_ok r) → (¬ (IsErrOf r NoMemory) → A done) → (IsErrOf r NoMemory → A false) → OnErr r (A false)
-on_failed A done (Ok x) told a none = tt
-on_failed A done (Err Failed) told a none = let found = failed_found (Err Failed) refl in subst A (told found) (a found)
-on_failed A done (Err NoMemory) told a none = none refl
+on_failed A done (Ok x) known a none = tt
+on_failed A done (Err Failed) known a none = let found = failed_found (Err Failed) refl in subst A (known found) (a found)
+on_failed A done (Err NoMemory) known a none = none refl
 
 or_true : (b : Bool) → (b || true) ≡ true
 or_true true = refl

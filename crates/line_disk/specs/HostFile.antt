@@ -1,4 +1,4 @@
--- A file of the machine, as a clause reads it. What it holds isn't told.
+-- A file of the machine, as a clause reads it. What it holds isn't known.
 use Rattle.std.specs.Prelude.{List, Option, is_some}
 use Rattle.line_disk.specs.DiskView.{blank}
 use Rattle.line_disk.specs.RawFile.{RawCall, RawView}

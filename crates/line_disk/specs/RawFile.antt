@@ -28,7 +28,7 @@ abbrev pub sync_call : {E : Type 0} → Result (Unit {0}) E → RawCall
 sync_call answer = Syncs (is_ok answer)
 
 -- What a file shows: whether it is open; every call with its answer, the oldest first; the moment, and what it holds at that
--- and at each earlier moment, which count only where contents are told.
+-- and at each earlier moment, which count only where contents are known.
 pub record RawView : Type 0 where
   pub is_open : Bool
   pub asked : List RawCall

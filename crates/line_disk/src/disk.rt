@@ -39,7 +39,7 @@ impl<T: Drop> From<AllocFailed<T>> for DiskError {
 /// Bytes by their addresses, which outlive a crash once they are synced. Until then a crash may leave any bytes where
 /// something was written since the last sync that succeeded, and leaves every other byte as it is.
 pub trait Disk {
-    /// Whether what the disk holds is told. Over a real file it isn't, and clauses on contents then say nothing.
+    /// Whether what the disk holds is known. Over a real file it isn't, and clauses on contents then say nothing.
     ghost tells: { Bool };
 
     /// What the disk holds now and held at each moment before, how often calls have failed, and every read with its answer.

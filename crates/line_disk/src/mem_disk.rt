@@ -131,7 +131,7 @@ impl MemDisk {
         ensures failing_stays { self.new.failing.items ≡ self.old.failing.items }
         ensures counted { ¬ (IsErrOf result DiskError.NoMemory) → Counts self.old self.new call }
         ensures not_counted { IsErrOf result DiskError.NoMemory → CountsNone self.old self.new }
-        ensures told { ¬ (IsErrOf result DiskError.NoMemory) → not failed ≡ is_ok result }
+        ensures tells { ¬ (IsErrOf result DiskError.NoMemory) → not failed ≡ is_ok result }
         ensures held { ¬ (IsErrOf result DiskError.NoMemory)
             → held_now (mem_view self.new) ≡ after_call (held_now (mem_view self.old)) call }
         ensures no_memory { IsErrOf result DiskError.NoMemory

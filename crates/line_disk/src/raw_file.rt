@@ -15,7 +15,7 @@ const FILE: &str = "pull.slots";
 
 /// One file as the machine has it, one call of the machine a method.
 pub trait RawFile {
-    /// Whether what the file holds is told. Of a file of the machine it isn't, and clauses on contents then say nothing.
+    /// Whether what the file holds is known. Of a file of the machine it isn't, and clauses on contents then say nothing.
     ghost tells: { Bool };
 
     /// Whether the file is open, every call with its answer, and what it holds now and held at each moment before.

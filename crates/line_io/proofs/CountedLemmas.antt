@@ -14,7 +14,7 @@ writes_counted tells old new spare name bytes before now (Ok done) (Ok well) is 
   asks = λ found. (writes.asks.0, writes.asks.1, (subst (λ s. AsksToWrite s name bytes writes.asks.0 true) is writes.asks.2.0, λ empty. tt));
   untouched = λ memory. cc;
   written = writes.written;
-  others_stay = λ told q apart. writes.others_stay told (Named q) (λ named. apart (cc named)) (named_not_spare q spare);
+  others_stay = λ known q apart. writes.others_stay known (Named q) (λ named. apart (cc named)) (named_not_spare q spare);
   torn = writes.torn;
   never_too_long = λ long. cc;
   cause = λ refused. cc;
@@ -27,7 +27,7 @@ writes_counted tells old new spare name bytes before now (Err refused) (Err erro
   asks = λ found. (writes.asks.0, writes.asks.1, (subst (λ s. AsksToWrite s name bytes writes.asks.0 false) is writes.asks.2.0, writes.asks.2.1));
   untouched = λ memory. cc (memory, failed);
   written = tt;
-  others_stay = λ told q apart. writes.others_stay told (Named q) (λ named. apart (cc named)) (named_not_spare q spare);
+  others_stay = λ known q apart. writes.others_stay known (Named q) (λ named. apart (cc named)) (named_not_spare q spare);
   torn = writes.torn;
   never_too_long = λ long. cc (long, failed);
   cause = λ refused. omega (arith, once);
@@ -45,8 +45,8 @@ writes_nothing tells old name bytes before = record {
   asks = λ found. absurd (found refl);
   untouched = λ memory. refl;
   written = tt;
-  others_stay = λ told q apart. refl;
-  torn = λ told. inl refl;
+  others_stay = λ known q apart. refl;
+  torn = λ known. inl refl;
   never_too_long = λ long. cc;
   cause = λ refused. cc;
   faults_stay = tt;
@@ -57,10 +57,10 @@ writes_nothing tells old name bytes before = record {
 
 -- what was written stands when the file is closed
 pub written_closed : (tells : Bool) (mid new : FilesView) (name bytes : List ℕ) (result : Result (Unit {0}) StoreError) → SameHeld tells mid new → OnOk result (IsTrue tells → named_files mid name ≡ Some bytes) → OnOk result (IsTrue tells → named_files new name ≡ Some bytes)
-written_closed tells mid new name bytes (Ok well) stays written = λ told. stays told (Named name) ∙ written told
+written_closed tells mid new name bytes (Ok well) stays written = λ known. stays known (Named name) ∙ written known
 written_closed tells mid new name bytes (Err error) stays written = tt
 
 -- and so does what a write that was refused left
 pub same_closed : (tells : Bool) (old mid new : FilesView) (result : Result (Unit {0}) StoreError) → SameHeld tells mid new → OnErr result (SameNamed tells old mid) → OnErr result (SameNamed tells old new)
 same_closed tells old mid new (Ok well) stays same = tt
-same_closed tells old mid new (Err error) stays same = λ told q. stays told (Named q) ∙ same told q
+same_closed tells old mid new (Err error) stays same = λ known q. stays known (Named q) ∙ same known q

@@ -66,7 +66,7 @@ counts_none old new name result is same =
       memory_is_no_fault = λ memory. same;
     })
 
--- what a refused write leaves is as it was, or a front of the bytes
+-- what a refused write leaves is as it was, or a prefix of the bytes
 pub torn_left : (keep : Option ℕ) (old new : Option (List ℕ)) (bytes : List ℕ) → new ≡ left_by keep old bytes → IsTorn old new bytes
 torn_left None old new bytes is = inl is
 torn_left (Some keep) old new bytes is =
@@ -79,15 +79,15 @@ not_due false found x none some = refl
 
 -- and what it found is what the file holds
 pub found_held : {X : Type 0} (due : Bool) (found : Option X) (x : X) (items : X → List ℕ) (held : Option (List ℕ)) → OnFalse due (option_map items found ≡ held) → due ≡ false → found ≡ Some x → held ≡ Some (items x)
-found_held true found x items held told well some = absurd (true≢false well)
-found_held false found x items held told well some =
-    sym told ∙ ap (λ (f : Option _). option_map items f) some
+found_held true found x items held known well some = absurd (true≢false well)
+found_held false found x items held known well some =
+    sym known ∙ ap (λ (f : Option _). option_map items f) some
 
 -- a call that found nothing was to fail, or there is no such file
 pub due_or_absent : {X Due : Type 0} (due : Bool) (found : Option X) (items : X → List ℕ) (held : Option (List ℕ)) → (IsTrue due → Due) → OnFalse due (option_map items found ≡ held) → found ≡ None → Due ⊎ (held ≡ None)
-due_or_absent true found items held is told none = inl (is refl)
-due_or_absent false found items held is told none =
-    inr (sym told ∙ ap (λ (f : Option _). option_map items f) none)
+due_or_absent true found items held is known none = inl (is refl)
+due_or_absent false found items held is known none =
+    inr (sym known ∙ ap (λ (f : Option _). option_map items f) none)
 
 -- bytes that were answered are those of the file
 pub bytes_held : (held : Option (List ℕ)) (bytes : List ℕ) (result : Result (Vec ℕ Global) StoreError) → held ≡ Some bytes → IfOk result (λ v. v.items ≡ bytes) → IfOk result (λ v. held ≡ Some v.items)

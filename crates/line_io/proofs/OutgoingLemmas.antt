@@ -86,10 +86,10 @@ pushed_dropped sink pending later = record {
   faults_stay_or_rise = omega arith;
 }
 
--- a front of what waits is sent, and the sink answers
-pub pushed_sent : {T E : Type 0} (old new : SinkView) (pending front rest : List ℕ) (r : Result T E) → pending ≡ front ++ rest → OnOk r (PutsAll old new front) → OnErr r (PutsPrefix old new front) → OnErr r (Rose old.faults new.faults) → old.faults ≤ new.faults → Pushed (record { sink = old; pending = pending; failed = false }) (record { sink = new; pending = rest; failed = is_err r }) []
-pushed_sent old new pending front rest (Ok x) split all some cause later = record {
-  sent = front;
+-- a prefix of what waits is sent, and the sink answers
+pub pushed_sent : {T E : Type 0} (old new : SinkView) (pending prefix rest : List ℕ) (r : Result T E) → pending ≡ prefix ++ rest → OnOk r (PutsAll old new prefix) → OnErr r (PutsPrefix old new prefix) → OnErr r (Rose old.faults new.faults) → old.faults ≤ new.faults → Pushed (record { sink = old; pending = pending; failed = false }) (record { sink = new; pending = rest; failed = is_err r }) []
+pushed_sent old new pending prefix rest (Ok x) split all some cause later = record {
+  sent = prefix;
   rest = rest;
   split = λ _. append-nil pending ∙ split;
   puts = all;
@@ -98,7 +98,7 @@ pushed_sent old new pending front rest (Ok x) split all some cause later = recor
   latched = λ bad. absurd (false≢true bad);
   faults_stay_or_rise = later;
 }
-pushed_sent old new pending front rest (Err e) split all some cause later = record {
+pushed_sent old new pending prefix rest (Err e) split all some cause later = record {
   sent = some.0;
   rest = some.1 ++ rest;
   split = λ _. append-nil pending ∙ split ∙ ap (λ l. l ++ rest) some.2 ∙ append_assoc some.0 some.1 rest;
@@ -136,10 +136,10 @@ put_on_ok {text = text} new (Ok x) none well p q =
     rw whole end.puts
 put_on_ok new (Err e) none well p q = tt
 
--- at `Err` a front of it
-pub front_on_err : {T E : Type 0} {a b : Stream} {text : List ℕ} (new : SinkView) (r : Result T E) → a.pending ≡ [] → a.failed ≡ false → Pushed a b text → Pushed b (record { sink = new; pending = []; failed = is_err r }) [] → OnErr r (PutsPrefix a.sink new text)
-front_on_err new (Ok x) none well p q = tt
-front_on_err {text = text} new (Err e) none well p q =
+-- at `Err` a prefix of it
+pub prefix_on_err : {T E : Type 0} {a b : Stream} {text : List ℕ} (new : SinkView) (r : Result T E) → a.pending ≡ [] → a.failed ≡ false → Pushed a b text → Pushed b (record { sink = new; pending = []; failed = is_err r }) [] → OnErr r (PutsPrefix a.sink new text)
+prefix_on_err new (Ok x) none well p q = tt
+prefix_on_err {text = text} new (Err e) none well p q =
     let end = pushed_then_none p q in
     let split : text ≡ end.sent ++ end.rest = ap (λ l. l ++ text) (sym none) ∙ end.split well in
     (end.sent, end.rest, split, end.puts)
@@ -149,11 +149,11 @@ pub cause_on_err : {T E : Type 0} {a b : Stream} {text : List ℕ} (new : SinkVi
 cause_on_err new (Ok x) well p q = tt
 cause_on_err new (Err e) well p q = (pushed_then_none p q).cause well refl
 
--- so the text is written, or a front of it
+-- so the text is written, or a prefix of it
 pub writes_text : {T E : Type 0} {a b : Stream} {text : List ℕ} (new : SinkView) (r : Result T E) → a.pending ≡ [] → a.failed ≡ false → Pushed a b text → Pushed b (record { sink = new; pending = []; failed = is_err r }) [] → WritesText a.sink new text r
 writes_text new r none well p q = record {
   written = put_on_ok new r none well p q;
-  front = front_on_err new r none well p q;
+  prefix = prefix_on_err new r none well p q;
   cause = cause_on_err new r well p q;
   faults_stay_or_rise = (pushed_then_none p q).faults_stay_or_rise;
 }

@@ -5,7 +5,7 @@ use Rattle.std.proofs.Math.Seq.{take-add}
 use Rattle.std.proofs.lemmas.Bool.{false≢true}
 use Rattle.std.proofs.lemmas.List.{take_all, take-append-drop}
 use Rattle.line_io.specs.Contents.{IsTorn}
-use Rattle.line_io.specs.RawFiles.{FilesView, RawName, Named, Spare, StaysOpen, StartsEmpty, IsEmptyOpen, Grows, GrowsByFront, Moves, OthersHeld}
+use Rattle.line_io.specs.RawFiles.{FilesView, RawName, Named, Spare, StaysOpen, StartsEmpty, IsEmptyOpen, Grows, GrowsByPrefix, Moves, OthersHeld}
 
 append_none : (known : Option (List ℕ)) → known ≡ option_map (λ c. c ++ []) known
 append_none None = refl
@@ -35,7 +35,7 @@ grows_more a b c bytes taken count first second =
     subst (λ xs. Grows a c xs) (sym (take-add taken count bytes)) (grows_both a b c (take taken bytes) (take count (drop taken bytes)) first second)
 
 -- and is then refused
-pub grows_torn : (a b c : FilesView) (bytes : List ℕ) (taken : ℕ) → Grows a b (take taken bytes) → GrowsByFront b c (drop taken bytes) → GrowsByFront a c bytes
+pub grows_torn : (a b c : FilesView) (bytes : List ℕ) (taken : ℕ) → Grows a b (take taken bytes) → GrowsByPrefix b c (drop taken bytes) → GrowsByPrefix a c bytes
 grows_torn a b c bytes taken first second =
     (taken + second.0, grows_more a b c bytes taken second.0 first second.1)
 
@@ -51,8 +51,8 @@ grows_synced a b c bytes grows stays = record {
   others = λ q other. stays.held q ∙ grows.others q other;
 }
 
--- all of it is a front of it
-pub front_of_all : (a b : FilesView) (bytes : List ℕ) → Grows a b bytes → GrowsByFront a b bytes
+-- all of it is a prefix of it
+pub front_of_all : (a b : FilesView) (bytes : List ℕ) → Grows a b bytes → GrowsByPrefix a b bytes
 front_of_all a b bytes grows =
     (length bytes, subst (λ xs. Grows a b xs) (sym (take_all (length bytes) bytes (omega arith))) grows)
 
@@ -67,39 +67,39 @@ pub others_grown : (a b : FilesView) (file q : RawName) (bytes : List ℕ) → a
 others_grown a b file q bytes is grows other = grows.others q (λ same. other (same ∙ is))
 
 -- a file that was made or emptied, and then filled in part
-pub torn_in_place : (a b c : FilesView) (file : RawName) (bytes : List ℕ) → StartsEmpty a b file → GrowsByFront b c bytes → IsTorn (a.held file) (c.held file) bytes
+pub torn_in_place : (a b c : FilesView) (file : RawName) (bytes : List ℕ) → StartsEmpty a b file → GrowsByPrefix b c bytes → IsTorn (a.held file) (c.held file) bytes
 torn_in_place a b c file bytes starts grows =
     inr (take grows.0 bytes, drop grows.0 bytes, sym (take-append-drop grows.0 bytes), held_grown b c file (take grows.0 bytes) starts.writes_to starts.empty grows.1)
 
 -- so it holds the bytes, where all went well
 pub held_on_ok : {T E : Type 0} (tells : Bool) (a b c : FilesView) (file : RawName) (bytes : List ℕ) (result : Result T E) → (IsTrue tells → StartsEmpty a b file) → OnOk result (IsTrue tells → Grows b c bytes) → OnOk result (IsTrue tells → c.held file ≡ Some bytes)
-held_on_ok tells a b c file bytes (Ok done) starts grows = λ told.
-    held_grown b c file bytes (starts told).writes_to (starts told).empty (grows told)
+held_on_ok tells a b c file bytes (Ok done) starts grows = λ known.
+    held_grown b c file bytes (starts known).writes_to (starts known).empty (grows known)
 held_on_ok tells a b c file bytes (Err error) starts grows = tt
 
 -- a file that was filled, and then synced
 pub synced_on_ok : {T E : Type 0} (tells : Bool) (a b c : FilesView) (bytes : List ℕ) (result : Result T E) → (IsTrue tells → Grows a b bytes) → (IsTrue tells → StaysOpen b c) → OnOk result (IsTrue tells → Grows a c bytes)
-synced_on_ok tells a b c bytes (Ok done) grows stays = λ told. grows_synced a b c bytes (grows told) (stays told)
+synced_on_ok tells a b c bytes (Ok done) grows stays = λ known. grows_synced a b c bytes (grows known) (stays known)
 synced_on_ok tells a b c bytes (Err error) grows stays = tt
 
 -- a spare file that was filled, and then renamed: the named one holds the bytes
 pub renamed_on_ok : {T E : Type 0} (tells : Bool) (a b c : FilesView) (spare name bytes : List ℕ) (result : Result T E) → (IsTrue tells → IsEmptyOpen a (Spare spare)) → (IsTrue tells → Grows a b bytes) → OnOk result (IsTrue tells → Moves b c spare name) → OnOk result (IsTrue tells → c.held (Named name) ≡ Some bytes)
-renamed_on_ok tells a b c spare name bytes (Ok done) empty grows moves = λ told.
-    (moves told).moved ∙ held_grown a b (Spare spare) bytes (empty told).writes_to (empty told).empty (grows told)
+renamed_on_ok tells a b c spare name bytes (Ok done) empty grows moves = λ known.
+    (moves known).moved ∙ held_grown a b (Spare spare) bytes (empty known).writes_to (empty known).empty (grows known)
 renamed_on_ok tells a b c spare name bytes (Err error) empty grows moves = tt
 
 -- or each but the spare one is as it was
 pub unharmed_on_err : {T E : Type 0} (tells : Bool) (a b c : FilesView) (spare bytes : List ℕ) (result : Result T E) → (IsTrue tells → IsEmptyOpen a (Spare spare)) → (IsTrue tells → Grows a b bytes) → OnErr result (IsTrue tells → (q : RawName) → c.held q ≡ b.held q) → OnErr result (IsTrue tells → (q : RawName) → q ≢ Spare spare → c.held q ≡ a.held q)
 unharmed_on_err tells a b c spare bytes (Ok done) empty grows stays = tt
-unharmed_on_err tells a b c spare bytes (Err error) empty grows stays = λ told q apart.
-    stays told q ∙ others_grown a b (Spare spare) q bytes (empty told).writes_to (grows told) apart
+unharmed_on_err tells a b c spare bytes (Err error) empty grows stays = λ known q apart.
+    stays known q ∙ others_grown a b (Spare spare) q bytes (empty known).writes_to (grows known) apart
 
 -- and each other one in both cases
 pub others_renamed : {T E : Type 0} (tells : Bool) (a b c : FilesView) (spare name bytes : List ℕ) (result : Result T E) → (IsTrue tells → IsEmptyOpen a (Spare spare)) → (IsTrue tells → Grows a b bytes) → OnOk result (IsTrue tells → Moves b c spare name) → OnErr result (IsTrue tells → (q : RawName) → c.held q ≡ b.held q) → OthersHeld tells a c spare name
-others_renamed tells a b c spare name bytes (Ok done) empty grows moves stays = λ told q other apart.
-    (moves told).others q other apart ∙ others_grown a b (Spare spare) q bytes (empty told).writes_to (grows told) apart
-others_renamed tells a b c spare name bytes (Err error) empty grows moves stays = λ told q other apart.
-    stays told q ∙ others_grown a b (Spare spare) q bytes (empty told).writes_to (grows told) apart
+others_renamed tells a b c spare name bytes (Ok done) empty grows moves stays = λ known q other apart.
+    (moves known).others q other apart ∙ others_grown a b (Spare spare) q bytes (empty known).writes_to (grows known) apart
+others_renamed tells a b c spare name bytes (Err error) empty grows moves stays = λ known q other apart.
+    stays known q ∙ others_grown a b (Spare spare) q bytes (empty known).writes_to (grows known) apart
 
 -- names of files and of spare ones
 name_of : RawName → List ℕ

@@ -10,7 +10,7 @@ use Rattle.line_io.proofs.RawFilesModel.{named_not_spare}
 -- each file is as it was, also before a step that changed a spare one at most
 same_before : {E : Type 0} (tells : Bool) (old mid new : FilesView) (spare : List ℕ) (result : Result (Unit {0}) E) → (IsTrue tells → (q : RawName) → q ≢ Spare spare → mid.held q ≡ old.held q) → OnErr result (SameNamed tells mid new) → OnErr result (SameNamed tells old new)
 same_before tells old mid new spare (Ok done) stays same = tt
-same_before tells old mid new spare (Err error) stays same = λ told q. same told q ∙ stays told (Named q) (named_not_spare q spare)
+same_before tells old mid new spare (Err error) stays same = λ known q. same known q ∙ stays known (Named q) (named_not_spare q spare)
 
 -- behind calls that changed a spare file at most
 pub writes_behind : {E : Type 0} (tells : Bool) (old mid new : FilesView) (spare name bytes : List ℕ) (first : List FilesCall) (Next Are : List FilesCall → Bool → Type 0) (result : Result (Unit {0}) E) → mid.asked ≡ old.asked ++ first → ((calls : List FilesCall) → empties (first ++ calls) ≡ empties calls) → ((calls : List FilesCall) (whole : Bool) → Next calls whole → Are (first ++ calls) whole) → (IsTrue tells → (q : RawName) → q ≢ Spare spare → mid.held q ≡ old.held q) → WritesFile tells mid new spare name bytes Next result → WritesFile tells old new spare name bytes Are result
@@ -21,17 +21,17 @@ writes_behind tells old mid new spare name bytes first Next Are result asked non
     (are writes.asks.0 (is_ok result) writes.asks.2.0, λ empty. same_before tells old mid new spare result stays (writes.asks.2.1 (sym (none writes.asks.0) ∙ empty))),
   );
   written = writes.written;
-  torn = λ told. subst (λ held. IsTorn held (new.held (Named name)) bytes) (stays told (Named name) (named_not_spare name spare)) (writes.torn told);
-  others_stay = λ told q other apart. writes.others_stay told q other apart ∙ stays told q apart;
+  torn = λ known. subst (λ held. IsTorn held (new.held (Named name)) bytes) (stays known (Named name) (named_not_spare name spare)) (writes.torn known);
+  others_stay = λ known q other apart. writes.others_stay known q other apart ∙ stays known q apart;
 }
 
 -- calls that changed a spare file at most, and nothing behind them
 pub writes_none : {E : Type 0} (tells : Bool) (old new : FilesView) (spare name bytes : List ℕ) (calls : List FilesCall) (Are : List FilesCall → Bool → Type 0) (error : E) → new.asked ≡ old.asked ++ calls → Are calls false → (IsTrue tells → (q : RawName) → q ≢ Spare spare → new.held q ≡ old.held q) → WritesFile tells old new spare name bytes Are (Err error)
 writes_none tells old new spare name bytes calls Are error asked are stays = record {
-  asks = (calls, asked, (are, λ empty told q. stays told (Named q) (named_not_spare q spare)));
+  asks = (calls, asked, (are, λ empty known q. stays known (Named q) (named_not_spare q spare)));
   written = tt;
-  torn = λ told. inl (stays told (Named name) (named_not_spare name spare));
-  others_stay = λ told q other apart. stays told q apart;
+  torn = λ known. inl (stays known (Named name) (named_not_spare name spare));
+  others_stay = λ known q other apart. stays known q apart;
 }
 
 -- a file that is written in its place is emptied
@@ -53,13 +53,13 @@ writes_in_place tells old new spare name bytes result asks written torn others =
   asks = (asks.0, asks.1, (asks.2, λ none. absurd (true≢false (sym (in_place_empties name bytes asks.0 (is_ok result) asks.2) ∙ none))));
   written = written;
   torn = torn;
-  others_stay = λ told q other apart. others told q other;
+  others_stay = λ known q other apart. others known q other;
 }
 
 -- a file that holds the bytes, or is as it was
 torn_beside : {E : Type 0} (tells : Bool) (old new : FilesView) (name bytes : List ℕ) (result : Result (Unit {0}) E) → OnOk result (IsTrue tells → new.held (Named name) ≡ Some bytes) → OnErr result (SameNamed tells old new) → IsTrue tells → IsTorn (old.held (Named name)) (new.held (Named name)) bytes
-torn_beside tells old new name bytes (Ok done) written unharmed told = inr (bytes, [], sym (append-nil bytes), written told)
-torn_beside tells old new name bytes (Err error) written unharmed told = inl (unharmed told name)
+torn_beside tells old new name bytes (Ok done) written unharmed known = inr (bytes, [], sym (append-nil bytes), written known)
+torn_beside tells old new name bytes (Err error) written unharmed known = inl (unharmed known name)
 
 -- so is a write beside it
 pub writes_beside : {E : Type 0} (tells : Bool) (old new : FilesView) (spare name bytes : List ℕ) (result : Result (Unit {0}) E) → Asks old new (λ calls. WritesBeside spare name bytes calls (is_ok result)) → OnOk result (IsTrue tells → new.held (Named name) ≡ Some bytes) → OnErr result (SameNamed tells old new) → OthersHeld tells old new spare name → WritesFile tells old new spare name bytes (WritesBeside spare name bytes) result
@@ -85,7 +85,7 @@ after_answer spare name bytes answer is same calls whole writes =
 
 pub looks_behind : {E : Type 0} (tells : Bool) (old mid new : FilesView) (spare name bytes : List ℕ) (answer : Result Bool ErrorKind) (Next : List FilesCall → Bool → Type 0) (result : Result (Unit {0}) E) → mid.asked ≡ old.asked ++ Looks name answer ∷ [] → SameHeld tells old mid → ((calls : List FilesCall) (whole : Bool) → Next calls whole → AfterLook answer spare name bytes calls whole) → WritesFile tells mid new spare name bytes Next result → WritesFile tells old new spare name bytes (AsksToWrite spare name bytes) result
 looks_behind tells old mid new spare name bytes answer Next result asked stays after writes =
-    writes_behind tells old mid new spare name bytes (Looks name answer ∷ []) Next (AsksToWrite spare name bytes) result asked (λ calls. refl) (λ calls whole is. (refl, after calls whole is)) (λ told q other. stays told q) writes
+    writes_behind tells old mid new spare name bytes (Looks name answer ∷ []) Next (AsksToWrite spare name bytes) result asked (λ calls. refl) (λ calls whole is. (refl, after calls whole is)) (λ known q other. stays known q) writes
 
 pub after_look : (spare name bytes : List ℕ) (kind : ErrorKind) (absent : Bool) → absent ≡ is_absent kind → (calls : List FilesCall) (whole : Bool) → AfterLookRefused absent spare name bytes calls whole → AfterLook (Err kind) spare name bytes calls whole
 after_look spare name bytes kind absent is calls whole writes =

@@ -5,18 +5,18 @@ use Rattle.std.specs.Prelude.{◌≡◌, ◌≢◌, ◌⊎◌, ℕ, ◌<◌, Lis
 abbrev pub Contents : Type 0
 Contents = List ℕ → Option (List ℕ)
 
--- where files are told, each is as it was
+-- where files are known, each is as it was
 abbrev pub SameFiles : Bool → Contents → Contents → Type 0
 SameFiles tells old new = IsTrue tells → (q : List ℕ) → new q ≡ old q
 
--- where files are told, each but the named one is as it was
+-- where files are known, each but the named one is as it was
 abbrev pub OthersStay : Bool → Contents → Contents → List ℕ → Type 0
 OthersStay tells old new name = IsTrue tells → (q : List ℕ) → q ≢ name → new q ≡ old q
 
--- a file that a write of these bytes broke off: as it was, or a front of them, which may be all
+-- a file that a write of these bytes broke off: as it was, or a prefix of them, which may be all
 abbrev pub IsTorn : Option (List ℕ) → Option (List ℕ) → List ℕ → Type 0
 IsTorn old new bytes =
-    (new ≡ old) ⊎ ((front rest : List ℕ) × (bytes ≡ front ++ rest) × (new ≡ Some front))
+    (new ≡ old) ⊎ ((prefix rest : List ℕ) × (bytes ≡ prefix ++ rest) × (new ≡ Some prefix))
 
 -- the file is there and has more bytes than that
 abbrev pub IsLongerThan : ℕ → Option (List ℕ) → Type 0

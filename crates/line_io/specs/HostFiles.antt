@@ -1,4 +1,4 @@
--- The files of the machine, as a clause reads them. What they hold isn't told.
+-- The files of the machine, as a clause reads them. What they hold isn't known.
 use Rattle.std.specs.Prelude.{List, [], Option, None, is_some}
 use Rattle.line_io.specs.RawFiles.{FilesCall, FilesView, Named}
 use Rattle.line_io.specs.declared.files_calls.FilesCalls.{FilesCalls}

@@ -31,7 +31,7 @@ pub record IsNewSink (sink : MemSink) (size : ℕ) (numbers : List ℕ) (kept : 
 abbrev pub room_left : MemSink → ℕ
 room_left sink = sink.room - length sink.bytes.items
 
--- the front of a refused piece that is kept
+-- the prefix of a refused piece that is kept
 abbrev pub kept_of : MemSink → List ℕ → List ℕ
 kept_of sink piece = take (min sink.keep (room_left sink)) piece
 

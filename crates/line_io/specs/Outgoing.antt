@@ -31,7 +31,7 @@ abbrev pub last_two_numbers : ℕ → ℕ → List ℕ
 last_two_numbers first second =
     codes " " ++ (decimal first ++ (codes " " ++ (decimal second ++ codes "\n")))
 
--- Bytes were given to a stream. A front of what waited and of them was sent, and the rest waits,
+-- Bytes were given to a stream. A prefix of what waited and of them was sent, and the rest waits,
 -- until the sink fails; from then on nothing more is sent.
 pub record Pushed (old new : Stream) (bytes : List ℕ) : Type 0 where
   pub sent : List ℕ

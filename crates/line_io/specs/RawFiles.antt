@@ -50,7 +50,7 @@ abbrev pub write_call : {E : Type 0} → List ℕ → Result ℕ E → FilesCall
 write_call bytes answer = Writes bytes (taken_by_answer answer)
 
 -- What files show: whether one is open; every call with its answer, the oldest first; and, which counts only where contents are
--- told, what each holds, what reads of the open file will still give, and which file is written to.
+-- known, what each holds, what reads of the open file will still give, and which file is written to.
 pub record FilesView : Type 0 where
   pub is_open : Bool
   pub asked : List FilesCall
@@ -58,7 +58,7 @@ pub record FilesView : Type 0 where
   pub left : List ℕ
   pub writes_to : RawName
 
--- where files are told, each is as it was
+-- where files are known, each is as it was
 abbrev pub SameHeld : Bool → FilesView → FilesView → Type 0
 SameHeld tells old new = IsTrue tells → (q : RawName) → new.held q ≡ old.held q
 
@@ -67,11 +67,11 @@ pub record StaysOpen (old new : FilesView) : Type 0 where
   pub writes_to : new.writes_to ≡ old.writes_to
   pub held : (q : RawName) → new.held q ≡ old.held q
 
--- where files are told, the file of each name is as it was
+-- where files are known, the file of each name is as it was
 abbrev pub SameNamed : Bool → FilesView → FilesView → Type 0
 SameNamed tells old new = IsTrue tells → (q : List ℕ) → new.held (Named q) ≡ old.held (Named q)
 
--- where files are told, each but this one and this spare one is as it was
+-- where files are known, each but this one and this spare one is as it was
 abbrev pub OthersHeld : Bool → FilesView → FilesView → (spare name : List ℕ) → Type 0
 OthersHeld tells old new spare name =
     IsTrue tells → (q : RawName) → q ≢ Named name → q ≢ Spare spare → new.held q ≡ old.held q
@@ -93,9 +93,9 @@ pub record Grows (old new : FilesView) (bytes : List ℕ) : Type 0 where
   pub grown : new.held old.writes_to ≡ option_map (λ c. c ++ bytes) (old.held old.writes_to)
   pub others : (q : RawName) → q ≢ old.writes_to → new.held q ≡ old.held q
 
--- it got a front of these bytes
-abbrev pub GrowsByFront : FilesView → FilesView → List ℕ → Type 0
-GrowsByFront old new bytes = (n : ℕ) × Grows old new (take n bytes)
+-- it got a prefix of these bytes
+abbrev pub GrowsByPrefix : FilesView → FilesView → List ℕ → Type 0
+GrowsByPrefix old new bytes = (n : ℕ) × Grows old new (take n bytes)
 
 -- a spare file took the name of a file, and each other is as it was
 pub record Moves (old new : FilesView) (spare name : List ℕ) : Type 0 where

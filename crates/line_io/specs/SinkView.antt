@@ -26,9 +26,9 @@ PutsAll old new bytes = Appends old.written new.written bytes
 abbrev pub PutsPrefix : SinkView → SinkView → List ℕ → Type 0
 PutsPrefix old new bytes = AppendsPrefix old.written new.written bytes
 
--- a text was written to a sink: all of it, or a front of it where the sink failed, and then its count of faults rose
+-- a text was written to a sink: all of it, or a prefix of it where the sink failed, and then its count of faults rose
 pub record WritesText {T E : Type 0} (old new : SinkView) (text : List ℕ) (result : Result T E) : Type 0 where
   pub written : OnOk result (PutsAll old new text)
-  pub front : OnErr result (PutsPrefix old new text)
+  pub prefix : OnErr result (PutsPrefix old new text)
   pub cause : OnErr result (Rose old.faults new.faults)
   pub faults_stay_or_rise : old.faults ≤ new.faults

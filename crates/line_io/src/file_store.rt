@@ -108,7 +108,7 @@ impl<F: RawFiles + Drop> Store for FileStore<F> {
         ensures asks { Asks (F.shown self.old.files) (F.shown self.new.files) (λ calls.
             AsksToRead name.now limit calls (bytes_of result) × (self.new.taken ≡ length (given_by calls))) }
         ensures closed { (F.shown self.new.files).is_open ≡ false }
-        ensures told { asked_of self.new.calls ≡ after_read (asked_of self.old.calls) name.now result }
+        ensures tells { asked_of self.new.calls ≡ after_read (asked_of self.old.calls) name.now result }
         ensures bytes { IfOk result (λ v. IsTrue F.tells
             → named_files (F.shown self.old.files) name.now ≡ Some v.items) }
         ensures within_limit { IfOk result (λ v. length v.items ≤ limit) }
@@ -146,7 +146,7 @@ impl<F: RawFiles + Drop> Store for FileStore<F> {
         ensures asks_nothing { IsErrOf result StoreError.NoMemory
             → (F.shown self.new.files).asked ≡ (F.shown self.old.files).asked }
         ensures closed { (F.shown self.new.files).is_open ≡ false }
-        ensures told { asked_of self.new.calls ≡ after_write (asked_of self.old.calls) name.now bytes.now result }
+        ensures tells { asked_of self.new.calls ≡ after_write (asked_of self.old.calls) name.now bytes.now result }
         ensures written { OnOk result (IsTrue F.tells
             → named_files (F.shown self.new.files) name.now ≡ Some bytes.now) }
         ensures others_stay { OthersStay F.tells (named_files (F.shown self.old.files))

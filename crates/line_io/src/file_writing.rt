@@ -1,7 +1,7 @@
 //! How a file is written: a spare one beside it, which is synced and takes its name; or in its place.
 ghost use Rattle.std.specs.Prelude.{◌≡◌, ◌≢◌, ◌<◌, ◌≤◌, ◌-◌, ◌++◌, ◌∷◌, [], ℕ, Bool, Option, Some, true, false, length, take, drop, is_ok, IsTrue, OnOk, OnErr};
 ghost use Rattle.line_io.specs.Contents.{IsTorn};
-ghost use Rattle.line_io.specs.RawFiles.{RawName, Named, Spare, Writes, Removes, CreatesSpare, Asks, AsksToWrite, Replaces, WritesFile, WritesInPlace, WritesBeside, FillsAndRenames, RenamesOnce, Fills, SyncsOnce, WritesOn, SameNamed, OthersHeld, StaysOpen, StartsEmpty, IsEmptyOpen, Grows, GrowsByFront, Moves, by_kind, is_absent, bars_new_files};
+ghost use Rattle.line_io.specs.RawFiles.{RawName, Named, Spare, Writes, Removes, CreatesSpare, Asks, AsksToWrite, Replaces, WritesFile, WritesInPlace, WritesBeside, FillsAndRenames, RenamesOnce, Fills, SyncsOnce, WritesOn, SameNamed, OthersHeld, StaysOpen, StartsEmpty, IsEmptyOpen, Grows, GrowsByPrefix, Moves, by_kind, is_absent, bars_new_files};
 ghost use Rattle.line_io.specs.RawOut.{count_of};
 ghost use Rattle.std.specs.declared.io.ErrorKind.{ErrorKind};
 
@@ -26,7 +26,7 @@ fn write_once<F: RawFiles>(files: &mut F, bytes: &[u8], from: usize) -> usize
     ensures bound { result ≤ length bytes.now - from }
     ensures written { 0 < result → IsTrue F.tells
         → Grows (F.shown files.old) (F.shown files.new) (take result (drop from bytes.now)) }
-    ensures torn { IsTrue F.tells → GrowsByFront (F.shown files.old) (F.shown files.new) (drop from bytes.now) }
+    ensures torn { IsTrue F.tells → GrowsByPrefix (F.shown files.old) (F.shown files.new) (drop from bytes.now) }
 {
     files.write(&bytes[from..]).unwrap_or(0)
 }
@@ -37,7 +37,7 @@ fn put<F: RawFiles>(files: &mut F, bytes: &[u8]) -> Outcome
     ensures asks { Asks (F.shown files.old) (F.shown files.new) (λ calls. WritesOn bytes.now calls (is_ok result)) }
     ensures open_stays { (F.shown files.new).is_open ≡ true }
     ensures written { OnOk result (IsTrue F.tells → Grows (F.shown files.old) (F.shown files.new) bytes.now) }
-    ensures torn { IsTrue F.tells → GrowsByFront (F.shown files.old) (F.shown files.new) bytes.now }
+    ensures torn { IsTrue F.tells → GrowsByPrefix (F.shown files.old) (F.shown files.new) bytes.now }
 {
     let mut taken = 0;
     while taken < bytes.len() {
@@ -67,7 +67,7 @@ fn fill<F: RawFiles>(files: &mut F, bytes: &[u8]) -> Outcome
     requires open { (F.shown files.old).is_open ≡ true }
     ensures asks { Asks (F.shown files.old) (F.shown files.new) (λ calls. Fills bytes.now calls (is_ok result)) }
     ensures written { OnOk result (IsTrue F.tells → Grows (F.shown files.old) (F.shown files.new) bytes.now) }
-    ensures torn { IsTrue F.tells → GrowsByFront (F.shown files.old) (F.shown files.new) bytes.now }
+    ensures torn { IsTrue F.tells → GrowsByPrefix (F.shown files.old) (F.shown files.new) bytes.now }
 {
     match put(files, bytes) {
         Ok(()) => sync_open(files),
@@ -75,7 +75,7 @@ fn fill<F: RawFiles>(files: &mut F, bytes: &[u8]) -> Outcome
     }
 }
 
-/// Writes a file in its place. Where this fails the file may hold a front of the bytes, and what it held is gone.
+/// Writes a file in its place. Where this fails the file may hold a prefix of the bytes, and what it held is gone.
 fn write_in_place<F: RawFiles>(files: &mut F, name: &str, bytes: &[u8]) -> Outcome
     ensures asks { Asks (F.shown files.old) (F.shown files.new)
         (λ calls. WritesInPlace name.now bytes.now calls (is_ok result)) }

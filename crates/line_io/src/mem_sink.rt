@@ -73,7 +73,7 @@ impl Sink for MemSink {
         ensures counted { Counts (sink_plan self.old) (sink_plan self.new) }
         ensures made_alike { IsMadeAlike self.old self.new }
         ensures appended { OnOk result (PutsAll (sink_view self.old) (sink_view self.new) piece.now) }
-        ensures front { OnErr result (PutsPrefix (sink_view self.old) (sink_view self.new) piece.now) }
+        ensures prefix { OnErr result (PutsPrefix (sink_view self.old) (sink_view self.new) piece.now) }
         ensures cause { OnErr result (Rose (sink_view self.old).faults (sink_view self.new).faults) }
         ensures once { OnErr result (RoseByOne (sink_view self.old).faults (sink_view self.new).faults) }
         ensures faults_stay { OnOk result ((sink_view self.new).faults ≡ (sink_view self.old).faults) }

@@ -220,7 +220,7 @@ impl Store for MemStore {
         ensures refused { IsErrOf result StoreError.Failed → IsDue (store_plan self.old) ⊎ IsAbsent self.old name.now }
         ensures counted { Counts (store_plan self.old) (store_plan self.new) }
         ensures keep_stays { store_keep self.new ≡ store_keep self.old }
-        ensures told { (store_view self.new).asked ≡ after_read (store_view self.old).asked name.now result }
+        ensures tells { (store_view self.new).asked ≡ after_read (store_view self.old).asked name.now result }
         ensures bytes { IfOk result (λ v. (store_view self.old).files name.now ≡ Some v.items) }
         ensures within_limit { IfOk result (λ v. length v.items ≤ limit) }
         ensures took_them { IfOk result (λ v. (store_view self.new).taken ≡ length v.items) }
@@ -262,7 +262,7 @@ impl Store for MemStore {
             → (store_view self.new).files name.now ≡ left_of self.old name.now bytes.now }
         ensures counted { Counts (store_plan self.old) (store_plan self.new) }
         ensures keep_stays { store_keep self.new ≡ store_keep self.old }
-        ensures told { (store_view self.new).asked ≡ after_write (store_view self.old).asked name.now bytes.now result }
+        ensures tells { (store_view self.new).asked ≡ after_write (store_view self.old).asked name.now bytes.now result }
         ensures written { OnOk result ((store_view self.new).files name.now ≡ Some bytes.now) }
         ensures others_stay { OthersStay true (store_view self.old).files (store_view self.new).files name.now }
         ensures torn { IsErrOf result StoreError.Failed

@@ -83,7 +83,7 @@ impl Outgoing {
         self.failed = send_piece(piece, self.failed, sink);
     }
 
-    /// Gives the front of bytes to the sink, and answers how many these are: a whole piece where nothing waits, else what
+    /// Gives a prefix of bytes to the sink, and answers how many these are: a whole piece where nothing waits, else what
     /// the piece lacks that waits.
     fn push_front<K: Sink>(&mut self, sink: &mut K, bytes: &[u8]) -> usize
         requires { 0 < length bytes.now }
@@ -102,7 +102,7 @@ impl Outgoing {
         count
     }
 
-    /// Gives bytes to the sink, front by front.
+    /// Gives bytes to the sink, piece by piece.
     fn push_long<K: Sink>(&mut self, sink: &mut K, bytes: &[u8])
         ensures { Pushed (stream (K.shown sink.old) self.old)
             (stream (K.shown sink.new) self.new) bytes.now }

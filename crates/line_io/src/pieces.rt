@@ -8,7 +8,7 @@ use crate::sink::{Failed, MAX_PIECE, Sink};
 /// After `Failed` a prefix of the bytes was written. It takes no memory.
 pub fn put_all<K: Sink>(sink: &mut K, bytes: &[u8]) -> Result<(), Failed>
     ensures appended { OnOk result (PutsAll (K.shown sink.old) (K.shown sink.new) bytes.now) }
-    ensures front { OnErr result (PutsPrefix (K.shown sink.old) (K.shown sink.new) bytes.now) }
+    ensures prefix { OnErr result (PutsPrefix (K.shown sink.old) (K.shown sink.new) bytes.now) }
     ensures cause { OnErr result (Rose (K.shown sink.old).faults (K.shown sink.new).faults) }
     ensures once { OnErr result (RoseByOne (K.shown sink.old).faults (K.shown sink.new).faults) }
     ensures faults_stay { OnOk result ((K.shown sink.new).faults ≡ (K.shown sink.old).faults) }

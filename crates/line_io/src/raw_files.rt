@@ -1,6 +1,6 @@
 //! Files as the machine has them: one call of the machine a method.
 ghost use Rattle.std.specs.Prelude.{◌≡◌, ◌≢◌, ◌≤◌, ◌<◌, ◌++◌, ◌∷◌, [], Bool, Some, true, false, length, take, is_ok, is_some, IsTrue, IfOk, OnOk, OnErr};
-ghost use Rattle.line_io.specs.RawFiles.{FilesView, Named, Spare, Opens, Looks, Creates, CreatesSpare, Syncs, Renames, Removes, SameHeld, StaysOpen, StartsEmpty, Grows, GrowsByFront, Moves, by_kind, read_call, write_call};
+ghost use Rattle.line_io.specs.RawFiles.{FilesView, Named, Spare, Opens, Looks, Creates, CreatesSpare, Syncs, Renames, Removes, SameHeld, StaysOpen, StartsEmpty, Grows, GrowsByPrefix, Moves, by_kind, read_call, write_call};
 
 use crate::files_calls::FilesCalls;
 use std::fs::{OpenFile, OpenOptions};
@@ -11,7 +11,7 @@ use std::{fs, io};
 /// Files as the machine has them, of which one at most is open: to be read, or to be written. One call of the machine a method.
 /// Beside a file a spare one can be written, which then takes its name.
 pub trait RawFiles {
-    /// Whether what files hold is told. Of those of the machine it isn't, and clauses on contents then say nothing.
+    /// Whether what files hold is known. Of those of the machine it isn't, and clauses on contents then say nothing.
     ghost tells: { Bool };
 
     /// Whether a file is open, every call with its answer, and what files hold.
@@ -65,7 +65,7 @@ pub trait RawFiles {
         ensures open_stays { (shown self.new).is_open ≡ true }
         ensures bound { IfOk result (λ n. n ≤ length bytes.now) }
         ensures written { IfOk result (λ n. IsTrue tells → Grows (shown self.old) (shown self.new) (take n bytes.now)) }
-        ensures torn { OnErr result (IsTrue tells → GrowsByFront (shown self.old) (shown self.new) bytes.now) };
+        ensures torn { OnErr result (IsTrue tells → GrowsByPrefix (shown self.old) (shown self.new) bytes.now) };
 
     /// Makes what was written to the file that is open stand.
     fn sync(&mut self) -> io::Result<()>

@@ -19,7 +19,7 @@ pub trait Sink {
         requires some { 0 < length piece.now }
         requires short { length piece.now ≤ MAX_PIECE }
         ensures appended { OnOk result (PutsAll (shown self.old) (shown self.new) piece.now) }
-        ensures front { OnErr result (PutsPrefix (shown self.old) (shown self.new) piece.now) }
+        ensures prefix { OnErr result (PutsPrefix (shown self.old) (shown self.new) piece.now) }
         ensures cause { OnErr result (Rose (shown self.old).faults (shown self.new).faults) }
         ensures once { OnErr result (RoseByOne (shown self.old).faults (shown self.new).faults) }
         ensures faults_stay { OnOk result ((shown self.new).faults ≡ (shown self.old).faults) }

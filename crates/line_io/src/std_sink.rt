@@ -76,7 +76,7 @@ impl<O: RawOut + Drop> Sink for StdSink<O> {
         ensures asked { AsksAll (O.asked (std_out self.old)) (O.asked (std_out self.new)) piece.now (is_ok result) }
         ensures appended { OnOk result
             (Appends (taken_of (O.asked (std_out self.old))) (taken_of (O.asked (std_out self.new))) piece.now) }
-        ensures front { OnErr result
+        ensures prefix { OnErr result
             (AppendsPrefix (taken_of (O.asked (std_out self.old))) (taken_of (O.asked (std_out self.new))) piece.now) }
         ensures cause { OnErr result (Rose self.old.faults self.new.faults) }
         ensures once { OnErr result (RoseByOne self.old.faults self.new.faults) }

@@ -190,17 +190,17 @@ saves_begin tells room n first count old counted = record {
   saved = None;
   before = begins;
   counted = counted;
-  holds = λ told. refl;
-  leaves = λ told. leaves_at_first old room first.live.graph;
+  holds = λ known. refl;
+  leaves = λ known. leaves_at_first old room first.live.graph;
   faults = omega arith;
 }
 
 pub leaves_then : (tells : Bool) (room n : ℕ) (first l last : WorkLine) (count : ℕ) (old now new : DiskView) → SavesOn tells room n first l count old now → IsBurst l last → (IsTrue tells → LeavesOnly now new (IsOldOrState (held_now now) room last.live.graph)) → IsTrue tells → LeavesOnly old new (IsOldOrState (held_now old) room first.live.graph)
-leaves_then tells room n first l last count old now new on burst step told =
+leaves_then tells room n first l last count old now new on burst step known =
     let same : last.live.graph ≡ first.live.graph =
     ap (λ (v : LiveGraph). v.graph) (burst_live l last burst ∙ saves_live n first on.saved l on.before) in
-    leaves_after old now new room first.live.graph (on.leaves told) (
-    subst (λ (g : Parts). LeavesOnly now new (IsOldOrState (held_now now) room g)) same (step told))
+    leaves_after old now new room first.live.graph (on.leaves known) (
+    subst (λ (g : Parts). LeavesOnly now new (IsOldOrState (held_now now) room g)) same (step known))
 
 pub saves_go_on : (tells : Bool) (room n : ℕ) (first l last : WorkLine) (count next : ℕ) (old now new : DiskView) → SavesOn tells room n first l count old now → IsBurst l last → SavesIfDue tells room n last count next now new → (IsTrue tells → LeavesOnly now new (IsOldOrState (held_now now) room last.live.graph)) → now.faults ≤ new.faults → SavesOn tells room n first last next old new
 saves_go_on tells room n first l last count next old now new on burst step moment faults =
@@ -219,7 +219,7 @@ saves_go_on tells room n first l last count next old now new on burst step momen
       saved = on.saved;
       before = passes on.saved l last on.before burst (λ due. not_due (subst (λ from. IsDue n from last) (sym on.counted) due));
       counted = step.else_count not_due ∙ on.counted;
-      holds = λ told. subst (λ (view : DiskView). HoldsLast room old view on.saved) (sym (step.else_untouched not_due)) (on.holds told);
+      holds = λ known. subst (λ (view : DiskView). HoldsLast room old view on.saved) (sym (step.else_untouched not_due)) (on.holds known);
       leaves = leaves;
       faults = rise;
     })

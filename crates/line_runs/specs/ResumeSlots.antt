@@ -65,6 +65,6 @@ IsOfLoad (Err NoMemory) = ⊥
 pub record ResumesSlots (tells : Bool) (old new : DiskView) (room : ℕ) (g : Parts)
     (answer : Result Dates ResumeError) : Type 0 where
   pub saved : Option (List ℕ)
-  pub told : IsTrue tells → content (bytes_now old) room ≡ saved
+  pub known : IsTrue tells → content (bytes_now old) room ≡ saved
   pub read : IsOfLoad answer → HasLoaded room old new (answer_finding saved)
   pub answers : AnswersSaved g saved answer

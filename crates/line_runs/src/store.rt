@@ -11,7 +11,7 @@ use std::alloc::Global;
 
 /// Gives a file the text of a state, from which a run can go on. `Failed` comes only from the
 /// store, where its count of failed writes of this file rose; the file is then as it was, or holds
-/// a front of the text.
+/// a prefix of the text.
 pub fn save_state<S: Store>(
     alloc: Global,
     live: &Live,
@@ -20,7 +20,7 @@ pub fn save_state<S: Store>(
     file: &str,
 ) -> Result<(), StoreError>
     requires { live.now.graph ≡ state.now.graph }
-    ensures told { AsksToWrite (S.shown store.old).asked (S.shown store.new).asked
+    ensures tells { AsksToWrite (S.shown store.old).asked (S.shown store.new).asked
         file.now (text_of state.now) result }
     ensures written { OnOk result (IsTrue S.tells
         → (S.shown store.new).files file.now ≡ Some (text_of state.now)) }

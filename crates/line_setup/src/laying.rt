@@ -125,7 +125,7 @@ fn new_ring(
     }
 }
 
-/// So many empty lists.
+/// This many empty lists.
 fn empty_lists<T: Drop>(alloc: Global, count: u32) -> Result<Vec<Vec<T>>, AllocError>
     ensures { IfOk result (λ lists. map (λ l. l.items) lists.items ≡ replicate count []) }
 {

@@ -4,7 +4,7 @@ use Rattle.line_base.specs.Limits.{most_cards}
 use Rattle.plant_model.specs.declared.plant.Plant.{Plant}
 use Rattle.plant_model.specs.Sound.{IsSound}
 use Rattle.line_io.specs.SinkView.{SinkView, PutsPrefix}
-use Rattle.line_io.proofs.WrittenLemmas.{puts_front_longer}
+use Rattle.line_io.proofs.WrittenLemmas.{puts_prefix_longer}
 use Rattle.card_sizing.specs.Sized.{has_single_count}
 use Rattle.line_summary.specs.Curve.{EndsEarly, PutsPrefixOfCurve}
 use Rattle.line_summary.specs.CurveText.{row_of, rows_from}
@@ -33,7 +33,7 @@ module _ (p : Plant) (sound : IsSound p) (single : has_single_count p ≡ true) 
   prefix_of_all c count old new xs within few first prefix =
       λ points number each.
       let begin = rows_begin c xs points (omega arith) (omega arith) first each in
-      rw begin.1 (puts_front_longer old.written new.written (rows_from c xs) begin.0 prefix)
+      rw begin.1 (puts_prefix_longer old.written new.written (rows_from c xs) begin.0 prefix)
 
   early_prefix : (c count : ℕ) (old new : SinkView) (error : CurveError) → c + count ≤ most_cards + 1 → EndsEarly p c count old new error → PutsPrefixOfCurve p c count old new
   early_prefix c count old new NoMemory within early =

@@ -5,7 +5,7 @@ use Rattle.plant_model.specs.declared.plant.Plant.{Plant}
 use Rattle.line_io.specs.Faults.{Rose}
 use Rattle.line_io.specs.SinkView.{SinkView, PutsAll, PutsPrefix}
 use Rattle.line_io.proofs.OutgoingLemmas.{rose_after}
-use Rattle.line_io.proofs.WrittenLemmas.{puts_none, puts_all_after, puts_front_after}
+use Rattle.line_io.proofs.WrittenLemmas.{puts_none, puts_all_after, puts_prefix_after}
 use Rattle.line_summary.specs.Curve.{HavePoints, PutsRows, PutsPrefixOfRows, EndsEarly}
 use Rattle.line_summary.specs.CurveText.{row_of, rows_from}
 use Rattle.line_summary.specs.Points.{IsPoint, ArePoints}
@@ -88,7 +88,7 @@ early_after p c d n m all old between new Failed at few first early =
       few = most;
       each = points-append p c d first.points early.points here first.each early.each;
       puts = rw (rows_from-append c d first.points early.points here)
-          (puts_front_after old.written between.written new.written (rows_from c first.points) (rows_from d early.points) first.puts early.puts);
+          (puts_prefix_after old.written between.written new.written (rows_from c first.points) (rows_from d early.points) first.puts early.puts);
       cause = rose;
     }
 

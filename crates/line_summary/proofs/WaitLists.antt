@@ -54,9 +54,10 @@ percentile-is g x percent v small enough least =
     ] in
     first_of-range test (most_wait g x + 1) 0 v (omega arith) high (le-leb (percent * jobs g) (100 * within g x v) enough) (λ w low before. lt-leb (percent * jobs g) (100 * within g x w) (least w before))
 
-pub at_once-is : (g : Parts) (x : Table) → count_by (λ d. d == 0) (waits g x) ≡ at_once g x
+pub zeros-sorted : (g : Parts) (x : Table) (sorted : List ℕ) → IsPermutation (waits g x) sorted → count_by (λ d. d == 0) sorted ≡ at_once g x
 unfolding at_once
-at_once-is g x = count_by-waits g x (λ d. d == 0)
+zeros-sorted g x sorted same =
+    sum_by-IsPermutation (λ d. cond (d == 0) 1 0) (waits g x) sorted same ∙ count_by-waits g x (λ d. d == 0)
 
 pub length-waits : (g : Parts) (x : Table) → length (waits g x) ≡ jobs g
 length-waits g x = length-map-range_with_len (wait g x) 1 (jobs g)

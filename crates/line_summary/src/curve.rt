@@ -8,8 +8,9 @@ ghost use Rattle.line_summary.specs.Points.{IsPoint};
 ghost use Rattle.line_summary.specs.declared.curve.CurveError.{CurveError};
 ghost use Rattle.plant_model.specs.Sound.{IsSound};
 
-use crate::point::{Point, point_at};
+use crate::point::Point;
 use crate::rows::write_row;
+use crate::trying::point_at;
 use card_sizing::lowest_count;
 use line_base::for_each_mut;
 use line_io::{Outgoing, Sink};

@@ -2,7 +2,8 @@ ghost use Rattle.std.specs.Prelude.{◌≡◌};
 ghost use Rattle.event_graph.specs.Table.{date_in};
 ghost use Rattle.line_summary.specs.Figures.{IsLine, figures};
 
-use crate::stages::{job_count, parts_sum};
+use crate::sizes::job_count;
+use crate::stages::parts_sum;
 use crate::waits::longest_wait;
 use line_base::Date;
 use line_core::Table;

@@ -8,13 +8,16 @@ mod date_sums;
 mod figures;
 mod laws;
 mod machines;
+mod making;
 mod percentiles;
 mod point;
 mod rows;
+mod sizes;
 mod stages;
 mod summary;
 mod texts;
 mod thousandths;
+mod trying;
 mod waits;
 
 pub use curve::{CurveError, write_curve};

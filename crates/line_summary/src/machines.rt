@@ -5,7 +5,7 @@ ghost use Rattle.line_base.specs.Times.{time_at};
 ghost use Rattle.line_summary.specs.Machines.{stage_uses, machine_uses, is_busier, busiest_of};
 ghost use Rattle.plant_model.specs.Sound.{AreSoundTimes, IsSound};
 
-use crate::stages::{job_count, stage_count};
+use crate::sizes::{job_count, stage_count};
 use line_base::{MAX_DEMANDS, MAX_TIME, Times};
 use plant_model::Plant;
 use std::alloc::{AllocError, Global};

@@ -4,7 +4,7 @@ ghost use Rattle.std.specs.Prelude.{◌≡◌, ◌==◌, ◌*◌, ◌<◌, ◌�
 ghost use Rattle.event_graph.specs.Table.{date_in};
 ghost use Rattle.line_stats.specs.Between.{dates_until};
 ghost use Rattle.line_summary.specs.Summarized.{ArePercentiles};
-ghost use Rattle.line_summary.specs.Waits.{waits, at_once};
+ghost use Rattle.line_summary.specs.Waits.{waits};
 
 use line_base::{Date, MAX_DEMANDS};
 use line_core::Table;
@@ -58,12 +58,11 @@ fn percentile(sorted: &[Date], percent: usize) -> Date
 }
 
 /// The percentiles of a table's waits, which were sorted.
-fn percentiles_of(table: &Table, sorted: &[Date], zeros: u32) -> Percentiles
+fn percentiles_of(table: &Table, sorted: &[Date]) -> Percentiles
     requires in_order { IsNonDecreasing sorted.now }
     requires sorted { IsPermutation (waits table.now.graph (date_in table.now.rows)) sorted.now }
     requires some { 1 ≤ length sorted.now }
     requires few { length sorted.now ≤ MAX_DEMANDS }
-    requires zeros { zeros ≡ at_once table.now.graph (date_in table.now.rows) }
     ensures { ArePercentiles table.now.graph (date_in table.now.rows) result }
 {
     let _stations = table.stations();
@@ -72,7 +71,7 @@ fn percentiles_of(table: &Table, sorted: &[Date], zeros: u32) -> Percentiles
         p90: percentile(sorted, 90),
         p95: percentile(sorted, 95),
         p99: percentile(sorted, 99),
-        at_once: zeros,
+        at_once: count_zeros(sorted) as u32,
     }
 }
 
@@ -82,7 +81,6 @@ pub fn wait_percentiles(alloc: Global, table: &Table) -> Result<Percentiles, All
 {
     let _stations = table.stations();
     let mut list = waits(alloc, table)?;
-    let zeros = count_zeros(list.as_slice()) as u32;
     list.sort_unstable();
-    Ok(percentiles_of(table, list.as_slice(), zeros))
+    Ok(percentiles_of(table, list.as_slice()))
 }

@@ -1,13 +1,13 @@
 //! What stands in a stage, summed over time.
-ghost use Rattle.std.specs.Prelude.{◌≡◌, ◌+◌, ◌<◌, ◌≤◌, ◌^◌, length};
+ghost use Rattle.std.specs.Prelude.{◌≡◌, ◌+◌, ◌≤◌, ◌^◌};
 ghost use Rattle.event_graph.specs.Table.{date_in};
 ghost use Rattle.line_stats.specs.Counts.{IsStageOf, last_date};
 ghost use Rattle.line_summary.specs.OverTime.{process_sum, move_sum, stock_sum, parts_sum};
 ghost use Rattle.line_summary.specs.Figures.{IsLine};
-ghost use Rattle.plant_model.specs.Sound.{IsSound};
 
 use crate::date_sums::{arrived_sum, done_sum};
-use line_base::{Date, MAX_DEMANDS};
+use crate::sizes::stage_count;
+use line_base::Date;
 use line_core::Table;
 use plant_model::{LineNumbers, Plant};
 
@@ -46,23 +46,6 @@ pub fn stage_sums(
         moving: worked - arrived,
         stock: stocked - taken,
     }
-}
-
-/// How many jobs a plant has, one a demand.
-pub fn job_count(plant: &Plant) -> u32
-    requires { IsSound plant.now }
-    ensures count { result ≡ length plant.now.demands }
-    ensures few { result ≤ MAX_DEMANDS }
-{
-    plant.demands.len() as u32
-}
-
-/// How many stages a plant has.
-pub fn stage_count(plant: &Plant) -> u32
-    requires { IsSound plant.now }
-    ensures { result ≡ length plant.now.stages }
-{
-    plant.stages.len() as u32
 }
 
 /// The sum over time of the parts of all stages. `last` is the last date.

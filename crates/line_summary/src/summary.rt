@@ -1,18 +1,14 @@
-ghost use Rattle.std.specs.Prelude.{◌≡◌, false, IfOk};
-ghost use Rattle.event_graph.specs.Table.{date_in};
-ghost use Rattle.line_io.specs.Outgoing.{emptied};
+ghost use Rattle.std.specs.Prelude.{◌≡◌, IfOk};
 ghost use Rattle.line_io.specs.SinkView.{WritesText};
 ghost use Rattle.line_stats.specs.PlantDates.{AreLeastDates, Stays};
-ghost use Rattle.line_summary.specs.Machines.{machine_uses};
-ghost use Rattle.line_summary.specs.Summarized.{ArePercentiles, IsOfPlant, text_of};
+ghost use Rattle.line_summary.specs.Summarized.{IsOfPlant, text_of};
 
 use crate::figures::Figures;
-use crate::machines::{MachineUse, machine_uses};
-use crate::percentiles::{Percentiles, wait_percentiles};
+use crate::making::memory_for;
 use crate::texts::{Reading, write_text};
 use line_core::Table;
 use line_io::{Failed, Outgoing, Sink};
-use plant_model::{LineNumbers, Plant};
+use plant_model::Plant;
 use std::alloc::{AllocError, Global};
 use std::marker::Model;
 
@@ -35,26 +31,6 @@ impl Model for Summary {
     ghost view = { λ s. record { plant = s.line.plant; rows = s.line.table.rows } };
 
     ghost invariant = { λ s. IsRead s.line × IsLeastTable s.line.table × (s.out ≡ emptied false) };
-}
-
-/// What a summary has beside its plant and its table: the numbers of the stations, the percentiles of the waits, a
-/// record for each machine, and room for one piece of the text.
-fn memory_for(
-    alloc: Global,
-    plant: &Plant,
-    table: &Table,
-) -> Result<(LineNumbers, Percentiles, Vec<MachineUse>, Outgoing), AllocError>
-    requires { IsOfPlant plant.now table.now }
-    ensures numbers { IfOk result (λ made. made.0 ≡ plant.now) }
-    ensures percentiles { IfOk result (λ made. ArePercentiles table.now.graph (date_in table.now.rows) made.1) }
-    ensures uses { IfOk result (λ made. made.2.items ≡ machine_uses plant.now) }
-    ensures out { IfOk result (λ made. made.3 ≡ emptied false) }
-{
-    let percentiles = wait_percentiles(alloc, table)?;
-    let out = Outgoing::new(alloc)?;
-    let uses = machine_uses(alloc, plant)?;
-    let numbers = LineNumbers::of(alloc, plant)?;
-    Ok((numbers, percentiles, uses, out))
 }
 
 impl Summary {

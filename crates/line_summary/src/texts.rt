@@ -1,6 +1,6 @@
 //! The lines of a summary.
-ghost use Rattle.std.specs.List.{flat_map, range_with_len};
-ghost use Rattle.std.specs.Prelude.{◌≡◌, ◌<◌, ◌++◌, length, slice_index_or};
+ghost use Rattle.std.specs.List.{flat_map};
+ghost use Rattle.std.specs.Prelude.{◌<◌, length, slice_index_or};
 ghost use Rattle.event_graph.specs.Table.{date_in};
 ghost use Rattle.line_io.specs.Outgoing.{Pushed, stream};
 ghost use Rattle.line_summary.specs.Machines.{label_of};
@@ -11,7 +11,8 @@ ghost use Rattle.plant_model.specs.Line.{stage_at, machine_at, no_machine, stage
 use crate::figures::Figures;
 use crate::machines::{MachineUse, busiest};
 use crate::percentiles::Percentiles;
-use crate::stages::{stage_count, stage_sums};
+use crate::sizes::stage_count;
+use crate::stages::stage_sums;
 use crate::thousandths::write_ratio;
 use crate::waits::most_backlog;
 use line_base::Date;

@@ -1,4 +1,4 @@
-ghost use Rattle.std.specs.Prelude.{◌≡◌, ◌<◌, ◌^◌};
+ghost use Rattle.std.specs.Prelude.{◌<◌, ◌^◌};
 ghost use Rattle.line_io.specs.Outgoing.{Pushed, stream};
 ghost use Rattle.line_summary.specs.SummaryText.{mean_words};
 ghost use Rattle.line_summary.specs.Thousandths.{three_digits, thousandths};

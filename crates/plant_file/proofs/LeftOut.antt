@@ -1,4 +1,4 @@
--- The refusals 12 to 15 of a plant don't depend on its job times, so they are told before a column is copied.
+-- The refusals 12 to 15 of a plant don't depend on its job times, so they are found before a column is copied.
 use Rattle.std.proofs.Common.{◌≡◌, ℕ, zero, suc, ◌+◌, ◌*◌, Bool, true, false, List, [], ◌∷◌, length, map, get_or, Option, None, Some, Ok, refl, sym, ap, ◌∙◌}
 use Rattle.std.specs.Prelude.{not, ◌&&◌, nat_lt, sum_by, codes}
 use Rattle.std.specs.Option.{option_map_or}
@@ -216,7 +216,7 @@ stays_within-sound d dates t none =
     )
     refl
 
--- 5. What is told of the counts of a draft.
+-- 5. What is known of the counts of a draft.
 
 -- the first refusal of its counts is the first of the plant
 pub first-counted : (d : DraftPlant) (dates : Option (List ℕ)) (t : Option JobTimes) (jobs : ℕ) (e : PlantError) → jobs ≡ length (plant_with d dates t).demands → first (each (stage_counts jobs t) d.stages) ≡ Some e → first (whole_refusals (plant_with d dates t)) ≡ Some e

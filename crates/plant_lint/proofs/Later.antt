@@ -1,4 +1,4 @@
--- That a later element passes a test, told by the place of the first that does.
+-- That a later element passes a test, by the place of the first that does.
 use Rattle.std.proofs.Common.{◌≡◌, ℕ, zero, suc, ◌+◌, Bool, true, false, not, ◌&&◌, ◌||◌, cond, nat_lt, List, [], ◌∷◌, take, length, refl, sym, ap, ◌∙◌, ◌<◌, ◌≤◌, add-one, arith}
 use Rattle.std.proofs.lemmas.Bool.{ltb-true, ltb-false, lt-ltb, le-ltb}
 use Rattle.std.specs.List.{list_any, position_or_len}

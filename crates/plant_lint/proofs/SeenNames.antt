@@ -71,7 +71,7 @@ twice_found table seen name is_new is =
     not_not true = refl
     not_not false = refl
 
--- whether a name stands twice is told by the names that came, whatever their order
+-- whether a name stands twice is decided by the names that came, whatever their order
 pub name_twice-same : (table : FileTable) (seen names : List (List ℕ)) (name : List ℕ) → HaveSame seen names → name_twice table seen name ≡ name_twice table names name
 name_twice-same table seen names name h =
     ap (λ twice. refuse_if twice (NameTwice (key_of table (codes "name")))) (h.same name)
@@ -80,7 +80,7 @@ pub stage_name_twice-same : (seen names : List (List ℕ)) (i : ℕ) (s : Data) 
 stage_name_twice-same seen names i s h =
     ap (λ own. own ++ machine_names_twice i (tables_at (codes "machine") s)) (name_twice-same (InStage i) seen names (name_in s) h)
 
--- whether a later stage has a name is told by the names of all, and of those up to this one
+-- whether a later stage has a name is decided by the names of all, and of those up to this one
 pub fed_same : (all before names : List (List ℕ)) (i : ℕ) (name : List ℕ) → HaveSame all names → HaveSame before (take (i + 1) names) → fed_fault (list_any (bytes_eq name) all && not (list_any (bytes_eq name) before)) i name ≡ fed_faults names i name
 fed_same all before names i name h g =
     ap (λ later. fed_fault later i name)

@@ -62,7 +62,7 @@ no_other_status status old new bytes not_0 not_5 not_6 (inl done) = not_0 done.0
 no_other_status status old new bytes not_0 not_5 not_6 (inr (inl five, torn)) = not_5 five
 no_other_status status old new bytes not_0 not_5 not_6 (inr (inr six, torn)) = not_6 six
 
--- a call that answered this and ended with this status, which asked this of the store, and whose files are told
+-- a call that answered this and ended with this status, which asked this of the store, and whose files are known
 module _ (store : StoreOver) (sink : SinkOver) (disk : DiskOver) (answer : Result Answer Refusal) (status : ℕ)
     (ended : Finishes sink answer status) (asks : Asked) (asked : store.new.asked ≡ with_asked store.old.asked asks)
     (changes : Changes store asks.writes) (known : IsTrue store.tells) where

@@ -17,7 +17,7 @@ use Rattle.pull_cli.specs.Ends.{Finishes, IsStatusAfter, Writes}
 pub writes : {old new : SinkView} (bytes : List ℕ) (written : Result (Unit {0}) Failed) (good status : ℕ) →
     WritesText old new bytes written → IsStatusAfter written good status → Writes (sink_over old new) bytes good status
 writes bytes (Ok done) good status text is = inl (is, text.written)
-writes bytes (Err failed) good status text is = inr (is, text.cause, text.front)
+writes bytes (Err failed) good status text is = inr (is, text.cause, text.prefix)
 
 -- bytes that were put, all of them or a prefix
 all_put : {old new : SinkView} (bytes : List ℕ) (done : Unit {0}) → BytesArePut bytes old new (Ok done) →
@@ -26,7 +26,7 @@ all_put bytes done put = inl (refl, put.text.written)
 
 prefix_put : {old new : SinkView} (bytes : List ℕ) → BytesArePut bytes old new (Err unwritten.Failed) →
     Writes (sink_over old new) bytes 0 6
-prefix_put bytes put = inr (refl, put.text.cause, put.text.front)
+prefix_put bytes put = inr (refl, put.text.cause, put.text.prefix)
 
 -- an answer that was written whole
 pub done : (old new : SinkView) (answer : Answer) (unit : Unit {0}) → IsPut answer old new (Ok unit) →

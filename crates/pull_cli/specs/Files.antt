@@ -25,7 +25,7 @@ abbrev pub save_of : Option Command → Option (List ℕ)
 save_of (Some (command.Run plant workers (Some stop))) = Some stop.save
 save_of other = None
 
--- what a run that stopped leaves of FILE: with status 0 these bytes, and with 5 or 6 what was there or a front of them
+-- what a run that stopped leaves of FILE: with status 0 these bytes, and with 5 or 6 what was there or a prefix of them
 abbrev pub LeavesSaved : ℕ → Option (List ℕ) → Option (List ℕ) → List ℕ → Type 0
 LeavesSaved status old new bytes =
     ((status ≡ 0) × (new ≡ Some bytes)) ⊎ (((status ≡ 5) ⊎ (status ≡ 6)) × IsTorn old new bytes)
@@ -49,7 +49,7 @@ abbrev pub StaysOrSaves : List ℕ → Stop → StoreOver → SinkOver → ℕ �
 StaysOrSaves name stop store sink status =
     (store.new.files stop.save ≡ store.old.files stop.save) ⊎ StopsAndSaves name stop store sink status
 
--- Where files are told, every file is as it was but FILE of a run that is asked to stop, and with a status other than
+-- Where files are known, every file is as it was but FILE of a run that is asked to stop, and with a status other than
 -- 0, 5 and 6 FILE too; and FILE is as it was where the run didn't stop.
 pub record FilesStay (words : List (List ℕ)) (store : StoreOver) (sink : SinkOver) (status : ℕ) : Type 0 where
   pub others_stay : IsTrue store.tells → (q : List ℕ) → save_of (command_of words) ≢ Some q

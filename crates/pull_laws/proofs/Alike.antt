@@ -30,7 +30,7 @@ use Rattle.pull_laws.proofs.ResumeEnds.{not_dead}
 use Rattle.pull_laws.proofs.ShortFiles.{IsShort, short_bytes}
 use Rattle.pull_laws.proofs.SoundFiles.{plant_of-sound}
 
--- a read of files that are told gave what its file holds
+-- a read of files that are known gave what its file holds
 abbrev pub IsHeld : Bool → Contents → Read → Type 0
 IsHeld tells files read = Fits tells files read.name read.answer
 
@@ -151,7 +151,7 @@ pub record IsSoundAndLive (p : Plant) : Type 0 where
   pub sound : IsSound p
   pub live : IsLive (graph p)
 
--- so is the plant that is answered over files that are told
+-- so is the plant that is answered over files that are known
 abbrev IsLiveIn : Result Plant Refusal → Type 0
 IsLiveIn (Ok p) = IsLive (graph p)
 IsLiveIn (Err refusal) = ⊤

@@ -104,7 +104,7 @@ draft_lint_alike file demands times one other is also =
     said_alike (plant_of_bytes file.draft demands times) file.notes
     (lint_of_draft file.draft demands times) one other is also
 
--- ---- over files that are told
+-- ---- over files that are known
 
 module _ (tells_one : Bool) (files_one : Contents) (known_one : IsTrue tells_one) (tells_other : Bool)
     (files_other : Contents) (known_other : IsTrue tells_other)

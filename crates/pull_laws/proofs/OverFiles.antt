@@ -62,14 +62,14 @@ answer_fits tells own files name (Err store_error.Failed) fits is = tt
 answer_fits tells own files name (Err store_error.NoMemory) fits is = tt
 
 module _ (store : StoreOver) (before after : Contents) where
-  abbrev told : StoreOver
-  told = telling before after store
+  abbrev store_of_files : StoreOver
+  store_of_files = telling before after store
 
   abbrev own : Contents
   own = store.old.files
 
   abbrev Held : Read → Type 0
-  Held = IsOfFile told
+  Held = IsOfFile store_of_files
 
   pub reads_fit : (reads : List Read) → All (IsOfFile store) reads → All (IsReadOf before) reads → All Held reads
   reads_fit [] fits answers = All-nil Held
@@ -86,7 +86,7 @@ module _ (store : StoreOver) (before after : Contents) where
   plant_named name first rest reads answer of split held = record {
     answers = of.answers;
     of_files = λ known.
-        of_live_plant told known name first answer of.answers (all_front Held first rest (subst (All Held) split held));
+        of_live_plant store_of_files known name first answer of.answers (all_front Held first rest (subst (All Held) split held));
   }
 
   plant_then : {A : Type 0} (next : Plant → Step A) (name : List ℕ) (reads : List Read) (answer : Result A Refusal) →
@@ -136,20 +136,20 @@ module _ (store : StoreOver) (before after : Contents) where
 
   -- the cause of a refusal is in the counts, which are the same
   same_cause : (disk : DiskOver) (writes : List Write) (refusal : Refusal) → HasCause store disk writes refusal →
-      HasCause told disk writes refusal
+      HasCause store_of_files disk writes refusal
   same_cause disk writes (StoreFault file) cause = cause
   same_cause disk writes (TooLong file) cause = cause
   same_cause disk writes Disk cause = cause
   same_cause disk writes other cause = tt
 
   causes : (disk : DiskOver) (writes : List Write) (answer : Result Answer Refusal) →
-      IfErr answer (HasCause store disk writes) → IfErr answer (HasCause told disk writes)
+      IfErr answer (HasCause store disk writes) → IfErr answer (HasCause store_of_files disk writes)
   causes disk writes (Ok output) cause = tt
   causes disk writes (Err refusal) cause = same_cause disk writes refusal cause
 
   words_told : (asked : Option Command) (disk : DiskOver) (answer : Result Answer Refusal)
       (does : Does store disk (OfWords store.tells own asked) answer) → All (IsReadOf before) does.asks.reads →
-      Changes told does.asks.writes → Does told disk (OfWords true before asked) answer
+      Changes store_of_files does.asks.writes → Does store_of_files disk (OfWords true before asked) answer
   words_told asked disk answer does answers changes =
       let held = reads_fit does.asks.reads does.of_files answers in
       record {
@@ -164,17 +164,17 @@ module _ (store : StoreOver) (before after : Contents) where
         disk_faults_stay_or_rise = does.disk_faults_stay_or_rise;
       }
 
--- what a call has asked, by how it ended and as it is told
-pub asks_told : (call : Call) (files : Contents) (ends : HasEnded call) (reads : ReadsFrom files call.store) →
+-- what a call has asked, by how it ended and as its record says
+pub asks_recorded : (call : Call) (files : Contents) (ends : HasEnded call) (reads : ReadsFrom files call.store) →
     reads.asks ≡ ends.does.asks
-asks_told call files ends reads =
-    one_asked call.store.old.asked reads.asks ends.does.asks (sym reads.told ∙ ends.does.asked)
+asks_recorded call files ends reads =
+    one_asked call.store.old.asked reads.asks ends.does.asks (sym reads.asked ∙ ends.does.asked)
 
 -- so a call ends as over the files
 pub ends_over_files : (call : Call) (before after : Contents) (reads : ReadsFrom before call.store) → HasEnded call →
     Changes (telling before after call.store) reads.asks.writes → HasEnded (over_files before after call)
 ends_over_files call before after reads ends changes =
-    let same = asks_told call before ends reads in
+    let same = asks_recorded call before ends reads in
     record {
       answer = ends.answer;
       does = words_told call.store before after (command_of call.words) call.disk ends.answer ends.does

@@ -1,4 +1,4 @@
--- Resuming what a run has written reports its plant, by what both calls have read: the law over files that are told
+-- Resuming what a run has written reports its plant, by what both calls have read: the law over files that are known
 -- holds over the files from which the reads were answered.
 use Rattle.std.proofs.Common.{◌≡◌, ℕ, List, [], ◌∷◌, ◌++◌, refl, ap, sym, ◌∙◌, subst, inl, inr}
 use Rattle.std.specs.Prelude.{Option, Some, None, Ok, All}
@@ -20,7 +20,7 @@ use Rattle.pull_laws.specs.Resuming.{Call, CallsFor, HasStopped, IsResumedBy, En
 use Rattle.pull_laws.specs.Resuming.{reported, unread, unwritten, no_memory}
 use Rattle.pull_laws.specs.ResumingRecorded.{EndsFor, SavesState, bytes_saved, ResumesWhatWasRead, RunsWhole}
 use Rattle.pull_laws.specs.ResumingRecorded.{ResumingRecordedWritesTheSame}
-use Rattle.pull_laws.proofs.OverFiles.{all_front, with_file-named, with_file-other, reads_fit, asks_told}
+use Rattle.pull_laws.proofs.OverFiles.{all_front, with_file-named, with_file-other, reads_fit, asks_recorded}
 use Rattle.pull_laws.proofs.OverFiles.{ends_over_files}
 use Rattle.pull_laws.proofs.ResumeEnds.{ends_resumed}
 use Rattle.pull_laws.proofs.Resuming.{writes_the_same}
@@ -51,7 +51,7 @@ calls_over_files command none call files calls reads =
     subst (λ (o : Option Command). OfWords call.store.tells call.store.old.files o ends.does.asks call.disk ends.answer)
     calls.asked ends.does.answers in
     let unwritten_asks : reads.asks.writes ≡ [] =
-    ap (λ (a : Asked). a.writes) (asks_told call files ends reads) ∙ none call ends does in
+    ap (λ (a : Asked). a.writes) (asks_recorded call files ends reads) ∙ none call ends does in
     record {
       asked = calls.asked;
       known = refl;
@@ -75,17 +75,17 @@ module _ (p : Plant) (name : List ℕ) (stop : Stop) (first : Call) (saves : Sav
   abbrev left : Contents
   left = with_file files stop.save bytes
 
-  abbrev told : Call
-  told = over_files files left first
+  abbrev over_them : Call
+  over_them = over_files files left first
 
   one_write : reads.asks.writes ≡ write_of stop.save bytes (Ok tt) ∷ []
   one_write =
       append_cancel_left first.store.old.asked.writes reads.asks.writes (write_of stop.save bytes (Ok tt) ∷ [])
-      (sym (ap (λ (a : Asked). a.writes) reads.told) ∙ saves.saved.asked)
+      (sym (ap (λ (a : Asked). a.writes) reads.asked) ∙ saves.saved.asked)
 
-  changed : Changes told.store reads.asks.writes
+  changed : Changes over_them.store reads.asks.writes
   changed =
-      subst (Changes told.store) (sym one_write)
+      subst (Changes over_them.store) (sym one_write)
       (record {
         leaves = λ known. with_file-named files stop.save bytes;
         others_stay = λ known q other. with_file-other files stop.save bytes q other;
@@ -95,27 +95,27 @@ module _ (p : Plant) (name : List ℕ) (stop : Stop) (first : Call) (saves : Sav
   plant_reads : reads.asks.reads ≡ saves.read.reads ++ saves.read.more
   plant_reads =
       append_cancel_left first.store.old.asked.reads reads.asks.reads (saves.read.reads ++ saves.read.more)
-      (sym (ap (λ (a : Asked). a.reads) reads.told) ∙ saves.read.asked)
+      (sym (ap (λ (a : Asked). a.reads) reads.asked) ∙ saves.read.asked)
 
-  held : All (IsOfFile told.store) saves.read.reads
+  held : All (IsOfFile over_them.store) saves.read.reads
   held =
       let ends = saves.calls.ends in
-      let same = asks_told first files ends reads in
+      let same = asks_recorded first files ends reads in
       let fits = subst (λ (a : Asked). All (IsOfFile first.store) a.reads) (sym same) ends.does.of_files in
-      all_front (IsOfFile told.store) saves.read.reads saves.read.more
-      (subst (All (IsOfFile told.store)) plant_reads
+      all_front (IsOfFile over_them.store) saves.read.reads saves.read.more
+      (subst (All (IsOfFile over_them.store)) plant_reads
       (reads_fit first.store files left reads.asks.reads fits reads.answers))
 
-  plant_read : IsPlantRead p name told.store
+  plant_read : IsPlantRead p name over_them.store
   plant_read = record {
     reads = saves.read.reads;
     more = saves.read.more;
     asked = saves.read.asked;
     answers = saves.read.answers;
-    of_files = λ known. of_live_plant told.store known name saves.read.reads (Ok p) saves.read.answers held;
+    of_files = λ known. of_live_plant over_them.store known name saves.read.reads (Ok p) saves.read.answers held;
   }
 
-  state_saved : HasSaved p stop told.store told.sink
+  state_saved : HasSaved p stop over_them.store over_them.sink
   state_saved = record {
     state = saves.saved.state;
     stopped = saves.saved.stopped;
@@ -128,7 +128,7 @@ module _ (p : Plant) (name : List ℕ) (stop : Stop) (first : Call) (saves : Sav
     resumes = saves.saved.resumes;
   }
 
-  pub has_stopped : HasStopped p name stop told
+  pub has_stopped : HasStopped p name stop over_them
   has_stopped = record {
     workers = saves.workers;
     calls = record {

@@ -89,7 +89,7 @@ file_alike (file.Resume workers) p known bytes one other is also = resumed_alike
 file_alike file.Replay p known bytes one other is also = ends_alike p (follow (graph p) bytes) one other is also
 file_alike file.WhatIf p known bytes one other is also = edits_alike p known.sound bytes one other is also
 
--- ---- over files that are told
+-- ---- over files that are known
 
 -- the live plant of a plant file, and then a step
 of_live : {B : Type 0} (tells : Bool) (files : Contents) (name : List ℕ) (next : Plant → Step B) (reads : List Read)

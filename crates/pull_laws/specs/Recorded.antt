@@ -25,7 +25,7 @@ IsReadOf files read = IsAnswer read.name (files read.name) read.answer
 -- all that a call asked of its store, and each of its reads is one of these files
 pub record ReadsFrom (files : Contents) (store : StoreOver) : Type 0 where
   pub asks : Asked
-  pub told : store.new.asked ≡ with_asked store.old.asked asks
+  pub asked : store.new.asked ≡ with_asked store.old.asked asks
   pub answers : All (IsReadOf files) asks.reads
 
 -- these files, and one of them with other bytes

@@ -36,7 +36,7 @@ pub fn calls_end_with_the_verdict()
 
 /// A law on one call of `pull`, over a store that doesn't tell its files: it ends as over a store that
 /// tells them, whatever they are, if only its reads can have been answered from them and its writes
-/// change them. So what is proved of files that are told holds of those of the machine.
+/// change them. So what is proved of files that are known holds of those of the machine.
 ///
 /// It runs nothing: its contract is the law.
 pub fn calls_end_as_over_files()

@@ -52,9 +52,9 @@ between = refl
 looked : other_seen 3 (other_seen 1 (first_taker 2)) ≡ record (first_taker 2) { seen = 3; loads = 2 }
 looked = refl
 
--- a note of the taker is told
-told : joined (first_putter 2) (note (7 ∷ 8 ∷ []) 2) ≡ record (first_putter 2) { told = 7 ∷ 8 ∷ []; count = 2 }
-told = refl
+-- a note of the taker is read
+heard : joined (first_putter 2) (note (7 ∷ 8 ∷ []) 2) ≡ record (first_putter 2) { heard = 7 ∷ 8 ∷ []; count = 2 }
+heard = refl
 
 -- a taker, a note and a seat that was joined: one taker
 one_taker : takers (first_taker 2 ∷ note [] 0 ∷ spent ∷ []) ≡ 1
@@ -69,7 +69,7 @@ begun = record {
   room = record { seen = omega arith; room = omega arith };
   taken = λ j v at. absurd (some-ne-none v (sym at));
   cells = record { published = λ i from below. absurd (omega arith); stored = λ date e. absurd (none≢some e) };
-  truth = record { told = prefix-none []; count = omega arith; each = λ j v at. absurd (some-ne-none v (sym at)) };
+  truth = record { heard = prefix-none []; count = omega arith; each = λ j v at. absurd (some-ne-none v (sym at)) };
 }
 
 -- and after its first put

@@ -8,7 +8,7 @@ use Rattle.atomic_table.specs.Table.{State, Act, keeps, step, Valid, carried_aft
 use Rattle.atomic_table.proofs.Lists.{set_again, set_else}
 use Rattle.room_ring.specs.declared.view.View.{View}
 use Rattle.room_ring.specs.declared.view.Role.TheVariants.{Putter, Taker, Note}
-use Rattle.room_ring.specs.View.{first_taker, note, took, note_of, IsPutter, IsTaker, MayNote, MayBeTold, spent, cell_stored, tail_stored, other_seen, cell_loaded, head_stored, opened, joined}
+use Rattle.room_ring.specs.View.{first_taker, note, took, note_of, IsPutter, IsTaker, MayNote, MayHear, spent, cell_stored, tail_stored, other_seen, cell_loaded, head_stored, opened, joined}
 use Rattle.room_ring.specs.Rule.{number, head_word, tail, head, cell_of, Keeps, KeepsViews, KeepsRule}
 use Rattle.room_ring.specs.Plays.{Mine, StoresCell, StoresTail, LoadsHead, LoadsTail, LoadsCell, StoresHead}
 use Rattle.room_ring.proofs.Views.{prefix-length, prefix-self}
@@ -59,7 +59,7 @@ module _ (size slots id : ℕ) (me : Mine) where
   pub may_load_head : me.0.role ≡ Putter → Allows (KeepsRule size) slots id me head_word (λ n. n) (LoadsHead (step slots head_word 0 0 none) me)
   may_load_head is = putter_moves size slots id me head_word (λ n. n) (λ n. other_seen n me.0) (LoadsHead (step slots head_word 0 0 none) me) is (λ row others k. (
     unset row head_word (λ r. Keeps size r (other_seen (head row) me.0) others) (keeps_load_head size row me.0 others k),
-    record { changed = refl; later = k.room.seen; most = head_within size row me.0 others k; told = k.truth.told; count = k.truth.count },
+    record { changed = refl; later = k.room.seen; most = head_within size row me.0 others k; heard = k.truth.heard; count = k.truth.count },
   ))
 
   pub may_store_cell : (word date : ℕ) → me.0.role ≡ Putter → 0 < size → me.0.stored ≡ None → length me.0.list < me.0.seen + size → word ≡ cell_of size (length me.0.list)
@@ -80,9 +80,9 @@ module _ (size slots id : ℕ) (me : Mine) where
   may_load_tail is = taker_moves size slots id me 0 (λ n. n) (λ n. other_seen n me.0) (LoadsTail (step slots 0 0 0 none) me) is (λ row p others k j at.
       let seen = (k.taken j me.0 at is).0 in let put = k.counts.put in let c = k.counts.taken j me.0 at is in
       let room = k.seats.taker_room j me.0 at is in let r = k.room.room in let s = k.room.seen in
-      let t = prefix-length me.0.told p.list (k.truth.each j me.0 at).told in (
+      let t = prefix-length me.0.heard p.list (k.truth.each j me.0 at).heard in (
         unset row 0 (λ r. Keeps size r p (set others j (other_seen (tail row) me.0))) (keeps_load_tail size row p others k j me.0 at is),
-        record { changed = refl; later = seen; most = omega arith; told = omega arith },
+        record { changed = refl; later = seen; most = omega arith; heard = omega arith },
       ))
 
   pub may_load_cell : (word : ℕ) → me.0.role ≡ Taker → me.0.is_loaded ≡ false → length me.0.list < me.0.seen → word ≡ cell_of size (length me.0.list)
@@ -137,7 +137,7 @@ module _ (size id : ℕ) (v : View) where
       may
 
   module _ (other : ℕ) (w : View) (is_note : w.role ≡ Note) where
-    join_by : MayBeTold v → (row : List ℕ) (views : List View) (i j : ℕ) → KeepsViews size row views → get_elem? views i ≡ some v → j ≢ i → get_elem? (set views i (joined v w)) j ≡ some w → KeepsViews size row (set (set views i (joined v w)) j spent)
+    join_by : MayHear v → (row : List ℕ) (views : List View) (i j : ℕ) → KeepsViews size row views → get_elem? views i ≡ some v → j ≢ i → get_elem? (set views i (joined v w)) j ≡ some w → KeepsViews size row (set (set views i (joined v w)) j spent)
     join_by is row [] i j kept here apart there_ = absurd kept
     join_by is row (p ∷ others) zero zero kept here apart there_ = absurd (apart refl)
     join_by is row (p ∷ others) zero (suc j) kept here apart there_ =
@@ -148,6 +148,6 @@ module _ (size id : ℕ) (v : View) where
         let taker : v.role ≡ Taker = ⊎_elim (λ e. absurd (kept.seats.one_putter i v here e)) (λ e. e) is in
         keeps_taker_join size row p others kept i j v w here taker (sym (set_else others i j (joined v w) (λ e. apart (ap suc e))) ∙ there_) there_ is_note
 
-    -- the putter or the taker is told what a note says
-    pub may_join : MayBeTold v → Joins (KeepsRule size) id v other w (joined v w) spent
+    -- the putter or the taker reads a note
+    pub may_join : MayHear v → Joins (KeepsRule size) id v other w (joined v w) spent
     may_join is s kept at apart there_ = join_by is s.words s.views id other kept at apart there_

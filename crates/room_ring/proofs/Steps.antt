@@ -73,7 +73,7 @@ module _ (size : ℕ) (row : List ℕ) (p : View) (others : List View) (k : Keep
     room = record { seen = omega arith; room = let s = k.room.seen in let r = k.room.room in omega arith };
     taken = k.taken;
     cells = record { published = k.cells.published; stored = k.cells.stored };
-    truth = record { told = k.truth.told; count = k.truth.count; each = k.truth.each };
+    truth = record { heard = k.truth.heard; count = k.truth.count; each = k.truth.each };
   }
 
   -- a cell that is set leaves the tail and the head
@@ -110,7 +110,7 @@ module _ (size : ℕ) (row : List ℕ) (p : View) (others : List View) (k : Keep
           published = λ i from below. get_or-set_other row at (cell_of size i) date 0 (other_cell some_room space i (omega arith) (omega arith)) ∙ k.cells.published i (omega arith) (omega arith);
           stored = λ d e. ap (λ n. get_or (set row at date) (cell_of size n) 0) (t ∙ put) ∙ (here ∙ same_date date d e);
         };
-        truth = record { told = k.truth.told; count = subst (λ n. p.count ≤ n) (sym h) k.truth.count; each = subst (λ n. Each (IsTrueOf p.list n) others) (sym h) k.truth.each };
+        truth = record { heard = k.truth.heard; count = subst (λ n. p.count ≤ n) (sym h) k.truth.count; each = subst (λ n. Each (IsTrueOf p.list n) others) (sym h) k.truth.each };
       }
 
   -- the stored date is put
@@ -135,11 +135,11 @@ module _ (size : ℕ) (row : List ℕ) (p : View) (others : List View) (k : Keep
           stored = λ d e. absurd (none≢some e);
         };
         truth = record {
-          told = prefix-longer p.told p.list (date ∷ []) k.truth.told;
+          heard = prefix-longer p.heard p.list (date ∷ []) k.truth.heard;
           count = subst (λ n. p.count ≤ n) (sym h) k.truth.count;
           each = λ j v at. let e = k.truth.each j v at in let c = e.count in record {
             list = prefix-longer v.list p.list (date ∷ []) e.list;
-            told = prefix-longer v.told p.list (date ∷ []) e.told;
+            heard = prefix-longer v.heard p.list (date ∷ []) e.heard;
             count = omega arith;
           };
         };
@@ -185,7 +185,7 @@ module _ (size : ℕ) (row : List ℕ) (p : View) (others : List View) (k : Keep
           taken = each-set (IsSeen (tail row)) others j w (λ i u ne is. k.taken i u is) seen;
           cells = k.cells;
           truth = record {
-            told = k.truth.told;
+            heard = k.truth.heard;
             count = k.truth.count;
             each = each-set (IsTrueOf p.list (head row)) others j w (λ i u ne is. k.truth.each i u is) true_;
           };
@@ -196,7 +196,7 @@ module _ (size : ℕ) (row : List ℕ) (p : View) (others : List View) (k : Keep
       keeps_load_tail =
           let s = k.taken j v at is in let a = s.0 in let b = s.1 in
           reseated (other_seen (tail row) v) (k.seats.one_putter j v at) refl (k.seats.taker_room j v at) (k.counts.taken j v at)
-          (λ r. (omega arith, omega arith)) (record { list = (k.truth.each j v at).list; told = (k.truth.each j v at).told; count = (k.truth.each j v at).count })
+          (λ r. (omega arith, omega arith)) (record { list = (k.truth.each j v at).list; heard = (k.truth.each j v at).heard; count = (k.truth.each j v at).count })
 
       -- what stands in the cell that comes next is the next token that was put
       next_token : v.is_loaded ≡ false → length v.list < v.seen → cell size row (length v.list) ≡ get_or p.list (length v.list) 0
@@ -214,7 +214,7 @@ module _ (size : ℕ) (row : List ℕ) (p : View) (others : List View) (k : Keep
           reseated (cell_loaded x v) (k.seats.one_putter j v at) refl (k.seats.taker_room j v at)
           (λ r. let goal : length (v.list ++ x ∷ []) ≡ head row + 1 = omega arith in goal)
           (λ r. (s, (let goal : length (v.list ++ x ∷ []) ≤ v.seen = omega arith in goal)))
-          (record { list = prefix-next v.list p.list x t.list (omega arith) (next_token free known); told = t.told; count = t.count })
+          (record { list = prefix-next v.list p.list x t.list (omega arith) (next_token free known); heard = t.heard; count = t.count })
 
       pub keeps_store_head : v.is_loaded ≡ true → Keeps size (set row head_word (length v.list)) p (set others j (head_stored v))
       keeps_store_head loaded =
@@ -242,11 +242,11 @@ module _ (size : ℕ) (row : List ℕ) (p : View) (others : List View) (k : Keep
               stored = λ d e. ap (λ m. cell size (set row head_word n) m) t ∙ (get_or-set_other row head_word (cell_of size (tail row)) n 0 (λ e. omega arith) ∙ k.cells.stored d e);
             };
             truth = record {
-              told = k.truth.told;
+              heard = k.truth.heard;
               count = let b = k.truth.count in omega arith;
               each = each-set (IsTrueOf p.list (head (set row head_word n))) others j w
-                  (λ i u ne isu. let e = k.truth.each i u isu in let b = e.count in record { list = e.list; told = e.told; count = omega arith })
-                  (let b = truth.count in record { list = truth.list; told = truth.told; count = omega arith });
+                  (λ i u ne isu. let e = k.truth.each i u isu in let b = e.count in record { list = e.list; heard = e.heard; count = omega arith })
+                  (let b = truth.count in record { list = truth.list; heard = truth.heard; count = omega arith });
             };
           }
 
@@ -274,9 +274,9 @@ module _ (size : ℕ) (row : List ℕ) (p : View) (others : List View) (k : Keep
         taken = each-add (IsSeen (tail row)) [] new (no_view _) (λ r. (omega arith, omega arith));
         cells = record { published = k.cells.published; stored = k.cells.stored };
         truth = record {
-          told = k.truth.told;
+          heard = k.truth.heard;
           count = k.truth.count;
-          each = each-add (IsTrueOf p.list (head row)) [] new (no_view _) (record { list = prefix-none p.list; told = prefix-none p.list; count = omega arith });
+          each = each-add (IsTrueOf p.list (head row)) [] new (no_view _) (record { list = prefix-none p.list; heard = prefix-none p.list; count = omega arith });
         };
       }
     where
@@ -307,13 +307,13 @@ module _ (size : ℕ) (row : List ℕ) (p : View) (others : List View) (k : Keep
         taken = each-add (IsSeen (tail row)) others w k.taken (λ r. absurd (note≢taker r));
         cells = k.cells;
         truth = record {
-          told = k.truth.told;
+          heard = k.truth.heard;
           count = k.truth.count;
-          each = each-add (IsTrueOf p.list (head row)) others w k.truth.each (record { list = begins; told = prefix-none p.list; count = given });
+          each = each-add (IsTrueOf p.list (head row)) others w k.truth.each (record { list = begins; heard = prefix-none p.list; count = given });
         };
       }
 
-  -- the putter is told what a note says
+  -- the putter reads a note
   keeps_told : (w : View) → IsTrueOf p.list (head row) w → Keeps size row (joined p w) others
   keeps_told w t = record {
     words = k.words;
@@ -322,13 +322,13 @@ module _ (size : ℕ) (row : List ℕ) (p : View) (others : List View) (k : Keep
     room = record { seen = k.room.seen; room = k.room.room };
     taken = k.taken;
     cells = record { published = k.cells.published; stored = k.cells.stored };
-    truth = record { told = t.list; count = t.count; each = k.truth.each };
+    truth = record { heard = t.list; count = t.count; each = k.truth.each };
   }
 
 -- a note is spent
 spend : (size : ℕ) (row : List ℕ) (p : View) (others : List View) → Keeps size row p others → (j : ℕ) (w : View) → get_elem? others j ≡ some w → w.role ≡ Note → Keeps size row p (set others j spent)
 spend size row p others k j w at is = reseated size row p others k j w at spent spent≢putter (sym (ap is_taker is)) (λ r. absurd (spent≢taker r)) (λ r. absurd (spent≢taker r)) (λ r. absurd (spent≢taker r))
-    (record { list = prefix-none p.list; told = prefix-none p.list; count = omega arith })
+    (record { list = prefix-none p.list; heard = prefix-none p.list; count = omega arith })
 
 pub keeps_putter_join : (size : ℕ) (row : List ℕ) (p : View) (others : List View) → Keeps size row p others → (j : ℕ) (w : View) → get_elem? others j ≡ some w → w.role ≡ Note → Keeps size row (joined p w) (set others j spent)
 keeps_putter_join size row p others k j w at is = spend size row (joined p w) others (keeps_told size row p others k w (k.truth.each j w at)) j w at is
@@ -338,5 +338,5 @@ pub keeps_taker_join : (size : ℕ) (row : List ℕ) (p : View) (others : List V
 keeps_taker_join size row p others k i j v w at is at' there_ is' =
     let t = k.truth.each j w at' in let o = k.truth.each i v at in
     spend size row p (set others i (joined v w))
-    (reseated size row p others k i v at (joined v w) (k.seats.one_putter i v at) refl (k.seats.taker_room i v at) (k.counts.taken i v at) (k.taken i v at) (record { list = o.list; told = t.list; count = t.count }))
+    (reseated size row p others k i v at (joined v w) (k.seats.one_putter i v at) refl (k.seats.taker_room i v at) (k.counts.taken i v at) (k.taken i v at) (record { list = o.list; heard = t.list; count = t.count }))
     j w there_ is'

@@ -21,20 +21,20 @@ LoadsCell _ before found after = after ≡ (cell_loaded found before.0, before.1
 abbrev pub StoresHead : Step (Unit {0}) → Mine → ℕ → Mine → Type 0
 StoresHead _ before _ after = after ≡ (head_stored before.0, before.1)
 
--- the head was found: no token was taken that wasn't put, and what the putter was told of was taken
+-- the head was found: no token was taken that wasn't put, and what the putter has heard of was taken
 pub record SeesHead (before : Mine) (found : ℕ) (after : Mine) : Type 0 where
   pub changed : after ≡ (other_seen found before.0, before.1)
   pub later : before.0.seen ≤ found
   pub most : found ≤ length before.0.list
-  pub told : IsPrefix before.0.told before.0.list
+  pub heard : IsPrefix before.0.heard before.0.list
   pub count : before.0.count ≤ found
 
--- the tail was found: what the taker was told of was put, and no more tokens wait than there is room for
+-- the tail was found: what the taker has heard of was put, and no more tokens wait than there is room for
 pub record SeesTail (before : Mine) (found : ℕ) (after : Mine) : Type 0 where
   pub changed : after ≡ (other_seen found before.0, before.1)
   pub later : before.0.seen ≤ found
   pub most : found ≤ length before.0.list + before.0.room
-  pub told : length before.0.told ≤ found
+  pub heard : length before.0.heard ≤ found
 
 abbrev pub LoadsHead : Step (Unit {0}) → Mine → ℕ → Mine → Type 0
 LoadsHead _ before found after = SeesHead before found after

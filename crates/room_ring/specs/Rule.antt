@@ -63,10 +63,10 @@ IsSeen put v = v.role ≡ Taker → (v.seen ≤ put) × (length v.list ≤ v.see
 abbrev pub IsRoomy : ℕ → View → Type 0
 IsRoomy room v = v.role ≡ Taker → v.room ≡ room
 
--- what a seat has, or was told, begins what was put, and no more was taken than it was told
+-- what a seat has, or has heard, begins what was put, and no more was taken than it has heard
 pub record IsTrueOf (tokens : List ℕ) (given : ℕ) (v : View) : Type 0 where
   pub list : IsPrefix v.list tokens
-  pub told : IsPrefix v.told tokens
+  pub heard : IsPrefix v.heard tokens
   pub count : v.count ≤ given
 
 -- 1. There is one putter, which is the first seat, and at most one taker. Every other view is of a note or spent.
@@ -102,10 +102,10 @@ pub record HasCells (size : ℕ) (row : List ℕ) (p : View) : Type 0 where
   pub published : (i : ℕ) → head row ≤ i → i < tail row → cell size row i ≡ slice_index p.list i
   pub stored : (date : ℕ) → p.stored ≡ Some date → cell size row (tail row) ≡ date
 
--- 6. What was taken, and every list of a note or told by one, is a prefix of what was put. Every count of a note, or
--- told by one, is at most the head.
+-- 6. What was taken, and every list of a note or heard from one, is a prefix of what was put. Every count of a note, or
+-- heard from one, is at most the head.
 pub record HasTruth (row : List ℕ) (p : View) (others : List View) : Type 0 where
-  pub told : IsPrefix p.told p.list
+  pub heard : IsPrefix p.heard p.list
   pub count : p.count ≤ head row
   pub each : Each (IsTrueOf p.list (head row)) others
 

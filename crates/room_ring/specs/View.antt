@@ -14,7 +14,7 @@ blank role room = record {
   stored = None;
   is_split = false;
   is_loaded = false;
-  told = [];
+  heard = [];
   count = 0;
   room = room;
 }
@@ -58,9 +58,9 @@ pub record IsTaker (room : ℕ) (v : View) : Type 0 where
 abbrev pub MayNote : View → Type 0
 MayNote v = IsPutter v ⊎ IsTaker v.room v
 
--- the putter and the taker may be told one
-abbrev pub MayBeTold : View → Type 0
-MayBeTold v = (v.role ≡ Putter) ⊎ (v.role ≡ Taker)
+-- the putter and the taker may read one
+abbrev pub MayHear : View → Type 0
+MayHear v = (v.role ≡ Putter) ⊎ (v.role ≡ Taker)
 
 -- a seat that was joined into another
 abbrev pub spent : View
@@ -92,4 +92,4 @@ opened v = record v { is_split = true }
 
 -- join seat: the note is known
 abbrev pub joined : View → View → View
-joined v w = record v { told = w.list; count = w.count }
+joined v w = record v { heard = w.list; count = w.count }

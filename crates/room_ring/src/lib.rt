@@ -7,7 +7,7 @@ ghost use Rattle.room_ring.specs.Ends.{IsRoomRing, IsInOrder, IsWithinRoom, IsAl
 ghost use Rattle.room_ring.specs.Put.{room_tokens, room_space};
 ghost use Rattle.room_ring.specs.Ring.{most_room};
 ghost use Rattle.room_ring.specs.Take.{room_known, TakeLooks};
-ghost use Rattle.room_ring.specs.View.{note_of, joined, MayNote, MayBeTold};
+ghost use Rattle.room_ring.specs.View.{note_of, joined, MayNote, MayHear};
 
 mod end;
 mod put;
@@ -92,13 +92,13 @@ fn empty_ring(alloc: Global, room: u32) -> Result<(RoomPut, RoomTake), AllocErro
     ))
 }
 
-/// One seat leaves a note of what it has put or taken, and another is told it.
+/// One seat leaves a note of what it has put or taken, and another reads it.
 fn tell(words: &Words, from: &mut Seat<(), View>, to: &mut Seat<(), View>)
     requires some_words { 0 < words.now.shared.table_id.words }
     requires from { from.old.table_id ≡ words.now.shared.table_id }
     requires to { to.old.table_id ≡ words.now.shared.table_id }
     requires may_note { MayNote from.old.me.0 }
-    requires may_be_told { MayBeTold to.old.me.0 }
+    requires may_hear { MayHear to.old.me.0 }
     ensures from_table { from.new.table_id ≡ from.old.table_id }
     ensures to_table { to.new.table_id ≡ to.old.table_id }
     ensures from { from.new.me ≡ from.old.me }

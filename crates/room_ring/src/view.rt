@@ -31,8 +31,8 @@ pub struct View {
     /// Whether the taker has loaded a cell and not stored the head since.
     pub is_loaded: bool,
     /// The list of the note that was joined last.
-    pub told: LinkedList<Date>,
-    /// How many tokens were taken at least, of a note, or told by one.
+    pub heard: LinkedList<Date>,
+    /// How many tokens were taken at least, of a note, or heard from one.
     pub count: u64,
     /// How many tokens the ring may hold.
     pub room: u64,

@@ -97,7 +97,7 @@ impl Split<View> for LeaveNote {
     ghost right = { note_of };
 }
 
-/// A note is told to the putter or to the taker.
+/// The putter or the taker reads a note.
 pub(crate) struct Tell;
 
 impl Join<View> for Tell {

@@ -17,13 +17,13 @@ start_low room One = omega arith
 -- writes within the slots
 pub outside_within : (tells : Bool) (room at n : ℕ) (old new : DiskView) → (IsTrue tells → WritesWithin at n old new) → at + n ≤ 2 * (16 + room) → OutsideStays tells room old new
 outside_within tells room at n old new went ends =
-    λ told i behind. (went told).near.bytes i (out_behind at n i (omega arith))
+    λ known i behind. (went known).near.bytes i (out_behind at n i (omega arith))
 
 -- a sync
 pub synced_bytes : (r : Result (Unit {0}) DiskError) (tells : Bool) (old new : Held) → OnOk r (IsTrue tells → new ≡ synced old) → OnErr r (IsTrue tells → new ≡ old) → IsTrue tells → (i : ℕ) → new.bytes i ≡ old.bytes i
-synced_bytes (Ok x) tells old new done stays told i = ap (λ (h : Held). h.bytes i) (done told)
-synced_bytes (Err e) tells old new done stays told i = ap (λ (h : Held). h.bytes i) (stays told)
+synced_bytes (Ok x) tells old new done stays known i = ap (λ (h : Held). h.bytes i) (done known)
+synced_bytes (Err e) tells old new done stays known i = ap (λ (h : Held). h.bytes i) (stays known)
 
 -- one call behind another
 pub outside_on : (tells : Bool) (room : ℕ) (old mid new : DiskView) → OutsideStays tells room old mid → OutsideStays tells room mid new → OutsideStays tells room old new
-outside_on tells room old mid new first second = λ told i behind. second told i behind ∙ first told i behind
+outside_on tells room old mid new first second = λ known i behind. second known i behind ∙ first known i behind

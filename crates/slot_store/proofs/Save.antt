@@ -53,11 +53,11 @@ pub record Saves (tells : Bool) (room : ℕ) (bytes : List ℕ) (start now : Dis
   pub later : start.faults ≤ now.faults
 
 pub saves_found : {tells : Bool} {room : ℕ} {start now : DiskView} (bytes : List ℕ) → (IsTrue tells → LeavesOnly start now (MayLeave (held_now start))) → OutsideStays tells room start now → start.faults ≤ now.faults → Saves tells room bytes start now
-saves_found {tells} {room} bytes only outside later = record { keeps = λ told. keeps_found room bytes (only told); outside = outside; later = later }
+saves_found {tells} {room} bytes only outside later = record { keeps = λ known. keeps_found room bytes (only known); outside = outside; later = later }
 
 pub saves_same : {tells : Bool} {room : ℕ} {bytes : List ℕ} {start mid now : DiskView} → Saves tells room bytes start mid → IsHarmless tells room mid now → mid.faults ≤ now.faults → Saves tells room bytes start now
 saves_same {tells} {room} {bytes} {start} {mid} {now} saves harmless later = record {
-  keeps = λ told. keeps_same (saves.keeps told) (harmless.any_moment told);
+  keeps = λ known. keeps_same (saves.keeps known) (harmless.any_moment known);
   outside = outside_on tells room start mid now saves.outside harmless.outside_stays;
   later = (let before = saves.later in omega arith);
 }
@@ -65,7 +65,7 @@ saves_same {tells} {room} {bytes} {start} {mid} {now} saves harmless later = rec
 -- a save that then gave up
 pub saves_not : {T : Type 0} {tells : Bool} {room : ℕ} {bytes : List ℕ} {start now : DiskView} (result : Result (Unit {0}) DiskError) (error : DiskError) (before : ℕ) → result ≡ Err error → start.faults ≤ before → (IsErrOf {T = T} (Err error) Failed → Rose before now.faults) → Saves tells room bytes start now → SavesContent tells room bytes start now result
 saves_not result error before is later cause saves = record {
-  any_moment = λ told. (saves.keeps told).leaves;
+  any_moment = λ known. (saves.keeps known).leaves;
   saved = error_alone result _ is;
   outside_stays = saves.outside;
   cause = λ failed. let rose = cause (same_error error _ (sym is ∙ failed)) in omega (arith, rose, later);
@@ -75,8 +75,8 @@ saves_not result error before is later cause saves = record {
 -- and one whose gate was to be opened last
 pub saves_last : {tells : Bool} {room : ℕ} {bytes staged : List ℕ} {start mid now : DiskView} (result : Result (Unit {0}) DiskError) → Saves tells room bytes start mid → (IsTrue tells → staged ≡ bytes) → (IsTrue tells → LeavesOnly mid now (IsKeptOrNew (bytes_now mid) room staged)) → OnOk result (IsTrue tells → IsSaved (held_now now) room staged) → OutsideStays tells room mid now → (IsErrOf result Failed → Rose mid.faults now.faults) → mid.faults ≤ now.faults → SavesContent tells room bytes start now result
 saves_last {tells} {room} {bytes} {staged} {start} {mid} {now} result saves is only saved outside cause rises = record {
-  any_moment = λ told. keeps_new (saves.keeps told) (is told) (only told);
-  saved = on_ok result saved (λ stands told. subst (λ xs. IsSaved (held_now now) room xs) (is told) (stands told));
+  any_moment = λ known. keeps_new (saves.keeps known) (is known) (only known);
+  saved = on_ok result saved (λ stands known. subst (λ xs. IsSaved (held_now now) room xs) (is known) (stands known));
   outside_stays = outside_on tells room start mid now saves.outside outside;
   cause = λ failed. let rose = cause failed in let later = saves.later in omega arith;
   faults_stay_or_rise = (let later = saves.later in omega arith);

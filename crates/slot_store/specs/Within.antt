@@ -17,7 +17,7 @@ pub record WritesWithin (at n : ℕ) (start now : DiskView) : Type 0 where
   pub leaves : LeavesOnly start now (IsSameBut at n (bytes_now start))
   pub near : IsNear at n (bytes_now start) (held_now now)
 
--- where the disk is told, each byte behind both slots is as it was
+-- where the disk is known, each byte behind both slots is as it was
 abbrev pub OutsideStays : Bool → (room : ℕ) → DiskView → DiskView → Type 0
 OutsideStays tells room old new =
     IsTrue tells → (i : ℕ) → 2 * (16 + room) ≤ i → bytes_now new i ≡ bytes_now old i

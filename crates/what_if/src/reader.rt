@@ -42,7 +42,7 @@ fn read_job(graph: &Graph, text: &[u8]) -> Option<u32>
     ensures read { IfSome result (λ n. text.now ≡ decimal n) }
     ensures from_one { IfSome result (λ n. 1 ≤ n) }
     ensures job { IfSome result (λ n. n ≤ jobs graph.now) }
-    ensures told { (n : ℕ) → 1 ≤ n → n ≤ jobs graph.now → text.now ≡ decimal n → result ≡ Some n }
+    ensures tells { (n : ℕ) → 1 ≤ n → n ≤ jobs graph.now → text.now ≡ decimal n → result ≡ Some n }
 {
     let n = number_of(text, graph.jobs() as u64)?;
     if n == 0 { None } else { Some(n as u32) }
@@ -51,7 +51,7 @@ fn read_job(graph: &Graph, text: &[u8]) -> Option<u32>
 /// The edit that follows the word `time`.
 fn read_time(graph: &Graph, text: &[u8]) -> Option<Edit>
     ensures read { IfSome result (Writes graph.now (spaced (codes "time") text.now)) }
-    ensures told { FindsEdit graph.now (spaced (codes "time") text.now) result }
+    ensures tells { FindsEdit graph.now (spaced (codes "time") text.now) result }
 {
     let (label, rest) = split_word(text)?;
     let (job, time) = split_word(rest)?;
@@ -64,7 +64,7 @@ fn read_time(graph: &Graph, text: &[u8]) -> Option<Edit>
 /// The edit that follows the word `demand`.
 fn read_demand(graph: &Graph, text: &[u8]) -> Option<Edit>
     ensures read { IfSome result (Writes graph.now (spaced (codes "demand") text.now)) }
-    ensures told { FindsEdit graph.now (spaced (codes "demand") text.now) result }
+    ensures tells { FindsEdit graph.now (spaced (codes "demand") text.now) result }
 {
     let (job, date) = split_word(text)?;
     let job = read_job(graph, job)?;
@@ -75,7 +75,7 @@ fn read_demand(graph: &Graph, text: &[u8]) -> Option<Edit>
 /// The edit that a line writes; `None` exactly where it writes none.
 pub fn read_edit(graph: &Graph, line: &[u8]) -> Option<Edit>
     ensures read { IfSome result (Writes graph.now line.now) }
-    ensures told { FindsEdit graph.now line.now result }
+    ensures tells { FindsEdit graph.now line.now result }
 {
     let (word, rest) = split_word(line)?;
     if word == b"time".as_slice() {

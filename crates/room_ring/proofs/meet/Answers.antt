@@ -21,8 +21,8 @@ tell-requires-clause-may_note c =
     let t = c.take.invariant.taker in
     inr (record { role = t.role; free = t.free; room_is = refl })
 
-pub tell-requires-clause-may_be_told : goal.tell-requires-clause-may_be_told
-tell-requires-clause-may_be_told c = inl c.put.invariant.putter.role
+pub tell-requires-clause-may_hear : goal.tell-requires-clause-may_hear
+tell-requires-clause-may_hear c = inl c.put.invariant.putter.role
 
 pub tell-requires-clause-some_words : goal.tell-requires-clause-some_words
 tell-requires-clause-some_words c =

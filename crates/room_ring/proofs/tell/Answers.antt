@@ -12,5 +12,5 @@ join_seat-requires c =
       made.3 ∙ c.requires.from,
       ap (λ m. m.1) made.4,
       c.requires.some_words,
-      may_join _ _ _ _ _ (ap (λ m. m.0.role) made.4) c.requires.may_be_told,
+      may_join _ _ _ _ _ (ap (λ m. m.0.role) made.4) c.requires.may_hear,
     )

@@ -19,8 +19,8 @@ tell-requires-clause-to c = c.take.invariant.seated.table ∙ sym (ap (λ w. w.s
 pub tell-requires-clause-may_note : goal.tell-requires-clause-may_note
 tell-requires-clause-may_note c = inl c.put.invariant.putter
 
-pub tell-requires-clause-may_be_told : goal.tell-requires-clause-may_be_told
-tell-requires-clause-may_be_told c = inr c.take.invariant.taker.role
+pub tell-requires-clause-may_hear : goal.tell-requires-clause-may_hear
+tell-requires-clause-may_hear c = inr c.take.invariant.taker.role
 
 pub tell-requires-clause-some_words : goal.tell-requires-clause-some_words
 tell-requires-clause-some_words c =

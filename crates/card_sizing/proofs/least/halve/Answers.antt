@@ -31,7 +31,7 @@ loop-low-preserved-in-None c =
         serves = record {
           enough = omega (arith, search.enough);
           within = omega (arith, search.serves.within);
-          in_time = rw c.in-None.is at c.in_ok-try_count.ensures.told;
+          in_time = rw c.in-None.is at c.in_ok-try_count.ensures.tells;
         };
       };
       tries = λ k small.
@@ -47,7 +47,7 @@ loop-low-preserved c =
     record {
       search =
           search_past c.args.plant.now c.requires.sound c.requires.single c.args.may low high middle c.loop-low.below c.in-Some.why c.loop-low.invariant.search (omega arith) (omega arith)
-          (rw c.in-Some.is at c.in_ok-try_count.ensures.told);
+          (rw c.in-Some.is at c.in_ok-try_count.ensures.tells);
       tries = λ k small.
           try_counted (1 + k) c.loop-low.tries _ (high - low) (high - (middle + 1)) c.in_ok-try_count.ensures.counted
           (c.loop-low.invariant.tries k small) (omega arith) (omega arith);

@@ -20,14 +20,14 @@ pub halve-requires-clause-serves : goal.halve-requires-clause-serves
 halve-requires-clause-serves c = record {
   enough = omega (arith, lowest_highest c.args.plant.now c.requires.sound, c.highest_count-highest.ensures);
   within = omega (arith, highest_within c.args.plant.now, c.highest_count-highest.ensures);
-  in_time = rw c.in-None.is at c.in_ok-try_count.ensures.told;
+  in_time = rw c.in-None.is at c.in_ok-try_count.ensures.tells;
 }
 
 pub unreachable-requires : goal.unreachable-requires
 unreachable-requires c =
     let p = c.args.plant.now in
     let single = sym c.has_single_count.ensures ∙ c.if-not-has_single_count.false in
-    let fails = rw c.in-Some.is at c.in_ok-try_count.ensures.told in
+    let fails = rw c.in-Some.is at c.in_ok-try_count.ensures.tells in
     let live = highest_live p c.requires.sound single (most_live p c.requires.sound single c.requires.live) in
     let late = fails_by_job (sized p (highest p)) c.args.wait c.in-Some.below (rw c.highest_count-highest.ensures at fails) live in
     c.in_default.not-Job late.0 late.1 late.2
@@ -65,15 +65,15 @@ pub returns-in_ok-halve-in-None : goal.returns-in_ok-halve-in-None
 returns-in_ok-halve-in-None c =
     let single = sym c.has_single_count.ensures ∙ c.if-not-has_single_count.false in
     let found = c.in_ok-halve-in-None.field-0 in
-    let told = c.in_ok-halve-in-None.ensures in
-    let most = serves_more c.args.plant.now c.requires.sound single c.args.wait found.cards MAX_CARDS told.serves told.serves.within (omega arith) in
-    record { serves = told.serves; least = told.least; below = told.below; few_tries = told.few_tries; halved = told.halved; refused = tt; no_single_count = told_some found _ single; most_serve = most }
+    let known = c.in_ok-halve-in-None.ensures in
+    let most = serves_more c.args.plant.now c.requires.sound single c.args.wait found.cards MAX_CARDS known.serves known.serves.within (omega arith) in
+    record { serves = known.serves; least = known.least; below = known.below; few_tries = known.few_tries; halved = known.halved; refused = tt; no_single_count = told_some found _ single; most_serve = most }
 
 pub returns-in-Job : goal.returns-in-Job
 returns-in-Job c =
     let p = c.args.plant.now in
     let single = sym c.has_single_count.ensures ∙ c.if-not-has_single_count.false in
-    let fails = rw c.in-Some.is at c.in_ok-try_count.ensures.told in
+    let fails = rw c.in-Some.is at c.in_ok-try_count.ensures.tells in
     let late = rw c.in-Job.is at fails in
     let at_highest = subst (λ (h : ℕ). IsLate (sized p h) c.args.wait c.in-Job.job c.in-Job.wait) c.highest_count-highest.ensures late in
     let refused = highest_late p c.requires.sound single c.args.wait c.in-Job.job c.in-Job.wait at_highest in

@@ -23,8 +23,8 @@ returns-in-Err c =
     let some = sym c.has_stage_counts.ensures ∙ c.if-not-has_stage_counts.false in
     let why = c.in-Err.ensures.refused in
     let refused = each_refusal c.args.plant.now c.args.wait c.in-Err.refusal some why in
-    let told = told_refusal c.args.plant.now c.args.wait c.in-Err.refusal some why in
-    record { serves = tt; least = tt; below = tt; named = tt; total = tt; few_tries = tt; refused = refused; no_single_count = told; most_serve = tt }
+    let known = told_refusal c.args.plant.now c.args.wait c.in-Err.refusal some why in
+    record { serves = tt; least = tt; below = tt; named = tt; total = tt; few_tries = tt; refused = refused; no_single_count = known; most_serve = tt }
 
 pub returns-in_err-counts : goal.returns-in_err-counts
 returns-in_err-counts c =
@@ -78,17 +78,17 @@ pub returns : goal.returns
 returns c =
     let p = c.args.plant.now in
     let some = sym c.has_stage_counts.ensures ∙ c.if-not-has_stage_counts.false in
-    let told = c.in_ok-stages.ensures in
+    let known = c.in_ok-stages.ensures in
     let number = c.in_ok-lower_each.ensures.serves.counts_fit.number in
     let back = given_back c.in_ok-counts.counts.len c.lower_each.new.counts c.in_ok-counts.counts.items (omega (arith, number, c.in_ok-counts.ensures.len, c.len.ensures)) in
-    let same = told.counts ∙ c.as_slice-lowered.ensures.value ∙ back in
+    let same = known.counts ∙ c.as_slice-lowered.ensures.value ∙ back in
     record {
       serves = subst (λ (cs : List ℕ). ServeEach p c.args.wait cs) (sym same) c.in_ok-lower_each.ensures.serves;
       least = subst (NoneServesLess p c.args.wait) (sym same) c.in_ok-lower_each.ensures.least;
-      below = subst (λ (cs : List ℕ). HaveReasons p c.args.wait cs c.in_ok-stages.stages (length p.stages)) (sym told.counts) told.below;
-      named = told.named;
-      total = c.total_of-total.ensures ∙ ap sum (sym told.counts);
-      few_tries = omega (arith, told.counted, c.in_ok-lower_each.ensures.counted, c.in-Ok.ensures.few_tries);
+      below = subst (λ (cs : List ℕ). HaveReasons p c.args.wait cs c.in_ok-stages.stages (length p.stages)) (sym known.counts) known.below;
+      named = known.named;
+      total = c.total_of-total.ensures ∙ ap sum (sym known.counts);
+      few_tries = omega (arith, known.counted, c.in_ok-lower_each.ensures.counted, c.in-Ok.ensures.few_tries);
       refused = tt;
       no_single_count = told_some _ _ some;
       most_serve = c.in-Ok.ensures.most_serve;

@@ -11,7 +11,7 @@ loop-low-preserved-in-None c =
     record {
       search =
           search_down c.args.plant.now c.requires.sound c.requires.counts c.args.may c.args.counts.now c.args.stage c.requires.serves c.requires.stage at.low at.high middle at.invariant.search (omega arith) (omega arith)
-          (rw c.in-None.is at c.in_ok-try_counts.ensures.told);
+          (rw c.in-None.is at c.in_ok-try_counts.ensures.tells);
       tries =
           try_counted (c.args.tries.now + 14) at.tries _ (at.high - at.low) (middle - at.low) c.in_ok-try_counts.ensures.counted
           at.invariant.tries (omega arith) (omega arith);
@@ -24,7 +24,7 @@ loop-low-preserved c =
     record {
       search =
           search_on c.args.plant.now c.requires.sound c.requires.counts c.args.may c.args.counts.now c.args.stage c.requires.serves c.requires.stage at.low at.high middle c.in-Some.why at.invariant.search (omega arith) (omega arith)
-          (rw c.in-Some.is at c.in_ok-try_counts.ensures.told);
+          (rw c.in-Some.is at c.in_ok-try_counts.ensures.tells);
       tries =
           try_counted (c.args.tries.now + 14) at.tries _ (at.high - at.low) (at.high - (middle + 1)) c.in_ok-try_counts.ensures.counted
           at.invariant.tries (omega arith) (omega arith);

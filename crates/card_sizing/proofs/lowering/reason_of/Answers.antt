@@ -23,7 +23,7 @@ unreachable-requires c =
     let below : less < get_or counts stage 0 = omega (arith, c.if-count-least_count.false, c.least_count.ensures, fit.enough stage c.requires.stage) in
     c.requires.least stage less c.requires.stage below (record {
       counts_fit = fit_with p c.requires.sound c.requires.counts counts stage less fit c.requires.stage enough (omega (arith, fit.within stage c.requires.stage));
-      in_time = rw c.in-None.is at c.in_ok-below.ensures.told;
+      in_time = rw c.in-None.is at c.in_ok-below.ensures.tells;
     })
 
 pub returns-clause-below : goal.returns-clause-below
@@ -32,4 +32,4 @@ returns-clause-below c =
     let counts = c.args.counts.now in
     let stage = c.args.stage in
     let more : least_at p stage < get_or counts stage 0 = omega (arith, c.if-count-least_count.false, c.least_count.ensures, c.requires.fit.enough stage c.requires.stage) in
-    reason_at p c.requires.sound c.requires.counts c.args.may counts stage c.in-Some.below more (rw c.in-Some.is at c.in_ok-below.ensures.told)
+    reason_at p c.requires.sound c.requires.counts c.args.may counts stage c.in-Some.below more (rw c.in-Some.is at c.in_ok-below.ensures.tells)

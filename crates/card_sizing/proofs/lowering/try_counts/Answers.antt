@@ -5,8 +5,8 @@ use Rattle.card_sizing.proofs.CountedPlants.{sound_counted}
 use Rattle.card_sizing.proofs.StageSearches.{fit_with}
 use Rattle.card_sizing.proofs.lowering.try_counts.Goals as goal
 
-pub try_plant-told-requires : goal.try_plant-told-requires
-try_plant-told-requires c =
+pub try_plant-known-requires : goal.try_plant-known-requires
+try_plant-known-requires c =
     let p = c.args.plant.now in
     let counts = with_count c.args.counts.now c.args.stage c.args.count in
     let is : c.in_ok-counted.counted ≡ counted p counts = c.in_ok-counted.ensures ∙ ap (counted p) (c.as_slice.ensures.value ∙ c.in_ok-with.ensures) in

@@ -9,9 +9,9 @@ loop-number-init c = record {
   text = refl;
 }
 
-pub returns-in_default-clause-told : goal.returns-in_default-clause-told
-returns-in_default-clause-told c dates after given counted ends is =
-    absurd (next_missing _ _ _ _ _ _ _ c.loop-number.invariant.kept.partly c.read_date.new.reader.rest c.loop-number-test.true c.in_default.ensures.told dates after given counted ends is)
+pub returns-in_default-clause-tells : goal.returns-in_default-clause-tells
+returns-in_default-clause-tells c dates after given counted ends is =
+    absurd (next_missing _ _ _ _ _ _ _ c.loop-number.invariant.kept.partly c.read_date.new.reader.rest c.loop-number-test.true c.in_default.ensures.tells dates after given counted ends is)
 
 pub keep_date-requires-clause-so_far : goal.keep_date-requires-clause-so_far
 keep_date-requires-clause-so_far c = kept_few _ _ _ _ _ _ _ _ c.loop-number.invariant.kept
@@ -20,7 +20,7 @@ pub loop-number-preserved : goal.loop-number-preserved
 loop-number-preserved c =
     let k = c.loop-number.invariant.kept in
     let date = c.in-Some.date in
-    let next = read_next _ _ _ _ _ _ _ k.partly date c.read_date.new.reader.rest c.loop-number-test.true c.in-Some.ensures.given c.in-Some.ensures.read c.in-Some.ensures.told in
+    let next = read_next _ _ _ _ _ _ _ k.partly date c.read_date.new.reader.rest c.loop-number-test.true c.in-Some.ensures.given c.in-Some.ensures.read c.in-Some.ensures.tells in
     let kept = date_kept c.loop-number.log c.keep_date.new.log c.loop-number.number c.args.room date k.dates k.partly.counted k.kept_is c.keep_date.ensures in
     record {
       kept = record { dates = k.dates ++ date ∷ []; partly = next; kept_is = kept.0 };
@@ -39,6 +39,6 @@ returns-clause-read c _ =
       kept_is = k.kept_is;
     }
 
-pub returns-clause-told : goal.returns-clause-told
-returns-clause-told c dates after given counted ends is =
+pub returns-clause-tells : goal.returns-clause-tells
+returns-clause-tells c dates after given counted ends is =
     (refl, left_after_all _ _ _ _ _ _ _ c.loop-number.invariant.kept.partly (omega arith) dates after given counted ends is)

@@ -9,8 +9,8 @@ returns-then-not-pass-clause-refused c =
     let line = c.as_slice.ensures.value ∙ c.in-Ok.ensures ∙ ap (λ (l : List ℕ). l ++ delays_line g) c.new-expected.ensures.items in
     delays_bad g c.args.reader.now c.args.reader.now.text c.requires.read c.requires.short refl
     (λ after is.
-    let told = c.if-not-pass.ensures.told after (is ∙ ap (λ (l : List ℕ). l ++ after) (sym line)) in
-    let none : ⊥ = cc told.0 in
+    let known = c.if-not-pass.ensures.tells after (is ∙ ap (λ (l : List ℕ). l ++ after) (sym line)) in
+    let none : ⊥ = cc known.0 in
     none)
 
 pub returns-clause-read : goal.returns-clause-read

@@ -16,8 +16,8 @@ returns-then-not-pass-clause-refused c =
     subst (IsFirstBadLine g c.args.reader.now.text) number
     (end_bad format g n c.requires.read.0 c.args.reader.now c.args.reader.now.text c.requires.read.1 c.requires.short refl refl c.requires.readable
     (λ after is.
-    let told = c.if-not-pass.ensures.told after is in
-    let none : ⊥ = cc told.0 in
+    let known = c.if-not-pass.ensures.tells after is in
+    let none : ⊥ = cc known.0 in
     none))
 
 pub returns-then-not-is_empty-clause-refused : goal.returns-then-not-is_empty-clause-refused

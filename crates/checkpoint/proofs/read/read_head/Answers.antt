@@ -11,8 +11,8 @@ pub returns-then-has_delays-clause-refused : goal.returns-then-has_delays-clause
 returns-then-has_delays-clause-refused c =
     head_bad c.args.graph.now c.args.reader.now.text
     (λ after is.
-    let told = c.if-pass.ensures.told after (c.requires.fresh ∙ is) in
-    let none : ⊥ = cc told.0 in
+    let known = c.if-pass.ensures.tells after (c.requires.fresh ∙ is) in
+    let none : ⊥ = cc known.0 in
     none)
     (λ after none is. c.if-has_delays.ensures.some refl none)
 
@@ -20,12 +20,12 @@ pub returns-then-not-pass-clause-refused : goal.returns-then-not-pass-clause-ref
 returns-then-not-pass-clause-refused c =
     head_bad c.args.graph.now c.args.reader.now.text
     (λ after is.
-    let told = c.if-pass.ensures.told after (c.requires.fresh ∙ is) in
-    let none : ⊥ = cc told.0 in
+    let known = c.if-pass.ensures.tells after (c.requires.fresh ∙ is) in
+    let none : ⊥ = cc known.0 in
     none)
     (λ after none is.
-    let told = c.if-not-pass.ensures.told after (c.if-pass.ensures.kept refl ∙ c.requires.fresh ∙ is) in
-    let nothing : ⊥ = cc told.0 in
+    let known = c.if-not-pass.ensures.tells after (c.if-pass.ensures.kept refl ∙ c.requires.fresh ∙ is) in
+    let nothing : ⊥ = cc known.0 in
     nothing)
 
 pub returns-clause-read : goal.returns-clause-read

@@ -9,7 +9,7 @@ use Rattle.checkpoint.proofs.read.read_parts.Goals as goal
 
 -- what an error tells of a text that is the same
 tells_of : (g : Parts) (bytes same : List ℕ) (error : CheckpointError) → bytes ≡ same → Tells g bytes error → Tells g same error
-tells_of g bytes same error is told = subst (λ t. Tells g t error) is told
+tells_of g bytes same error is known = subst (λ t. Tells g t error) is known
 
 pub returns-in_err-stations-clause-refused : goal.returns-in_err-stations-clause-refused
 returns-in_err-stations-clause-refused c =

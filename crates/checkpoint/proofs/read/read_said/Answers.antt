@@ -21,7 +21,7 @@ read_here c =
 
 -- what an error tells of a graph and a text that are the same
 tells_here : (g h : Parts) (text bytes : List ℕ) (error : CheckpointError) → text ≡ bytes → g ≡ h → Tells g text error → Tells h bytes error
-tells_here g h text bytes error is same told = subst (λ k. Tells k bytes error) same (subst (λ t. Tells g t error) is told)
+tells_here g h text bytes error is same known = subst (λ k. Tells k bytes error) same (subst (λ t. Tells g t error) is known)
 
 pub state_of-said-requires-clause-a_count_each : goal.state_of-said-requires-clause-a_count_each
 state_of-said-requires-clause-a_count_each c =

@@ -3,16 +3,16 @@ use Rattle.std.specs.Prelude.{codes, decimal}
 use Rattle.checkpoint.proofs.ReadLines.{place_parts}
 use Rattle.checkpoint.proofs.tokens.pass_place.Goals as goal
 
-pub returns-then-not-pass-clause-told : goal.returns-then-not-pass-clause-told
-returns-then-not-pass-clause-told c after is =
-    let first = c.if-not-pass.ensures.told (decimal c.args.a ++ (codes " " ++ after)) (is ∙ place_parts c.args.a after) in
+pub returns-then-not-pass-clause-tells : goal.returns-then-not-pass-clause-tells
+returns-then-not-pass-clause-tells c after is =
+    let first = c.if-not-pass.ensures.tells (decimal c.args.a ++ (codes " " ++ after)) (is ∙ place_parts c.args.a after) in
     let none : ⊥ = cc first.0 in
     absurd none
 
-pub returns-then-not-pass_number-clause-told : goal.returns-then-not-pass_number-clause-told
-returns-then-not-pass_number-clause-told c after is =
-    let first = c.if-not-pass.ensures.told (decimal c.args.a ++ (codes " " ++ after)) (is ∙ place_parts c.args.a after) in
-    let second = c.if-not-pass_number.ensures.told (codes " " ++ after) first.1 in
+pub returns-then-not-pass_number-clause-tells : goal.returns-then-not-pass_number-clause-tells
+returns-then-not-pass_number-clause-tells c after is =
+    let first = c.if-not-pass.ensures.tells (decimal c.args.a ++ (codes " " ++ after)) (is ∙ place_parts c.args.a after) in
+    let second = c.if-not-pass_number.ensures.tells (codes " " ++ after) first.1 in
     let none : ⊥ = cc second.0 in
     absurd none
 
@@ -22,8 +22,8 @@ returns-clause-passed c third =
     ∙ ap (λ l. codes "place " ++ l) (c.if-not-pass_number.ensures.passed refl ∙ ap (λ l. decimal c.args.a ++ l) (c.pass-2.ensures.passed third))
     ∙ sym (place_parts c.args.a c.pass-2.new.self.rest)
 
-pub returns-clause-told : goal.returns-clause-told
-returns-clause-told c after is =
-    let first = c.if-not-pass.ensures.told (decimal c.args.a ++ (codes " " ++ after)) (is ∙ place_parts c.args.a after) in
-    let second = c.if-not-pass_number.ensures.told (codes " " ++ after) first.1 in
-    c.pass-2.ensures.told after second.1
+pub returns-clause-tells : goal.returns-clause-tells
+returns-clause-tells c after is =
+    let first = c.if-not-pass.ensures.tells (decimal c.args.a ++ (codes " " ++ after)) (is ∙ place_parts c.args.a after) in
+    let second = c.if-not-pass_number.ensures.tells (codes " " ++ after) first.1 in
+    c.pass-2.ensures.tells after second.1

@@ -4,26 +4,26 @@ use Rattle.checkpoint.specs.Reading.{or_first, unlike_tokens}
 use Rattle.checkpoint.proofs.ReadDates.{count_missing, dates_missing, end_missing, dates_read}
 use Rattle.checkpoint.proofs.tokens.read_place.Goals as goal
 
-pub returns-then-not-pass_place-clause-told : goal.returns-then-not-pass_place-clause-told
-returns-then-not-pass_place-clause-told c dates after given is =
-    let passed = c.if-not-pass_place.ensures.told (dates_text c.args.format dates ++ after) is in
+pub returns-then-not-pass_place-clause-tells : goal.returns-then-not-pass_place-clause-tells
+returns-then-not-pass_place-clause-tells c dates after given is =
+    let passed = c.if-not-pass_place.ensures.tells (dates_text c.args.format dates ++ after) is in
     let none : ⊥ = cc passed.0 in
     absurd none
 
-pub returns-in_default-clause-told : goal.returns-in_default-clause-told
-returns-in_default-clause-told c dates after given is =
-    let passed = c.if-not-pass_place.ensures.told (dates_text c.args.format dates ++ after) is in
-    absurd (count_missing c.args.format c.pass_place.new.reader.rest c.read_count.new.reader.rest dates after given passed.1 c.in_default.ensures.told)
+pub returns-in_default-clause-tells : goal.returns-in_default-clause-tells
+returns-in_default-clause-tells c dates after given is =
+    let passed = c.if-not-pass_place.ensures.tells (dates_text c.args.format dates ++ after) is in
+    absurd (count_missing c.args.format c.pass_place.new.reader.rest c.read_count.new.reader.rest dates after given passed.1 c.in_default.ensures.tells)
 
-pub returns-then-not-compare_dates-clause-told : goal.returns-then-not-compare_dates-clause-told
-returns-then-not-compare_dates-clause-told c dates after given is =
-    let passed = c.if-not-pass_place.ensures.told (dates_text c.args.format dates ++ after) is in
-    absurd (dates_missing c.args.format c.pass_place.new.reader.rest c.read_count.new.reader.rest dates after given passed.1 c.in-Some.count c.in-Some.ensures.told c.compare_dates.new.reader.rest c.if-not-compare_dates.ensures.told)
+pub returns-then-not-compare_dates-clause-tells : goal.returns-then-not-compare_dates-clause-tells
+returns-then-not-compare_dates-clause-tells c dates after given is =
+    let passed = c.if-not-pass_place.ensures.tells (dates_text c.args.format dates ++ after) is in
+    absurd (dates_missing c.args.format c.pass_place.new.reader.rest c.read_count.new.reader.rest dates after given passed.1 c.in-Some.count c.in-Some.ensures.tells c.compare_dates.new.reader.rest c.if-not-compare_dates.ensures.tells)
 
-pub returns-then-not-pass-clause-told : goal.returns-then-not-pass-clause-told
-returns-then-not-pass-clause-told c dates after given is =
-    let passed = c.if-not-pass_place.ensures.told (dates_text c.args.format dates ++ after) is in
-    absurd (end_missing c.args.format c.pass_place.new.reader.rest c.read_count.new.reader.rest dates after given passed.1 c.in-Some.count c.in-Some.ensures.told c.compare_dates.result c.compare_dates.new.reader.rest c.pass.new.self.rest c.compare_dates.ensures.told c.if-not-pass.ensures.told)
+pub returns-then-not-pass-clause-tells : goal.returns-then-not-pass-clause-tells
+returns-then-not-pass-clause-tells c dates after given is =
+    let passed = c.if-not-pass_place.ensures.tells (dates_text c.args.format dates ++ after) is in
+    absurd (end_missing c.args.format c.pass_place.new.reader.rest c.read_count.new.reader.rest dates after given passed.1 c.in-Some.count c.in-Some.ensures.tells c.compare_dates.result c.compare_dates.new.reader.rest c.pass.new.self.rest c.compare_dates.ensures.tells c.if-not-pass.ensures.tells)
 
 pub returns-clause-read : goal.returns-clause-read
 returns-clause-read c =

@@ -6,16 +6,16 @@ pub returns-in_err-number-clause-read : goal.returns-in_err-number-clause-read
 returns-in_err-number-clause-read c =
     c.from_residual.ensures
     ∙ number_in-other c.args.least c.args.most c.args.word.now
-    (λ n small is. let told = c.in_err-number.ensures in let absent = told.told n small (c.as_bytes.ensures.value ∙ is) in cc)
+    (λ n small is. let known = c.in_err-number.ensures in let absent = known.tells n small (c.as_bytes.ensures.value ∙ is) in cc)
 
 pub returns-then-number-least-clause-read : goal.returns-then-number-least-clause-read
 returns-then-number-least-clause-read c =
-    let told = c.in_ok-number.ensures in
-    let is = sym c.as_bytes.ensures.value ∙ told.read in
-    number_in-below c.args.least c.args.most c.in_ok-number.number c.args.word.now (omega (arith, told.small)) is (omega arith)
+    let known = c.in_ok-number.ensures in
+    let is = sym c.as_bytes.ensures.value ∙ known.read in
+    number_in-below c.args.least c.args.most c.in_ok-number.number c.args.word.now (omega (arith, known.small)) is (omega arith)
 
 pub returns-else-number-least-clause-read : goal.returns-else-number-least-clause-read
 returns-else-number-least-clause-read c =
-    let told = c.in_ok-number.ensures in
-    let is = sym c.as_bytes.ensures.value ∙ told.read in
-    number_in-within c.args.least c.args.most c.in_ok-number.number c.args.word.now (omega (arith, told.small)) is (omega arith) told.small
+    let known = c.in_ok-number.ensures in
+    let is = sym c.as_bytes.ensures.value ∙ known.read in
+    number_in-within c.args.least c.args.most c.in_ok-number.number c.args.word.now (omega (arith, known.small)) is (omega arith) known.small

@@ -19,6 +19,6 @@ returns c =
     let word = one_text c.args.words.now c.file-item.result c.in-len1.len_at_least c.in-len1.len_below c.file-item.is in
     let alone : texts c.args.words.now ≡ file ∷ [] = rw c.as_bytes.ensures.value word in
     let is : is_file_name file ≡ true = sym c.is_file_name.ensures ∙ c.if-not-is_file_name.false in
-    let told = file_asked c.args.question c.args.plant.now file _ alone is in
+    let known = file_asked c.args.question c.args.plant.now file _ alone is in
     let names = c.in_ok-plant.ensures in
     reads c.asking_of_file.result _ (cc (names.first, names.second)) c.asking_of_file.ensures.range

@@ -1,9 +1,9 @@
 use Rattle.commands.proofs.DateAnswers.{may_ask, draws, draws_none}
-use Rattle.commands.proofs.DatedPlants.{drawn_of}
+use Rattle.commands.proofs.DatedPlants.{dated_of}
 use Rattle.commands.proofs.dates.chart.Goals as goal
 
 pub of-requires-clause-of_plant : goal.of-requires-clause-of_plant
-of-requires-clause-of_plant c = drawn_of c.args.line c.in_ok-plant.field-0 c.requires.plant c.in_ok-plant.ensures
+of-requires-clause-of_plant c = dated_of c.args.line c.in_ok-plant.field-0 c.requires.plant c.in_ok-plant.ensures
 
 pub of-requires-clause-window : goal.of-requires-clause-window
 of-requires-clause-window c = may_ask c.args.window c.requires.window

@@ -1,12 +1,12 @@
 use Rattle.std.proofs.Common.{refl}
 use Rattle.std.specs.Prelude.{Ok}
 use Rattle.answers.specs.declared.answer.Answer.TheVariants.{Reported}
-use Rattle.commands.proofs.DatedPlants.{reported_of, writes_dated}
+use Rattle.commands.proofs.DatedPlants.{dated_of, writes_dated}
 use Rattle.line_report.specs.ReportText.{report}
 use Rattle.commands.proofs.reports.report_or_none.Goals as goal
 
 pub new-requires : goal.new-requires
-new-requires c = reported_of c.args.line c.in_ok-plant.field-0 c.requires.plant c.in_ok-plant.ensures
+new-requires c = dated_of c.args.line c.in_ok-plant.field-0 c.requires.plant c.in_ok-plant.ensures
 
 pub returns : goal.returns
 returns c =

@@ -16,7 +16,7 @@ returns g c =
     let given = c.save_state-saved.result in
     let name = c.as_str.result.now in
     let saved =
-    state_saved g.S.Store.tells old new name (text_of state) given e.told e.written e.others_stay e.torn e.no_memory
+    state_saved g.S.Store.tells old new name (text_of state) given e.tells e.written e.others_stay e.torn e.no_memory
     e.never_too_long e.cause e.read_faults_stay_or_rise e.write_faults_stay_or_rise in
     saves_text g.S.Store.tells old new file (text_of state) (fired state.state) given c.saved_answer.result
     (subst (λ (name : List ℕ). Saved g.S.Store.tells old new name (text_of state) given) c.as_str.ensures saved)

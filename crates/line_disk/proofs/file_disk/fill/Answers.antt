@@ -19,9 +19,9 @@ loop-filled-init g c = record {
   size = refl;
   is_open = c.requires.open;
   calls = ([], sym (append-nil (g.F.RawFile.shown c.args.file.now).asked), reads_none c.args.at (length c.args.bytes.now), refl);
-  bytes = λ told. refl;
-  stays = λ told. refl;
-  time = λ told. passes_here (disk_of (g.F.RawFile.shown c.args.file.now));
+  bytes = λ known. refl;
+  stays = λ known. refl;
+  time = λ known. passes_here (disk_of (g.F.RawFile.shown c.args.file.now));
 }
 
 pub loop-filled-preserved : goal.loop-filled-preserved
@@ -45,12 +45,12 @@ loop-filled-preserved g c =
         reads_more c.args.at n filled before.calls.0 got count before.calls.2 (omega (arith, c.loop-filled-test.true, before.size)) size (omega arith),
         filled_more c.loop-filled.bytes new got _ filled count once.kept before.calls.3 refl ∙ sym (given_by-push before.calls.0 (c.args.at + filled) (n - filled) got),
       );
-      bytes = λ told.
-          filled_more c.loop-filled.bytes new (bytes_at image (c.args.at + filled) count) (bytes_at image c.args.at filled) filled count once.kept (before.bytes told)
-          (once.bytes told ∙ ap (λ (h : Held). bytes_at h.bytes (c.args.at + filled) count) (before.stays told))
+      bytes = λ known.
+          filled_more c.loop-filled.bytes new (bytes_at image (c.args.at + filled) count) (bytes_at image c.args.at filled) filled count once.kept (before.bytes known)
+          (once.bytes known ∙ ap (λ (h : Held). bytes_at h.bytes (c.args.at + filled) count) (before.stays known))
           ∙ sym (bytes_at-append image c.args.at filled count);
-      stays = λ told. once.stays told ∙ before.stays told;
-      time = λ told. passes_same (disk_of (g.F.RawFile.shown c.args.file.now)) (disk_of (g.F.RawFile.shown c.loop-filled.file)) (disk_of (g.F.RawFile.shown c.read_once.new.file)) (before.time told) (once.time told) (before.stays told);
+      stays = λ known. once.stays known ∙ before.stays known;
+      time = λ known. passes_same (disk_of (g.F.RawFile.shown c.args.file.now)) (disk_of (g.F.RawFile.shown c.loop-filled.file)) (disk_of (g.F.RawFile.shown c.read_once.new.file)) (before.time known) (once.time known) (before.stays known);
     }
 
 pub returns-in-Ok-eq0-clause-asks : goal.returns-in-Ok-eq0-clause-asks
@@ -70,19 +70,19 @@ returns-in-Ok-eq0-clause-asks g c =
     )
 
 pub returns-in-Ok-eq0-clause-bytes : goal.returns-in-Ok-eq0-clause-bytes
-returns-in-Ok-eq0-clause-bytes g c = λ told.
+returns-in-Ok-eq0-clause-bytes g c = λ known.
     let before = c.loop-filled.invariant in
     let once = c.in-Ok-eq0.ensures in
     let n = length c.args.bytes.now in
     let none : c.in-Ok-eq0.field-0 ≡ 0 = search rules in
     let image = (raw_now (g.F.RawFile.shown c.args.file.now)).bytes in
     c.clear_behind.ensures
-    ∙ cleared_bytes image c.read_once.new.bytes c.args.at c.loop-filled.filled n (once.size ∙ before.size) (omega (arith, before.within, before.size)) (once.kept ∙ before.bytes told)
-    (λ i le. ap (λ (h : Held). h.bytes i) (sym (before.stays told)) ∙ once.end none c.loop-filled-test.true told i le)
+    ∙ cleared_bytes image c.read_once.new.bytes c.args.at c.loop-filled.filled n (once.size ∙ before.size) (omega (arith, before.within, before.size)) (once.kept ∙ before.bytes known)
+    (λ i le. ap (λ (h : Held). h.bytes i) (sym (before.stays known)) ∙ once.end none c.loop-filled-test.true known i le)
 
 pub returns-in-Ok-eq0-clause-time : goal.returns-in-Ok-eq0-clause-time
-returns-in-Ok-eq0-clause-time g c = λ told.
-    passes_same (disk_of (g.F.RawFile.shown c.args.file.now)) (disk_of (g.F.RawFile.shown c.loop-filled.file)) (disk_of (g.F.RawFile.shown c.read_once.new.file)) (c.loop-filled.invariant.time told) (c.in-Ok-eq0.ensures.time told) (c.loop-filled.invariant.stays told)
+returns-in-Ok-eq0-clause-time g c = λ known.
+    passes_same (disk_of (g.F.RawFile.shown c.args.file.now)) (disk_of (g.F.RawFile.shown c.loop-filled.file)) (disk_of (g.F.RawFile.shown c.read_once.new.file)) (c.loop-filled.invariant.time known) (c.in-Ok-eq0.ensures.time known) (c.loop-filled.invariant.stays known)
 
 pub returns-in-Err-clause-asks : goal.returns-in-Err-clause-asks
 returns-in-Err-clause-asks g c =
@@ -96,8 +96,8 @@ returns-in-Err-clause-asks g c =
     )
 
 pub returns-in-Err-clause-time : goal.returns-in-Err-clause-time
-returns-in-Err-clause-time g c = λ told.
-    passes_same (disk_of (g.F.RawFile.shown c.args.file.now)) (disk_of (g.F.RawFile.shown c.loop-filled.file)) (disk_of (g.F.RawFile.shown c.read_once.new.file)) (c.loop-filled.invariant.time told) (c.in-Err.ensures.time told) (c.loop-filled.invariant.stays told)
+returns-in-Err-clause-time g c = λ known.
+    passes_same (disk_of (g.F.RawFile.shown c.args.file.now)) (disk_of (g.F.RawFile.shown c.loop-filled.file)) (disk_of (g.F.RawFile.shown c.read_once.new.file)) (c.loop-filled.invariant.time known) (c.in-Err.ensures.time known) (c.loop-filled.invariant.stays known)
 
 pub returns-clause-asks : goal.returns-clause-asks
 returns-clause-asks g c =
@@ -113,6 +113,6 @@ returns-clause-asks g c =
     )
 
 pub returns-clause-bytes : goal.returns-clause-bytes
-returns-clause-bytes g c = λ told.
+returns-clause-bytes g c = λ known.
     let before = c.loop-filled.invariant in
-    full_bytes (raw_now (g.F.RawFile.shown c.args.file.now)).bytes c.loop-filled.bytes c.args.at c.loop-filled.filled (length c.args.bytes.now) before.size before.within (omega (arith, c.loop-filled-test.false, before.size)) (before.bytes told)
+    full_bytes (raw_now (g.F.RawFile.shown c.args.file.now)).bytes c.loop-filled.bytes c.args.at c.loop-filled.filled (length c.args.bytes.now) before.size before.within (omega (arith, c.loop-filled-test.false, before.size)) (before.bytes known)

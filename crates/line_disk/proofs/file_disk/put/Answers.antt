@@ -11,8 +11,8 @@ loop-taken-init g c = record {
   within = omega arith;
   is_open = c.requires.open;
   calls = ([], sym (append-nil (g.F.RawFile.shown c.args.file.now).asked), writes_none c.args.at c.args.bytes.now);
-  written = λ told. sym (written-none (raw_now (g.F.RawFile.shown c.args.file.now)) c.args.at);
-  time = λ told. passes_here (disk_of (g.F.RawFile.shown c.args.file.now));
+  written = λ known. sym (written-none (raw_now (g.F.RawFile.shown c.args.file.now)) c.args.at);
+  time = λ known. passes_here (disk_of (g.F.RawFile.shown c.args.file.now));
 }
 
 pub loop-taken-preserved : goal.loop-taken-preserved
@@ -25,10 +25,10 @@ loop-taken-preserved g c =
       within = omega (arith, once.bound);
       is_open = once.open_stays;
       calls = puts_more c.args.at c.args.bytes.now c.loop-taken.taken count _ _ _ c.loop-taken.invariant.calls once.recorded c.loop-taken-test.true some;
-      written = λ told. once.written some told
-          ∙ ap (λ (h : Held). written h (c.args.at + c.loop-taken.taken) (take count (drop c.loop-taken.taken c.args.bytes.now))) (c.loop-taken.invariant.written told)
+      written = λ known. once.written some known
+          ∙ ap (λ (h : Held). written h (c.args.at + c.loop-taken.taken) (take count (drop c.loop-taken.taken c.args.bytes.now))) (c.loop-taken.invariant.written known)
           ∙ written_more held c.args.at c.args.bytes.now c.loop-taken.taken count c.loop-taken.invariant.within;
-      time = λ told. passes_written (disk_of (g.F.RawFile.shown c.args.file.now)) (disk_of (g.F.RawFile.shown c.loop-taken.file)) (disk_of (g.F.RawFile.shown c.write_once-count.new.file)) _ _ (c.loop-taken.invariant.time told) (once.time told) (once.written some told);
+      time = λ known. passes_written (disk_of (g.F.RawFile.shown c.args.file.now)) (disk_of (g.F.RawFile.shown c.loop-taken.file)) (disk_of (g.F.RawFile.shown c.write_once-count.new.file)) _ _ (c.loop-taken.invariant.time known) (once.time known) (once.written some known);
     }
 
 pub returns-then-count-eq0-clause-asks : goal.returns-then-count-eq0-clause-asks
@@ -36,12 +36,12 @@ returns-then-count-eq0-clause-asks g c =
     puts_refused c.args.at c.args.bytes.now c.loop-taken.taken c.write_once-count.result _ _ _ c.loop-taken.invariant.calls c.write_once-count.ensures.recorded c.loop-taken-test.true c.if-count-eq0.true
 
 pub returns-then-count-eq0-clause-torn : goal.returns-then-count-eq0-clause-torn
-returns-then-count-eq0-clause-torn g c = λ told.
-    torn_more _ (raw_now (g.F.RawFile.shown c.loop-taken.file)) _ c.args.at c.args.bytes.now c.loop-taken.taken c.loop-taken.invariant.within (c.loop-taken.invariant.written told) (c.write_once-count.ensures.torn c.if-count-eq0.true told)
+returns-then-count-eq0-clause-torn g c = λ known.
+    torn_more _ (raw_now (g.F.RawFile.shown c.loop-taken.file)) _ c.args.at c.args.bytes.now c.loop-taken.taken c.loop-taken.invariant.within (c.loop-taken.invariant.written known) (c.write_once-count.ensures.torn c.if-count-eq0.true known)
 
 pub returns-then-count-eq0-clause-time : goal.returns-then-count-eq0-clause-time
-returns-then-count-eq0-clause-time g c = λ told.
-    passes_torn (disk_of (g.F.RawFile.shown c.args.file.now)) (disk_of (g.F.RawFile.shown c.loop-taken.file)) (disk_of (g.F.RawFile.shown c.write_once-count.new.file)) _ _ (c.loop-taken.invariant.time told) (c.write_once-count.ensures.time told) (c.write_once-count.ensures.torn c.if-count-eq0.true told)
+returns-then-count-eq0-clause-time g c = λ known.
+    passes_torn (disk_of (g.F.RawFile.shown c.args.file.now)) (disk_of (g.F.RawFile.shown c.loop-taken.file)) (disk_of (g.F.RawFile.shown c.write_once-count.new.file)) _ _ (c.loop-taken.invariant.time known) (c.write_once-count.ensures.time known) (c.write_once-count.ensures.torn c.if-count-eq0.true known)
 
 pub returns-clause-asks : goal.returns-clause-asks
 returns-clause-asks g c =
@@ -49,6 +49,6 @@ returns-clause-asks g c =
     (before.calls.0, before.calls.1, writes_all c.args.at c.args.bytes.now c.loop-taken.taken before.calls.0 before.calls.2 (omega (arith, c.loop-taken-test.false)))
 
 pub returns-clause-written : goal.returns-clause-written
-returns-clause-written g c = λ told.
-    c.loop-taken.invariant.written told
+returns-clause-written g c = λ known.
+    c.loop-taken.invariant.written known
     ∙ ap (λ xs. written (raw_now (g.F.RawFile.shown c.args.file.now)) c.args.at xs) (take_all c.loop-taken.taken c.args.bytes.now (omega (arith, c.loop-taken-test.false)))

@@ -11,9 +11,9 @@ use Rattle.line_disk.proofs.Push.{error_is, counts_none, error_alone}
 use Rattle.line_disk.proofs.file_disk.read_counted.Goals as goal
 
 -- what is asked of a file, for as many bytes as there is room for, and as it answered
-asked : (broken is_open : Bool) (at n len : ℕ) (calls : List RawCall) (well told : Bool) → AsksToRead broken is_open at n calls well → n ≡ len → well ≡ told → AsksToRead broken is_open at len calls told
-asked broken is_open at n len calls well told asks is same =
-    subst (λ m. AsksToRead broken is_open at m calls told) is (subst (λ w. AsksToRead broken is_open at n calls w) same asks)
+asked : (broken is_open : Bool) (at n len : ℕ) (calls : List RawCall) (well known : Bool) → AsksToRead broken is_open at n calls well → n ≡ len → well ≡ known → AsksToRead broken is_open at len calls known
+asked broken is_open at n len calls well known asks is same =
+    subst (λ m. AsksToRead broken is_open at m calls known) is (subst (λ w. AsksToRead broken is_open at n calls w) same asks)
 
 -- what holds of an answer, where there was one
 holds : {T E P : Type 0} (r : Result T E) → true ≡ is_ok r → OnOk r P → P
@@ -36,8 +36,8 @@ returns-in_err-bytes g c =
       asks_nothing = λ memory. refl;
       count = error_alone result _ is;
       bytes = error_alone result _ is;
-      stays = λ told. refl;
-      time = λ told. passes_here (disk_of (g.F.RawFile.shown c.args.file.now));
+      stays = λ known. refl;
+      time = λ known. passes_here (disk_of (g.F.RawFile.shown c.args.file.now));
       faults = counts_none _ result is;
     }
 
@@ -86,8 +86,8 @@ returns g c =
       );
       asks_nothing = λ memory. cc;
       count = (let size = ap (λ (xs : List ℕ). length xs) items in omega (arith, size, read.size, c.in_ok-bytes.ensures.len, c.deref_mut.ensures.len));
-      bytes = λ told.
-          items ∙ read_whole (raw_now (g.F.RawFile.shown c.args.file.now)).bytes c.args.at _ c.args.len bytes (holds c.read_file.result counted.same read.bytes told) (omega (arith, c.in_ok-bytes.ensures.len, c.deref_mut.ensures.len));
+      bytes = λ known.
+          items ∙ read_whole (raw_now (g.F.RawFile.shown c.args.file.now)).bytes c.args.at _ c.args.len bytes (holds c.read_file.result counted.same read.bytes known) (omega (arith, c.in_ok-bytes.ensures.len, c.deref_mut.ensures.len));
       stays = read.stays;
       time = read.time;
       faults = record {

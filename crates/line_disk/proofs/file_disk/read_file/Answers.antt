@@ -12,8 +12,8 @@ reads_opened false true at n calls whole works closed reads = absurd (true≢fal
 reads_opened false false at n calls whole works closed reads = reads
 
 pub returns-in-Absent-clause-bytes : goal.returns-in-Absent-clause-bytes
-returns-in-Absent-clause-bytes g c = λ told.
-    c.requires.zeros ∙ sym (bytes_at-zeros (raw_now (g.F.RawFile.shown c.args.file.now)).bytes c.args.at (length c.args.bytes.now) (λ i le. c.open.ensures.absent c.in-Absent.is told i))
+returns-in-Absent-clause-bytes g c = λ known.
+    c.requires.zeros ∙ sym (bytes_at-zeros (raw_now (g.F.RawFile.shown c.args.file.now)).bytes c.args.at (length c.args.bytes.now) (λ i le. c.open.ensures.absent c.in-Absent.is known i))
 
 pub returns-in-Opened-clause-asks : goal.returns-in-Opened-clause-asks
 returns-in-Opened-clause-asks g c =
@@ -25,5 +25,5 @@ returns-in-Opened-clause-asks g c =
     )
 
 pub returns-in-Opened-clause-time : goal.returns-in-Opened-clause-time
-returns-in-Opened-clause-time g c = λ told.
-    passes_same (disk_of (g.F.RawFile.shown c.args.file.now)) (disk_of (g.F.RawFile.shown c.open.new.self)) (disk_of (g.F.RawFile.shown c.fill-in-Opened.new.file)) (c.open.ensures.time told) (c.fill-in-Opened.ensures.time told) (c.open.ensures.stays told)
+returns-in-Opened-clause-time g c = λ known.
+    passes_same (disk_of (g.F.RawFile.shown c.args.file.now)) (disk_of (g.F.RawFile.shown c.open.new.self)) (disk_of (g.F.RawFile.shown c.fill-in-Opened.new.file)) (c.open.ensures.time known) (c.fill-in-Opened.ensures.time known) (c.open.ensures.stays known)

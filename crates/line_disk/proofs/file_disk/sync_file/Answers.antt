@@ -19,5 +19,5 @@ returns-in-Opened-clause-asks g c =
     (opens ++ syncs, c.sync_open-in-Opened.ensures.recorded ∙ ap (λ xs. xs ++ syncs) c.in-Opened.ensures.recorded ∙ append_assoc _ opens syncs, syncs_opened c.args.broken _ syncs _ c.if-broken.false (sym c.is_open.ensures ∙ c.if-is_open.false) refl)
 
 pub returns-in-Opened-clause-time : goal.returns-in-Opened-clause-time
-returns-in-Opened-clause-time g c = λ told.
-    passes_same (disk_of (g.F.RawFile.shown c.args.file.now)) (disk_of (g.F.RawFile.shown c.open.new.self)) (disk_of (g.F.RawFile.shown c.sync_open-in-Opened.new.file)) (c.open.ensures.time told) (c.sync_open-in-Opened.ensures.time told) (c.open.ensures.stays told)
+returns-in-Opened-clause-time g c = λ known.
+    passes_same (disk_of (g.F.RawFile.shown c.args.file.now)) (disk_of (g.F.RawFile.shown c.open.new.self)) (disk_of (g.F.RawFile.shown c.sync_open-in-Opened.new.file)) (c.open.ensures.time known) (c.sync_open-in-Opened.ensures.time known) (c.open.ensures.stays known)

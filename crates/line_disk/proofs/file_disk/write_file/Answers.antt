@@ -18,5 +18,5 @@ returns-in-Opened-clause-asks g c =
     (opens ++ rest.0, rest.1 ∙ ap (λ xs. xs ++ rest.0) c.in-Opened.ensures.recorded ∙ append_assoc _ opens rest.0, writes_opened c.args.broken _ c.args.at c.args.bytes.now rest.0 _ c.if-broken.false (sym c.is_open.ensures ∙ c.if-is_open.false) rest.2)
 
 pub returns-in-Opened-clause-time : goal.returns-in-Opened-clause-time
-returns-in-Opened-clause-time g c = λ told.
-    passes_same (disk_of (g.F.RawFile.shown c.args.file.now)) (disk_of (g.F.RawFile.shown c.open.new.self)) (disk_of (g.F.RawFile.shown c.put-in-Opened.new.file)) (c.open.ensures.time told) (c.put-in-Opened.ensures.time told) (c.open.ensures.stays told)
+returns-in-Opened-clause-time g c = λ known.
+    passes_same (disk_of (g.F.RawFile.shown c.args.file.now)) (disk_of (g.F.RawFile.shown c.open.new.self)) (disk_of (g.F.RawFile.shown c.put-in-Opened.new.file)) (c.open.ensures.time known) (c.put-in-Opened.ensures.time known) (c.open.ensures.stays known)

@@ -14,15 +14,15 @@ asked_once old new at bytes count (Ok n) is asked = (Some n, asked, sym is)
 asked_once old new at bytes count (Err error) is asked = (None, asked, sym is)
 
 -- where some were taken they are written
-written_once : (Told : Type 0) {E : Type 0} (old new : Held) (at : ℕ) (bytes : List ℕ) (count : ℕ) (answer : Result ℕ E) → count ≡ result_unwrap_or answer 0 → IfOk answer (λ n. Told → new ≡ written old at (take n bytes)) → 0 < count → Told → new ≡ written old at (take count bytes)
-written_once Told old new at bytes count (Ok n) is done some = λ told. done told ∙ ap (λ k. written old at (take k bytes)) (sym is)
-written_once Told old new at bytes count (Err error) is done some = absurd (omega (arith, is))
+written_once : (Known : Type 0) {E : Type 0} (old new : Held) (at : ℕ) (bytes : List ℕ) (count : ℕ) (answer : Result ℕ E) → count ≡ result_unwrap_or answer 0 → IfOk answer (λ n. Known → new ≡ written old at (take n bytes)) → 0 < count → Known → new ≡ written old at (take count bytes)
+written_once Known old new at bytes count (Ok n) is done some = λ known. done known ∙ ap (λ k. written old at (take k bytes)) (sym is)
+written_once Known old new at bytes count (Err error) is done some = absurd (omega (arith, is))
 
 -- where none were, a write is pending at most
-torn_once : (Told : Type 0) {E : Type 0} (old new : Held) (at : ℕ) (bytes : List ℕ) (count : ℕ) (answer : Result ℕ E) → count ≡ result_unwrap_or answer 0 → IfOk answer (λ n. Told → new ≡ written old at (take n bytes)) → OnErr answer (Told → Torn old new at (length bytes)) → count ≡ 0 → Told → Torn old new at (length bytes)
-torn_once Told old new at bytes count (Ok n) is done torn none = λ told.
-    torn_none old new at (length bytes) (done told ∙ ap (λ k. written old at (take k bytes)) (sym is ∙ none) ∙ written-none old at)
-torn_once Told old new at bytes count (Err error) is done torn none = torn
+torn_once : (Known : Type 0) {E : Type 0} (old new : Held) (at : ℕ) (bytes : List ℕ) (count : ℕ) (answer : Result ℕ E) → count ≡ result_unwrap_or answer 0 → IfOk answer (λ n. Known → new ≡ written old at (take n bytes)) → OnErr answer (Known → Torn old new at (length bytes)) → count ≡ 0 → Known → Torn old new at (length bytes)
+torn_once Known old new at bytes count (Ok n) is done torn none = λ known.
+    torn_none old new at (length bytes) (done known ∙ ap (λ k. written old at (take k bytes)) (sym is ∙ none) ∙ written-none old at)
+torn_once Known old new at bytes count (Err error) is done torn none = torn
 
 -- the bytes behind the first ones
 rest_is : (from : ℕ) (bytes : List ℕ) → take (length bytes - from) (drop from bytes) ≡ drop from bytes
@@ -45,10 +45,10 @@ returns-clause-written g c =
     written_once (IsTrue g.F.RawFile.tells) old new at (drop c.args.from c.args.bytes.now) c.unwrap_or.result c.write_at.result c.unwrap_or.ensures done
 
 pub returns-clause-torn : goal.returns-clause-torn
-returns-clause-torn g c = λ none told.
+returns-clause-torn g c = λ none known.
     let at = c.args.at + c.args.from in
     let rest = take (length c.args.bytes.now - c.args.from) (drop c.args.from c.args.bytes.now) in
     let old = raw_now (g.F.RawFile.shown c.args.file.now) in
     let new = raw_now (g.F.RawFile.shown c.write_at.new.self) in
     let size = ap (λ (xs : List ℕ). length xs) (rest_is c.args.from c.args.bytes.now) ∙ length-drop c.args.from c.args.bytes.now in
-    subst (λ n. Torn old new at n) size (torn_once (IsTrue g.F.RawFile.tells) old new at rest c.unwrap_or.result c.write_at.result c.unwrap_or.ensures c.write_at.ensures.written c.write_at.ensures.torn none told)
+    subst (λ n. Torn old new at n) size (torn_once (IsTrue g.F.RawFile.tells) old new at rest c.unwrap_or.result c.write_at.result c.unwrap_or.ensures c.write_at.ensures.written c.write_at.ensures.torn none known)

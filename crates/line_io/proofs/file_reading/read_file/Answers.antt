@@ -11,8 +11,8 @@ use Rattle.line_io.proofs.ReadingLemmas.{takes_until_refused}
 use Rattle.line_io.proofs.file_reading.read_file.Goals as goal
 
 -- what was left of a file that was opened is what it holds
-bytes_found : {Told : Type 0} (held : Option (List ℕ)) (left : List ℕ) (result : Result (Vec ℕ Global) StoreError) → (Told → held ≡ Some left) → IfOk result (λ v. Told → v.items ≡ left) → IfOk result (λ v. Told → held ≡ Some v.items)
-bytes_found held left (Ok v) found gave = λ told. found told ∙ ap (λ (xs : List ℕ). Some xs) (sym (gave told))
+bytes_found : {Known : Type 0} (held : Option (List ℕ)) (left : List ℕ) (result : Result (Vec ℕ Global) StoreError) → (Known → held ≡ Some left) → IfOk result (λ v. Known → v.items ≡ left) → IfOk result (λ v. Known → held ≡ Some v.items)
+bytes_found held left (Ok v) found gave = λ known. found known ∙ ap (λ (xs : List ℕ). Some xs) (sym (gave known))
 bytes_found held left (Err error) found gave = tt
 
 pub returns-in_err-counted-clause-asks : goal.returns-in_err-counted-clause-asks
@@ -59,11 +59,11 @@ returns-clause-bytes g c =
     bytes_found held left c.read_to_limit.result (subst (λ r. OnOk r (IsTrue g.F.RawFiles.tells → held ≡ Some left)) c.in_ok-counted.ensures.value c.open.ensures.found) c.read_to_limit.ensures.bytes
 
 pub returns-clause-longer : goal.returns-clause-longer
-returns-clause-longer g c = λ long told.
+returns-clause-longer g c = λ long known.
     let left = (g.F.RawFiles.shown c.open.new.self).left in
     let held = (g.F.RawFiles.shown c.args.files.now).held (Named c.args.name.now) in
     let found = subst (λ r. OnOk r (IsTrue g.F.RawFiles.tells → held ≡ Some left)) c.in_ok-counted.ensures.value c.open.ensures.found in
-    subst (λ known. IsLongerThan c.args.limit known) (sym (found told)) (c.read_to_limit.ensures.longer long told)
+    subst (λ known. IsLongerThan c.args.limit known) (sym (found known)) (c.read_to_limit.ensures.longer long known)
 
 pub returns-clause-stays : goal.returns-clause-stays
-returns-clause-stays g c = λ told q. c.read_to_limit.ensures.stays told q ∙ c.open.ensures.stays told q
+returns-clause-stays g c = λ known q. c.read_to_limit.ensures.stays known q ∙ c.open.ensures.stays known q

@@ -52,8 +52,8 @@ loop-bytes-preserved g c =
         reads_more c.args.limit c.loop-bytes.bytes.items c.extend_from_slice.new.self.items before.calls.0 c.turn_size-most.result got before.calls.2 items turn.some turn.room fits.0 fits.1,
         given_by-more before.calls.0 c.turn_size-most.result c.loop-bytes.bytes.items c.extend_from_slice.new.self.items got items before.calls.3,
       );
-      left = λ told. left_more _ _ _ c.loop-bytes.bytes.items _ got (before.left told) (once.bytes told) items;
-      stays = λ told q. once.stays told q ∙ before.stays told q;
+      left = λ known. left_more _ _ _ c.loop-bytes.bytes.items _ got (before.left known) (once.bytes known) items;
+      stays = λ known q. once.stays known q ∙ before.stays known q;
       size = once.size ∙ before.size;
       taken = ap (λ n. n + c.in_ok-count.count) before.taken ∙ ap (λ n. length c.loop-bytes.bytes.items + n) (sym turn.size) ∙ sym long;
       within_limit = omega (arith, long, fits.1);
@@ -144,8 +144,8 @@ loop-bytes-init g c =
     record {
       is_open = c.requires.open;
       calls = ([], sym (append-nil files.asked), (λ rest answer reads. subst (λ before. ReadsOn c.args.limit before rest answer) none reads), none);
-      left = λ told. sym (ap (λ xs. xs ++ files.left) none);
-      stays = λ told q. refl;
+      left = λ known. sym (ap (λ xs. xs ++ files.left) none);
+      stays = λ known q. refl;
       size = refl;
       taken = c.requires.none_taken ∙ sym empty;
       within_limit = omega (arith, empty);
@@ -153,31 +153,31 @@ loop-bytes-init g c =
     }
 
 pub returns-then-count-eq0-clause-bytes : goal.returns-then-count-eq0-clause-bytes
-returns-then-count-eq0-clause-bytes g c = λ told.
+returns-then-count-eq0-clause-bytes g c = λ known.
     let bytes = c.loop-bytes.bytes.items in
     let before = c.loop-bytes.invariant in
-    let ends = c.in_ok-count.ensures.end c.if-count-eq0.true c.turn_size-most.ensures.some told in
-    sym (before.left told ∙ ap (λ l. bytes ++ l) ends ∙ append-nil bytes)
+    let ends = c.in_ok-count.ensures.end c.if-count-eq0.true c.turn_size-most.ensures.some known in
+    sym (before.left known ∙ ap (λ l. bytes ++ l) ends ∙ append-nil bytes)
 
 pub returns-then-taken-limit-clause-longer : goal.returns-then-taken-limit-clause-longer
-returns-then-taken-limit-clause-longer g c = λ long told.
+returns-then-taken-limit-clause-longer g c = λ long known.
     let before = c.loop-bytes.invariant in
     let once = c.in_ok-count.ensures in
     let got = take c.in_ok-count.count c.read_once.new.buffer in
     let asks = c.turn_size-most.ensures in
     let turn = turn_of c.args.limit c.turn_size-most.result c.loop-bytes.taken c.in_ok-count.count c.loop-bytes.bytes.items c.loop-bytes.buffer c.read_once.new.buffer before.taken before.size once.size once.bound asks.some asks.within asks.fits in
     let over = goes_over turn c.loop-bytes.taken before.taken c.if-count-eq0.false c.if-taken-limit.true in
-    longer_left c.args.limit _ _ _ c.loop-bytes.bytes.items got (before.left told) (once.bytes told) over.1
+    longer_left c.args.limit _ _ _ c.loop-bytes.bytes.items got (before.left known) (once.bytes known) over.1
 
 pub returns-in_err-count-clause-stays : goal.returns-in_err-count-clause-stays
-returns-in_err-count-clause-stays g c = λ told q. c.in_err-count.ensures.stays told q ∙ c.loop-bytes.invariant.stays told q
+returns-in_err-count-clause-stays g c = λ known q. c.in_err-count.ensures.stays known q ∙ c.loop-bytes.invariant.stays known q
 
 pub returns-then-count-eq0-clause-stays : goal.returns-then-count-eq0-clause-stays
-returns-then-count-eq0-clause-stays g c = λ told q. c.in_ok-count.ensures.stays told q ∙ c.loop-bytes.invariant.stays told q
+returns-then-count-eq0-clause-stays g c = λ known q. c.in_ok-count.ensures.stays known q ∙ c.loop-bytes.invariant.stays known q
 
 pub returns-then-taken-limit-clause-stays : goal.returns-then-taken-limit-clause-stays
-returns-then-taken-limit-clause-stays g c = λ told q. c.in_ok-count.ensures.stays told q ∙ c.loop-bytes.invariant.stays told q
+returns-then-taken-limit-clause-stays g c = λ known q. c.in_ok-count.ensures.stays known q ∙ c.loop-bytes.invariant.stays known q
 
 pub returns-in_err-extend_from_slice-clause-stays :
     goal.returns-in_err-extend_from_slice-clause-stays
-returns-in_err-extend_from_slice-clause-stays g c = λ told q. c.in_ok-count.ensures.stays told q ∙ c.loop-bytes.invariant.stays told q
+returns-in_err-extend_from_slice-clause-stays g c = λ known q. c.in_ok-count.ensures.stays known q ∙ c.loop-bytes.invariant.stays known q

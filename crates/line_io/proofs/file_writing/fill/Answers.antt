@@ -13,11 +13,11 @@ returns-in-Ok-clause-written g c =
     synced_on_ok _ (g.F.RawFiles.shown c.args.files.now) (g.F.RawFiles.shown c.put.new.files) (g.F.RawFiles.shown c.sync_open.new.files) c.args.bytes.now c.sync_open.result c.in-Ok.ensures.written c.sync_open.ensures.stays
 
 pub returns-in-Ok-clause-torn : goal.returns-in-Ok-clause-torn
-returns-in-Ok-clause-torn g c = λ told.
+returns-in-Ok-clause-torn g c = λ known.
     let old = g.F.RawFiles.shown c.args.files.now in
     let mid = g.F.RawFiles.shown c.put.new.files in
     let new = g.F.RawFiles.shown c.sync_open.new.files in
-    front_of_all old new c.args.bytes.now (grows_synced old mid new c.args.bytes.now (c.in-Ok.ensures.written told) (c.sync_open.ensures.stays told))
+    front_of_all old new c.args.bytes.now (grows_synced old mid new c.args.bytes.now (c.in-Ok.ensures.written known) (c.sync_open.ensures.stays known))
 
 pub returns-in-Err-clause-asks : goal.returns-in-Err-clause-asks
 returns-in-Err-clause-asks g c =

@@ -25,9 +25,9 @@ returns-in-Err-clause-asks g c =
     then_ended (Fills c.args.bytes.now) (RenamesOnce c.args.spare.now c.args.name.now) (g.F.RawFiles.shown c.args.files.now) (g.F.RawFiles.shown c.fill.new.files) c.in-Err.ensures.asks
 
 pub returns-in-Err-clause-unharmed : goal.returns-in-Err-clause-unharmed
-returns-in-Err-clause-unharmed g c = λ told q apart.
-    others_grown (g.F.RawFiles.shown c.args.files.now) (g.F.RawFiles.shown c.fill.new.files) (Spare c.args.spare.now) q _ (c.requires.empty told).writes_to (c.in-Err.ensures.torn told).1 apart
+returns-in-Err-clause-unharmed g c = λ known q apart.
+    others_grown (g.F.RawFiles.shown c.args.files.now) (g.F.RawFiles.shown c.fill.new.files) (Spare c.args.spare.now) q _ (c.requires.empty known).writes_to (c.in-Err.ensures.torn known).1 apart
 
 pub returns-in-Err-clause-others_stay : goal.returns-in-Err-clause-others_stay
-returns-in-Err-clause-others_stay g c = λ told q other apart.
-    others_grown (g.F.RawFiles.shown c.args.files.now) (g.F.RawFiles.shown c.fill.new.files) (Spare c.args.spare.now) q _ (c.requires.empty told).writes_to (c.in-Err.ensures.torn told).1 apart
+returns-in-Err-clause-others_stay g c = λ known q other apart.
+    others_grown (g.F.RawFiles.shown c.args.files.now) (g.F.RawFiles.shown c.fill.new.files) (Spare c.args.spare.now) q _ (c.requires.empty known).writes_to (c.in-Err.ensures.torn known).1 apart

@@ -4,17 +4,17 @@ use Rattle.line_io.specs.RawFiles.{FilesView, RawName, Spare, Removes, CreatesSp
 use Rattle.line_io.proofs.file_writing.make_spare.Goals as goal
 
 -- a file that starts empty is empty and open
-opens_empty : (Told : Type 0) {T E : Type 0} (old new : FilesView) (file : RawName) (result : Result T E) → OnOk result (Told → StartsEmpty old new file) → OnOk result (Told → IsEmptyOpen new file)
-opens_empty Told old new file (Ok made) starts = λ told. record {
-  writes_to = (starts told).writes_to;
-  empty = (starts told).empty;
+opens_empty : (Known : Type 0) {T E : Type 0} (old new : FilesView) (file : RawName) (result : Result T E) → OnOk result (Known → StartsEmpty old new file) → OnOk result (Known → IsEmptyOpen new file)
+opens_empty Known old new file (Ok made) starts = λ known. record {
+  writes_to = (starts known).writes_to;
+  empty = (starts known).empty;
 }
-opens_empty Told old new file (Err error) starts = tt
+opens_empty Known old new file (Err error) starts = tt
 
 -- and each other is as it was, whether it was made or not
-others_as_before : (Told : Type 0) {T E : Type 0} (old new : FilesView) (file : RawName) (result : Result T E) → OnOk result (Told → StartsEmpty old new file) → OnErr result (Told → (q : RawName) → new.held q ≡ old.held q) → Told → (q : RawName) → q ≢ file → new.held q ≡ old.held q
-others_as_before Told old new file (Ok made) starts stays = λ told. (starts told).others
-others_as_before Told old new file (Err error) starts stays = λ told q apart. stays told q
+others_as_before : (Known : Type 0) {T E : Type 0} (old new : FilesView) (file : RawName) (result : Result T E) → OnOk result (Known → StartsEmpty old new file) → OnErr result (Known → (q : RawName) → new.held q ≡ old.held q) → Known → (q : RawName) → q ≢ file → new.held q ≡ old.held q
+others_as_before Known old new file (Ok made) starts stays = λ known. (starts known).others
+others_as_before Known old new file (Err error) starts stays = λ known q apart. stays known q
 
 pub returns-clause-recorded : goal.returns-clause-recorded
 returns-clause-recorded g c =
@@ -27,6 +27,6 @@ returns-clause-empty g c =
     opens_empty _ (g.F.RawFiles.shown c.remove.new.self) (g.F.RawFiles.shown c.create_spare.new.self) (Spare c.args.spare.now) c.create_spare.result c.create_spare.ensures.empty
 
 pub returns-clause-others_stay : goal.returns-clause-others_stay
-returns-clause-others_stay g c = λ told q apart.
-    others_as_before _ (g.F.RawFiles.shown c.remove.new.self) (g.F.RawFiles.shown c.create_spare.new.self) (Spare c.args.spare.now) c.create_spare.result c.create_spare.ensures.empty c.create_spare.ensures.stays told q apart
-    ∙ c.remove.ensures.others_stay told q apart
+returns-clause-others_stay g c = λ known q apart.
+    others_as_before _ (g.F.RawFiles.shown c.remove.new.self) (g.F.RawFiles.shown c.create_spare.new.self) (Spare c.args.spare.now) c.create_spare.result c.create_spare.ensures.empty c.create_spare.ensures.stays known q apart
+    ∙ c.remove.ensures.others_stay known q apart

@@ -8,7 +8,7 @@ loop-taken-init g c = record {
   within = omega arith;
   is_open = c.requires.open;
   calls = ([], sym (append-nil (g.F.RawFiles.shown c.args.files.now).asked), writes_none c.args.bytes.now);
-  written = λ told. grows_none (g.F.RawFiles.shown c.args.files.now);
+  written = λ known. grows_none (g.F.RawFiles.shown c.args.files.now);
 }
 
 pub loop-taken-preserved : goal.loop-taken-preserved
@@ -23,7 +23,7 @@ loop-taken-preserved g c =
       within = omega (arith, once.bound);
       is_open = once.open_stays;
       calls = puts_more c.args.bytes.now c.loop-taken.taken c.write_once-count.result old mid new before.calls once.recorded c.loop-taken-test.true some;
-      written = λ told. grows_more old mid new c.args.bytes.now c.loop-taken.taken c.write_once-count.result (before.written told) (once.written some told);
+      written = λ known. grows_more old mid new c.args.bytes.now c.loop-taken.taken c.write_once-count.result (before.written known) (once.written some known);
     }
 
 pub returns-then-count-eq0-clause-asks : goal.returns-then-count-eq0-clause-asks
@@ -31,8 +31,8 @@ returns-then-count-eq0-clause-asks g c =
     puts_refused c.args.bytes.now c.loop-taken.taken c.write_once-count.result (g.F.RawFiles.shown c.args.files.now) (g.F.RawFiles.shown c.loop-taken.files) (g.F.RawFiles.shown c.write_once-count.new.files) c.loop-taken.invariant.calls c.write_once-count.ensures.recorded c.loop-taken-test.true c.if-count-eq0.true
 
 pub returns-then-count-eq0-clause-torn : goal.returns-then-count-eq0-clause-torn
-returns-then-count-eq0-clause-torn g c = λ told.
-    grows_torn (g.F.RawFiles.shown c.args.files.now) (g.F.RawFiles.shown c.loop-taken.files) (g.F.RawFiles.shown c.write_once-count.new.files) c.args.bytes.now c.loop-taken.taken (c.loop-taken.invariant.written told) (c.write_once-count.ensures.torn told)
+returns-then-count-eq0-clause-torn g c = λ known.
+    grows_torn (g.F.RawFiles.shown c.args.files.now) (g.F.RawFiles.shown c.loop-taken.files) (g.F.RawFiles.shown c.write_once-count.new.files) c.args.bytes.now c.loop-taken.taken (c.loop-taken.invariant.written known) (c.write_once-count.ensures.torn known)
 
 pub returns-clause-asks : goal.returns-clause-asks
 returns-clause-asks g c =
@@ -40,9 +40,9 @@ returns-clause-asks g c =
     (before.calls.0, before.calls.1, writes_all c.args.bytes.now c.loop-taken.taken before.calls.0 before.calls.2 (omega (arith, c.loop-taken-test.false)))
 
 pub returns-clause-written : goal.returns-clause-written
-returns-clause-written g c = λ told.
-    grows_all (g.F.RawFiles.shown c.args.files.now) (g.F.RawFiles.shown c.loop-taken.files) c.args.bytes.now c.loop-taken.taken (c.loop-taken.invariant.written told) (omega (arith, c.loop-taken-test.false))
+returns-clause-written g c = λ known.
+    grows_all (g.F.RawFiles.shown c.args.files.now) (g.F.RawFiles.shown c.loop-taken.files) c.args.bytes.now c.loop-taken.taken (c.loop-taken.invariant.written known) (omega (arith, c.loop-taken-test.false))
 
 pub returns-clause-torn : goal.returns-clause-torn
-returns-clause-torn g c = λ told.
-    front_of_all (g.F.RawFiles.shown c.args.files.now) (g.F.RawFiles.shown c.loop-taken.files) c.args.bytes.now (grows_all (g.F.RawFiles.shown c.args.files.now) (g.F.RawFiles.shown c.loop-taken.files) c.args.bytes.now c.loop-taken.taken (c.loop-taken.invariant.written told) (omega (arith, c.loop-taken-test.false)))
+returns-clause-torn g c = λ known.
+    front_of_all (g.F.RawFiles.shown c.args.files.now) (g.F.RawFiles.shown c.loop-taken.files) c.args.bytes.now (grows_all (g.F.RawFiles.shown c.args.files.now) (g.F.RawFiles.shown c.loop-taken.files) c.args.bytes.now c.loop-taken.taken (c.loop-taken.invariant.written known) (omega (arith, c.loop-taken-test.false)))

@@ -38,4 +38,4 @@ returns-in-Err g c =
         keeps = λ is. absurd (false≢true is);
         removes = λ wrong. (is_ok c.remove.result, refl);
       },
-    ) tt (λ told q. c.remove.ensures.others_stay told (Named q) (named_not_spare q spare) ∙ c.in-Err.ensures.unharmed told (Named q) (named_not_spare q spare)) (λ told q other apart. c.remove.ensures.others_stay told q apart ∙ c.fill_and_rename.ensures.others_stay told q other apart)
+    ) tt (λ known q. c.remove.ensures.others_stay known (Named q) (named_not_spare q spare) ∙ c.in-Err.ensures.unharmed known (Named q) (named_not_spare q spare)) (λ known q other apart. c.remove.ensures.others_stay known q apart ∙ c.fill_and_rename.ensures.others_stay known q other apart)

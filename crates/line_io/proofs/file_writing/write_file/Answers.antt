@@ -28,4 +28,4 @@ returns-in-Err-2 g c =
     let spare = c.args.spare.now in
     let bytes = c.args.bytes.now in
     let answer = by_kind c.is_file.result in
-    writes_none g.F.RawFiles.tells (g.F.RawFiles.shown c.args.files.now) (g.F.RawFiles.shown c.is_file.new.self) spare c.args.name.now bytes (Looks c.args.name.now answer ∷ []) (AsksToWrite spare c.args.name.now bytes) _ c.is_file.ensures.recorded (refl, after_answer spare c.args.name.now bytes answer (Err c.kind.result) (cc (ap (λ r. by_kind r) c.in-Err.is, c.kind.ensures)) [] false (after_look spare c.args.name.now bytes c.kind.result false c.if-is_absent.ensures [] false (refl, refl))) (λ told q other. c.is_file.ensures.stays told q)
+    writes_none g.F.RawFiles.tells (g.F.RawFiles.shown c.args.files.now) (g.F.RawFiles.shown c.is_file.new.self) spare c.args.name.now bytes (Looks c.args.name.now answer ∷ []) (AsksToWrite spare c.args.name.now bytes) _ c.is_file.ensures.recorded (refl, after_answer spare c.args.name.now bytes answer (Err c.kind.result) (cc (ap (λ r. by_kind r) c.in-Err.is, c.kind.ensures)) [] false (after_look spare c.args.name.now bytes c.kind.result false c.if-is_absent.ensures [] false (refl, refl))) (λ known q other. c.is_file.ensures.stays known q)

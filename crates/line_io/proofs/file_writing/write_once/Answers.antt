@@ -2,7 +2,7 @@ use Rattle.std.proofs.Common.{◌≡◌, ℕ, ◌-◌, ◌<◌, List, [], ◌∷
 use Rattle.std.specs.Prelude.{Result, Ok, Err, IfOk, OnErr, IsTrue}
 use Rattle.std.specs.Result.{result_unwrap_or}
 use Rattle.std.proofs.lemmas.List.{take_all}
-use Rattle.line_io.specs.RawFiles.{FilesView, Grows, GrowsByFront, write_call}
+use Rattle.line_io.specs.RawFiles.{FilesView, Grows, GrowsByPrefix, write_call}
 use Rattle.line_io.specs.RawOut.{count_of, taken_by_answer}
 use Rattle.line_io.proofs.file_writing.write_once.Goals as goal
 
@@ -12,13 +12,13 @@ count_taken (Ok n) = refl
 count_taken (Err error) = refl
 
 -- where some were taken the file grew by them
-grows_taken : {Told E : Type 0} (old new : FilesView) (bytes : List ℕ) (count : ℕ) (answer : Result ℕ E) → count ≡ result_unwrap_or answer 0 → IfOk answer (λ n. Told → Grows old new (take n bytes)) → 0 < count → Told → Grows old new (take count bytes)
-grows_taken old new bytes count (Ok n) is grows some = λ told. subst (λ m. Grows old new (take m bytes)) (sym is) (grows told)
+grows_taken : {Known E : Type 0} (old new : FilesView) (bytes : List ℕ) (count : ℕ) (answer : Result ℕ E) → count ≡ result_unwrap_or answer 0 → IfOk answer (λ n. Known → Grows old new (take n bytes)) → 0 < count → Known → Grows old new (take count bytes)
+grows_taken old new bytes count (Ok n) is grows some = λ known. subst (λ m. Grows old new (take m bytes)) (sym is) (grows known)
 grows_taken old new bytes count (Err error) is grows some = absurd (omega (arith, is))
 
 -- and in each case by a prefix
-grows_by_prefix : {Told E : Type 0} (old new : FilesView) (bytes : List ℕ) (answer : Result ℕ E) → IfOk answer (λ n. Told → Grows old new (take n bytes)) → OnErr answer (Told → GrowsByFront old new bytes) → Told → GrowsByFront old new bytes
-grows_by_prefix old new bytes (Ok n) grows torn = λ told. (n, grows told)
+grows_by_prefix : {Known E : Type 0} (old new : FilesView) (bytes : List ℕ) (answer : Result ℕ E) → IfOk answer (λ n. Known → Grows old new (take n bytes)) → OnErr answer (Known → GrowsByPrefix old new bytes) → Known → GrowsByPrefix old new bytes
+grows_by_prefix old new bytes (Ok n) grows torn = λ known. (n, grows known)
 grows_by_prefix old new bytes (Err error) grows torn = torn
 
 -- the bytes behind the first ones
@@ -43,5 +43,5 @@ pub returns-clause-torn : goal.returns-clause-torn
 returns-clause-torn g c =
     let old = g.F.RawFiles.shown c.args.files.now in
     let new = g.F.RawFiles.shown c.write.new.self in
-    subst (λ rest. IsTrue g.F.RawFiles.tells → GrowsByFront old new rest) (rest_is c.args.from c.args.bytes.now)
+    subst (λ rest. IsTrue g.F.RawFiles.tells → GrowsByPrefix old new rest) (rest_is c.args.from c.args.bytes.now)
     (grows_by_prefix old new _ c.write.result c.write.ensures.written c.write.ensures.torn)

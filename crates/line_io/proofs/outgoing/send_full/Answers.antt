@@ -18,5 +18,5 @@ returns-clause-pushed g c =
           let sent = w.put.ensures in
           let split : c.args.buffer.now ≡ w.piece.result.now ++ c.remove_piece.new.self = rw (w.piece.ensures.bytes, c.remove_piece.ensures.rest) (sym (take-append-drop 4096 c.args.buffer.now)) in
           rw (w.sink-is, w.failed-is, w.if-failed.false, w.is_err-failed.ensures.value)
-          (pushed_sent _ _ c.args.buffer.now w.piece.result.now c.remove_piece.new.self w.put.result split sent.appended sent.front sent.cause sent.faults_stay_or_rise)
+          (pushed_sent _ _ c.args.buffer.now w.piece.result.now c.remove_piece.new.self w.put.result split sent.appended sent.prefix sent.cause sent.faults_stay_or_rise)
     ]

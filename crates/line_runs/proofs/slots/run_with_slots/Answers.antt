@@ -21,11 +21,11 @@ save_if_due-requires-clause-before g c =
     omega (arith, on.counted, counted_before c.args.every c.args.line on.saved c.loop-alloc.line on.before, c.burst_on.ensures.some)
 
 pub returns-in-Err-clause-any_moment : goal.returns-in-Err-clause-any_moment
-returns-in-Err-clause-any_moment g c = λ told.
+returns-in-Err-clause-any_moment g c = λ known.
     let old = g.D.Disk.shown c.args.disk.now in
     let now = g.D.Disk.shown c.loop-alloc.disk in
     let new = g.D.Disk.shown c.save_if_due.new.disk in
-    let leaves = leaves_then g.D.Disk.tells MAX_ROOM c.args.every c.args.line c.loop-alloc.line c.burst_on.new.line c.loop-alloc.saved old now new c.loop-alloc.invariant.on c.burst_on.ensures c.save_if_due.ensures.any_moment told in
+    let leaves = leaves_then g.D.Disk.tells MAX_ROOM c.args.every c.args.line c.loop-alloc.line c.burst_on.new.line c.loop-alloc.saved old now new c.loop-alloc.invariant.on c.burst_on.ensures c.save_if_due.ensures.any_moment known in
     subst (λ (v : LiveGraph). LeavesOnly old new (IsOldOrState (held_now old) MAX_ROOM v.graph)) (sym c.requires.made_for) leaves
 
 pub loop-alloc-smaller : goal.loop-alloc-smaller
@@ -54,11 +54,11 @@ returns-clause-saves g c =
     }
 
 pub returns-clause-late : goal.returns-clause-late
-returns-clause-late g c = λ told many.
+returns-clause-late g c = λ known many.
     let on = c.loop-alloc.invariant.on in
     let done : IsDone c.loop-alloc.line = search rules in
     let same = ap (λ (v : LiveGraph). v.graph) c.requires.made_for in
-    late_state c.args.live.now.graph c.args.every MAX_ROOM c.args.line on.saved c.loop-alloc.line (g.D.Disk.shown c.args.disk.now) (g.D.Disk.shown c.loop-alloc.disk) same c.fired-saved.ensures.line c.requires.some on.before done (on.holds told) many
+    late_state c.args.live.now.graph c.args.every MAX_ROOM c.args.line on.saved c.loop-alloc.line (g.D.Disk.shown c.args.disk.now) (g.D.Disk.shown c.loop-alloc.disk) same c.fired-saved.ensures.line c.requires.some on.before done (on.holds known) many
 
 pub burst_on-requires-clause-made_for : goal.burst_on-requires-clause-made_for
 burst_on-requires-clause-made_for g c = λ κs within. c.loop-alloc.invariant.made_for
@@ -86,7 +86,7 @@ pub returns-clause-table : goal.returns-clause-table
 returns-clause-table g c = c.table_of.ensures.table
 
 pub returns-clause-any_moment : goal.returns-clause-any_moment
-returns-clause-any_moment g c = λ told.
+returns-clause-any_moment g c = λ known.
     let old = g.D.Disk.shown c.args.disk.now in
     let new = g.D.Disk.shown c.loop-alloc.disk in
-    subst (λ (v : LiveGraph). LeavesOnly old new (IsOldOrState (held_now old) MAX_ROOM v.graph)) (sym c.requires.made_for) (c.loop-alloc.invariant.on.leaves told)
+    subst (λ (v : LiveGraph). LeavesOnly old new (IsOldOrState (held_now old) MAX_ROOM v.graph)) (sym c.requires.made_for) (c.loop-alloc.invariant.on.leaves known)

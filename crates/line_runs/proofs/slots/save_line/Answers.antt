@@ -7,11 +7,11 @@ use Rattle.line_runs.specs.Store.{text_of, IsOver}
 use Rattle.line_runs.proofs.slots.save_line.Goals as goal
 
 pub returns-in-Ok-clause-any_moment : goal.returns-in-Ok-clause-any_moment
-returns-in-Ok-clause-any_moment g c = λ told.
+returns-in-Ok-clause-any_moment g c = λ known.
     let given : c.as_slice.result.now ≡ text_of (run_in c.args.line.now) = c.as_slice.ensures.value ∙ c.in-Ok.ensures in
     let old = g.D.Disk.shown c.args.disk.now in
     let new = g.D.Disk.shown c.save_text.new.disk in
-    subst (λ (text : List ℕ). LeavesOnly old new (IsOldOrNew (held_now old) MAX_ROOM text)) given (c.save_text.ensures.any_moment told)
+    subst (λ (text : List ℕ). LeavesOnly old new (IsOldOrNew (held_now old) MAX_ROOM text)) given (c.save_text.ensures.any_moment known)
 
 pub returns-in-Ok-clause-saved : goal.returns-in-Ok-clause-saved
 returns-in-Ok-clause-saved g c =

@@ -14,7 +14,7 @@ use Rattle.line_runs.proofs.slots_resuming.resume_slots.Goals.{In-Ok}
 
 -- the bytes that were loaded
 loaded : (g : Over) (c : In-Ok g) → Found g.D.Disk.tells (g.D.Disk.shown c.args.disk.now) (g.D.Disk.shown c.load.new.self.disk.now) MAX_ROOM c.in-Ok.text.items
-loaded g c = record { told = λ told. let saved = c.in-Ok.ensures.saved told in cc; read = search rules }
+loaded g c = record { known = λ known. let saved = c.in-Ok.ensures.saved known in cc; read = search rules }
 
 pub not_loaded-requires : goal.not_loaded-requires
 not_loaded-requires g c = λ have is. c.in-Err.ensures.never_too_long have (ap (λ (refusal : SlotError). Err refusal) is)
@@ -25,7 +25,7 @@ returns-in-Err-clause-resumes g c =
     let new = g.D.Disk.shown c.disk-1.given.0 in
     let given : c.load.new.self.disk.now ≡ c.disk-1.given.0 = search rules in
     let none : c.in-Err.refusal ≡ NoneSaved → IsTrue g.D.Disk.tells → content (bytes_now old) MAX_ROOM ≡ None =
-    λ is told. let none = c.in-Err.ensures.none_saved (ap (λ (refusal : SlotError). Err refusal) is) told in cc in
+    λ is known. let none = c.in-Err.ensures.none_saved (ap (λ (refusal : SlotError). Err refusal) is) known in cc in
     let loaded : HasLoaded MAX_ROOM old (g.D.Disk.shown c.load.new.self.disk.now) (Err c.in-Err.refusal) = search rules in
     let read : HasLoaded MAX_ROOM old new (Err c.in-Err.refusal) = rw given at loaded in
     not_loaded g.D.Disk.tells old new MAX_ROOM c.args.live.now.graph c.in-Err.refusal c.not_loaded.result c.not_loaded.ensures none read

@@ -4,12 +4,12 @@ use Rattle.line_io.specs.Contents.{IsTorn}
 use Rattle.line_runs.specs.Store.{text_of}
 use Rattle.line_runs.proofs.store.save_state.Goals as goal
 
-pub returns-clause-told : goal.returns-clause-told
-returns-clause-told g c =
+pub returns-clause-tells : goal.returns-clause-tells
+returns-clause-tells g c =
     let given : c.as_slice.result.now ≡ text_of c.args.state.now = c.as_slice.ensures.value ∙ c.in_ok-text.ensures.text in
     let old = g.S.Store.shown c.args.store.now in
     let new = g.S.Store.shown c.write.new.self in
-    inl (subst (λ (text : List ℕ). new.asked ≡ after_write old.asked c.args.file.now text c.write.result) given c.write.ensures.told)
+    inl (subst (λ (text : List ℕ). new.asked ≡ after_write old.asked c.args.file.now text c.write.result) given c.write.ensures.tells)
 
 pub returns-clause-written : goal.returns-clause-written
 returns-clause-written g c =
@@ -22,4 +22,4 @@ returns-clause-torn g c =
     let given : c.as_slice.result.now ≡ text_of c.args.state.now = c.as_slice.ensures.value ∙ c.in_ok-text.ensures.text in
     let old = g.S.Store.shown c.args.store.now in
     let new = g.S.Store.shown c.write.new.self in
-    λ failed told. subst (IsTorn (old.files c.args.file.now) (new.files c.args.file.now)) given (c.write.ensures.torn failed told)
+    λ failed known. subst (IsTorn (old.files c.args.file.now) (new.files c.args.file.now)) given (c.write.ensures.torn failed known)

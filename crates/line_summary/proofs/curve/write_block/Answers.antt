@@ -41,7 +41,7 @@ returns-in_err-write_row-in-Some g c =
       rows = tt;
       early =
           early_after plant first (first + i) i 1 c.args.size _ _ _ Failed refl (omega (arith, low, number)) c.loop-i.invariant.rows
-          (one_cut plant (first + i) c.in-Some.point _ _ is puts.front puts.cause);
+          (one_cut plant (first + i) c.in-Some.point _ _ is puts.prefix puts.cause);
     })
 
 pub returns-in-None : goal.returns-in-None

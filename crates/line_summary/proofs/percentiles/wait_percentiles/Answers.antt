@@ -1,25 +1,20 @@
-use Rattle.std.proofs.Common.{◌≡◌, ℕ, List, length, ap, ◌∙◌, subst, count_by, arith}
-use Rattle.std.specs.Prelude.{◌==◌, IsPermutation}
+use Rattle.std.proofs.Common.{◌≡◌, ℕ, List, length, ap, ◌∙◌, subst, arith}
+use Rattle.std.specs.Prelude.{IsPermutation}
 use Rattle.std.proofs.lemmas.List.Sorted.{IsNonDecreasingBy-from_sort}
 use Rattle.event_graph.specs.Network.{jobs}
 use Rattle.event_graph.specs.Table.{date_in}
-use Rattle.line_summary.proofs.WaitLists.{length-waits, length-sorted, at_once-is}
+use Rattle.line_summary.proofs.WaitLists.{length-sorted}
 use Rattle.line_summary.proofs.percentiles.wait_percentiles.Goals as goal
-
-pub overflow_cast-zeros : goal.overflow_cast-zeros
-overflow_cast-zeros c =
-    let long = ap length (c.as_slice.ensures.value ∙ c.in_ok-list.ensures) ∙ length-waits c.args.table.now.graph (date_in c.args.table.now.rows) in
-    omega (arith, long, c.count_zeros-zeros.ensures.few, c.stations-stations.ensures.least.limits.few_jobs)
 
 pub percentiles_of-requires-clause-in_order : goal.percentiles_of-requires-clause-in_order
 percentiles_of-requires-clause-in_order c =
-    rw c.as_slice-2.ensures.value (IsNonDecreasingBy-from_sort (λ (d : ℕ). d) c.sort_unstable.new.self.items c.sort_unstable.ensures.sorted)
+    rw c.as_slice.ensures.value (IsNonDecreasingBy-from_sort (λ (d : ℕ). d) c.sort_unstable.new.self.items c.sort_unstable.ensures.sorted)
 
 -- the sorted waits are as many as the jobs
-long : (c : goal.After-as_slice-2) → length c.as_slice-2.result.now ≡ jobs c.args.table.now.graph
+long : (c : goal.After-as_slice) → length c.as_slice.result.now ≡ jobs c.args.table.now.graph
 long c =
     let sorted = c.sort_unstable.new.self.items in
-    ap length c.as_slice-2.ensures.value
+    ap length c.as_slice.ensures.value
     ∙ length-sorted c.args.table.now.graph (date_in c.args.table.now.rows) sorted
     (subst (λ (l : List ℕ). IsPermutation l sorted) c.in_ok-list.ensures c.sort_unstable.ensures.permutation)
 
@@ -30,9 +25,3 @@ percentiles_of-requires-clause-some c =
 pub percentiles_of-requires-clause-few : goal.percentiles_of-requires-clause-few
 percentiles_of-requires-clause-few c =
     omega (arith, long c, c.stations-stations.ensures.least.limits.few_jobs)
-
-pub percentiles_of-requires-clause-zeros : goal.percentiles_of-requires-clause-zeros
-percentiles_of-requires-clause-zeros c =
-    c.count_zeros-zeros.ensures.count
-    ∙ ap (count_by (λ wait. wait == 0)) (c.as_slice.ensures.value ∙ c.in_ok-list.ensures)
-    ∙ at_once-is c.args.table.now.graph (date_in c.args.table.now.rows)

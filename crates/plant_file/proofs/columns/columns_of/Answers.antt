@@ -9,9 +9,9 @@ pub loop-before-preserved : goal.loop-before-preserved
 loop-before-preserved c =
     let column = c.loop-before.before + 1 in
     let marks = c.in_ok-marks.marks.items in
-    let told = c.in_ok-marks.ensures in
+    let known = c.in_ok-marks.ensures in
     let mark : is_used c.args.plant.now column ≡ c.index.result.now =
-    sym (told.used column (omega arith)) ∙ get_or_default marks column false c.index.result.now (omega (arith, told.enough)) ∙ sym c.index.ensures in
+    sym (known.used column (omega arith)) ∙ get_or_default marks column false c.index.result.now (omega (arith, known.enough)) ∙ sym c.index.ensures in
     elim c.if-index.branch [
       | then-index+in_ok-push w ↦
           rw (filter_one (is_used c.args.plant.now) c.loop-before.before (mark ∙ w.if-index.true), w.columns-is, ← c.loop-before.invariant)

@@ -14,7 +14,7 @@ returns-in_err-settle g c =
     let is = error_is result c.in_err-settle.field-0.0 c.from_residual.ensures.1 in
     let settle = c.in_err-settle.ensures in
     record {
-      outside_stays = λ told i behind. settle.bytes_stay told i;
+      outside_stays = λ known i behind. settle.bytes_stay known i;
       any_moment = settle.any_moment;
       ready = error_alone result _ is;
       gate = error_alone result _ is;
@@ -29,8 +29,8 @@ returns-in_err-zero g c =
     let settle = c.settle.ensures in
     let read = c.read_headers.ensures in
     record {
-      outside_stays = λ told i behind. ap (λ (h : Held). h.bytes i) (read.stays told).held ∙ settle.bytes_stay told i;
-      any_moment = λ told. leaves_stay (g.D.Disk.shown c.args.disk.now) (g.D.Disk.shown c.settle.new.disk) (g.D.Disk.shown c.read_headers.new.disk) (settle.any_moment told) (read.stays told);
+      outside_stays = λ known i behind. ap (λ (h : Held). h.bytes i) (read.stays known).held ∙ settle.bytes_stay known i;
+      any_moment = λ known. leaves_stay (g.D.Disk.shown c.args.disk.now) (g.D.Disk.shown c.settle.new.disk) (g.D.Disk.shown c.read_headers.new.disk) (settle.any_moment known) (read.stays known);
       ready = error_alone result _ is;
       gate = error_alone result _ is;
       cause = λ failed.
@@ -47,23 +47,23 @@ returns g c =
     let room = c.args.room in
     let zero = header_at (bytes_now settled) (start_of room Zero) in
     let one = header_at (bytes_now settled) (start_of room One) in
-    let target = λ (told : IsTrue g.D.Disk.tells).
+    let target = λ (known : IsTrue g.D.Disk.tells).
     c.target_of.ensures
-    ∙ ap (λ h. target_by (newer_header room h c.in_ok-zero.one) h c.in_ok-zero.one) (c.in_ok-zero.ensures.zero told)
-    ∙ ap (λ h. target_by (newer_header room zero h) zero h) (c.in_ok-zero.ensures.one told) in
+    ∙ ap (λ h. target_by (newer_header room h c.in_ok-zero.one) h c.in_ok-zero.one) (c.in_ok-zero.ensures.zero known)
+    ∙ ap (λ h. target_by (newer_header room zero h) zero h) (c.in_ok-zero.ensures.one known) in
     record {
-      outside_stays = λ told i behind. ap (λ (h : Held). h.bytes i) (read.stays told).held ∙ settle.bytes_stay told i;
-      any_moment = λ told. leaves_stay (g.D.Disk.shown c.args.disk.now) settled (g.D.Disk.shown c.read_headers.new.disk) (settle.any_moment told) (read.stays told);
-      ready = λ told.
-          let same = sym (read.stays told).held in
-          let is : IsTarget (bytes_now settled) room c.target_of.result = subst (λ t. IsTarget (bytes_now settled) room t) (sym (target told)) (chosen (bytes_now settled) room) in
+      outside_stays = λ known i behind. ap (λ (h : Held). h.bytes i) (read.stays known).held ∙ settle.bytes_stay known i;
+      any_moment = λ known. leaves_stay (g.D.Disk.shown c.args.disk.now) settled (g.D.Disk.shown c.read_headers.new.disk) (settle.any_moment known) (read.stays known);
+      ready = λ known.
+          let same = sym (read.stays known).held in
+          let is : IsTarget (bytes_now settled) room c.target_of.result = subst (λ t. IsTarget (bytes_now settled) room t) (sym (target known)) (chosen (bytes_now settled) room) in
           record {
-            settled = subst (λ (h : Held). IsSettled h) same (c.in_ok-settle.ensures.settled told);
+            settled = subst (λ (h : Held). IsSettled h) same (c.in_ok-settle.ensures.settled known);
             target_is = subst (λ (h : Held). IsTarget h.bytes room c.target_of.result) same is;
           };
-      gate = λ told.
-          let told_of : TellsGate (bytes_now settled) room c.target_of.result = subst (λ t. TellsGate (bytes_now settled) room t) (sym (target told)) (gate_told (bytes_now settled) room (newer_header room zero one)) in
-          subst (λ (h : Held). TellsGate h.bytes room c.target_of.result) (sym (read.stays told).held) told_of;
+      gate = λ known.
+          let told_of : TellsGate (bytes_now settled) room c.target_of.result = subst (λ t. TellsGate (bytes_now settled) room t) (sym (target known)) (gate_told (bytes_now settled) room (newer_header room zero one)) in
+          subst (λ (h : Held). TellsGate h.bytes room c.target_of.result) (sym (read.stays known).held) told_of;
       cause = λ failed. cc;
       faults_stay_or_rise = omega (arith, settle.faults_stay_or_rise, read.faults_stay_or_rise);
     }

@@ -10,21 +10,21 @@ use Rattle.slot_store.proofs.Loads.{zero_unread, one_unread, heads_read}
 use Rattle.slot_store.proofs.header.read_headers.Goals as goal
 
 pub returns-in_err-one-clause-stays : goal.returns-in_err-one-clause-stays
-returns-in_err-one-clause-stays g c = λ told.
-    stays_on (g.D.Disk.shown c.args.disk.now) (g.D.Disk.shown c.read_header.new.disk) (g.D.Disk.shown c.read_header-2.new.disk) (c.read_header.ensures.stays told) (c.read_header-2.ensures.stays told)
+returns-in_err-one-clause-stays g c = λ known.
+    stays_on (g.D.Disk.shown c.args.disk.now) (g.D.Disk.shown c.read_header.new.disk) (g.D.Disk.shown c.read_header-2.new.disk) (c.read_header.ensures.stays known) (c.read_header-2.ensures.stays known)
 
 pub returns-clause-stays : goal.returns-clause-stays
-returns-clause-stays g c = λ told.
-    stays_on (g.D.Disk.shown c.args.disk.now) (g.D.Disk.shown c.read_header.new.disk) (g.D.Disk.shown c.read_header-2.new.disk) (c.read_header.ensures.stays told) (c.read_header-2.ensures.stays told)
+returns-clause-stays g c = λ known.
+    stays_on (g.D.Disk.shown c.args.disk.now) (g.D.Disk.shown c.read_header.new.disk) (g.D.Disk.shown c.read_header-2.new.disk) (c.read_header.ensures.stays known) (c.read_header-2.ensures.stays known)
 
 pub returns-clause-zero : goal.returns-clause-zero
-returns-clause-zero g c = λ told.
-    c.in_ok-zero.ensures.header told ∙ ap (header_at (bytes_now (g.D.Disk.shown c.args.disk.now))) c.start.ensures
+returns-clause-zero g c = λ known.
+    c.in_ok-zero.ensures.header known ∙ ap (header_at (bytes_now (g.D.Disk.shown c.args.disk.now))) c.start.ensures
 
 pub returns-clause-one : goal.returns-clause-one
-returns-clause-one g c = λ told.
-    c.in_ok-one.ensures.header told ∙ ap (header_at (bytes_now (g.D.Disk.shown c.read_header.new.disk))) c.start-2.ensures
-    ∙ ap (λ (h : Held). header_at h.bytes (start_of c.args.room One)) (c.read_header.ensures.stays told).held
+returns-clause-one g c = λ known.
+    c.in_ok-one.ensures.header known ∙ ap (header_at (bytes_now (g.D.Disk.shown c.read_header.new.disk))) c.start-2.ensures
+    ∙ ap (λ (h : Held). header_at h.bytes (start_of c.args.room One)) (c.read_header.ensures.stays known).held
 
 pub returns-in_err-zero-clause-read : goal.returns-in_err-zero-clause-read
 returns-in_err-zero-clause-read g c =

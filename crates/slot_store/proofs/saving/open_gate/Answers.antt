@@ -6,14 +6,14 @@ use Rattle.slot_store.proofs.Outside.{start_low, outside_within}
 use Rattle.slot_store.proofs.saving.open_gate.Goals as goal
 
 pub returns-clause-any_moment : goal.returns-clause-any_moment
-returns-clause-any_moment g c = λ told.
+returns-clause-any_moment g c = λ known.
     let start = g.D.Disk.shown c.args.disk.now in
-    opening start (g.D.Disk.shown c.write_gate.new.disk) c.args.room c.args.target (staged_in (bytes_now start) c.args.room c.args.target) (c.requires.ready told) (c.requires.staged told) (c.requires.fits told) (c.write_gate.ensures.within told)
+    opening start (g.D.Disk.shown c.write_gate.new.disk) c.args.room c.args.target (staged_in (bytes_now start) c.args.room c.args.target) (c.requires.ready known) (c.requires.staged known) (c.requires.fits known) (c.write_gate.ensures.within known)
 
 pub returns-clause-saved : goal.returns-clause-saved
-returns-clause-saved g c = on_both c.write_gate.result c.write_gate.ensures.stands c.write_gate.ensures.gate (λ stands gate told.
+returns-clause-saved g c = on_both c.write_gate.result c.write_gate.ensures.stands c.write_gate.ensures.gate (λ stands gate known.
     let start = g.D.Disk.shown c.args.disk.now in
-    opened start (g.D.Disk.shown c.write_gate.new.disk) c.args.room c.args.target (staged_in (bytes_now start) c.args.room c.args.target) (c.requires.ready told) (c.requires.staged told) (c.requires.fits told) (c.write_gate.ensures.within told) (stands told) (gate told))
+    opened start (g.D.Disk.shown c.write_gate.new.disk) c.args.room c.args.target (staged_in (bytes_now start) c.args.room c.args.target) (c.requires.ready known) (c.requires.staged known) (c.requires.fits known) (c.write_gate.ensures.within known) (stands known) (gate known))
 
 pub returns-clause-outside_stays : goal.returns-clause-outside_stays
 returns-clause-outside_stays g c =

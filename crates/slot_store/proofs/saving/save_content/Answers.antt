@@ -24,12 +24,12 @@ open_gate-requires g c =
     record {
       room = c.requires.room;
       ready = c.in_ok-write_content.ensures.ready;
-      staged = λ told. record {
-        number_is = (staged told).number_is;
-        length_is = (staged told).length_is ∙ ap (λ (xs : List ℕ). length xs) (sym (staged told).content_is);
+      staged = λ known. record {
+        number_is = (staged known).number_is;
+        length_is = (staged known).length_is ∙ ap (λ (xs : List ℕ). length xs) (sym (staged known).content_is);
         content_is = refl;
       };
-      fits = λ told. subst (λ (xs : List ℕ). length xs ≤ c.args.room) (sym (staged told).content_is) c.requires.fits;
+      fits = λ known. subst (λ (xs : List ℕ). length xs ≤ c.args.room) (sym (staged known).content_is) c.requires.fits;
     }
 
 pub returns-in_err-target : goal.returns-in_err-target
@@ -61,4 +61,4 @@ returns g c =
     let shut = saves_same found c.close_gate.ensures.harmless c.close_gate.ensures.faults_stay_or_rise in
     let put = saves_same shut c.write_content.ensures.harmless c.write_content.ensures.faults_stay_or_rise in
     let last = c.open_gate.ensures in
-    saves_last c.open_gate.result put (λ told. (c.in_ok-write_content.ensures.staged told).content_is) last.any_moment last.saved last.outside_stays last.cause last.faults_stay_or_rise
+    saves_last c.open_gate.result put (λ known. (c.in_ok-write_content.ensures.staged known).content_is) last.any_moment last.saved last.outside_stays last.cause last.faults_stay_or_rise

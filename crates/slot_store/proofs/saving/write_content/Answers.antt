@@ -17,55 +17,55 @@ use Rattle.slot_store.proofs.saving.write_content.Goals.{After-write_at, After-w
 
 -- each call writes behind the gate alone
 named : (g : Over) (c : After-write_at g) → IsTrue g.D.Disk.tells → WritesWithin (start_of c.args.room c.args.target.slot + 1) (15 + c.args.room) (g.D.Disk.shown c.args.disk.now) (g.D.Disk.shown c.write_at.new.self)
-named g c told =
+named g c known =
     let start = g.D.Disk.shown c.args.disk.now in
     let at = start_of c.args.room c.args.target.slot in
     let begins : c.start-start.result ≡ at = c.start-start.ensures in
     let nine : length c.number_and_length.result ≡ 9 = ap length c.number_and_length.ensures in
-    went_write (at + 1) (15 + c.args.room) start start (g.D.Disk.shown c.write_at.new.self) (c.start-start.result + 1) c.number_and_length.result c.write_at.result c.write_at.ensures.written c.write_at.ensures.torn c.write_at.ensures.no_memory c.write_at.ensures.time told (omega arith) (omega arith) (went_nowhere (at + 1) (15 + c.args.room) start (c.requires.ready told).settled)
+    went_write (at + 1) (15 + c.args.room) start start (g.D.Disk.shown c.write_at.new.self) (c.start-start.result + 1) c.number_and_length.result c.write_at.result c.write_at.ensures.written c.write_at.ensures.torn c.write_at.ensures.no_memory c.write_at.ensures.time known (omega arith) (omega arith) (went_nowhere (at + 1) (15 + c.args.room) start (c.requires.ready known).settled)
 
 put : (g : Over) (c : After-write_at-2 g) → IsTrue g.D.Disk.tells → WritesWithin (start_of c.args.room c.args.target.slot + 1) (15 + c.args.room) (g.D.Disk.shown c.args.disk.now) (g.D.Disk.shown c.write_at.new.self) → WritesWithin (start_of c.args.room c.args.target.slot + 1) (15 + c.args.room) (g.D.Disk.shown c.args.disk.now) (g.D.Disk.shown c.write_at-2.new.self)
-put g c told before =
+put g c known before =
     let at = start_of c.args.room c.args.target.slot in
     let begins : c.start-start.result ≡ at = c.start-start.ensures in
     let fits = c.requires.fits in
-    went_write (at + 1) (15 + c.args.room) (g.D.Disk.shown c.args.disk.now) (g.D.Disk.shown c.write_at.new.self) (g.D.Disk.shown c.write_at-2.new.self) (c.start-start.result + 16) c.args.bytes.now c.write_at-2.result c.write_at-2.ensures.written c.write_at-2.ensures.torn c.write_at-2.ensures.no_memory c.write_at-2.ensures.time told (omega arith) (omega arith) before
+    went_write (at + 1) (15 + c.args.room) (g.D.Disk.shown c.args.disk.now) (g.D.Disk.shown c.write_at.new.self) (g.D.Disk.shown c.write_at-2.new.self) (c.start-start.result + 16) c.args.bytes.now c.write_at-2.result c.write_at-2.ensures.written c.write_at-2.ensures.torn c.write_at-2.ensures.no_memory c.write_at-2.ensures.time known (omega arith) (omega arith) before
 
 settled : (g : Over) (c : After-sync g) → IsTrue g.D.Disk.tells → WritesWithin (start_of c.args.room c.args.target.slot + 1) (15 + c.args.room) (g.D.Disk.shown c.args.disk.now) (g.D.Disk.shown c.write_at-2.new.self) → WritesWithin (start_of c.args.room c.args.target.slot + 1) (15 + c.args.room) (g.D.Disk.shown c.args.disk.now) (g.D.Disk.shown c.sync.new.self)
-settled g c told before =
-    went_sync (start_of c.args.room c.args.target.slot + 1) (15 + c.args.room) (g.D.Disk.shown c.args.disk.now) (g.D.Disk.shown c.write_at-2.new.self) (g.D.Disk.shown c.sync.new.self) c.sync.result c.sync.ensures.synced c.sync.ensures.stays c.sync.ensures.time told before
+settled g c known before =
+    went_sync (start_of c.args.room c.args.target.slot + 1) (15 + c.args.room) (g.D.Disk.shown c.args.disk.now) (g.D.Disk.shown c.write_at-2.new.self) (g.D.Disk.shown c.sync.new.self) c.sync.result c.sync.ensures.synced c.sync.ensures.stays c.sync.ensures.time known before
 
 -- and so it does no harm
 harmless : (tells : Bool) (room : ℕ) (target : Target) (old new : DiskView) → (IsTrue tells → IsReady old room target) → (IsTrue tells → IsClosed (bytes_now old) room target) → (IsTrue tells → WritesWithin (start_of room target.slot + 1) (15 + room) old new) → IsHarmless tells room old new
 harmless tells room target old new ready closed wrote = record {
-  any_moment = λ told. staging old new room target (ready told) (closed told) (wrote told);
+  any_moment = λ known. staging old new room target (ready known) (closed known) (wrote known);
   outside_stays = outside_within tells room (start_of room target.slot + 1) (15 + room) old new wrote (omega (arith, start_low room target.slot));
 }
 
 pub returns-in_err-write_at-clause-harmless : goal.returns-in_err-write_at-clause-harmless
 returns-in_err-write_at-clause-harmless g c =
     let here = goal.at.returns-in_err-write_at-clause-harmless g c in
-    harmless _ c.args.room c.args.target (g.D.Disk.shown c.args.disk.now) (g.D.Disk.shown c.write_at.new.self) c.requires.ready c.requires.closed (λ told. named g here.After-write_at told)
+    harmless _ c.args.room c.args.target (g.D.Disk.shown c.args.disk.now) (g.D.Disk.shown c.write_at.new.self) c.requires.ready c.requires.closed (λ known. named g here.After-write_at known)
 
 pub returns-in_err-write_at-2-clause-harmless : goal.returns-in_err-write_at-2-clause-harmless
 returns-in_err-write_at-2-clause-harmless g c =
     let here = goal.at.returns-in_err-write_at-2-clause-harmless g c in
-    harmless _ c.args.room c.args.target (g.D.Disk.shown c.args.disk.now) (g.D.Disk.shown c.write_at-2.new.self) c.requires.ready c.requires.closed (λ told. put g here.After-write_at-2 told (named g here.After-write_at told))
+    harmless _ c.args.room c.args.target (g.D.Disk.shown c.args.disk.now) (g.D.Disk.shown c.write_at-2.new.self) c.requires.ready c.requires.closed (λ known. put g here.After-write_at-2 known (named g here.After-write_at known))
 
 pub returns-clause-harmless : goal.returns-clause-harmless
 returns-clause-harmless g c =
     let here = goal.at.returns-clause-harmless g c in
-    harmless _ c.args.room c.args.target (g.D.Disk.shown c.args.disk.now) (g.D.Disk.shown c.sync.new.self) c.requires.ready c.requires.closed (λ told. settled g here.After-sync told (put g here.After-write_at-2 told (named g here.After-write_at told)))
+    harmless _ c.args.room c.args.target (g.D.Disk.shown c.args.disk.now) (g.D.Disk.shown c.sync.new.self) c.requires.ready c.requires.closed (λ known. settled g here.After-sync known (put g here.After-write_at-2 known (named g here.After-write_at known)))
 
 pub returns-clause-ready : goal.returns-clause-ready
-returns-clause-ready g c = on_ok c.sync.result c.sync.ensures.synced (λ synced told.
+returns-clause-ready g c = on_ok c.sync.result c.sync.ensures.synced (λ synced known.
     let here = goal.at.returns-clause-ready g c in
-    let third = settled g here.After-sync told (put g here.After-write_at-2 told (named g here.After-write_at told)) in
-    staged_ready (g.D.Disk.shown c.args.disk.now) (g.D.Disk.shown c.sync.new.self) c.args.room c.args.target (c.requires.ready told) (c.requires.closed told) third
-    (settled_by (held_now (g.D.Disk.shown c.write_at-2.new.self)) (held_now (g.D.Disk.shown c.sync.new.self)) (synced told)))
+    let third = settled g here.After-sync known (put g here.After-write_at-2 known (named g here.After-write_at known)) in
+    staged_ready (g.D.Disk.shown c.args.disk.now) (g.D.Disk.shown c.sync.new.self) c.args.room c.args.target (c.requires.ready known) (c.requires.closed known) third
+    (settled_by (held_now (g.D.Disk.shown c.write_at-2.new.self)) (held_now (g.D.Disk.shown c.sync.new.self)) (synced known)))
 
 pub returns-clause-staged : goal.returns-clause-staged
-returns-clause-staged g c = on_ok c.sync.result c.sync.ensures.synced (λ synced told.
+returns-clause-staged g c = on_ok c.sync.result c.sync.ensures.synced (λ synced known.
     let start = g.D.Disk.shown c.args.disk.now in
     let at = start_of c.args.room c.args.target.slot in
     let number = c.args.target.number in
@@ -77,6 +77,6 @@ returns-clause-staged g c = on_ok c.sync.result c.sync.ensures.synced (λ synced
     let now = g.D.Disk.shown c.sync.new.self in
     let is : bytes_now now ≡ staged (bytes_now start) at number bytes =
     staged_after (held_now start) (held_now named) (held_now put) (held_now now) at (c.start-start.result + 1) (c.start-start.result + 16) number c.number_and_length.result bytes
-    (c.in_ok-write_at.ensures.written told) (c.in_ok-write_at-2.ensures.written told) (synced told)
+    (c.in_ok-write_at.ensures.written known) (c.in_ok-write_at-2.ensures.written known) (synced known)
     (ap (λ i. i + 1) c.start-start.ensures) c.number_and_length.ensures (ap (λ i. i + 16) c.start-start.ensures) in
     subst (λ i. IsStaged i c.args.room c.args.target bytes) (sym is) (is_staged (bytes_now start) c.args.room c.args.target bytes (omega arith)))

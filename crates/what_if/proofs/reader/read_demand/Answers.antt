@@ -6,29 +6,29 @@ use Rattle.what_if.specs.Edits.{HasNoSpace, spaced}
 use Rattle.what_if.proofs.WordsOfEdits.{has_space, none-holds, demand-writes, demand-parts, nothing-is, some-is}
 use Rattle.what_if.proofs.reader.read_demand.Goals as goal
 
-pub returns-in_err-job-clause-told : goal.returns-in_err-job-clause-told
-returns-in_err-job-clause-told c edit writes =
+pub returns-in_err-job-clause-tells : goal.returns-in_err-job-clause-tells
+returns-in_err-job-clause-tells c edit writes =
     demand-writes c.args.graph.now c.args.text.now edit (λ e. c.from_residual.result ≡ Some e) writes (λ n date valid is.
     absurd (has_space (decimal n) (decimal date) (subst HasNoSpace is c.in_err-job.ensures)))
 
-pub returns-in_err-job-2-clause-told : goal.returns-in_err-job-2-clause-told
-returns-in_err-job-2-clause-told c edit writes =
+pub returns-in_err-job-2-clause-tells : goal.returns-in_err-job-2-clause-tells
+returns-in_err-job-2-clause-tells c edit writes =
     demand-parts c.args.graph.now c.args.text.now c.in_ok-job.job.now c.in_ok-job.date.now edit (λ e. c.from_residual-in_err-job-2.result ≡ Some e) c.in_ok-job.ensures (omega (arith, c.in_err-job-2.ensures.few)) writes (λ n date valid job_is last_is.
-    absurd (nothing-is n (c.in_err-job-2.ensures.told n valid.from_one valid.job job_is)))
+    absurd (nothing-is n (c.in_err-job-2.ensures.tells n valid.from_one valid.job job_is)))
 
-pub returns-in_err-date-clause-told : goal.returns-in_err-date-clause-told
-returns-in_err-date-clause-told c edit writes =
+pub returns-in_err-date-clause-tells : goal.returns-in_err-date-clause-tells
+returns-in_err-date-clause-tells c edit writes =
     demand-parts c.args.graph.now c.args.text.now c.in_ok-job.job.now c.in_ok-job.date.now edit (λ e. c.from_residual-in_err-date.result ≡ Some e) c.in_ok-job.ensures (omega (arith, c.in_ok-job-2.ensures.few)) writes (λ n date valid job_is last_is.
-    absurd (nothing-is date (c.in_err-date.ensures.told date valid.early last_is)))
+    absurd (nothing-is date (c.in_err-date.ensures.tells date valid.early last_is)))
 
-pub returns-clause-told : goal.returns-clause-told
-returns-clause-told c edit writes =
+pub returns-clause-tells : goal.returns-clause-tells
+returns-clause-tells c edit writes =
     let job = c.in_ok-job-2.job in
     let last = c.in_ok-date.date in
     let Same : Edit → Type 0 = λ e. Some (Demand job last) ≡ Some e in
     demand-parts c.args.graph.now c.args.text.now c.in_ok-job.job.now c.in_ok-job.date.now edit Same c.in_ok-job.ensures (omega (arith, c.in_ok-job-2.ensures.few)) writes (λ n date valid job_is last_is.
-    let same_job = some-is job n (c.in_ok-job-2.ensures.told n valid.from_one valid.job job_is) in
-    let same_date = some-is last date (c.in_ok-date.ensures.told date valid.early last_is) in
+    let same_job = some-is job n (c.in_ok-job-2.ensures.tells n valid.from_one valid.job job_is) in
+    let same_date = some-is last date (c.in_ok-date.ensures.tells date valid.early last_is) in
     ap (λ j. Some (Demand j last)) same_job ∙ ap (λ x. Some (Demand n x)) same_date)
 
 pub returns-in_err-job-clause-read : goal.returns-in_err-job-clause-read

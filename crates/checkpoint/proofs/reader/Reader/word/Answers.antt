@@ -5,8 +5,8 @@ use Rattle.checkpoint.specs.Reading.{Reading, is_word_byte}
 use Rattle.checkpoint.proofs.WordBytes.{word_taken, word_dropped}
 use Rattle.checkpoint.proofs.reader.Reader.word.Goals as goal
 
-pub returns-clause-told : goal.returns-clause-told
-returns-clause-told c word after is ends whole =
+pub returns-clause-tells : goal.returns-clause-tells
+returns-clause-tells c word after is ends whole =
     let at = c.self.inside.at in
     let text = c.self.inside.text.now in
     let n = c.word_len.result in

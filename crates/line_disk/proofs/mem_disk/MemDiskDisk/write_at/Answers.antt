@@ -28,14 +28,14 @@ returns c =
         patch = patch;
         at = refl;
         bytes = same;
-        counted = counts.counted memory ∙ ap (λ done. c.args.self.now.calls.items ++ call.Write patch done ∷ []) (counts.told memory);
+        counted = counts.counted memory ∙ ap (λ done. c.args.self.now.calls.items ++ call.Write patch done ∷ []) (counts.tells memory);
       };
       not_counted = counts.not_counted;
-      written = on_ok c.count_call.result (on_done left (not c.is_due-failed.result) c.count_call.result counts.told counts.held)
+      written = on_ok c.count_call.result (on_done left (not c.is_due-failed.result) c.count_call.result counts.tells counts.held)
           (λ done. done ∙ ap (λ bytes. written held c.args.at bytes) same);
       torn = λ err.
           let found = failed_found c.count_call.result err in
-          let failed : left false = subst left (counts.told found ∙ ap is_ok err) (counts.held found) in
+          let failed : left false = subst left (counts.tells found ∙ ap is_ok err) (counts.held found) in
           subst (λ (bytes : List ℕ). Torn held (held_now (mem_view c.count_call.new.self)) c.args.at (length bytes)) same (torn_by held _ c.args.at c.in_ok-to_vec.field-0.items failed);
       no_memory = counts.no_memory;
       time = counts.time;

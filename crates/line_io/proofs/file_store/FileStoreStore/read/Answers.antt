@@ -22,7 +22,7 @@ returns g c =
         (subst (λ r. AsksToRead name limit read.asks.0 (bytes_of r)) same read.asks.2.0, read.asks.2.1),
       );
       closed = c.close.ensures.closed;
-      told = c.note_read.ensures.noted;
+      tells = c.note_read.ensures.noted;
       bytes = subst (λ r. IfOk r (λ v. IsTrue g.F.RawFiles.tells → named_files old name ≡ Some v.items)) same read.bytes;
       within_limit = takes.within_limit;
       took_them = takes.took_them;
@@ -30,7 +30,7 @@ returns g c =
       one_more_at_most = takes.one_more_at_most;
       longer = subst (λ r. IsErrOf r store_error.TooLong → IsTrue g.F.RawFiles.tells → IsLongerThan limit (named_files old name)) same read.longer;
       cause = takes.cause;
-      files_stay = λ told q. c.close.ensures.stays told q ∙ read.stays told q;
+      files_stay = λ known q. c.close.ensures.stays known q ∙ read.stays known q;
       faults_stay = takes.faults_stay;
       faults_stay_or_rise = takes.faults_stay_or_rise;
       faults_rise_by_one = takes.once;

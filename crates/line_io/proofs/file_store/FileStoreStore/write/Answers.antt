@@ -23,11 +23,11 @@ returns g c =
       );
       asks_nothing = λ memory. close.asks_nothing ∙ ap (λ (v : FilesView). v.asked) (wrote.untouched memory);
       closed = close.closed;
-      told = c.note_write.ensures.noted;
+      tells = c.note_write.ensures.noted;
       written = written_closed tells mid new name bytes c.note_write.result close.stays wrote.written;
-      others_stay = λ told q apart. close.stays told (Named q) ∙ wrote.others_stay told q apart;
-      torn = λ failed told. subst (λ held. IsTorn (named_files old name) held bytes) (sym (close.stays told (Named name))) (wrote.torn told);
-      no_memory = λ memory told q. close.stays told (Named q) ∙ ap (λ (v : FilesView). named_files v q) (wrote.untouched memory);
+      others_stay = λ known q apart. close.stays known (Named q) ∙ wrote.others_stay known q apart;
+      torn = λ failed known. subst (λ held. IsTorn (named_files old name) held bytes) (sym (close.stays known (Named name))) (wrote.torn known);
+      no_memory = λ memory known q. close.stays known (Named q) ∙ ap (λ (v : FilesView). named_files v q) (wrote.untouched memory);
       never_too_long = wrote.never_too_long;
       cause = wrote.cause;
       taken_stays = refl;

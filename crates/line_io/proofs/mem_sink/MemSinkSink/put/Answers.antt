@@ -1,7 +1,7 @@
 use Rattle.std.proofs.Common.{◌≡◌, inl, inr, ⊎_elim, ℕ, ◌-◌, ◌++◌, List, length, take, min, refl, sym, ap, ◌∙◌, length-take, arith}
 use Rattle.std.proofs.lemmas.Bool.{false≢true}
 use Rattle.std.proofs.lemmas.List.{take_min}
-use Rattle.line_io.proofs.WrittenLemmas.{puts_front_of_take}
+use Rattle.line_io.proofs.WrittenLemmas.{puts_prefix_of_take}
 use Rattle.line_io.proofs.mem_sink.MemSinkSink.put.Goals as goal
 use Rattle.line_io.proofs.mem_sink.MemSinkSink.put.Goals.{else-not-is_due-via-then-not-is_due+else-piece-left, else-not-is_due-via-else-not-is_due}
 
@@ -59,6 +59,6 @@ returns-clause-kept c =
     c.append-2.ensures.items
     ∙ ap (λ bytes. sink.bytes.items ++ bytes) (kept_is c.min-kept.result (sink.room - length sink.bytes.items) sink.keep c.args.piece.now (omega (arith, c.min-kept.ensures, c.min.ensures, c.len.ensures, sink.bytes.ok.0)))
 
-pub returns-clause-front : goal.returns-clause-front
-returns-clause-front c =
-    puts_front_of_take _ _ c.args.piece.now _ c.append-2.ensures.items
+pub returns-clause-prefix : goal.returns-clause-prefix
+returns-clause-prefix c =
+    puts_prefix_of_take _ _ c.args.piece.now _ c.append-2.ensures.items

@@ -7,7 +7,7 @@ use Rattle.line_io.proofs.outgoing.Outgoing.push_long.Goals as goal
 pub loop-rest-init : goal.loop-rest-init
 loop-rest-init g c = ([], refl, pushed_none _)
 
--- the front of the rest goes to what is done
+-- a prefix of the rest goes to what is done
 front_moves : (bytes done rest later : List ℕ) (n : ℕ) → bytes ≡ done ++ rest → later ≡ drop n rest → bytes ≡ (done ++ take n rest) ++ later
 front_moves bytes done rest later n split back =
     split ∙ ap (λ l. done ++ l) (sym (take-append-drop n rest)) ∙ sym (append_assoc done (take n rest) (drop n rest)) ∙ ap (λ l. (done ++ take n rest) ++ l) (sym back)

@@ -16,11 +16,11 @@ pub returns-clause-done : goal.returns-clause-done
 returns-clause-done c =
     let seen = the_view c.self.inside in
     let logs = c.logs.result.now.items in
-    let told : IsTrue c.all_done.result ↔ AllDone seen.target seen.team = (
+    let known : IsTrue c.all_done.result ↔ AllDone seen.target seen.team = (
       λ is. all-done logs seen.team.stations seen.target c.logs.ensures (c.all_done.ensures.0 is),
       λ done. c.all_done.ensures.1 (done-all logs seen.team.stations seen.target c.logs.ensures done),
     ) in
-    subst (λ (w : LineWorker). IsTrue c.all_done.result ↔ AllDone w.target w.team) c.self.view_is told
+    subst (λ (w : LineWorker). IsTrue c.all_done.result ↔ AllDone w.target w.team) c.self.view_is known
 
 pub returns-clause-worker : goal.returns-clause-worker
 returns-clause-worker c = subst IsWorker c.self.view_is c.self.invariant

@@ -42,10 +42,10 @@ returns-in_default g c =
       same_room = refl;
       within_room = tt;
       saved = tt;
-      none_saved = λ is told.
+      none_saved = λ is known.
           none_newest (bytes_now old) room (
-          ap (λ h. newer_header room h (header_at (bytes_now old) (start_of room One))) (sym (c.in_ok-zero.ensures.zero told))
-          ∙ ap (λ h. newer_header room c.in_ok-zero.zero h) (sym (c.in_ok-zero.ensures.one told))
+          ap (λ h. newer_header room h (header_at (bytes_now old) (start_of room One))) (sym (c.in_ok-zero.ensures.zero known))
+          ∙ ap (λ h. newer_header room c.in_ok-zero.zero h) (sym (c.in_ok-zero.ensures.one known))
           ∙ none
           );
       read = load_none room old (g.D.Disk.shown c.read_headers.new.disk) c.in_ok-zero.zero c.in_ok-zero.one c.in_ok-zero.ensures.read none;
@@ -72,7 +72,7 @@ returns-in_err-read g c =
       saved = error_alone result _ is;
       none_saved = λ none. absurd (fails.none_saved none);
       read = subst (λ r. HasLoaded c.args.self.now.room old new (items_of r)) (sym is) (load_content c.args.self.now.room old mid new c.in_ok-zero.zero c.in_ok-zero.one c.in-Some.slot c.in-Some.header (Err error) c.in_ok-zero.ensures.read (sym c.newer.ensures.newer ∙ c.in-Some.is) last);
-      stays = λ told. stays_on old mid new (c.read_headers.ensures.stays told) (stays_by mid new (c.read.ensures.stays told) (c.read.ensures.time told));
+      stays = λ known. stays_on old mid new (c.read_headers.ensures.stays known) (stays_by mid new (c.read.ensures.stays known) (c.read.ensures.time known));
       disk_fault = fails.fault;
       never_too_long = fails.too_long;
       faults_stay_or_rise = omega (arith, c.read_headers.ensures.faults_stay_or_rise, c.read.ensures.faults_stay_or_rise);
@@ -94,18 +94,18 @@ returns g c =
       same_disk = refl;
       same_room = refl;
       within_room = (let fits = open_fits room header is_opened in omega (arith, fits, c.in_ok-read.ensures.count));
-      saved = λ told.
+      saved = λ known.
           newest (bytes_now old) room slot header (
-          ap (λ h. newer_header room h (header_at (bytes_now old) (start_of room One))) (sym (c.in_ok-zero.ensures.zero told))
-          ∙ ap (λ h. newer_header room c.in_ok-zero.zero h) (sym (c.in_ok-zero.ensures.one told))
+          ap (λ h. newer_header room h (header_at (bytes_now old) (start_of room One))) (sym (c.in_ok-zero.ensures.zero known))
+          ∙ ap (λ h. newer_header room c.in_ok-zero.zero h) (sym (c.in_ok-zero.ensures.one known))
           ∙ found
           )
-          ∙ ap (λ (h : Held). let v : Option (List ℕ) = Some (bytes_at h.bytes (start_of room slot + 16) header.length) in v) (sym (c.read_headers.ensures.stays told).held)
+          ∙ ap (λ (h : Held). let v : Option (List ℕ) = Some (bytes_at h.bytes (start_of room slot + 16) header.length) in v) (sym (c.read_headers.ensures.stays known).held)
           ∙ ap (λ i. let v : Option (List ℕ) = Some (bytes_at (bytes_now mid) (i + 16) header.length) in v) (sym c.start-start.ensures)
-          ∙ ap (λ (xs : List ℕ). Some xs) (sym (c.in_ok-read.ensures.bytes told));
+          ∙ ap (λ (xs : List ℕ). Some xs) (sym (c.in_ok-read.ensures.bytes known));
       none_saved = λ none. cc;
       read = load_content room old mid new c.in_ok-zero.zero c.in_ok-zero.one slot header (Ok bytes) c.in_ok-zero.ensures.read found last;
-      stays = λ told. stays_on old mid new (c.read_headers.ensures.stays told) (stays_by mid new (c.read.ensures.stays told) (c.read.ensures.time told));
+      stays = λ known. stays_on old mid new (c.read_headers.ensures.stays known) (stays_by mid new (c.read.ensures.stays known) (c.read.ensures.time known));
       disk_fault = λ failed. cc;
       never_too_long = λ have long. cc;
       faults_stay_or_rise = omega (arith, c.read_headers.ensures.faults_stay_or_rise, c.read.ensures.faults_stay_or_rise);

@@ -28,8 +28,8 @@ pub front-requires-clause-there : goal.front-requires-clause-there
 front-requires-clause-there c = (lent (goal.at.front-requires-clause-there c).After-index-tally).sound.there
 
 -- what the tally tells of the front
-told : (c : After-index-tally) (firsts answer : List ℕ) → firsts ≡ c.self.inside.firsts.items → ((room : ℕ) → IsTally firsts room c.self.inside.logs.items c.index-tally.result.now → answer ≡ take 1 (plain_waiting (seen_queue firsts room c.self.inside.logs.items c.index-tally.result.now))) → answer ≡ take 1 (plain_waiting (seen_queue c.self.inside.firsts.items c.self.inside.room.value c.self.inside.logs.items c.index-tally.result.now))
-told c firsts answer are is =
+known : (c : After-index-tally) (firsts answer : List ℕ) → firsts ≡ c.self.inside.firsts.items → ((room : ℕ) → IsTally firsts room c.self.inside.logs.items c.index-tally.result.now → answer ≡ take 1 (plain_waiting (seen_queue firsts room c.self.inside.logs.items c.index-tally.result.now))) → answer ≡ take 1 (plain_waiting (seen_queue c.self.inside.firsts.items c.self.inside.room.value c.self.inside.logs.items c.index-tally.result.now))
+known c firsts answer are is =
     let s = c.self.inside in
     subst (λ (l : List ℕ). (room : ℕ) → IsTally l room s.logs.items c.index-tally.result.now → answer ≡ take 1 (plain_waiting (seen_queue l room s.logs.items c.index-tally.result.now))) are is s.room.value (lent c).sound
 
@@ -38,7 +38,7 @@ returns c =
     let s = c.self.inside in
     let from = (goal.at.returns c).After-index-tally in
     let k = c.args.k in
-    told from c.as_slice.result.now (option_to_list c.front.result) c.as_slice.ensures.value c.front.ensures
+    known from c.as_slice.result.now (option_to_list c.front.result) c.as_slice.ensures.value c.front.ensures
     ∙ ap (λ (t : Tally). take 1 (plain_waiting (seen_queue s.firsts.items s.room.value s.logs.items t))) (lent from).at
     ∙ ap (λ (queue : PlainQueue). take 1 (plain_waiting queue)) (sym (queue-seen s.firsts.items s.room.value s.logs.items s.queues.items k (lent from).there))
     ∙ ap (λ (w : WorkShelf). take 1 (plain_waiting (queue_at w.queues k))) c.self.view_is

@@ -3,7 +3,7 @@ use Rattle.std.proofs.lemmas.Result.{IfOk-weaker}
 use Rattle.plant_model.specs.Sound.{IsSound}
 use Rattle.card_sizing.proofs.SizedSound.{sound_sized}
 use Rattle.line_summary.proofs.GivenPoints.{given_point}
-use Rattle.line_summary.proofs.point.point_at.Goals as goal
+use Rattle.line_summary.proofs.trying.point_at.Goals as goal
 
 pub point_of-point-requires : goal.point_of-point-requires
 point_of-point-requires c =

@@ -3,7 +3,7 @@ use Rattle.std.proofs.lemmas.Result.{IfOk-from_err}
 use Rattle.line_base.specs.declared.event.Parts.{Parts}
 use Rattle.event_graph.specs.Live.{IsLive}
 use Rattle.line_summary.specs.Points.{IsPointOf}
-use Rattle.line_summary.proofs.point.point_of.Goals as goal
+use Rattle.line_summary.proofs.trying.point_of.Goals as goal
 
 pub returns-in_err-graph_of : goal.returns-in_err-graph_of
 returns-in_err-graph_of c = IfOk-from_err c.from_residual.result (IsPointOf c.args.plant.now) c.from_residual.ensures.0

@@ -3,7 +3,7 @@ use Rattle.std.specs.List.{flat_map, range_with_len}
 use Rattle.line_io.specs.Outgoing.{stream}
 use Rattle.answers.specs.ChangesText.{lines_of_date}
 use Rattle.answers.specs.Written.{IsWritten}
-use Rattle.answers.proofs.changes.write_station.Given as goal
+use Rattle.answers.proofs.change_lines.write_station.Given as goal
 
 -- the lines of the jobs before are written
 abbrev pub invariant-loop-before : goal.invariant-loop-before

@@ -1,5 +1,5 @@
 use Rattle.std.proofs.lemmas.Result.{err_from_is_err_and}
-use Rattle.line_summary.proofs.summary.memory_for.Goals as goal
+use Rattle.line_summary.proofs.making.memory_for.Goals as goal
 
 pub returns-in_err-percentiles : goal.returns-in_err-percentiles
 returns-in_err-percentiles c =

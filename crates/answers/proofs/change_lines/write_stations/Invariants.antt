@@ -3,7 +3,7 @@ use Rattle.std.specs.List.{flat_map, range_with_len}
 use Rattle.line_io.specs.Outgoing.{stream}
 use Rattle.answers.specs.ChangesText.{lines_of_station}
 use Rattle.answers.specs.Written.{IsWritten}
-use Rattle.answers.proofs.changes.write_stations.Given as goal
+use Rattle.answers.proofs.change_lines.write_stations.Given as goal
 
 -- the lines of the stations before are written
 abbrev pub invariant-loop-t : goal.invariant-loop-t
