@@ -1,4 +1,4 @@
 pub mod CycleTexts
 mod Examples
-pub mod Writing
+pub mod SinkLines
 pub mod Sent

@@ -1,7 +1,7 @@
 pub mod SizedStages
 pub mod SizedSound
 pub mod ReachedDates
-pub mod Serving
+pub mod EnoughCards
 pub mod DeadLines
 pub mod Searches
 pub mod CountedPlants

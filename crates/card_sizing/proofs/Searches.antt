@@ -21,7 +21,7 @@ use Rattle.line_graph.specs.DeadLabels.{AreDead}
 use Rattle.card_sizing.specs.Sizing.{NoneServesBelow, IsBelow, IsSearch}
 use Rattle.card_sizing.specs.Trying.{FailsBy, HasTriesLeft}
 use Rattle.card_sizing.proofs.SizedSound.{sound_sized}
-use Rattle.card_sizing.proofs.Serving.{serves_more, dead_not_live, late_not_in_time}
+use Rattle.card_sizing.proofs.EnoughCards.{serves_more, dead_not_live, late_not_in_time}
 
 -- the lowest count is within the limit
 pub lowest_within : (p : Plant) → IsSound p → lowest p ≤ MAX_CARDS

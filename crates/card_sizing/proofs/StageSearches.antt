@@ -22,7 +22,7 @@ use Rattle.card_sizing.specs.declared.each.StageSizing.{StageSizing}
 use Rattle.card_sizing.specs.declared.sizing.SizingError.{SizingError}
 use Rattle.card_sizing.specs.declared.sizing.SizingError.TheVariants.{NoSingleCount, NoCount, NoMemory}
 use Rattle.card_sizing.proofs.SizedSound.{stock-lowest}
-use Rattle.card_sizing.proofs.Serving.{in_time_more, late_not_in_time, dead_not_live}
+use Rattle.card_sizing.proofs.EnoughCards.{in_time_more, late_not_in_time, dead_not_live}
 use Rattle.card_sizing.proofs.CountedPlants.{single_count, sound_counted, more-counted, counted-sized}
 
 -- the count of a stage where one was changed: the new one there, the old one elsewhere

@@ -2,7 +2,7 @@ pub mod Examples
 pub mod OptionCommands
 pub mod OptionOrder
 pub mod OptionSteps
-pub mod Reading
+pub mod NumberWords
 pub mod ReadCommands
 pub mod ResumeWords
 pub mod Texts

@@ -9,8 +9,8 @@ use Rattle.line_base.specs.Limits.{most_checkpoint_bytes}
 use Rattle.line_core.specs.Consistent.{fired}
 use Rattle.line_disk.specs.DiskView.{DiskView, LeavesOnly, held_now}
 use Rattle.line_io.specs.Faults.{Rose}
-use Rattle.line_runs.proofs.Saving.{leaves_at_first, saves_live}
-use Rattle.line_runs.proofs.Stopping.{burst_live}
+use Rattle.line_runs.proofs.RunSaves.{leaves_at_first, saves_live}
+use Rattle.line_runs.proofs.FirstBursts.{burst_live}
 use Rattle.line_runs.specs.Saves.{SavesWhenDue, begins, passes, saves, HoldsLast, IsOldOrState, IsLateState}
 use Rattle.line_runs.specs.AllFirings.{all_firings}
 use Rattle.line_workers.specs.Line.{WorkLine}

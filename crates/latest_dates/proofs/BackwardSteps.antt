@@ -21,7 +21,7 @@ use Rattle.latest_dates.proofs.Places.{place-station, place-job}
 use Rattle.latest_dates.proofs.FromLast.{reader, reads-later}
 use Rattle.latest_dates.proofs.EarliestBounds.{AgreesAfter, earliest_bound-same, term-sent}
 use Rattle.latest_dates.proofs.NoneLater.{none_later}
-use Rattle.latest_dates.proofs.Solving.{no_later-less}
+use Rattle.latest_dates.proofs.LatestSolution.{no_later-less}
 
 -- the run solves the graph, and serves where no job waits longer than it may
 pub run_solves : (d : Dates) (g : Parts) → IsLeastTable d → d.graph ≡ g → Solves g (date_in d.rows)

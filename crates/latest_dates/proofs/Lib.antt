@@ -5,7 +5,7 @@ pub mod Earliest
 pub mod EarliestBounds
 pub mod ArcBounds
 pub mod NoneLater
-pub mod Solving
+pub mod LatestSolution
 pub mod Unbounded
 pub mod Ordered
 pub mod OneTable

@@ -15,7 +15,7 @@ use Rattle.latest_dates.specs.Laws.{IsServed, sent, IsServedBeyond}
 use Rattle.latest_dates.proofs.Earliest.{IsWithin}
 use Rattle.latest_dates.proofs.FromLast.{OfReaders, from_last}
 use Rattle.latest_dates.proofs.EarliestBounds.{bound-read, bound-past, promised-last, promised-other, within-bounds, term-sent, term-initial}
-use Rattle.latest_dates.proofs.Solving.{late_term-sent, late_term-initial, latest_serve, latest_solve}
+use Rattle.latest_dates.proofs.LatestSolution.{late_term-sent, late_term-initial, latest_serve, latest_solve}
 
 -- ---- no latest date is above the last promise
 

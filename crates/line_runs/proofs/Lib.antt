@@ -1,5 +1,5 @@
 pub mod Firings
-pub mod Stopping
+pub mod FirstBursts
 pub mod Resumed
-pub mod Saving
+pub mod RunSaves
 pub mod SlotsResumed

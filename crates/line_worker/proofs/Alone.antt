@@ -15,10 +15,10 @@ use Rattle.line_worker.specs.Teams.{team_at, owner_of, station_of, shelf_of, pla
 use Rattle.line_worker.specs.Worker.{LineWorker, IsWorker, with_team}
 use Rattle.line_worker.specs.Work.{dates_of, TeamWorked, TeamsWorked, SteppedAt, IsSweeping, IsAlone}
 use Rattle.line_worker.proofs.Share.{first-zero, first-all, worker_number-below}
-use Rattle.line_worker.proofs.Standing.{stands_for_reached, log-among, can_fire_is_ready}
-use Rattle.line_worker.proofs.Spacing.{spaces, inside-space}
-use Rattle.line_worker.proofs.Sweeping.{listed-at_place, place-of_listed}
-use Rattle.line_worker.proofs.Working.{local_is_met, teams-worked}
+use Rattle.line_worker.proofs.TeamStates.{stands_for_reached, log-among, can_fire_is_ready}
+use Rattle.line_worker.proofs.OutletSpace.{spaces, inside-space}
+use Rattle.line_worker.proofs.TeamSweeps.{listed-at_place, place-of_listed}
+use Rattle.line_worker.proofs.WorkedTeams.{local_is_met, teams-worked}
 
 -- the worker is the first of one
 module _ (c : LineWorker) (is : IsWorker c) (one : c.worker_count ≡ 1) where

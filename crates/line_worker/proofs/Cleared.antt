@@ -8,7 +8,7 @@ use Rattle.station_step.specs.Station.{WorkStation, IsStation, AreApart}
 use Rattle.line_worker.specs.Team.{WorkTeam, IsMember, IsTeam, member}
 use Rattle.line_worker.specs.Worker.{LineWorker, IsWorker}
 use Rattle.line_worker.specs.Cleared.{cleared, cleared_team, cleared_worker}
-use Rattle.line_worker.proofs.Stepping.{worker-with_team}
+use Rattle.line_worker.proofs.TeamSteps.{worker-with_team}
 
 -- ---- one station
 

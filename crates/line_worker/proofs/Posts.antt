@@ -12,7 +12,7 @@ use Rattle.line_worker.specs.Logs.{log_of, copy_of, copy_with, dates_in}
 use Rattle.line_worker.specs.Cleared.{cleared}
 use Rattle.line_worker.specs.Work.{dates_of}
 use Rattle.line_worker.proofs.Cleared.{member-cleared}
-use Rattle.line_worker.proofs.Stepping.{graph-same, number-same, outlets-same, outlets-count}
+use Rattle.line_worker.proofs.TeamSteps.{graph-same, number-same, outlets-same, outlets-count}
 
 -- a station that is the same but for its tokens, by its log on a shelf with the same queues
 stands-bare : (i : ℕ) (old new : WorkShelf) (before after : WorkStation) → length new.logs ≡ length old.logs → log_on new.logs i ≡ after.log → new.sources ≡ old.sources → length new.queues ≡ length old.queues → bare_station after ≡ bare_station before → StandsAt i old before → StandsAt i new after

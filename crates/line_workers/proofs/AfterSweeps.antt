@@ -13,7 +13,7 @@ use Rattle.line_worker.specs.Work.{TeamWorked, TeamsWorked}
 use Rattle.line_worker.specs.Workers.{worker_at, no_worker, graph_of, begun_of, AreWorkers, AreSameWorkers}
 use Rattle.line_workers.specs.Line.{LogsGrow}
 use Rattle.line_workers.specs.Gather.{IsWorkerAfter, AreWorkersAfter}
-use Rattle.line_worker.proofs.Working.{idle_team, then_team, station-worked}
+use Rattle.line_worker.proofs.WorkedTeams.{idle_team, then_team, station-worked}
 use Rattle.line_workers.proofs.AllWorkers.{ranked, workers_are_teams, workers-same}
 use Rattle.line_worker.proofs.WorkerTeams.{count-teams, team_at-workers}
 

@@ -21,10 +21,10 @@ use Rattle.line_workers.specs.Link.{seat_of, link_of, seated_at, IsInside, IsSea
 use Rattle.line_worker.specs.Workers.{worker_at, no_worker, live_of, graph_of, begun_of, room_of, AreWorkers, IsSameWorker, AreSameWorkers}
 use Rattle.line_worker.proofs.Share.{first-le, next-above, first-rises, first-all, worker_number-below}
 use Rattle.line_worker.proofs.Places.{in-stands, out-stands}
-use Rattle.line_worker.proofs.Standing.{inputs-many, outlets-many}
-use Rattle.line_worker.proofs.Working.{idle_team, then_team, teams-worked, rooms-worked, local_is_met}
+use Rattle.line_worker.proofs.TeamStates.{inputs-many, outlets-many}
+use Rattle.line_worker.proofs.WorkedTeams.{idle_team, then_team, teams-worked, rooms-worked, local_is_met}
 use Rattle.line_worker.proofs.WorkerTeams.{count-teams, team_at-workers}
-use Rattle.line_workers.proofs.Meeting.{meets_on}
+use Rattle.line_workers.proofs.ArcMeetings.{meets_on}
 use Rattle.line_workers.proofs.Totals.{sum_by-map, of_worker, sum-among}
 use Rattle.line_core.specs.Consistent.{fired}
 use Rattle.line_workers.specs.Line.{turns_among}

@@ -1,5 +1,5 @@
-pub mod Meeting
-pub mod Splitting
+pub mod ArcMeetings
+pub mod SplitLists
 pub mod Totals
 pub mod AllWorkers
 pub mod AllBurst

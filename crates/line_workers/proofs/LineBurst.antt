@@ -26,8 +26,8 @@ use Rattle.line_worker.specs.Workers.{worker_at, no_worker, live_of, graph_of, b
 use Rattle.line_workers.specs.Burst.{AllMade, EachMade, WorkersBurst}
 use Rattle.line_workers.specs.Line.{WorkLine, turns_among, line_of, run_in, KeepsPace, AreAtRest, IsLine, IsWithinRooms, LogsGrow, EachWorks}
 use Rattle.line_workers.proofs.AllWorkers.{ranked, workers_are_teams, seat_there, seated, of_seat}
-use Rattle.line_worker.proofs.Standing.{log-among, stands_for_reached, can_fire_is_ready}
-use Rattle.line_worker.proofs.Spacing.{spaces, free-spaces, few-spaces, first_can_fire}
+use Rattle.line_worker.proofs.TeamStates.{log-among, stands_for_reached, can_fire_is_ready}
+use Rattle.line_worker.proofs.OutletSpace.{spaces, free-spaces, few-spaces, first_can_fire}
 use Rattle.line_workers.proofs.Lines.{within_rooms}
 
 -- ---- totals over the numbers below n

@@ -26,7 +26,7 @@ use Rattle.line_workers.specs.Line.{WorkLine, line_of, run_in, AreAtRest, IsLine
 use Rattle.line_worker.specs.Logs.{log_of, copy_of}
 use Rattle.line_workers.specs.Close.{first_logs, AreGiven}
 use Rattle.line_worker.proofs.Share.{first-zero, first-all, first-rises}
-use Rattle.line_worker.proofs.Standing.{member_is}
+use Rattle.line_worker.proofs.TeamStates.{member_is}
 use Rattle.line_workers.proofs.AllWorkers.{ranked, workers_are_teams, size-is, of_seat}
 use Rattle.line_workers.proofs.Totals.{by_number}
 use Rattle.line_workers.proofs.Lines.{rest_is_reached, rest_is_of_logs}

@@ -1,4 +1,4 @@
-pub mod Collecting
+pub mod CollectedRefusals
 pub mod Examples
-pub mod Passing
+pub mod PassedElements
 pub mod RangeLemmas

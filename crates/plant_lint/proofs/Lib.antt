@@ -3,7 +3,7 @@ pub mod Columns
 pub mod Examples
 pub mod FaultLists
 pub mod LineLists
-pub mod Gathering
+pub mod GatheredFaults
 pub mod NoToml
 pub mod Later
 pub mod Refusals

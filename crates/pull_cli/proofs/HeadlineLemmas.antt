@@ -37,7 +37,7 @@ use Rattle.commands.specs.Saving.{RunsUntil, RunsWithSlots, Saves, Stops}
 use Rattle.answers.specs.declared.answer.Answer.{Answer}
 use Rattle.answers.specs.declared.answer.Answer.TheVariants.{Stopped}
 use Rattle.pull_cli.specs.Ends.{Ends, Finishes, Writes, WritesRefusal}
-use Rattle.pull_cli.proofs.Writing.{whole}
+use Rattle.pull_cli.proofs.WriteStatus.{whole}
 use Rattle.pull_cli.specs.RunReports.{run_of, IsPlantRead, HasReported, Reports, RunReports}
 use Rattle.pull_cli.specs.StopsAndResumes.{ResumesToReport, HasSaved, ReportsOrSaves, StopsAndResumes}
 use Rattle.pull_cli.specs.Verdict.{OfCommand, OfWords}

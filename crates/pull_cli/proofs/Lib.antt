@@ -1,7 +1,7 @@
 pub mod Causes
 pub mod Ended
-pub mod Ending
+pub mod CommandAnswers
 pub mod FileLemmas
 pub mod HeadlineLemmas
 pub mod TaskSteps
-pub mod Writing
+pub mod WriteStatus

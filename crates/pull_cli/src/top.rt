@@ -126,7 +126,7 @@ fn write_answer<R: Threads + Sync, K: Sink>(
 
 /// Writes a refusal, and answers the status. What follows a write of the checkpoint is written in parts and takes no
 /// memory, so that the status says what became of its file.
-#[tactic(auto, using(crate::proofs::Writing::writes))]
+#[tactic(auto, using(crate::proofs::WriteStatus::writes))]
 fn write_refusal<K: Sink>(alloc: Global, refusal: &Refusal, sink: &mut K) -> u8
     ensures { WritesRefusal (sink_over (K.shown sink.old) (K.shown sink.new)) refusal.now result }
 {
@@ -140,7 +140,7 @@ fn write_refusal<K: Sink>(alloc: Global, refusal: &Refusal, sink: &mut K) -> u8
 }
 
 /// Writes the line of a refusal, or that of no memory where there is none for it, and answers the status.
-#[tactic(auto, using(crate::proofs::Writing::writes))]
+#[tactic(auto, using(crate::proofs::WriteStatus::writes))]
 fn write_line<K: Sink>(alloc: Global, refusal: &Refusal, sink: &mut K) -> u8
     requires { ¬ (IsWrittenInParts refusal.now) }
     ensures { WritesRefusal (sink_over (K.shown sink.old) (K.shown sink.new)) refusal.now result }
@@ -152,7 +152,7 @@ fn write_line<K: Sink>(alloc: Global, refusal: &Refusal, sink: &mut K) -> u8
 }
 
 /// Writes that there is no memory, and answers the status.
-#[tactic(auto, using(crate::proofs::Writing::writes))]
+#[tactic(auto, using(crate::proofs::WriteStatus::writes))]
 fn write_no_memory<K: Sink>(sink: &mut K) -> u8
     ensures { Writes (sink_over (K.shown sink.old) (K.shown sink.new)) (text_of NoMemory) (status_of NoMemory) result }
 {

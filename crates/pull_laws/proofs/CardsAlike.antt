@@ -17,7 +17,7 @@ use Rattle.card_sizing.specs.Sizing.{IsSizingRefusal}
 use Rattle.card_sizing.specs.declared.sizing.SizingError.{SizingError}
 use Rattle.card_sizing.specs.declared.sizing.SizingError.TheVariants as sizing
 use Rattle.card_sizing.proofs.CountedPlants.{sound_counted, counted-sized}
-use Rattle.card_sizing.proofs.Serving.{serves_more, late_not_in_time}
+use Rattle.card_sizing.proofs.EnoughCards.{serves_more, late_not_in_time}
 use Rattle.card_sizing.proofs.SizedSound.{sound_sized}
 use Rattle.card_sizing.proofs.StageSearches.{serve_more}
 use Rattle.commands.specs.Answers.{IsRefusedFor, IsSized, IsCards, IsSizedEach, IsCardsEach, IsCurve}

@@ -9,7 +9,7 @@ pub mod LintsAlike
 pub mod OverFiles
 pub mod ResumeEnds
 pub mod ResumeStops
-pub mod Resuming
+pub mod ResumedReports
 pub mod ResumingRecorded
 pub mod ShortFiles
 pub mod SoundFiles

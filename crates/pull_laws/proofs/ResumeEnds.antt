@@ -33,13 +33,13 @@ use Rattle.line_report.specs.ReportText.{report}
 use Rattle.answers.specs.declared.answer.Answer.{Answer}
 use Rattle.pull_cli.specs.Ends.{Finishes, Writes, WritesRefusal}
 use Rattle.pull_cli.specs.StopsAndResumes.{ResumesToReport}
-use Rattle.pull_cli.proofs.Writing.{whole}
+use Rattle.pull_cli.proofs.WriteStatus.{whole}
 use Rattle.pull_laws.specs.Resuming.{Call, files_before, HasFailedRead, HasStopped, IsResumedBy, EndsResumed, reported}
 use Rattle.pull_laws.specs.Resuming.{unread, unwritten, no_memory}
 use Rattle.pull_cli.specs.Verdict.{OfWords}
 use Rattle.pull_laws.proofs.ResumeStops.{look_stops, plant_stops}
 use Rattle.command_line.proofs.ResumeWords.{names_files}
-use Rattle.pull_laws.proofs.Resuming.{one_plant, same_files, plant_plain, second_plant, second_reports}
+use Rattle.pull_laws.proofs.ResumedReports.{one_plant, same_files, plant_plain, second_plant, second_reports}
 use Rattle.pull_laws.proofs.ShortFiles.{IsShort, IsShortPlant, short_bytes, plant_short, same_short}
 
 -- the report, or a refusal to a file that couldn't be read, or to no memory

@@ -23,7 +23,7 @@ use Rattle.pull_laws.specs.ResumingRecorded.{ResumingRecordedWritesTheSame}
 use Rattle.pull_laws.proofs.OverFiles.{all_front, with_file-named, with_file-other, reads_fit, asks_recorded}
 use Rattle.pull_laws.proofs.OverFiles.{ends_over_files}
 use Rattle.pull_laws.proofs.ResumeEnds.{ends_resumed}
-use Rattle.pull_laws.proofs.Resuming.{writes_the_same}
+use Rattle.pull_laws.proofs.ResumedReports.{writes_the_same}
 
 -- a call that writes no file, over files that stay
 abbrev pub WritesNone : Command → Type 0

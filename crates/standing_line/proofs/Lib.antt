@@ -1,3 +1,3 @@
-pub mod Going
+pub mod LeftFirings
 pub mod Sweeps
-pub mod Crossing
+pub mod SweepSend

@@ -1,5 +1,5 @@
 use Rattle.pull_laws.proofs.ResumeEnds.{ends_resumed}
-use Rattle.pull_laws.proofs.Resuming.{resuming_writes_the_same}
+use Rattle.pull_laws.proofs.ResumedReports.{resuming_writes_the_same}
 use Rattle.pull_laws.proofs.resuming_writes_that_same_report.Goals as goal
 
 pub returns-clause-reports : goal.returns-clause-reports

@@ -1,7 +1,7 @@
 use Rattle.std.proofs.Common.{◌≡◌, ◌+◌, ap, ◌∙◌, arith}
 use Rattle.event_graph.specs.Network.{jobs}
 use Rattle.answers.specs.ChangesText.{lines_of_date, lines_of_station}
-use Rattle.answers.proofs.Writing.{written_none, written_more}
+use Rattle.answers.proofs.SinkLines.{written_none, written_more}
 use Rattle.answers.proofs.change_lines.write_station.Goals as goal
 
 pub loop-before-init : goal.loop-before-init

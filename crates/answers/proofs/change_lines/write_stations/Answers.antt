@@ -1,7 +1,7 @@
 use Rattle.std.proofs.Common.{◌≡◌, ap, ◌∙◌, arith}
 use Rattle.event_graph.specs.Network.{stations}
 use Rattle.answers.specs.ChangesText.{lines_of_station, change_lines}
-use Rattle.answers.proofs.Writing.{written_none, written_more}
+use Rattle.answers.proofs.SinkLines.{written_none, written_more}
 use Rattle.answers.proofs.change_lines.write_stations.Goals as goal
 
 pub loop-t-init : goal.loop-t-init

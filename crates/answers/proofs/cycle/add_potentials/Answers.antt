@@ -1,5 +1,5 @@
 use Rattle.answers.specs.CycleText.{potential_line}
-use Rattle.answers.proofs.Writing.{text_more}
+use Rattle.answers.proofs.SinkLines.{text_more}
 use Rattle.answers.proofs.cycle.add_potentials.Goals as goal
 
 pub loop-t-preserved : goal.loop-t-preserved

@@ -3,7 +3,7 @@ use Rattle.std.proofs.lemmas.Result.{err_from_is_err_and}
 use Rattle.card_sizing.specs.Sized.{sized, highest}
 use Rattle.card_sizing.specs.Serving.{IsLate}
 use Rattle.line_base.specs.declared.limits.TheConstants.{MAX_CARDS}
-use Rattle.card_sizing.proofs.Serving.{most_live, serves_more}
+use Rattle.card_sizing.proofs.EnoughCards.{most_live, serves_more}
 use Rattle.card_sizing.proofs.Searches.{fails_by_job}
 use Rattle.card_sizing.proofs.Refusals.{told_none, told_some, told_late, told_memory}
 use Rattle.card_sizing.proofs.HighestCounts.{highest_within, lowest_highest, highest_live, highest_late}

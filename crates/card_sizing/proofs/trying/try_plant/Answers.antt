@@ -2,7 +2,7 @@ use Rattle.std.proofs.Common.{◌∙◌, sym, subst}
 use Rattle.line_base.specs.declared.event.Parts.{Parts}
 use Rattle.event_graph.specs.Live.{IsLive}
 use Rattle.line_graph.specs.DeadLabels.{AreDead}
-use Rattle.card_sizing.proofs.Serving.{in_time_from, late_from}
+use Rattle.card_sizing.proofs.EnoughCards.{in_time_from, late_from}
 use Rattle.card_sizing.proofs.DeadLines.{shows_its_circuit, names_its_circuit}
 use Rattle.card_sizing.proofs.trying.try_plant.Goals as goal
 

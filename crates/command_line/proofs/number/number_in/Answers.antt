@@ -1,5 +1,5 @@
 use Rattle.std.proofs.Common.{◌∙◌, sym, arith}
-use Rattle.command_line.proofs.Reading.{number_in-within, number_in-below, number_in-other}
+use Rattle.command_line.proofs.NumberWords.{number_in-within, number_in-below, number_in-other}
 use Rattle.command_line.proofs.number.number_in.Goals as goal
 
 pub returns-in_err-number-clause-read : goal.returns-in_err-number-clause-read

@@ -1,4 +1,4 @@
-use Rattle.latest_dates.proofs.Solving.{latest_serve}
+use Rattle.latest_dates.proofs.LatestSolution.{latest_serve}
 use Rattle.latest_dates.proofs.laws.latest_dates_serve.Goals as goal
 
 pub returns : goal.returns

@@ -1,5 +1,5 @@
 use Rattle.latest_dates.proofs.Ordered.{ordered, upward}
-use Rattle.latest_dates.proofs.Solving.{latest_solve, latest_solve_as_table}
+use Rattle.latest_dates.proofs.LatestSolution.{latest_solve, latest_solve_as_table}
 use Rattle.latest_dates.proofs.laws.latest_dates_solve.Goals as goal
 
 pub returns-clause-solve : goal.returns-clause-solve

@@ -4,7 +4,7 @@ use Rattle.line_core.specs.Consistent.{fired}
 use Rattle.line_runs.specs.AllFirings.{all_firings}
 use Rattle.line_runs.specs.Bursts.{IsDone, none}
 use Rattle.line_runs.proofs.Firings.{burst_leaves_less, undone_is_below}
-use Rattle.line_runs.proofs.Stopping.{burst_live, led_more, finishes}
+use Rattle.line_runs.proofs.FirstBursts.{burst_live, led_more, finishes}
 use Rattle.line_runs.proofs.run.run_to_end.Goals as goal
 
 pub loop-line-init : goal.loop-line-init

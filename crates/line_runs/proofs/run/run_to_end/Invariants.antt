@@ -1,7 +1,7 @@
 use Rattle.std.proofs.Common.{◌≡◌}
 use Rattle.line_runs.specs.AllFirings.{all_firings}
 use Rattle.line_runs.proofs.Firings.{left_of}
-use Rattle.line_runs.proofs.Stopping.{HaveLed}
+use Rattle.line_runs.proofs.FirstBursts.{HaveLed}
 use Rattle.line_runs.proofs.run.run_to_end.Given as goal
 
 abbrev pub invariant-loop-line : goal.invariant-loop-line

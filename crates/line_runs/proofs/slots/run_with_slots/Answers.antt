@@ -5,8 +5,8 @@ use Rattle.slot_store.specs.declared.header.TheConstants.{MAX_ROOM}
 use Rattle.line_runs.specs.Bursts.{IsDone}
 use Rattle.line_runs.specs.Saves.{IsOldOrState, HasTooLongState}
 use Rattle.line_runs.proofs.Firings.{burst_leaves_less}
-use Rattle.line_runs.proofs.Stopping.{burst_live}
-use Rattle.line_runs.proofs.Saving.{counted_before, finishes_saving, saves_begin, saves_go_on, leaves_then, late_state}
+use Rattle.line_runs.proofs.FirstBursts.{burst_live}
+use Rattle.line_runs.proofs.RunSaves.{counted_before, finishes_saving, saves_begin, saves_go_on, leaves_then, late_state}
 use Rattle.line_runs.proofs.slots.run_with_slots.Goals as goal
 
 pub loop-alloc-init : goal.loop-alloc-init

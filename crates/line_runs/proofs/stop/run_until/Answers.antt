@@ -8,7 +8,7 @@ use Rattle.line_runs.specs.AllFirings.{all_firings}
 use Rattle.line_runs.specs.Stop.{IsShort, IsStopAt}
 use Rattle.line_runs.specs.Headline.{MayBeResumed}
 use Rattle.line_runs.proofs.Firings.{burst_leaves_less, undone_is_below}
-use Rattle.line_runs.proofs.Stopping.{burst_live, led_more, bursts_made, finishes, stop_counts, finish_counts}
+use Rattle.line_runs.proofs.FirstBursts.{burst_live, led_more, bursts_made, finishes, stop_counts, finish_counts}
 use Rattle.line_runs.proofs.Resumed.{may_be_resumed}
 use Rattle.line_runs.proofs.stop.run_until.Goals as goal
 

@@ -1,6 +1,6 @@
 use Rattle.std.proofs.Common.{◌≡◌}
 use Rattle.line_runs.proofs.Firings.{left_of}
-use Rattle.line_runs.proofs.Stopping.{HaveLed}
+use Rattle.line_runs.proofs.FirstBursts.{HaveLed}
 use Rattle.line_runs.proofs.stop.run_until.Given as goal
 
 abbrev pub invariant-loop-line : goal.invariant-loop-line

@@ -1,7 +1,7 @@
 use Rattle.std.proofs.Common.{◌≡◌, ℕ, List, ◌+◌, ap, ◌∙◌, sym, subst, arith, Vec, Global}
 use Rattle.event_graph.specs.Network.{stations}
 use Rattle.line_worker.specs.Order.{IsOrderUpto}
-use Rattle.line_worker.proofs.Ordering.{order_begins, order_ends, order_skips, order_takes}
+use Rattle.line_worker.proofs.StepOrder.{order_begins, order_ends, order_skips, order_takes}
 use Rattle.line_worker.proofs.order.order_of.Goals as goal
 use Rattle.line_worker.proofs.order.order_of.Goals.{in-Some+in_ok-push, in_default}
 

@@ -3,8 +3,8 @@ use Rattle.station_step.specs.Ends.{AreEnds}
 use Rattle.station_step.specs.Input.{input_at}
 use Rattle.station_step.specs.Station.{WorkStation, outlet_at}
 use Rattle.line_worker.specs.Team.{WorkTeam, member}
-use Rattle.line_worker.proofs.Meeting.{team-found, outlet-met, inlet-met, are-met}
-use Rattle.line_worker.proofs.Stepping.{team-met}
+use Rattle.line_worker.proofs.MetStations.{team-found, outlet-met, inlet-met, are-met}
+use Rattle.line_worker.proofs.TeamSteps.{team-met}
 use Rattle.line_worker.proofs.Posts.{at-met}
 use Rattle.line_worker.proofs.team.meet_teams.Goals as goal
 use Rattle.line_worker.proofs.team.meet_teams.Goals.{After-index_mut-2}

@@ -1,6 +1,6 @@
 use denote.Exit.{yes}
 use denote.Param.Send.{param_send, arg_send}
-use Rattle.line_worker.proofs.Crossing.{worker_send}
+use Rattle.line_worker.proofs.WorkerSend.{worker_send}
 use Rattle.line_workers.proofs.work.work_at_once.Goals as goal
 
 pub for_each_mut-requires-send-T : goal.for_each_mut-requires-send-T

@@ -1,7 +1,7 @@
 use Rattle.std.proofs.Common.{◌≡◌, ◌<◌, length, sym, subst, arith}
 use Rattle.std.proofs.lemmas.List.{get_or_default}
 use Rattle.line_worker.specs.Workers.{no_worker, worker_at, IsAtWork, MayGoOn}
-use Rattle.line_worker.proofs.Bursting.{at_work_begins, may_go_on, at_work_in_full}
+use Rattle.line_worker.proofs.BurstSweeps.{at_work_begins, may_go_on, at_work_in_full}
 use Rattle.line_workers.proofs.work.work_in_turn.Goals as goal
 
 pub loop-sweep-init : goal.loop-sweep-init

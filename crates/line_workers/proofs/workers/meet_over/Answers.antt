@@ -1,5 +1,5 @@
 use Rattle.std.proofs.Common.{◌<◌, arith}
-use Rattle.line_workers.proofs.Splitting.{met_up, met_down, ring_up, ring_down}
+use Rattle.line_workers.proofs.SplitLists.{met_up, met_down, ring_up, ring_down}
 use Rattle.line_workers.proofs.workers.meet_over.Goals as goal
 
 pub meet-requires : goal.meet-requires

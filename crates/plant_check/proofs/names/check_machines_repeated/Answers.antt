@@ -1,7 +1,7 @@
 use Rattle.std.proofs.Common.{arith}
 use Rattle.plant_model.specs.Refusals.{machine_name_twice}
 use Rattle.plant_model.proofs.Passes.{stops}
-use Rattle.plant_check.proofs.Passing.{passed_none, passed_more, passed_all}
+use Rattle.plant_check.proofs.PassedElements.{passed_none, passed_more, passed_all}
 use Rattle.plant_check.proofs.names.check_machines_repeated.Goals as goal
 
 pub loop-j-init : goal.loop-j-init

@@ -1,6 +1,6 @@
 use Rattle.std.proofs.Common.{refl}
 use Rattle.plant_model.proofs.Passes.{stops_among}
-use Rattle.plant_check.proofs.Passing.{goes_on}
+use Rattle.plant_check.proofs.PassedElements.{goes_on}
 use Rattle.plant_check.proofs.ranges.check_loop.Goals as goal
 
 pub returns-in_err-check_number : goal.returns-in_err-check_number

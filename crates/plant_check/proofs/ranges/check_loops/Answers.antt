@@ -1,7 +1,7 @@
 use Rattle.std.proofs.Common.{refl, arith}
 use Rattle.plant_model.specs.Refusals.{loop_out_of_range}
 use Rattle.plant_model.proofs.Passes.{stops_read}
-use Rattle.plant_check.proofs.Passing.{passed_none, passed_more_read, passed_all}
+use Rattle.plant_check.proofs.PassedElements.{passed_none, passed_more_read, passed_all}
 use Rattle.plant_check.proofs.ranges.check_loops.Goals as goal
 
 pub loop-k-init : goal.loop-k-init

@@ -1,7 +1,7 @@
 use Rattle.std.proofs.Common.{arith}
 use Rattle.plant_model.specs.Refusals.{stage_out_of_range}
 use Rattle.plant_model.proofs.Passes.{stops}
-use Rattle.plant_check.proofs.Passing.{passed_none, passed_more, passed_all}
+use Rattle.plant_check.proofs.PassedElements.{passed_none, passed_more, passed_all}
 use Rattle.plant_check.proofs.ranges.check_stages.Goals as goal
 
 pub loop-i-init : goal.loop-i-init

@@ -1,6 +1,6 @@
 use Rattle.std.proofs.Common.{arith}
 use Rattle.plant_model.proofs.Passes.{stops}
-use Rattle.plant_check.proofs.Passing.{passed_none, passed_more, passed_all}
+use Rattle.plant_check.proofs.PassedElements.{passed_none, passed_more, passed_all}
 use Rattle.plant_file.specs.Counts.{machine_counts}
 use Rattle.plant_file.proofs.counts.check_machines.Goals as goal
 

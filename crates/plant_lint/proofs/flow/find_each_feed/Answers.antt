@@ -3,7 +3,7 @@ use Rattle.toml.specs.View.{view}
 use Rattle.plant_keys.specs.Code.{views}
 use Rattle.plant_keys.specs.Readers.{name_in}
 use Rattle.plant_lint.specs.Trees.{feeds_faults}
-use Rattle.plant_lint.proofs.Gathering.{gathered_none, gathers, gathered_all}
+use Rattle.plant_lint.proofs.GatheredFaults.{gathered_none, gathers, gathered_all}
 use Rattle.plant_lint.proofs.SeenNames.{none_seen, added_same, seen_more}
 use Rattle.plant_lint.proofs.flow.find_each_feed.Goals as goal
 

@@ -4,7 +4,7 @@ use Rattle.plant_keys.specs.Code.{views}
 use Rattle.plant_keys.specs.Readers.{name_in}
 use Rattle.plant_lint.specs.Seen.{HaveSame}
 use Rattle.plant_lint.specs.Trees.{feeds_faults}
-use Rattle.plant_lint.proofs.Gathering.{Gathered}
+use Rattle.plant_lint.proofs.GatheredFaults.{Gathered}
 use Rattle.plant_lint.proofs.flow.find_each_feed.Given as goal
 
 abbrev pub invariant-loop-i : goal.invariant-loop-i

@@ -5,7 +5,7 @@ use Rattle.plant_keys.specs.Code.{views}
 use Rattle.plant_keys.specs.Readers.{name_in}
 use Rattle.plant_keys.specs.Walk.{machine_name_twice}
 use Rattle.plant_lint.specs.Faults.{plain}
-use Rattle.plant_lint.proofs.Gathering.{gathered_none, gathers, gathered_all}
+use Rattle.plant_lint.proofs.GatheredFaults.{gathered_none, gathers, gathered_all}
 use Rattle.plant_lint.proofs.SeenNames.{none_seen, added_same, seen_more, twice_found, name_twice-same}
 use Rattle.plant_lint.proofs.names.find_in_machines.Goals as goal
 

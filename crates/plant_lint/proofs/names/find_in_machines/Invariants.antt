@@ -5,7 +5,7 @@ use Rattle.plant_keys.specs.Readers.{name_in}
 use Rattle.plant_keys.specs.Walk.{machine_name_twice}
 use Rattle.plant_lint.specs.Faults.{plain}
 use Rattle.plant_lint.specs.Seen.{HaveSame}
-use Rattle.plant_lint.proofs.Gathering.{Gathered}
+use Rattle.plant_lint.proofs.GatheredFaults.{Gathered}
 use Rattle.plant_lint.proofs.names.find_in_machines.Given as goal
 
 abbrev pub invariant-loop-j : goal.invariant-loop-j

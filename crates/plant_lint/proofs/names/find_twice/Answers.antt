@@ -4,7 +4,7 @@ use Rattle.plant_keys.specs.Code.{views}
 use Rattle.plant_keys.specs.Readers.{name_in}
 use Rattle.plant_keys.specs.Walk.{stage_name_twice}
 use Rattle.plant_lint.specs.Faults.{plain}
-use Rattle.plant_lint.proofs.Gathering.{gathered_none, gathers, gathered_all}
+use Rattle.plant_lint.proofs.GatheredFaults.{gathered_none, gathers, gathered_all}
 use Rattle.plant_lint.proofs.SeenNames.{none_seen, seen_more, stage_name_twice-same}
 use Rattle.plant_lint.proofs.names.find_twice.Goals as goal
 

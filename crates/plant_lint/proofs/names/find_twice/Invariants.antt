@@ -5,7 +5,7 @@ use Rattle.plant_keys.specs.Readers.{name_in}
 use Rattle.plant_keys.specs.Walk.{stage_name_twice}
 use Rattle.plant_lint.specs.Faults.{plain}
 use Rattle.plant_lint.specs.Seen.{HaveSame}
-use Rattle.plant_lint.proofs.Gathering.{Gathered}
+use Rattle.plant_lint.proofs.GatheredFaults.{Gathered}
 use Rattle.plant_lint.proofs.names.find_twice.Given as goal
 
 abbrev pub invariant-loop-i : goal.invariant-loop-i

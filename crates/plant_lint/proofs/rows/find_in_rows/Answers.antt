@@ -1,7 +1,7 @@
 use Rattle.std.proofs.Common.{◌++◌, sym, ap, ◌∙◌, arith}
 use Rattle.toml.specs.View.{view}
 use Rattle.plant_lint.proofs.FaultLists.{all_of_views}
-use Rattle.plant_lint.proofs.Gathering.{gathered_none, gathers, gathered_all}
+use Rattle.plant_lint.proofs.GatheredFaults.{gathered_none, gathers, gathered_all}
 use Rattle.plant_lint.proofs.rows.find_in_rows.Goals as goal
 
 pub loop-n-init : goal.loop-n-init

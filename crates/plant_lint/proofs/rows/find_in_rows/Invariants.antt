@@ -1,5 +1,5 @@
 use Rattle.toml.specs.View.{view}
-use Rattle.plant_lint.proofs.Gathering.{Gathered}
+use Rattle.plant_lint.proofs.GatheredFaults.{Gathered}
 use Rattle.plant_lint.proofs.rows.find_in_rows.Given as goal
 
 abbrev pub invariant-loop-n : goal.invariant-loop-n

@@ -2,7 +2,7 @@ use Rattle.std.proofs.Common.{refl, ap}
 use Rattle.std.specs.Prelude.{Err}
 use Rattle.command_line.specs.Options.{texts}
 use Rattle.command_line.specs.Words.{command_of}
-use Rattle.pull_cli.proofs.Ending.{memory_answers, memory_is_no_usage}
+use Rattle.pull_cli.proofs.CommandAnswers.{memory_answers, memory_is_no_usage}
 use Rattle.pull_cli.proofs.top.command_in.Goals as goal
 
 pub returns-in-Err-Usage-clause-none : goal.returns-in-Err-Usage-clause-none

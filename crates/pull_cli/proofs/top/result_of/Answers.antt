@@ -1,6 +1,6 @@
 use Rattle.command_line.specs.Options.{texts}
 use Rattle.command_line.specs.Words.{command_of}
-use Rattle.pull_cli.proofs.Ending.{command_does, no_command_does}
+use Rattle.pull_cli.proofs.CommandAnswers.{command_does, no_command_does}
 use Rattle.pull_cli.proofs.top.result_of.Goals as goal
 
 pub returns-in_err-command : goal.returns-in_err-command

@@ -1,4 +1,4 @@
-use Rattle.pull_cli.proofs.Writing.{done, failed, cut_short}
+use Rattle.pull_cli.proofs.WriteStatus.{done, failed, cut_short}
 use Rattle.pull_cli.proofs.top.write_answer.Goals as goal
 
 pub returns-in-Ok : goal.returns-in-Ok

@@ -4,9 +4,9 @@ use denote.Exit.{yes}
 use denote.Param.Send.{sendable, param_send, arg_send}
 use Rattle.line_worker.specs.Worker.{LineWorker}
 use Rattle.line_workers.specs.Gather.{IsWorkerAfter, AreWorkersAfter}
-use Rattle.line_worker.proofs.Crossing.{worker_send}
+use Rattle.line_worker.proofs.WorkerSend.{worker_send}
 use Rattle.standing_line.specs.Sweeping.{IsWorkerFor}
-use Rattle.standing_line.proofs.Crossing.{sweeps_send}
+use Rattle.standing_line.proofs.SweepSend.{sweeps_send}
 use Rattle.standing_line.proofs.Sweeps.{as_they_are, last_is_for, rest_are_for, one_more}
 use Rattle.standing_line.proofs.apart.+sweep_all.Goals as goal
 

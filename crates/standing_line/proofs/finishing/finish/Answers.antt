@@ -1,6 +1,6 @@
 use Rattle.std.proofs.Common.{sym, ◌∙◌, rules}
 use Rattle.line_core.specs.Consistent.{IsFinished}
-use Rattle.standing_line.proofs.Going.{stays, goes_on_more, fewer_left}
+use Rattle.standing_line.proofs.LeftFirings.{stays, goes_on_more, fewer_left}
 use Rattle.standing_line.proofs.finishing.finish.Goals as goal
 
 pub loop-line-init : goal.loop-line-init

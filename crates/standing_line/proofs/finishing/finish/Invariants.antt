@@ -1,5 +1,5 @@
 use Rattle.standing_line.specs.Standing.{GoesOn}
-use Rattle.standing_line.proofs.Going.{left_of}
+use Rattle.standing_line.proofs.LeftFirings.{left_of}
 use Rattle.standing_line.proofs.finishing.finish.Given as goal
 
 abbrev pub invariant-loop-line : goal.invariant-loop-line

@@ -1,5 +1,5 @@
 use Rattle.std.proofs.Common.{sym, ◌∙◌}
-use Rattle.standing_line.proofs.Going.{goes_on_more}
+use Rattle.standing_line.proofs.LeftFirings.{goes_on_more}
 use Rattle.standing_line.proofs.standing.stand.Goals as goal
 
 pub finish-requires-clause-line : goal.finish-requires-clause-line

@@ -8,7 +8,7 @@ use Rattle.station_step.specs.Ends.{inlet_queue}
 use Rattle.station_step.specs.Fronts.{front_extras, AreFronts}
 use Rattle.station_step.specs.Noted.{inputs_of, extras_of}
 use Rattle.station_step.proofs.AtOnce.{FrontsUpTo, fronts_none, fronts_more}
-use Rattle.station_step.proofs.Noting.{no_input, input-lent, input-at, extra-at, inputs-count}
+use Rattle.station_step.proofs.NotedExtras.{no_input, input-lent, input-at, extra-at, inputs-count}
 use Rattle.station_step.proofs.fronts.fronts_of.Goals as goal
 
 pub loop-k-preserved : goal.loop-k-preserved

@@ -6,8 +6,8 @@ use Rattle.station_step.specs.declared.noted.NotedInput.{NotedInput}
 use Rattle.station_step.specs.Input.{input_at}
 use Rattle.station_step.specs.Noted.{inputs_of, extras_of}
 use Rattle.station_step.specs.Station.{bare_input}
-use Rattle.station_step.proofs.Emptying.{EmptiedUpTo, emptied_none, emptied_more}
-use Rattle.station_step.proofs.Noting.{no_input, input-at, inputs-count, inputs-set, extras-stay}
+use Rattle.station_step.proofs.EmptiedHands.{EmptiedUpTo, emptied_none, emptied_more}
+use Rattle.station_step.proofs.NotedExtras.{no_input, input-at, inputs-count, inputs-set, extras-stay}
 use Rattle.station_step.proofs.inputs.empty_hands.Goals as goal
 
 pub loop-noted-init : goal.loop-noted-init

@@ -1,6 +1,6 @@
 use Rattle.std.proofs.Common.{◌≡◌}
 use Rattle.station_step.specs.Noted.{inputs_of, extras_of}
-use Rattle.station_step.proofs.Emptying.{EmptiedUpTo}
+use Rattle.station_step.proofs.EmptiedHands.{EmptiedUpTo}
 use Rattle.station_step.proofs.inputs.empty_hands.Given as goal
 
 abbrev pub invariant-loop-noted : goal.invariant-loop-noted

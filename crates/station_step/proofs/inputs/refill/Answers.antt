@@ -11,8 +11,8 @@ use Rattle.station_step.specs.Kept.{saturating}
 use Rattle.station_step.specs.Noted.{inputs_of, extras_of}
 use Rattle.station_step.specs.Refilled.{hand_asks}
 use Rattle.station_step.proofs.Dates.{latest-none, latest-more}
-use Rattle.station_step.proofs.Noting.{no_input, input-lent, input-at, extra-at, inputs-count, inputs-set, extras-stay}
-use Rattle.station_step.proofs.Refilling.{RefilledUpTo, IsFirstEmpty, refilled_none, refilled_more, first-none, first-empty, first-full, full-where_none, empty-where_some}
+use Rattle.station_step.proofs.NotedExtras.{no_input, input-lent, input-at, extra-at, inputs-count, inputs-set, extras-stay}
+use Rattle.station_step.proofs.RefilledHands.{RefilledUpTo, IsFirstEmpty, refilled_none, refilled_more, first-none, first-empty, first-full, full-where_none, empty-where_some}
 use Rattle.station_step.proofs.inputs.refill.Goals.{then-is_none, else-is_none, After-loop-k}
 use Rattle.station_step.proofs.inputs.refill.Goals as goal
 

@@ -3,7 +3,7 @@ use Rattle.std.specs.List.{range_with_len}
 use Rattle.event_graph.specs.Firing.{greatest}
 use Rattle.station_step.specs.Noted.{inputs_of, extras_of}
 use Rattle.station_step.specs.Refilled.{hand_asks}
-use Rattle.station_step.proofs.Refilling.{RefilledUpTo, IsFirstEmpty}
+use Rattle.station_step.proofs.RefilledHands.{RefilledUpTo, IsFirstEmpty}
 use Rattle.station_step.proofs.inputs.refill.Given as goal
 
 abbrev pub invariant-loop-k : goal.invariant-loop-k

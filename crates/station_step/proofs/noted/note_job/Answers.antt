@@ -1,6 +1,6 @@
 use Rattle.std.proofs.Common.{◌∙◌}
 use Rattle.event_graph.proofs.ArcNumbers.{All-ins}
-use Rattle.station_step.proofs.Noting.{extras-into}
+use Rattle.station_step.proofs.NotedExtras.{extras-into}
 use Rattle.station_step.proofs.noted.note_job.Goals as goal
 
 pub returns-then-not-fixed-clause-extras : goal.returns-then-not-fixed-clause-extras

@@ -1,7 +1,7 @@
 use Rattle.std.proofs.Common.{◌≡◌, ◌<◌, ◌+◌, ℕ, ap, sym, ◌∙◌, arith, length, set, get_or}
 use Rattle.std.specs.Prelude.{Bool, false, if◌then◌else◌}
 use Rattle.station_step.specs.declared.noted.NotedInput.{NotedInput}
-use Rattle.station_step.proofs.Noting.{NotedUpTo, no_input, input-lent, noted_more, noted_all}
+use Rattle.station_step.proofs.NotedExtras.{NotedUpTo, no_input, input-lent, noted_more, noted_all}
 use Rattle.station_step.proofs.noted.note_time.Goals.{then-worked-k, else-worked-k}
 use Rattle.station_step.proofs.noted.note_time.Goals as goal
 

@@ -1,4 +1,4 @@
-use Rattle.station_step.proofs.Noting.{NotedUpTo}
+use Rattle.station_step.proofs.NotedExtras.{NotedUpTo}
 use Rattle.station_step.proofs.noted.note_time.Given as goal
 
 abbrev pub invariant-loop-k : goal.invariant-loop-k

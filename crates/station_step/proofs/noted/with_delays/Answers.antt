@@ -6,7 +6,7 @@ use Rattle.line_base.specs.declared.event.Parts.{Parts}
 use Rattle.station_step.specs.Noted.{outlets_of, delays_of, delays_from}
 use Rattle.station_step.specs.declared.ends.Outlet.{Outlet}
 use Rattle.station_step.specs.declared.noted.NotedOutlet.{NotedOutlet}
-use Rattle.station_step.proofs.Noting.{DelaysUpTo, delays-count, delays_more, delays_all}
+use Rattle.station_step.proofs.NotedExtras.{DelaysUpTo, delays-count, delays_more, delays_all}
 use Rattle.station_step.proofs.noted.with_delays.Goals as goal
 
 pub loop-outlet-init : goal.loop-outlet-init

@@ -1,4 +1,4 @@
-use Rattle.station_step.proofs.Noting.{DelaysUpTo}
+use Rattle.station_step.proofs.NotedExtras.{DelaysUpTo}
 use Rattle.station_step.proofs.noted.with_delays.Given as goal
 
 abbrev pub invariant-loop-outlet : goal.invariant-loop-outlet

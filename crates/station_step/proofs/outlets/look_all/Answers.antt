@@ -5,8 +5,8 @@ use Rattle.station_step.specs.Ends.{HasLooked}
 use Rattle.station_step.specs.declared.noted.NotedOutlet.{NotedOutlet}
 use Rattle.station_step.specs.Station.{outlet_at}
 use Rattle.station_step.specs.Noted.{outlets_of}
-use Rattle.station_step.proofs.Noting.{no_outlet, outlet-lent, outlet-at, outlets-count, outlets-set, delays-stay}
-use Rattle.station_step.proofs.Looking.{LookedUpTo, IsFirstFull, looked_none, looked_more, first-none, first-full, first-space, space-unbounded, looked-space}
+use Rattle.station_step.proofs.NotedExtras.{no_outlet, outlet-lent, outlet-at, outlets-count, outlets-set, delays-stay}
+use Rattle.station_step.proofs.OutletLooks.{LookedUpTo, IsFirstFull, looked_none, looked_more, first-none, first-full, first-space, space-unbounded, looked-space}
 use Rattle.station_step.proofs.outlets.look_all.Goals.{then-not-look, else-not-look}
 use Rattle.station_step.proofs.outlets.look_all.Goals as goal
 

@@ -1,6 +1,6 @@
 use Rattle.std.proofs.Common.{◌≡◌}
 use Rattle.station_step.specs.Noted.{outlets_of, delays_of}
-use Rattle.station_step.proofs.Looking.{LookedUpTo, IsFirstFull}
+use Rattle.station_step.proofs.OutletLooks.{LookedUpTo, IsFirstFull}
 use Rattle.station_step.proofs.outlets.look_all.Given as goal
 
 abbrev pub invariant-loop-k : goal.invariant-loop-k

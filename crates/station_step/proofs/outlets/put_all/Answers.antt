@@ -1,5 +1,5 @@
 use Rattle.station_step.specs.Noted.{outlets_of, delays_of}
-use Rattle.station_step.proofs.Filling.{AddedTo, only-puts, grows, each-got, none-puts, room-there}
+use Rattle.station_step.proofs.FilledOutlets.{AddedTo, only-puts, grows, each-got, none-puts, room-there}
 use Rattle.station_step.proofs.outlets.put_all.Goals as goal
 use Rattle.station_step.proofs.outlets.put_all.Goals.{After-add}
 

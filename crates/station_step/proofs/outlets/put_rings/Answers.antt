@@ -5,8 +5,8 @@ use Rattle.station_step.specs.Ends.{bare_outlet, HasGot, HasRingRoom, HasSpace}
 use Rattle.station_step.specs.Station.{outlet_at}
 use Rattle.station_step.specs.Kept.{saturating}
 use Rattle.station_step.specs.Noted.{outlets_of, delays_of}
-use Rattle.station_step.proofs.Filling.{FilledUpTo, filled_none, filled_more, got-no_ring}
-use Rattle.station_step.proofs.Noting.{no_outlet, outlet-lent, outlet-at, delay-at, outlets-count, outlets-set, delays-stay}
+use Rattle.station_step.proofs.FilledOutlets.{FilledUpTo, filled_none, filled_more, got-no_ring}
+use Rattle.station_step.proofs.NotedExtras.{no_outlet, outlet-lent, outlet-at, delay-at, outlets-count, outlets-set, delays-stay}
 use Rattle.station_step.proofs.outlets.put_rings.Goals as goal
 use Rattle.station_step.proofs.outlets.put_rings.Goals.{After-index_mut-noted}
 

@@ -1,7 +1,7 @@
 use Rattle.std.proofs.Common.{◌≡◌, slice_index}
 use Rattle.station_step.specs.Kept.{saturating}
 use Rattle.station_step.specs.Noted.{outlets_of, delays_of}
-use Rattle.station_step.proofs.Filling.{FilledUpTo}
+use Rattle.station_step.proofs.FilledOutlets.{FilledUpTo}
 use Rattle.station_step.proofs.outlets.put_rings.Given as goal
 
 abbrev pub invariant-loop-k : goal.invariant-loop-k

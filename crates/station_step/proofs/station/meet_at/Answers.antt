@@ -11,10 +11,10 @@ use Rattle.station_step.specs.Station.{WorkStation, IsStation, bare_station, out
 use Rattle.station_step.specs.Kept.{IsKept}
 use Rattle.station_step.specs.Noted.{inputs_of, outlets_of}
 use Rattle.station_step.specs.contracts.station.Station.{the_view}
-use Rattle.station_step.proofs.Keeping.{bare-met, kept-met, met_station, station-met, kept-alike, station-alike, alike-set}
-use Rattle.station_step.proofs.Looking.{at-set, bare-set, noted-same}
-use Rattle.station_step.proofs.Noting.{no_input, no_outlet, input-lent, outlet-lent, input-at, outlet-at, inputs-count, outlets-count, inputs-set, outlets-set, extras-stay, delays-stay}
-use Rattle.station_step.proofs.Refilling.{input_at-set}
+use Rattle.station_step.proofs.KeptStations.{bare-met, kept-met, met_station, station-met, kept-alike, station-alike, alike-set}
+use Rattle.station_step.proofs.OutletLooks.{at-set, bare-set, noted-same}
+use Rattle.station_step.proofs.NotedExtras.{no_input, no_outlet, input-lent, outlet-lent, input-at, outlet-at, inputs-count, outlets-count, inputs-set, outlets-set, extras-stay, delays-stay}
+use Rattle.station_step.proofs.RefilledHands.{input_at-set}
 use Rattle.station_step.proofs.AtOnce.{readied-met}
 use Rattle.station_step.proofs.OwnQueues.{bare-unseen}
 use Rattle.station_step.proofs.station.meet_at.Goals as goal

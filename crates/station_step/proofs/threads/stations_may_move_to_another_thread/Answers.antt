@@ -1,4 +1,4 @@
-use Rattle.station_step.proofs.Crossing.{shelf_send, station_send}
+use Rattle.station_step.proofs.StationSend.{shelf_send, station_send}
 use Rattle.station_step.proofs.threads.stations_may_move_to_another_thread.Goals as goal
 
 pub returns-clause-station : goal.returns-clause-station

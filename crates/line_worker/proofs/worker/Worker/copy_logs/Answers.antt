@@ -4,7 +4,7 @@ use Rattle.line_base.specs.Roomy.{RoomyLog, RoomyLogs}
 use Rattle.line_worker.specs.Logs.{copy_of, copy_with}
 use Rattle.line_worker.specs.contracts.worker.Worker.{the_view}
 use Rattle.line_worker.specs.Worker.{LineWorker}
-use Rattle.line_worker.proofs.Counting.{dates-few}
+use Rattle.line_worker.proofs.StationCounts.{dates-few}
 use Rattle.line_worker.proofs.Posts.{copies-map, logs-few}
 use Rattle.line_worker.proofs.worker.Worker.copy_logs.Goals as goal
 

@@ -6,7 +6,7 @@ use Rattle.line_worker.specs.Logs.{dates_in, log_of}
 use Rattle.line_worker.specs.contracts.worker.Worker.{the_view}
 use Rattle.line_worker.specs.Worker.{LineWorker, IsWorker}
 use Rattle.line_worker.specs.Work.{dates_made}
-use Rattle.line_worker.proofs.Counting.{dates-few, target-few, worker-few}
+use Rattle.line_worker.proofs.StationCounts.{dates-few, target-few, worker-few}
 use Rattle.line_worker.proofs.Posts.{dates-map, logs-few}
 use Rattle.line_worker.proofs.worker.Worker.dates.Goals as goal
 

@@ -3,7 +3,7 @@ use Rattle.std.specs.Prelude.{IsTrue, ◌↔◌}
 use Rattle.line_worker.specs.contracts.worker.Worker.{the_view}
 use Rattle.line_worker.specs.Worker.{LineWorker, IsWorker}
 use Rattle.line_worker.specs.Work.{AllDone}
-use Rattle.line_worker.proofs.Counting.{dates-few}
+use Rattle.line_worker.proofs.StationCounts.{dates-few}
 use Rattle.line_worker.proofs.Posts.{logs-few, all-done, done-all}
 use Rattle.line_worker.proofs.worker.Worker.done.Goals as goal
 

@@ -1,5 +1,5 @@
 use Rattle.std.proofs.Common.{true≢false, refl, sym, arith}
-use Rattle.line_worker.proofs.Bursting.{at_work_done, at_work_sweeps}
+use Rattle.line_worker.proofs.BurstSweeps.{at_work_done, at_work_sweeps}
 use Rattle.line_worker.proofs.worker.Worker.go_on.Goals as goal
 
 pub returns-then-not-done-clause-gone_on : goal.returns-then-not-done-clause-gone_on

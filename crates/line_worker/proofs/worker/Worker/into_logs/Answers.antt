@@ -4,7 +4,7 @@ use Rattle.line_base.specs.Roomy.{RoomyLog, RoomyLogs}
 use Rattle.line_worker.specs.Logs.{log_of}
 use Rattle.line_worker.specs.Worker.{LineWorker}
 use Rattle.std.proofs.lemmas.List.{length-map}
-use Rattle.line_worker.proofs.Counting.{spare_fits}
+use Rattle.line_worker.proofs.StationCounts.{spare_fits}
 use Rattle.line_worker.proofs.worker.Worker.into_logs.Goals as goal
 
 pub give_logs-requires : goal.give_logs-requires

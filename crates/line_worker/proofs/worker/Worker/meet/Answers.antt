@@ -8,7 +8,7 @@ use Rattle.line_worker.specs.Team.{member}
 use Rattle.line_worker.specs.Worker.{LineWorker, with_team}
 use Rattle.line_worker.specs.Workers.{IsSameWorker}
 use Rattle.line_worker.specs.Meeting.{OutletMet, InletMet}
-use Rattle.line_worker.proofs.Stepping.{worker-met}
+use Rattle.line_worker.proofs.TeamSteps.{worker-met}
 use Rattle.line_worker.proofs.worker.Worker.meet.Goals as goal
 
 pub invariant_of-self : goal.invariant_of-self

@@ -4,12 +4,12 @@ use Rattle.std.proofs.lemmas.List.{get_or-set_same, get_or_read}
 use Rattle.live_check.specs.Order.{LiveGraph}
 use Rattle.station_step.specs.Station.{WorkStation, StandsAt, bare_station}
 use Rattle.station_step.specs.Step.{HasFired}
-use Rattle.station_step.proofs.Keeping.{kept-may_put}
+use Rattle.station_step.proofs.KeptStations.{kept-may_put}
 use Rattle.line_worker.specs.contracts.worker.Worker.{the_view}
 use Rattle.line_worker.specs.Team.{WorkTeam, IsMember, member, no_station}
 use Rattle.line_worker.specs.Worker.{LineWorker, IsWorker, with_team}
 use Rattle.line_worker.specs.Work.{dates_of, SteppedAt}
-use Rattle.line_worker.proofs.Stepping.{IsStep, gains-did, more-did, none-did, worker-after, member-in, found-in, count-in}
+use Rattle.line_worker.proofs.TeamSteps.{IsStep, gains-did, more-did, none-did, worker-after, member-in, found-in, count-in}
 use Rattle.line_worker.proofs.Posts.{at-set}
 use Rattle.line_worker.proofs.worker.Worker.step.Goals as goal
 use Rattle.line_worker.proofs.worker.Worker.step.Goals.{After-index_mut, Joined-matches, in-Fired, in_default}

@@ -1,7 +1,7 @@
 use Rattle.std.proofs.Common.{ℕ, ◌≡◌, ◌+◌, ◌<◌, List, length, get_or, refl, sym, ap, ◌∙◌, subst, arith}
 use Rattle.line_worker.specs.Worker.{LineWorker, IsWorker, with_team}
 use Rattle.line_worker.specs.Work.{SteppedAt, IsSweeping, IsAlone}
-use Rattle.line_worker.proofs.Sweeping.{stepped_next, stepped_all, sweeping_begins, sweeping_goes_on, swept, turns_below}
+use Rattle.line_worker.proofs.TeamSweeps.{stepped_next, stepped_all, sweeping_begins, sweeping_goes_on, swept, turns_below}
 use Rattle.line_worker.proofs.Alone.{alone_goes_on, alone_swept}
 use Rattle.line_worker.proofs.worker.Worker.sweep.Goals as goal
 use Rattle.line_worker.proofs.worker.Worker.sweep.Goals.{then-turn, else-turn}

@@ -2,8 +2,8 @@ use Rattle.std.proofs.Common.{ℕ, ◌≡◌, ◌<◌, length, get_or, ap, ◌�
 use Rattle.line_worker.specs.contracts.worker.Worker.{the_view}
 use Rattle.line_worker.specs.Worker.{LineWorker}
 use Rattle.line_worker.specs.Work.{SteppedAt}
-use Rattle.line_worker.proofs.Counting.{worker-within}
-use Rattle.line_worker.proofs.Stepping.{dates-stepped, turn_of}
+use Rattle.line_worker.proofs.StationCounts.{worker-within}
+use Rattle.line_worker.proofs.TeamSteps.{dates-stepped, turn_of}
 use Rattle.line_worker.proofs.worker.Worker.turn.Goals as goal
 
 pub index-i-requires : goal.index-i-requires

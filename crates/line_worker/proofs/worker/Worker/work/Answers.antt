@@ -1,6 +1,6 @@
 use Rattle.std.proofs.Common.{◌≡◌, subst, arith}
 use Rattle.line_worker.specs.Workers.{IsAtWork}
-use Rattle.line_worker.proofs.Bursting.{at_work_begins, may_go_on, at_work_in_full}
+use Rattle.line_worker.proofs.BurstSweeps.{at_work_begins, may_go_on, at_work_in_full}
 use Rattle.line_worker.proofs.worker.Worker.work.Goals as goal
 
 pub loop-sweep-init : goal.loop-sweep-init

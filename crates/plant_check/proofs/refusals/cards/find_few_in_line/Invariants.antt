@@ -1,5 +1,5 @@
 use Rattle.plant_model.specs.Refusals.{too_few_in_line}
-use Rattle.plant_check.proofs.Collecting.{Collected}
+use Rattle.plant_check.proofs.CollectedRefusals.{Collected}
 use Rattle.plant_check.proofs.refusals.cards.find_few_in_line.Given as goal
 
 abbrev pub invariant-loop-i : goal.invariant-loop-i

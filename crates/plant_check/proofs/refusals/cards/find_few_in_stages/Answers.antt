@@ -1,6 +1,6 @@
 use Rattle.std.proofs.Common.{arith}
 use Rattle.plant_model.specs.Refusals.{too_few_in_stage}
-use Rattle.plant_check.proofs.Collecting.{collected_none, collects, collected_all}
+use Rattle.plant_check.proofs.CollectedRefusals.{collected_none, collects, collected_all}
 use Rattle.plant_check.proofs.refusals.cards.find_few_in_stages.Goals as goal
 
 pub loop-i-init : goal.loop-i-init

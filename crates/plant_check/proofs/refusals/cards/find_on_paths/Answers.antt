@@ -1,4 +1,4 @@
-use Rattle.plant_check.proofs.Collecting.{then_two}
+use Rattle.plant_check.proofs.CollectedRefusals.{then_two}
 use Rattle.plant_check.proofs.refusals.cards.find_on_paths.Goals as goal
 
 pub returns : goal.returns

@@ -1,6 +1,6 @@
 use Rattle.std.proofs.Common.{arith}
 use Rattle.plant_model.specs.Refusals.{machine_times_count}
-use Rattle.plant_check.proofs.Collecting.{collected_none, collects, collected_all}
+use Rattle.plant_check.proofs.CollectedRefusals.{collected_none, collects, collected_all}
 use Rattle.plant_check.proofs.refusals.whole.find_counts_in_stage.Goals as goal
 
 pub loop-j-init : goal.loop-j-init

@@ -1,5 +1,5 @@
 use Rattle.plant_model.specs.Refusals.{machine_times_count}
-use Rattle.plant_check.proofs.Collecting.{Collected}
+use Rattle.plant_check.proofs.CollectedRefusals.{Collected}
 use Rattle.plant_check.proofs.refusals.whole.find_counts_in_stage.Given as goal
 
 abbrev pub invariant-loop-j : goal.invariant-loop-j

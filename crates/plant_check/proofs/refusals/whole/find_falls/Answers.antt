@@ -1,6 +1,6 @@
 use Rattle.std.proofs.Common.{arith}
 use Rattle.plant_model.specs.Refusals.{falling_date}
-use Rattle.plant_check.proofs.Collecting.{collected_none, collects_read, collected_all}
+use Rattle.plant_check.proofs.CollectedRefusals.{collected_none, collects_read, collected_all}
 use Rattle.plant_check.proofs.refusals.whole.find_falls.Goals as goal
 
 pub loop-k-init : goal.loop-k-init

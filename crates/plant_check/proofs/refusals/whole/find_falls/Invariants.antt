@@ -1,5 +1,5 @@
 use Rattle.plant_model.specs.Refusals.{falling_date}
-use Rattle.plant_check.proofs.Collecting.{Collected}
+use Rattle.plant_check.proofs.CollectedRefusals.{Collected}
 use Rattle.plant_check.proofs.refusals.whole.find_falls.Given as goal
 
 abbrev pub invariant-loop-k : goal.invariant-loop-k

@@ -3,7 +3,7 @@ use Rattle.toml.specs.View.{view}
 use Rattle.plant_keys.specs.Code.{key_of}
 use Rattle.plant_lint.specs.Trees.{key_faults}
 use Rattle.plant_lint.proofs.FaultLists.{keys_faults_map}
-use Rattle.plant_lint.proofs.Gathering.{gathered_none, gathers_read, gathered_all}
+use Rattle.plant_lint.proofs.GatheredFaults.{gathered_none, gathers_read, gathered_all}
 use Rattle.plant_lint.proofs.walk.Table.find_in_keys.Goals as goal
 
 pub loop-key-init : goal.loop-key-init

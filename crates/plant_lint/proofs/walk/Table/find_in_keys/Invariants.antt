@@ -1,7 +1,7 @@
 use Rattle.toml.specs.View.{view}
 use Rattle.plant_keys.specs.Code.{key_of}
 use Rattle.plant_lint.specs.Trees.{key_faults}
-use Rattle.plant_lint.proofs.Gathering.{Gathered}
+use Rattle.plant_lint.proofs.GatheredFaults.{Gathered}
 use Rattle.plant_lint.proofs.walk.Table.find_in_keys.Given as goal
 
 abbrev pub invariant-loop-key : goal.invariant-loop-key

@@ -8,7 +8,7 @@ use Rattle.station_step.specs.declared.source.Source.{Source}
 use Rattle.station_step.specs.declared.tally.Tally.{Tally}
 use Rattle.station_step.specs.Shelf.{source_at, log_on}
 use Rattle.station_step.specs.Counts.{new_tally, dates_for, seen_queue, AreTallies}
-use Rattle.station_step.proofs.Laying.{LaidUpTo, items_of, laid_none, laid_more, seen-laid, sources-laid, tallies-laid, new-queues}
+use Rattle.station_step.proofs.LaidTallies.{LaidUpTo, items_of, laid_none, laid_more, seen-laid, sources-laid, tallies-laid, new-queues}
 use Rattle.station_step.proofs.shelf.Shelf.new.Goals as goal
 use Rattle.station_step.proofs.shelf.Shelf.new.Goals.{After-index-source}
 

@@ -1,7 +1,7 @@
 use Rattle.std.proofs.Common.{ℕ, map}
 use Rattle.std.specs.Prelude.{Vec}
 use Rattle.std.specs.declared.alloc.Global.{Global}
-use Rattle.station_step.proofs.Laying.{LaidUpTo}
+use Rattle.station_step.proofs.LaidTallies.{LaidUpTo}
 use Rattle.station_step.proofs.shelf.Shelf.new.Given as goal
 
 abbrev pub invariant-loop-first : goal.invariant-loop-first

@@ -18,8 +18,8 @@ use Rattle.station_step.specs.Station.{WorkStation, IsStation, new_station}
 use Rattle.station_step.specs.Kept.{IsKept, IsFresh}
 use Rattle.station_step.specs.Noted.{IsNoted, inputs_of, outlets_of, unnoted}
 use Rattle.station_step.proofs.Dates.{time-fixed}
-use Rattle.station_step.proofs.Keeping.{kept-fresh, station-new}
-use Rattle.station_step.proofs.Noting.{inputs-count, inputs-unnoted, extras-into}
+use Rattle.station_step.proofs.KeptStations.{kept-fresh, station-new}
+use Rattle.station_step.proofs.NotedExtras.{inputs-count, inputs-unnoted, extras-into}
 use Rattle.station_step.proofs.station.Station.new.Goals as goal
 use Rattle.station_step.proofs.station.Station.new.Goals.{After-graph-graph, After-of-2}
 

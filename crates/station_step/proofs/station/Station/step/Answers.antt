@@ -17,9 +17,9 @@ use Rattle.station_step.specs.Fronts.{front_extras, AreFronts, IsDirect, AreEmpt
 use Rattle.station_step.proofs.AtOnce.{filled, filled-count, filled-inlet, filled-full, each-filled, latest-filled, fronts-none, fronts-within, fronts-apart, readied-waits, readied-emptied}
 use Rattle.station_step.specs.declared.input.Input.{Input}
 use Rattle.station_step.proofs.Dates.{delay-noted, date_for-is, latest-is}
-use Rattle.station_step.proofs.Keeping.{kept-waits, kept-fires, IsFiring, fired_station, station-fires, seated-same, own-waits, own-fires, grows-waits, station-waits, grows-fires, moves-apart, moves-none, kept-alike, station-alike, bare-same, fired-once}
+use Rattle.station_step.proofs.KeptStations.{kept-waits, kept-fires, IsFiring, fired_station, station-fires, seated-same, own-waits, own-fires, grows-waits, station-waits, grows-fires, moves-apart, moves-none, kept-alike, station-alike, bare-same, fired-once}
 use Rattle.station_step.proofs.Posts.{come-same, stands-same}
-use Rattle.station_step.proofs.Looking.{AreAlike, alike-looked, NonePuts-alike, noted-same, rings-same, shelf_room-alike, shelf_room-after_takes, ring_room-less, space-unbounded, space_clash, had_no_space}
+use Rattle.station_step.proofs.OutletLooks.{AreAlike, alike-looked, NonePuts-alike, noted-same, rings-same, shelf_room-alike, shelf_room-after_takes, ring_room-less, space-unbounded, space_clash, had_no_space}
 use Rattle.station_step.specs.contracts.station.Station.{the_view}
 use Rattle.station_step.proofs.station.Station.step.Goals as goal
 use Rattle.station_step.proofs.station.Station.step.Goals.{After-dates, After-as_slice-fronts, Then-done-jobs, Else-done-jobs, After-refill, After-look_all, After-of, After-of-2}

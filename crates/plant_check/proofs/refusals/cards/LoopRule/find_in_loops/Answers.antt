@@ -1,7 +1,7 @@
 use Rattle.std.proofs.Common.{ap, ◌++◌, ◌∙◌, arith}
 use Rattle.plant_model.specs.Refusals.{each}
 use Rattle.plant_check.specs.Rules.{refused_loop}
-use Rattle.plant_check.proofs.Collecting.{collected_none, collects_read, collected_all}
+use Rattle.plant_check.proofs.CollectedRefusals.{collected_none, collects_read, collected_all}
 use Rattle.plant_check.proofs.refusals.cards.LoopRule.find_in_loops.Goals as goal
 
 pub loop-k-init : goal.loop-k-init

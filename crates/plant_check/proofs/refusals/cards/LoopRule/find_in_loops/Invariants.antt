@@ -1,5 +1,5 @@
 use Rattle.plant_check.specs.Rules.{refused_loop}
-use Rattle.plant_check.proofs.Collecting.{Collected}
+use Rattle.plant_check.proofs.CollectedRefusals.{Collected}
 use Rattle.plant_check.proofs.refusals.cards.LoopRule.find_in_loops.Given as goal
 
 abbrev pub invariant-loop-k : goal.invariant-loop-k

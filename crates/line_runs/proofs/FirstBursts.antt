@@ -1,4 +1,4 @@
--- What bursts come to, before each of which fewer than n firings were made.
+-- Bursts before each of which fewer than n firings were made, and what they leave.
 use Rattle.std.proofs.Common.{◌≡◌, ℕ, suc, ◌+◌, ◌*◌, ◌<◌, ◌≤◌, min, ap, ◌∙◌, arith, refl, ◌⊎◌, inl, inr, ⊎_elim}
 use Rattle.std.specs.List.{sum}
 use Rattle.event_graph.specs.Network.{stations, jobs}

@@ -11,7 +11,7 @@ use Rattle.line_worker.specs.Teams.{place_in}
 use Rattle.line_worker.specs.Worker.{IsOrder}
 use Rattle.line_worker.specs.Work.{dates_of, HasWorked, SteppedAt, SteppedInOrder, IsSweeping, HasSwept, TurnsBelow}
 use Rattle.line_worker.proofs.Places.{place_in-at}
-use Rattle.line_worker.proofs.Working.{idle_team, then_worked, then_shelf}
+use Rattle.line_worker.proofs.WorkedTeams.{idle_team, then_worked, then_shelf}
 
 module _ (places : List ℕ) (first count : ℕ) (order : List ℕ) (is : IsOrder places first count order) where
   distinct-order : AllPairs (λ x y. x ≢ y) order

@@ -7,7 +7,7 @@ use Rattle.line_base.specs.contracts.log.Log.TheInside as LogInside
 use Rattle.line_base.specs.contracts.log.Logs as Logs
 use Rattle.line_base.specs.contracts.log.Logs.TheInside as LogsInside
 use Rattle.station_step.specs.contracts.station.Station as Station
-use Rattle.station_step.proofs.Crossing.{shelf_send, station_send}
+use Rattle.station_step.proofs.StationSend.{shelf_send, station_send}
 use Rattle.line_worker.specs.contracts.team.Team as Team
 use Rattle.line_worker.specs.contracts.team.Team.TheInside as TeamInside
 use Rattle.line_worker.specs.contracts.worker.Worker as Worker

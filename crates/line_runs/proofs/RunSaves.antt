@@ -21,7 +21,7 @@ use Rattle.line_runs.specs.Headline.{MayBeResumed}
 use Rattle.line_runs.specs.Store.{IsOver}
 use Rattle.line_runs.specs.Saves.{counted_from, IsDue, SavesWhenDue, begins, passes, saves, HoldsLast, IsSavedState, IsOldOrState, IsLateState, HasTooLongState, SavesIfDue, FinishesSaving}
 use Rattle.line_runs.proofs.Firings.{done_is_all, line_is_within}
-use Rattle.line_runs.proofs.Stopping.{burst_live, HaveLed, led_more, bursts_made}
+use Rattle.line_runs.proofs.FirstBursts.{burst_live, HaveLed, led_more, bursts_made}
 use Rattle.line_runs.proofs.Resumed.{may_be_resumed}
 
 -- ---- the lines at the bursts' ends

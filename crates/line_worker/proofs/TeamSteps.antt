@@ -16,7 +16,7 @@ use Rattle.station_step.specs.Input.{NoneTakes, input_at}
 use Rattle.station_step.specs.Station.{WorkStation, IsStation, IsSeated, AreApart, NonePuts, bare_station, bare_input, outlet_at}
 use Rattle.station_step.specs.Kept.{IsKept}
 use Rattle.station_step.specs.Step.{IsReady, MovesItsOwn, HasFired, Did}
-use Rattle.station_step.proofs.Keeping.{seated-same}
+use Rattle.station_step.proofs.KeptStations.{seated-same}
 use Rattle.station_step.proofs.OwnQueues.{input-same, outlet-same, inlet_queue-same, outlet_queue-same}
 use Rattle.line_worker.specs.Share.{first_of}
 use Rattle.line_worker.specs.Team.{WorkTeam, IsMember, IsTeam, member, no_station}

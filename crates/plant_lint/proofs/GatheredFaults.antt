@@ -1,7 +1,7 @@
 -- One more step of a loop that gathers what a function gives for each of a list.
 use Rattle.std.proofs.Common.{◌≡◌, refl, ℕ, ◌+◌, ◌<◌, ◌≤◌, List, ◌++◌, length, get_or, drop, sym, ap, ◌∙◌, append-nil}
 use Rattle.std.proofs.lemmas.List.{drop_all, get_or_default}
-use Rattle.plant_check.proofs.Collecting.{one_more}
+use Rattle.plant_check.proofs.CollectedRefusals.{one_more}
 use Rattle.plant_lint.specs.Faults.{all_from, all_of}
 
 -- what is given for the elements below number i is added

@@ -9,7 +9,7 @@ use Rattle.line_worker.specs.Worker.{LineWorker, IsWorker, with_team}
 use Rattle.line_worker.specs.Work.{dates_of, SteppedInOrder, HasSwept, AllDone, TurnsBelow, IsAlone, HasSweptOn, SweepsLead, none, more, AreOfBurst, HasBurst, HasBurstAlone, IsBursting}
 use Rattle.line_worker.specs.Workers.{HasDoneBurst, IsReadyFor, MayGoOn, IsAtWork}
 use Rattle.line_worker.proofs.Alone.{all-stations}
-use Rattle.line_worker.proofs.Working.{idle_team, then_team, dates-le}
+use Rattle.line_worker.proofs.WorkedTeams.{idle_team, then_team, dates-le}
 
 pub bursting_begins : (c : LineWorker) → IsBursting c c 0
 bursting_begins c = record {

@@ -22,7 +22,7 @@ use Rattle.station_step.specs.Ends.{inlet_taken, AreEnds, HasSpace}
 use Rattle.station_step.specs.Station.{outlet_at}
 use Rattle.line_worker.specs.Team.{WorkTeam}
 use Rattle.line_worker.specs.Teams.{owner_of, station_of, shelf_of, input_on, outlet_on, outlet_tokens, ShareQueue, IsOfRoom, AreOfRoom, AreTeams, IsQueueMet, AreAllMet, state_among}
-use Rattle.line_worker.proofs.Standing.{outlets-many, outlet_on-is, length-place}
+use Rattle.line_worker.proofs.TeamStates.{outlets-many, outlet_on-is, length-place}
 
 -- ---- by the kinds of ends
 

@@ -22,7 +22,7 @@ use Rattle.station_step.specs.Station.{new_station, WorkStation, firings, outlet
 use Rattle.station_step.specs.Kept.{IsKept, IsFresh, date_for, token_for, saturating, sent}
 use Rattle.station_step.specs.Step.{MovesItsOwn, Grows, MovesApart, IsReady, FiredOnce}
 use Rattle.station_step.proofs.OwnQueues.{input-same, outlet-same, inlet_queue-same, outlet_queue-same, bare-unseen, taken-unseen}
-use Rattle.station_step.proofs.Looking.{AreAlike, bare-alike, added-alike, ring_room-alike, at-set, beside-set}
+use Rattle.station_step.proofs.OutletLooks.{AreAlike, bare-alike, added-alike, ring_room-alike, at-set, beside-set}
 use Rattle.station_step.proofs.Dates.{date_for-agree}
 
 -- ---- what a shelf keeps for one end

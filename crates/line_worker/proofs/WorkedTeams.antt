@@ -18,7 +18,7 @@ use Rattle.line_worker.specs.Team.{WorkTeam, IsTeam, member}
 use Rattle.line_worker.specs.Teams.{team_at, owner_of, station_of, shelf_of, place_in, input_on, outlet_on, outlet_initial, ShareQueue, IsJoined, IsOfRoom, AreOfRoom, AreTeams, IsQueueMet, IsMetOn}
 use Rattle.line_worker.specs.Work.{dates_of, HasWorked, IsSameShelf, TeamWorked, TeamsWorked}
 use Rattle.line_worker.proofs.Share.{first-le, next-above, worker_number-below}
-use Rattle.line_worker.proofs.Stepping.{inputs-same, outlets-same}
+use Rattle.line_worker.proofs.TeamSteps.{inputs-same, outlets-same}
 
 -- ---- work after work
 

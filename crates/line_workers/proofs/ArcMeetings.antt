@@ -23,7 +23,7 @@ use Rattle.line_worker.specs.Meeting.{OutletMet, InletMet}
 use Rattle.line_workers.specs.Meeting.{AreStill, MeetsOn}
 use Rattle.line_worker.proofs.Share.{first-le, next-above, worker_number-below}
 use Rattle.line_worker.proofs.Places.{StandsIn, in-stands, out-stands}
-use Rattle.line_worker.proofs.Working.{idle, idle_shelf, idle_team, then_team}
+use Rattle.line_worker.proofs.WorkedTeams.{idle, idle_shelf, idle_team, then_team}
 
 abbrev no_team : WorkTeam
 no_team = record { stations = []; shelf = [] }

@@ -12,7 +12,7 @@ use Rattle.std.proofs.Crossing.{crosses}
 use Rattle.std.specs.contracts.sync.atomic.AtomicBool as AtomicBool
 use Rattle.live_check.specs.contracts.live.Live as Live
 use Rattle.line_worker.specs.contracts.worker.Worker as Worker
-use Rattle.line_worker.proofs.Crossing.{worker_send}
+use Rattle.line_worker.proofs.WorkerSend.{worker_send}
 
 live_sync : IsSync Live.the_row
 live_sync = search (sendable, crosses) depth 40
