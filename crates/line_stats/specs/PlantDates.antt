@@ -1,4 +1,4 @@
--- A plant and the dates of a run of it: what contracts see of a summary and of a table of dates.
+-- A plant and the dates of a run of it: what contracts see of a report, of a summary and of a table of dates.
 use Rattle.std.specs.Prelude.{◌≡◌, ℕ, List}
 use Rattle.plant_model.specs.declared.plant.Plant.{Plant}
 use Rattle.plant_model.specs.Graph.{graph}

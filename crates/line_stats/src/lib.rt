@@ -1,5 +1,6 @@
 //! Counts of parts in a line, over the dates of a finished run: what is in process, on its way and in stock at a date,
-//! the demands that are not delivered, the most that a stage ever had, and how long the jobs waited.
+//! the demands that are not delivered, the most that a stage ever had, and how long the jobs waited. And what contracts
+//! see of a report, a summary and a table of dates: `PlantDates`, with `AreLeastDates`, `AreOfPlant` and `Stays`.
 #![tactic(auto)]
 
 mod counts;
