@@ -64,7 +64,7 @@ dead_text : cards_text (record { cards = 1; below = Dead (codes "cut" ∷ codes 
 unfolding digits
 dead_text = refl
 
--- a line of two stations and three jobs; after an edit two dates of the second are others
+-- a line of two stations and three jobs; after an edit two dates of the second differ
 abbrev page : Page
 page = record {
   live = record { graph = record cell { labels = codes "feed" ∷ codes "weld.torch" ∷ []; dates = 0 ∷ 2 ∷ 4 ∷ [] }; ranks = 0 ∷ 1 ∷ [] };

@@ -1,4 +1,4 @@
--- What a command writes that is done, and which bytes these are.
+-- What a command writes when it is done, and which bytes these are.
 use Rattle.std.specs.Prelude.{◌≡◌, ℕ, List, [], ◌++◌, codes, decimal, Result, Ok, Err}
 use Rattle.command_line.specs.Screens.{help_text}
 use Rattle.command_line.specs.Usage.{as_line}

@@ -1,4 +1,4 @@
-//! What a command writes that is done.
+//! What a command writes when it is done.
 ghost use Rattle.std.specs.Prelude.{◌≡◌};
 ghost use Rattle.answers.specs.Answer.{answer_bytes, whole_of, IsPut};
 ghost use Rattle.answers.specs.declared.answer.Answer.TheVariants.{Stopped};
@@ -23,7 +23,7 @@ use std::thread::Threads;
 /// What `--version` shows.
 pub const VERSION: &str = "pull 1.0.0\n";
 
-/// What a command writes that is done; the program then ends with status 0.
+/// What a command writes when it is done; the program then ends with status 0.
 #[derive(Drop)]
 pub enum Answer {
     /// `--help`, `help COMMAND`: how the program is used, or the command.

@@ -1,5 +1,5 @@
-//! What a command writes that is done: the texts of `check`, `cycle` and `cards`, the dates that edits change, reports and
-//! summaries; each goes to a sink, and a long one piece by piece.
+//! What a command writes when it is done: the texts of `check`, `cycle` and `cards`, the dates that edits change,
+//! reports and summaries; each goes to a sink, and a long one piece by piece.
 #![tactic(auto)]
 
 mod answer;

@@ -12,7 +12,7 @@ pub fn put_text<K: Sink>(sink: &mut K, text: &[u8]) -> Result<(), Failed>
     put_all(sink, text)
 }
 
-/// Writes a line of these words and what they are of. After `Failed` a prefix of it was written.
+/// Writes a line: these words, and the name behind them. After `Failed` a prefix of it was written.
 pub fn put_line<K: Sink>(sink: &mut K, words: &[u8], named: &[u8]) -> Result<(), Failed>
     ensures { WritesText (K.shown sink.old) (K.shown sink.new) (as_line (words.now ++ named.now)) result }
 {

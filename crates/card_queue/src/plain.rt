@@ -41,8 +41,8 @@ impl Model for Plain {
 }
 
 impl Plain {
-    /// Makes a queue that holds the initial tokens. `put` may be called `room` times on it. Fails only for want of
-    /// memory.
+    /// Makes a queue that holds the initial tokens. `put` may be called `room` times on it. Fails only where
+    /// memory runs out.
     pub fn new(alloc: Global, initial: &[Date], room: u32) -> Result<Plain, AllocError>
         requires { length initial.now + room < 2 ^ 32 }
         ensures initial { IfOk result (λ plain. plain.initial ≡ initial.now) }

@@ -1,4 +1,4 @@
--- The count that is tried first: what comes of it comes of the most cards.
+-- The count that is tried first: it ends as the most cards would.
 use Rattle.std.proofs.Common.{◌≡◌, ℕ, ◌+◌, ◌<◌, ◌≤◌, true, length, sym, ap, subst, arith, ⊎_elim, ◌⊎◌, inl, inr, refl}
 use Rattle.std.proofs.lemmas.Bool.{cases_lt}
 use Rattle.line_base.specs.declared.limits.TheConstants.{MAX_CARDS}

@@ -54,7 +54,7 @@ module _ (p : Plant) (sound : IsSound p) (single : has_single_count p ≡ true) 
       late_not_in_time (sized p c) may job wait (sound_sized p c sound single serves.enough serves.within) fails serves.in_time
   fails_not_serves c (Dead labels) fails serves = dead_not_live (graph (sized p c)) labels fails serves.in_time.live
 
-  -- and tells why one more can't be one less
+  -- and says why one more can't be one less
   is_below : (c : ℕ) (why : Below) → lowest p ≤ c → FailsBy (sized p c) may why → IsBelow p may (c + 1) why
   is_below c Lowest enough fails = absurd fails
   is_below c (Job job wait) enough late =

@@ -25,7 +25,7 @@ wait_of p x n = wait_until x (deliver p) n
 abbrev pub NoneWaitsLonger : (ℕ → ℕ) → ℕ → ℕ → Type 0
 NoneWaitsLonger wait jobs may = (n : ℕ) → 1 ≤ n → n ≤ jobs → wait n ≤ may
 
--- the job is the first that waits longer than it may, and waits so long
+-- the job is the first that waits longer than it may, and this is how long it waits
 pub record IsFirstLate (wait : ℕ → ℕ) (jobs may job long : ℕ) : Type 0 where
   pub from_one : 1 ≤ job
   pub exists : job ≤ jobs
@@ -48,7 +48,7 @@ pub record IsInTime (p : Plant) (may : ℕ) : Type 0 where
   pub live : IsLive (graph p)
   pub waits : (x : Table) → IsLeast (graph p) x → NoneWaitsLonger (wait_of p x) (length p.demands) may
 
--- the plant's line is live, and this job is the first that waits longer than it may, and waits so long
+-- the plant's line is live, and this job is the first that waits longer than it may, with how long it waits
 pub record IsLate (p : Plant) (may job long : ℕ) : Type 0 where
   pub live : IsLive (graph p)
   pub waits : (x : Table) → IsLeast (graph p) x → IsFirstLate (wait_of p x) (length p.demands) may job long
@@ -59,6 +59,6 @@ pub record Serves (p : Plant) (may c : ℕ) : Type 0 where
   pub within : c ≤ most_cards
   pub in_time : IsInTime (sized p c) may
 
--- with c cards this job is the first that waits longer than it may, and waits so long
+-- with c cards this job is the first that waits longer than it may, with how long it waits
 abbrev pub IsLateWith : Plant → ℕ → ℕ → ℕ → ℕ → Type 0
 IsLateWith p may c job long = IsLate (sized p c) may job long

@@ -34,7 +34,7 @@ IsSizingRefusal p may NoMemory = ⊤
 abbrev pub HalvesCounts : Plant → ℕ → Type 0
 HalvesCounts p tries = (k : ℕ) → highest p - lowest p < 2 ^ k → tries ≤ 1 + k
 
--- how far the search has come: no count below `low` serves, and `below` tells why of the one before it; `high` serves
+-- how far the search has come: no count below `low` serves, and `below` says why for the one before it; `high` serves
 pub record IsSearch (p : Plant) (may low high : ℕ) (below : Below) : Type 0 where
   pub ordered : low ≤ high
   pub enough : lowest p ≤ low

@@ -1,4 +1,4 @@
--- What a try of a plant tells, and how many tries a search has left.
+-- What a try of a plant finds, and how many tries a search has left.
 use Rattle.std.specs.Prelude.{◌≡◌, ⊤, ℕ, ◌+◌, ◌^◌, ◌<◌, List, Option, None, Some}
 use Rattle.plant_model.specs.declared.plant.Plant.{Plant}
 use Rattle.plant_model.specs.Graph.{graph}

@@ -78,7 +78,7 @@ fn store_of(alloc: Global, files: &Files, faults: Faults) -> Result<MemStore, Re
     })
 }
 
-/// What comes of a command: of a look, or of the top call.
+/// How a command ends: a look, or the top call.
 pub fn call<R: Threads + Wait + Sync>(
     rt: &R,
     alloc: Global,

@@ -1,4 +1,4 @@
-//! What is said of a command that does something that isn't wanted.
+//! What is printed of a command that doesn't end as wanted.
 use crate::ending::Ending;
 use crate::reason::Reason;
 use crate::runner::Attempt;
@@ -13,7 +13,7 @@ pub struct Findings {
     pub line: usize,
     /// Why this line can't be followed, if it can't.
     pub stopped: Option<Reason>,
-    /// How commands end that isn't wanted; nothing where all is wanted.
+    /// How commands end that don't end as wanted; nothing where all do.
     pub text: Vec<u8>,
 }
 
@@ -49,7 +49,7 @@ fn as_u32(number: usize) -> u32 {
     u32::try_from(number).unwrap_or(u32::MAX)
 }
 
-/// Adds the files that are others than before.
+/// Adds the files that changed.
 fn add_changed(text: &mut Vec<u8>, before: &Files, files: &Files) -> Result<(), AllocError> {
     for (name, bytes) in files.iter() {
         if before.get(name.as_str()) != Some(bytes) {

@@ -31,7 +31,7 @@ pub enum Reason {
 }
 
 impl Reason {
-    /// The words that tell it.
+    /// The words that say it.
     fn words(self) -> &'static str {
         match self {
             Reason::NoDirective => "the words say nothing",

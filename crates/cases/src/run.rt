@@ -90,7 +90,7 @@ impl<'a> Run<'a> {
         Ok(())
     }
 
-    /// Sets the number that this word tells.
+    /// Sets the number that this word names.
     fn set(&mut self, word: &str, number: u32) -> Result<(), Reason> {
         match word {
             "status" => self.status = Some(number),

@@ -132,7 +132,7 @@ fn slot_at(alloc: Global, disk: &mut MemDisk, start: u64) -> Result<Vec<u8>, Rea
     Ok(disk.read(alloc, start, count)?)
 }
 
-/// How many bytes of content the head of a slot tells; none where it tells of more than are kept.
+/// How many bytes of content the head of a slot gives; none where it gives more than are kept.
 fn kept_length(head: &[u8]) -> u32 {
     match head {
         &[_, _, 0, 0, 0, 0, a, b, c, d, ..] => {

@@ -60,7 +60,7 @@ date_word-some Differences before date b d =
     (λ more. rw (le-ltb date before more) (decimal_nonempty (date - before) (omega arith)))
     (cases_lt date before)
 
--- a word is as long as it goes on
+-- the bytes of a word, and no more, stand before what ends it
 prefix_len-word : (word after : List ℕ) → IsWord word → EndsWord after → prefix_len is_word_byte (word ++ after) ≡ length word
 prefix_len-word [] [] is ends = refl
 prefix_len-word [] (byte ∷ after) is ends = ap (λ b. cond b (1 + prefix_len is_word_byte after) 0) ends

@@ -48,7 +48,7 @@ pub record IsReadOf (g : Parts) (bytes : List ℕ) (logs : RoomyLogs) (long : Op
   pub counts : HaveCounts parts.places marking
   pub wrong_is : wrong ≡ first (unlike_places g (dates_of logs) (arc_count g) parts.places)
 
--- when each error comes; when memory runs out is free
+-- when each error comes; running out of memory may come at any time
 abbrev pub Tells : Parts → List ℕ → CheckpointError → Type 0
 Tells g bytes (Line number) = IsFirstBadLine g bytes number
 Tells g bytes (Count station have limit) = IsRefused g bytes (Core.Count station have limit)

@@ -27,7 +27,7 @@ is_word_byte byte = not (byte == 32 || byte == 10)
 abbrev pub EndsWord : List ℕ → Type 0
 EndsWord rest = is_word_byte (slice_index_or rest 0 10) ≡ false
 
--- ---- what a reading tells: `before` is what was left to read, `left` what is left now
+-- ---- what a reading gives: `before` is what was left to read, `left` what is left now
 
 -- a text is passed over wherever it stands next
 abbrev pub TellsPassing : List ℕ → List ℕ → Bool → List ℕ → Type 0

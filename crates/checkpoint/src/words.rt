@@ -10,7 +10,7 @@ use line_base::{Date, number_of};
 /// The latest date that a text may give.
 pub const LAST_DATE: Date = 1_000_000_000_000_000_000;
 
-/// The date that is so much earlier than another one, as a text says it.
+/// The date that is earlier than another one by the number that a text writes.
 fn earlier(text: &[u8], before: Date) -> Option<Date>
     ensures read { IfSome result (λ date. text.now ≡ decimal (before - date)) }
     ensures earlier { IfSome result (λ date. date < before) }
@@ -24,7 +24,7 @@ fn earlier(text: &[u8], before: Date) -> Option<Date>
     Some(before - less)
 }
 
-/// The date that is so much later than another one, as a text says it.
+/// The date that is later than another one by the number that a text writes.
 fn later(text: &[u8], before: Date) -> Option<Date>
     requires { before ≤ LATEST_GIVEN }
     ensures read { IfSome result (λ date. text.now ≡ decimal (date - before)) }

@@ -105,7 +105,7 @@ same_line : (p : Plant) (t : ℕ) (xs ys : List ℕ) (u v m n : ℕ) → IsLine 
 same_line p t xs ys u v m n line e_arcs e_end e_tokens =
     subst (λ k. IsLine (graph p) t ys v k) e_tokens (subst (λ w. IsLine (graph p) t ys w m) e_end (subst (λ zs. IsLine (graph p) t zs u m) e_arcs line))
 
--- the front of a path up to stage b, where it ends, and where it goes on
+-- a path up to stage b, where it ends, and where it goes on
 pub front-here : (p : Plant) → FeedsLater p → (a b : ℕ) → a < length p.stages → (a == b) ≡ true → up_to b (path p a) ≡ a ∷ []
 front-here p tree a b below is =
     ap (up_to b) (path-step p tree a below) ∙ ap (λ t. cond t (a ∷ []) (a ∷ up_to b (option_map_or (path p) (next p a) []))) is

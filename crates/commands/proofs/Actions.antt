@@ -36,7 +36,7 @@ pub is_no_memory : {A : Type 0} (answer : Result A Refusal) → IsErrAnd answer 
 is_no_memory (Ok x) is = absurd is
 is_no_memory (Err refusal) is = ap (λ (r : Refusal). Err r) is
 
--- a action that answers what another one answers
+-- an action that answers what another one answers
 pub does_also : {A : Type 0} (store : StoreOver) (disk : DiskOver) (action other : Action A)
     (answer : Result A Refusal) → ((asked : Asked) → action asked disk answer → other asked disk answer) →
     Does store disk action answer → Does store disk other answer
@@ -52,7 +52,7 @@ does_also store disk action other answer also does = record {
   disk_faults_stay_or_rise = does.disk_faults_stay_or_rise;
 }
 
--- a action that asks nothing of the store
+-- an action that asks nothing of the store
 pub does_nothing : {A : Type 0} (tells : Bool) (view : StoreView) (disk : DiskOver) (action : Action A)
     (answer : Result A Refusal) → disk.old.faults ≤ disk.new.faults →
     IfErr answer (HasCause (store_over tells view view) disk []) → action none_asked disk answer →
@@ -154,7 +154,7 @@ write_caused store disk file bytes count (Err store_error.TooLong) answer raises
 write_caused store disk file bytes count (Err store_error.NoMemory) answer raises answers =
     no_memory_caused store disk (write_of file bytes (Err store_error.NoMemory) ∷ []) answer answers
 
--- the text was written, and this came of it
+-- the text was written, or not, and this is the answer
 saves_written : (tells : Bool) (old new : StoreView) (file bytes : List ℕ) (count : ℕ)
     (given : Result (Unit {0}) StoreError) (answer : Result Answer Refusal) → Saved tells old new file bytes given →
     AnswersWrite file count given answer → (disk : DiskOver) → disk.new ≡ disk.old →

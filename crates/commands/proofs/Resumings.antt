@@ -32,7 +32,7 @@ use Rattle.answers.specs.declared.answer.Answer.{Answer}
 
 -- ---- a text
 
--- no memory, or another error, to which no text of a reached state comes
+-- no memory, or another error, which no text of a reached state gives
 abbrev pub IsRefusal : CheckpointError → Type 0
 IsRefusal error.NoMemory = ⊥
 IsRefusal other = Unit {0}

@@ -90,7 +90,7 @@ ends_at_first live n workers first (Stopped r) stands ends =
       enough = subst (λ (s : State). n ≤ fired s) (sym same) ends.enough;
     }
 
--- ---- what comes of it
+-- ---- what the run answers
 
 -- a report needs no cause
 pub report_caused : (store : StoreOver) (disk : DiskOver) (p : Plant) (answer : Result Answer Refusal) →

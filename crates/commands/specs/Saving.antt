@@ -46,7 +46,7 @@ AnswersWrite file count (Err store_error.Failed) answer = answer ≡ Err (StoreF
 AnswersWrite file count (Err store_error.TooLong) answer = ⊥
 AnswersWrite file count (Err store_error.NoMemory) answer = answer ≡ Err NoMemory
 
--- these bytes were written to the file, once, and this came of it
+-- a write of these bytes to the file was asked, once, and this is the answer
 pub record WritesText (file bytes : List ℕ) (count : ℕ) (asked : Asked) (answer : Result Answer Refusal) : Type 0 where
   pub given : Result (Unit {0}) StoreError
   pub writes : asked ≡ record { reads = []; writes = record { name = file; bytes = bytes; answer = given } ∷ [] }
@@ -119,7 +119,7 @@ abbrev pub IsResumedOf : Plant → Option (List ℕ) → Result Answer Refusal �
 IsResumedOf p None answer = answer ≡ Err NothingSaved
 IsResumedOf p (Some bytes) answer = IsResumed p bytes answer
 
--- What the slots hold is resumed: what the reads of this call found, and where the disk tells it, what it holds.
+-- What the slots hold is resumed: what the reads of this call found, and where it is known, what the disk holds.
 pub record ResumesSaved (p : Plant) (disk : DiskOver) (answer : Result Answer Refusal) : Type 0 where
   pub saved : Option (List ℕ)
   pub known : IsTrue disk.tells → content (bytes_now disk.old) most_checkpoint_bytes ≡ saved

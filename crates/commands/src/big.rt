@@ -15,7 +15,7 @@ use refusals::Refusal;
 use std::alloc::Global;
 use std::thread::Threads;
 
-/// Runs the plant of a seed to its end, by as many workers.
+/// Runs the plant of a seed to its end, by this many workers.
 pub(crate) fn big<R: Threads + Sync, G: Gate>(
     rt: &R,
     alloc: Global,

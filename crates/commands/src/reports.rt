@@ -12,7 +12,7 @@ use live_plant::LivePlant;
 use refusals::Refusal;
 use std::alloc::{AllocError, Global};
 
-/// The report of a live plant, over the table that a run of it answered, to be written by as many workers.
+/// The report of a live plant, over the table that a run of it answered, to be written by this many workers.
 pub(crate) fn report_of(
     alloc: Global,
     line: LivePlant,

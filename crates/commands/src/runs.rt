@@ -18,8 +18,8 @@ use std::alloc::{AllocError, Global};
 use std::sync::Wait;
 use std::thread::Threads;
 
-/// Runs a live plant to its end, by as many workers. Where a room is given, the ring of an arc between two of them has
-/// room for the tokens with which its arc starts, and for as many more.
+/// Runs a live plant to its end, by this many workers. Where a room is given, the ring of an arc between two of them
+/// has room for the tokens with which its arc starts, and for as many more.
 pub(crate) fn run_whole<R: Threads + Sync, G: Gate>(
     rt: &R,
     alloc: Global,
@@ -37,7 +37,7 @@ pub(crate) fn run_whole<R: Threads + Sync, G: Gate>(
     report_or_none(alloc, line, table, workers)
 }
 
-/// The dates of a live graph, by as many workers, with this room in the rings between them where one is given.
+/// The dates of a live graph, by this many workers, with this room in the rings between them where one is given.
 pub(crate) fn table_of<R: Threads + Sync, G: Gate>(
     rt: &R,
     alloc: Global,
@@ -54,7 +54,8 @@ pub(crate) fn table_of<R: Threads + Sync, G: Gate>(
     Ok(run_to_end(rt, live, work, gate))
 }
 
-/// A line of as many workers at the start of a live graph, with this room in the rings between them where one is given.
+/// A line of this many workers at the start of a live graph, with this room in the rings between them where one is
+/// given.
 fn line_of(alloc: Global, live: &Live, workers: u32, room: Option<u32>) -> Result<Line, AllocError>
     requires workers { AreWorkers workers }
     requires room { IfSome room IsRingRoom }
@@ -66,8 +67,8 @@ fn line_of(alloc: Global, live: &Live, workers: u32, room: Option<u32>) -> Resul
     }
 }
 
-/// Runs a live plant to its end, by as many workers that stand until all firings are made. It waits
-/// for its threads, and owes no return.
+/// Runs a live plant to its end, by this many workers that stand until all firings are made. It waits
+/// for its threads, and doesn't promise to return.
 pub fn run_standing<R: Threads + Wait + Sync, G: Gate>(
     rt: &R,
     alloc: Global,
@@ -83,7 +84,7 @@ pub fn run_standing<R: Threads + Wait + Sync, G: Gate>(
     report_or_none(alloc, line, table, workers)
 }
 
-/// The dates of a live graph, by as many workers that stand until all firings are made.
+/// The dates of a live graph, by this many workers that stand until all firings are made.
 fn standing_table_of<R: Threads + Wait + Sync, G: Gate>(
     rt: &R,
     alloc: Global,
@@ -98,7 +99,7 @@ fn standing_table_of<R: Threads + Wait + Sync, G: Gate>(
     Ok(line_runs::run_standing(rt, live, work, gate))
 }
 
-/// Goes on from the text of a state of a live plant, by as many workers, to the end.
+/// Goes on from the text of a state of a live plant, by this many workers, to the end.
 pub(crate) fn resume<R: Threads + Sync, G: Gate>(
     rt: &R,
     alloc: Global,

@@ -20,8 +20,8 @@ use slot_store::SlotError;
 use std::alloc::Global;
 use std::thread::Threads;
 
-/// Runs a live plant to its end, by as many workers, and saves its state in the slots each time
-/// that as many firings were made since the last save or the start.
+/// Runs a live plant to its end, by this many workers, and saves its state in the slots each time
+/// that this many firings were made since the last save or the start.
 pub fn run_with_slots<R: Threads + Sync, G: Gate, D: Disk>(
     rt: &R,
     alloc: Global,
@@ -46,7 +46,7 @@ pub fn run_with_slots<R: Threads + Sync, G: Gate, D: Disk>(
     }
 }
 
-/// Runs a live plant to its end by a line of as many workers that stands at the start.
+/// Runs a live plant to its end by a line of this many workers that stands at the start.
 fn run_saving<R: Threads + Sync, G: Gate, D: Disk>(
     rt: &R,
     alloc: Global,
@@ -86,7 +86,7 @@ fn slot_refusal(error: SlotError) -> Refusal
     }
 }
 
-/// Goes on from what the slots hold, by as many workers, to the end.
+/// Goes on from what the slots hold, by this many workers, to the end.
 pub fn resume_slots<R: Threads + Sync, G: Gate, D: Disk>(
     rt: &R,
     alloc: Global,

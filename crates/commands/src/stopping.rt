@@ -22,7 +22,7 @@ use refusals::{FileName, Refusal};
 use std::alloc::{AllocError, Global};
 use std::thread::Threads;
 
-/// Runs a live plant by as many workers until as many firings are made, and saves the state in
+/// Runs a live plant by this many workers until this many firings are made, and saves the state in
 /// which it stops, at the first burst's end with as many; or to its end, where all firings are made
 /// before such a burst's end.
 pub fn run_until<R: Threads + Sync, G: Gate, S: Store>(
@@ -48,7 +48,7 @@ pub fn run_until<R: Threads + Sync, G: Gate, S: Store>(
     }
 }
 
-/// How a run of a live graph ends that is asked to stop after as many firings, by as many workers.
+/// How a run of a live graph ends that is asked to stop after this many firings, by this many workers.
 fn outcome_of<R: Threads + Sync, G: Gate>(
     rt: &R,
     alloc: Global,
@@ -103,7 +103,7 @@ fn save<S: Store>(
     saved_answer(saved, fired, stop.save)
 }
 
-/// What a run answers that stopped after as many firings, by how the save of its state into this file ended.
+/// What a run answers that stopped after this many firings, by how the save of its state into this file ended.
 fn saved_answer(
     saved: Result<(), StoreError>,
     fired: u64,

@@ -43,7 +43,8 @@ raised_up ps t v there more u =
       | inr apart ↦ omega (arith, get_or-set_other ps t u v 0 apart)
     ]
 
--- each arc of the new entries comes, in the old potentials, at most from its start; and one that is new from more
+-- along new entries, the old potential at the end and the losses are at most that at the start and the gains; and they
+-- are less where one of the entries wasn't there before
 steps : (g : Parts) (w : Weighing) (p : Potentials) (t a v : ℕ) → IsGraph g → IsGrown g w p → t < stations g → IsBest g w p.potentials t a v → (s u : ℕ) (arcs : List ℕ) → IsWalk g s arcs u → AreEntries g (raised p t a v).entries arcs → (get_or p.potentials u 0 + losses g w arcs ≤ get_or p.potentials s 0 + gains g w arcs) × (AreEntries g p.entries arcs ⊎ (get_or p.potentials u 0 + losses g w arcs < get_or p.potentials s 0 + gains g w arcs))
 steps g w p t a v graph h there best s u [] walk entries =
     (omega (arith, ap (λ x. get_or p.potentials x 0) walk), inl (λ k d low. absurd (omega (arith, low))))

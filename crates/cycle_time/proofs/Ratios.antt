@@ -1,5 +1,5 @@
--- Ratios of circuits: in lowest terms, a heavier circuit has a greater one, and of ratios with so few tokens there is no
--- endless row.
+-- Ratios of circuits: in lowest terms, a heavier circuit has a greater one, and with few tokens ratios can't grow
+-- without end.
 use Rattle.std.proofs.Common.{◌≡◌, ℕ, zero, suc, ◌+◌, ◌-◌, ◌*◌, ◌/◌, ◌<◌, ◌≤◌, List, length, ap, subst, inl, inr, arith}
 use Rattle.std.specs.List.{All}
 use Rattle.std.specs.Int.{◌∣◌, IsGcd}

@@ -56,7 +56,7 @@ pub record IsSmall (g : Parts) (c : Certificate) : Type 0 where
   pub few : length c.circuit ≤ 512
   pub exist : All (λ a. a < arc_count g) c.circuit
 
--- the error names the first station with a list of times; when memory runs out is free
+-- the error names the first station with a list of times; running out of memory may come at any time
 abbrev pub SaysWhy : Parts → CycleError → Type 0
 SaysWhy g (Varying station) = IsFirst (Varies g) (stations g) station
 SaysWhy g NoMemory = ⊤

@@ -120,8 +120,8 @@ impl Tree {
         })
     }
 
-    /// Gives station `t` the greatest potential that an arc into it gives, if that is more than it has, and tells whether
-    /// it is.
+    /// Gives station `t` the greatest potential that an arc into it gives, if that is more than it has, and says
+    /// whether it is.
     fn raise(&mut self, graph: &Graph, weights: &Weights, t: u32) -> bool
         requires weights { AreWeights graph.now weights.now }
         requires station { t < stations graph.now }

@@ -1,4 +1,4 @@
--- What the search for a label tells.
+-- What the search for a label finds.
 use Rattle.std.proofs.Common.{◌≡◌, ℕ, ◌<◌, Bool, true, false, cond, List, [], ◌∷◌, get_or, refl, sym, ap, ◌∙◌, subst, arith, zero-add}
 use Rattle.std.specs.Prelude.{None, Some}
 use Rattle.std.specs.List.{All, find, range_with_len}

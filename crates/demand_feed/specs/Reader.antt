@@ -26,7 +26,7 @@ pub record HasGiven (file : List ℕ) (rows : List Record) (reader : ByteReader)
   pub source : source_of (λ bytes. Some bytes.now) reader ≡ Some rest
   pub reached : Reached default_config st.StartRecord (strip_bom file) rows (reader_state reader) rest
 
--- a read after these records gives the file's next one, or tells that they are all
+-- a read after these records gives the file's next one, or answers that these are all
 abbrev pub GivesNext : ByteReader → ByteReader → Record → Bool → Type 0
 GivesNext old new fields found = (file : List ℕ) (rows : List Record) → HasGiven file rows old
     → MatchBool found (HasGiven file (rows ++ fields ∷ []) new) (records_of file ≡ rows)

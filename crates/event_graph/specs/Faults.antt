@@ -38,7 +38,7 @@ abbrev pub NoneLacksInput : Parts → Type 0
 NoneLacksInput g = HasNone (LacksInput g) (stations g)
 
 -- the error names the first fault of the parts: of the first kind that they have, its first arc or
--- station; when memory runs out is free
+-- station; running out of memory may come at any time
 abbrev pub IsFirstFault : Parts → GraphError → Type 0
 IsFirstFault g (EndOutOfRange a) = IsFirst (NamesNoStation g) (arc_count g) a
 IsFirstFault g (FeedInput a) = AllNameStations g × IsFirst (EntersFeed g) (arc_count g) a

@@ -209,7 +209,7 @@ impl Graph {
         self.parts.labels.as_slice()[t as usize].text()
     }
 
-    /// The delay of arc `a`, in the plant's unit: a token that a firing puts on it can be taken so much later.
+    /// The delay of arc `a`, in the plant's unit: a token that a firing puts on it can be taken that much later.
     #[tactic(auto, unfolding(crate::specs::Network::delay))]
     pub fn delay(&self, a: u32) -> u64
         requires { a < arc_count self.now }

@@ -50,7 +50,7 @@ earliest-all P f (x ∷ xs) none both all =
 pub no_later-all : (o : Option ℕ) (f : ℕ → Option ℕ) (xs : List ℕ) → All (λ x. IsNoLater o (f x)) xs → IsNoLater o (earliest f xs)
 no_later-all o f xs all = earliest-all (IsNoLater o) f xs tt (no_later-both o) all
 
--- a date, if it is one, is at most so much
+-- a date, if it is one, is at most this number
 abbrev pub IsWithin : ℕ → Option ℕ → Type 0
 IsWithin most None = Unit {0}
 IsWithin most (Some date) = date ≤ most

@@ -1,5 +1,5 @@
 -- Where there is no latest date, tables that solve the graph and serve are as late as one likes: the latest dates where there
--- are some, and elsewhere the dates of a table that serves, all later by so much.
+-- are some, and elsewhere the dates of a table that serves, all later by one number.
 use Rattle.std.proofs.Common.{◌≡◌, ℕ, zero, suc, ◌+◌, ◌-◌, ◌<◌, ◌≤◌, max, sym, ap, subst, arith, inl, inr}
 use Rattle.std.specs.Prelude.{Option, None, Some}
 use Rattle.std.proofs.lemmas.Bool.{cases_lt, cases_eq}
@@ -36,7 +36,7 @@ within-put : (g : Parts) (a m most : ℕ) (o : Option ℕ) → IsWithin most o �
 within-put g a m most None h = tt
 within-put g a m most (Some date) h = omega arith
 
--- so much later, where there is no latest date
+-- later by `more`, where there is no latest date
 unfoldable later_by : ℕ → ℕ → Option ℕ → ℕ
 later_by more date None = date + more
 later_by more date (Some latest) = latest

@@ -31,7 +31,7 @@ earlier-first w v small less =
           ∙ sym (ap (λ o. earlier o (date_of v)) (date_of-some w some) ∙ ap (earlier (Some w)) (date_of-some v other))
     ]
 
--- a word that stands for a date, and what is less by so much
+-- a word that stands for a date, and one that is less by a time
 pub date_of-less : (w time : ℕ) → w < 2 ^ 64 → w ≢ 2 ^ 64 - 1 → time ≤ w → date_of (w - time) ≡ option_map (λ date. date - time) (date_of w)
 date_of-less w time small some long =
     let below : w - time ≢ 2 ^ 64 - 1 = λ e. some (omega (arith, e)) in

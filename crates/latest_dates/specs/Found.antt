@@ -24,8 +24,8 @@ wait_of g x n = wait_until x (stations g - 1) n
 abbrev pub IsInTime : Parts → Table → ℕ → Type 0
 IsInTime g x may = NoneWaitsLonger (wait_of g x) (jobs g) may
 
--- why there are no latest dates: this job is the first that waits longer than it may, and waits so long. Where memory
--- is wanting is free.
+-- why there are no latest dates: this job is the first that waits longer than it may, with how long it waits. Running
+-- out of memory may come at any time.
 abbrev pub IsLatestRefusal : Parts → Table → ℕ → LatestError → Type 0
 IsLatestRefusal g x may (Late job wait) = IsFirstLate (wait_of g x) (jobs g) may job wait
 IsLatestRefusal g x may NoMemory = ⊤

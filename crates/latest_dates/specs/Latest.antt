@@ -1,5 +1,5 @@
--- How late each job may be at each station, where every customer waits at most so long. Stations count from 0, jobs
--- from 1; the last station is the delivery. None stands for a date that nothing bounds.
+-- How late each job may be at each station, where every customer waits at most a given time. Stations count from 0,
+-- jobs from 1; the last station is the delivery. None stands for a date that nothing bounds.
 -- Source: Baccelli, Cohen, Olsder, Quadrat, Synchronization and Linearity, residuation and the backward equations.
 use Rattle.std.specs.Prelude.{◌≡◌, ℕ, ◌+◌, ◌-◌, ◌≤◌, ◌==◌, nat_le, min, if◌then◌else◌, List, [], ◌∷◌, Option, None, Some, ⊤}
 use Rattle.line_base.specs.declared.event.Parts.{Parts}

@@ -8,7 +8,7 @@ use Rattle.event_graph.specs.Solves.{Solves}
 use Rattle.what_if.specs.Page.{IsDate}
 use Rattle.latest_dates.specs.Latest.{LatestTable, IsNoLater, AreLatest}
 
--- no job is delivered later than so long after its demand
+-- no job is delivered later than its demand date plus the longest wait
 abbrev pub IsServed : Parts → ℕ → Table → Type 0
 IsServed g may z = (n : ℕ) → 1 ≤ n → n ≤ jobs g → z (stations g - 1) n ≤ demand g n + may
 
@@ -42,7 +42,7 @@ LatestSolveAsTable g =
     (may : ℕ) (x : Table) → Solves g x → IsServed g may x
     → (y : LatestTable) → AreLatest g may y → (z : Table) → AreDates g y z → Solves g z
 
--- no job is delivered later by them than so long after its demand
+-- by them no job is delivered later than its demand date plus the longest wait
 abbrev pub LatestServe : Parts → Type 0
 LatestServe g =
     (may : ℕ) (y : LatestTable) → AreLatest g may y

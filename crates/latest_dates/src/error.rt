@@ -6,7 +6,8 @@ use std::alloc::AllocError;
 /// Why there are no latest dates.
 #[derive(Clone, Copy)]
 pub enum LatestError {
-    /// The job is the first that waits longer than it may, and waits so long. Jobs are counted from 1.
+    /// The job is the first that waits longer than it may, and `wait` is how long it waits, in the plant's unit. Jobs
+    /// are counted from 1.
     Late { job: u32, wait: u64 },
     /// Memory ran out.
     NoMemory,

@@ -64,7 +64,7 @@ impl LatestDate {
         if other.word < self.word { other } else { self }
     }
 
-    /// So much earlier.
+    /// The date that is earlier by this time.
     pub fn less(self, time: u64) -> LatestDate
         requires { IsNoLater (Some time) self }
         ensures { result ≡ option_map (λ date. date - time) self }

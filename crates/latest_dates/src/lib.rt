@@ -1,4 +1,4 @@
-//! How late each job may be at each station, where every customer waits at most so long.
+//! How late each job may be at each station, where every customer waits at most a given time.
 #![tactic(auto)]
 
 mod arc_bounds;

@@ -135,7 +135,8 @@ fn write_jobs(
     Written { end, tight }
 }
 
-/// Writes the lines of all jobs at station `t`, and tells how many of them have no slack. They are formatted in a room.
+/// Writes the lines of all jobs at station `t`, and answers how many of them have no slack. They are formatted in a
+/// room.
 fn write_station<K: Sink>(
     out: &mut Outgoing,
     sink: &mut K,
@@ -168,7 +169,7 @@ fn write_station<K: Sink>(
     tight
 }
 
-/// Writes the lines of all stations but the feed, and tells how many of them have no slack.
+/// Writes the lines of all stations but the feed, and answers how many of them have no slack.
 fn write_stations<K: Sink>(
     out: &mut Outgoing,
     sink: &mut K,

@@ -27,6 +27,6 @@ pub struct Parts {
     pub dates: Items<Date>,
     /// The arcs.
     pub arcs: Items<Arc>,
-    /// The delay of each arc: a token put on it can be taken so much later.
+    /// The delay of each arc: a token put on it can be taken that much later.
     pub delays: Items<u64>,
 }

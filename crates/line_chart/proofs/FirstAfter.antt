@@ -1,4 +1,4 @@
--- The first date above another one, in a list of dates that don't decrease, each so much later.
+-- The first date above another one, in a list of dates that don't decrease, each later by `late`.
 use Rattle.std.proofs.Common.{◌≡◌, ℕ, ◌+◌, ◌<◌, ◌≤◌, true, false, leb, ltb, List, length, get_or, inl, inr, arith}
 use Rattle.std.specs.List.Sorted.{IsNonDecreasing, IsPartitionPoint}
 use Rattle.std.proofs.lemmas.Bool.{cases_lt, le-leb, lt-leb, lt-ltb, le-ltb}
@@ -35,7 +35,7 @@ none-before dates late at i next order point few sooner k below =
       | inr later ↦ inr (let up = order i k 0 later below in omega (arith, sooner (omega arith)))
     ]
 
--- what a test tells
+-- what a test says
 pub tells-below : (a b : ℕ) → true ≡ ltb a b → a < b
 tells-below a b e =
     elim (cases_lt a b) [

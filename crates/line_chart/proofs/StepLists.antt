@@ -30,7 +30,7 @@ filter-none t [] none = refl
 filter-none t (x ∷ xs) none =
     ap (λ b. cond b (x ∷ filter t xs) (filter t xs)) (All-head (λ y. t y ≡ false) x xs none) ∙ filter-none t xs (All-tail (λ y. t y ≡ false) x xs none)
 
--- whether a count is another than a date before
+-- whether a count differs from that at the date before
 abbrev changed : (ℕ → ℕ) → ℕ → Bool
 changed f d = not (eqb (f d) (f (d - 1)))
 

@@ -43,7 +43,7 @@ NoneBetween-sooner dates late at next sooner le none k below =
       | inr later ↦ inr (omega arith)
     ]
 
--- the jobs that a station has done, each so much later
+-- the jobs that a station has done, each later by `late`
 row-still : (p : Plant) (d : Dates) (t late at next v : ℕ) (f : ℕ → ℕ) → IsLeastTable d → d.graph ≡ graph p → t < station_count p → NoneBetween (get_or d.rows t []) late at next → at ≤ v → v < next → ((n : ℕ) → f n ≡ date_in d.rows t n + late) → count_until (graph p) f v ≡ count_until (graph p) f at
 unfolding count_until
 row-still p d t late at next v f table is exists none low high each =

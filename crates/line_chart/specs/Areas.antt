@@ -15,7 +15,7 @@ count_of p x (Parts stage) v = standing p x stage v
 count_of p x (UnderWay stage) v = in_process p x stage v + in_move p x stage v
 count_of p x Backlog v = backlog p x v
 
--- the dates after `from` and before `to` at which a count is another than a date before
+-- the dates after `from` and before `to` at which a count differs from that at the date before
 unfoldable pub changes : (ℕ → ℕ) → ℕ → ℕ → List ℕ
 changes f from to = filter (λ d. not (f d == f (d - 1))) (range_with_len (from + 1) (to - (from + 1)))
 

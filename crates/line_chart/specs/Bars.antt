@@ -59,7 +59,7 @@ bar g x m n =
       lane = m.first + (n - 1) % m.count;
     }
 
--- whether a bar meets the window: it begins before the end of the window, and ends after its begin
+-- whether a bar meets the window: it begins before the end of the window, and ends after its beginning
 abbrev pub meets : Window → Bar → Bool
 meets w b = nat_lt b.start w.to && nat_lt w.from (b.start + b.time)
 

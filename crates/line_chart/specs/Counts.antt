@@ -10,7 +10,7 @@ IsCountOf p (Parts stage) = stage < length p.stages
 IsCountOf p (UnderWay stage) = stage < length p.stages
 IsCountOf p Backlog = ⊤
 
--- each of the dates, so much later, is at most the first date, or no less than the second
+-- each of the dates, later by `late`, is at most the first date, or no less than the second
 abbrev pub NoneBetween : List ℕ → ℕ → ℕ → ℕ → Type 0
 NoneBetween dates late at next =
     (k : ℕ) → k < length dates → (slice_index dates k + late ≤ at) ⊎ (next ≤ slice_index dates k + late)

@@ -1,4 +1,4 @@
--- What comes of a line, and of the lines, of a schedule.
+-- What a line of a schedule gives, and what all its lines give.
 use Rattle.std.proofs.Common.{◌≡◌, ◌≢◌, ℕ, ◌+◌, ◌<◌, ◌≤◌, Bool, true, false, eqb, List, [], ◌∷◌, take, drop, length, get_or, refl, sym, ap, ◌∙◌, arith, ⊎_elim}
 use Rattle.std.specs.Prelude.{None, Some, Ok, Err, not}
 use Rattle.std.specs.List.{position_or_len}

@@ -1,4 +1,4 @@
--- What the logs and the numbers of tokens tell of all places with this many tokens.
+-- What the logs and the numbers of tokens say of all places with this many tokens.
 use Rattle.std.proofs.Common.{◌≡◌, ℕ, ◌<◌, ◌≤◌, List, [], ◌∷◌, ◌++◌, length, map, get_or, refl, sym, ap, ◌∙◌, arith, append_assoc, zero-add}
 use Rattle.std.specs.Prelude.{Some, slice_index}
 use Rattle.std.specs.List.{All, flat_map, range_with_len}

@@ -1,4 +1,4 @@
--- Stations in the order of their numbers of dates, then of their places in an order that arcs without tokens go up.
+-- Stations in the order of their numbers of dates, then of their ranks in an order that arcs without tokens go up.
 use Rattle.std.proofs.Common.{◌≡◌, ℕ, zero, suc, ◌-◌, ◌<◌, ◌≤◌, ◌⊎◌, List, length, get_or, sym, subst, arith, ⊎_elim, inl, inr}
 use Rattle.std.proofs.lemmas.Bool.{cases_lt, cases_order}
 use Rattle.line_base.specs.declared.event.Parts.{Parts}
@@ -26,7 +26,7 @@ module _ (R : ℕ → ℕ → Type 0) (total : (t u : ℕ) → R t u ⊎ R u t) 
       λ first. (suc n, omega arith, λ u low. ⊎_elim (λ early. along (suc n) t u first (before.2 u (omega arith))) (λ last. let same : suc n ≡ u = omega arith in subst (R (suc n)) same (itself (suc n))) (cases_lt u (suc n))) in
       ⊎_elim keep take (total t (suc n))
 
--- t has fewer dates than u, or as many and no higher place
+-- t has fewer dates than u, or as many and no higher rank
 abbrev pub ComesFirst : State → List ℕ → ℕ → ℕ → Type 0
 ComesFirst s places t u =
     (length (log s t) < length (log s u)) ⊎ ((length (log s t) ≡ length (log s u)) × (get_or places t 0 ≤ get_or places u 0))

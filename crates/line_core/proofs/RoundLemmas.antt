@@ -1,4 +1,4 @@
--- A round in the order of the places: each station can fire as its turn comes, and then has fired once more.
+-- A round in the order of the ranks: each station can fire as its turn comes, and then has fired once more.
 use Rattle.std.proofs.Common.{◌≡◌, ◌≢◌, ℕ, ◌+◌, ◌<◌, true, List, [], length, get_or, eqb, sym, ap, ◌∙◌, refl, subst, arith, ⊎_elim}
 use Rattle.std.proofs.lemmas.Bool.{cases_lt, cases_eq, cases_order, eq-eqb, ne_eqb}
 use Rattle.std.proofs.lemmas.List.{length-drop, get_or-replicate}
@@ -13,7 +13,7 @@ use Rattle.line_core.specs.Round.{IsInRound, HasFired}
 use Rattle.line_core.proofs.ArcTokens.{length-all_tokens, log-after, with_new, length-with_new}
 use Rattle.line_core.proofs.Consistency.{reached_is_consistent}
 
--- two stations at one place are one
+-- two stations of one rank are one
 pub one_at_a_place : (g : Parts) (places : List ℕ) → IsUpward g places → (t u : ℕ) → t < stations g → u < stations g → get_or places t 0 ≡ get_or places u 0 → t ≡ u
 one_at_a_place g places up t u t_there u_there same =
     ⊎_elim

@@ -1,4 +1,4 @@
--- What a search for the first arc without a token, or for the first station that is behind, tells.
+-- What a search for the first arc without a token, or for the first station that is behind, finds.
 use Rattle.std.proofs.Common.{◌≡◌, ◌≢◌, ℕ, zero, suc, ◌+◌, ◌<◌, ◌≤◌, Bool, true, false, cond, ltb, List, [], ◌∷◌, drop, length, get_or, max, refl, sym, ap, ◌∙◌, arith, drop-cons, add-one}
 use Rattle.std.specs.Prelude.{Option, None, Some, is_some, not}
 use Rattle.std.specs.Ordering.{ord_max, nat_cmp}

@@ -120,7 +120,7 @@ IsReachedExactly g logs places =
 abbrev pub AnswersFirst : Result ⊤ StateError → List StateError → Type 0
 AnswersFirst r refusals = MatchResult r (λ _. refusals ≡ []) (λ refusal. first refusals ≡ Some refusal)
 
--- the error is the first refusal; when memory runs out is free
+-- the error is the first refusal; running out of memory may come at any time
 abbrev pub IsStateRefusal : Parts → List (List ℕ) → List (List ℕ) → StateError → Type 0
 IsStateRefusal g logs places (Count t have limit) = state_refusal g logs places ≡ Some (Count t have limit)
 IsStateRefusal g logs places (Marking a have need) = state_refusal g logs places ≡ Some (Marking a have need)

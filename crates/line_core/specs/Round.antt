@@ -1,10 +1,10 @@
--- How far a run has come that fires the stations in the order of their places, once each for every job.
+-- How far a run has come that fires the stations in the order of their ranks, once each for every job.
 use Rattle.std.specs.Prelude.{◌≡◌, ℕ, ◌+◌, ◌<◌, ◌≤◌, List, length, slice_index}
 use Rattle.event_graph.specs.Network.{stations}
 use Rattle.event_graph.specs.State.{log}
 use Rattle.line_core.specs.Run.{Run}
 
--- the stations below this place have fired `done + 1` times, the others `done` times
+-- the stations below this rank have fired `done + 1` times, the others `done` times
 pub record IsInRound (places : List ℕ) (r : Run) (done place : ℕ) : Type 0 where
   pub ahead : (t : ℕ) → t < stations r.graph → slice_index places t < place → length (log r.state t) ≡ done + 1
   pub behind : (t : ℕ) → t < stations r.graph → place ≤ slice_index places t → length (log r.state t) ≡ done

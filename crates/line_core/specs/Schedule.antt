@@ -24,18 +24,18 @@ is_label_of g text t = bytes_eq (label g t) text
 abbrev pub station_with : Parts → List ℕ → Option ℕ
 station_with g text = find (is_label_of g text) (range_with_len 0 (stations g))
 
--- what comes of a firing of t that line n names, where this is its first input place without a token
+-- what a firing of t that line n names gives, where this is its first input place without a token
 abbrev pub fire_from : Parts → ℕ → ℕ → State → Option ℕ → Result State ReplayError
 fire_from g n t s None = Ok (after g s t)
 fire_from g n t s (Some a) = Err (Empty n a)
 
--- what comes of a line n that names this station
+-- what a line n that names this station gives
 abbrev pub fire_named : Parts → ℕ → State → Option ℕ → Result State ReplayError
 fire_named g n s None = Err (NoStation n)
 fire_named g n s (Some t) =
     if length (log s t) == jobs g then Err (Done n t) else fire_from g n t s (first_empty g s t)
 
--- what comes of line n: nothing of an empty one, and else a firing of the station with this label
+-- what line n gives: an empty one the same state, any other a firing of the station with this label
 unfoldable pub follow_line : Parts → ℕ → List ℕ → State → Result State ReplayError
 follow_line g n text s =
     if length text == 0 then Ok s else fire_named g n s (station_with g text)
@@ -45,25 +45,25 @@ abbrev pub end_at : State → Option ℕ → Result State ReplayError
 end_at s None = Ok s
 end_at s (Some t) = Err (Unfinished t (length (log s t)))
 
--- what comes next of a state, where there was no refusal
+-- what is next made of a state, where there was no refusal
 abbrev pub and_then : Result State ReplayError → (State → Result State ReplayError) → Result State ReplayError
 and_then (Ok s) next = next s
 and_then (Err refusal) next = Err refusal
 
--- what comes of the lines from number n on
+-- what the lines from number n on give
 unfoldable pub follow_lines : Parts → List (List ℕ) → ℕ → State → Result State ReplayError
 follow_lines g [] n s = end_at s (first_unfinished g s)
 follow_lines g (line ∷ lines) n s =
     and_then (follow_line g n (strip_carriage_return line) s) (follow_lines g lines (n + 1))
 
--- this is what comes of a line, or of all lines of a schedule, in a run
+-- this is what a line gives, or what all lines of a schedule give, in a run
 abbrev pub LineGives : Run → ℕ → List ℕ → Result State ReplayError → Type 0
 LineGives r n text end = follow_line r.graph n text r.state ≡ end
 
 abbrev pub LinesGive : Run → List ℕ → Result State ReplayError → Type 0
 LinesGive r schedule end = follow_lines r.graph (lines_of schedule) 1 r.state ≡ end
 
--- what comes of a run when there are no more lines
+-- how a run ends when there are no more lines
 abbrev pub run_end : Run → Result State ReplayError
 run_end r = end_at r.state (first_unfinished r.graph r.state)
 
@@ -71,7 +71,7 @@ run_end r = end_at r.state (first_unfinished r.graph r.state)
 abbrev pub follow : Parts → List ℕ → Result State ReplayError
 follow g schedule = follow_lines g (lines_of schedule) 1 (start g)
 
--- the error is the refusal of the schedule; when memory runs out is free
+-- the error is the refusal of the schedule; running out of memory may come at any time
 abbrev pub IsRefusal : Parts → List ℕ → ReplayError → Type 0
 IsRefusal g schedule (NoStation n) = follow g schedule ≡ Err (NoStation n)
 IsRefusal g schedule (Done n t) = follow g schedule ≡ Err (Done n t)

@@ -89,8 +89,8 @@ pub record DiskView : Type 0 where
 abbrev pub held_now : DiskView → Held
 held_now disk = disk.held disk.moment
 
--- A call takes the clock on, or leaves it. What the disk held at the moments before stays the same. A crash during the call
--- leaves what it may leave at the moment before the call or at the one after it.
+-- A call moves the clock on, or leaves it. What the disk held at the moments before stays the same. A crash during the
+-- call leaves what it may leave at the moment before the call or at the one after it.
 pub record Passes (old new : DiskView) : Type 0 where
   pub later : old.moment ≤ new.moment
   pub past : (k : ℕ) → k ≤ old.moment → new.held k ≡ old.held k

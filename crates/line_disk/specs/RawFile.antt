@@ -43,7 +43,7 @@ raw_now file = file.held file.moment
 abbrev pub disk_of : RawView → DiskView
 disk_of file = record { moment = file.moment; held = file.held; faults = 0; reads = [] }
 
--- the same as a disk that counts faults and tells its reads
+-- the same as a disk that counts faults and lists its reads
 abbrev pub disk_with : RawView → ℕ → List DiskRead → DiskView
 disk_with file faults reads = record (disk_of file) { faults = faults; reads = reads }
 

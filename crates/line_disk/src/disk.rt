@@ -84,7 +84,7 @@ pub trait Disk {
         ensures faults_stay { OnOk result ((shown self.new).faults ≡ (shown self.old).faults) }
         ensures faults_stay_or_rise { (shown self.old).faults ≤ (shown self.new).faults };
 
-    /// Makes all that was written stand. From then on a crash leaves what a read gives.
+    /// Makes all that was written durable. From then on a crash leaves what a read gives.
     fn sync(&mut self) -> Result<(), DiskError>
         ensures reads_stay { (shown self.new).reads ≡ (shown self.old).reads }
         ensures synced { OnOk result (IsTrue tells

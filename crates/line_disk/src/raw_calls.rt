@@ -11,7 +11,7 @@ use std::marker::Model;
 /// How many bytes the machine read or took.
 type Count = io::Result<usize>;
 
-/// Names to a transcript what contracts see of a call. No value of it is made.
+/// Stands in the type of a transcript for a call, as contracts see it. No value of it is made.
 pub struct RawCallName {}
 
 impl Model for RawCallName {

@@ -60,7 +60,7 @@ pub trait RawFile {
             → Torn (raw_now (shown self.old)) (raw_now (shown self.new)) at (length bytes.now)) }
         ensures time { IsTrue tells → Passes (disk_of (shown self.old)) (disk_of (shown self.new)) };
 
-    /// Makes all that was written stand. From then on a crash leaves what a read gives.
+    /// Makes all that was written durable. From then on a crash leaves what a read gives.
     fn sync(&mut self) -> io::Result<()>
         requires open { (shown self.old).is_open ≡ true }
         ensures recorded { (shown self.new).asked ≡ (shown self.old).asked ++ sync_call result ∷ [] }

@@ -7,7 +7,7 @@ use crate::disk::DiskError;
 use line_base::Transcript;
 use std::marker::Model;
 
-/// Names to a transcript what contracts see of a read. No value of it is made.
+/// Stands in the type of a transcript for a read, as contracts see it. No value of it is made.
 pub struct ReadName {}
 
 impl Model for ReadName {

@@ -1,4 +1,5 @@
--- Appends one after another, and fronts of them. What was written stands here as a list, as `PutsAll` and `PutsPrefix` read it.
+-- Appends one after another, and prefixes of them. What was written stands here as a list, as `PutsAll` and
+-- `PutsPrefix` read it.
 use Rattle.std.proofs.Common.{◌≡◌, ℕ, List, [], ◌++◌, take, drop, sym, ap, append_assoc, append-nil}
 use Rattle.std.proofs.lemmas.List.{take-append-drop}
 

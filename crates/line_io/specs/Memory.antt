@@ -20,7 +20,8 @@ sink_view sink = record { written = sink.bytes.items; faults = sink.faults }
 abbrev pub sink_plan : MemSink → FailPlan
 sink_plan sink = sink.plan
 
--- a sink as it is made: with this room, these calls are to fail, of a refused piece it keeps so much, and nothing was written
+-- a sink as it is made: with this room, these calls are to fail, it keeps this much of a refused piece, and nothing was
+-- written
 pub record IsNewSink (sink : MemSink) (size : ℕ) (numbers : List ℕ) (kept : ℕ) : Type 0 where
   pub room : sink.room ≡ size
   pub keep : sink.keep ≡ kept
@@ -69,7 +70,8 @@ failed_writes store = store.failed_writes
 abbrev pub store_keep : MemStore → Option ℕ
 store_keep store = store.keep
 
--- a store as it is made: of these files, these calls are to fail, a refused write keeps so much, and nothing was asked yet
+-- a store as it is made: of these files, these calls are to fail, a refused write keeps this much, and nothing was
+-- asked yet
 pub record IsNewStore (store : MemStore) (held : BTreeMap (String Global) (Vec ℕ Global)) (numbers : List ℕ)
     (kept : Option ℕ) : Type 0 where
   pub files : store.files ≡ held

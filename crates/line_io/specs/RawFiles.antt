@@ -114,7 +114,7 @@ given_by (call ∷ calls) = given_by calls
 
 -- These calls read on, behind the bytes that were read before: to the end of the file, and all bytes are the answer; to one that
 -- was refused; to one by which more than the limit were read; or to one for whose bytes there was no memory. None
--- asks for more than the limit and one byte more leave.
+-- asks for more bytes than are left of the limit and one.
 abbrev pub ReadsOn : ℕ → List ℕ → List FilesCall → Result (List ℕ) StoreError → Type 0
 ReadsOn limit before (Reads most None ∷ calls) answer =
     (0 < most) × (length before + most ≤ limit + 1) × (calls ≡ []) × (answer ≡ Err store_error.Failed)

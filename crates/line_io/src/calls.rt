@@ -8,7 +8,7 @@ use crate::store::StoreError;
 use line_base::Transcript;
 use std::marker::Model;
 
-/// Names to a transcript what contracts see of a read. No value of it is made.
+/// Stands in the type of a transcript for a read, as contracts see it. No value of it is made.
 pub struct ReadCall {}
 
 impl Model for ReadCall {
@@ -20,7 +20,7 @@ impl Model for ReadCall {
     ghost view = { λ _. record { name = []; answer = Ok [] } };
 }
 
-/// Names to a transcript what contracts see of a write. No value of it is made.
+/// Stands in the type of a transcript for a write, as contracts see it. No value of it is made.
 pub struct WriteCall {}
 
 impl Model for WriteCall {

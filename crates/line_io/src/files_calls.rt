@@ -8,7 +8,7 @@ use line_base::Transcript;
 use std::io;
 use std::marker::Model;
 
-/// Names to a transcript what contracts see of a call. No value of it is made.
+/// Stands in the type of a transcript for a call, as contracts see it. No value of it is made.
 pub struct FilesCallName {}
 
 impl Model for FilesCallName {

@@ -9,8 +9,8 @@ use std::alloc::{AllocError, Global};
 use std::marker::Model;
 
 /// A buffer of one piece before a sink, for a text that is written part by part. Bytes wait in it
-/// until a piece is full. Once the sink has failed all that follows is dropped, and `finish` tells
-/// it.
+/// until a piece is full. Once the sink has failed all that follows is dropped, and `finish` says
+/// so.
 #[derive(Drop)]
 pub struct Outgoing {
     buffer: PieceBuffer,

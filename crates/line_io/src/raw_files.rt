@@ -67,7 +67,7 @@ pub trait RawFiles {
         ensures written { IfOk result (λ n. IsTrue tells → Grows (shown self.old) (shown self.new) (take n bytes.now)) }
         ensures torn { OnErr result (IsTrue tells → GrowsByPrefix (shown self.old) (shown self.new) bytes.now) };
 
-    /// Makes what was written to the file that is open stand.
+    /// Makes what was written to the file that is open durable.
     fn sync(&mut self) -> io::Result<()>
         requires open { (shown self.old).is_open ≡ true }
         ensures recorded { (shown self.new).asked ≡ (shown self.old).asked ++ Syncs (is_ok result) ∷ [] }

@@ -18,7 +18,7 @@ pub trait RawOut {
         ensures bound { IfOk result (λ n. n ≤ length bytes.now) };
 }
 
-/// Names to a transcript what contracts see of a call. No value of it is made.
+/// Stands in the type of a transcript for a call, as contracts see it. No value of it is made.
 pub struct OutCallName {}
 
 impl Model for OutCallName {

@@ -64,14 +64,14 @@ two_at_least text at end job small low within is =
     let number = ap length n.this ∙ length-append n.front _ in
     omega arith
 
--- the front of what is written behind a place stays
+-- what stands before what is written stays
 pub kept_front : (old new rest : List ℕ) (few at end : ℕ) → few ≤ at → at ≤ length old → take end new ≡ take at old ++ rest → take few new ≡ take few old
 kept_front old new rest few at end low long is =
     let head : length (take at old) ≡ at = length-take-le at old long in
     let far : at ≤ end = omega (arith, head, length-append (take at old) rest, ap length is, length-take end new) in
     sym (take-take few end new (omega arith)) ∙ ap (take few) is ∙ take-append-le few (take at old) rest (omega arith) ∙ take-take few at old low
 
--- a text whose front is copied behind a place, with what it has behind that front
+-- the first bytes of a text that is copied behind others, and those others
 pub copied_front : (room text later : List ℕ) (at few : ℕ) → at ≤ length room → few ≤ length text → take (at + few) (take at room ++ (text ++ later)) ≡ take at room ++ take few text
 copied_front room text later at few low short =
     let head = take at room in

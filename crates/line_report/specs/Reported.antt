@@ -1,4 +1,4 @@
--- The texts of a `Report`, and what is known of the run that it tells.
+-- The texts of a `Report`, and what is known of the run that it reports.
 use Rattle.std.specs.Prelude.{◌≡◌, ℕ, List}
 use Rattle.event_graph.specs.Table.{date_in}
 use Rattle.line_stats.specs.PlantDates.{PlantDates, AreOfPlant}

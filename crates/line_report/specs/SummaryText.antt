@@ -8,7 +8,7 @@ use Rattle.event_graph.specs.Table.{Table}
 use Rattle.line_stats.specs.DateSums.{date_total}
 use Rattle.line_report.specs.ReportText.{line, end_lines}
 
--- a word, and the number that it tells
+-- a word, and a number behind it
 abbrev pub number_line : List ℕ → ℕ → List ℕ
 number_line word n = line (word ∷ decimal n ∷ [])
 

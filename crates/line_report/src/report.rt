@@ -39,9 +39,9 @@ impl Model for Report {
 }
 
 impl Report {
-    /// The report of a sound plant, its live graph, and a table of that graph, to be written by as many workers, which are
-    /// one at least. It takes all memory that writing takes: the numbers of the stations, room for one piece of the text,
-    /// and for the one worker 256 KiB, or for each of several 1 MiB.
+    /// The report of a sound plant, its live graph, and a table of that graph, to be written by this many workers,
+    /// which are one at least. It takes all memory that writing takes: the numbers of the stations, room for one piece
+    /// of the text, and for the one worker 256 KiB, or for each of several 1 MiB.
     pub fn new(
         alloc: Global,
         plant: Plant,

@@ -14,7 +14,7 @@ pub fn write_number_behind<K: Sink>(out: &mut Outgoing, sink: &mut K, words: &[u
     out.push_number(sink, number);
 }
 
-/// Writes a line of a word, and the number that it tells.
+/// Writes a line: a word, and a number behind it.
 pub fn write_number_line<K: Sink>(out: &mut Outgoing, sink: &mut K, word: &[u8], number: u128)
     ensures { Pushed (stream (K.shown sink.old) out.old)
         (stream (K.shown sink.new) out.new) (number_line word.now number) }

@@ -23,11 +23,11 @@ first_of test numbers = unwrap_or (find test numbers) 0
 unfoldable pub most_wait : Parts → Table → ℕ
 most_wait g x = greatest (wait g x) (job_numbers g)
 
--- the first job that waits so long
+-- the first job that waits that long
 unfoldable pub worst_job : Parts → Table → ℕ
 worst_job g x = first_of (λ n. wait g x n == most_wait g x) (job_numbers g)
 
--- how many jobs wait at most so long
+-- how many jobs wait at most this long
 unfoldable pub within : Parts → Table → ℕ → ℕ
 within g x most = count_by (λ n. nat_le (wait g x n) most) (job_numbers g)
 

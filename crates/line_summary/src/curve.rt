@@ -47,8 +47,8 @@ impl From<line_io::Failed> for CurveError {
 const ROOM: usize = 16_777_216;
 
 /// Takes a large block of memory and gives it back, untouched. From it the allocator of the C library learns to keep as
-/// much of what it gets back, in place of handing it to the system: else each count gets the pages of its run anew, and
-/// the threads wait for one another to get them. Where there is no such block, the counts go on without.
+/// much of what it gets back, in place of handing it to the system: else each count gets the pages of its run afresh,
+/// and the threads wait for one another to get them. Where there is no such block, the counts go on without.
 fn keep_memory(alloc: Global) {
     let taken: Result<Vec<u8>, AllocError> = Vec::with_capacity(alloc, ROOM);
     drop(taken);

@@ -22,7 +22,7 @@ pub struct Figures {
     pub waited: u128,
     /// The greatest wait.
     pub most: Date,
-    /// The first job that waits so long.
+    /// The first job that waits that long.
     pub worst: u32,
     /// The sum over time of the parts of all stages: how many there are, added up at each date before the last.
     pub parts: u128,

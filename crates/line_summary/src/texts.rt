@@ -52,7 +52,7 @@ fn write_jobs<K: Sink>(out: &mut Outgoing, sink: &mut K, jobs: u32, last: Date)
     out.push(sink, b"\n");
 }
 
-/// Writes the mean wait, the greatest, and the first job that waits so long.
+/// Writes the mean wait, the greatest, and the first job that waits that long.
 fn write_waits<K: Sink>(out: &mut Outgoing, sink: &mut K, figures: &Figures)
     ensures { Pushed (stream (K.shown sink.old) out.old) (stream (K.shown sink.new) out.new)
         (wait_line figures.now.waited figures.now.jobs figures.now.most figures.now.worst) }

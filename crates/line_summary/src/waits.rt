@@ -11,7 +11,7 @@ use line_core::Table;
 use line_stats::backlog;
 use plant_model::{FEED, LineNumbers, Plant};
 
-/// The greatest wait, and the first job that waits so long.
+/// The greatest wait, and the first job that waits that long.
 #[derive(Clone, Copy)]
 pub struct LongestWait {
     pub wait: Date,

@@ -64,7 +64,7 @@ impl Live {
         &self.graph
     }
 
-    /// The rank of station `t`. Places are counted from 0, and each station has one of its own.
+    /// The rank of station `t`. Ranks are counted from 0, and each station has one of its own.
     pub fn place_of(&self, t: u32) -> u32
         requires { t < stations self.now.graph }
         ensures rank { result ≡ slice_index self.now.ranks t }

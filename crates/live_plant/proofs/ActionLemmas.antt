@@ -1,4 +1,4 @@
--- Steps, and then a action.
+-- Steps, and then an action.
 use Rattle.std.proofs.Common.{◌≡◌, ◌⊎◌, ℕ, ◌≤◌, Bool, List, [], ◌∷◌, ◌++◌, refl, ap, sym, ◌∙◌, subst, append_assoc, append-nil, inl, inr, ⊎_elim, arith}
 use Rattle.std.specs.Prelude.{Result, Ok, Err, IfErr, IsErrAnd}
 use Rattle.std.proofs.lemmas.Result.{err_from_is_err_and}
@@ -21,7 +21,7 @@ use Rattle.live_plant.proofs.StepLemmas.{fits_along, NeedsNoCause, settled_is_ca
 reads_asked : (asked : Asked) (reads : List Read) → with_reads asked reads ≡ with_asked asked (record { reads = reads; writes = [] })
 reads_asked asked reads = ap (λ (writes : List Write). record asked { reads = asked.reads ++ reads; writes = writes }) (sym (append-nil asked.writes))
 
--- the cause of a refusal of a step is one of a action
+-- the cause of a refusal of a step is one of an action
 cause_of : (store : StoreOver) (disk : DiskOver) (writes : List Write) (refusal : Refusal) → IsCaused store refusal → HasCause store disk writes refusal
 cause_of store disk writes (StoreFault file) caused = inl caused
 cause_of store disk writes (TooLong file) caused = caused
@@ -32,7 +32,7 @@ answer_cause_of : {A : Type 0} (store : StoreOver) (disk : DiskOver) (writes : L
 answer_cause_of store disk writes (Ok x) caused = tt
 answer_cause_of store disk writes (Err refusal) caused = cause_of store disk writes refusal caused
 
--- a step is a action that writes nothing and leaves the disk
+-- a step is an action that writes nothing and leaves the disk
 pub plainly : {A : Type 0} (store : StoreOver) (disk : DiskOver) (step : Step A) (answer : Result A Refusal) → disk.new ≡ disk.old → Makes store step answer → Does store disk (Plainly step) answer
 plainly store disk step answer same m = record {
   asks = record { reads = m.reads; writes = [] };
@@ -80,11 +80,11 @@ answer_cause_along : {A : Type 0} (tells : Bool) (old between new : StoreView) (
 answer_cause_along tells old between new disk asked (Ok x) reads writes caused = tt
 answer_cause_along tells old between new disk asked (Err refusal) reads writes caused = cause_along tells old between new disk asked refusal reads writes caused
 
--- reads, and then what a action asks
+-- reads, and then what an action asks
 asked_after : (asked : Asked) (reads : List Read) (more : Asked) → with_asked (with_reads asked reads) more ≡ with_asked asked (record more { reads = reads ++ more.reads })
 asked_after asked reads more = ap (λ (r : List Read). record asked { reads = r; writes = asked.writes ++ more.writes }) (append_assoc asked.reads reads more.reads)
 
--- a step, and a action from its value
+-- a step, and an action from its value
 pub then_does : {A B : Type 0} (tells : Bool) (old between new : StoreView) (disk : DiskOver) (first : Step A) (next : A → Action B) (x : A) (answer : Result B Refusal) → Makes (store_over tells old between) first (Ok x) → Does (store_over tells between new) disk (next x) answer → Does (store_over tells old new) disk (ThenDoes first next) answer
 then_does tells old between new disk first next x answer m n = record {
   asks = record n.asks { reads = m.reads ++ n.asks.reads };
@@ -113,12 +113,12 @@ stops_before tells old new disk first next refusal same m = record {
   disk_faults_stay_or_rise = subst (λ (view : DiskView). disk.old.faults ≤ view.faults) (sym same) (omega arith);
 }
 
--- a step, and a action that leaves every disk
+-- a step, and an action that leaves every disk
 pub then_does_on_store : {A B : Type 0} (tells : Bool) (old between new : StoreView) (disk : DiskOver) (first : Step A) (next : A → Action B) (x : A) (answer : Result B Refusal) → disk.new ≡ disk.old → Makes (store_over tells old between) first (Ok x) → DoesOnStore (store_over tells between new) (next x) answer → Does (store_over tells old new) disk (ThenDoes first next) answer
 then_does_on_store tells old between new disk first next x answer same m n =
     then_does tells old between new disk first next x answer m (n disk same)
 
--- a step, and a action that leaves every store
+-- a step, and an action that leaves every store
 pub then_does_on_disk : {A B : Type 0} (tells : Bool) (old new : StoreView) (disk : DiskOver) (first : Step A) (next : A → Action B) (x : A) (answer : Result B Refusal) → Makes (store_over tells old new) first (Ok x) → DoesOnDisk disk (next x) answer → Does (store_over tells old new) disk (ThenDoes first next) answer
 then_does_on_disk tells old new disk first next x answer m n =
     then_does tells old new new disk first next x answer m (n tells new)
@@ -154,7 +154,7 @@ second_stops_plainly {A} {B} {C} tells old between new disk first second next x 
     (then_makes {A = A} {B = C} tells old between new first (λ a. Then (second a) (next a)) x (Err refusal) m
     (then_stops tells between new (second x) (next x) refusal n))
 
--- The same where `?` hands the refusal on: before a action
+-- The same where `?` hands the refusal on: before an action
 pub hands_on_before : {A B : Type 0} (tells : Bool) (old new : StoreView) (disk : DiskOver) (first : Step A) (next : A → Action B) (refusal : Refusal) (answer : Result B Refusal) → disk.new ≡ disk.old → IsErrAnd answer (λ e. e ≡ refusal) → Makes (store_over tells old new) first (Err refusal) → Does (store_over tells old new) disk (ThenDoes first next) answer
 hands_on_before tells old new disk first next refusal answer same was m =
     let p = err_from_is_err_and answer was in rw (p.1, p.2) (stops_before tells old new disk first next refusal same m)

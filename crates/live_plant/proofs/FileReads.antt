@@ -83,7 +83,7 @@ pub refusal_caused : (tells : Bool) (old new : StoreView) (error : PlantError) �
 refusal_caused tells old new plant_error.NoMemory = tt
 refusal_caused tells old new error = tt
 
--- Refused that name no file need no cause. A circuit without a token
+-- Refusals that name no file need no cause. A circuit without a token
 dead_needs_none : (store : StoreOver) (g : Parts) (refusal : Refusal) → IsDeadRefusal g refusal → IsCaused store refusal
 dead_needs_none store g (Dead labels) is = tt
 dead_needs_none store g other is = absurd is

@@ -11,7 +11,7 @@ use Rattle.refusals.specs.declared.refusal.Refusal.{Refusal}
 use Rattle.refusals.specs.declared.refusal.Refusal.TheVariants.{Disk, StoreFault, TooLong}
 use Rattle.live_plant.specs.Outside.{StoreOver, store_over, limit_of, IsOfFile}
 
--- a disk over a call: whether it tells what it holds, and what it shows before the call and after it
+-- a disk over a call: whether it is known what it holds, and what it shows before the call and after it
 pub record DiskOver : Type 0 where
   pub tells : Bool
   pub old : DiskView
@@ -32,12 +32,12 @@ pub record Plainly {A : Type 0} (step : List Read → Result A Refusal → Type 
   pub untouched : disk.new ≡ disk.old
   pub answers : step asked.reads answer
 
--- a action goes on with a value; a refusal ends the command, and nothing more is asked or touched
+-- an action goes on with a value; a refusal ends the command, and nothing more is asked or touched
 abbrev pub DoesOn : {A B : Type 0} → (A → Action B) → Result A Refusal → Action B
 DoesOn next (Ok x) asked disk answer = next x asked disk answer
 DoesOn next (Err refusal) asked disk answer = (asked ≡ none_asked) × (disk.new ≡ disk.old) × (answer ≡ Err refusal)
 
--- one step, and then a action
+-- one step, and then an action
 pub record ThenDoes {A B : Type 0} (first : List Read → Result A Refusal → Type 0)
     (next : A → Asked → DiskOver → Result B Refusal → Type 0) (asked : Asked) (disk : DiskOver)
     (answer : Result B Refusal) : Type 0 where
@@ -52,8 +52,8 @@ pub record ThenDoes {A B : Type 0} (first : List Read → Result A Refusal → T
 abbrev pub with_asked : Asked → Asked → Asked
 with_asked old more = record { reads = old.reads ++ more.reads; writes = old.writes ++ more.writes }
 
--- What a write left of its file, where the store tells its files: the bytes; a prefix of them, or what was there, where
--- it failed; what was there, where there was no memory.
+-- What a write left of its file, where the store's files are known: the bytes; a prefix of them, or what was there,
+-- where it failed; what was there, where there was no memory.
 abbrev pub LeavesFile : Bool → Contents → Contents → List ℕ → List ℕ → Result (Unit {0}) StoreError → Type 0
 LeavesFile tells old new name bytes (Ok done) = IsTrue tells → new name ≡ Some bytes
 LeavesFile tells old new name bytes (Err store_error.Failed) = IsTrue tells → IsTorn (old name) (new name) bytes
@@ -106,12 +106,12 @@ pub record Does {A : Type 0} (store : StoreOver) (disk : DiskOver)
   pub write_faults_stay_or_rise : NeverFall store.old.write_faults store.new.write_faults
   pub disk_faults_stay_or_rise : disk.old.faults ≤ disk.new.faults
 
--- a action that leaves every disk
+-- an action that leaves every disk
 abbrev pub DoesOnStore : {A : Type 0} → StoreOver → (Asked → DiskOver → Result A Refusal → Type 0) → Result A Refusal →
     Type 0
 DoesOnStore store action answer = (disk : DiskOver) → disk.new ≡ disk.old → Does store disk action answer
 
--- a action that leaves every store
+-- an action that leaves every store
 abbrev pub DoesOnDisk : {A : Type 0} → DiskOver → (Asked → DiskOver → Result A Refusal → Type 0) → Result A Refusal
     → Type 0
 DoesOnDisk disk action answer = (tells : Bool) (view : StoreView) → Does (store_over tells view view) disk action answer

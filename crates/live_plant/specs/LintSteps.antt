@@ -40,7 +40,7 @@ abbrev pub IsCleanOrDead : Plant → List ℕ → Result (List ℕ) Refusal → 
 IsCleanOrDead p text (Ok same) = (same ≡ text) × IsLive (graph p)
 IsCleanOrDead p text (Err refusal) = IsDeadRefusal (graph p) refusal
 
--- what comes of what lint says of a plant
+-- what is answered by what lint says of a plant
 abbrev pub IsSaid : Plant → List ℕ → FileLint → Result (List ℕ) Refusal → Type 0
 IsSaid p notes (lint.Refused lines) answer = answer ≡ Err (Faults lines)
 IsSaid p notes (lint.Sound more) answer = IsCleanOrDead p (clean_text notes more) answer

@@ -12,7 +12,7 @@ use Rattle.line_io.specs.declared.store.StoreError.TheVariants as store_error
 use Rattle.refusals.specs.declared.refusal.Refusal.{Refusal}
 use Rattle.refusals.specs.declared.refusal.Refusal.TheVariants.{Disk, StoreFault, TooLong}
 
--- a store over a call: whether it tells what its files hold, and what it shows before the call and after it
+-- a store over a call: whether it is known what its files hold, and what it shows before the call and after it
 pub record StoreOver : Type 0 where
   pub tells : Bool
   pub old : StoreView
@@ -38,7 +38,7 @@ with_reads asked reads = record asked { reads = asked.reads ++ reads }
 abbrev pub limit_of : List ℕ → ℕ
 limit_of name = if is_checkpoint_name name then most_checkpoint_bytes else most_file_bytes
 
--- What a read answered fits what the file holds, where the store tells that: the bytes are its bytes, and a file that
+-- What a read answered fits what the file holds, where that is known: the bytes are its bytes, and a file that
 -- is called too long is. No bytes are above the limit.
 abbrev pub Fits : Bool → Contents → List ℕ → Result (List ℕ) StoreError → Type 0
 Fits tells files name (Ok bytes) = (length bytes ≤ limit_of name) × (IsTrue tells → files name ≡ Some bytes)

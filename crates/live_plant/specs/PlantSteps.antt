@@ -59,8 +59,8 @@ IsOfPlant plant (Err (Refused error)) = plant ≡ Err error
 IsOfPlant plant (Err (Dead labels)) = (p : Plant) × (plant ≡ Ok p) × AreDead (graph p) labels
 IsOfPlant plant (Err other) = ⊤
 
--- The live plant of a plant file: what the steps answer over the bytes that the reads gave; and where a store tells its
--- files, it is the plant of these files.
+-- The live plant of a plant file: what the steps answer over the bytes that the reads gave; and where a store's
+-- files are known, it is the plant of these files.
 pub record OfPlantNamed (tells : Bool) (files : Contents) (name : List ℕ) (reads : List Read)
     (answer : Result Plant Refusal) : Type 0 where
   pub answers : OfLivePlant name reads answer

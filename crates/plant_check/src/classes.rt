@@ -9,8 +9,8 @@ use plant_model::{Plant, PlantError};
 use std::alloc::Global;
 
 /// Whether a plant is sound. The error is the first of the refusals 5 to 9 and 11 to 15 of `PlantError`, in their order,
-/// each tried over the whole plant before the next, at its first place in the order of a plant file. Running out of memory may
-/// come before any of them.
+/// each tried over the whole plant before the next, at the first key in the order of a plant file. Running out of
+/// memory may come before any of them.
 #[tactic(auto, unfolding(plant_model::specs::Refusals::refusals))]
 pub fn check(alloc: Global, plant: &Plant) -> Result<(), PlantError>
     ensures sound { OnOk result (IsSound plant.now) }

@@ -92,7 +92,7 @@ some_if : {X : Type 0} (b : Bool) (x : X) → is_some (if b then Some x else Non
 some_if true x = refl
 some_if false x = refl
 
--- a tree says a times file exactly where it uses a column
+-- a tree names a times file exactly where it uses a column
 pub times_file-columns : (top : Data) → is_some (times_file_of top) ≡ is_filled (columns_of (draft_of top))
 unfolding columns_of
 times_file-columns top =

@@ -1,4 +1,4 @@
--- A tree in which nothing is refused says a sound draft.
+-- A tree in which nothing is refused gives a sound draft.
 use Rattle.std.proofs.Common.{◌≡◌, ℕ, ◌+◌, Bool, true, List, [], ◌∷◌, map, refl, ◌∙◌, codes, arith}
 use Rattle.std.specs.List.{list_all}
 use Rattle.std.proofs.lemmas.Bool.{and_from}
@@ -55,7 +55,7 @@ stages_of_walk class top h =
     append-nil_left (each (stage_refusals class (has_stage_cards top)) (tables_at (codes "stage") top)) _
     (append-nil_right (table_refusals class Top top (top_keys top)) _ h)
 
--- a tree in which nothing is refused says a sound draft
+-- a tree in which nothing is refused gives a sound draft
 pub sound_draft : (top : Data) → walk MissingKeys top ≡ [] → walk BadNames top ≡ [] → names_twice top ≡ [] → walk OutOfRanges top ≡ [] → feeds_not_later_in (draft_of top).stages ≡ [] → second_finals_in (draft_of top).stages ≡ [] → IsSoundDraft (draft_of top)
 sound_draft top missing bad twice out feeds finals =
     let demands = each-none (λ _ k. key_refusals OutOfRanges Top top k) (top_keys top) 2 no_key (omega arith) (top_of_walk OutOfRanges top out) in

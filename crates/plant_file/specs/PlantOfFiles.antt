@@ -25,8 +25,8 @@ abbrev pub plant_of_reading : Contents → Result DraftPlant PlantError → Resu
 plant_of_reading files (Ok d) = completed d (bytes_of files (demands_file d)) (bytes_of files d.times_file)
 plant_of_reading files (Err refusal) = Err refusal
 
--- the sound plant of a plant file, or its first refusal, each class before the next; it says something where each file that
--- is needed is there
+-- the sound plant of a plant file, or its first refusal, each class before the next; it has a meaning where each file
+-- that is needed is there
 unfoldable pub plant_of : List ℕ → Contents → Result Plant PlantError
 plant_of name files = plant_of_reading files (reading (bytes_at files name))
 

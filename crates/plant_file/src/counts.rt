@@ -1,4 +1,4 @@
-//! How many job times the machines of a draft have. It tells whether a plant is refused before any of them is copied.
+//! How many job times the machines of a draft have. By it a plant is refused before any of them is copied.
 ghost use Rattle.std.specs.Prelude.{◌≡◌, length, option_map};
 ghost use Rattle.plant_file.specs.Counts.{can_be_copied, list_length, machine_counts, stage_counts, stays_within, table_within};
 ghost use Rattle.plant_file.specs.Finish.{dates_with, times_with};

@@ -22,7 +22,7 @@ use std::alloc::{AllocError, Global};
 /// The plant of a draft, with the dates of its demand file and the times of its times file where it uses them. The error
 /// is the first of the refusals 11 to 15 of `PlantError`. A loop's end that names no stage becomes the number of stages,
 /// which class 14 refuses. Running out of memory may come before any refusal. No column of the times is copied before the
-/// number of records has been held against that of the dates, and both against their limits.
+/// number of records has been compared with that of the dates, and both with their limits.
 pub fn finish_draft(
     alloc: Global,
     draft: Draft,
@@ -60,8 +60,8 @@ pub fn finish_draft(
 }
 
 /// The plant of a draft and of the bytes of its demand file and of its times file, each given exactly where the draft names
-/// it. The error is the first of the refusals 10 to 15 of `PlantError`, the demand file tried before the times file. Want of
-/// memory may come before any refusal.
+/// it. The error is the first of the refusals 10 to 15 of `PlantError`, the demand file tried before the times file.
+/// Running out of memory may come before any refusal.
 pub fn complete_draft(
     alloc: Global,
     draft: Draft,
@@ -87,8 +87,8 @@ pub fn complete_draft(
 }
 
 /// The plant of a draft and of the bytes of its files, whatever is wrong with it as a whole: the refusals 11 to 15 aren't
-/// tried. The error is the first of class 10, the demand file tried before the times file. Out of memory may come before it,
-/// and comes where the columns of the machines would be more than 512 MiB.
+/// tried. The error is the first of class 10, the demand file tried before the times file. Memory may run out before
+/// that, and `NoMemory` comes too where the columns of the machines would be more than 512 MiB.
 pub fn assemble_plant(
     alloc: Global,
     draft: Draft,

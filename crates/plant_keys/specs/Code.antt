@@ -32,7 +32,7 @@ abbrev pub is_element : Element → Data → Bool
 is_element Number v = is_number v
 is_element Table v = is_table v
 
--- the refusal of a class at a place
+-- the refusal of a class at a path
 abbrev pub refusal : Class → List ℕ → PlantError
 refusal UnknownKeys place = UnknownKey place
 refusal MissingKeys place = Missing place

@@ -1,5 +1,5 @@
 -- The keys of the tables of a plant file: for each table its keys in byte order, each with what stands there, whether it
--- has to be there, and whether it is excluded: by another key of the table, or for want of one that it needs.
+-- has to be there, and whether it is excluded: by another key of the table, or as one that it needs is absent.
 use Rattle.std.specs.Prelude.{ℕ, Bool, true, false, not, ◌&&◌, ◌||◌, List, [], ◌∷◌, codes, bytes_eq}
 use Rattle.std.specs.List.{list_any}
 use Rattle.line_base.specs.Limits.{most_cards, longest_time, last_column, last_demand, last_observed}

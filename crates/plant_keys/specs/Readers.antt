@@ -1,4 +1,4 @@
--- What stands at a key of a table of a plant file, where there is something else or nothing with a value in its place.
+-- What stands at a key of a table of a plant file; a default where something else stands there, or nothing.
 use Rattle.std.specs.Prelude.{ℕ, ℤ, pos, negsuc, Bool, true, false, ◌&&◌, nat_le, if◌then◌else◌, List, [], ◌∷◌, map, is_some, codes}
 use Rattle.std.specs.List.{list_all}
 use Rattle.std.specs.Option.{option_map_or}

@@ -24,7 +24,7 @@ abbrev pub is_plain : ℕ → Bool
 is_plain byte =
     is_between 65 90 byte || (is_between 97 122 byte || (is_between 48 57 byte || (byte == 95 || byte == 45)))
 
--- a key as places show it: one that has another character is a question mark
+-- a key as paths show it: one that has another character is a question mark
 abbrev pub shown : List ℕ → List ℕ
 shown key = if list_all is_plain key then key else codes "?"
 
@@ -65,7 +65,7 @@ is_policy word =
     bytes_eq word (codes "kanban")
     || (bytes_eq word (codes "conwip") || (bytes_eq word (codes "base-stock") || bytes_eq word (codes "extended")))
 
--- 7, at a place, unless the test gives true
+-- 7, at a path, unless the test gives true
 abbrev pub out_unless : Bool → List ℕ → List PlantError
 out_unless test place = refuse_if (not test) (OutOfRange place)
 
@@ -74,16 +74,16 @@ abbrev pub may_be_number : ℕ → ℕ → Data → Bool
 may_be_number least most (integer z) = is_within least most z
 may_be_number least most _ = true
 
--- 7, of element k of a list at a place
+-- 7, of element k of a list at a path
 abbrev pub element_out : ℕ → List ℕ → ℕ → Data → List PlantError
 element_out most place k v = out_unless (may_be_number 0 most v) (at place k)
 
--- 7, of a list of numbers at a place: that it is empty, then its elements
+-- 7, of a list of numbers at a path: that it is empty, then its elements
 abbrev pub list_out : ℕ → Bool → List ℕ → List Data → List PlantError
 list_out most may_be_empty place vs =
     out_unless (may_be_empty || is_filled vs) place ++ each (element_out most place) vs
 
--- 7, of a value of a kind at a place
+-- 7, of a value of a kind at a path
 abbrev pub out_of_range : Kind → List ℕ → Data → List PlantError
 out_of_range PolicyWord place v = out_unless (is_policy (text_of v)) place
 out_of_range StageName place v = []
@@ -95,11 +95,11 @@ out_of_range (Numbers most may_be_empty) place v =
     list_out most may_be_empty place (elements_of v)
 out_of_range (Tables may_be_empty) place v = out_unless (may_be_empty || is_filled (tables_of v)) place
 
--- 4, of a value at a place
+-- 4, of a value at a path
 abbrev pub refused_type : Kind → List ℕ → Data → List PlantError
 refused_type kind place v = refuse_if (not (has_kind kind v)) (WrongType place)
 
--- 5, of a value at a place
+-- 5, of a value at a path
 abbrev pub refused_name : Kind → List ℕ → Data → List PlantError
 refused_name kind place v = refuse_if (not (keeps_name_rule kind (text_of v))) (BadName place)
 

@@ -33,7 +33,7 @@ pub fn check_tree(alloc: Global, class: Class, top: &Value) -> Result<(), PlantE
     search.check_loops(tables_at(top, "loop"))
 }
 
-/// The search for the first refusal of a class, whose place is written in this memory.
+/// The search for the first refusal of a class, whose path is written in this memory.
 #[derive(Clone, Copy)]
 struct Search {
     alloc: Global,

@@ -37,7 +37,7 @@ impl<'a> Names<'a> {
         }
     }
 
-    /// Adds a name at the end, unless it is among those before, and tells whether it is new.
+    /// Adds a name at the end, unless it is among those before, and answers whether it is new.
     #[tactic(auto, using(crate::proofs::NameLists::list_any_texts))]
     pub fn add(&mut self, name: &'a str) -> Result<bool, AllocError>
         ensures differs { IfOk result (λ is_new. is_new ≡ not (list_any (bytes_eq name.now) self.old)) }

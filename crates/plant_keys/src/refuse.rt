@@ -23,7 +23,7 @@ pub(crate) fn refuse_unless(
     Err(refusal(class, key_place(alloc, table, name)?))
 }
 
-/// The refusal of a class at a place.
+/// The refusal of a class at a path.
 pub fn refusal(class: Class, place: Text) -> PlantError
     ensures { result ≡ refusal class place }
 {

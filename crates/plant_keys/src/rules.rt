@@ -30,7 +30,7 @@ pub fn is_policy(word: &str) -> bool
     matches!(word, "kanban" | "conwip" | "base-stock" | "extended")
 }
 
-/// A key as places show it: one that has a character other than `A-Z a-z 0-9 _ -` is a question mark.
+/// A key as paths show it: one that has a character other than `A-Z a-z 0-9 _ -` is a question mark.
 pub fn shown(key: &str) -> &str
     ensures { result.now ≡ shown key.now }
 {

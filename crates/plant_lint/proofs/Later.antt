@@ -11,7 +11,7 @@ and_true : (b : Bool) → (b && true) ≡ b
 and_true true = refl
 and_true false = refl
 
--- two comparisons that tell the same
+-- two comparisons that say the same
 same_order : (a b c d : ℕ) → (a < b → c < d) → (c < d → a < b) → nat_lt a b ≡ nat_lt c d
 same_order a b c d to from =
     by_answer (nat_lt c d) refl

@@ -50,7 +50,7 @@ limit_of_numbers WrongTypes kind = None
 limit_of_numbers BadNames kind = None
 limit_of_numbers OutOfRanges kind = limit_in kind
 
--- of element k of a list at a place
+-- of element k of a list at a path
 abbrev pub number_faults : ℕ → List ℕ → ℕ → Data → List Fault
 number_faults most place k v = wanting (Between 0 most) (element_out most place k v)
 

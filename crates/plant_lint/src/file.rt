@@ -64,7 +64,7 @@ pub(crate) fn refused(alloc: Global, faults: &[Fault]) -> Result<FileLint, Alloc
     Ok(FileLint::Refused { lines })
 }
 
-/// What lint says of bytes that the reader refuses. An error of memory has no place.
+/// What lint says of bytes that the reader refuses. An error of memory points at no byte.
 fn lint_error(alloc: Global, bytes: &[u8], error: &toml::de::Error) -> Result<FileLint, AllocError>
     requires { IsWithin bytes.now error.now }
     ensures { IfOk result (λ lint. IsNoToml bytes.now lint × (IsMemory error.now → ⊥)) }

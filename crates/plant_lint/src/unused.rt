@@ -141,7 +141,7 @@ fn add_if(
     add_note(alloc, text, place.as_str())
 }
 
-/// Adds that the key at a place isn't used.
+/// Adds that the key of this path isn't used.
 fn add_note(alloc: Global, text: &mut String, place: &str) -> Result<(), AllocError>
     ensures { OnOk result (string_bytes text.new ≡ string_bytes text.old ++ unused_line place.now) }
 {

@@ -109,7 +109,7 @@ impl Rows for Loops {
     }
 }
 
-/// The search for all refusals of a class in the table at a place.
+/// The search for all refusals of a class in one table.
 #[derive(Clone, Copy)]
 struct Table<'a> {
     class: Class,

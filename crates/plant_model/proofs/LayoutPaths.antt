@@ -45,7 +45,7 @@ length-path_within p (suc n) i =
     let rest = length-option n (path_within n p) (next p i) (length-path_within p n) in
     omega arith
 
--- the front of a list has what the list has
+-- a prefix of a list has what the list has
 pub All-up_to : (P : ℕ → Type 0) (b : ℕ) (is : List ℕ) → All P is → All P (up_to b is)
 All-up_to P b [] h = h
 All-up_to P b (i ∷ is) h =

@@ -1,4 +1,4 @@
--- What it says that a list of refusals is empty.
+-- What it means that a list of refusals is empty.
 use Rattle.std.proofs.Common.{◌≡◌, ℕ, zero, suc, ◌+◌, ◌<◌, ◌≤◌, Bool, true, false, ltb, List, [], ◌∷◌, ◌++◌, length, get_or, refl, arith}
 use Rattle.std.proofs.lemmas.Bool.{ltb-false}
 use Rattle.plant_model.specs.declared.error.PlantError.{PlantError}

@@ -260,7 +260,7 @@ FedSoFar-marked p i j marks s so_far below here fed there =
           ];
     }
 
--- after the last stage the marks tell all
+-- after the last stage the marks are those of all stages
 pub AreFedMarks-all : (p : Plant) (i : ℕ) (marks : List Bool) → FedSoFar p i marks → length p.stages ≤ i → AreFedMarks p marks
 AreFedMarks-all p i marks so_far all =
     record {
@@ -310,7 +310,7 @@ IsBetween-from p tree i b all rest own below found all_is rest_is own_is =
 pub IsPathTable-same : (p q : Plant) (rows : List PathRow) (fed : List Bool) → q ≡ p → IsPathTable q rows fed → IsPathTable p rows fed
 IsPathTable-same p q rows fed same table = subst (λ (r : Plant). IsPathTable r rows fed) same table
 
--- a row that was read tells of its stage's path
+-- a row that was read describes its stage's path
 pub row-read : (p : Plant) (rows : List PathRow) (fed : List Bool) (i : ℕ) (row : PathRow) → IsPathTable p rows fed → i < length p.stages → row ≡ get_or rows i row → IsPathRow p i row
 row-read p rows fed i row table below read =
     let is = read ∙ get_or_default rows i row no_row (omega (arith, table.rows_right.long)) in

@@ -14,7 +14,7 @@ same-after : (f g : ℕ → List ℕ) (o : Option ℕ) → ((j : ℕ) → o ≡ 
 same-after f g None same = refl
 same-after f g (Some j) same = same j refl
 
--- a path is no longer for leave to go on past its end
+-- a path gets no longer where it may go on past its end
 path_within-suc : (p : Plant) → FeedsLater p → (m i : ℕ) → i < length p.stages → length p.stages ≤ m + i → path_within (suc m) p i ≡ path_within m p i
 path_within-suc p tree zero i below enough = absurd (omega arith)
 path_within-suc p tree (suc m) i below enough =
@@ -74,8 +74,8 @@ falls : (n i : ℕ) (o : Option ℕ) → i < n → ((j : ℕ) → o ≡ Some j �
 falls n i None below later = omega arith
 falls n i (Some j) below later = let higher : i < j = later j refl in omega arith
 
--- A walk down the path of stage `from`: so much stock was met, and the next stage to meet is `next`. Each stage has a higher
--- number than the one before, so the stock stays below 2 ^ 64.
+-- A walk down the path of stage `from`: this much stock was met, and the next stage to meet is `next`. Each stage has a
+-- higher number than the one before, so the stock stays below 2 ^ 64.
 pub record WalksPath (p : Plant) (from stock : ℕ) (next : Option ℕ) : Type 0 where
   pub total : stock + option_map_or (path_stock p) next 0 ≡ path_stock p from
   pub there : (j : ℕ) → next ≡ Some j → j < length p.stages

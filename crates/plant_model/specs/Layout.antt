@@ -15,7 +15,7 @@ releases p = map (release p) (range_with_len 0 (length p.stages + 1))
 abbrev pub entries : Plant → List ℕ
 entries p = map (entry_arc p) (range_with_len 0 (length p.stages + 1))
 
--- the plant is sound, these are its releases and the arcs into its stages, and these marks tell which stages are fed
+-- the plant is sound, these are its releases and the arcs into its stages, and these marks say which stages are fed
 pub record IsLaidOut (p : Plant) (stations arcs : List ℕ) (fed : List Bool) : Type 0 where
   pub sound : IsSound p
   pub all_stations : stations ≡ releases p

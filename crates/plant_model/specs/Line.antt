@@ -114,7 +114,7 @@ path_within (suc n) p i = i ∷ option_map_or (path_within n p) (next p i) []
 abbrev pub path : Plant → ℕ → List ℕ
 path p i = path_within (length p.stages) p i
 
--- the front of a path, up to stage b
+-- a path up to stage b
 abbrev pub up_to : ℕ → List ℕ → List ℕ
 up_to b [] = []
 up_to b (i ∷ is) = if i == b then i ∷ [] else i ∷ up_to b is

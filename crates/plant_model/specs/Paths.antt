@@ -14,7 +14,7 @@ no_row = record { stock = 0; stages = 0; jump = 0 }
 abbrev pub row_at : List PathRow → ℕ → PathRow
 row_at rows i = slice_index_or rows i no_row
 
--- the row tells of the path of stage i
+-- the row describes the path of stage i
 pub record IsPathRow (p : Plant) (i : ℕ) (row : PathRow) : Type 0 where
   pub stock : row.stock ≡ path_stock p i
   pub on_path : is_downstream p i row.jump ≡ true
@@ -23,12 +23,12 @@ pub record IsPathRow (p : Plant) (i : ℕ) (row : PathRow) : Type 0 where
   pub few : row.stages + i < length p.stages
   pub small : i < 2 ^ 32 → row.stock ≤ (2 ^ 32 - i) * (2 ^ 32 - 1)
 
--- each row from number i on tells of its stage's path
+-- each row from number i on describes its stage's path
 pub record ArePathRows (p : Plant) (i : ℕ) (rows : List PathRow) : Type 0 where
   pub long : length rows ≡ length p.stages
   pub right : (k : ℕ) → i ≤ k → k < length p.stages → IsPathRow p k (row_at rows k)
 
--- the marks tell which stages are fed
+-- the marks say which stages are fed
 pub record AreFedMarks (p : Plant) (fed : List Bool) : Type 0 where
   pub long : length fed ≡ length p.stages
   pub right : (k : ℕ) → k < length p.stages → slice_index_or fed k false ≡ list_any (feeds k) p.stages

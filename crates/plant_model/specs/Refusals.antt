@@ -1,5 +1,5 @@
 -- What is wrong with a plant: for each class of refusals the list of them, in the order in which a plant file has the
--- places; then the classes in order. The answer to a list is its first refusal.
+-- keys; then the classes in order. The answer to a list is its first refusal.
 use Rattle.std.specs.Prelude.{◌≡◌, ◌≢◌, ⊤, ℕ, ◌+◌, ◌-◌, ◌*◌, Bool, not, ◌&&◌, ◌||◌, ◌==◌, nat_lt, if◌then◌else◌, List, [], ◌∷◌, ◌++◌, length, take, slice_index, Option, None, Some, is_none, Result, MatchResult, codes, bytes_eq}
 use Rattle.std.specs.Option.{option_map_or}
 use Rattle.std.specs.List.{list_any}

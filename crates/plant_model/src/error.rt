@@ -7,7 +7,7 @@ use line_base::Text;
 use std::alloc::AllocError;
 use std::fmt;
 
-/// Why a plant is refused, in the order in which the refusals are tried. A place is the path of a key in the plant
+/// Why a plant is refused, in the order in which the refusals are tried. A `place` is the path of a key in the plant
 /// file, counted from 1, as `stage[2].machine[1].time`.
 #[derive(Drop)]
 pub enum PlantError {

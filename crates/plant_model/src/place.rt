@@ -4,7 +4,7 @@ ghost use Rattle.plant_model.specs.Place.{at, place_of, key_of};
 use line_base::Text;
 use std::alloc::{AllocError, Global};
 
-/// A table of a plant file. Stages, machines and loops are numbered from 0 here, and from 1 in the text of a place.
+/// A table of a plant file. Stages, machines and loops are numbered from 0 here, and from 1 in the text of a path.
 #[derive(Clone, Copy)]
 pub enum FileTable {
     /// The top of the file.
@@ -17,21 +17,21 @@ pub enum FileTable {
     InLoop(usize),
 }
 
-/// The place of a table, as `stage[2].machine[1]`; that of the top is empty.
+/// The path of a table, as `stage[2].machine[1]`; that of the top is empty.
 pub fn table_place(alloc: Global, table: FileTable) -> Result<Text, AllocError>
     ensures { IfOk result (λ place. place ≡ place_of table) }
 {
     Ok(Text::from_string(write_table(alloc, table)?))
 }
 
-/// The place of a key of a table, as `stage[2].machine[1].time`.
+/// The path of a key of a table, as `stage[2].machine[1].time`.
 pub fn key_place(alloc: Global, table: FileTable, key: &str) -> Result<Text, AllocError>
     ensures { IfOk result (λ place. place ≡ key_of table key.now) }
 {
     Ok(Text::from_string(write_key(alloc, table, key)?))
 }
 
-/// The place of element `k` of a list at a key, as `demands[3]`.
+/// The path of element `k` of a list at a key, counted from 0, as `demands[3]` where `k` is 2.
 pub fn element_place(
     alloc: Global,
     table: FileTable,
@@ -44,7 +44,7 @@ pub fn element_place(
     Ok(Text::from_string(write_element(alloc, &list, k)?))
 }
 
-/// The text of a table's place.
+/// The text of a table's path.
 fn write_table(alloc: Global, table: FileTable) -> Result<String, AllocError>
     ensures { IfOk result (λ text. string_bytes text ≡ place_of table) }
 {
@@ -59,7 +59,7 @@ fn write_table(alloc: Global, table: FileTable) -> Result<String, AllocError>
     }
 }
 
-/// The text of a key's place.
+/// The text of a key's path.
 fn write_key(alloc: Global, table: FileTable, key: &str) -> Result<String, AllocError>
     ensures { IfOk result (λ text. string_bytes text ≡ key_of table key.now) }
 {
@@ -70,7 +70,7 @@ fn write_key(alloc: Global, table: FileTable, key: &str) -> Result<String, Alloc
     format!(in alloc; "{table}.{key}")
 }
 
-/// The text of the place of element `k` of a list.
+/// The text of the path of element `k` of a list.
 fn write_element(alloc: Global, list: &str, k: usize) -> Result<String, AllocError>
     ensures { IfOk result (λ text. string_bytes text ≡ at list.now k) }
 {

@@ -114,7 +114,7 @@ pub fn hint(alloc: Global, status: u8, words: &[String]) -> Result<String, Alloc
     }
 }
 
-/// Which status it is, and what to do next. It is another thing where `lint` has said already what is wrong.
+/// Which status it is, and what to do next. Where `lint` has already said what is wrong, the latter differs.
 fn saying_of(status: u8, asks_lint: bool) -> (&'static str, &'static str) {
     for (of, what, next) in &SAYINGS {
         if *of == status {

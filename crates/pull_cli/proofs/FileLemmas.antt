@@ -81,7 +81,7 @@ module _ (store : StoreOver) (sink : SinkOver) (disk : DiskOver) (answer : Resul
   none_written : asks.writes ≡ [] → (q : List ℕ) → store.new.files q ≡ store.old.files q
   none_written none = subst (Changes store) none changes known
 
-  -- a step, and then a action that writes nothing
+  -- a step, and then an action that writes nothing
   on_unwritten : (next : Plant → Action Answer) (between : Result Plant Refusal) (after : List Read) →
       DoesOn next between (record asks { reads = after }) disk answer →
       ((p : Plant) → next p (record asks { reads = after }) disk answer → asks.writes ≡ []) → asks.writes ≡ []

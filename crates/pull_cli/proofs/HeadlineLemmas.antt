@@ -101,12 +101,12 @@ text_is_checkpoint p s resumed = record {
   text = record { format = Differences; read = tt; is = refl };
 }
 
--- so whatever comes of resuming it is the report
+-- so whatever resuming it answers is the report
 pub text_resumes : (p : Plant) (s : State) → MayBeResumed (graph p) s → ResumesToReport p (text Differences (graph p) s)
 text_resumes p s resumed answer (inl both) = both.1
 text_resumes p s resumed answer (inr other) = absurd (other.none (text_is_checkpoint p s resumed))
 
--- steps that write nothing, as a step and then a action that writes nothing
+-- steps that write nothing, as a step and then an action that writes nothing
 on_plainly : {A B : Type 0} (next : A → Step B) (between : Result A Refusal) (asked : Asked) (after : List Read)
     (disk : DiskOver) (answer : Result B Refusal) → asked.writes ≡ [] → disk.new ≡ disk.old →
     GoesOn next between after answer → DoesOn (λ x. Plainly (next x)) between
@@ -303,7 +303,7 @@ module _ (store : StoreOver) (sink : SinkOver) (disk : DiskOver) (answer : Resul
       then_reports plant name same ResumesSlots does (λ p after on. slots_resumed p on.answers)
   of_run other name is does = absurd (cc)
 
-  -- and one that is told to
+  -- and one that is asked to
   of_stop : (name : List ℕ) (workers : ℕ) (stop : Stop) →
       OfCommand store.tells store.old.files (command.Run name workers (Some stop)) asks disk answer →
       ReportsOrSaves name stop store sink

@@ -1,5 +1,5 @@
 -- The first half of the headline. For every plant file, number of workers and interleaving of their steps, a run that
--- isn't told to stop and ends with status 0 has written exactly the report of the least solution of the policy's
+-- isn't asked to stop and ends with status 0 has written exactly the report of the least solution of the policy's
 -- equations.
 use Rattle.std.specs.Prelude.{◌≡◌, ℕ, List, ◌++◌, IsTrue, Option, Some, None, Ok}
 use Rattle.command_line.specs.Words.{command_of}
@@ -26,7 +26,7 @@ run_of (command.Resume plant saved workers) = Some plant
 run_of (command.ResumeSlots plant workers) = Some plant
 run_of other = None
 
--- "the plant file": the plant of the files, where the store tells them, and of the bytes that were read from them
+-- "the plant file": the plant of the files, where they are known, and of the bytes that were read from them
 pub record IsPlantRead (p : Plant) (name : List ℕ) (store : StoreOver) : Type 0 where
   pub reads : List Read
   pub more : List Read

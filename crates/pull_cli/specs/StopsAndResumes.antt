@@ -1,5 +1,5 @@
 -- The second half of the headline. For every plant file, number of workers and interleaving of their steps, a run that
--- is told to stop and ends with status 0 has written the report too, or, if it was stopped before all firings were
+-- is asked to stop and ends with status 0 has written the report too, or, if it was stopped before all firings were
 -- made, has saved a state that firings reach, in which every circuit holds its initial number of tokens, and resuming
 -- it writes that same report.
 use Rattle.std.specs.Prelude.{◌≡◌, ◌⊎◌, ℕ, ◌≤◌, List, [], ◌∷◌, ◌++◌, length, IsTrue, Some, Result, Ok}

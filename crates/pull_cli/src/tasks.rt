@@ -93,7 +93,7 @@ fn ask_with<R: Threads + Sync, S: Store, G: Gate>(
     }
 }
 
-/// What `run PLANT --stand [--workers W]` answers. It waits for its threads, and owes no return.
+/// What `run PLANT --stand [--workers W]` answers. It waits for its threads, and doesn't promise to return.
 pub fn stand_plant<R: Threads + Wait + Sync, S: Store, G: Gate>(
     rt: &R,
     alloc: Global,

@@ -28,10 +28,10 @@ use std::thread::Threads;
 /// ends with. The words are read first, then the plant file and what it names, then the command's
 /// own file or the slots. Nothing but the line of a refusal is written before all of this is done
 /// and tried. Each status but 0 and 6 has written exactly its one line, behind the rows that were
-/// found where memory runs out in a curve. No file changes but the one in which a run that is told
+/// found where memory runs out in a curve. No file changes but the one in which a run that is asked
 /// to stop saves, and that one only with status 0, 5 or 6.
 ///
-/// Where a word is `--stand` it may wait for standing workers, and owes no return. Where none is, it
+/// Where a word is `--stand` it may wait for standing workers, and doesn't promise to return. Where none is, it
 /// is `pull_still`.
 pub fn pull<R: Threads + Wait + Sync, S: Store, K: Sink, G: Gate, D: Disk>(
     rt: &R,

@@ -183,7 +183,7 @@ plant_known tells files known name reads p steps all =
       live = plant_live tells files name reads p steps all;
     }
 
--- stores that tell the same files
+-- stores that are known to have the same files
 module _ (tells_one : Bool) (files_one : Contents) (known_one : IsTrue tells_one) (tells_other : Bool)
     (files_other : Contents) (known_other : IsTrue tells_other)
     (same : (q : List ℕ) → files_one q ≡ files_other q) where

@@ -1,4 +1,4 @@
--- A call over a store that doesn't tell its files ends as over files from which its reads were answered.
+-- A call over a store whose files aren't known ends as over files from which its reads were answered.
 use Rattle.std.proofs.Common.{◌≡◌, ◌≢◌, ℕ, true, if◌then◌else◌, List, [], ◌∷◌, ◌++◌, length, refl, ap}
 use Rattle.std.proofs.Common.{sym, ◌∙◌, subst, inl, inr}
 use Rattle.std.specs.Prelude.{Option, Some, None, Bool, Result, Ok, Err, IfErr, All}
@@ -31,7 +31,7 @@ use Rattle.pull_laws.specs.Recorded.{IsAnswer, IsReadOf, ReadsFrom, with_file, t
 use Rattle.pull_laws.specs.Resuming.{Call}
 use Rattle.pull_laws.proofs.FirstSteps.{also_then}
 
--- the front of a list has what the list has
+-- a prefix of a list has what the list has
 pub all_front : {X : Type 0} (P : X → Type 0) (xs ys : List X) → All P (xs ++ ys) → All P xs
 all_front P xs ys all = subst (All P) (take-append_seam xs ys) (All-take P (length xs) (xs ++ ys) all)
 

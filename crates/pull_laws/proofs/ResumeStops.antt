@@ -1,4 +1,4 @@
--- For which reasons a command ends before its live plant is there, or its own file, over the files that a store tells,
+-- For which reasons a command ends before its live plant is there, or its own file, over files that are known,
 -- none of which is longer than it may be.
 use Rattle.std.proofs.Common.{◌≡◌, ◌⊎◌, ℕ, List, [], sym, subst, inl, inr}
 use Rattle.std.specs.Prelude.{Option, Some, None, Result, Ok, Err, IfErr, IfSome, IsTrue, All}

@@ -1,5 +1,5 @@
--- A law on one call, over a store that doesn't tell its files, as that of the machine. It tells every read and write
--- with its answer, and so what its files were, as far as the call has asked for them.
+-- A law on one call, over a store whose files aren't known, as that of the machine. Such a store shows every read and
+-- write with its answer, and so what its files were, as far as the call has asked for them.
 use Rattle.std.specs.Prelude.{◌≡◌, ℕ, List, true, if◌then◌else◌, Option, Some, Result, Ok, Err, All, ⊤}
 use Rattle.std.specs.Str.{bytes_eq}
 use Rattle.line_io.specs.Calls.{Read, Asked}
@@ -32,7 +32,7 @@ pub record ReadsFrom (files : Contents) (store : StoreOver) : Type 0 where
 abbrev pub with_file : Contents → List ℕ → List ℕ → Contents
 with_file files name bytes q = if bytes_eq q name then Some bytes else files q
 
--- the same store, but it tells its files, and they are these before the call and these after it
+-- the same store, but its files are known, and they are these before the call and these after it
 abbrev pub telling : Contents → Contents → StoreOver → StoreOver
 telling before after store =
     store_over true (record store.old { files = before }) (record store.new { files = after })

@@ -30,7 +30,7 @@ files_before call = call.store.old.files
 abbrev pub files_after : Call → Contents
 files_after call = call.store.new.files
 
--- a call for this command, over a store that tells its files; it has ended as every call of `pull` does
+-- a call for this command, over a store whose files are known; it has ended as every call of `pull` does
 pub record CallsFor (command : Command) (call : Call) : Type 0 where
   pub asked : command_of call.words ≡ Some command
   pub known : IsTrue call.store.tells
@@ -46,7 +46,7 @@ pub record StopsBy (IsFor : Command → Call → Type 0) (p : Plant) (name : Lis
   pub read : IsPlantRead p name call.store
   pub saved : HasSaved p stop call.store call.sink
 
--- over a store that tells its files
+-- over a store whose files are known
 abbrev pub HasStopped : Plant → List ℕ → Stop → Call → Type 0
 HasStopped = StopsBy CallsFor
 
@@ -86,7 +86,7 @@ ResumingReports =
     (p : Plant) (name : List ℕ) (stop : Stop) (first second : Call) →
     HasStopped p name stop first → IsResumedBy name stop first second → EndsResumed p second
 
--- and the report is that which a run writes that never stops
+-- and the report is the one that a run writes that never stops
 abbrev pub ResumingWritesTheSame : Type 0
 ResumingWritesTheSame =
     (p : Plant) (name : List ℕ) (stop : Stop) (first second whole : Call) →

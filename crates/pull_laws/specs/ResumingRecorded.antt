@@ -1,5 +1,5 @@
--- The law on two calls, *Resuming writes that same report*, over stores that don't tell their files, as that of the
--- machine: both calls tell their reads and writes with the answers, and the second has read what the first has read and
+-- The law on two calls, *Resuming writes that same report*, over stores whose files aren't known, as that of the
+-- machine: both calls show their reads and writes with the answers, and the second has read what the first has read and
 -- written.
 use Rattle.std.specs.Prelude.{◌≡◌, ℕ, List, Some, None}
 use Rattle.checkpoint.specs.Text.{text}
@@ -52,7 +52,7 @@ ResumingRecordedReports =
     (p : Plant) (name : List ℕ) (stop : Stop) (first second : Call) (saves : SavesState p name stop first) →
     ResumesWhatWasRead name stop (bytes_saved saves) first second → EndsResumed p second
 
--- and the report is that which a run writes that never stops, over the files that the first call has read
+-- and the report is the one that a run writes that never stops, over the files that the first call has read
 abbrev pub ResumingRecordedWritesTheSame : Type 0
 ResumingRecordedWritesTheSame =
     (p : Plant) (name : List ℕ) (stop : Stop) (first second whole : Call) (saves : SavesState p name stop first)

@@ -24,7 +24,7 @@ use Rattle.pull_cli.specs.Ends.{Ends}
 use Rattle.pull_cli.specs.Verdict.{OfWords}
 use Rattle.pull_laws.specs.Resuming.{Call, files_before, HasFailedRead}
 
--- the disk tells what it holds, and this is saved in its slots: these bytes, or nothing
+-- it is known what the disk holds, and this is saved in its slots: these bytes, or nothing
 pub record HoldsSaved (saved : Option (List ℕ)) (disk : DiskOver) : Type 0 where
   pub known : IsTrue disk.tells
   pub holds : content (bytes_now disk.old) most_checkpoint_bytes ≡ saved
@@ -69,7 +69,7 @@ pub record HasVerdict (words : List (List ℕ)) (files : Contents) (saved : Opti
   pub decided : IsDecidedAnswer answer
   pub status_is : status ≡ status_in answer
 
--- a call for these words over these files, which its store tells, and over what is saved in the slots of its disk; it
+-- a call for these words over these files, which are known, and over what is saved in the slots of its disk; it
 -- has ended as every call of `pull` does
 pub record IsCallOver (words : List (List ℕ)) (files : Contents) (saved : Option (List ℕ)) (call : Call) : Type 0 where
   pub words_are : call.words ≡ words

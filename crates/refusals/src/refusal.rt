@@ -215,7 +215,7 @@ fn fixed<'a>(line: &'a str) -> Result<CowSlice<'a, u8>, AllocError>
     Ok(CowSlice::Borrowed(line.as_bytes()))
 }
 
-/// Words and what they are of.
+/// Words, and the name behind them.
 fn words_of(alloc: Global, words: &[u8], named: &[u8]) -> Result<Vec<u8>, AllocError>
     ensures { IfOk result (λ line. line.items ≡ words.now ++ named.now) }
 {

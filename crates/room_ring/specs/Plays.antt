@@ -1,4 +1,4 @@
--- What each kind of step tells the seat that makes it.
+-- What the seat that makes a step learns from it, for each kind of step.
 use Rattle.std.specs.Prelude.{◌≡◌, ℕ, ◌+◌, ◌≤◌, length}
 use mathlib.Core.List.{IsPrefix}
 use Rattle.atomic_table.specs.Table.{Step, Me}

@@ -26,8 +26,8 @@ use view::View;
 use words::{FIRST_CELL, HEAD, LeaveNote, LoadHead, LoadTail, Open, TAIL, Tell, Words};
 
 /// Makes a ring in which `room` tokens may wait at once. It has put the initial tokens and taken
-/// none, its take knows all of them, and its space is the room less their number. Fails only for
-/// running out of memory. No other call takes any.
+/// none, its take knows all of them, and its space is the room less their number. Fails only where
+/// memory runs out. No other call takes any.
 pub fn room_ring(
     alloc: Global,
     initial: &[Date],

@@ -50,7 +50,7 @@ impl RoomPut {
         self.end.room - (self.end.count - self.end.seen) as u32
     }
 
-    /// Looks how many tokens were taken, and tells the space that there is then.
+    /// Looks how many tokens were taken, and answers the space that there is then.
     pub fn look(&mut self) -> u32
         ensures space { result ≡ room_space self.new }
         ensures later { self.old.head ≤ self.new.head }

@@ -95,7 +95,7 @@ load_content room old mid new zero one slot header given read newer last = recor
   loads = one_open zero one read.reads slot header given read.heads newer refl refl;
 }
 
--- the error of a disk to who saves is neither of the slots' own, and a fault is a failed call
+-- the error of a disk to the caller of a save is neither of the slots' own, and a fault is a failed call
 not_none : (error : DiskError) → ¬ (error_of error ≡ NoneSaved)
 not_none disk.Failed is = cc
 not_none disk.NoMemory is = cc

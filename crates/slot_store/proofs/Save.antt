@@ -46,7 +46,7 @@ keeps_new {start} {mid} {now} {room} {staged} {bytes} keeps is only =
     leaves_on start mid now (IsOldOrNew (held_now start) room bytes) keeps.leaves
     (leaves_also mid now (IsKeptOrNew (bytes_now mid) room staged) (IsOldOrNew (held_now start) room bytes) (λ image which. old_or_new (held_now start) room (bytes_now mid) staged bytes image keeps.could is which) only)
 
--- so far a save keeps the content, leaves each byte behind both slots, and has counted no fault away
+-- so far a save keeps the content, leaves each byte behind both slots, and has lowered no count of faults
 pub record Saves (tells : Bool) (room : ℕ) (bytes : List ℕ) (start now : DiskView) : Type 0 where
   pub keeps : IsTrue tells → Keeps start now room bytes
   pub outside : OutsideStays tells room start now

@@ -1,4 +1,4 @@
--- What the error of a disk is to who saves.
+-- What the error of a disk is to the caller of a save.
 use Rattle.line_disk.specs.declared.disk.DiskError.{DiskError}
 use Rattle.line_disk.specs.declared.disk.DiskError.TheVariants as disk
 use Rattle.slot_store.specs.declared.error.SlotError.{SlotError}

@@ -1,4 +1,5 @@
--- What a load reads of a disk, in order, and what it finds by the answers, whether or not the disk tells what it holds.
+-- What a load reads of a disk, in order, and what it finds by the answers, whether or not it is known what the disk
+-- holds.
 use Rattle.std.specs.Prelude.{◌≡◌, ℕ, ◌+◌, List, [], ◌∷◌, ◌++◌, Option, Some, None, Vec, Result, Ok, Err}
 use Rattle.std.specs.declared.alloc.Global.{Global}
 use Rattle.line_disk.specs.DiskView.{DiskRead, DiskView}

@@ -10,7 +10,7 @@ use crate::target::{Target, target_of};
 use line_disk::{Disk, DiskError};
 use std::alloc::Global;
 
-/// Makes all that was written before stand: a write that is pending could open a gate over torn bytes.
+/// Makes all that was written before durable: a write that is pending could open a gate over torn bytes.
 fn settle<D: Disk>(disk: &mut D) -> Result<(), DiskError>
     ensures bytes_stay { IsTrue D.tells → (i : ℕ)
         → bytes_now (D.shown disk.new) i ≡ bytes_now (D.shown disk.old) i }

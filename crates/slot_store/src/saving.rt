@@ -20,7 +20,7 @@ const CLOSED: u8 = 0;
 /// What a part of a save answers.
 type Outcome = Result<(), DiskError>;
 
-/// Writes the gate of a slot, and makes it stand. Nothing else is written.
+/// Writes the gate of a slot, and makes it durable. Nothing else is written.
 fn write_gate<D: Disk>(disk: &mut D, room: u64, slot: Slot, gate: u8) -> Outcome
     requires room { room ≤ MAX_ROOM }
     requires settled { IsTrue D.tells → IsSettled (held_now (D.shown disk.old)) }

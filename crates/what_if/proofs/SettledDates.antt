@@ -18,8 +18,8 @@ use Rattle.what_if.proofs.Sums.{changed_outs-more, changed_outs-same}
 use Rattle.what_if.proofs.Least.{greatest_is_least}
 use Rattle.what_if.proofs.KeptSheets.{same_date, marks_after-same, marks_after-changed, date_at-evaluated, date_at-elsewhere, evaluated-is_sheet}
 
--- all dates before this slot are settled: no mark is left before it, no date from it on has changed, and so few evaluations
--- were made
+-- all dates before this slot are settled: no mark is left before it, no date from it on has changed, and there were no
+-- more evaluations than marks were set, nor than slots were passed
 pub record IsSettling (old now : Page) (from : ℕ) : Type 0 where
   pub sheet : IsSheet now
   pub inputs : KeepsInputs old now

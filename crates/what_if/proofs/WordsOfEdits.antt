@@ -1,4 +1,4 @@
--- What the words of a line tell of the edit that it writes.
+-- What the words of a line say of the edit that it writes.
 use Rattle.std.proofs.Common.{◌≡◌, ◌≢◌, ℕ, zero, suc, ◌+◌, ◌-◌, ◌<◌, ◌≤◌, ◌^◌, Bool, true, false, cond, eqb, List, [], ◌∷◌, ◌++◌, take, drop, length, get_or, refl, sym, ap, ◌∙◌, subst, arith}
 use Rattle.std.specs.Prelude.{Option, None, Some, IfSome, codes, decimal, not, ◌&&◌, unwrap_or}
 use Rattle.std.specs.List.{position_or_len, find, list_all, range_with_len}
@@ -72,7 +72,7 @@ split-at text end found more =
           λ e. before-space text k d early (sym (get_or-take at text k d early) ∙ e);
     })
 
--- ---- what each word tells
+-- ---- what each word says
 
 -- a line that is one word writes no edit
 pub one_word-no_edit : (g : Parts) (text : List ℕ) (edit : Edit) → HasNoSpace text → Writes g text edit → ⊥

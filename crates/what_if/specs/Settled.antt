@@ -34,13 +34,13 @@ HasEvaluatedFew old new =
 abbrev pub HasEvaluatedEachOnce : Page → Page → Type 0
 HasEvaluatedEachOnce old new = new.evaluations ≤ old.evaluations + date_count old.live.graph
 
--- only dates, marks and the number of evaluations are others
+-- only dates, marks and the number of evaluations differ
 pub record KeepsInputs (old new : Page) : Type 0 where
   pub live : new.live ≡ old.live
   pub inputs : new.inputs ≡ old.inputs
   pub first : new.first ≡ old.first
 
--- only job times, demand dates and marks are others
+-- only job times, demand dates and marks differ
 pub record KeepsDates (old new : Page) : Type 0 where
   pub live : new.live ≡ old.live
   pub first : new.first ≡ old.first

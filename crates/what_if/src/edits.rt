@@ -32,7 +32,7 @@ fn fits_between(sheet: &Sheet, n: u32, date: Date) -> bool
     (n == 1 || sheet.demand(n - 1) <= date) && (n == jobs || date <= sheet.demand(n + 1))
 }
 
-/// Follows an edit, where demand dates stay in order, and tells whether it did.
+/// Follows an edit, where demand dates stay in order, and answers whether it did.
 fn follow_edit(sheet: &mut Sheet, live: &Live, edit: Edit) -> bool
     requires made_for { live.now ≡ sheet.old.live }
     requires valid { IsEdit live.now.graph edit }
@@ -57,7 +57,7 @@ fn follow_edit(sheet: &mut Sheet, live: &Live, edit: Edit) -> bool
     }
 }
 
-/// Follows one line, where it can be followed, and tells whether it could. An empty line is passed over.
+/// Follows one line, where it can be followed, and answers whether it could. An empty line is passed over.
 fn follow_line(sheet: &mut Sheet, live: &Live, line: &[u8]) -> bool
     requires made_for { live.now ≡ sheet.old.live }
     ensures followed { OnTrue result

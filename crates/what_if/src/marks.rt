@@ -5,7 +5,7 @@ ghost use Rattle.what_if.specs.Marks.{bits_of, is_at, count_of, HasNone, IsFirst
 use std::alloc::{AllocError, Global};
 use std::marker::Model;
 
-/// A set of numbers below a fixed one, a bit each. Contracts see a list that tells of each number whether it is marked.
+/// A set of numbers below a fixed one, a bit each. Contracts see a list that says of each number whether it is marked.
 #[derive(Drop)]
 pub struct Marks {
     words: Vec<u64>,

@@ -20,7 +20,7 @@ pub(crate) enum LoopRule {
     Downstream,
 }
 
-/// Adds each place where cards are fewer than starting stock needs, and each loop that goes down no path.
+/// Adds each key whose cards are fewer than starting stock needs, and each loop that goes down no path.
 pub(crate) fn find_on_paths(
     alloc: Global,
     paths: &PathTable,
@@ -34,7 +34,7 @@ pub(crate) fn find_on_paths(
     LoopRule::Downstream.find_in_loops(alloc, paths, refusals)
 }
 
-/// Adds each place where the policy's cards are fewer than starting stock needs.
+/// Adds each key of the policy's cards that are fewer than starting stock needs.
 fn find_few_by_policy(
     alloc: Global,
     paths: &PathTable,

@@ -28,7 +28,7 @@ pub fn refusals_of_plant(alloc: Global, plant: &Plant) -> Result<Vec<PlantError>
     Ok(refusals)
 }
 
-/// Adds each loop or place of cards that is wrong by the paths of the plant.
+/// Adds each loop, and each key of cards, that is wrong by the paths of the plant.
 fn find_with_paths(
     alloc: Global,
     plant: &Plant,

@@ -272,7 +272,7 @@ fn append(file: &mut Option<MemFile>, bytes: &[u8]) -> Result<(), AllocError> {
     }
 }
 
-/// Makes what was written to a file stand.
+/// Makes what was written to a file durable.
 fn settle(file: &mut Option<MemFile>) -> Result<(), AllocError> {
     match file {
         Some(file) => {

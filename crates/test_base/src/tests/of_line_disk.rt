@@ -23,7 +23,7 @@ fn loads_hello<D: Disk>(
 }
 
 /// The same of the file of the machine. The runtime is named here, since a function for any runtime that makes this disk
-/// is dear to prove.
+/// is slow to prove.
 fn file_loads_hello(rt: &HostRuntime, saved: Option<&[u8]>) -> Result<bool, SlotError> {
     let mut disk = FileDisk::new(rt);
     loads_hello(&mut disk, rt.alloc(), saved)

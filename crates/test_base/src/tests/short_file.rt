@@ -48,7 +48,7 @@ impl ShortFile {
         Opening::Opened
     }
 
-    /// The bytes that one call takes or gives of so long a buffer, or none where they go past the end of a disk.
+    /// The bytes that one call takes or gives of a buffer of this length, or none where they go past the end of a disk.
     fn share(&self, at: u64, len: usize) -> Option<u32>
         ensures few { IfSome result (λ most. most ≤ len) }
         ensures inside { IfSome result (λ most. at + most ≤ DISK_END) }

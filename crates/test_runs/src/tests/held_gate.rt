@@ -6,8 +6,8 @@ use std::sync::atomic::{AtomicBool, AtomicU64, Ordering};
 /// busy machine.
 const LOOKS: u64 = 200_000_000;
 
-/// A gate for two workers that holds the first pass of one until the other has passed so often. It counts how often it
-/// was passed for the feed, which is station 0.
+/// A gate for two workers that holds the first pass of one until the other has passed this often. It counts how often
+/// it was passed for the feed, which is station 0.
 #[derive(Drop)]
 pub struct HeldGate {
     holds: u32,
@@ -19,7 +19,7 @@ pub struct HeldGate {
 }
 
 impl HeldGate {
-    /// A gate that holds this worker until the other has passed so often.
+    /// A gate that holds this worker until the other has passed this often.
     pub fn new(holds: u32, opens_at: u64) -> HeldGate {
         HeldGate {
             holds,

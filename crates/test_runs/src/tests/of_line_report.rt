@@ -9,7 +9,7 @@ use std::process::Abort;
 use std::test::Fail;
 use std::thread::Threads;
 
-/// The report of the two stages, to be written by as many workers.
+/// The report of the two stages, to be written by this many workers.
 fn report_of_two_stages(rt: &impl Abort, alloc: Global, workers: u32) -> Result<Report, Fail> {
     let plant = two_stages(alloc)?;
     let live = match live_of(alloc, &plant) {
@@ -46,7 +46,7 @@ fn written<R: Abort + Threads + Sync>(
     (whole, written)
 }
 
-/// Asserts that a report is written from its beginning by as many workers, after a put of it has failed.
+/// Asserts that a report is written from its beginning by this many workers, after a put of it has failed.
 fn begins_anew<R: Abort + Threads + Sync>(rt: &R, alloc: Global, workers: u32) -> Result<(), Fail> {
     let mut report = report_of_two_stages(rt, alloc, workers)?;
     let torn = written(rt, alloc, &mut report, 1, 10);

@@ -201,7 +201,7 @@ fn delivers_forty(rt: &impl Abort, alloc: Global, report: &[u8]) {
     same(rt, report.ends_with(end.as_bytes()), true);
 }
 
-// Sixteen sweeps of six stations are 96 firings, of 240; a run that began anew would make all of them.
+// Sixteen sweeps of six stations are 96 firings, of 240; a run that began again would make all of them.
 #[test]
 fn a_resumed_run_goes_on_from_its_checkpoint(rt: HostRuntime) {
     let alloc = rt.alloc();

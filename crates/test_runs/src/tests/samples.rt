@@ -88,7 +88,7 @@ pub fn live_of(alloc: Global, plant: &Plant) -> Result<Live, Fail>
     Ok(rank(alloc, graph).ok().ok_or("the graph isn't live")?)
 }
 
-// The graphs below are leaked: no test lets one go, since each place at which a value of many lists is let go is dear
+// The graphs below are leaked: no test lets one go, since each place at which a value of many lists is let go is slow
 // to prove. What is known of them is let go here.
 
 /// A graph that is never let go.

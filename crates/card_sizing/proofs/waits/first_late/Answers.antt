@@ -4,7 +4,7 @@ use Rattle.event_graph.specs.Network.{stations, jobs}
 use Rattle.card_sizing.specs.Serving.{wait_until, NoneWaitsLonger}
 use Rattle.card_sizing.proofs.waits.first_late.Goals as goal
 
--- nor does the next job, which waits so long
+-- nor does the next job, which waits this long
 none_longer : (wait : ℕ → ℕ) (done may long : ℕ) → NoneWaitsLonger wait done may → wait (done + 1) ≡ long → long ≤ may → NoneWaitsLonger wait (done + 1) may
 none_longer wait done may long before is few n from_one within =
     ⊎_elim

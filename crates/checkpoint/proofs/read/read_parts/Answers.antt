@@ -7,7 +7,7 @@ use Rattle.checkpoint.proofs.OneState.{given_left, given_right}
 use Rattle.checkpoint.proofs.ReadParts.{logs_given}
 use Rattle.checkpoint.proofs.read.read_parts.Goals as goal
 
--- what an error tells of a text that is the same
+-- what an error says of a text that is the same
 tells_of : (g : Parts) (bytes same : List ℕ) (error : CheckpointError) → bytes ≡ same → Tells g bytes error → Tells g same error
 tells_of g bytes same error is known = subst (λ t. Tells g t error) is known
 

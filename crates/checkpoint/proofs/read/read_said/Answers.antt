@@ -19,7 +19,7 @@ read_here c =
     subst (λ (g : Parts). IsReadOf g c.args.bytes.now lines.logs lines.long places.marking places.wrong) c.requires.same
     (subst (λ (t : List ℕ). IsReadOf c.args.graph.now t lines.logs lines.long places.marking places.wrong) (ap (λ (r : Reading). r.text) c.new-reader.ensures) c.in_ok-stations.ensures.read)
 
--- what an error tells of a graph and a text that are the same
+-- what an error says of a graph and a text that are the same
 tells_here : (g h : Parts) (text bytes : List ℕ) (error : CheckpointError) → text ≡ bytes → g ≡ h → Tells g text error → Tells h bytes error
 tells_here g h text bytes error is same known = subst (λ k. Tells k bytes error) same (subst (λ t. Tells g t error) is known)
 

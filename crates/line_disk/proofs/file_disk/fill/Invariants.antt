@@ -4,7 +4,7 @@ use Rattle.line_disk.specs.RawFile.{RawCall, given_by, raw_now, disk_of}
 use Rattle.line_disk.proofs.RawRuns.{ReadsSoFar}
 use Rattle.line_disk.proofs.file_disk.fill.Given as goal
 
--- the calls so far filled so much of the buffer, and whatever reads the rest reads all; nothing changed
+-- the calls so far filled this much of the buffer, and whatever reads the rest reads all; nothing changed
 abbrev pub invariant-loop-filled : goal.invariant-loop-filled
 invariant-loop-filled g l = record {
   within : l.filled ≤ length l.bytes;

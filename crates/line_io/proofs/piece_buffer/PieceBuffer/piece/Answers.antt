@@ -2,7 +2,7 @@ use Rattle.std.proofs.Common.{◌≡◌, ◌≤◌, ℕ, List, length, take, min
 use Rattle.std.proofs.lemmas.List.{take-take, length-take, length-take-le}
 use Rattle.line_io.proofs.piece_buffer.PieceBuffer.piece.Goals as goal
 
--- the front of what waits is the front of the room
+-- a prefix of what waits is a prefix of the room
 front_of_room : (room bytes waits : List ℕ) (piece filled : ℕ) → take filled room ≡ waits → bytes ≡ room → piece ≤ length waits → (take piece bytes ≡ take piece waits) × (length (take piece bytes) ≡ piece)
 front_of_room room bytes waits piece filled view value long =
     let short : piece ≤ min filled (length room) = omega (arith, length-take filled room, ap length view) in
