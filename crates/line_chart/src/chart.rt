@@ -51,6 +51,7 @@ fn window_of(table: &Table, window: Option<(u64, u64)>) -> Window
     ensures window { result ≡ window_of window (last_date table.now.graph (date_in table.now.rows)) }
     ensures is_one { IsWindow result }
 {
+    // called for its clause: the table is the least solution of its graph
     let _stations = table.stations();
     match window {
         Some((from, to)) => Window { from, to },

@@ -48,6 +48,7 @@ pub fn run_of(
     requires window { IsWindow window }
     ensures { IfOk result (IsRunOf plant table window) }
 {
+    // called for its clause: the graph is live
     let _graph = live.graph();
     match lanes_of(alloc, &plant) {
         Ok((numbers, machines, lanes)) => Ok(ChartRun {

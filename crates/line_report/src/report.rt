@@ -54,6 +54,7 @@ impl Report {
         ensures dates { IfOk result (λ report. report.rows ≡ table.rows) }
         ensures least { IfOk result AreLeastDates }
     {
+        // called for its clause: the table is the least solution of its graph
         let _stations = table.stations();
         match memory_for(alloc, &plant, workers) {
             Ok((numbers, out, portions)) => Ok(Report {

@@ -65,6 +65,7 @@ fn percentiles_of(table: &Table, sorted: &[Date]) -> Percentiles
     requires few { length sorted.now ≤ MAX_DEMANDS }
     ensures { ArePercentiles table.now.graph (date_in table.now.rows) result }
 {
+    // called for its clause: the table is the least solution of its graph
     let _stations = table.stations();
     Percentiles {
         p50: percentile(sorted, 50),
@@ -79,6 +80,7 @@ fn percentiles_of(table: &Table, sorted: &[Date]) -> Percentiles
 pub fn wait_percentiles(alloc: Global, table: &Table) -> Result<Percentiles, AllocError>
     ensures { IfOk result (ArePercentiles table.now.graph (date_in table.now.rows)) }
 {
+    // called for its clause: the table is the least solution of its graph
     let _stations = table.stations();
     let mut list = waits(alloc, table)?;
     list.sort_unstable();

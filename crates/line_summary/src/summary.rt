@@ -42,6 +42,7 @@ impl Summary {
         ensures dates { IfOk result (λ summary. summary.rows ≡ table.rows) }
         ensures least { IfOk result AreLeastDates }
     {
+        // called for its clause: the table is the least solution of its graph
         let _stations = table.stations();
         let Ok((numbers, percentiles, uses, out)) = memory_for(alloc, &plant, &table) else {
             drop(plant);

@@ -44,6 +44,7 @@ pub fn most_backlog(plant: &Plant, numbers: &LineNumbers, table: &Table) -> u32
     ensures most { result ≡ most_backlog plant.now (date_in table.now.rows) }
     ensures least { IsLeastTable table.now }
 {
+    // called for its clause: the table is the least solution of its graph
     let _stations = table.stations();
     let mut most = 0;
     for date in table.dates(FEED) {

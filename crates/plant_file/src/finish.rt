@@ -290,6 +290,7 @@ fn keeps_limit(table: &Option<Columns>)
     ensures { IfSome table.now IsWithinLimit }
 {
     if let Some(table) = table {
+        // called for its clause: no number of the table is above its limit
         let _ = table.records();
     }
 }
