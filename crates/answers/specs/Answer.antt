@@ -1,21 +1,16 @@
--- What a command writes when it is done, and which bytes these are.
-use Rattle.std.specs.Prelude.{◌≡◌, ℕ, List, [], ◌++◌, codes, decimal, Result, Ok, Err}
+-- Which bytes a command writes when it is done.
+use Rattle.std.specs.Prelude.{ℕ, List, [], ◌++◌, codes, decimal}
 use Rattle.command_line.specs.Screens.{help_text}
-use Rattle.command_line.specs.Usage.{as_line}
+use Rattle.command_line.specs.Lines.{as_line}
 use Rattle.line_report.specs.Reported.{report_of, summary_of}
 use Rattle.date_causes.specs.Caused as caused
 use Rattle.latest_dates.specs.Found as found
 use Rattle.line_chart.specs.Picture as pictures
-use Rattle.line_io.specs.SinkView.{SinkView, WritesText}
-use Rattle.line_io.specs.declared.sink.Failed.{Failed}
 use Rattle.line_summary.specs.Summarized as summarized
 use Rattle.line_chart.specs.DateTable as date_table
 use Rattle.answers.specs.ChangesText.{changes_text}
-use Rattle.answers.specs.Curves.{CurveIsPut}
 use Rattle.answers.specs.declared.answer.Answer.{Answer}
 use Rattle.answers.specs.declared.answer.Answer.TheVariants.{Help, Version, Text, Stopped, Reported, Summarized, Caused, Summary, Drawn, Dates, Latest, Curved, Changed}
-use Rattle.answers.specs.declared.unwritten.Unwritten.{Unwritten}
-use Rattle.answers.specs.declared.unwritten.Unwritten.TheVariants as unwritten
 
 -- the name and version of the program
 abbrev pub version : List ℕ
@@ -36,18 +31,3 @@ answer_bytes (Dates dates) = date_table.text_of dates
 answer_bytes (Latest latest) = found.text_of latest
 answer_bytes (Curved counts) = []
 answer_bytes (Changed changes) = changes_text changes
-
--- what writing these bytes answers
-abbrev pub whole_of : Result (Unit {0}) Failed → Result (Unit {0}) Unwritten
-whole_of (Ok done) = Ok done
-whole_of (Err failed) = Err unwritten.Failed
-
--- bytes were written whole, or a prefix of them where the sink failed; that takes no memory
-pub record BytesArePut (bytes : List ℕ) (old new : SinkView) (result : Result (Unit {0}) Unwritten) : Type 0 where
-  pub text : WritesText old new bytes result
-  pub memory : ¬ (result ≡ Err unwritten.NoMemory)
-
--- what writing an answer puts into a sink
-abbrev pub IsPut : Answer → SinkView → SinkView → Result (Unit {0}) Unwritten → Type 0
-IsPut (Curved counts) old new result = CurveIsPut counts old new result
-IsPut other old new result = BytesArePut (answer_bytes other) old new result

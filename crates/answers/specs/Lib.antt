@@ -5,4 +5,5 @@ pub mod CheckText
 pub mod Curves
 pub mod CycleText
 pub mod EachCardsText
+pub mod Put
 pub mod Written

@@ -1,6 +1,7 @@
 //! What a command writes when it is done.
 ghost use Rattle.std.specs.Prelude.{◌≡◌};
-ghost use Rattle.answers.specs.Answer.{answer_bytes, whole_of, IsPut};
+ghost use Rattle.answers.specs.Answer.{answer_bytes};
+ghost use Rattle.answers.specs.Put.{whole_of, IsPut};
 ghost use Rattle.answers.specs.declared.answer.Answer.TheVariants.{Stopped};
 ghost use Rattle.line_io.specs.SinkView.{WritesText};
 

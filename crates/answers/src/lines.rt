@@ -1,6 +1,6 @@
 //! Texts and lines that go to a sink whole, and take no memory.
 ghost use Rattle.std.specs.Prelude.{◌++◌};
-ghost use Rattle.command_line.specs.Usage.{as_line};
+ghost use Rattle.command_line.specs.Lines.{as_line};
 ghost use Rattle.line_io.specs.SinkView.{WritesText};
 
 use line_io::{Failed, Sink, put_all};

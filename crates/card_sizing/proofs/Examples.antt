@@ -7,7 +7,7 @@ use Rattle.plant_model.specs.Stages.{Stage, one_server}
 use Rattle.plant_model.specs.Line.{no_stage}
 use Rattle.plant_model.specs.declared.plant.CardLoop.{CardLoop}
 use Rattle.plant_model.specs.declared.plant.Plant.{Plant}
-use Rattle.event_graph.specs.Firing.{greatest}
+use Rattle.event_graph.specs.GreatestValue.{greatest}
 use Rattle.event_graph.specs.Table.{Table, date_in}
 use Rattle.card_sizing.specs.Sized.{has_single_count, sized, lowest, highest}
 use Rattle.card_sizing.specs.Counted.{has_stage_counts, counted}

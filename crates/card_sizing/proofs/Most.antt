@@ -2,7 +2,7 @@
 use Rattle.std.proofs.Common.{◌≡◌, ℕ, ◌+◌, max, Bool, true, false, cond, [], ◌∷◌, ◌++◌, ap, ◌∙◌}
 use Rattle.std.specs.List.{filter, range_with_len}
 use Rattle.std.proofs.lemmas.List.{append-nil}
-use Rattle.event_graph.specs.Firing.{greatest}
+use Rattle.event_graph.specs.GreatestValue.{greatest}
 use Rattle.event_graph.proofs.Greatest.{greatest-push, greatest-range}
 use Rattle.line_base.proofs.RangeLists.{filter-range_more}
 

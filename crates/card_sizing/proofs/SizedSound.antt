@@ -20,7 +20,7 @@ use Rattle.plant_model.specs.Sound.{IsSound}
 use Rattle.plant_model.proofs.NoRefusals.{append-nil_left, append-nil_right, above-none}
 use Rattle.plant_model.proofs.Soundness.{Parts}
 use Rattle.plant_model.proofs.SoundPlants.{PassesAll, PassesAll-sound, top-in_range, stage_in_range-from}
-use Rattle.event_graph.specs.Firing.{greatest}
+use Rattle.event_graph.specs.GreatestValue.{greatest}
 use Rattle.event_graph.proofs.Greatest.{le-greatest}
 use Rattle.line_graph.specs.MoreCards.{no_loop}
 use Rattle.line_base.proofs.RangeLists.{Contains-map-range, Contains-map-filter}

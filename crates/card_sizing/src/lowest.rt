@@ -70,7 +70,7 @@ pub fn highest_count(plant: &Plant) -> u32
 }
 
 /// The most stock of a stage.
-#[tactic(auto, using(crate::proofs::Most::greatest_more), unfolding(event_graph::specs::Firing::greatest))]
+#[tactic(auto, using(crate::proofs::Most::greatest_more), unfolding(event_graph::specs::GreatestValue::greatest))]
 fn most_stock(plant: &Plant) -> u32
     ensures { result ≡ most_stock plant.now }
 {
@@ -82,7 +82,7 @@ fn most_stock(plant: &Plant) -> u32
 }
 
 /// The most stock on the path of a first stage.
-#[tactic(auto, using(crate::proofs::Most::greatest_more), unfolding(event_graph::specs::Firing::greatest))]
+#[tactic(auto, using(crate::proofs::Most::greatest_more), unfolding(event_graph::specs::GreatestValue::greatest))]
 fn most_path_stock(layout: &Layout) -> u32
     requires { IsSound layout.now }
     ensures { result ≡ most_path_stock layout.now }

@@ -17,8 +17,8 @@ use Rattle.line_core.proofs.PartsLemmas.{few_from, given_is_consistent}
 use Rattle.line_core.proofs.LastFirings.{state_of-logs}
 use Rattle.checkpoint.specs.declared.format.Format.{Format}
 use Rattle.checkpoint.specs.Text.{station_words, place_words, AreGiven}
-use Rattle.checkpoint.specs.Answers.{IsReadOf, IsRefused}
-use Rattle.checkpoint.specs.Reading.{Reading, HasRead, HasReadLogs, HasReadPlaces, KeepsLine, ComparesLine, or_first, unlike_token, unlike_tokens, unlike_places, head_count}
+use Rattle.checkpoint.specs.Answers.{IsRefused}
+use Rattle.checkpoint.specs.Reading.{Reading, HasRead, HasReadLogs, HasReadPlaces, IsReadOf, KeepsLine, ComparesLine, or_first, unlike_token, unlike_tokens, unlike_places, head_count}
 use Rattle.checkpoint.proofs.ReadDates.{IsGiven}
 use Rattle.checkpoint.proofs.Noted.{noted_next}
 use Rattle.checkpoint.proofs.ReadLines.{length-lines, line_at-station, line_at-place, read_dated, dates_of-push}

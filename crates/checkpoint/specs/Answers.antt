@@ -1,14 +1,12 @@
 -- What `read_state` answers, and when.
-use Rattle.std.specs.Prelude.{◌≡◌, ℕ, List, length, map, take, Option, Some, Result, Ok, Err, ⊤}
+use Rattle.std.specs.Prelude.{◌≡◌, ℕ, List, length, Some, Result, Ok, Err, ⊤}
 use Rattle.line_base.specs.declared.event.Parts.{Parts}
-use Rattle.line_base.specs.Roomy.{RoomyLogs, dates_of}
-use Rattle.event_graph.specs.Network.{stations, jobs, arc_count}
+use Rattle.event_graph.specs.Network.{stations, arc_count}
 use Rattle.event_graph.specs.State.{State}
 use Rattle.event_graph.specs.Reached.{Reached}
 use Rattle.line_core.specs.declared.error.StateError.{StateError}
 use Rattle.line_core.specs.declared.error.StateError.TheVariants as Core
-use Rattle.line_core.specs.Parts.{first, long_logs, state_refusal}
-use Rattle.line_core.specs.Marked.{HaveCounts}
+use Rattle.line_core.specs.Parts.{state_refusal}
 use Rattle.line_core.specs.Run.{Run}
 use Rattle.checkpoint.specs.declared.error.Stop.{Stop}
 use Rattle.checkpoint.specs.declared.error.Stop.TheVariants.{Form, Memory}
@@ -16,7 +14,6 @@ use Rattle.checkpoint.specs.declared.error.CheckpointError.{CheckpointError}
 use Rattle.checkpoint.specs.declared.error.CheckpointError.TheVariants.{Line, Count, Marking, Date, PlaceDate, NoMemory}
 use Rattle.checkpoint.specs.Text.{IsTextOf, AreGiven}
 use Rattle.checkpoint.specs.FirstBadLine.{IsFirstBadLine}
-use Rattle.checkpoint.specs.Reading.{unlike_places}
 
 -- the error of a line with this number that was not read
 abbrev pub stopped_at : Stop → ℕ → CheckpointError
@@ -36,17 +33,6 @@ pub record IsRefused (g : Parts) (bytes : List ℕ) (refusal : StateError) : Typ
   pub parts : State
   pub said : Says g bytes parts
   pub refusal_is : state_refusal g parts.logs parts.places ≡ Some refusal
-
--- what is kept of a text of logs and places: the logs, each up to its first dates, one a job; the first log that is too
--- long; how many tokens each place has; the first token that is unlike what these logs leave
-pub record IsReadOf (g : Parts) (bytes : List ℕ) (logs : RoomyLogs) (long : Option StateError)
-    (marking : List ℕ) (wrong : Option StateError) : Type 0 where
-  pub parts : State
-  pub said : Says g bytes parts
-  pub logs_are : dates_of logs ≡ map (take (jobs g)) parts.logs
-  pub long_is : long ≡ first (long_logs g parts.logs)
-  pub counts : HaveCounts parts.places marking
-  pub wrong_is : wrong ≡ first (unlike_places g (dates_of logs) (arc_count g) parts.places)
 
 -- when each error comes; running out of memory may come at any time
 abbrev pub Tells : Parts → List ℕ → CheckpointError → Type 0

@@ -5,8 +5,10 @@ use Rattle.event_graph.specs.Network.{stations, jobs, arc_count}
 use Rattle.line_core.specs.declared.error.StateError.{StateError}
 use Rattle.line_core.specs.declared.error.StateError.TheVariants.{PlaceDate}
 use Rattle.line_core.specs.Consistent.{tokens_left}
-use Rattle.line_core.specs.Parts.{LATEST_GIVEN, list_at, refuse_if, each_below, first, long_log}
+use Rattle.line_core.specs.Parts.{LATEST_GIVEN, list_at, refuse_if, each_below, first, long_log, long_logs}
 use Rattle.line_core.specs.Marked.{HaveCounts}
+use Rattle.event_graph.specs.State.{State}
+use Rattle.checkpoint.specs.Answers.{Says}
 use Rattle.checkpoint.specs.declared.error.Stop.{Stop}
 use Rattle.checkpoint.specs.declared.error.Stop.TheVariants.{Memory}
 use Rattle.line_base.specs.declared.event.Parts.{Parts}
@@ -174,3 +176,14 @@ pub record HasReadPlaces (format : Format) (g : Parts) (logs : List (List ℕ)) 
       → HasRead format g (arcs_from format g + a) (lists ++ places) r
   pub counts : HaveCounts places marking
   pub wrong_is : wrong ≡ first (unlike_places g logs a places)
+
+-- what is kept of a text of logs and places: the logs, each up to its first dates, one a job; the first log that is too
+-- long; how many tokens each place has; the first token that is unlike what these logs leave
+pub record IsReadOf (g : Parts) (bytes : List ℕ) (logs : RoomyLogs) (long : Option StateError)
+    (marking : List ℕ) (wrong : Option StateError) : Type 0 where
+  pub parts : State
+  pub said : Says g bytes parts
+  pub logs_are : dates_of logs ≡ map (take (jobs g)) parts.logs
+  pub long_is : long ≡ first (long_logs g parts.logs)
+  pub counts : HaveCounts parts.places marking
+  pub wrong_is : wrong ≡ first (unlike_places g (dates_of logs) (arc_count g) parts.places)

@@ -1,6 +1,6 @@
 ghost use Rattle.std.specs.Prelude.{◌≡◌, ℕ, ◌^◌, ◌<◌, [], length, List, None, Some, IfOk, IfErr, OnOk};
-ghost use Rattle.checkpoint.specs.Answers.{IsReadOf, IsRefused, Tells, FindsStates};
-ghost use Rattle.checkpoint.specs.Reading.{HasRead, head_count, end_from};
+ghost use Rattle.checkpoint.specs.Answers.{IsRefused, Tells, FindsStates};
+ghost use Rattle.checkpoint.specs.Reading.{HasRead, IsReadOf, head_count, end_from};
 ghost use Rattle.checkpoint.specs.Text.{lines, filled, delayed_arcs, IsReadFor, IsTextOf, AreGiven};
 ghost use Rattle.checkpoint.specs.declared.format.Format.TheVariants.{Differences};
 ghost use Rattle.event_graph.specs.Network.{stations, arc_count};

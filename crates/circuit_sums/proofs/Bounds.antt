@@ -18,9 +18,9 @@ use Rattle.plant_model.specs.Sound.{IsSound}
 use Rattle.plant_model.proofs.Soundness.{FeedsLater, IsSound-FeedsLater}
 use Rattle.plant_model.proofs.Paths.{path-step}
 use Rattle.event_graph.specs.Network.{arc}
-use Rattle.event_graph.specs.State.{State, place}
+use Rattle.event_graph.specs.State.{State, place, tokens_in}
 use Rattle.event_graph.specs.Reached.{Reached}
-use Rattle.event_graph.specs.Circuit.{IsWalk, tokens_in, tokens_on}
+use Rattle.event_graph.specs.Circuit.{IsWalk, tokens_on}
 use Rattle.event_graph.proofs.Places.{circuit_keeps_number}
 use Rattle.circuit_sums.specs.declared.circuit.CardCircuit.{CardCircuit}
 use Rattle.plant_model.specs.ArcNumbers.{onward_arcs, onward_arcs_of, kanban_arc, extended_arc, conwip_arc, first_loop_arc}

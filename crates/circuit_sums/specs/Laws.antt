@@ -4,9 +4,9 @@ use Rattle.line_base.specs.declared.event.Parts.{Parts}
 use Rattle.plant_model.specs.declared.plant.Plant.{Plant}
 use Rattle.plant_model.specs.Line.{machine_numbers, release, machine_station, receiver, starting, is_downstream, stock_between}
 use Rattle.plant_model.specs.Graph.{graph}
-use Rattle.event_graph.specs.State.{State}
+use Rattle.event_graph.specs.State.{State, tokens_in}
 use Rattle.event_graph.specs.Reached.{Reached}
-use Rattle.event_graph.specs.Circuit.{IsWalk, starting_stations, tokens_in, tokens_on}
+use Rattle.event_graph.specs.Circuit.{IsWalk, starting_stations, tokens_on}
 use Rattle.circuit_sums.specs.declared.circuit.CardCircuit.{CardCircuit}
 use Rattle.plant_model.specs.ArcNumbers.{onward_arcs, onward_arcs_between}
 use Rattle.circuit_sums.specs.Circuits.{circuits}

@@ -10,11 +10,10 @@ use Rattle.line_base.proofs.Numbers.{decimal-read}
 use Rattle.command_line.specs.Numbers.{number_in}
 use Rattle.command_line.specs.Options.{with_flag, with_value, options_after}
 use Rattle.command_line.specs.Settings.{asked}
-use Rattle.command_line.specs.Screens.{topic_of}
-use Rattle.command_line.specs.Words.{after_help, after_big, after_resume, after_cards, after_curve, after_latest, after_plant_word, command_of}
+use Rattle.command_line.specs.Words.{after_help, after_big, after_resume, after_cards, after_curve, after_latest, after_plant_word, command_of, topic_of}
 use Rattle.command_line.specs.declared.command.Command.{Command}
 use Rattle.command_line.specs.declared.command.Command.TheVariants.{Run, Replay, Big, Resume, RunSlots, RunRoom, RunStand, ResumeSlots, Cards, Curve, Latest, WhatIf, Help}
-use Rattle.command_line.specs.declared.screens.Topic.TheVariants as topic
+use Rattle.command_line.specs.declared.command.Topic.TheVariants as topic
 
 own : IsNumeralModel (λ ds. list_all is_ascii_digit ds ≡ true) (digits_value 10)
 own = numerals_by_value _ (search rules)

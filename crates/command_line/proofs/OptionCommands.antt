@@ -6,8 +6,7 @@ use Rattle.line_base.specs.Text.{is_file_name, is_checkpoint_name}
 use Rattle.command_line.specs.AnyOrder.{Written, workers, stop_after, save, every, room, slots, stand, name_of, words_of_all, Operands, run, resume, resume_slots, big, curve, NamesCheckpoint, command_with, StandInAnyOrder, StandAtMostOnce}
 use Rattle.command_line.specs.Numbers.{number_in}
 use Rattle.command_line.specs.Settings.{Asked, asked}
-use Rattle.command_line.specs.Words.{run_command, resume_command, resume_slots_command, big_command, curve_command, are_counts, after_big, after_resume, after_curve, after_plant_word}
-use Rattle.command_line.specs.Screens.{topic_of}
+use Rattle.command_line.specs.Words.{run_command, resume_command, resume_slots_command, big_command, curve_command, are_counts, after_big, after_resume, after_curve, after_plant_word, topic_of}
 use Rattle.command_line.specs.declared.command.Command.{Command}
 use Rattle.command_line.proofs.OptionOrder.{asked_same, asked_twice}
 

@@ -7,10 +7,9 @@ use Rattle.line_base.specs.Limits.{most_demands, most_cards}
 use Rattle.command_line.specs.Labels.{is_label_word}
 use Rattle.command_line.specs.Numbers.{number_in, longest_wait}
 use Rattle.command_line.specs.Settings.{Way, Asked, whole, stopped, saving, from_slots, bounded, standing, asked}
-use Rattle.command_line.specs.Words.{alone, run_command, resume_command, resume_slots_command, big_command, with_options, one_file, after_big, after_resume, each_command, after_cards, curve_command, are_counts, after_counts, after_curve, after_latest, after_why, window_command, after_chart, plant_command, after_plant_word, after_topic, help_of, after_help, is_help, after_word, command_of}
-use Rattle.command_line.specs.Screens.{topic_of}
-use Rattle.command_line.specs.declared.screens.Topic.{Topic}
-use Rattle.command_line.specs.declared.screens.Topic.TheVariants as topic
+use Rattle.command_line.specs.Words.{alone, run_command, resume_command, resume_slots_command, big_command, with_options, one_file, after_big, after_resume, each_command, after_cards, curve_command, are_counts, after_counts, after_curve, after_latest, after_why, window_command, after_chart, plant_command, after_plant_word, after_topic, help_of, after_help, is_help, after_word, command_of, topic_of}
+use Rattle.command_line.specs.declared.command.Topic.{Topic}
+use Rattle.command_line.specs.declared.command.Topic.TheVariants as topic
 use Rattle.command_line.specs.declared.command.Command.{Command}
 use Rattle.command_line.specs.declared.command.Command.TheVariants.{Lint, Check, Replay, Resume, Cycle, Cards, CardsEach, Latest, Why, Summary, Table, WhatIf, Help, Version}
 

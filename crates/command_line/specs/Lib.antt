@@ -1,3 +1,4 @@
+pub mod Lines
 pub mod Numbers
 pub mod Options
 pub mod Ranges
@@ -5,7 +6,6 @@ pub mod ReadAs
 pub mod Screens
 pub mod Settings
 pub mod Statuses
-pub mod Usage
 pub mod Words
 pub mod Labels
 pub mod AnyOrder

@@ -6,9 +6,8 @@ use Rattle.line_base.specs.Limits.{most_demands, most_cards}
 use Rattle.command_line.specs.Labels.{is_label_word}
 use Rattle.command_line.specs.Numbers.{number_in, longest_wait, most_counts}
 use Rattle.command_line.specs.Settings.{Way, whole, stopped, saving, from_slots, bounded, standing, asked}
-use Rattle.command_line.specs.Screens.{topic_of}
-use Rattle.command_line.specs.declared.screens.Topic.{Topic}
-use Rattle.command_line.specs.declared.screens.Topic.TheVariants as topic
+use Rattle.command_line.specs.declared.command.Topic.{Topic}
+use Rattle.command_line.specs.declared.command.Topic.TheVariants as topic
 use Rattle.command_line.specs.declared.command.Command.{Command}
 use Rattle.command_line.specs.declared.command.Command.TheVariants.{Run, Lint, Check, Replay, Big, Resume, Cycle, RunSlots, RunRoom, RunStand, ResumeSlots, Cards, CardsEach, Curve, Latest, Why, Summary, Table, Chart, WhatIf, Help, Version}
 use Rattle.command_line.specs.declared.words.Question.{Question}
@@ -17,6 +16,26 @@ use Rattle.command_line.specs.declared.words.FileQuestion.{FileQuestion}
 use Rattle.command_line.specs.declared.words.FileQuestion.TheVariants as file_question
 use Rattle.command_line.specs.declared.words.WaitQuestion.{WaitQuestion}
 use Rattle.command_line.specs.declared.words.WaitQuestion.TheVariants as wait_question
+
+-- the command that a word names
+unfoldable pub topic_of : List ℕ → Option Topic
+topic_of word =
+    if bytes_eq word (codes "lint") then Some topic.Lint
+    else if bytes_eq word (codes "check") then Some topic.Check
+    else if bytes_eq word (codes "summary") then Some topic.Summary
+    else if bytes_eq word (codes "run") then Some topic.Run
+    else if bytes_eq word (codes "table") then Some topic.Table
+    else if bytes_eq word (codes "why") then Some topic.Why
+    else if bytes_eq word (codes "chart") then Some topic.Chart
+    else if bytes_eq word (codes "cards") then Some topic.Cards
+    else if bytes_eq word (codes "curve") then Some topic.Curve
+    else if bytes_eq word (codes "latest") then Some topic.Latest
+    else if bytes_eq word (codes "cycle") then Some topic.Cycle
+    else if bytes_eq word (codes "whatif") then Some topic.WhatIf
+    else if bytes_eq word (codes "replay") then Some topic.Replay
+    else if bytes_eq word (codes "resume") then Some topic.Resume
+    else if bytes_eq word (codes "big") then Some topic.Big
+    else None
 
 -- a command with no word behind it
 abbrev pub alone : Command → List (List ℕ) → Option Command

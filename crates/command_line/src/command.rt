@@ -2,7 +2,6 @@ ghost use Rattle.std.specs.Prelude.{◌≡◌};
 ghost use Rattle.command_line.specs.declared.command.WordsError.TheVariants.{NoMemory};
 
 use crate::file_name::FileName;
-use crate::screens::Topic;
 use line_base::Text;
 use std::alloc::AllocError;
 
@@ -169,6 +168,41 @@ pub enum Command {
     },
     /// `--version`: the name and version of the program.
     Version,
+}
+
+/// A command that has a screen of its own, named by its first word.
+#[derive(Clone, Copy)]
+pub enum Topic {
+    /// `lint`.
+    Lint,
+    /// `check`.
+    Check,
+    /// `summary`.
+    Summary,
+    /// `run`.
+    Run,
+    /// `table`.
+    Table,
+    /// `why`.
+    Why,
+    /// `chart`.
+    Chart,
+    /// `cards`.
+    Cards,
+    /// `curve`.
+    Curve,
+    /// `latest`.
+    Latest,
+    /// `cycle`.
+    Cycle,
+    /// `whatif`.
+    WhatIf,
+    /// `replay`.
+    Replay,
+    /// `resume`.
+    Resume,
+    /// `big`.
+    Big,
 }
 
 /// Why words gave no command.

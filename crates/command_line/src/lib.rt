@@ -12,16 +12,14 @@ mod options;
 mod screens;
 mod settings;
 mod statuses;
-mod usage;
 mod words;
 
-pub use command::{Command, Stop, WordsError};
+pub use command::{Command, Stop, Topic, WordsError};
 pub use file_name::FileName;
 pub use laws::options_stand_in_any_order;
 pub use limits::{
     MAX_COUNTS, MAX_FIRINGS, MAX_RING_ROOM, MAX_WAIT, limits_are_those_of_the_definitions,
 };
 pub use options::has_stand;
-pub use screens::{Topic, help_text};
-pub use usage::{USAGE, usage_is_that_of_the_definitions};
+pub use screens::{USAGE, help_text, usage_is_that_of_the_definitions};
 pub use words::read_words;

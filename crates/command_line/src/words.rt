@@ -10,15 +10,14 @@ ghost use Rattle.command_line.specs.Words.{with_options, one_file, after_big, af
 ghost use Rattle.command_line.specs.Words.{after_cards, after_counts, after_curve};
 ghost use Rattle.command_line.specs.Words.{after_latest, why_command, after_why, window_command, after_chart};
 ghost use Rattle.command_line.specs.Words.{plant_command, after_plant_word, help_of, after_help, is_help, after_word};
-ghost use Rattle.command_line.specs.Words.{asking_of_file, asking_of_wait, command_of};
+ghost use Rattle.command_line.specs.Words.{asking_of_file, asking_of_wait, command_of, topic_of};
 
-use crate::command::{Command, Stop, WordsError};
+use crate::command::{Command, Stop, Topic, WordsError};
 use crate::file_name::FileName;
 use crate::first::first_word;
 use crate::label::is_label_word;
 use crate::limits::{MAX_COUNTS, MAX_WAIT};
 use crate::number::{cards_in, number_in};
-use crate::screens::{Topic, topic_of};
 use crate::settings::{Mode, Settings, settings_of};
 use line_base::{MAX_DEMANDS, is_checkpoint_name, is_file_name};
 use std::alloc::{AllocError, Global};
@@ -86,6 +85,31 @@ fn of_command(alloc: Global, word: &str, words: &[String]) -> Result<Command, Wo
     match topic {
         Topic::Big => big(words),
         _ => of_plant(alloc, topic, words),
+    }
+}
+
+/// The command that a word names.
+#[tactic(auto, unfolding(crate::specs::Words::topic_of))]
+fn topic_of(word: &str) -> Option<Topic>
+    ensures { result ≡ topic_of word.now }
+{
+    match word {
+        "lint" => Some(Topic::Lint),
+        "check" => Some(Topic::Check),
+        "summary" => Some(Topic::Summary),
+        "run" => Some(Topic::Run),
+        "table" => Some(Topic::Table),
+        "why" => Some(Topic::Why),
+        "chart" => Some(Topic::Chart),
+        "cards" => Some(Topic::Cards),
+        "curve" => Some(Topic::Curve),
+        "latest" => Some(Topic::Latest),
+        "cycle" => Some(Topic::Cycle),
+        "whatif" => Some(Topic::WhatIf),
+        "replay" => Some(Topic::Replay),
+        "resume" => Some(Topic::Resume),
+        "big" => Some(Topic::Big),
+        _ => None,
     }
 }
 

@@ -31,7 +31,8 @@ use Rattle.refusals.specs.declared.refusal.Refusal.TheVariants.{NoMemory}
 use Rattle.live_plant.specs.Actions.{DiskOver, HasCause, DoesOnStore}
 use Rattle.live_plant.specs.Outside.{StoreOver, store_over}
 use Rattle.commands.proofs.Actions.{no_memory_caused, does_also, leaves_store}
-use Rattle.commands.specs.FirstEnd.{IsDoneFirst, IsFirstEnd, IsLedBelow, EndsAtFirst}
+use Rattle.commands.specs.FirstEnd.{IsDoneFirst, IsFirstEnd, IsLedBelow}
+use Rattle.commands.specs.EndsAsAsked.{EndsAtFirst}
 use Rattle.commands.specs.Reports.{IsReport}
 use Rattle.commands.specs.Saving.{WritesText, AsksNothing, SavesText, RunsUntil}
 use Rattle.answers.specs.declared.answer.Answer.{Answer}

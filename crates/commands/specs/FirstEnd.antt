@@ -5,10 +5,6 @@ use Rattle.event_graph.specs.State.{State, start}
 use Rattle.line_base.specs.declared.event.Parts.{Parts}
 use Rattle.line_core.specs.Consistent.{fired}
 use Rattle.line_runs.specs.Bursts.{BurstsBelow, IsDone}
-use Rattle.line_runs.specs.Headline.{EndsWell}
-use Rattle.line_runs.specs.Stop.{CountsWell}
-use Rattle.line_runs.specs.declared.stop.Outcome.{Outcome}
-use Rattle.line_runs.specs.declared.stop.Outcome.TheVariants.{Finished, Stopped}
 use Rattle.line_workers.specs.Line.{WorkLine, Stands}
 use Rattle.live_check.specs.Order.{LiveGraph}
 
@@ -35,15 +31,3 @@ pub record IsDoneFirst (g : Parts) (n workers : ℕ) : Type 0 where
   pub last : WorkLine
   pub led : IsLedBelow g n workers last
   pub done : IsDone last
-
--- so ends a run that is to stop
-abbrev pub EndsAtFirst : Parts → ℕ → ℕ → Outcome → Type 0
-EndsAtFirst g n workers (Finished d) = IsDoneFirst g n workers
-EndsAtFirst g n workers (Stopped r) = IsFirstEnd g n workers r.state
-
--- so ends a run from the start of the graph that is to stop: in the least solution or in a state from which it may be
--- resumed, with as many firings as it should have, and at the first burst's end with n
-pub record EndsAsAsked (g : Parts) (n workers : ℕ) (outcome : Outcome) : Type 0 where
-  pub well : EndsWell g outcome
-  pub count : CountsWell g n 0 outcome
-  pub first : EndsAtFirst g n workers outcome

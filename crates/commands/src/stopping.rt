@@ -1,7 +1,7 @@
 //! The run of a live plant that is asked to stop: its report, or the save of the state in which it stops.
 ghost use Rattle.std.specs.Prelude.{◌≡◌, IfOk, IsErrOf};
 ghost use Rattle.command_line.specs.Ranges.{AreWorkers};
-ghost use Rattle.commands.specs.FirstEnd.{EndsAsAsked};
+ghost use Rattle.commands.specs.EndsAsAsked.{EndsAsAsked};
 ghost use Rattle.commands.specs.Saving.{AnswersWrite, RunsUntil, SavesText};
 ghost use Rattle.line_core.specs.Consistent.{fired};
 ghost use Rattle.line_runs.specs.Store.{text_of};

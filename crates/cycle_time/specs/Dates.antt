@@ -6,7 +6,7 @@ use Rattle.line_base.specs.declared.event.Parts.{Parts}
 use Rattle.event_graph.specs.Network.{stations, jobs, arc_count, arc, demand}
 use Rattle.event_graph.specs.Table.{Table}
 use Rattle.event_graph.specs.Least.{IsLeast}
-use Rattle.event_graph.specs.Firing.{greatest}
+use Rattle.event_graph.specs.GreatestValue.{greatest}
 use Rattle.event_graph.specs.Circuit.{starting_stations, tokens_on, time_along}
 use Rattle.cycle_time.specs.declared.certificate.Certificate.{Certificate}
 use Rattle.cycle_time.specs.Weight.{potential}

@@ -6,7 +6,8 @@ use Rattle.event_graph.specs.Network.{time, demand, delay, ins, outs}
 use Rattle.event_graph.specs.Table.{date_in}
 use Rattle.event_graph.specs.Term.{term, work}
 use Rattle.event_graph.specs.State.{State, start}
-use Rattle.event_graph.specs.Firing.{greatest, new_date, after}
+use Rattle.event_graph.specs.Firing.{new_date, after}
+use Rattle.event_graph.specs.GreatestValue.{greatest}
 
 -- an arc from the feed to the station with delay 4, and one from the station to itself with one token
 graph : ℕ → Parts

@@ -8,7 +8,7 @@ use Rattle.event_graph.specs.Term.{token_date, term}
 use Rattle.event_graph.specs.Solves.{Solves}
 use Rattle.event_graph.specs.Least.{IsLeast}
 use Rattle.event_graph.specs.Greatest.{IsGreatestOfTerms}
-use Rattle.event_graph.specs.Firing.{greatest}
+use Rattle.event_graph.specs.GreatestValue.{greatest}
 use Rattle.event_graph.proofs.ArcNumbers.{Contains-ins, All-ins, each_input}
 use Rattle.event_graph.proofs.Greatest.{le-greatest, greatest-one}
 

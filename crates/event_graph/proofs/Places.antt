@@ -7,9 +7,9 @@ use Rattle.std.proofs.lemmas.List.Sums.{sum_by-cons}
 use Rattle.line_base.specs.declared.event.Arc.{Arc}
 use Rattle.line_base.specs.declared.event.Parts.{Parts}
 use Rattle.event_graph.specs.Network.{arc_count, arc}
-use Rattle.event_graph.specs.State.{State, start, place}
+use Rattle.event_graph.specs.State.{State, start, place, tokens_in}
 use Rattle.event_graph.specs.Firing.{CanFire, new_date, place_after, after}
-use Rattle.event_graph.specs.Circuit.{IsWalk, IsCircuit, tokens_in, tokens_on}
+use Rattle.event_graph.specs.Circuit.{IsWalk, IsCircuit, tokens_on}
 use Rattle.event_graph.specs.Reached.{Reached, begins, fires}
 
 -- at the start each place has its arc's tokens

@@ -3,7 +3,6 @@ use Rattle.std.specs.Prelude.{◌≡◌, ◌≢◌, ℕ, ◌+◌, ◌<◌, List,
 use Rattle.line_base.specs.declared.event.Parts.{Parts}
 use Rattle.event_graph.specs.Network.{arc_count, arc, delay}
 use Rattle.event_graph.specs.Term.{work}
-use Rattle.event_graph.specs.State.{State, place}
 
 -- the arcs lead from station t, one after the other, to station u
 abbrev pub IsWalk : Parts → ℕ → List ℕ → ℕ → Type 0
@@ -20,10 +19,6 @@ pub record IsCircuit (g : Parts) (arcs : List ℕ) : Type 0 where
   pub base : ℕ
   pub closed : IsWalk g base arcs base
   pub distinct : AllPairs (λ t u. t ≢ u) (starting_stations g arcs)
-
--- how many tokens a state has on the arcs
-abbrev pub tokens_in : State → List ℕ → ℕ
-tokens_in s arcs = sum_by (λ a. length (place s a)) arcs
 
 -- how many tokens the arcs have at the start
 abbrev pub tokens_on : Parts → List ℕ → ℕ

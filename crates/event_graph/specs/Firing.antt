@@ -1,15 +1,11 @@
 -- Source: Baccelli, Cohen, Olsder, Quadrat, Synchronization and Linearity, firing of a transition.
-use Rattle.std.specs.Prelude.{◌≡◌, ℕ, ◌+◌, ◌<◌, ◌==◌, if◌then◌else◌, max, List, [], ◌∷◌, ◌++◌, map, drop, length, slice_index, slice_set}
+use Rattle.std.specs.Prelude.{◌≡◌, ℕ, ◌+◌, ◌<◌, ◌==◌, if◌then◌else◌, List, [], ◌∷◌, ◌++◌, map, drop, length, slice_index, slice_set}
 use Rattle.std.specs.List.{range_with_len}
 use Rattle.line_base.specs.declared.event.Parts.{Parts}
 use Rattle.event_graph.specs.Network.{stations, jobs, arc_count, arc, demand, delay, ins}
+use Rattle.event_graph.specs.GreatestValue.{greatest}
 use Rattle.event_graph.specs.Term.{work}
 use Rattle.event_graph.specs.State.{State, log, place}
-
--- the greatest value of f on a list, 0 on the empty one
-unfoldable pub greatest : (ℕ → ℕ) → List ℕ → ℕ
-greatest f [] = 0
-greatest f (x ∷ xs) = max (f x) (greatest f xs)
 
 -- station t's log is not full, and each of its input places has a token
 pub record CanFire (g : Parts) (s : State) (t : ℕ) : Type 0 where

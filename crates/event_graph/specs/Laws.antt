@@ -4,9 +4,9 @@ use Rattle.line_base.specs.declared.event.Parts.{Parts}
 use Rattle.event_graph.specs.Table.{Table, IsSameTable}
 use Rattle.event_graph.specs.Least.{IsLeast}
 use Rattle.event_graph.specs.Greatest.{IsGreatestOfTerms}
-use Rattle.event_graph.specs.State.{State, start}
+use Rattle.event_graph.specs.State.{State, start, tokens_in}
 use Rattle.event_graph.specs.Firing.{CanFire, after}
-use Rattle.event_graph.specs.Circuit.{IsCircuit, tokens_in, tokens_on}
+use Rattle.event_graph.specs.Circuit.{IsCircuit, tokens_on}
 
 -- there is at most one least solution
 abbrev pub HasOneLeast : Parts → Type 0

@@ -5,6 +5,7 @@ pub mod Term
 pub mod Solves
 pub mod Least
 pub mod Greatest
+pub mod GreatestValue
 pub mod State
 pub mod Firing
 pub mod Reached

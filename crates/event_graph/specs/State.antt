@@ -1,5 +1,5 @@
 -- Source: Baccelli, Cohen, Olsder, Quadrat, Synchronization and Linearity, markings of event graphs.
-use Rattle.std.specs.Prelude.{ℕ, List, [], map, replicate, slice_index_or}
+use Rattle.std.specs.Prelude.{ℕ, List, [], map, length, replicate, slice_index_or, sum_by}
 use Rattle.line_base.specs.declared.event.Parts.{Parts}
 use Rattle.event_graph.specs.Network.{stations}
 
@@ -15,6 +15,10 @@ log s t = slice_index_or s.logs t []
 -- the place of arc a
 abbrev pub place : State → ℕ → List ℕ
 place s a = slice_index_or s.places a []
+
+-- how many tokens a state has on the arcs
+abbrev pub tokens_in : State → List ℕ → ℕ
+tokens_in s arcs = sum_by (λ a. length (place s a)) arcs
 
 -- empty logs, and on each arc as many tokens of date 0 as it has at the start
 unfoldable pub start : Parts → State

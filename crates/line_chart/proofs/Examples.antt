@@ -5,7 +5,7 @@ use Rattle.plant_model.specs.Graph.{graph, labels, times, rows}
 use Rattle.plant_model.proofs.TwoStage.{kanban_line, kanban_dates}
 use Rattle.event_graph.specs.Network.{ins, delay, time}
 use Rattle.event_graph.specs.Table.{date_in}
-use Rattle.event_graph.specs.Firing.{greatest}
+use Rattle.event_graph.specs.GreatestValue.{greatest}
 use Rattle.line_stats.specs.Counts.{count_until, in_process, in_move, in_stock, standing, backlog}
 use Rattle.line_chart.specs.Starts.{worked_ins, start}
 use Rattle.line_chart.specs.Window.{window_of}

@@ -17,8 +17,8 @@ use Rattle.plant_model.proofs.Paths.{path-step}
 use Rattle.event_graph.specs.Network.{arc, arc_count, jobs, delay}
 use Rattle.event_graph.specs.Table.{Table}
 use Rattle.event_graph.specs.Solves.{Solves}
-use Rattle.event_graph.specs.State.{State, log, place}
-use Rattle.event_graph.specs.Circuit.{IsWalk, starting_stations, tokens_in, tokens_on}
+use Rattle.event_graph.specs.State.{State, log, place, tokens_in}
+use Rattle.event_graph.specs.Circuit.{IsWalk, starting_stations, tokens_on}
 use Rattle.event_graph.proofs.Walks.{walk_drop}
 use Rattle.line_core.specs.Consistent.{all_tokens, IsConsistent}
 use Rattle.line_core.proofs.Consistency.{reached_is_consistent}

@@ -8,7 +8,7 @@ use Rattle.line_base.specs.declared.event.Parts.{Parts}
 use Rattle.event_graph.specs.Network.{arc, ins, delay, time, EndsAt}
 use Rattle.event_graph.specs.Table.{Table}
 use Rattle.event_graph.specs.Term.{token_date, work}
-use Rattle.event_graph.specs.Firing.{greatest}
+use Rattle.event_graph.specs.GreatestValue.{greatest}
 use Rattle.event_graph.proofs.ArcNumbers.{All-ins, Contains-ins}
 use Rattle.event_graph.proofs.Greatest.{le-greatest, greatest-le, greatest-push}
 use Rattle.event_graph.proofs.Ranges.{Contains-filter}

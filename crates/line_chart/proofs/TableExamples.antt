@@ -5,7 +5,7 @@ use Rattle.plant_model.specs.Graph.{graph, labels, rows}
 use Rattle.plant_model.proofs.TwoStage.{kanban_line, kanban_dates}
 use Rattle.event_graph.specs.Network.{ins, delay}
 use Rattle.event_graph.specs.Table.{date_in}
-use Rattle.event_graph.specs.Firing.{greatest}
+use Rattle.event_graph.specs.GreatestValue.{greatest}
 use Rattle.line_chart.specs.Starts.{worked_ins, start}
 use Rattle.line_chart.specs.TableText.{job_record, station_records, stage_records, table_text}
 

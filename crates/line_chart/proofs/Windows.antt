@@ -3,7 +3,7 @@ use Rattle.std.proofs.Common.{◌≤◌}
 use Rattle.std.specs.List.{range_with_len}
 use Rattle.event_graph.specs.Network.{stations}
 use Rattle.event_graph.specs.Table.{date_in}
-use Rattle.event_graph.specs.Firing.{greatest}
+use Rattle.event_graph.specs.GreatestValue.{greatest}
 use Rattle.event_graph.proofs.Greatest.{greatest-le}
 use Rattle.line_core.specs.Run.{Dates, IsLeastTable}
 use Rattle.line_stats.specs.Counts.{job_numbers, last_date}

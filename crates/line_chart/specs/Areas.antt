@@ -3,7 +3,7 @@ use Rattle.std.specs.Prelude.{ℕ, ◌+◌, ◌-◌, ◌==◌, not, nat_le, max,
 use Rattle.std.specs.List.{range_with_len}
 use Rattle.plant_model.specs.declared.plant.Plant.{Plant}
 use Rattle.event_graph.specs.Table.{Table}
-use Rattle.event_graph.specs.Firing.{greatest}
+use Rattle.event_graph.specs.GreatestValue.{greatest}
 use Rattle.line_stats.specs.Counts.{in_process, in_move, standing, backlog}
 use Rattle.line_chart.specs.declared.count.Count.{Count}
 use Rattle.line_chart.specs.declared.count.Count.TheVariants.{Parts, UnderWay, Backlog}

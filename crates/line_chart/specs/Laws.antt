@@ -9,9 +9,9 @@ use Rattle.event_graph.specs.Network.{jobs, time}
 use Rattle.event_graph.specs.Table.{Table}
 use Rattle.event_graph.specs.Solves.{Solves}
 use Rattle.event_graph.specs.Least.{IsLeast}
-use Rattle.event_graph.specs.State.{State, log}
+use Rattle.event_graph.specs.State.{State, log, tokens_in}
 use Rattle.event_graph.specs.Reached.{Reached}
-use Rattle.event_graph.specs.Circuit.{IsWalk, tokens_in, tokens_on}
+use Rattle.event_graph.specs.Circuit.{IsWalk, tokens_on}
 use Rattle.circuit_sums.specs.Laws.{stations_of_stage}
 use Rattle.line_chart.specs.Starts.{start}
 use Rattle.line_chart.specs.declared.window.Window.{Window}

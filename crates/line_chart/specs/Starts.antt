@@ -4,7 +4,7 @@ use Rattle.line_base.specs.declared.event.Parts.{Parts}
 use Rattle.event_graph.specs.Network.{arc, ins}
 use Rattle.event_graph.specs.Table.{Table}
 use Rattle.event_graph.specs.Term.{token_date}
-use Rattle.event_graph.specs.Firing.{greatest}
+use Rattle.event_graph.specs.GreatestValue.{greatest}
 
 -- the worked arcs into station t: on these come its parts and the tokens of its servers
 unfoldable pub worked_ins : Parts → ℕ → List ℕ

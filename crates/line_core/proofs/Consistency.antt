@@ -10,7 +10,8 @@ use Rattle.event_graph.specs.Network.{stations, jobs, arc, arc_count, demand, de
 use Rattle.event_graph.specs.Table.{date_in}
 use Rattle.event_graph.specs.Term.{work, token_date}
 use Rattle.event_graph.specs.State.{State, log, place, start}
-use Rattle.event_graph.specs.Firing.{greatest, CanFire, new_date, after, place_after}
+use Rattle.event_graph.specs.Firing.{CanFire, new_date, after, place_after}
+use Rattle.event_graph.specs.GreatestValue.{greatest}
 use Rattle.event_graph.specs.Reached.{Reached, begins, fires}
 use Rattle.event_graph.proofs.ArcNumbers.{All-ins}
 use Rattle.event_graph.proofs.Places.{place-start, place-after}

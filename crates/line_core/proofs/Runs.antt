@@ -14,7 +14,8 @@ use Rattle.event_graph.specs.Table.{date_in}
 use Rattle.event_graph.specs.Least.{IsLeast}
 use Rattle.event_graph.specs.Term.{work}
 use Rattle.event_graph.specs.State.{State, log, place, start}
-use Rattle.event_graph.specs.Firing.{greatest, CanFire, new_date, after}
+use Rattle.event_graph.specs.Firing.{CanFire, new_date, after}
+use Rattle.event_graph.specs.GreatestValue.{greatest}
 use Rattle.event_graph.specs.Reached.{Reached, begins, fires}
 use Rattle.line_core.specs.Consistent.{all_tokens, state_of, IsConsistent, IsFinished, LATEST_DATE}
 use Rattle.line_core.specs.ArcTokens.{tokens_of, HasRoom, FillsCircuits}

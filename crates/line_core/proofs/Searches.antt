@@ -10,7 +10,8 @@ use Rattle.std.proofs.lemmas.List.FromFn.{length-range_with_len, get_or-range_wi
 use Rattle.line_base.specs.declared.event.Parts.{Parts}
 use Rattle.event_graph.specs.Network.{stations, jobs, ins}
 use Rattle.event_graph.specs.State.{State, log, place}
-use Rattle.event_graph.specs.Firing.{greatest, CanFire}
+use Rattle.event_graph.specs.Firing.{CanFire}
+use Rattle.event_graph.specs.GreatestValue.{greatest}
 use Rattle.event_graph.proofs.ArcNumbers.{each_input}
 use Rattle.line_core.specs.Consistent.{IsFinished, IsConsistent}
 use Rattle.line_core.specs.Refusals.{is_empty, is_behind, first_empty, first_unfinished}

@@ -9,7 +9,8 @@ use Rattle.event_graph.specs.Term.{term, token_date}
 use Rattle.event_graph.specs.Solves.{Solves}
 use Rattle.event_graph.specs.Least.{IsLeast}
 use Rattle.event_graph.specs.State.{State, log}
-use Rattle.event_graph.specs.Firing.{greatest, CanFire, new_date}
+use Rattle.event_graph.specs.Firing.{CanFire, new_date}
+use Rattle.event_graph.specs.GreatestValue.{greatest}
 use Rattle.event_graph.specs.Reached.{Reached, begins, fires}
 use Rattle.event_graph.proofs.ArcNumbers.{All-ins, each_input}
 use Rattle.line_core.specs.Consistent.{all_tokens, due_date, IsConsistent, IsFinished}

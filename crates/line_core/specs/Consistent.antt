@@ -6,7 +6,7 @@ use Rattle.event_graph.specs.Network.{stations, jobs, arc_count, arc, demand, de
 use Rattle.event_graph.specs.Table.{date_in}
 use Rattle.event_graph.specs.Term.{term}
 use Rattle.event_graph.specs.State.{State, log, place}
-use Rattle.event_graph.specs.Firing.{greatest}
+use Rattle.event_graph.specs.GreatestValue.{greatest}
 
 -- every token that arc a has held so far, in order: those of the start, then one for each date of
 -- the log of the station where it starts

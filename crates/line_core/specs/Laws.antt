@@ -5,10 +5,10 @@ use Rattle.line_base.specs.declared.event.Parts.{Parts}
 use Rattle.event_graph.specs.Table.{Table, date_in}
 use Rattle.event_graph.specs.Least.{IsLeast}
 use Rattle.event_graph.specs.Greatest.{IsGreatestOfTerms}
-use Rattle.event_graph.specs.State.{State, log}
+use Rattle.event_graph.specs.State.{State, log, tokens_in}
 use Rattle.event_graph.specs.Firing.{CanFire}
 use Rattle.event_graph.specs.Reached.{Reached}
-use Rattle.event_graph.specs.Circuit.{IsCircuit, starting_stations, tokens_in, tokens_on}
+use Rattle.event_graph.specs.Circuit.{IsCircuit, starting_stations, tokens_on}
 use Rattle.live_check.specs.DeadCircuit.{IsDeadCircuit}
 use Rattle.line_core.specs.Consistent.{IsFinished, IsNoLaterThan, LATEST_DATE}
 

@@ -7,10 +7,10 @@ use Rattle.event_graph.specs.Limits.{IsWithinLimits}
 use Rattle.event_graph.specs.Table.{date_in}
 use Rattle.event_graph.specs.Least.{IsLeast}
 use Rattle.event_graph.specs.Greatest.{IsGreatestOfTerms}
-use Rattle.event_graph.specs.State.{State, start}
+use Rattle.event_graph.specs.State.{State, start, tokens_in}
 use Rattle.event_graph.specs.Firing.{after}
 use Rattle.event_graph.specs.Reached.{Reached}
-use Rattle.event_graph.specs.Circuit.{IsCircuit, tokens_in, tokens_on}
+use Rattle.event_graph.specs.Circuit.{IsCircuit, tokens_on}
 use Rattle.line_core.specs.Consistent.{state_of, IsNoLaterThan, LATEST_DATE}
 use Rattle.line_core.specs.ArcTokens.{HasRoom}
 

@@ -6,7 +6,7 @@ use Rattle.live_check.specs.Order.{LiveGraph}
 use Rattle.line_core.specs.Consistent.{fired}
 use Rattle.line_core.specs.Round.{HasFired}
 use Rattle.line_core.specs.Run.{Dates}
-use Rattle.line_worker.specs.Work.{most_sweeps}
+use Rattle.line_worker.specs.Sweeps.{most_sweeps}
 use Rattle.line_workers.specs.Line.{WorkLine, IsLine, run_in}
 use Rattle.line_runs.specs.Bursts.{IsBurst, IsDone, HasMade, BurstsBelow, none, more}
 use Rattle.line_runs.specs.AllFirings.{all_firings}

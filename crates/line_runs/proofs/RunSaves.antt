@@ -7,7 +7,7 @@ use Rattle.event_graph.specs.Network.{stations}
 use Rattle.live_check.specs.Order.{LiveGraph}
 use Rattle.line_core.specs.Consistent.{fired}
 use Rattle.line_core.specs.Run.{Dates}
-use Rattle.line_worker.specs.Work.{most_sweeps}
+use Rattle.line_worker.specs.Sweeps.{most_sweeps}
 use Rattle.checkpoint.specs.declared.format.Format.TheVariants.{Differences}
 use Rattle.checkpoint.specs.Text.{text}
 use Rattle.line_disk.specs.DiskView.{Image, DiskView, LeavesOnly, held_now}

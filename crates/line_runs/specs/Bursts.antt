@@ -5,7 +5,7 @@ use Rattle.event_graph.specs.State.{log}
 use Rattle.event_graph.specs.Firing.{CanFire}
 use Rattle.line_core.specs.Consistent.{IsFinished, fired}
 use Rattle.line_core.specs.Round.{HasFired}
-use Rattle.line_worker.specs.Work.{most_sweeps}
+use Rattle.line_worker.specs.Sweeps.{most_sweeps}
 use Rattle.line_workers.specs.Line.{WorkLine, IsLine, LogsGrow, EachWorks, run_in}
 use Rattle.line_runs.specs.AllFirings.{all_firings}
 

@@ -5,9 +5,9 @@
 -- state ends in the least solution. There is one least solution: `HasOneLeast` of `event_graph`.
 use Rattle.std.specs.Prelude.{◌≡◌, ℕ, ◌<◌, List, Result, MatchResult}
 use Rattle.line_base.specs.declared.event.Parts.{Parts}
-use Rattle.event_graph.specs.State.{State}
+use Rattle.event_graph.specs.State.{State, tokens_in}
 use Rattle.event_graph.specs.Reached.{Reached}
-use Rattle.event_graph.specs.Circuit.{IsCircuit, tokens_in, tokens_on}
+use Rattle.event_graph.specs.Circuit.{IsCircuit, tokens_on}
 use Rattle.line_core.specs.Consistent.{fired}
 use Rattle.line_core.specs.Run.{Dates}
 use Rattle.checkpoint.specs.declared.error.CheckpointError.{CheckpointError}

@@ -4,7 +4,7 @@ use Rattle.line_base.specs.declared.event.Parts.{Parts}
 use Rattle.event_graph.specs.Network.{stations}
 use Rattle.line_core.specs.Consistent.{fired}
 use Rattle.line_core.specs.Run.{Run, Dates}
-use Rattle.line_worker.specs.Work.{most_sweeps}
+use Rattle.line_worker.specs.Sweeps.{most_sweeps}
 use Rattle.line_workers.specs.Line.{WorkLine, run_in}
 use Rattle.line_runs.specs.AllFirings.{all_firings}
 use Rattle.line_runs.specs.Bursts.{BurstsBelow, HasMade, IsDone}

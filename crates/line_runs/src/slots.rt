@@ -8,7 +8,7 @@ ghost use Rattle.line_runs.specs.Saves.{IsOldOrState, HasTooLongState};
 ghost use Rattle.line_runs.specs.AllFirings.{all_firings};
 ghost use Rattle.line_runs.specs.Store.{text_of, IsOver};
 ghost use Rattle.line_runs.specs.Table.{IsLeastOf};
-ghost use Rattle.line_worker.specs.Work.{most_sweeps};
+ghost use Rattle.line_worker.specs.Sweeps.{most_sweeps};
 ghost use Rattle.line_workers.specs.Line.{IsLine, run_in};
 ghost use Rattle.slot_store.specs.Crash.{IsOldOrNew, IsSaved};
 ghost use Rattle.slot_store.specs.declared.error.SlotError.TheVariants.{TooLong};

@@ -3,7 +3,7 @@ use Rattle.std.proofs.Common.{◌≡◌, ℕ, zero, suc, ◌+◌, ◌<◌, max, 
 use Rattle.std.specs.Option.{unwrap_or}
 use Rattle.std.specs.List.{range_with_len, fold, reduce}
 use Rattle.std.proofs.lemmas.List.FromFn.{fill_by_all}
-use Rattle.event_graph.specs.Firing.{greatest}
+use Rattle.event_graph.specs.GreatestValue.{greatest}
 
 -- the greatest element, as it is picked from left to right
 greatest-picked : (x : ℕ) (xs : List ℕ) → fold max x xs ≡ max x (greatest (λ d. d) xs)

@@ -10,7 +10,7 @@ use Rattle.plant_model.specs.Sound.{IsSound}
 use Rattle.plant_model.proofs.LayoutStations.{last_machine-below, release-below, receiver-above}
 use Rattle.event_graph.specs.Network.{stations, jobs}
 use Rattle.event_graph.specs.Table.{Table, IsSameTable}
-use Rattle.event_graph.specs.Firing.{greatest}
+use Rattle.event_graph.specs.GreatestValue.{greatest}
 use Rattle.event_graph.proofs.Greatest.{greatest-same}
 use Rattle.live_check.proofs.Counts.{count_by-range-agree}
 use Rattle.line_graph.proofs.Sizes.{stations-graph}

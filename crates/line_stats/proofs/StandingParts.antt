@@ -12,7 +12,7 @@ use Rattle.plant_model.proofs.LayoutStations.{release-below, receiver-above}
 use Rattle.event_graph.specs.Network.{stations, jobs}
 use Rattle.event_graph.specs.Table.{Table}
 use Rattle.event_graph.specs.Solves.{Solves}
-use Rattle.event_graph.specs.Firing.{greatest}
+use Rattle.event_graph.specs.GreatestValue.{greatest}
 use Rattle.event_graph.proofs.Greatest.{le-greatest, greatest-le}
 use Rattle.line_graph.proofs.Sizes.{stations-graph}
 use Rattle.plant_model.specs.Bound.{bound}

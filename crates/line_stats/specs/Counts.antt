@@ -1,6 +1,6 @@
 -- What stands where in a line at a date, over a table of dates of its graph. Dates count from 0, jobs from 1.
 -- Source: Dallery and Liberopoulos 2000, the parts of a stage in process and in its output buffer.
-use Rattle.std.specs.Prelude.{◌≡◌, ℕ, ◌+◌, ◌-◌, ◌<◌, nat_le, List, length, count_by, sum_by}
+use Rattle.std.specs.Prelude.{ℕ, ◌+◌, ◌-◌, nat_le, List, count_by, sum_by}
 use Rattle.std.specs.List.{range_with_len}
 use Rattle.line_base.specs.declared.event.Parts.{Parts}
 use Rattle.plant_model.specs.declared.plant.Plant.{Plant}
@@ -8,16 +8,7 @@ use Rattle.plant_model.specs.Line.{stage_at, release, last_machine, deliver, rec
 use Rattle.plant_model.specs.Graph.{graph}
 use Rattle.event_graph.specs.Network.{stations, jobs}
 use Rattle.event_graph.specs.Table.{Table}
-use Rattle.event_graph.specs.Firing.{greatest}
-use Rattle.line_core.specs.Run.{Dates}
-use Rattle.plant_model.specs.Sound.{IsSound}
-
--- a stage of a sound plant, with the plant's numbers and a table of its graph
-pub record IsStageOf (p numbered : Plant) (table : Dates) (stage : ℕ) : Type 0 where
-  pub sound : IsSound p
-  pub numbers : numbered ≡ p
-  pub of_plant : table.graph ≡ graph p
-  pub exists : stage < length p.stages
+use Rattle.event_graph.specs.GreatestValue.{greatest}
 
 -- the numbers of the jobs, in order
 abbrev pub job_numbers : Parts → List ℕ

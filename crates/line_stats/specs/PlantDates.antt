@@ -1,5 +1,5 @@
 -- A plant and the dates of a run of it: what contracts see of a report, of a summary and of a table of dates.
-use Rattle.std.specs.Prelude.{◌≡◌, ℕ, List}
+use Rattle.std.specs.Prelude.{◌≡◌, ℕ, ◌<◌, List, length}
 use Rattle.plant_model.specs.declared.plant.Plant.{Plant}
 use Rattle.plant_model.specs.Graph.{graph}
 use Rattle.plant_model.specs.Sound.{IsSound}
@@ -21,6 +21,13 @@ pub record AreOfPlant (p : Plant) (live : LiveGraph) (table : Dates) : Type 0 wh
   pub sound : IsSound p
   pub live_graph : live.graph ≡ graph p
   pub table_graph : table.graph ≡ graph p
+
+-- a stage of a sound plant, with the plant's numbers and a table of its graph
+pub record IsStageOf (p numbered : Plant) (table : Dates) (stage : ℕ) : Type 0 where
+  pub sound : IsSound p
+  pub numbers : numbered ≡ p
+  pub of_plant : table.graph ≡ graph p
+  pub exists : stage < length p.stages
 
 -- what is written stays as it was, and its dates are the least solution
 pub record Stays (old new : PlantDates) : Type 0 where

@@ -2,7 +2,8 @@
 //! numbers are those of the plant, which contracts see.
 ghost use Rattle.std.specs.Prelude.{◌≡◌, ◌+◌, ◌<◌, length};
 ghost use Rattle.event_graph.specs.Table.{date_in};
-ghost use Rattle.line_stats.specs.Counts.{IsStageOf, done, arrived, in_process, in_move, in_stock, backlog};
+ghost use Rattle.line_stats.specs.Counts.{done, arrived, in_process, in_move, in_stock, backlog};
+ghost use Rattle.line_stats.specs.PlantDates.{IsStageOf};
 ghost use Rattle.plant_model.specs.Graph.{graph};
 ghost use Rattle.plant_model.specs.Line.{release, last_machine, deliver, receiver, starting};
 ghost use Rattle.plant_model.specs.Sound.{IsSound};

@@ -3,7 +3,8 @@ ghost use Rattle.std.specs.List.Sorted.{IsNonDecreasing};
 ghost use Rattle.std.specs.Prelude.{◌≡◌, ◌+◌, ◌≤◌, ℕ, length, IfSome};
 ghost use Rattle.event_graph.specs.Table.{date_in};
 ghost use Rattle.line_stats.specs.Between.{between};
-ghost use Rattle.line_stats.specs.Counts.{IsStageOf, standing, peak};
+ghost use Rattle.line_stats.specs.Counts.{standing, peak};
+ghost use Rattle.line_stats.specs.PlantDates.{IsStageOf};
 ghost use Rattle.plant_model.specs.Bound.{bound};
 
 use crate::logs::{dates_until, dates_until_from};

@@ -1,7 +1,7 @@
 //! What is said of a whole table of dates.
 ghost use Rattle.std.specs.List.{range_with_len};
 ghost use Rattle.std.specs.Prelude.{◌≡◌, ◌≤◌, length, sum_by};
-ghost use Rattle.event_graph.specs.Firing.{greatest};
+ghost use Rattle.event_graph.specs.GreatestValue.{greatest};
 ghost use Rattle.event_graph.specs.Table.{date_in};
 ghost use Rattle.line_stats.specs.Counts.{last_date, waiting};
 

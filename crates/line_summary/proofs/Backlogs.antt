@@ -7,7 +7,7 @@ use Rattle.plant_model.specs.Line.{deliver}
 use Rattle.plant_model.specs.Graph.{graph}
 use Rattle.event_graph.specs.Network.{jobs, stations}
 use Rattle.event_graph.specs.Table.{date_in}
-use Rattle.event_graph.specs.Firing.{greatest}
+use Rattle.event_graph.specs.GreatestValue.{greatest}
 use Rattle.line_core.specs.Run.{Dates, IsLeastTable}
 use Rattle.line_stats.specs.Between.{dates_until}
 use Rattle.line_stats.specs.Counts.{count_until, backlog, last_date}

@@ -4,7 +4,7 @@ use Rattle.std.specs.Fmt.{digits}
 use Rattle.plant_model.specs.Graph.{graph, labels}
 use Rattle.plant_model.proofs.TwoStage.{kanban_line, kanban_dates}
 use Rattle.event_graph.specs.Table.{date_in}
-use Rattle.event_graph.specs.Firing.{greatest}
+use Rattle.event_graph.specs.GreatestValue.{greatest}
 use Rattle.card_sizing.specs.Sized.{sized}
 use Rattle.line_stats.specs.Counts.{count_until, in_process, in_move, in_stock, last_date, waiting}
 use Rattle.line_summary.specs.Figures.{figures}

@@ -5,7 +5,7 @@ use Rattle.plant_model.specs.declared.plant.Plant.{Plant}
 use Rattle.plant_model.specs.Graph.{graph, labels}
 use Rattle.plant_model.proofs.TwoStage.{machine, stage, kanban_line, kanban_dates}
 use Rattle.event_graph.specs.Table.{date_in}
-use Rattle.event_graph.specs.Firing.{greatest}
+use Rattle.event_graph.specs.GreatestValue.{greatest}
 use Rattle.line_stats.specs.Counts.{count_until, in_process, in_move, in_stock, standing, backlog, last_date, peak, waiting}
 use Rattle.line_summary.specs.Thousandths.{nearest, decimal_text, thousandths}
 use Rattle.line_summary.specs.OverTime.{sum_until, parts_sum, most_backlog}

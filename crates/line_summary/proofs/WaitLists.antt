@@ -10,7 +10,7 @@ use Rattle.std.proofs.lemmas.List.FromFn.{length-map-range_with_len}
 use Rattle.line_base.specs.declared.event.Parts.{Parts}
 use Rattle.event_graph.specs.Network.{jobs, stations}
 use Rattle.event_graph.specs.Table.{Table, date_in}
-use Rattle.event_graph.specs.Firing.{greatest}
+use Rattle.event_graph.specs.GreatestValue.{greatest}
 use Rattle.line_core.specs.Run.{Dates}
 use Rattle.line_stats.specs.Between.{dates_until}
 use Rattle.line_stats.specs.Counts.{job_numbers}

@@ -4,7 +4,7 @@ use Rattle.std.specs.List.{range_with_len}
 use Rattle.line_base.specs.declared.event.Parts.{Parts}
 use Rattle.event_graph.specs.Network.{stations, jobs}
 use Rattle.event_graph.specs.Table.{Table}
-use Rattle.event_graph.specs.Firing.{greatest}
+use Rattle.event_graph.specs.GreatestValue.{greatest}
 use Rattle.line_stats.specs.Counts.{job_numbers}
 
 -- how long job n waits: the delivery is the last station, the feed the first

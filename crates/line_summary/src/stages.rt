@@ -1,7 +1,8 @@
 //! What stands in a stage, summed over time.
 ghost use Rattle.std.specs.Prelude.{◌≡◌, ◌+◌, ◌≤◌, ◌^◌};
 ghost use Rattle.event_graph.specs.Table.{date_in};
-ghost use Rattle.line_stats.specs.Counts.{IsStageOf, last_date};
+ghost use Rattle.line_stats.specs.Counts.{last_date};
+ghost use Rattle.line_stats.specs.PlantDates.{IsStageOf};
 ghost use Rattle.line_summary.specs.OverTime.{process_sum, move_sum, stock_sum, parts_sum};
 ghost use Rattle.line_summary.specs.Figures.{IsLine};
 

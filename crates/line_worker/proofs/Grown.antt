@@ -9,7 +9,7 @@ use Rattle.line_base.specs.declared.event.Parts.{Parts}
 use Rattle.event_graph.specs.Network.{stations, arc, arc_count, demand, delay, ins}
 use Rattle.event_graph.specs.Term.{work}
 use Rattle.event_graph.specs.State.{State, log, place}
-use Rattle.event_graph.specs.Firing.{greatest}
+use Rattle.event_graph.specs.GreatestValue.{greatest}
 use Rattle.event_graph.specs.Reached.{Reached}
 use Rattle.event_graph.proofs.ArcNumbers.{All-ins}
 use Rattle.live_check.specs.Order.{IsRanked, LiveGraph}

@@ -1,5 +1,6 @@
 pub mod Grown
 pub mod Share
+pub mod Sweeps
 pub mod Team
 pub mod Teams
 pub mod Worker

@@ -6,13 +6,10 @@ use Rattle.station_step.specs.Shelf.{queue_at, unused}
 use Rattle.station_step.specs.Kept.{IsKept}
 use Rattle.station_step.specs.Station.{WorkStation, bare_station}
 use Rattle.station_step.specs.Step.{IsReady, MovesItsOwn}
+use Rattle.line_worker.specs.Sweeps.{most_sweeps}
 use Rattle.line_worker.specs.Team.{WorkTeam, member}
 use Rattle.line_worker.specs.Teams.{place_in, team_at, IsJoined}
 use Rattle.line_worker.specs.Worker.{LineWorker, IsWorker, with_team}
-
--- how many turns a worker gives each of its stations in a burst, at most
-abbrev pub most_sweeps : ℕ
-most_sweeps = 16
 
 -- how many dates a station has made
 abbrev pub dates_of : WorkStation → ℕ

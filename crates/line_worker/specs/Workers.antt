@@ -7,7 +7,8 @@ use Rattle.live_check.specs.Order.{LiveGraph}
 use Rattle.line_worker.specs.Team.{no_station}
 use Rattle.line_worker.specs.Teams.{IsJoined, AreOfRoom}
 use Rattle.line_worker.specs.Worker.{LineWorker, IsWorker, with_team, teams_of}
-use Rattle.line_worker.specs.Work.{most_sweeps, SteppedInOrder, AreOfBurst, HasBurst, HasBurstAlone, IsAlone, AllDone, TurnsBelow, IsBursting}
+use Rattle.line_worker.specs.Work.{SteppedInOrder, AreOfBurst, HasBurst, HasBurstAlone, IsAlone, AllDone, TurnsBelow, IsBursting}
+use Rattle.line_worker.specs.Sweeps.{most_sweeps}
 
 -- stands for a worker past the end of a list
 abbrev pub no_worker : LineWorker

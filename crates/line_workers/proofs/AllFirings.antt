@@ -13,7 +13,8 @@ use Rattle.line_core.specs.Consistent.{IsConsistent, IsFinished, fired}
 use Rattle.line_worker.specs.Worker.{LineWorker}
 use Rattle.line_worker.specs.Workers.{graph_of}
 use Rattle.line_workers.specs.Counts.{AreCounts}
-use Rattle.line_workers.specs.Line.{line_of, StandsIn}
+use Rattle.line_workers.specs.Line.{StandsIn}
+use Rattle.line_workers.specs.OfWorkers.{line_of}
 
 -- where no list has more than n members, and all together have as many as that allows, each has n
 all_full : (n : ℕ) (xs : List (List ℕ)) → All (λ x. length x ≤ n) xs → length xs * n ≤ sum_by length xs → (t : ℕ) → t < length xs → length (get_or xs t []) ≡ n

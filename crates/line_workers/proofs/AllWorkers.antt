@@ -27,7 +27,7 @@ use Rattle.line_worker.proofs.WorkerTeams.{count-teams, team_at-workers}
 use Rattle.line_workers.proofs.ArcMeetings.{meets_on}
 use Rattle.line_workers.proofs.Totals.{sum_by-map, of_worker, sum-among}
 use Rattle.line_core.specs.Consistent.{fired}
-use Rattle.line_workers.specs.Line.{turns_among}
+use Rattle.line_workers.specs.OfWorkers.{turns_among}
 use Rattle.std.specs.List.{sum_by, sum, range_with_len}
 use Rattle.std.specs.Prelude.{IfSome}
 

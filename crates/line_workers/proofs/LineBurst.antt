@@ -21,10 +21,12 @@ use Rattle.line_worker.specs.Team.{WorkTeam, member}
 use Rattle.line_worker.specs.Share.{worker_of, first_of}
 use Rattle.line_worker.specs.Teams.{station_of, outlet_on, AreOfRoom, AreTeams, AreAllMet, state_among}
 use Rattle.line_worker.specs.Worker.{LineWorker, teams_of}
-use Rattle.line_worker.specs.Work.{dates_of, turns_of, most_sweeps, TurnsBelow}
+use Rattle.line_worker.specs.Work.{dates_of, turns_of, TurnsBelow}
+use Rattle.line_worker.specs.Sweeps.{most_sweeps}
 use Rattle.line_worker.specs.Workers.{worker_at, no_worker, live_of, graph_of, begun_of, room_of, AreWorkers}
 use Rattle.line_workers.specs.Burst.{AllMade, EachMade, WorkersBurst}
-use Rattle.line_workers.specs.Line.{WorkLine, turns_among, line_of, run_in, KeepsPace, AreAtRest, IsLine, IsWithinRooms, LogsGrow, EachWorks}
+use Rattle.line_workers.specs.Line.{WorkLine, run_in, KeepsPace, IsLine, IsWithinRooms, LogsGrow, EachWorks}
+use Rattle.line_workers.specs.OfWorkers.{turns_among, line_of, AreAtRest}
 use Rattle.line_workers.proofs.AllWorkers.{ranked, workers_are_teams, seat_there, seated, of_seat}
 use Rattle.line_worker.proofs.TeamStates.{log-among, stands_for_reached, can_fire_is_ready}
 use Rattle.line_worker.proofs.OutletSpace.{spaces, free-spaces, few-spaces, first_can_fire}

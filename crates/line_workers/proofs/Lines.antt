@@ -17,7 +17,8 @@ use Rattle.line_worker.specs.Worker.{LineWorker, teams_of}
 use Rattle.line_worker.specs.Work.{dates_of, turns_of, AllDone}
 use Rattle.line_worker.specs.Workers.{worker_at, live_of, graph_of, begun_of, AreWorkers}
 use Rattle.line_setup.specs.NewWorkers.{AreNewWorkers}
-use Rattle.line_workers.specs.Line.{line_of, turns_among, AreAtRest, IsWithinRooms, IsLine, StandsIn}
+use Rattle.line_workers.specs.Line.{IsWithinRooms, IsLine, StandsIn}
+use Rattle.line_workers.specs.OfWorkers.{line_of, turns_among, AreAtRest}
 use Rattle.line_worker.proofs.TeamStates.{stands_for_reached, state_among-is, log-among}
 use Rattle.line_worker.proofs.OutletSpace.{place-within}
 use Rattle.line_workers.proofs.AllWorkers.{ranked, workers_are_teams, graph-same, worker_there, worker_number-is, seat_there, seated, of_seat}

@@ -22,7 +22,8 @@ use Rattle.line_worker.specs.Team.{member}
 use Rattle.line_worker.specs.Teams.{station_of, state_among, AreAllMet}
 use Rattle.line_worker.specs.Worker.{LineWorker, teams_of}
 use Rattle.line_worker.specs.Workers.{worker_at, live_of, graph_of, begun_of, AreWorkers}
-use Rattle.line_workers.specs.Line.{WorkLine, line_of, run_in, AreAtRest, IsLine}
+use Rattle.line_workers.specs.Line.{WorkLine, run_in, IsLine}
+use Rattle.line_workers.specs.OfWorkers.{line_of, AreAtRest}
 use Rattle.line_worker.specs.Logs.{log_of, copy_of}
 use Rattle.line_workers.specs.Close.{first_logs, AreGiven}
 use Rattle.line_worker.proofs.Share.{first-zero, first-all, first-rises}

@@ -23,7 +23,8 @@ use Rattle.line_worker.specs.Worker.{LineWorker, IsWorker, teams_of}
 use Rattle.line_worker.specs.Work.{turns_of, TeamsWorked}
 use Rattle.line_workers.specs.Meeting.{AreStill}
 use Rattle.line_worker.specs.Workers.{worker_at, no_worker, live_of, graph_of, begun_of, room_of, AreWorkers, AreSameWorkers}
-use Rattle.line_workers.specs.Line.{line_of, turns_among, AreAtRest, StandsIn}
+use Rattle.line_workers.specs.Line.{StandsIn}
+use Rattle.line_workers.specs.OfWorkers.{line_of, turns_among, AreAtRest}
 use Rattle.line_worker.specs.Cleared.{cleared, cleared_team, cleared_worker}
 use Rattle.line_workers.specs.Gather.{logs_in, Gathers}
 use Rattle.line_core.specs.Consistent.{fired}

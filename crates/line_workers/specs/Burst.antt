@@ -7,7 +7,8 @@ use Rattle.line_worker.specs.Share.{worker_of}
 use Rattle.line_worker.specs.Team.{WorkTeam}
 use Rattle.line_worker.specs.Teams.{station_of, shelf_of, AreAllMet}
 use Rattle.line_worker.specs.Worker.{LineWorker, teams_of}
-use Rattle.line_worker.specs.Work.{dates_of, turns_of, most_sweeps}
+use Rattle.line_worker.specs.Work.{dates_of, turns_of}
+use Rattle.line_worker.specs.Sweeps.{most_sweeps}
 use Rattle.line_worker.specs.Workers.{graph_of, AreWorkers, AreSameWorkers}
 
 -- what became of station t of the teams

@@ -5,7 +5,7 @@ use Rattle.line_worker.specs.Teams.{state_among}
 use Rattle.line_worker.specs.Worker.{LineWorker, teams_of}
 use Rattle.line_worker.specs.Workers.{graph_of}
 use Rattle.line_workers.specs.declared.workers.Counts.{Counts}
-use Rattle.line_workers.specs.Line.{turns_among}
+use Rattle.line_workers.specs.OfWorkers.{turns_among}
 
 -- how many firings and steps the stations of these workers have made together
 pub record AreCounts (counts : Counts) (workers : List LineWorker) : Type 0 where

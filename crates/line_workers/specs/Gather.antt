@@ -5,7 +5,8 @@ use Rattle.line_worker.specs.Teams.{state_among}
 use Rattle.line_worker.specs.Worker.{LineWorker, teams_of}
 use Rattle.line_worker.specs.Work.{TeamWorked}
 use Rattle.line_worker.specs.Workers.{worker_at, graph_of, room_of, IsSameWorker}
-use Rattle.line_workers.specs.Line.{line_of, AreAtRest, StandsIn}
+use Rattle.line_workers.specs.Line.{StandsIn}
+use Rattle.line_workers.specs.OfWorkers.{line_of, AreAtRest}
 
 -- the logs of the stations of all workers, in the order of their numbers
 abbrev pub logs_in : List LineWorker → List (List ℕ)

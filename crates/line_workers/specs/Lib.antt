@@ -2,6 +2,7 @@ pub mod Meeting
 pub mod Link
 pub mod Burst
 pub mod Line
+pub mod OfWorkers
 pub mod Counts
 pub mod Close
 pub mod Gather

@@ -1,7 +1,5 @@
 -- What contracts see of a line: what it was made for, the state that it stands for, and counts. Nothing of queues.
-use Rattle.std.specs.Prelude.{◌≡◌, ◌≢◌, ℕ, ◌+◌, ◌-◌, ◌*◌, ◌<◌, ◌≤◌, ◌⊎◌, List, Option, None, Some, map, take, length, slice_index, All}
-use Rattle.std.specs.List.{range_with_len}
-use Rattle.line_base.specs.Limits.{most_workers}
+use Rattle.std.specs.Prelude.{◌≡◌, ◌≢◌, ℕ, ◌+◌, ◌-◌, ◌*◌, ◌<◌, ◌≤◌, ◌⊎◌, List, Option, None, Some, take, length, slice_index, All}
 use Rattle.line_base.specs.declared.event.Parts.{Parts}
 use Rattle.event_graph.specs.Network.{stations, jobs, arc, arc_count}
 use Rattle.event_graph.specs.State.{State, log, place}
@@ -9,11 +7,7 @@ use Rattle.live_check.specs.Order.{LiveGraph, IsRanked}
 use Rattle.line_core.specs.Consistent.{fired}
 use Rattle.line_core.specs.Run.{Run, IsReached}
 use Rattle.line_worker.specs.Share.{worker_of}
-use Rattle.line_worker.specs.Team.{WorkTeam}
-use Rattle.line_worker.specs.Teams.{station_of, state_among, AreAllMet}
-use Rattle.line_worker.specs.Worker.{LineWorker, teams_of}
-use Rattle.line_worker.specs.Work.{turns_of, most_sweeps}
-use Rattle.line_worker.specs.Workers.{live_of, graph_of, room_of, AreWorkers}
+use Rattle.line_worker.specs.Sweeps.{most_sweeps}
 
 -- what contracts see of a `Line`
 pub record WorkLine : Type 0 where
@@ -23,21 +17,6 @@ pub record WorkLine : Type 0 where
   pub worker_count : ℕ
   pub room : Option ℕ  -- how much room a ring has beyond the tokens with which its arc starts; none: without bound
   pub made : ℕ  -- how many firings had been made when the turns began to count
-
--- the turns of the stations of some teams
-abbrev pub turns_among : Parts → List WorkTeam → List ℕ
-turns_among g teams = map (λ t. turns_of (station_of g teams t)) (range_with_len 0 (stations g))
-
--- the line of these workers
-abbrev pub line_of : List LineWorker → ℕ → WorkLine
-line_of workers made = record {
-  live = live_of workers;
-  state = state_among (graph_of workers) (teams_of workers);
-  turns = turns_among (graph_of workers) (teams_of workers);
-  worker_count = length workers;
-  room = room_of workers;
-  made = made;
-}
 
 -- the run of a line: its graph and its state
 abbrev pub run_in : WorkLine → Run
@@ -50,13 +29,6 @@ firings_of l = fired l.state - l.made
 -- no station has made more turns than a burst has sweeps for each firing
 abbrev pub KeepsPace : WorkLine → Type 0
 KeepsPace l = (l.made ≤ fired l.state) × All (λ turns. turns ≤ most_sweeps * firings_of l) l.turns
-
--- the workers of a line at rest: every queue was met
-pub record AreAtRest (workers : List LineWorker) (made : ℕ) : Type 0 where
-  pub whole : AreWorkers workers
-  pub few : length workers ≤ most_workers
-  pub met : AreAllMet (graph_of workers) (teams_of workers)
-  pub pace : KeepsPace (line_of workers made)
 
 -- two workers have the stations of arc a
 abbrev pub IsBetween : WorkLine → ℕ → Type 0

@@ -9,9 +9,11 @@ ghost use Rattle.line_core.specs.Consistent.{IsFinished, fired};
 ghost use Rattle.line_core.specs.Round.{HasFired};
 ghost use Rattle.line_core.specs.Run.{IsReached};
 ghost use Rattle.line_workers.specs.Gather.{logs_in};
-ghost use Rattle.line_workers.specs.Line.{IsLine, Stands, StandsIn, LogsGrow, EachWorks, run_in, line_of};
+ghost use Rattle.line_workers.specs.Line.{IsLine, Stands, StandsIn, LogsGrow, EachWorks, run_in};
+ghost use Rattle.line_workers.specs.OfWorkers.{line_of};
 ghost use Rattle.line_worker.specs.Workers.{live_of, room_of, AreWorkers};
-ghost use Rattle.line_worker.specs.Work.{most_sweeps, TurnsBelow};
+ghost use Rattle.line_worker.specs.Work.{TurnsBelow};
+ghost use Rattle.line_worker.specs.Sweeps.{most_sweeps};
 
 use crate::closing::{copies_of, logs_of};
 use crate::link::{Links, links_of};
@@ -48,7 +50,8 @@ impl Model for Line {
     ghost use Rattle.std.specs.Prelude.{◌≡◌, ◌*◌, length};
     ghost use Rattle.event_graph.specs.Network.{stations, jobs};
     ghost use Rattle.line_worker.specs.Workers.{graph_of};
-    ghost use Rattle.line_workers.specs.Line.{WorkLine, line_of, AreAtRest};
+    ghost use Rattle.line_workers.specs.Line.{WorkLine};
+    ghost use Rattle.line_workers.specs.OfWorkers.{line_of, AreAtRest};
     ghost use Rattle.line_workers.specs.Counts.{AreCounts};
     ghost use Rattle.line_workers.specs.Link.{AreLinks};
 

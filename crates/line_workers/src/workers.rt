@@ -4,7 +4,7 @@ ghost use Rattle.line_core.specs.Consistent.{fired};
 ghost use Rattle.line_workers.specs.Burst.{WorkersBurst};
 ghost use Rattle.line_workers.specs.Gather.{Gathers};
 ghost use Rattle.line_workers.specs.Counts.{AreCounts};
-ghost use Rattle.line_workers.specs.Line.{turns_among};
+ghost use Rattle.line_workers.specs.OfWorkers.{turns_among};
 ghost use Rattle.line_workers.specs.Link.{IsRing, HaveMet, AreLinks, links_of};
 ghost use Rattle.line_workers.specs.Meeting.{AreStill, MeetsOn};
 ghost use Rattle.line_worker.specs.Worker.{teams_of};

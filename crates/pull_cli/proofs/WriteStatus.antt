@@ -6,7 +6,8 @@ use Rattle.line_io.specs.declared.sink.Failed.{Failed}
 use Rattle.live_plant.specs.Outside.{SinkOver, sink_over}
 use Rattle.refusals.specs.Refusal.{status_of, text_of}
 use Rattle.refusals.specs.declared.refusal.Refusal.TheVariants.{NoMemory}
-use Rattle.answers.specs.Answer.{answer_bytes, BytesArePut, IsPut}
+use Rattle.answers.specs.Answer.{answer_bytes}
+use Rattle.answers.specs.Put.{BytesArePut, IsPut}
 use Rattle.answers.specs.declared.answer.Answer.{Answer}
 use Rattle.answers.specs.declared.answer.Answer.TheVariants.{Help, Version, Text, Stopped, Reported, Summarized, Caused}
 use Rattle.answers.specs.declared.answer.Answer.TheVariants.{Summary, Drawn, Dates, Latest, Curved, Changed}

@@ -1,7 +1,7 @@
 -- Why a command isn't done: each refusal with the status that the program ends with, and with the line that it writes.
 use Rattle.std.specs.Prelude.{ℕ, List, ◌++◌, codes, decimal, ⊤}
 use Rattle.plant_model.specs.Reasons.{plant_reason}
-use Rattle.command_line.specs.Usage.{as_line}
+use Rattle.command_line.specs.Lines.{as_line}
 use Rattle.refusals.specs.DeadLine.{dead_line}
 use Rattle.refusals.specs.declared.refusal.Refusal.{Refusal}
 use Rattle.refusals.specs.declared.refusal.Refusal.TheVariants.{Usage, Refused, Faults, Dead, StoreFault, NotReached, Varying, NoMemory, TooLong, NotFollowed, Disk, NoCount, NothingSaved, NotEdited, NoSingleCount, NoDate, Late, TooLarge}

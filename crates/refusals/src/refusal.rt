@@ -1,6 +1,6 @@
 ghost use Rattle.std.specs.Cow.{cow_slice_items};
 ghost use Rattle.std.specs.Prelude.{◌≡◌, ◌++◌, codes, decimal, IfOk, OnErr};
-ghost use Rattle.command_line.specs.Usage.{as_line};
+ghost use Rattle.command_line.specs.Lines.{as_line};
 ghost use Rattle.refusals.specs.Refusal.{status_of, text_of, IsFixed};
 ghost use Rattle.refusals.specs.Refusals.{sizing_refusal, edits_refusal, latest_refusal};
 ghost use Rattle.refusals.specs.declared.refusal.Refusal.TheVariants.{NoMemory};

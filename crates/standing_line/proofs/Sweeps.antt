@@ -12,7 +12,8 @@ use Rattle.line_worker.specs.Team.{WorkTeam, member, no_station}
 use Rattle.line_worker.specs.Work.{turns_of, HasSwept, AllDone, TurnsBelow}
 use Rattle.line_worker.specs.Workers.{worker_at, no_worker, live_of, graph_of, room_of, AreWorkers}
 use Rattle.line_workers.specs.Gather.{logs_in, IsWorkerAfter, AreWorkersAfter}
-use Rattle.line_workers.specs.Line.{WorkLine, line_of, IsLine, LogsGrow, StandsIn}
+use Rattle.line_workers.specs.Line.{WorkLine, IsLine, LogsGrow, StandsIn}
+use Rattle.line_workers.specs.OfWorkers.{line_of}
 use Rattle.line_worker.proofs.WorkedTeams.{idle_team}
 use Rattle.line_workers.proofs.AfterSweeps.{after_more, logs_grow}
 use Rattle.standing_line.specs.Standing.{GoesOn}

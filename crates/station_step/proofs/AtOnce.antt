@@ -8,7 +8,7 @@ use Rattle.std.proofs.lemmas.List.{append-nil, get_or-map, length-map, length-se
 use Rattle.std.proofs.lemmas.Bool.{cases_eq, cases_lt}
 use Rattle.line_base.specs.declared.event.Parts.{Parts}
 use Rattle.card_queue.specs.Plain.{PlainQueue, plain_taken, plain_waiting, plain_tokens}
-use Rattle.event_graph.specs.Firing.{greatest}
+use Rattle.event_graph.specs.GreatestValue.{greatest}
 use Rattle.station_step.specs.Shelf.{queue_at, counted, untaken, OnlyTakes}
 use Rattle.station_step.proofs.Queues.{front-some, front-more}
 use Rattle.station_step.specs.declared.ends.Inlet.{Inlet}

@@ -12,7 +12,7 @@ use Rattle.line_base.specs.declared.event.Parts.{Parts}
 use Rattle.event_graph.specs.Network.{ins, outs, demand, delay, time}
 use Rattle.event_graph.specs.Varying.{IsList, Varies}
 use Rattle.event_graph.specs.Term.{work}
-use Rattle.event_graph.specs.Firing.{greatest}
+use Rattle.event_graph.specs.GreatestValue.{greatest}
 use Rattle.station_step.specs.declared.ends.Inlet.TheVariants.{Local}
 use Rattle.station_step.specs.declared.input.Input.{Input}
 use Rattle.station_step.specs.Input.{input_at}

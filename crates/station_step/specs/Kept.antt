@@ -6,7 +6,7 @@ use Rattle.line_base.specs.declared.event.Parts.{Parts}
 use Rattle.card_queue.specs.Plain.{PlainQueue, plain_taken}
 use Rattle.event_graph.specs.Network.{jobs, demand, delay, ins, outs}
 use Rattle.event_graph.specs.Term.{work}
-use Rattle.event_graph.specs.Firing.{greatest}
+use Rattle.event_graph.specs.GreatestValue.{greatest}
 use Rattle.station_step.specs.Shelf.{queue_at}
 use Rattle.station_step.specs.Ends.{inlet_taken, inlet_queue, outlet_added, outlet_room, outlet_queue}
 use Rattle.station_step.specs.Input.{IsHeld, input_at}

@@ -1,6 +1,6 @@
 ghost use Rattle.std.specs.List.{range_with_len};
 ghost use Rattle.std.specs.Prelude.{◌≡◌, ◌≢◌, ℕ, ◌<◌, false, length, IsTrue, IfOk, IfSome};
-ghost use Rattle.event_graph.specs.Firing.{greatest};
+ghost use Rattle.event_graph.specs.GreatestValue.{greatest};
 ghost use Rattle.station_step.specs.Fronts.{front_at, front_extras, front_asks, FrontsWithin, FrontsApart, NoneAt, AreAllThere, AreFronts};
 ghost use Rattle.station_step.specs.Noted.{inputs_of, extras_of};
 ghost use Rattle.station_step.specs.Shelf.{queue_at, counted, OnlyTakes};

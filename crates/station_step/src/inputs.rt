@@ -1,6 +1,6 @@
 ghost use Rattle.std.specs.List.{range_with_len};
 ghost use Rattle.std.specs.Prelude.{◌≡◌, ◌≢◌, ℕ, ◌<◌, ◌≤◌, ◌==◌, if◌then◌else◌, None, map, length, IsSome, IfOk};
-ghost use Rattle.event_graph.specs.Firing.{greatest};
+ghost use Rattle.event_graph.specs.GreatestValue.{greatest};
 ghost use Rattle.event_graph.specs.Network.{jobs, demand};
 ghost use Rattle.station_step.specs.Input.{input_at, IsRefilled, TakeWithin, TakeApart, NoneTakes};
 ghost use Rattle.station_step.specs.Noted.{inputs_of, extras_of, unnoted};

@@ -15,7 +15,7 @@ use Rattle.event_graph.specs.Network.{stations, jobs, arc, ins, time, demand, de
 use Rattle.event_graph.specs.Limits.{IsWithinLimits, AreTimesFor}
 use Rattle.event_graph.specs.Table.{date_in}
 use Rattle.event_graph.specs.Term.{term, work, token_date}
-use Rattle.event_graph.specs.Firing.{greatest}
+use Rattle.event_graph.specs.GreatestValue.{greatest}
 use Rattle.event_graph.proofs.ArcNumbers.{All-ins}
 use Rattle.event_graph.proofs.Greatest.{greatest-same}
 use Rattle.line_core.specs.Consistent.{due_date}

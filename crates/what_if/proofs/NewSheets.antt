@@ -12,7 +12,7 @@ use Rattle.event_graph.specs.Limits.{IsWithinLimits}
 use Rattle.event_graph.specs.Table.{date_in}
 use Rattle.event_graph.specs.Term.{term}
 use Rattle.event_graph.specs.Greatest.{IsGreatestOfTerms}
-use Rattle.event_graph.specs.Firing.{greatest}
+use Rattle.event_graph.specs.GreatestValue.{greatest}
 use Rattle.event_graph.proofs.ArcNumbers.{All-ins, each_input}
 use Rattle.event_graph.proofs.Greatest.{le-greatest, greatest-le}
 use Rattle.live_check.specs.Order.{LiveGraph, IsRanked}

@@ -5,7 +5,7 @@ use Rattle.line_base.specs.declared.event.Parts.{Parts}
 use Rattle.event_graph.specs.Network.{arc, arc_count, demand, delay, ins, IsGraph, EndsAt}
 use Rattle.event_graph.specs.Table.{Table, date_in}
 use Rattle.event_graph.specs.Term.{term, work}
-use Rattle.event_graph.specs.Firing.{greatest}
+use Rattle.event_graph.specs.GreatestValue.{greatest}
 use Rattle.event_graph.proofs.ArcNumbers.{All-ins, each_input}
 use Rattle.event_graph.proofs.Greatest.{le-greatest, greatest-le, greatest-same}
 use Rattle.line_core.specs.Consistent.{due_date}

@@ -1,6 +1,6 @@
 use Rattle.std.proofs.Common.{◌≡◌}
 use Rattle.std.specs.List.{filter, range_with_len}
-use Rattle.event_graph.specs.Firing.{greatest}
+use Rattle.event_graph.specs.GreatestValue.{greatest}
 use Rattle.plant_model.specs.Line.{is_first, path_stock}
 use Rattle.card_sizing.proofs.lowest.most_path_stock.Given as goal
 

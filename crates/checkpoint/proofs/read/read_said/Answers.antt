@@ -5,8 +5,8 @@ use Rattle.line_base.specs.declared.event.Parts.{Parts}
 use Rattle.event_graph.specs.Network.{stations}
 use Rattle.line_core.specs.ArcTokens.{HasRoom}
 use Rattle.checkpoint.specs.declared.error.CheckpointError.{CheckpointError}
-use Rattle.checkpoint.specs.Reading.{Reading}
-use Rattle.checkpoint.specs.Answers.{IsReadOf, Tells}
+use Rattle.checkpoint.specs.Reading.{Reading, IsReadOf}
+use Rattle.checkpoint.specs.Answers.{Tells}
 use Rattle.checkpoint.proofs.OneState.{tells_refusal}
 use Rattle.checkpoint.proofs.read.read_said.Goals as goal
 use Rattle.checkpoint.proofs.read.read_said.Goals.{In_ok-stations}

@@ -4,7 +4,8 @@ use Rattle.line_core.specs.Consistent.{fired}
 use Rattle.line_runs.specs.Headline.{EndsWell, MayBeResumed}
 use Rattle.line_runs.specs.Stop.{CountsWell, IsStopAt}
 use Rattle.live_plant.specs.Outside.{store_over}
-use Rattle.commands.specs.FirstEnd.{EndsAtFirst, IsDoneFirst, IsFirstEnd}
+use Rattle.commands.specs.FirstEnd.{IsDoneFirst, IsFirstEnd}
+use Rattle.commands.specs.EndsAsAsked.{EndsAtFirst}
 use Rattle.commands.proofs.Checkpoints.{fits_limit}
 use Rattle.commands.proofs.Stops.{ends_run, stops_run, short_of}
 use Rattle.commands.proofs.stopping.end_run.Goals as goal

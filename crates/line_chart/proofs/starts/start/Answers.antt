@@ -5,7 +5,7 @@ use Rattle.std.specs.List.{filter}
 use Rattle.event_graph.specs.Network.{arc}
 use Rattle.event_graph.specs.Table.{date_in}
 use Rattle.event_graph.specs.Term.{token_date}
-use Rattle.event_graph.specs.Firing.{greatest}
+use Rattle.event_graph.specs.GreatestValue.{greatest}
 use Rattle.line_core.proofs.Searches.{ord_max-nat}
 use Rattle.line_chart.specs.Starts.{start, worked_ins}
 use Rattle.line_chart.proofs.StartFacts.{passing-more, failing-more}

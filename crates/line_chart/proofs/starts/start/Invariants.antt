@@ -3,7 +3,7 @@ use Rattle.std.specs.List.{filter}
 use Rattle.event_graph.specs.Network.{arc}
 use Rattle.event_graph.specs.Table.{date_in}
 use Rattle.event_graph.specs.Term.{token_date}
-use Rattle.event_graph.specs.Firing.{greatest}
+use Rattle.event_graph.specs.GreatestValue.{greatest}
 use Rattle.line_chart.proofs.starts.start.Given as goal
 
 -- the greatest token of the worked arcs before

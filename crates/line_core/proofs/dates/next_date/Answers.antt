@@ -1,6 +1,6 @@
 use Rattle.std.proofs.Common.{◌+◌, sym, ap, ◌∙◌, arith, get_or, max, drop}
 use Rattle.event_graph.specs.Network.{demand, ins}
-use Rattle.event_graph.specs.Firing.{greatest}
+use Rattle.event_graph.specs.GreatestValue.{greatest}
 use Rattle.line_core.proofs.Runs.{new_date-feed, new_date-other, has_held, asks, asks-is}
 use Rattle.line_core.proofs.Searches.{ord_max-nat, greatest-next, greatest-past}
 use Rattle.line_core.proofs.dates.next_date.Goals as goal

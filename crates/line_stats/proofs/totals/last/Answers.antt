@@ -2,7 +2,7 @@ use Rattle.std.proofs.Common.{◌≡◌, ℕ, ◌+◌, ◌<◌, [], get_or, refl
 use Rattle.std.specs.List.{range_with_len}
 use Rattle.event_graph.specs.Network.{jobs, stations}
 use Rattle.event_graph.specs.Table.{date_in}
-use Rattle.event_graph.specs.Firing.{greatest}
+use Rattle.event_graph.specs.GreatestValue.{greatest}
 use Rattle.line_stats.specs.Counts.{job_numbers, last_date}
 use Rattle.line_stats.proofs.RisingDates.{date-row}
 use Rattle.event_graph.proofs.Greatest.{greatest-range}

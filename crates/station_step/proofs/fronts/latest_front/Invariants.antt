@@ -1,6 +1,6 @@
 use Rattle.std.proofs.Common.{◌≡◌, ◌≢◌, ℕ, ◌<◌, []}
 use Rattle.std.specs.List.{range_with_len}
-use Rattle.event_graph.specs.Firing.{greatest}
+use Rattle.event_graph.specs.GreatestValue.{greatest}
 use Rattle.station_step.specs.Fronts.{front_asks, waiting_at}
 use Rattle.station_step.proofs.fronts.latest_front.Given as goal
 

@@ -1,7 +1,7 @@
 use Rattle.std.proofs.Common.{◌≡◌, ◌≢◌, ◌<◌, ◌+◌, ℕ, subst, sym, ap, ◌∙◌, arith, List, length, set, get_or, refl}
 use Rattle.std.specs.Prelude.{Option, None, Some, IsSome, IfSome, unwrap_or, slice_index}
 use Rattle.std.specs.List.{range_with_len}
-use Rattle.event_graph.specs.Firing.{greatest}
+use Rattle.event_graph.specs.GreatestValue.{greatest}
 use Rattle.station_step.specs.declared.input.Input.{Input}
 use Rattle.station_step.specs.declared.noted.NotedInput.{NotedInput}
 use Rattle.station_step.specs.Shelf.{queue_at}

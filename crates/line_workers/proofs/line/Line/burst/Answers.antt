@@ -10,7 +10,8 @@ use Rattle.line_worker.specs.Worker.{LineWorker, teams_of}
 use Rattle.line_worker.specs.Work.{TurnsBelow}
 use Rattle.line_worker.specs.Workers.{live_of, graph_of, AreWorkers}
 use Rattle.line_workers.specs.Counts.{AreCounts}
-use Rattle.line_workers.specs.Line.{WorkLine, line_of, AreAtRest}
+use Rattle.line_workers.specs.Line.{WorkLine}
+use Rattle.line_workers.specs.OfWorkers.{line_of, AreAtRest}
 use Rattle.line_workers.specs.Link.{AreLinks}
 use Rattle.line_workers.proofs.LineBurst.{LineBurst, turns-low, line_after, stays_of}
 use Rattle.line_workers.proofs.TurnsCleared.{workers-few}

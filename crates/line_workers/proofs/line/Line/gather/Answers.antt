@@ -5,7 +5,8 @@ use Rattle.event_graph.specs.Network.{stations, jobs}
 use Rattle.line_worker.specs.Worker.{LineWorker}
 use Rattle.line_worker.specs.Workers.{live_of, graph_of, room_of, AreWorkers}
 use Rattle.line_workers.specs.Counts.{AreCounts}
-use Rattle.line_workers.specs.Line.{line_of, AreAtRest, StandsIn}
+use Rattle.line_workers.specs.Line.{StandsIn}
+use Rattle.line_workers.specs.OfWorkers.{line_of, AreAtRest}
 use Rattle.line_workers.specs.Gather.{logs_in}
 use Rattle.line_workers.proofs.AllFirings.{new_counts, new_all}
 use Rattle.line_workers.proofs.Lines.{at_rest_is_line}

@@ -1,7 +1,7 @@
 use Rattle.std.proofs.Common.{◌+◌, ◌≢◌, sym, ap, ◌∙◌, get_or, max, drop}
 use Rattle.line_base.specs.declared.event.Parts.{Parts}
 use Rattle.event_graph.specs.Network.{ins}
-use Rattle.event_graph.specs.Firing.{greatest}
+use Rattle.event_graph.specs.GreatestValue.{greatest}
 use Rattle.live_check.specs.Order.{LiveGraph}
 use Rattle.line_core.proofs.Searches.{ord_max-nat, greatest-next, greatest-past}
 use Rattle.what_if.specs.Page.{graph_of, greatest_term}

@@ -1,5 +1,5 @@
 use Rattle.std.proofs.Common.{◌≡◌, drop, max}
-use Rattle.event_graph.specs.Firing.{greatest}
+use Rattle.event_graph.specs.GreatestValue.{greatest}
 use Rattle.what_if.proofs.Walks.{asks}
 use Rattle.what_if.proofs.sheet.Sheet.greatest_term.Given as goal
 

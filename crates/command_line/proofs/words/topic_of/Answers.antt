@@ -1,6 +1,6 @@
 use Rattle.std.proofs.Common.{refl}
-use Rattle.command_line.specs.Screens.{topic_of}
-use Rattle.command_line.proofs.screens.topic_of.Goals as goal
+use Rattle.command_line.specs.Words.{topic_of}
+use Rattle.command_line.proofs.words.topic_of.Goals as goal
 
 pub returns-in-lint : goal.returns-in-lint
 unfolding topic_of
