@@ -2,9 +2,9 @@
 -- that was given before gives nothing.
 use Rattle.std.proofs.Common.{refl, sym, ◌∙◌, ap, ◌≡◌, ℕ, Bool, true, false, not, List, [], ◌∷◌, Option, Some, None, option_map, option_and_then, if◌then◌else◌}
 use Rattle.std.specs.Str.{bytes_eq}
-use Rattle.line_base.specs.Limits.{most_workers}
+use Rattle.line_base.specs.Limits.{most_workers, most_ring_room}
 use Rattle.command_line.specs.AnyOrder.{Written, workers, stop_after, save, every, room, slots, stand, words_of_all, name_of}
-use Rattle.command_line.specs.Numbers.{number_in, most_firings, most_ring_room}
+use Rattle.command_line.specs.Numbers.{number_in, most_firings}
 use Rattle.command_line.specs.Options.{Given, once, checkpoint_in, options_after, with_flag, with_value}
 
 -- what is left of an option that takes no value

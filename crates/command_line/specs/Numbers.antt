@@ -8,10 +8,6 @@ use Rattle.line_base.specs.Text.{is_between}
 abbrev pub most_firings : ℕ
 most_firings = 1_000_000
 
--- of `--room`
-abbrev pub most_ring_room : ℕ
-most_ring_room = 10_000
-
 -- of `cards` and of `latest`
 abbrev pub longest_wait : ℕ
 longest_wait = 10_000_000_000_000_000

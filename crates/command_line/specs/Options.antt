@@ -3,9 +3,9 @@ use Rattle.std.specs.Prelude.{ℕ, Bool, true, false, not, ◌&&◌, ◌||◌, L
 use Rattle.std.specs.Str.{bytes_eq}
 use Rattle.std.specs.List.{list_any}
 use Rattle.std.specs.declared.alloc.Global.{Global}
-use Rattle.line_base.specs.Limits.{most_workers}
+use Rattle.line_base.specs.Limits.{most_workers, most_ring_room}
 use Rattle.line_base.specs.Text.{is_checkpoint_name}
-use Rattle.command_line.specs.Numbers.{number_in, most_firings, most_ring_room}
+use Rattle.command_line.specs.Numbers.{number_in, most_firings}
 use Rattle.command_line.specs.declared.options.Options.{Options}
 
 -- the bytes of each word

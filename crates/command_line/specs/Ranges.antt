@@ -1,7 +1,7 @@
 -- The ranges of the numbers that a command takes.
 use Rattle.std.specs.Prelude.{ℕ, ◌+◌, ◌<◌, ◌≤◌, ⊤, IfSome}
-use Rattle.line_base.specs.Limits.{most_workers, most_demands, most_cards}
-use Rattle.command_line.specs.Numbers.{most_firings, most_ring_room, longest_wait, most_counts}
+use Rattle.line_base.specs.Limits.{most_workers, most_demands, most_cards, most_ring_room}
+use Rattle.command_line.specs.Numbers.{most_firings, longest_wait, most_counts}
 use Rattle.command_line.specs.declared.command.Command.{Command}
 use Rattle.command_line.specs.declared.command.Command.TheVariants.{Run, Big, Resume, RunSlots, RunRoom, RunStand, ResumeSlots, Cards, CardsEach, Curve, Latest, Why, Chart}
 use Rattle.command_line.specs.declared.options.Options.{Options}

@@ -1,5 +1,6 @@
 ghost use Rattle.std.specs.Prelude.{◌≡◌};
-ghost use Rattle.command_line.specs.Numbers.{most_firings, most_ring_room, longest_wait, most_counts};
+ghost use Rattle.line_base.specs.Limits.{most_ring_room};
+ghost use Rattle.command_line.specs.Numbers.{most_firings, longest_wait, most_counts};
 
 /// The most firings that `--stop-after` and `--every` take.
 pub const MAX_FIRINGS: u64 = 1_000_000;

@@ -1,7 +1,7 @@
 ghost use Rattle.std.specs.Prelude.{◌≡◌, ◌≤◌, IfSome};
-ghost use Rattle.command_line.specs.Numbers.{number_in, most_ring_room};
+ghost use Rattle.command_line.specs.Numbers.{number_in};
 ghost use Rattle.command_line.specs.Ranges.{AreWorkers, IsRingRoom};
-ghost use Rattle.line_base.specs.Limits.{most_cards, most_workers};
+ghost use Rattle.line_base.specs.Limits.{most_cards, most_workers, most_ring_room};
 
 use crate::limits::MAX_RING_ROOM;
 use line_base::{MAX_CARDS, MAX_WORKERS, number_of};

@@ -28,6 +28,7 @@ use Rattle.commands.specs.Saving.{SavesOnTheWay, Saves, RunsWithSlots, AnswersSa
 use Rattle.answers.specs.declared.answer.Answer.{Answer}
 use Rattle.slot_store.specs.declared.error.SlotError.{SlotError}
 use Rattle.slot_store.specs.declared.error.SlotError.TheVariants as slot_error
+use Rattle.line_worker.specs.Sweeps.{most_sweeps}
 
 -- what a run with slots leaves of the disk, whatever it answers
 pub record Kept (tells : Bool) (old new : DiskView) (g : Parts) : Type 0 where
@@ -92,7 +93,7 @@ module _ (tells : Bool) (old new : DiskView) (p : Plant) (n : ℕ) (kept : Kept 
   run_fails (slot_error.TooLong have) refusal rose answers = absurd answers
 
   run_answers : (answer : Result Answer Refusal) → SavesOnTheWay p n (disk_over tells old new) →
-      (IsTrue tells → n + 16 * stations (graph p) ≤ all_firings (graph p) →
+      (IsTrue tells → n + most_sweeps * stations (graph p) ≤ all_firings (graph p) →
       IsLateState (graph p) n most_checkpoint_bytes (held_now new)) → IsReport p answer ⊎ (answer ≡ Err NoMemory) →
       Saves p n (disk_over tells old new) answer ⊎ ((answer ≡ Err Disk) ⊎ (answer ≡ Err NoMemory))
   run_answers answer on late (inl report) =
@@ -106,7 +107,7 @@ module _ (tells : Bool) (old new : DiskView) (p : Plant) (n : ℕ) (kept : Kept 
 
   -- the run answered its end
   pub run_saves : (answer : Result Answer Refusal) → SavesOnTheWay p n (disk_over tells old new) →
-      (IsTrue tells → n + 16 * stations (graph p) ≤ all_firings (graph p) →
+      (IsTrue tells → n + most_sweeps * stations (graph p) ≤ all_firings (graph p) →
       IsLateState (graph p) n most_checkpoint_bytes (held_now new)) → IsReport p answer ⊎ (answer ≡ Err NoMemory) →
       DoesOnDisk (disk_over tells old new) (RunsWithSlots p n) answer
   run_saves answer on late is =
@@ -115,12 +116,12 @@ module _ (tells : Bool) (old new : DiskView) (p : Plant) (n : ℕ) (kept : Kept 
 
 -- the state that is saved last, of a run from the start
 pub late_of : (tells : Bool) (new : DiskView) (p : Plant) (g : Parts) (n : ℕ) (begun : State) → g ≡ graph p →
-    begun ≡ start g → (IsTrue tells → fired begun + n + 16 * stations g ≤ all_firings g →
+    begun ≡ start g → (IsTrue tells → fired begun + n + most_sweeps * stations g ≤ all_firings g →
     IsLateState g n most_checkpoint_bytes (held_now new)) → IsTrue tells →
-    n + 16 * stations (graph p) ≤ all_firings (graph p) → IsLateState (graph p) n most_checkpoint_bytes (held_now new)
+    n + most_sweeps * stations (graph p) ≤ all_firings (graph p) → IsLateState (graph p) n most_checkpoint_bytes (held_now new)
 late_of tells new p g n begun same is late known many =
     let none : fired begun ≡ 0 = fired_at_start g begun is in
-    let few : n + 16 * stations g ≤ all_firings g =
-    subst (λ (h : Parts). n + 16 * stations h ≤ all_firings h) (sym same) many in
+    let few : n + most_sweeps * stations g ≤ all_firings g =
+    subst (λ (h : Parts). n + most_sweeps * stations h ≤ all_firings h) (sym same) many in
     subst (λ (h : Parts). IsLateState h n most_checkpoint_bytes (held_now new)) same
     (late known (omega (arith, few, none)))

@@ -38,6 +38,7 @@ use Rattle.commands.specs.declared.task.DiskQuestion.{DiskQuestion}
 use Rattle.commands.specs.declared.task.DiskQuestion.TheVariants as disk_question
 use Rattle.answers.specs.declared.answer.Answer.{Answer}
 use Rattle.answers.specs.declared.answer.Answer.TheVariants.{Stopped}
+use Rattle.line_worker.specs.Sweeps.{most_sweeps}
 
 -- what a run answers that stopped after this many firings, by what the write of its state into this file was answered
 abbrev pub AnswersWrite : List ℕ → ℕ → Result (Unit {0}) StoreError → Result Answer Refusal → Type 0
@@ -96,13 +97,13 @@ pub record SavesOnTheWay (p : Plant) (n : ℕ) (disk : DiskOver) : Type 0 where
   pub table : Dates
   pub saves : HasSaved disk.tells most_checkpoint_bytes n first disk.old disk.new table
 
--- the report, with saves on the way; so the disk is as before where n is at least all firings, and where n is less than
--- these by 16 for each station or more, the state that was saved last has few firings less than all
+-- the report, with saves on the way; so the disk is as before where n is at least all firings, and where n and the most
+-- firings of a burst are together at most all, the state that was saved last has few firings less than all
 pub record Saves (p : Plant) (n : ℕ) (disk : DiskOver) (answer : Result Answer Refusal) : Type 0 where
   pub report : IsReport p answer
   pub saves : SavesOnTheWay p n disk
   pub untouched : IsTrue disk.tells → all_firings (graph p) ≤ n → disk.new ≡ disk.old
-  pub late : IsTrue disk.tells → n + 16 * stations (graph p) ≤ all_firings (graph p)
+  pub late : IsTrue disk.tells → n + most_sweeps * stations (graph p) ≤ all_firings (graph p)
       → IsLateState (graph p) n most_checkpoint_bytes (held_now disk.new)
 
 -- `run --every N --slots`: at any moment the slots hold what a crash could have left before, or the text of a state of

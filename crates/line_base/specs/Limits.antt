@@ -43,6 +43,10 @@ last_column = 512
 abbrev pub most_workers : ℕ
 most_workers = 16
 
+-- of a ring between two workers, beyond the tokens with which its arc starts
+abbrev pub most_ring_room : ℕ
+most_ring_room = 10_000
+
 -- of a graph that is built by hand
 abbrev pub most_arcs : ℕ
 most_arcs = 4_096

@@ -1,4 +1,5 @@
 ghost use Rattle.std.specs.Prelude.{◌^◌, ◌<◌, ◌≤◌, length, IfOk, IfErr};
+ghost use Rattle.line_base.specs.Limits.{most_workers};
 ghost use Rattle.checkpoint.specs.Answers.{Tells};
 ghost use Rattle.line_runs.specs.Resume.{FailsOnlyFor, Resumes};
 ghost use Rattle.line_runs.specs.StandsFor.{StandsFor};
@@ -22,7 +23,7 @@ pub fn line_of_text(
     workers: u32,
 ) -> Result<Line, CheckpointError>
     requires some { 1 ≤ workers }
-    requires few { workers ≤ 16 }
+    requires few { workers ≤ most_workers }
     requires short { length bytes.now < 2 ^ 32 }
     ensures line { IfOk result IsLine }
     ensures stands { IfOk result (StandsFor live.now bytes.now workers) }
@@ -51,7 +52,7 @@ pub fn resume<R: Threads + Sync, G: Gate>(
     gate: &G,
 ) -> Result<Table, CheckpointError>
     requires some { 1 ≤ workers }
-    requires few { workers ≤ 16 }
+    requires few { workers ≤ most_workers }
     requires short { length bytes.now < 2 ^ 32 }
     ensures { Resumes live.now.graph bytes.now result }
 {

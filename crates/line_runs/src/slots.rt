@@ -28,7 +28,7 @@ fn text_of(alloc: Global, live: &Live, line: &Line) -> Result<Vec<u8>, AllocErro
     requires { live.now ≡ line.now.live }
     ensures { IfOk result (λ text. text.items ≡ text_of (run_in line.now)) }
 {
-    let state = line.state(alloc, live)?;
+    let state = line.state(live)?;
     let text = write_state(alloc, live, &state);
     drop(state);
     text

@@ -1,4 +1,5 @@
 ghost use Rattle.std.specs.Prelude.{◌≡◌, ℕ, ◌≤◌, IsTrue, IsErrOf};
+ghost use Rattle.line_base.specs.Limits.{most_workers};
 ghost use Rattle.line_disk.specs.DiskView.{Stays};
 ghost use Rattle.line_io.specs.Faults.{Rose};
 ghost use Rattle.line_runs.specs.ResumeSlots.{AnswersLoad, ResumesSlots};
@@ -38,7 +39,7 @@ pub fn resume_slots<R: Threads + Sync, G: Gate, D: Disk>(
     gate: &G,
 ) -> Result<Table, ResumeError>
     requires some { 1 ≤ workers }
-    requires few { workers ≤ 16 }
+    requires few { workers ≤ most_workers }
     ensures resumes { ResumesSlots D.tells (D.shown disk.old) (D.shown disk.new) MAX_ROOM
         live.now.graph result }
     ensures stays { IsTrue D.tells → Stays (D.shown disk.old) (D.shown disk.new) }

@@ -6,7 +6,7 @@ use Rattle.std.proofs.lemmas.List.{map-id, append-nil, get_or_append_left, get_o
 use Rattle.std.proofs.lemmas.List.FromFn.{filter_of_map_range_with_len_more}
 use Rattle.line_base.specs.declared.event.Parts.{Parts}
 use Rattle.event_graph.specs.Network.{arc_count, arc, ins, outs}
-use Rattle.line_worker.specs.Teams.{place_in}
+use Rattle.line_worker.specs.Teams.{index_in}
 use Rattle.line_setup.specs.Making.{first_ins, first_outs}
 use Rattle.line_worker.proofs.Places.{in-stands, out-stands}
 
@@ -116,14 +116,14 @@ pub rank-outs : (g : Parts) (t k : ℕ) → k < length (outs g t) → length (fi
 unfolding first_outs outs
 rank-outs g t k low = rank (λ a. eqb (arc g a).from t) (arc_count g) k low
 
-pub place_in-ins : (g : Parts) (a : ℕ) → a < arc_count g → place_in (ins g (arc g a).to) a ≡ length (first_ins g a (arc g a).to)
-place_in-ins g a there =
+pub index_in-ins : (g : Parts) (a : ℕ) → a < arc_count g → index_in (ins g (arc g a).to) a ≡ length (first_ins g a (arc g a).to)
+index_in-ins g a there =
     let t = (arc g a).to in
     let stands = in-stands g a there in
-    sym (rank-ins g t (place_in (ins g t) a) stands.low) ∙ ap (λ b. length (first_ins g b t)) stands.at
+    sym (rank-ins g t (index_in (ins g t) a) stands.low) ∙ ap (λ b. length (first_ins g b t)) stands.at
 
-pub place_in-outs : (g : Parts) (a : ℕ) → a < arc_count g → place_in (outs g (arc g a).from) a ≡ length (first_outs g a (arc g a).from)
-place_in-outs g a there =
+pub index_in-outs : (g : Parts) (a : ℕ) → a < arc_count g → index_in (outs g (arc g a).from) a ≡ length (first_outs g a (arc g a).from)
+index_in-outs g a there =
     let t = (arc g a).from in
     let stands = out-stands g a there in
-    sym (rank-outs g t (place_in (outs g t) a) stands.low) ∙ ap (λ b. length (first_outs g b t)) stands.at
+    sym (rank-outs g t (index_in (outs g t) a) stands.low) ∙ ap (λ b. length (first_outs g b t)) stands.at

@@ -27,10 +27,10 @@ use Rattle.station_step.specs.Station.{WorkStation, IsSeated, AreApart, outlet_a
 use Rattle.station_step.specs.Kept.{IsFresh}
 use Rattle.line_worker.specs.Share.{worker_of, first_of}
 use Rattle.line_worker.specs.Team.{WorkTeam, IsMember, IsTeam, member}
-use Rattle.line_worker.specs.Teams.{team_at, station_of, shelf_of, place_in, input_on, outlet_on, outlet_initial, ShareQueue, IsJoined, IsOfRoom, AreOfRoom, AreTeams, IsQueueMet, IsMetOn, AreAllMet, HaveBegun}
+use Rattle.line_worker.specs.Teams.{team_at, station_of, shelf_of, index_in, input_on, outlet_on, outlet_initial, ShareQueue, IsJoined, IsOfRoom, AreOfRoom, AreTeams, IsQueueMet, IsMetOn, AreAllMet, HaveBegun}
 use Rattle.line_setup.specs.Making.{room_on, source_of, arcs_at, arc_in, HaveSources, new_shelf, IsNewRing, IsNewRoom, QueueEnds, outlets_at, inlets_at, firsts_at, shelf_at, first_tokens, first_ins, first_outs, outlet_of, inlet_of, putter, taker, HasEnds, AreLaid, AreFit, AreFitFrom, IsNewStation, AreNewTeams, AreAllNew}
 use Rattle.line_worker.proofs.Share.{first-le, next-above, worker_is, worker_number-below, first-all, first-rises}
-use Rattle.line_setup.proofs.ArcOrder.{first_ins-below, first_outs-below, first_ins-all, first_outs-all, rank-ins, rank-outs, place_in-ins, place_in-outs}
+use Rattle.line_setup.proofs.ArcOrder.{first_ins-below, first_outs-below, first_ins-all, first_outs-all, rank-ins, rank-outs, index_in-ins, index_in-outs}
 use Rattle.line_setup.proofs.EndKinds.{of_ring, of_plain, of_ends}
 use Rattle.line_setup.proofs.LaidEnds.{queue-within}
 
@@ -514,8 +514,8 @@ module _ (g : Parts) (begun : State) (ends : QueueEnds) (teams : List WorkTeam) 
   outlet_on-is a listed =
       let t = (arc g a).from in
       let there = graph.starts_exist a listed in
-      ap (λ l. outlet_at l (place_in (outs g t) a)) (station-new t there).outlets
-      ∙ ap (outlet_at (outlets_at ends t)) (place_in-outs g a listed)
+      ap (λ l. outlet_at l (index_in (outs g t) a)) (station-new t there).outlets
+      ∙ ap (outlet_at (outlets_at ends t)) (index_in-outs g a listed)
 
   input_on-is : (a : ℕ) → a < arc_count g → (input_on g teams a).inlet ≡ inlet_of g ends a
   input_on-is a listed =
@@ -523,8 +523,8 @@ module _ (g : Parts) (begun : State) (ends : QueueEnds) (teams : List WorkTeam) 
       let there = graph.ends_exist a listed in
       let k = length (first_ins g a t) in
       let low : k < length (inlets_at ends t) = omega (arith, laid.inlets t there, first_ins-below g a (arc_count g) listed) in
-      ap (λ l. (input_at l (place_in (ins g t) a)).inlet) (station-new t there).inputs
-      ∙ ap (λ n. (input_at (map empty_handed (inlets_at ends t)) n).inlet) (place_in-ins g a listed)
+      ap (λ l. (input_at l (index_in (ins g t) a)).inlet) (station-new t there).inputs
+      ∙ ap (λ n. (input_at (map empty_handed (inlets_at ends t)) n).inlet) (index_in-ins g a listed)
       ∙ ap (λ (i : Input). i.inlet) (get_or-map empty_handed (inlets_at ends t) k (inlet.Local 0) (record { inlet = inlet.Local 0; hand = None }) low)
 
   joined : (a : ℕ) → a < arc_count g → IsJoined g begun teams a

@@ -21,21 +21,28 @@ pub held_some : (room : Option ℕ) (g : Parts) (begun : State) → MayHold room
 held_some None g begun held = tt
 held_some (Some room) g begun held = held.some
 
-module _ (live : LiveGraph) (begun : State) (worker_count : ℕ) (room : Option ℕ) (teams : List WorkTeam) (count : length teams ≡ worker_count) (are : AreTeams live.graph begun teams) where
+module _ (live : LiveGraph) (begun : State) (worker_count : ℕ) (room : Option ℕ) (teams : List WorkTeam) where
   pub making_begins : AreMakingWorkers live begun worker_count room teams teams [] 0
   making_begins = record { count = refl; left_is = refl; each = λ w low. absurd (omega arith) }
 
-  -- what the next worker takes
-  pub next-team : (left : List WorkTeam) (workers : List LineWorker) (made : ℕ) → AreMakingWorkers live begun worker_count room teams left workers made → made < worker_count → (d : WorkTeam) → get_or left 0 d ≡ team_at teams made
-  next-team left workers made inv low d =
-      ap (λ (l : List WorkTeam). get_or l 0 d) inv.left_is
-      ∙ get_or-drop made teams 0 d
-      ∙ ap (λ n. get_or teams n d) (add-zero made)
-      ∙ get_or_default teams made d (record { stations = []; shelf = [] }) (omega (arith, count, low))
+  module _ (count : length teams ≡ worker_count) where
+    -- where a team is left, fewer workers are made than all
+    pub some-taken : (left rest : List WorkTeam) (workers : List LineWorker) (made : ℕ) (team : WorkTeam) → AreMakingWorkers live begun worker_count room teams left workers made → left ≡ team ∷ rest → made < worker_count
+    some-taken left rest workers made team inv is = omega (arith, ap length is, ap length inv.left_is, length-drop made teams, count)
 
-  pub some-left : (left : List WorkTeam) (workers : List LineWorker) (made : ℕ) → AreMakingWorkers live begun worker_count room teams left workers made → made < worker_count → 0 < length left
-  some-left left workers made inv low = omega (arith, ap length inv.left_is, length-drop made teams, count, low)
+    -- where none is left, all are made
+    pub none-left : (left : List WorkTeam) (workers : List LineWorker) (made : ℕ) → AreMakingWorkers live begun worker_count room teams left workers made → length left ≡ 0 → made ≤ worker_count → made ≡ worker_count
+    none-left left workers made inv none few = omega (arith, none, ap length inv.left_is, length-drop made teams, count, few)
 
+    -- what the next worker takes
+    pub next-team : (left : List WorkTeam) (workers : List LineWorker) (made : ℕ) → AreMakingWorkers live begun worker_count room teams left workers made → made < worker_count → (d : WorkTeam) → get_or left 0 d ≡ team_at teams made
+    next-team left workers made inv low d =
+        ap (λ (l : List WorkTeam). get_or l 0 d) inv.left_is
+        ∙ get_or-drop made teams 0 d
+        ∙ ap (λ n. get_or teams n d) (add-zero made)
+        ∙ get_or_default teams made d (record { stations = []; shelf = [] }) (omega (arith, count, low))
+
+module _ (live : LiveGraph) (begun : State) (worker_count : ℕ) (room : Option ℕ) (teams : List WorkTeam) (count : length teams ≡ worker_count) (are : AreTeams live.graph begun teams) where
   pub team-fits : (w : ℕ) → w < worker_count → IsTeam live.graph begun (first_of worker_count (stations live.graph) w) (team_at teams w)
   team-fits w low =
       subst (λ n. IsTeam live.graph begun (first_of n (stations live.graph) w) (team_at teams w)) count (are.each w (omega (arith, low, count)))

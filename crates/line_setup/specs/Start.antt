@@ -1,5 +1,6 @@
 -- How a line begins, and what is laid for it.
 use Rattle.std.specs.Prelude.{◌≡◌, ℕ, ◌+◌, ◌≤◌}
+use Rattle.line_base.specs.Limits.{most_workers}
 use Rattle.line_setup.specs.declared.start.Start.{Start}
 use Rattle.line_setup.specs.Making.{QueueEnds, AreLaid, MayHold}
 
@@ -8,7 +9,7 @@ use Rattle.line_setup.specs.Making.{QueueEnds, AreLaid, MayHold}
 pub record MayBegin (start : Start) : Type 0 where
   pub made_for : start.live.now.graph ≡ start.state.now.graph
   pub some : 1 ≤ start.worker_count
-  pub few : start.worker_count ≤ 16
+  pub few : start.worker_count ≤ most_workers
   pub fits : MayHold start.room start.live.now.graph start.state.now.state
 
 -- the first n arcs of the line have their ends

@@ -8,7 +8,7 @@ use crate::start::Start;
 use card_queue::queue;
 use line_base::Date;
 use line_core::State;
-use line_worker::{arc_at, worker_of};
+use line_worker::worker_of;
 use live_check::Live;
 use room_ring::room_ring;
 use station_step::{Inlet, Outlet};
@@ -59,7 +59,7 @@ fn room_on(live: &Live, state: &State, a: u32) -> u32
     requires arc { a < arc_count live.now.graph }
     ensures { result ≡ room_on live.now.graph state.now.state a }
 {
-    live.graph().jobs() - state.log(arc_at(live, a).from).len() as u32
+    live.graph().jobs() - state.log(live.graph().arc(a).from).len() as u32
 }
 
 /// How many tokens arc `a` starts with.
@@ -204,7 +204,7 @@ impl Ends {
         requires laid { AreLaidFor start.now self.old a }
         ensures { OnOk result (HasLaid start.now a self.old self.new) }
     {
-        let arc = arc_at(start.live, a);
+        let arc = start.live.graph().arc(a);
         let number = self.shelve(
             worker_number,
             a,
@@ -228,7 +228,7 @@ impl Ends {
         requires laid { AreLaidFor start.now self.old a }
         ensures { OnOk result (HasLaid start.now a self.old self.new) }
     {
-        let arc = arc_at(start.live, a);
+        let arc = start.live.graph().arc(a);
         let (outlet, inlet) = new_ring(alloc, start.live, start.state, a, start.room)?;
         self.lay(arc.from, arc.to, outlet, inlet)
     }
@@ -241,8 +241,9 @@ impl Ends {
         requires laid { AreLaidFor start.now self.old a }
         ensures { OnOk result (HasLaid start.now a self.old self.new) }
     {
-        let stations = start.live.graph().stations();
-        let arc = arc_at(start.live, a);
+        let graph = start.live.graph();
+        let stations = graph.stations();
+        let arc = graph.arc(a);
         let putter = worker_of(start.worker_count, stations, arc.from);
         let taker = worker_of(start.worker_count, stations, arc.to);
         if putter == taker {

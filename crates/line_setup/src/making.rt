@@ -1,4 +1,5 @@
 ghost use Rattle.std.specs.Prelude.{◌≡◌, ℕ, ◌+◌, ◌<◌, ◌≤◌, length, map, slice_index, IfOk, OnOk};
+ghost use Rattle.line_base.specs.Limits.{most_workers};
 ghost use Rattle.event_graph.specs.Network.{stations, jobs, arc, arc_count};
 ghost use Rattle.event_graph.specs.State.{log};
 ghost use Rattle.line_setup.specs.Making.{outlets_at, inlets_at, firsts_at, new_shelf, source_of, without, MayShelve, HaveSources, AreFitFrom, AreNewLogs, IsNewStation, AreNewStations, IsNewTeam, AreNewTeams, AreAllNew, SameStationsFrom, SameShelvesFrom};
@@ -11,7 +12,7 @@ use crate::laying::Ends;
 use crate::start::Start;
 use line_base::{Date, Log};
 use line_core::{State, log_with};
-use line_worker::{Team, arc_at, first_of};
+use line_worker::{Team, first_of};
 use live_check::Live;
 use station_step::{Shelf, Source, Station};
 use std::alloc::{AllocError, Global};
@@ -122,11 +123,11 @@ fn new_sources(
         map (source_of live.now.graph first) arcs.now.items) }
 {
     let mut sources = Vec::with_capacity(alloc, arcs.len())?;
-    for q in 0..arcs.len() {
-        let a = arcs[q];
+    let graph = live.graph();
+    for a in arcs {
         sources.push(Source {
-            station: arc_at(live, a).from - first,
-            delay: live.graph().delay(a),
+            station: graph.arc(*a).from - first,
+            delay: graph.delay(*a),
         })?;
     }
     Ok(sources)
@@ -165,7 +166,7 @@ fn new_team(
     worker_number: u32,
 ) -> Result<Team, AllocError>
     requires made_for { live.now.graph ≡ state.now.graph }
-    requires worker_count { worker_count ≤ 16 }
+    requires worker_count { worker_count ≤ most_workers }
     requires worker_number { worker_number < worker_count }
     requires shelves { length ends.old.shelves ≡ worker_count }
     requires arcs { length ends.old.arcs ≡ worker_count }
@@ -199,7 +200,7 @@ fn new_teams(
     worker_count: u32,
 ) -> Result<Vec<Team>, AllocError>
     requires made_for { live.now.graph ≡ state.now.graph }
-    requires worker_count { worker_count ≤ 16 }
+    requires worker_count { worker_count ≤ most_workers }
     requires some_station { 1 ≤ stations live.now.graph }
     requires shelves { length ends.old.shelves ≡ worker_count }
     requires arcs { length ends.old.arcs ≡ worker_count }

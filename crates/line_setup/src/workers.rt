@@ -8,7 +8,7 @@ use crate::start::Start;
 use line_worker::Worker;
 use std::alloc::{AllocError, Global};
 
-/// The workers of all workers, whose stations go on from a state, with all memory of the run.
+/// The workers of a line, whose stations go on from a state, with all memory of the run.
 pub fn workers_of(alloc: Global, start: &Start) -> Result<Vec<Worker>, AllocError>
     requires may_begin { MayBegin start.now }
     requires reached { Reached start.now.live.now.graph start.now.state.now.state }
@@ -16,9 +16,10 @@ pub fn workers_of(alloc: Global, start: &Start) -> Result<Vec<Worker>, AllocErro
         AreNewWorkers start.now.live.now start.now.state.now.state start.now.worker_count start.now.room
         workers.items) }
 {
-    let mut teams = teams_of(alloc, start)?;
+    let teams = teams_of(alloc, start)?;
     let mut workers = Vec::with_capacity(alloc, start.worker_count as usize)?;
-    for worker_number in 0..start.worker_count {
+    for team in teams {
+        let worker_number = workers.len() as u32;
         let worker = Worker::of(
             alloc,
             start.live,
@@ -26,7 +27,7 @@ pub fn workers_of(alloc: Global, start: &Start) -> Result<Vec<Worker>, AllocErro
             start.worker_count,
             start.room,
             worker_number,
-            teams.remove(0),
+            team,
         )?;
         workers.push_reserved(worker);
     }

@@ -11,7 +11,7 @@ use Rattle.station_step.specs.Station.{WorkStation}
 use Rattle.station_step.specs.Step.{IsReady}
 use Rattle.line_worker.specs.Share.{first_of}
 use Rattle.line_worker.specs.Team.{WorkTeam, IsTeam, member, no_station}
-use Rattle.line_worker.specs.Teams.{team_at, owner_of, station_of, shelf_of, place_in, IsJoined, AreTeams, AreAllMet, state_among}
+use Rattle.line_worker.specs.Teams.{team_at, owner_of, station_of, shelf_of, index_in, IsJoined, AreTeams, AreAllMet, state_among}
 use Rattle.line_worker.specs.Worker.{LineWorker, IsWorker, with_team}
 use Rattle.line_worker.specs.Work.{dates_of, TeamWorked, TeamsWorked, SteppedAt, IsSweeping, IsAlone}
 use Rattle.line_worker.proofs.Share.{first-zero, first-all, worker_number-below}
@@ -85,7 +85,7 @@ module _ (c : LineWorker) (is : IsWorker c) (one : c.worker_count ≡ 1) where
       (one-worker_number (arc c.live.graph a).from (sound.starts_exist a listed) ∙ sym (one-worker_number (arc c.live.graph a).to (sound.ends_exist a listed)))
 
   -- where the stations before place p have fired once more than the others, the one at p is ready
-  pub next-ready : ((a : ℕ) → a < arc_count c.live.graph → IsJoined c.live.graph c.begun (c.team ∷ []) a) → (times p : ℕ) → times < jobs c.live.graph → p < length c.order → ((i : ℕ) → i < length c.team.stations → place_in c.order i < p → dates_of (member c.team.stations i) ≡ times + 1) → ((i : ℕ) → i < length c.team.stations → p ≤ place_in c.order i → dates_of (member c.team.stations i) ≡ times) → IsReady c.team.shelf (member c.team.stations (get_or c.order p 0))
+  pub next-ready : ((a : ℕ) → a < arc_count c.live.graph → IsJoined c.live.graph c.begun (c.team ∷ []) a) → (times p : ℕ) → times < jobs c.live.graph → p < length c.order → ((i : ℕ) → i < length c.team.stations → index_in c.order i < p → dates_of (member c.team.stations i) ≡ times + 1) → ((i : ℕ) → i < length c.team.stations → p ≤ index_in c.order i → dates_of (member c.team.stations i) ≡ times) → IsReady c.team.shelf (member c.team.stations (get_or c.order p 0))
   next-ready joined times p more low ahead behind =
       let g = c.live.graph in
       let teams = c.team ∷ [] in
@@ -100,7 +100,7 @@ module _ (c : LineWorker) (is : IsWorker c) (one : c.worker_count ≡ 1) where
       let placed : (q : ℕ) → get_or c.live.ranks (c.first + get_or c.order q 0) 0 ≡ place (get_or c.order q 0) =
       λ q. ap place (omega (arith, from-zero)) in
       let at = place t in
-      let seat : (u : ℕ) → u < stations g → get_or c.order (place_in c.order u) 0 ≡ u =
+      let seat : (u : ℕ) → u < stations g → get_or c.order (index_in c.order u) 0 ≡ u =
       λ u u_there. listed-at_place c.live.ranks c.first (length c.team.stations) c.order is.in_order u (omega (arith, u_there, all-stations)) in
       let dates : (u : ℕ) → u < stations g → length (log state u) ≡ dates_of (member c.team.stations u) =
       λ u u_there. ap length (log-among g c.begun teams sound some are u u_there) ∙ ap dates_of (station-alone u u_there) in
@@ -114,21 +114,21 @@ module _ (c : LineWorker) (is : IsWorker c) (one : c.worker_count ≡ 1) where
             (λ late.
             ⊎_elim
             (λ after.
-            let rises = is.in_order.rises p (place_in c.order u) after (is.in_order.listed u u_low) in
-            absurd (omega (arith, rises, less, placed p, placed (place_in c.order u), ap place (seat u u_there))))
+            let rises = is.in_order.rises p (index_in c.order u) after (is.in_order.listed u u_low) in
+            absurd (omega (arith, rises, less, placed p, placed (index_in c.order u), ap place (seat u u_there))))
             (λ here.
-            let same : place_in c.order u ≡ p = omega arith in
+            let same : index_in c.order u ≡ p = omega arith in
             absurd (omega (arith, less, ap place (sym (seat u u_there) ∙ ap (λ q. get_or c.order q 0) same))))
-            (cases_lt p (place_in c.order u)))
-            (cases_lt (place_in c.order u) p);
+            (cases_lt p (index_in c.order u)))
+            (cases_lt (index_in c.order u) p);
         behind = λ u u_there high.
             let u_low : u < length c.team.stations = omega (arith, u_there, all-stations) in
             ⊎_elim
             (λ before.
-            let rises = is.in_order.rises (place_in c.order u) p before low in
-            absurd (omega (arith, rises, high, placed p, placed (place_in c.order u), ap place (seat u u_there))))
+            let rises = is.in_order.rises (index_in c.order u) p before low in
+            absurd (omega (arith, rises, high, placed p, placed (index_in c.order u), ap place (seat u u_there))))
             (λ late. dates u u_there ∙ behind u u_low late)
-            (cases_lt (place_in c.order u) p);
+            (cases_lt (index_in c.order u) p);
       } in
       let can = can_fire_next g c.live.ranks state times at t is.ranked (is_reached g state sound is.ranked.limits reached) round more t_there refl in
       let space = spaces g c.begun teams sound some are t t_there (λ a listed _.
@@ -154,7 +154,7 @@ module _ (c : LineWorker) (is : IsWorker c) (one : c.worker_count ≡ 1) where
 -- ---- a sweep of the one worker
 
 module _ (c : LineWorker) (is : IsWorker c) (times : ℕ) (alone : IsAlone c times) (more : times < jobs c.live.graph) where
-  module _ (now : WorkTeam) (p : ℕ) (is_now : IsWorker (with_team c now)) (so_far : IsSweeping c.order c.team now p) (fired : (i : ℕ) → i < length c.team.stations → place_in c.order i < p → dates_of (member now.stations i) ≡ times + 1) where
+  module _ (now : WorkTeam) (p : ℕ) (is_now : IsWorker (with_team c now)) (so_far : IsSweeping c.order c.team now p) (fired : (i : ℕ) → i < length c.team.stations → index_in c.order i < p → dates_of (member now.stations i) ≡ times + 1) where
     joined-now : (a : ℕ) → a < arc_count c.live.graph → IsJoined c.live.graph c.begun (now ∷ []) a
     joined-now = joined-alone c is alone.one now so_far.worked is_now.members alone.joined
 
@@ -166,7 +166,7 @@ module _ (c : LineWorker) (is : IsWorker c) (times : ℕ) (alone : IsAlone c tim
         (λ i low_i late. ap dates_of (so_far.waiting i (omega (arith, low_i, many)) late) ∙ alone.fired i (omega (arith, low_i, many)))
 
     -- the station at p fires
-    pub alone_goes_on : (next : WorkTeam) → p < length c.order → SteppedAt (get_or c.order p 0) now next → (i : ℕ) → i < length c.team.stations → place_in c.order i < p + 1 → dates_of (member next.stations i) ≡ times + 1
+    pub alone_goes_on : (next : WorkTeam) → p < length c.order → SteppedAt (get_or c.order p 0) now next → (i : ℕ) → i < length c.team.stations → index_in c.order i < p + 1 → dates_of (member next.stations i) ≡ times + 1
     alone_goes_on next low stepped i low_i early =
         let at = get_or c.order p 0 in
         let is_order = is.in_order in
@@ -174,20 +174,20 @@ module _ (c : LineWorker) (is : IsWorker c) (times : ℕ) (alone : IsAlone c tim
         let Fired : ℕ → Type 0 = λ k. dates_of (member next.stations k) ≡ times + 1 in
         ⊎_elim
         (λ before.
-        let apart : i ≢ at = λ same. omega (arith, before, ap (place_in c.order) same, place-of_listed c.live.ranks c.first count c.order is_order p low) in
+        let apart : i ≢ at = λ same. omega (arith, before, ap (index_in c.order) same, place-of_listed c.live.ranks c.first count c.order is_order p low) in
         ap (λ (l : List WorkStation). dates_of (member l i)) stepped.only
         ∙ ap dates_of (get_or-set_other now.stations at i (member next.stations at) no_station apart)
         ∙ fired i low_i before)
         (λ late.
-        let place_is : place_in c.order i ≡ p = omega arith in
+        let place_is : index_in c.order i ≡ p = omega arith in
         let here : i ≡ at = sym (listed-at_place c.live.ranks c.first count c.order is_order i low_i) ∙ ap (λ q. get_or c.order q 0) place_is in
         let waits = so_far.waiting at (is_order.exists p low) (omega (arith, place-of_listed c.live.ranks c.first count c.order is_order p low)) in
         subst Fired (sym here) (
         stepped.fires (here-ready low) ∙ ap (λ n. n + 1) (ap dates_of waits ∙ alone.fired at (is_order.exists p low))))
-        (cases_lt (place_in c.order i) p)
+        (cases_lt (index_in c.order i) p)
 
   -- when all have had their turn, each has fired once more
-  pub alone_swept : (now : WorkTeam) → IsWorker (with_team c now) → IsSweeping c.order c.team now (length c.order) → ((i : ℕ) → i < length c.team.stations → place_in c.order i < length c.order → dates_of (member now.stations i) ≡ times + 1) → IsAlone (with_team c now) (times + 1)
+  pub alone_swept : (now : WorkTeam) → IsWorker (with_team c now) → IsSweeping c.order c.team now (length c.order) → ((i : ℕ) → i < length c.team.stations → index_in c.order i < length c.order → dates_of (member now.stations i) ≡ times + 1) → IsAlone (with_team c now) (times + 1)
   alone_swept now is_now so_far fired = record {
     one = alone.one;
     joined = joined-now now (length c.order) is_now so_far fired;

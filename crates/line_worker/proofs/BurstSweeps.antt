@@ -7,7 +7,8 @@ use Rattle.station_step.specs.Step.{IsReady}
 use Rattle.line_worker.specs.Team.{member}
 use Rattle.line_worker.specs.Worker.{LineWorker, IsWorker, with_team}
 use Rattle.line_worker.specs.Work.{dates_of, SteppedInOrder, HasSwept, AllDone, TurnsBelow, IsAlone, HasSweptOn, SweepsLead, none, more, AreOfBurst, HasBurst, HasBurstAlone, IsBursting}
-use Rattle.line_worker.specs.Workers.{HasDoneBurst, IsReadyFor, MayGoOn, IsAtWork}
+use Rattle.line_worker.specs.Sweeps.{most_sweeps}
+use Rattle.line_worker.specs.Workers.{HasDoneBurst, IsReadyFor, MayGoOn, IsAtWork, HasMadeSweep, HasMadeRound}
 use Rattle.line_worker.proofs.Alone.{all-stations}
 use Rattle.line_worker.proofs.WorkedTeams.{idle_team, then_team, dates-le}
 
@@ -96,18 +97,18 @@ module _ (old now : LineWorker) (sweeps : ℕ) (inv : IsBursting old now sweeps)
     }
 
   -- the end, where all are done
-  pub alone_at_end : sweeps ≤ 16 → AllDone now.target now.team → (times : ℕ) → IsAlone old times → times ≤ old.target → HasBurstAlone times old now
+  pub alone_at_end : sweeps ≤ most_sweeps → AllDone now.target now.team → (times : ℕ) → IsAlone old times → times ≤ old.target → HasBurstAlone times old now
   alone_at_end few done times alone le =
       let now_alone = inv.alone times alone le in
       let all : times + sweeps ≡ old.target = alone-done (times + sweeps) now_alone done ∙ target-same in
-      let most : times + sweeps ≡ min (times + 16) old.target = omega (arith, all, few) in
+      let most : times + sweeps ≡ min (times + most_sweeps) old.target = omega (arith, all, few) in
       record {
         alone = subst (IsAlone now) most now_alone;
         turns = λ i low. omega (arith, inv.turned i low, most);
       }
 
--- the end after 16 sweeps
-module _ (old now : LineWorker) (sweeps : ℕ) (inv : IsBursting old now sweeps) (full : sweeps ≡ 16) where
+-- the end after all sweeps
+module _ (old now : LineWorker) (sweeps : ℕ) (inv : IsBursting old now sweeps) (full : sweeps ≡ most_sweeps) where
   pub burst_in_full : HasBurst old.target old.team now.team
   burst_in_full = record {
     worked = inv.worked;
@@ -120,18 +121,18 @@ module _ (old now : LineWorker) (sweeps : ℕ) (inv : IsBursting old now sweeps)
 
   pub alone_in_full : (times : ℕ) → IsAlone old times → times ≤ old.target → HasBurstAlone times old now
   alone_in_full times alone le =
-      let most : times + sweeps ≡ min (times + 16) old.target = omega (arith, full, inv.few times alone le) in
+      let most : times + sweeps ≡ min (times + most_sweeps) old.target = omega (arith, full, inv.few times alone le) in
       record {
         alone = subst (IsAlone now) most (inv.alone times alone le);
         turns = λ i low. omega (arith, inv.turned i low, most);
       }
 
--- the sweeps of a burst, where all are done or 16 were made
-pub sweeps_at_end : (old now : LineWorker) (sweeps : ℕ) → IsBursting old now sweeps → sweeps ≤ 16 → AllDone old.target now.team ⊎ (sweeps ≡ 16) → (count : ℕ) × AreOfBurst old.order old.target old.team now.team count
+-- the sweeps of a burst, where all are done or as many were made as a burst has
+pub sweeps_at_end : (old now : LineWorker) (sweeps : ℕ) → IsBursting old now sweeps → sweeps ≤ most_sweeps → AllDone old.target now.team ⊎ (sweeps ≡ most_sweeps) → (count : ℕ) × AreOfBurst old.order old.target old.team now.team count
 sweeps_at_end old now sweeps inv few ended = (sweeps, record { few = few; lead = inv.lead; ended = ended })
 
--- the end before 16 sweeps, where all are done
-pub burst_when_done : (old now : LineWorker) (sweeps : ℕ) → IsBursting old now sweeps → IsWorker now → sweeps ≤ 16 → AllDone now.target now.team → HasBurst old.target old.team now.team
+-- the end before the last sweep, where all are done
+pub burst_when_done : (old now : LineWorker) (sweeps : ℕ) → IsBursting old now sweeps → IsWorker now → sweeps ≤ most_sweeps → AllDone now.target now.team → HasBurst old.target old.team now.team
 burst_when_done old now sweeps inv is few done =
     let target = ap (λ (c : LineWorker). c.target) inv.frame in
     let none : AllDone old.target old.team → sweeps ≡ 0 =
@@ -167,7 +168,7 @@ module _ (old now : LineWorker) (sweeps : ℕ) (work : IsAtWork old now sweeps) 
   at-work-frame = ⊎_elim (λ inv. inv.frame) (λ ended. ended.worked.same.frame) work
 
   -- and has made few turns more
-  at-work-turns : sweeps ≤ 16 → TurnsBelow (2 ^ 38) old.team → TurnsBelow (2 ^ 39) now.team
+  at-work-turns : sweeps ≤ most_sweeps → TurnsBelow (2 ^ 38) old.team → TurnsBelow (2 ^ 39) now.team
   at-work-turns few below i low =
       ⊎_elim
       (λ inv.
@@ -179,15 +180,15 @@ module _ (old now : LineWorker) (sweeps : ℕ) (work : IsAtWork old now sweeps) 
       work
 
   -- so it may make one more sweep
-  at_work-may : (live : LiveGraph) → sweeps ≤ 16 → IsReadyFor live old → MayGoOn live now
+  at_work-may : (live : LiveGraph) → sweeps ≤ most_sweeps → IsReadyFor live old → MayGoOn live now
   at_work-may live few ready = record {
     made_for = ready.made_for ∙ sym (ap (λ (c : LineWorker). c.live) at-work-frame);
     turns = at-work-turns few ready.turns;
   }
 
   -- where all of its stations are done, the round leaves it as it is
-  pub at_work_done : sweeps ≤ 16 → IsWorker now → AllDone now.target now.team → IsAtWork old now (sweeps + 1)
-  at_work_done few is done =
+  at_work-done : sweeps ≤ most_sweeps → IsWorker now → AllDone now.target now.team → IsAtWork old now (sweeps + 1)
+  at_work-done few is done =
       ⊎_elim
       (λ inv.
       inr (record {
@@ -203,26 +204,36 @@ module _ (old now : LineWorker) (sweeps : ℕ) (work : IsAtWork old now sweeps) 
       work
 
   -- and else it makes a sweep
-  pub at_work_sweeps : IsWorker now → (next : LineWorker) → (AllDone now.target now.team → ⊥) → IsWorker next → next ≡ with_team now next.team → HasSwept now.team next.team → SteppedInOrder now.order now.team next.team → ((times : ℕ) → IsAlone now times → times < jobs now.live.graph → IsAlone next (times + 1)) → IsAtWork old next (sweeps + 1)
-  at_work_sweeps is next undone is_next frame swept in_order rounds =
+  at_work-sweeps : IsWorker now → (next : LineWorker) → IsWorker next → HasMadeSweep now next → IsAtWork old next (sweeps + 1)
+  at_work-sweeps is next is_next made =
       ⊎_elim
-      (λ inv. inl (bursting_goes_on old now sweeps inv is next undone is_next frame swept in_order rounds))
-      (λ ended. absurd (undone ended.done))
+      (λ inv. inl (bursting_goes_on old now sweeps inv is next made.undone is_next made.frame made.swept made.in_order made.alone))
+      (λ ended. absurd (made.undone ended.done))
       work
 
-pub may_go_on : (live : LiveGraph) (old now : LineWorker) (sweeps : ℕ) → sweeps ≤ 16 → IsReadyFor live old → IsAtWork old now sweeps → MayGoOn live now
+-- so a round more leaves it at work
+pub at_work_more : (old now next : LineWorker) (sweeps : ℕ) → sweeps < most_sweeps → HasMadeRound now next → IsAtWork old now sweeps → IsAtWork old next (sweeps + 1)
+at_work_more old now next sweeps few made work =
+    ⊎_elim
+    (λ swept. at_work-sweeps old now sweeps work made.worker_before next made.worker swept)
+    (λ rested.
+    subst (λ (c : LineWorker). IsAtWork old c (sweeps + 1)) (sym rested.stays)
+    (at_work-done old now sweeps work (omega (arith, few)) made.worker_before rested.done))
+    made.round
+
+pub may_go_on : (live : LiveGraph) (old now : LineWorker) (sweeps : ℕ) → sweeps ≤ most_sweeps → IsReadyFor live old → IsAtWork old now sweeps → MayGoOn live now
 may_go_on live old now sweeps few ready work = at_work-may old now sweeps work live few ready
 
--- after sixteen rounds it has worked for the burst
-pub at_work_in_full : (old now : LineWorker) → IsAtWork old now 16 → HasDoneBurst old now
+-- after all rounds it has worked for the burst
+pub at_work_in_full : (old now : LineWorker) → IsAtWork old now most_sweeps → HasDoneBurst old now
 at_work_in_full old now work =
     ⊎_elim
     (λ inv.
     record {
       same = record { worker = inv.worker (omega arith); frame = inv.frame };
-      burst = burst_in_full old now 16 inv refl;
-      alone = alone_in_full old now 16 inv refl;
-      sweeps = sweeps_at_end old now 16 inv (omega arith) (inr refl);
+      burst = burst_in_full old now most_sweeps inv refl;
+      alone = alone_in_full old now most_sweeps inv refl;
+      sweeps = sweeps_at_end old now most_sweeps inv (omega arith) (inr refl);
     })
     (λ ended. ended.worked)
     work

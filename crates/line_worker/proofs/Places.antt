@@ -9,7 +9,7 @@ use Rattle.std.proofs.lemmas.List.Sums.{position_or_len_is, length-filter, count
 use Rattle.line_base.specs.declared.event.Parts.{Parts}
 use Rattle.event_graph.specs.Network.{arc, arc_count, ins, outs}
 use Rattle.event_graph.proofs.ArcNumbers.{Contains-ins, Contains-outs}
-use Rattle.line_worker.specs.Teams.{place_in}
+use Rattle.line_worker.specs.Teams.{index_in}
 
 distinct-range : (n : ℕ) → AllPairs (λ x y. x ≢ y) (range_with_len 0 n)
 distinct-range n i j d before low same =
@@ -25,8 +25,8 @@ unfolding outs
 distinct-outs g t = AllPairs-filter (λ x y. x ≢ y) _ (range_with_len 0 (arc_count g)) (distinct-range (arc_count g))
 
 -- the place of the number at k is k
-pub place_in-at : (xs : List ℕ) (k a : ℕ) → AllPairs (λ x y. x ≢ y) xs → k < length xs → get_or xs k 0 ≡ a → place_in xs a ≡ k
-place_in-at xs k a distinct low at =
+pub index_in-at : (xs : List ℕ) (k a : ℕ) → AllPairs (λ x y. x ≢ y) xs → k < length xs → get_or xs k 0 ≡ a → index_in xs a ≡ k
+index_in-at xs k a distinct low at =
     position_or_len_is
     (λ x. eqb x a)
     xs
@@ -38,14 +38,14 @@ place_in-at xs k a distinct low at =
 
 -- a number that a list has stands at its place
 pub record StandsIn (xs : List ℕ) (a : ℕ) : Type 0 where
-  pub low : place_in xs a < length xs
-  pub at : get_or xs (place_in xs a) 0 ≡ a
+  pub low : index_in xs a < length xs
+  pub at : get_or xs (index_in xs a) 0 ≡ a
 
 stands : (xs : List ℕ) (a : ℕ) → AllPairs (λ x y. x ≢ y) xs → Contains xs a → StandsIn xs a
 stands xs a distinct found =
     let k = found.0 in
     let here : get_or xs k 0 ≡ a = get_or_default xs k 0 a found.1 ∙ found.2 in
-    let same = place_in-at xs k a distinct found.1 here in
+    let same = index_in-at xs k a distinct found.1 here in
     record {
       low = omega (arith, same, found.1);
       at = ap (λ i. get_or xs i 0) same ∙ here;

@@ -26,9 +26,9 @@ use Rattle.station_step.specs.Step.{IsReady}
 use Rattle.line_worker.specs.Grown.{log_in, made_at, tokens_put, token_on, HasGrown}
 use Rattle.line_worker.specs.Share.{first_of}
 use Rattle.line_worker.specs.Team.{WorkTeam, IsMember}
-use Rattle.line_worker.specs.Teams.{owner_of, station_of, shelf_of, place_in, input_on, outlet_on, outlet_initial, outlet_tokens, AreTeams, AreAllMet, place_of, state_among}
+use Rattle.line_worker.specs.Teams.{owner_of, station_of, shelf_of, index_in, input_on, outlet_on, outlet_initial, outlet_tokens, AreTeams, AreAllMet, place_of, state_among}
 use Rattle.line_worker.proofs.Share.{first-le, next-above, worker_number-below}
-use Rattle.line_worker.proofs.Places.{place_in-at, distinct-ins, distinct-outs, in-stands, out-stands}
+use Rattle.line_worker.proofs.Places.{index_in-at, distinct-ins, distinct-outs, in-stands, out-stands}
 use Rattle.line_worker.proofs.Grown.{grown_is_reached, tokens_put-held}
 
 -- ---- dates
@@ -101,7 +101,7 @@ module _ (g : Parts) (begun : State) (teams : List WorkTeam) (sound : IsGraph g)
       let m = member_is (arc g a).to (sound.ends_exist a listed) in
       let in_there = in-stands g a listed in
       let many = inputs-many (arc g a).to (sound.ends_exist a listed) in
-      m.kept.held (place_in (ins g (arc g a).to) a) (omega (arith, many, in_there.low))
+      m.kept.held (index_in (ins g (arc g a).to) a) (omega (arith, many, in_there.low))
 
   pub put_is : (a : ℕ) → a < arc_count g → outlet_tokens (shelf_of g teams (arc g a).from) (outlet_on g teams a) ≡ tokens_put g begun (state_among g teams).logs a
   unfolding tokens_put
@@ -111,7 +111,7 @@ module _ (g : Parts) (begun : State) (teams : List WorkTeam) (sound : IsGraph g)
       let m = member_is from there in
       let s = station_of g teams from in
       let out_there = out-stands g a listed in
-      let p = place_in (outs g from) a in
+      let p = index_in (outs g from) a in
       let many = outlets-many from there in
       let Added : Parts → ℕ → ℕ → List ℕ =
       λ gr n made. map (λ date. saturating date (delay gr (get_or (outs gr n) p 0))) (drop made s.log.dates) in
@@ -127,10 +127,10 @@ module _ (g : Parts) (begun : State) (teams : List WorkTeam) (sound : IsGraph g)
       ∙ ap (λ l. place begun a ++ l) added
 
   -- what a station has on the k-th arc of a list of its arcs stands at place k
-  on_at : {X : Type 0} (has : WorkStation → ℕ → X) (lists : ℕ → List ℕ) (t u k : ℕ) → u ≡ t → k < length (lists t) → AllPairs (λ x y. x ≢ y) (lists t) → has (station_of g teams u) (place_in (lists u) (get_or (lists t) k 0)) ≡ has (station_of g teams t) k
+  on_at : {X : Type 0} (has : WorkStation → ℕ → X) (lists : ℕ → List ℕ) (t u k : ℕ) → u ≡ t → k < length (lists t) → AllPairs (λ x y. x ≢ y) (lists t) → has (station_of g teams u) (index_in (lists u) (get_or (lists t) k 0)) ≡ has (station_of g teams t) k
   on_at has lists t u k at low distinct =
-      ap (λ v. has (station_of g teams v) (place_in (lists v) (get_or (lists t) k 0))) at
-      ∙ ap (has (station_of g teams t)) (place_in-at (lists t) k (get_or (lists t) k 0) distinct low refl)
+      ap (λ v. has (station_of g teams v) (index_in (lists v) (get_or (lists t) k 0))) at
+      ∙ ap (has (station_of g teams t)) (index_in-at (lists t) k (get_or (lists t) k 0) distinct low refl)
 
   -- the input of a station with this number is that of its arc, and so is the outlet
   pub input_on-is : (t k : ℕ) → k < length (ins g t) → input_on g teams (get_or (ins g t) k 0) ≡ input_at (station_of g teams t).inputs k

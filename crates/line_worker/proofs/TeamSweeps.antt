@@ -7,26 +7,26 @@ use Rattle.std.proofs.lemmas.List.Sums.{passes_at_first}
 use Rattle.station_step.specs.Station.{WorkStation}
 use Rattle.station_step.specs.Step.{IsReady}
 use Rattle.line_worker.specs.Team.{WorkTeam, member, no_station}
-use Rattle.line_worker.specs.Teams.{place_in}
+use Rattle.line_worker.specs.Teams.{index_in}
 use Rattle.line_worker.specs.Worker.{IsOrder}
 use Rattle.line_worker.specs.Work.{dates_of, HasWorked, SteppedAt, SteppedInOrder, IsSweeping, HasSwept, TurnsBelow}
-use Rattle.line_worker.proofs.Places.{place_in-at}
+use Rattle.line_worker.proofs.Places.{index_in-at}
 use Rattle.line_worker.proofs.WorkedTeams.{idle_team, then_worked, then_shelf}
 
-module _ (places : List ℕ) (first count : ℕ) (order : List ℕ) (is : IsOrder places first count order) where
+module _ (ranks : List ℕ) (first count : ℕ) (order : List ℕ) (is : IsOrder ranks first count order) where
   distinct-order : AllPairs (λ x y. x ≢ y) order
   distinct-order p q d before low same =
       let rises = is.rises p q before low in
       let p_is = get_or_default order p d 0 (omega arith) in
       let q_is = get_or_default order q d 0 low in
-      omega (arith, rises, ap (λ i. get_or places (first + i) 0) (sym p_is ∙ same ∙ q_is))
+      omega (arith, rises, ap (λ i. get_or ranks (first + i) 0) (sym p_is ∙ same ∙ q_is))
 
   -- the place of the station at p is p
-  pub place-of_listed : (p : ℕ) → p < length order → place_in order (get_or order p 0) ≡ p
-  place-of_listed p low = place_in-at order p (get_or order p 0) distinct-order low refl
+  pub place-of_listed : (p : ℕ) → p < length order → index_in order (get_or order p 0) ≡ p
+  place-of_listed p low = index_in-at order p (get_or order p 0) distinct-order low refl
 
   -- at the place of a station stands that station
-  pub listed-at_place : (i : ℕ) → i < count → get_or order (place_in order i) 0 ≡ i
+  pub listed-at_place : (i : ℕ) → i < count → get_or order (index_in order i) 0 ≡ i
   listed-at_place i low = eqb-true _ i (passes_at_first (λ x. eqb x i) order 0 (is.listed i low))
 
 -- one more turn, after those in this order
@@ -55,7 +55,7 @@ sweeping_begins order team = record {
   ready = λ i low late ready. ready;
 }
 
-module _ (places : List ℕ) (first : ℕ) (order : List ℕ) (old now next : WorkTeam) (p : ℕ) (is : IsOrder places first (length old.stations) order) (so_far : IsSweeping order old now p) (low : p < length order) (stepped : SteppedAt (get_or order p 0) now next) where
+module _ (ranks : List ℕ) (first : ℕ) (order : List ℕ) (old now next : WorkTeam) (p : ℕ) (is : IsOrder ranks first (length old.stations) order) (so_far : IsSweeping order old now p) (low : p < length order) (stepped : SteppedAt (get_or order p 0) now next) where
   abbrev i : ℕ
   i = get_or order p 0
 
@@ -72,30 +72,30 @@ module _ (places : List ℕ) (first : ℕ) (order : List ℕ) (old now next : Wo
 
   -- the station at p waited so far
   waited : member now.stations i ≡ member old.stations i
-  waited = so_far.waiting i there (omega (arith, place-of_listed places first (length old.stations) order is p low))
+  waited = so_far.waiting i there (omega (arith, place-of_listed ranks first (length old.stations) order is p low))
 
   was_ready : IsReady old.shelf (member old.stations i) → IsReady now.shelf (member now.stations i)
   was_ready ready =
       subst (IsReady now.shelf) (sym waited) (
-      so_far.ready i there (omega (arith, place-of_listed places first (length old.stations) order is p low)) ready)
+      so_far.ready i there (omega (arith, place-of_listed ranks first (length old.stations) order is p low)) ready)
 
   -- a station that comes up to place p is the one there, or came before
-  before_or_here : (j : ℕ) → j < length old.stations → place_in order j < p + 1 → (place_in order j < p) ⊎ (j ≡ i)
+  before_or_here : (j : ℕ) → j < length old.stations → index_in order j < p + 1 → (index_in order j < p) ⊎ (j ≡ i)
   before_or_here j low_j early =
       ⊎_elim
       (λ before. inl before)
       (λ late.
-      let at : place_in order j ≡ p = omega arith in
-      inr (sym (listed-at_place places first (length old.stations) order is j low_j) ∙ ap (λ k. get_or order k 0) at))
-      (cases_lt (place_in order j) p)
+      let at : index_in order j ≡ p = omega arith in
+      inr (sym (listed-at_place ranks first (length old.stations) order is j low_j) ∙ ap (λ k. get_or order k 0) at))
+      (cases_lt (index_in order j) p)
 
-  apart-before : (j : ℕ) → place_in order j < p → j ≢ i
+  apart-before : (j : ℕ) → index_in order j < p → j ≢ i
   apart-before j before same =
-      omega (arith, before, ap (place_in order) same, place-of_listed places first (length old.stations) order is p low)
+      omega (arith, before, ap (index_in order) same, place-of_listed ranks first (length old.stations) order is p low)
 
-  apart-after : (j : ℕ) → p + 1 ≤ place_in order j → j ≢ i
+  apart-after : (j : ℕ) → p + 1 ≤ index_in order j → j ≢ i
   apart-after j after same =
-      omega (arith, after, ap (place_in order) same, place-of_listed places first (length old.stations) order is p low)
+      omega (arith, after, ap (index_in order) same, place-of_listed ranks first (length old.stations) order is p low)
 
   pub sweeping_goes_on : IsSweeping order old next (p + 1)
   sweeping_goes_on =
@@ -138,8 +138,8 @@ module _ (places : List ℕ) (first : ℕ) (order : List ℕ) (old now next : Wo
       }
 
 -- at the end of the order each station has had its turn
-pub swept : (places : List ℕ) (first : ℕ) (order : List ℕ) (old now : WorkTeam) → IsOrder places first (length old.stations) order → IsSweeping order old now (length order) → HasSwept old now
-swept places first order old now is so_far = record {
+pub swept : (ranks : List ℕ) (first : ℕ) (order : List ℕ) (old now : WorkTeam) → IsOrder ranks first (length old.stations) order → IsSweeping order old now (length order) → HasSwept old now
+swept ranks first order old now is so_far = record {
   worked = so_far.worked;
   turned = λ i low. so_far.turned i low (is.listed i low);
   fired = λ i low ready. so_far.fired i low (is.listed i low) ready;
@@ -152,4 +152,4 @@ turns_below order old now p sweeping below i low =
     ⊎_elim
     (λ early. omega (arith, sweeping.turned i there early, below i there))
     (λ past. omega (arith, ap (λ (s : WorkStation). s.turns) (sweeping.waiting i there past), below i there))
-    (cases_lt (place_in order i) p)
+    (cases_lt (index_in order i) p)

@@ -15,7 +15,7 @@ use Rattle.station_step.specs.Station.{WorkStation}
 use Rattle.station_step.proofs.OwnQueues.{input-same, outlet-same}
 use Rattle.line_worker.specs.Share.{worker_of, first_of}
 use Rattle.line_worker.specs.Team.{WorkTeam, IsTeam, member}
-use Rattle.line_worker.specs.Teams.{team_at, owner_of, station_of, shelf_of, place_in, input_on, outlet_on, outlet_initial, ShareQueue, IsJoined, IsOfRoom, AreOfRoom, AreTeams, IsQueueMet, IsMetOn}
+use Rattle.line_worker.specs.Teams.{team_at, owner_of, station_of, shelf_of, index_in, input_on, outlet_on, outlet_initial, ShareQueue, IsJoined, IsOfRoom, AreOfRoom, AreTeams, IsQueueMet, IsMetOn}
 use Rattle.line_worker.specs.Work.{dates_of, HasWorked, IsSameShelf, TeamWorked, TeamsWorked}
 use Rattle.line_worker.proofs.Share.{first-le, next-above, worker_number-below}
 use Rattle.line_worker.proofs.TeamSteps.{inputs-same, outlets-same}
@@ -144,13 +144,13 @@ module _ (g : Parts) (begun : State) (old new : List WorkTeam) (some : 1 ≤ sta
   outlet-worked a there =
       let s = station_of g old (arc g a).from in
       let t = station_of g new (arc g a).from in
-      outlet-same s.outlets t.outlets (place_in (outs g (arc g a).from) a) (outlets-same s t (station-worked (arc g a).from there).same)
+      outlet-same s.outlets t.outlets (index_in (outs g (arc g a).from) a) (outlets-same s t (station-worked (arc g a).from there).same)
 
   inlet-worked : (a : ℕ) → (arc g a).to < stations g → bare_inlet (input_on g new a).inlet ≡ bare_inlet (input_on g old a).inlet
   inlet-worked a there =
       let s = station_of g old (arc g a).to in
       let t = station_of g new (arc g a).to in
-      input-same s.inputs t.inputs (place_in (ins g (arc g a).to) a) (inputs-same s t (station-worked (arc g a).to there).same)
+      input-same s.inputs t.inputs (index_in (ins g (arc g a).to) a) (inputs-same s t (station-worked (arc g a).to there).same)
 
   joined-worked : IsGraph g → (a : ℕ) → a < arc_count g → IsJoined g begun new a
   joined-worked sound a listed =

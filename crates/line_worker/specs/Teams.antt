@@ -42,17 +42,17 @@ shelf_of g teams t = (team_at teams (owner_of g teams t)).shelf
 -- ---- arcs
 
 -- where a number stands in a list
-abbrev pub place_in : List ℕ → ℕ → ℕ
-place_in xs a = position_or_len (λ x. x == a) xs
+abbrev pub index_in : List ℕ → ℕ → ℕ
+index_in xs a = position_or_len (λ x. x == a) xs
 
 -- the input at which arc a ends, and the outlet at which it starts
 abbrev pub input_on : Parts → List WorkTeam → ℕ → Input
 input_on g teams a =
-    input_at (station_of g teams (arc g a).to).inputs (place_in (ins g (arc g a).to) a)
+    input_at (station_of g teams (arc g a).to).inputs (index_in (ins g (arc g a).to) a)
 
 abbrev pub outlet_on : Parts → List WorkTeam → ℕ → Outlet
 outlet_on g teams a =
-    outlet_at (station_of g teams (arc g a).from).outlets (place_in (outs g (arc g a).from) a)
+    outlet_at (station_of g teams (arc g a).from).outlets (index_in (outs g (arc g a).from) a)
 
 -- the tokens that the queue of an outlet began with
 abbrev pub outlet_initial : List PlainQueue → Outlet → List ℕ

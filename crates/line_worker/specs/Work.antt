@@ -8,7 +8,7 @@ use Rattle.station_step.specs.Station.{WorkStation, bare_station}
 use Rattle.station_step.specs.Step.{IsReady, MovesItsOwn}
 use Rattle.line_worker.specs.Sweeps.{most_sweeps}
 use Rattle.line_worker.specs.Team.{WorkTeam, member}
-use Rattle.line_worker.specs.Teams.{place_in, team_at, IsJoined}
+use Rattle.line_worker.specs.Teams.{index_in, team_at, IsJoined}
 use Rattle.line_worker.specs.Worker.{LineWorker, IsWorker, with_team}
 
 -- how many dates a station has made
@@ -61,15 +61,15 @@ abbrev pub SteppedInOrder : List ℕ → WorkTeam → WorkTeam → Type 0
 SteppedInOrder [] old new = new ≡ old
 SteppedInOrder (i ∷ order) old new = (next : WorkTeam) × (SteppedAt i old next × SteppedInOrder order next new)
 
--- the stations at the first p places of the order have made one turn each, and those that were ready fired
+-- the first p stations of the order have made one turn each, and those that were ready fired
 pub record IsSweeping (order : List ℕ) (old now : WorkTeam) (p : ℕ) : Type 0 where
   pub worked : TeamWorked old now
-  pub turned : (i : ℕ) → i < length old.stations → place_in order i < p →
+  pub turned : (i : ℕ) → i < length old.stations → index_in order i < p →
       (member now.stations i).turns ≡ (member old.stations i).turns + 1
-  pub fired : (i : ℕ) → i < length old.stations → place_in order i < p → IsReady old.shelf (member old.stations i) →
+  pub fired : (i : ℕ) → i < length old.stations → index_in order i < p → IsReady old.shelf (member old.stations i) →
       dates_of (member now.stations i) ≡ dates_of (member old.stations i) + 1
-  pub waiting : (i : ℕ) → i < length old.stations → p ≤ place_in order i → member now.stations i ≡ member old.stations i
-  pub ready : (i : ℕ) → i < length old.stations → p ≤ place_in order i → IsReady old.shelf (member old.stations i) →
+  pub waiting : (i : ℕ) → i < length old.stations → p ≤ index_in order i → member now.stations i ≡ member old.stations i
+  pub ready : (i : ℕ) → i < length old.stations → p ≤ index_in order i → IsReady old.shelf (member old.stations i) →
       IsReady now.shelf (member old.stations i)
 
 -- each station has made one turn, and those that were ready fired

@@ -1,14 +1,13 @@
 -- The workers of one line.
 use Rattle.std.specs.Prelude.{◌≡◌, ℕ, ◌+◌, ◌^◌, ◌<◌, ◌≤◌, ◌⊎◌, List, [], Option, None, IfSome, length, slice_index_or}
 use Rattle.line_base.specs.declared.event.Parts.{Parts}
-use Rattle.event_graph.specs.Network.{arc_count}
+use Rattle.event_graph.specs.Network.{arc_count, jobs}
 use Rattle.event_graph.specs.State.{State}
 use Rattle.live_check.specs.Order.{LiveGraph}
 use Rattle.line_worker.specs.Team.{no_station}
 use Rattle.line_worker.specs.Teams.{IsJoined, AreOfRoom}
 use Rattle.line_worker.specs.Worker.{LineWorker, IsWorker, with_team, teams_of}
-use Rattle.line_worker.specs.Work.{SteppedInOrder, AreOfBurst, HasBurst, HasBurstAlone, IsAlone, AllDone, TurnsBelow, IsBursting}
-use Rattle.line_worker.specs.Sweeps.{most_sweeps}
+use Rattle.line_worker.specs.Work.{SteppedInOrder, AreOfBurst, HasSwept, HasBurst, HasBurstAlone, IsAlone, AllDone, TurnsBelow, IsBursting}
 
 -- stands for a worker past the end of a list
 abbrev pub no_worker : LineWorker
@@ -93,13 +92,22 @@ pub record MayGoOn (live : LiveGraph) (c : LineWorker) : Type 0 where
   pub made_for : live ≡ c.live
   pub turns : TurnsBelow (2 ^ 39) c.team
 
--- the worker went on with the burst in which it was, by one round
-abbrev pub HasGoneOn : LineWorker → LineWorker → Type 0
-HasGoneOn before after =
-    (old : LineWorker) (sweeps : ℕ) → sweeps < most_sweeps → IsAtWork old before sweeps →
-    IsAtWork old after (sweeps + 1)
+-- a sweep: some station of the worker was not done; each had one turn, in the worker's order, and nothing else of it has
+-- changed. The one worker of its line, where all stations have made as many dates, fired each of them
+pub record HasMadeSweep (old new : LineWorker) : Type 0 where
+  pub undone : ¬ AllDone old.target old.team
+  pub frame : new ≡ with_team old new.team
+  pub swept : HasSwept old.team new.team
+  pub in_order : SteppedInOrder old.order old.team new.team
+  pub alone : (times : ℕ) → IsAlone old times → times < jobs old.live.graph → IsAlone new (times + 1)
 
--- the worker made one sweep in its order where some station of it was not done, and else is as it was
-pub record HasSweptIfUndone (old new : LineWorker) : Type 0 where
-  pub swept : ¬ AllDone old.target old.team → SteppedInOrder old.order old.team new.team
-  pub stays : AllDone old.target old.team → new ≡ old
+-- no sweep: all stations of the worker were done, and it is as it was
+pub record HasRested (old new : LineWorker) : Type 0 where
+  pub done : AllDone old.target old.team
+  pub stays : new ≡ old
+
+-- one round of a burst
+pub record HasMadeRound (old new : LineWorker) : Type 0 where
+  pub worker_before : IsWorker old
+  pub worker : IsWorker new
+  pub round : HasMadeSweep old new ⊎ HasRested old new

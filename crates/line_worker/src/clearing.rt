@@ -7,7 +7,7 @@ use station_step::Station;
 pub(crate) fn clear_stations(stations: &mut Vec<Station>)
     ensures { stations.new.items ≡ map cleared stations.old.items }
 {
-    for i in 0..stations.len() {
-        stations[i].clear_turns();
+    for station in stations.iter_mut() {
+        station.clear_turns();
     }
 }

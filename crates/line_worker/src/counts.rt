@@ -17,11 +17,7 @@ pub(crate) fn dates_made(logs: &Vec<Log>) -> u64
     ensures dates { result ≡ sum_by dates_in logs.now.items }
     ensures few { result ≤ MAX_STATIONS * MAX_DEMANDS }
 {
-    let mut dates = 0;
-    for i in 0..logs.len() {
-        dates += logs[i].dates().len() as u64;
-    }
-    dates
+    logs.iter().map(|log| log.dates().len() as u64).sum()
 }
 
 /// How many turns these stations have made together.
@@ -32,11 +28,7 @@ pub(crate) fn turns_made(stations: &Vec<Station>) -> u64
     ensures turns { result ≡ sum_by turns_of stations.now.items }
     ensures few { result ≤ 2 ^ 50 }
 {
-    let mut turns = 0;
-    for i in 0..stations.len() {
-        turns += stations[i].turns();
-    }
-    turns
+    stations.iter().map(Station::turns).sum()
 }
 
 /// Whether each of these logs has this many dates.
@@ -46,12 +38,7 @@ pub(crate) fn all_done(logs: &Vec<Log>, target: u32) -> bool
     ensures { IsTrue result ↔ ((i : ℕ) → i < length logs.now.items →
         dates_in (log_on logs.now.items i) ≡ target) }
 {
-    for i in 0..logs.len() {
-        if logs[i].dates().len() < target as usize {
-            return false;
-        }
-    }
-    true
+    logs.iter().all(|log| log.dates().len() >= target as usize)
 }
 
 /// The greatest number of turns that one of these stations has made.
@@ -60,9 +47,5 @@ pub(crate) fn most_turns(stations: &Vec<Station>) -> u64
         turns_of (member stations.now.items i) ≤ result }
     ensures one { 0 < result → Any (λ station. turns_of station ≡ result) stations.now.items }
 {
-    let mut most = 0;
-    for i in 0..stations.len() {
-        most = most.max(stations[i].turns());
-    }
-    most
+    stations.iter().map(Station::turns).max().unwrap_or(0)
 }

@@ -1,7 +1,6 @@
 //! One worker of a line: its stations, and its sweeps over them.
 #![tactic(auto)]
 
-mod arcs;
 mod clearing;
 mod counts;
 mod gate;
@@ -11,7 +10,6 @@ mod owner;
 mod team;
 mod worker;
 
-pub use arcs::arc_at;
 pub use gate::{FreeGate, Gate};
 pub use owner::{first_is_least, first_of, worker_of};
 pub use team::Team;

@@ -29,8 +29,8 @@ pub(crate) fn copy_logs(
     ensures { OnOk result (logs.new ≡
         record logs.old { logs = logs.old.logs ++ map (copy_with room) copied.now.items }) }
 {
-    for i in 0..copied.len() {
-        logs.add(log_with(alloc, copied[i].dates(), room)?);
+    for log in copied {
+        logs.add(log_with(alloc, log.dates(), room)?);
     }
     Ok(())
 }

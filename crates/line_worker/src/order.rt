@@ -17,7 +17,7 @@ fn number_in(first: u32, count: u32, t: u32) -> Option<u32>
     }
 }
 
-/// The order in which this many stations from the first on step: their numbers among them, by their places.
+/// The order in which this many stations from the first on step: their numbers among them, by their ranks.
 pub(crate) fn order_of(
     alloc: Global,
     live: &Live,
@@ -28,8 +28,8 @@ pub(crate) fn order_of(
     ensures { IfOk result (λ order. IsOrder live.now.ranks first count order.items) }
 {
     let mut order = Vec::with_capacity(alloc, count as usize)?;
-    for place in 0..live.graph().stations() {
-        if let Some(number) = number_in(first, count, live.station_at(place)) {
+    for rank in 0..live.graph().stations() {
+        if let Some(number) = number_in(first, count, live.station_at(rank)) {
             order.push(number)?;
         }
     }

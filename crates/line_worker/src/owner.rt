@@ -1,10 +1,11 @@
 ghost use Rattle.std.specs.Prelude.{◌≡◌, ◌≤◌, ◌<◌, ℕ};
+ghost use Rattle.line_base.specs.Limits.{most_stations, most_workers};
 ghost use Rattle.line_worker.specs.Share.{worker_of, first_of};
 
 /// The worker that has station `t`.
 pub fn worker_of(worker_count: u32, stations: u32, t: u32) -> u32
-    requires worker_count { worker_count ≤ 16 }
-    requires stations { stations ≤ 512 }
+    requires worker_count { worker_count ≤ most_workers }
+    requires stations { stations ≤ most_stations }
     requires station { t < stations }
     ensures { result ≡ worker_of worker_count stations t }
 {
@@ -14,8 +15,8 @@ pub fn worker_of(worker_count: u32, stations: u32, t: u32) -> u32
 /// The first station of worker `w`. Those of the next one begin where its own end.
 pub fn first_of(worker_count: u32, stations: u32, w: u32) -> u32
     requires some { 1 ≤ worker_count }
-    requires worker_count { worker_count ≤ 16 }
-    requires stations { stations ≤ 512 }
+    requires worker_count { worker_count ≤ most_workers }
+    requires stations { stations ≤ most_stations }
     requires worker_number { w ≤ worker_count }
     ensures { result ≡ first_of worker_count stations w }
 {

@@ -1,5 +1,6 @@
 ghost use Rattle.std.specs.List.{Any};
 ghost use Rattle.std.specs.Prelude.{◌≡◌, ◌+◌, ◌*◌, ◌<◌, ◌≤◌, ◌^◌, ◌++◌, ℕ, length, map, slice_index, if◌then◌else◌, IsTrue, ◌↔◌, IfOk, OnOk};
+ghost use Rattle.line_base.specs.Limits.{most_workers};
 ghost use Rattle.event_graph.specs.Network.{jobs, stations};
 ghost use Rattle.event_graph.specs.Reached.{Reached};
 ghost use Rattle.line_base.specs.declared.limits.TheConstants.{MAX_STATIONS, MAX_DEMANDS};
@@ -8,7 +9,7 @@ ghost use Rattle.station_step.specs.Input.{input_at};
 ghost use Rattle.station_step.specs.Station.{outlet_at};
 ghost use Rattle.line_worker.specs.Cleared.{cleared_worker};
 ghost use Rattle.line_worker.specs.Worker.{IsWorker, with_team};
-ghost use Rattle.line_worker.specs.Workers.{IsSameWorker, HasDoneBurst, IsReadyFor, MayGoOn, HasGoneOn, HasSweptIfUndone};
+ghost use Rattle.line_worker.specs.Workers.{IsSameWorker, HasDoneBurst, IsReadyFor, MayGoOn, HasMadeRound};
 ghost use Rattle.line_worker.specs.Logs.{log_of, copy_of};
 ghost use Rattle.line_worker.specs.Meeting.{OutletMet, InletMet};
 ghost use Rattle.line_worker.specs.Share.{first_of};
@@ -67,7 +68,7 @@ impl Model for Worker {
 }
 
 impl Worker {
-    /// The worker of a worker, with its team. It takes the room for the logs of all stations.
+    /// Worker number `worker_number` of a line, with its team. It takes the room for the logs of all stations.
     pub fn of(
         alloc: Global,
         live: &Live,
@@ -78,7 +79,7 @@ impl Worker {
         team: Team,
     ) -> Result<Worker, AllocError>
         requires worker_number { worker_number < worker_count }
-        requires worker_count { worker_count ≤ 16 }
+        requires worker_count { worker_count ≤ most_workers }
         requires reached { Reached live.now.graph state.now.state }
         requires team { IsTeam live.now.graph state.now.state
             (first_of worker_count (stations live.now.graph) worker_number) team }
@@ -128,25 +129,24 @@ impl Worker {
         matches!(stepped, Stepped::Fired)
     }
 
-    /// Lets the station whose turn comes at a place of the order make a step, behind the gate. Answers whether it
-    /// fired.
+    /// Lets station number `nth` of the order make a step, counted from 0, behind the gate. Answers whether it fired.
     #[inline(always)]
-    fn turn<G: Gate>(&mut self, live: &Live, gate: &G, place: usize) -> bool
+    fn turn<G: Gate>(&mut self, live: &Live, gate: &G, nth: usize) -> bool
         requires made_for { live.now ≡ self.old.live }
-        requires place { place < length self.old.order }
+        requires nth { nth < length self.old.order }
         requires turns { TurnsBelow (2 ^ 40) self.old.team }
         ensures worker { IsWorker self.new }
         ensures frame { self.new ≡ with_team self.old self.new.team }
-        ensures stepped { SteppedAt (slice_index self.old.order place) self.old.team self.new.team }
+        ensures stepped { SteppedAt (slice_index self.old.order nth) self.old.team self.new.team }
         ensures fired { dates_made self.new.team ≡
             dates_made self.old.team + (if result then 1 else 0) }
     {
-        let i = self.order[place];
+        let i = self.order[nth];
         gate.pass(self.worker_number, self.first + i);
         self.step(live, i)
     }
 
-    /// Lets each station of the worker make one step, in the order of their places, with the gate before each step.
+    /// Lets each station of the worker make one step, in the order of their ranks, with the gate before each step.
     /// Answers the number of firings, by which the logs of its stations together grew. It takes no memory.
     pub fn sweep<G: Gate>(&mut self, live: &Live, gate: &G) -> u64
         requires made_for { live.now ≡ self.old.live }
@@ -162,8 +162,8 @@ impl Worker {
             IsAlone self.new (times + 1) }
     {
         let mut fired = 0;
-        for place in 0..self.order.len() {
-            if self.turn(live, gate, place) {
+        for nth in 0..self.order.len() {
+            if self.turn(live, gate, nth) {
                 fired += 1;
             }
         }
@@ -173,8 +173,7 @@ impl Worker {
     /// Goes on with a burst: one more sweep, or none where all stations of the worker are done.
     pub fn go_on<G: Gate>(&mut self, live: &Live, gate: &G)
         requires ready { MayGoOn live.now self.old }
-        ensures gone_on { HasGoneOn self.old self.new }
-        ensures swept { HasSweptIfUndone self.old self.new }
+        ensures { HasMadeRound self.old self.new }
     {
         if !self.done() {
             self.sweep(live, gate);
@@ -281,7 +280,7 @@ impl Worker {
 
     /// Copies the logs of the worker's stations behind those of a list, each with room for a date of each job. Where
     /// memory runs out, some of them may stand there.
-    pub fn copy_logs(&self, alloc: Global, logs: &mut Logs) -> Result<(), AllocError>
+    pub fn copy_logs(&self, logs: &mut Logs) -> Result<(), AllocError>
         requires { length logs.old.logs + length self.now.team.stations ≤ logs.old.room }
         ensures { OnOk result (logs.new ≡
             record logs.old {
@@ -289,7 +288,7 @@ impl Worker {
                   map (copy_of self.now.target) self.now.team.stations;
             }) }
     {
-        copy_logs(alloc, self.team.logs(), self.target, logs)
+        copy_logs(self.alloc, self.team.logs(), self.target, logs)
     }
 
     /// Counts the turns of the worker's stations from 0 again. Nothing else changes.

@@ -11,6 +11,7 @@ use Rattle.line_worker.specs.Team.{WorkTeam, member}
 use Rattle.line_worker.specs.Teams.{team_at, station_of, shelf_of, IsJoined, AreAllMet}
 use Rattle.line_worker.specs.Worker.{LineWorker, teams_of}
 use Rattle.line_worker.specs.Work.{dates_of, turns_of, HasWorked, HasBurst, HasBurstAlone, IsAlone, AllDone, TeamWorked, TeamsWorked}
+use Rattle.line_worker.specs.Sweeps.{most_sweeps}
 use Rattle.line_workers.specs.Meeting.{AreStill}
 use Rattle.line_worker.specs.Workers.{worker_at, graph_of, begun_of, AreWorkers, AreSameWorkers, HasDoneBurst}
 use Rattle.line_workers.specs.Burst.{AllMade, EachMade, WorkerBurst, WorkersBurst}
@@ -83,7 +84,7 @@ module _ (old mid : List LineWorker) (are : AreWorkers old) (count : length mid 
         subst (λ (s : WorkStation). HasWorked s (station_of g (teams_of mid) t)) at_old (
         subst (HasWorked (member (worker_at old w).team.stations i)) at_mid (burst.worked.each i i_there))
 
-    few-t : turns_of (station_of g (teams_of mid) t) ≤ turns_of (station_of g (teams_of old) t) + 16
+    few-t : turns_of (station_of g (teams_of mid) t) ≤ turns_of (station_of g (teams_of old) t) + most_sweeps
     few-t = omega (arith, burst.few i i_there, ap turns_of at_old, ap turns_of at_mid)
 
     fired-t : IsReady (shelf_of g (teams_of old) t) (station_of g (teams_of old) t) → dates_of (station_of g (teams_of old) t) < dates_of (station_of g (teams_of mid) t)
@@ -169,7 +170,7 @@ module _ (old mid : List LineWorker) (are : AreWorkers old) (count : length mid 
     seat-zero : (t : ℕ) → t < stations g → worker_of (length old) (stations g) t ≡ 0
     seat-zero t there = omega (arith, worker_there old are t there, one)
 
-    pub alone-dates : (t : ℕ) → t < stations g → dates_of (station_of g (teams_of mid) t) ≡ min (times + 16) (jobs g)
+    pub alone-dates : (t : ℕ) → t < stations g → dates_of (station_of g (teams_of mid) t) ≡ min (times + most_sweeps) (jobs g)
     alone-dates t there =
         let k = t - first_of (length old) (stations g) (worker_of (length old) (stations g) t) in
         let low = (seat_there old are t there).number in
@@ -179,9 +180,9 @@ module _ (old mid : List LineWorker) (are : AreWorkers old) (count : length mid 
         sym (ap dates_of (at_mid t there))
         ∙ ap (λ v. dates_of (member (worker_at mid v).team.stations k)) zero
         ∙ burst-alone.alone.fired k within
-        ∙ ap (min (times + 16)) target-zero
+        ∙ ap (min (times + most_sweeps)) target-zero
 
-    pub alone-turns : (t : ℕ) → t < stations g → turns_of (station_of g (teams_of mid) t) + times ≡ turns_of (station_of g (teams_of old) t) + min (times + 16) (jobs g)
+    pub alone-turns : (t : ℕ) → t < stations g → turns_of (station_of g (teams_of mid) t) + times ≡ turns_of (station_of g (teams_of old) t) + min (times + most_sweeps) (jobs g)
     alone-turns t there =
         let k = t - first_of (length old) (stations g) (worker_of (length old) (stations g) t) in
         let low = (seat_there old are t there).number in
@@ -193,8 +194,8 @@ module _ (old mid : List LineWorker) (are : AreWorkers old) (count : length mid 
         sym (ap turns_of (at_old t there)) ∙ ap (λ v. turns_of (member (worker_at old v).team.stations k)) zero in
         ap (λ n. n + times) m
         ∙ burst-alone.turns k within
-        ∙ ap (λ n. n + min (times + 16) (worker_at old 0).target) (sym o)
-        ∙ ap (λ n. turns_of (station_of g (teams_of old) t) + min (times + 16) n) target-zero
+        ∙ ap (λ n. n + min (times + most_sweeps) (worker_at old 0).target) (sym o)
+        ∙ ap (λ n. turns_of (station_of g (teams_of old) t) + min (times + most_sweeps) n) target-zero
 
   -- and then all queues meet
   pub workers_burst : (new : List LineWorker) → AreSameWorkers mid new → TeamsWorked (teams_of mid) (teams_of new) → AreStill (graph_of old) (teams_of mid) (teams_of new) → AreAllMet (graph_of old) (teams_of new) → WorkersBurst old new

@@ -11,7 +11,7 @@ use Rattle.station_step.specs.Input.{input_at}
 use Rattle.station_step.specs.Station.{WorkStation, outlet_at}
 use Rattle.line_worker.specs.Share.{worker_of, first_of}
 use Rattle.line_worker.specs.Team.{WorkTeam, IsTeam, member}
-use Rattle.line_worker.specs.Teams.{team_at, owner_of, station_of, place_in, outlet_on, IsJoined, AreOfRoom, AreTeams, IsMetOn, state_among}
+use Rattle.line_worker.specs.Teams.{team_at, owner_of, station_of, index_in, outlet_on, IsJoined, AreOfRoom, AreTeams, IsMetOn, state_among}
 use Rattle.line_worker.specs.Worker.{LineWorker, with_team, teams_of}
 use Rattle.line_worker.specs.Work.{dates_of, turns_of, dates_made, turns_made, TeamsWorked}
 use Rattle.line_worker.specs.Meeting.{OutletMet, InletMet}
@@ -196,8 +196,8 @@ module _ (workers : List LineWorker) (are : AreWorkers workers) where
           let to = (arc g a).to in
           let first = (worker_at new from_seat).team in
           let last = (worker_at new to_seat).team in
-          let k = place_in (outs g from) a in
-          let l = place_in (ins g to) a in
+          let k = index_in (outs g from) a in
+          let l = index_in (ins g to) a in
           let two : owner_of g teams from ≡ owner_of g teams to → ⊥ =
           λ same. apart (sym (worker_number-is from from_there) ∙ same ∙ worker_number-is to to_there) in
           let Puts : ℕ → WorkTeam → Type 0 = λ n old. OutletMet (from - first_of n T (worker_of n T from)) k old first in

@@ -17,7 +17,7 @@ use Rattle.station_step.specs.Input.{input_at}
 use Rattle.station_step.specs.Station.{WorkStation, bare_station, outlet_at}
 use Rattle.line_worker.specs.Share.{worker_of, first_of}
 use Rattle.line_worker.specs.Team.{WorkTeam, member, no_station}
-use Rattle.line_worker.specs.Teams.{team_at, owner_of, station_of, shelf_of, place_in, input_on, outlet_on, AreTeams, IsQueueMet}
+use Rattle.line_worker.specs.Teams.{team_at, owner_of, station_of, shelf_of, index_in, input_on, outlet_on, AreTeams, IsQueueMet}
 use Rattle.line_worker.specs.Work.{dates_of, turns_of, HasWorked, IsSameShelf, TeamWorked, TeamsWorked}
 use Rattle.line_worker.specs.Meeting.{OutletMet, InletMet}
 use Rattle.line_workers.specs.Meeting.{AreStill, MeetsOn}
@@ -178,10 +178,10 @@ module _ (g : Parts) (old new : List WorkTeam) (t w j : ℕ) (team : WorkTeam) (
       (cases_eq u t)
 
   -- where station t has changed one end alone, that of arc a, the ends of another arc stay
-  end-else : {X : Type 0} (ends : WorkStation → List X) (d x : X) (lists : Parts → ℕ → List ℕ) (side : ℕ → ℕ) (a b : ℕ) → side a ≡ t → ends after ≡ set (ends (member (team_at old w).stations j)) (place_in (lists g (side a)) a) x → StandsIn (lists g (side a)) a → StandsIn (lists g (side b)) b → side b < stations g → b ≢ a → get_or (ends (station_of g new (side b))) (place_in (lists g (side b)) b) d ≡ get_or (ends (station_of g old (side b))) (place_in (lists g (side b)) b) d
+  end-else : {X : Type 0} (ends : WorkStation → List X) (d x : X) (lists : Parts → ℕ → List ℕ) (side : ℕ → ℕ) (a b : ℕ) → side a ≡ t → ends after ≡ set (ends (member (team_at old w).stations j)) (index_in (lists g (side a)) a) x → StandsIn (lists g (side a)) a → StandsIn (lists g (side b)) b → side b < stations g → b ≢ a → get_or (ends (station_of g new (side b))) (index_in (lists g (side b)) b) d ≡ get_or (ends (station_of g old (side b))) (index_in (lists g (side b)) b) d
   end-else {X} ends d x lists side a b at_t changed stands_a stands_b there differ =
-      let p = place_in (lists g (side b)) b in
-      let k = place_in (lists g (side a)) a in
+      let p = index_in (lists g (side b)) b in
+      let k = index_in (lists g (side a)) a in
       ⊎_elim
       (λ here.
       let differs : p ≢ k =
@@ -228,10 +228,10 @@ module _ (g : Parts) (begun : State) (old : List WorkTeam) (sound : IsGraph g) (
   j = (arc g a).to - first_of (length old) (stations g) (owner_of g old (arc g a).to)
 
   abbrev k : ℕ
-  k = place_in (outs g (arc g a).from) a
+  k = index_in (outs g (arc g a).from) a
 
   abbrev l : ℕ
-  l = place_in (ins g (arc g a).to) a
+  l = index_in (ins g (arc g a).to) a
 
   abbrev mid : List WorkTeam
   mid = set old (owner_of g old (arc g a).from) first
@@ -254,7 +254,7 @@ module _ (g : Parts) (begun : State) (old : List WorkTeam) (sound : IsGraph g) (
   two : f ≢ t
   two same = apart (ap (owner_of g old) same)
 
-  module _ (out_met : OutletMet ((arc g a).from - first_of (length old) (stations g) (owner_of g old (arc g a).from)) (place_in (outs g (arc g a).from) a) (team_at old (owner_of g old (arc g a).from)) first) (in_met : InletMet ((arc g a).to - first_of (length old) (stations g) (owner_of g old (arc g a).to)) (place_in (ins g (arc g a).to) a) (team_at old (owner_of g old (arc g a).to)) last) where
+  module _ (out_met : OutletMet ((arc g a).from - first_of (length old) (stations g) (owner_of g old (arc g a).from)) (index_in (outs g (arc g a).from) a) (team_at old (owner_of g old (arc g a).from)) first) (in_met : InletMet ((arc g a).to - first_of (length old) (stations g) (owner_of g old (arc g a).to)) (index_in (ins g (arc g a).to) a) (team_at old (owner_of g old (arc g a).to)) last) where
     -- the station that puts
     puts : HasSeen g old mid f v i first s
     puts = record {
@@ -349,7 +349,7 @@ module _ (g : Parts) (begun : State) (old : List WorkTeam) (sound : IsGraph g) (
     outlet-else : (b : ℕ) → b < arc_count g → b ≢ a → outlet_on g new b ≡ outlet_on g old b
     outlet-else b b_listed differ =
         let there = sound.starts_exist b b_listed in
-        ap (λ outlets. outlet_at outlets (place_in (outs g (arc g b).from) b)) (outlets-last (arc g b).from there)
+        ap (λ outlets. outlet_at outlets (index_in (outs g (arc g b).from) b)) (outlets-last (arc g b).from there)
         ∙ end-else g old mid f v i first s puts (λ x. x.outlets) (outlet.Local 0) (outlet_at s.outlets k) outs (λ n. (arc g n).from) a b refl
         (ap (λ (x : WorkStation). x.outlets) out_met.outlet)
         (out-stands g a listed)
@@ -368,9 +368,9 @@ module _ (g : Parts) (begun : State) (old : List WorkTeam) (sound : IsGraph g) (
         (in-stands g b b_listed)
         there
         differ
-        ∙ ap (λ inputs. input_at inputs (place_in (ins g (arc g b).to) b)) (inputs-first (arc g b).to there)
+        ∙ ap (λ inputs. input_at inputs (index_in (ins g (arc g b).to) b)) (inputs-first (arc g b).to there)
 
-    pub meets_on : AreMet (outlet_at (member first.stations ((arc g a).from - first_of (length old) (stations g) (owner_of g old (arc g a).from))).outlets (place_in (outs g (arc g a).from) a)) (input_at (member last.stations ((arc g a).to - first_of (length old) (stations g) (owner_of g old (arc g a).to))).inputs (place_in (ins g (arc g a).to) a)).inlet → MeetsOn g old (set (set old (owner_of g old (arc g a).from) first) (owner_of g old (arc g a).to) last) a
+    pub meets_on : AreMet (outlet_at (member first.stations ((arc g a).from - first_of (length old) (stations g) (owner_of g old (arc g a).from))).outlets (index_in (outs g (arc g a).from) a)) (input_at (member last.stations ((arc g a).to - first_of (length old) (stations g) (owner_of g old (arc g a).to))).inputs (index_in (ins g (arc g a).to) a)).inlet → MeetsOn g old (set (set old (owner_of g old (arc g a).from) first) (owner_of g old (arc g a).to) last) a
     meets_on met = record {
       worked = worked;
       still = still;

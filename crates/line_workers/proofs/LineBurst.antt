@@ -274,7 +274,7 @@ module _ (old new : List LineWorker) (made : ℕ) (rest : AreAtRest old made) (b
     pace =
         let before = rest.pace in
         let T = stations g in
-        let pace-at : (t : ℕ) → t < T → U t ≤ 16 * (fired (state_among g (teams_of old)) - made) =
+        let pace-at : (t : ℕ) → t < T → U t ≤ most_sweeps * (fired (state_among g (teams_of old)) - made) =
         λ t there.
         let turn : get_or (turns_among g (teams_of old)) t 0 ≡ U t = get_or-map-range_with_len U 0 T t t 0 there (zero-add t) in
         omega (arith, sym turn, before.1 t 0 (omega (arith, there, length-map-range_with_len U 0 T))) in (
@@ -336,7 +336,7 @@ module _ (old new : List LineWorker) (made : ℕ) (rest : AreAtRest old made) (b
       fired = fired_is;
       steps = steps_is;
       at_most = fewer;
-      few = omega (arith, turns_is, total-more U' U 16 (stations g) (λ t there. (b.each t there).few));
+      few = omega (arith, turns_is, total-more U' U most_sweeps (stations g) (λ t there. (b.each t there).few));
       ready = λ free t can. omega (arith, fires_freely free t can, ap length (old-log t can.exists), ap length (new-log t can.exists));
       idle = (none-finished, λ finished. omega (arith, fewer, no_steps finished));
       rest = no_steps;

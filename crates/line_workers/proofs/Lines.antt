@@ -22,6 +22,7 @@ use Rattle.line_workers.specs.OfWorkers.{line_of, turns_among, AreAtRest}
 use Rattle.line_worker.proofs.TeamStates.{stands_for_reached, state_among-is, log-among}
 use Rattle.line_worker.proofs.OutletSpace.{place-within}
 use Rattle.line_workers.proofs.AllWorkers.{ranked, workers_are_teams, graph-same, worker_there, worker_number-is, seat_there, seated, of_seat}
+use Rattle.line_base.specs.Limits.{most_workers}
 
 -- ---- at rest
 
@@ -69,7 +70,7 @@ at_rest_is_line workers made rest =
 
 -- ---- a new line
 
-module _ (live : LiveGraph) (begun : State) (worker_count : ℕ) (room : Option ℕ) (workers : List LineWorker) (made : ℕ) (new : AreNewWorkers live begun worker_count room workers) (reached : Reached live.graph begun) (few : worker_count ≤ 16) (made_is : made ≡ fired begun) where
+module _ (live : LiveGraph) (begun : State) (worker_count : ℕ) (room : Option ℕ) (workers : List LineWorker) (made : ℕ) (new : AreNewWorkers live begun worker_count room workers) (reached : Reached live.graph begun) (few : worker_count ≤ most_workers) (made_is : made ≡ fired begun) where
   abbrev g : Parts
   g = live.graph
 

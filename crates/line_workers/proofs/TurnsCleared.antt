@@ -5,6 +5,7 @@ use Rattle.std.specs.List.{range_with_len, All}
 use Rattle.std.proofs.lemmas.List.{length-map, get_or-map}
 use Rattle.std.proofs.lemmas.List.FromFn.{fill_by_all, length-map-range_with_len, get_or-map-range_with_len}
 use Rattle.std.proofs.lemmas.Simd.{map-map}
+use Rattle.line_base.specs.Limits.{most_workers}
 use Rattle.line_base.specs.declared.event.Parts.{Parts}
 use Rattle.line_base.specs.Roomy.{RoomyLog}
 use Rattle.event_graph.specs.Network.{stations, arc, arc_count, ins, outs}
@@ -18,7 +19,7 @@ use Rattle.station_step.specs.Input.{input_at}
 use Rattle.station_step.specs.Station.{WorkStation, outlet_at}
 use Rattle.line_worker.specs.Share.{worker_of, first_of}
 use Rattle.line_worker.specs.Team.{WorkTeam, member}
-use Rattle.line_worker.specs.Teams.{team_at, owner_of, station_of, shelf_of, place_in, input_on, outlet_on, outlet_initial, ShareQueue, IsJoined, IsOfRoom, AreOfRoom, AreAllMet, state_among}
+use Rattle.line_worker.specs.Teams.{team_at, owner_of, station_of, shelf_of, index_in, input_on, outlet_on, outlet_initial, ShareQueue, IsJoined, IsOfRoom, AreOfRoom, AreAllMet, state_among}
 use Rattle.line_worker.specs.Worker.{LineWorker, IsWorker, teams_of}
 use Rattle.line_worker.specs.Work.{turns_of, TeamsWorked}
 use Rattle.line_workers.specs.Meeting.{AreStill}
@@ -56,10 +57,10 @@ module _ (g : Parts) (teams : List WorkTeam) where
       ∙ ap (λ (team : WorkTeam). team.shelf) (team_at-cleared teams (owner_of g teams t))
 
   outlet-cleared : (a : ℕ) → outlet_on g (map cleared_team teams) a ≡ outlet_on g teams a
-  outlet-cleared a = ap (λ (s : WorkStation). outlet_at s.outlets (place_in (outs g (arc g a).from) a)) (station-cleared (arc g a).from)
+  outlet-cleared a = ap (λ (s : WorkStation). outlet_at s.outlets (index_in (outs g (arc g a).from) a)) (station-cleared (arc g a).from)
 
   input-cleared : (a : ℕ) → input_on g (map cleared_team teams) a ≡ input_on g teams a
-  input-cleared a = ap (λ (s : WorkStation). input_at s.inputs (place_in (ins g (arc g a).to) a)) (station-cleared (arc g a).to)
+  input-cleared a = ap (λ (s : WorkStation). input_at s.inputs (index_in (ins g (arc g a).to) a)) (station-cleared (arc g a).to)
 
   joined_cleared : (begun : State) (a : ℕ) → IsJoined g begun teams a → IsJoined g begun (map cleared_team teams) a
   joined_cleared begun a is =
@@ -87,8 +88,8 @@ module _ (g : Parts) (teams : List WorkTeam) where
 
 -- ---- all workers
 
--- the workers of a line are at most 16
-pub workers-few : (workers : List LineWorker) → AreWorkers workers → length workers ≤ 16
+-- a line has no more workers than a run may have
+pub workers-few : (workers : List LineWorker) → AreWorkers workers → length workers ≤ most_workers
 workers-few workers are =
     let first : 0 < length workers = omega (arith, are.some) in
     omega (arith, (are.each 0 first).few, are.worker_count 0 first)
@@ -226,7 +227,7 @@ gathers live workers lent new made are made_for lent_is same worked still met ma
     subst (λ (l : LiveGraph). Gathers l workers new made) (sym made_for) there
 
 -- the workers after the meeting are those of the line
-pub workers_met : (live : LiveGraph) (workers lent new : List LineWorker) → AreWorkers workers → live ≡ live_of workers → lent ≡ map cleared_worker workers → AreSameWorkers lent new → TeamsWorked (teams_of lent) (teams_of new) → AreWorkers new × (length new ≤ 16)
+pub workers_met : (live : LiveGraph) (workers lent new : List LineWorker) → AreWorkers workers → live ≡ live_of workers → lent ≡ map cleared_worker workers → AreSameWorkers lent new → TeamsWorked (teams_of lent) (teams_of new) → AreWorkers new × (length new ≤ most_workers)
 workers_met live workers lent new are made_for lent_is same worked =
     let whole = workers-same lent (workers_of_line live workers lent are made_for lent_is).0 new same worked in
     (whole, workers-few new whole)

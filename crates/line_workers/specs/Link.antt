@@ -12,7 +12,7 @@ use Rattle.line_workers.specs.declared.link.Links.{Links}
 use Rattle.line_workers.specs.declared.link.Links.TheVariants.{Listed, Unlisted}
 use Rattle.line_worker.specs.Share.{worker_of, first_of}
 use Rattle.line_worker.specs.Team.{member}
-use Rattle.line_worker.specs.Teams.{place_in}
+use Rattle.line_worker.specs.Teams.{index_in}
 use Rattle.line_worker.specs.Worker.{LineWorker}
 use Rattle.line_worker.specs.Meeting.{OutletMet, InletMet}
 use Rattle.line_worker.specs.Workers.{worker_at, IsSameWorker}
@@ -28,9 +28,9 @@ seat_of g worker_count t = record {
 abbrev pub link_of : Parts → ℕ → ℕ → Link
 link_of g worker_count a = record {
   from = seat_of g worker_count (arc g a).from;
-  output = place_in (outs g (arc g a).from) a;
+  output = index_in (outs g (arc g a).from) a;
   to = seat_of g worker_count (arc g a).to;
-  input = place_in (ins g (arc g a).to) a;
+  input = index_in (ins g (arc g a).to) a;
 }
 
 -- one worker has both stations of arc a

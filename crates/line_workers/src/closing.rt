@@ -8,16 +8,16 @@ use line_worker::Worker;
 use live_check::Live;
 use std::alloc::{AllocError, Global};
 
-/// The logs of the stations of all workers, in the order of their numbers. They come into a list that the first worker has.
+/// The logs of the stations of all workers, in the order of their numbers. They go into the list that the first worker
+/// has for them.
 pub(crate) fn logs_of(workers: Vec<Worker>) -> Logs
     requires { AreWorkers workers.items }
     ensures { result.logs ≡ logs_among (graph_of workers.items) (teams_of workers.items) }
 {
-    let worker_count = workers.len();
-    let mut workers = workers;
-    let mut logs = workers.remove(0).into_logs();
-    for _worker in 1..worker_count {
-        workers.remove(0).give_logs(&mut logs);
+    let mut workers = workers.into_iter();
+    let mut logs = workers.next().unwrap().into_logs();
+    for worker in workers {
+        worker.give_logs(&mut logs);
     }
     logs
 }
@@ -31,7 +31,7 @@ pub(crate) fn copies_of(alloc: Global, live: &Live, workers: &[Worker]) -> Resul
 {
     let mut logs = Logs::new(alloc, live.graph().stations())?;
     for worker in workers {
-        worker.copy_logs(alloc, &mut logs)?;
+        worker.copy_logs(&mut logs)?;
     }
     Ok(logs)
 }

@@ -1,4 +1,5 @@
 ghost use Rattle.std.specs.Prelude.{◌≡◌, ◌+◌, ◌*◌, ◌^◌, ◌<◌, ◌≤◌, ◌↔◌, ℕ, None, Some, length, sum, min, All, IsTrue, IfOk, IfErr};
+ghost use Rattle.line_base.specs.Limits.{most_workers, most_ring_room};
 ghost use Rattle.line_setup.specs.Making.{MayHold};
 ghost use Rattle.event_graph.specs.Firing.{CanFire};
 ghost use Rattle.event_graph.specs.Least.{IsLeast};
@@ -94,7 +95,7 @@ impl Line {
     ) -> Result<Line, AllocError>
         requires made_for { live.now.graph ≡ state.now.graph }
         requires some { 1 ≤ worker_count }
-        requires few { worker_count ≤ 16 }
+        requires few { worker_count ≤ most_workers }
         requires fits { MayHold room live.now.graph state.now.state }
         ensures line { IfOk result IsLine }
         ensures stands { IfOk result (StandsIn room live.now state.now.state worker_count) }
@@ -123,10 +124,10 @@ impl Line {
     }
 
     /// The line at the start: no station has fired. Station `t` belongs to worker `t * workers / stations`, rounded
-    /// down. It takes all memory of the run, and fails only for want of it.
+    /// down. It takes all memory of the run, and fails only where there isn't enough.
     pub fn prepare(alloc: Global, live: &Live, worker_count: u32) -> Result<Line, AllocError>
         requires some { 1 ≤ worker_count }
-        requires few { worker_count ≤ 16 }
+        requires few { worker_count ≤ most_workers }
         ensures line { IfOk result IsLine }
         ensures stands { IfOk result (Stands live.now (start live.now.graph) worker_count) }
     {
@@ -146,9 +147,9 @@ impl Line {
         room: u32,
     ) -> Result<Line, AllocError>
         requires some { 1 ≤ worker_count }
-        requires few { worker_count ≤ 16 }
+        requires few { worker_count ≤ most_workers }
         requires some_room { 1 ≤ room }
-        requires most_room { room ≤ 10_000 }
+        requires most_room { room ≤ most_ring_room }
         ensures line { IfOk result IsLine }
         ensures stands { IfOk result
             (StandsIn (Some room) live.now (start live.now.graph) worker_count) }
@@ -169,7 +170,7 @@ impl Line {
     ) -> Result<Line, State>
         requires made_for { live.now.graph ≡ state.graph }
         requires some { 1 ≤ worker_count }
-        requires few { worker_count ≤ 16 }
+        requires few { worker_count ≤ most_workers }
         ensures line { IfOk result IsLine }
         ensures stands { IfOk result (Stands live.now state.state worker_count) }
         ensures handed_back { IfErr result (λ back. back ≡ state) }
@@ -247,12 +248,13 @@ impl Line {
 
     /// A copy of the state that the line stands for. It can go on firing by itself: it takes the room of all later
     /// firings.
-    pub fn state(&self, alloc: Global, live: &Live) -> Result<State, AllocError>
+    pub fn state(&self, live: &Live) -> Result<State, AllocError>
         requires made_for { live.now ≡ self.now.live }
         ensures state { IfOk result (λ state. state ≡ run_in self.now) }
         ensures reached { IfOk result IsReached }
         ensures line { IsLine self.now }
     {
+        let alloc = self.workers[0].alloc();
         let logs = copies_of(alloc, live, &self.workers)?;
         Ok(State::of_reached(alloc, live, logs))
     }

@@ -1,9 +1,10 @@
 ghost use Rattle.std.specs.Prelude.{◌≡◌, ◌<◌, ◌≤◌, ◌^◌, ◌↔◌, IsTrue, IfOk, length};
+ghost use Rattle.line_base.specs.Limits.{most_workers};
 ghost use Rattle.event_graph.specs.Network.{stations, arc_count};
 ghost use Rattle.line_workers.specs.Link.{seat_of, link_of, links_of, IsInside};
-ghost use Rattle.line_worker.specs.Teams.{place_in};
+ghost use Rattle.line_worker.specs.Teams.{index_in};
 
-use line_worker::{arc_at, first_of, worker_of};
+use line_worker::{first_of, worker_of};
 use live_check::Live;
 use std::alloc::{AllocError, Global};
 
@@ -33,9 +34,9 @@ pub(crate) enum Links {
 }
 
 /// Where a number stands in a list; behind its end where the list doesn't have it.
-fn place_in(list: &[u32], number: u32) -> u32
+fn index_in(list: &[u32], number: u32) -> u32
     requires { length list.now < 2 ^ 32 }
-    ensures { result ≡ place_in list.now number }
+    ensures { result ≡ index_in list.now number }
 {
     list.iter().position(|x| *x == number).unwrap_or(list.len()) as u32
 }
@@ -43,7 +44,7 @@ fn place_in(list: &[u32], number: u32) -> u32
 /// Where station `t` stands.
 fn seat_of(worker_count: u32, live: &Live, t: u32) -> Seat
     requires some { 1 ≤ worker_count }
-    requires few { worker_count ≤ 16 }
+    requires few { worker_count ≤ most_workers }
     requires station { t < stations live.now.graph }
     ensures { result ≡ seat_of live.now.graph worker_count t }
 {
@@ -57,28 +58,30 @@ fn seat_of(worker_count: u32, live: &Live, t: u32) -> Seat
 
 /// Whether one worker has both stations of arc `a`.
 pub(crate) fn is_inside(worker_count: u32, live: &Live, a: u32) -> bool
-    requires few { worker_count ≤ 16 }
+    requires few { worker_count ≤ most_workers }
     requires arc { a < arc_count live.now.graph }
     ensures { IsTrue result ↔ IsInside live.now.graph worker_count a }
 {
-    let stations = live.graph().stations();
-    let arc = arc_at(live, a);
+    let graph = live.graph();
+    let stations = graph.stations();
+    let arc = graph.arc(a);
     worker_of(worker_count, stations, arc.from) == worker_of(worker_count, stations, arc.to)
 }
 
 /// Where the two ends of arc `a` stand.
 pub(crate) fn link_of(worker_count: u32, live: &Live, a: u32) -> Link
     requires some { 1 ≤ worker_count }
-    requires few { worker_count ≤ 16 }
+    requires few { worker_count ≤ most_workers }
     requires arc { a < arc_count live.now.graph }
     ensures { result ≡ link_of live.now.graph worker_count a }
 {
-    let arc = arc_at(live, a);
+    let graph = live.graph();
+    let arc = graph.arc(a);
     Link {
         from: seat_of(worker_count, live, arc.from),
-        output: place_in(live.graph().outs(arc.from), a),
+        output: index_in(graph.outs(arc.from), a),
         to: seat_of(worker_count, live, arc.to),
-        input: place_in(live.graph().ins(arc.to), a),
+        input: index_in(graph.ins(arc.to), a),
     }
 }
 
@@ -89,7 +92,7 @@ pub(crate) fn links_of(
     worker_count: u32,
 ) -> Result<Vec<Link>, AllocError>
     requires some { 1 ≤ worker_count }
-    requires few { worker_count ≤ 16 }
+    requires few { worker_count ≤ most_workers }
     ensures { IfOk result (λ links. links.items ≡ links_of live.now.graph worker_count) }
 {
     let mut links = Vec::new(alloc);

@@ -1,5 +1,5 @@
 ghost use Rattle.std.specs.Prelude.{ℕ, ◌<◌, ◌≤◌, ◌↔◌, length, All, IsSome, IsTrue};
-ghost use Rattle.line_worker.specs.Workers.{worker_at, HasDoneBurst, IsReadyFor, MayGoOn, HasGoneOn};
+ghost use Rattle.line_worker.specs.Workers.{worker_at, HasDoneBurst, IsReadyFor, MayGoOn, HasMadeRound};
 
 use crate::pace::{Pace, PacedGate, Waits};
 use line_base::for_each_mut;
@@ -7,11 +7,11 @@ use line_worker::{Gate, SWEEPS, Worker};
 use live_check::Live;
 use std::thread::Threads;
 
-/// Lets each worker go on with a burst, one after the other.
+/// Lets each worker go on with a burst by one round, one after the other.
 fn go_on_all<G: Gate>(workers: &mut [Worker], live: &Live, gate: &G)
     requires { All (MayGoOn live.now) workers.old }
     ensures { (w : ℕ) → w < length workers.old →
-        HasGoneOn (worker_at workers.old w) (worker_at workers.new w) }
+        HasMadeRound (worker_at workers.old w) (worker_at workers.new w) }
 {
     for worker in workers.iter_mut() {
         worker.go_on(live, gate);

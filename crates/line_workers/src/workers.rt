@@ -2,13 +2,14 @@ ghost use Rattle.std.specs.Prelude.{◌≡◌, ◌+◌, ◌<◌, ◌≤◌, ◌^
 ghost use Rattle.event_graph.specs.Network.{arc_count};
 ghost use Rattle.line_core.specs.Consistent.{fired};
 ghost use Rattle.line_workers.specs.Burst.{WorkersBurst};
+ghost use Rattle.line_workers.specs.Link.{IsRing, HaveMet, AreLinks, links_of};
 ghost use Rattle.line_workers.specs.Gather.{Gathers};
 ghost use Rattle.line_workers.specs.Counts.{AreCounts};
 ghost use Rattle.line_workers.specs.OfWorkers.{turns_among};
-ghost use Rattle.line_workers.specs.Link.{IsRing, HaveMet, AreLinks, links_of};
 ghost use Rattle.line_workers.specs.Meeting.{AreStill, MeetsOn};
 ghost use Rattle.line_worker.specs.Worker.{teams_of};
 ghost use Rattle.line_worker.specs.Workers.{live_of, graph_of, AreWorkers, AreSameWorkers};
+ghost use Rattle.line_base.specs.Limits.{most_workers};
 ghost use Rattle.line_worker.specs.Teams.{state_among, AreAllMet};
 ghost use Rattle.line_worker.specs.Work.{TurnsBelow, TeamsWorked};
 
@@ -53,7 +54,7 @@ fn meet_over(workers: &mut [Worker], link: &Link)
 /// The two ends of arc `a` meet, where it leads from one worker to another.
 fn meet_on(workers: &mut [Worker], live: &Live, a: u32)
     requires workers { AreWorkers workers.old }
-    requires few { length workers.old ≤ 16 }
+    requires few { length workers.old ≤ most_workers }
     requires made_for { live.now ≡ live_of workers.old }
     requires arc { a < arc_count live.now.graph }
     ensures same { AreSameWorkers workers.old workers.new }
@@ -70,7 +71,7 @@ fn meet_on(workers: &mut [Worker], live: &Live, a: u32)
 /// The two ends of every queue meet on this thread.
 pub(crate) fn meet_all(workers: &mut [Worker], live: &Live)
     requires workers { AreWorkers workers.old }
-    requires few { length workers.old ≤ 16 }
+    requires few { length workers.old ≤ most_workers }
     requires made_for { live.now ≡ live_of workers.old }
     ensures same { AreSameWorkers workers.old workers.new }
     ensures worked { TeamsWorked (teams_of workers.old) (teams_of workers.new) }
@@ -103,7 +104,7 @@ fn meet_listed(workers: &mut [Worker], links: &[Link])
 /// The two ends of every queue meet on this thread, by the list of the line where it has one.
 fn meet_by(workers: &mut [Worker], live: &Live, links: &Links)
     requires workers { AreWorkers workers.old }
-    requires few { length workers.old ≤ 16 }
+    requires few { length workers.old ≤ most_workers }
     requires made_for { live.now ≡ live_of workers.old }
     requires links { AreLinks live.now.graph (length workers.old) links.now }
     ensures same { AreSameWorkers workers.old workers.new }
@@ -120,7 +121,7 @@ fn meet_by(workers: &mut [Worker], live: &Live, links: &Links)
 /// How many dates the stations of all workers have made together.
 pub(crate) fn dates_of(workers: &[Worker]) -> u64
     requires workers { AreWorkers workers.now }
-    requires few { length workers.now ≤ 16 }
+    requires few { length workers.now ≤ most_workers }
     ensures { result ≡ fired (state_among (graph_of workers.now) (teams_of workers.now)) }
 {
     let mut dates = 0;
@@ -133,7 +134,7 @@ pub(crate) fn dates_of(workers: &[Worker]) -> u64
 /// How many turns the stations of all workers have made together.
 pub(crate) fn turns_of(workers: &[Worker]) -> u64
     requires workers { AreWorkers workers.now }
-    requires few { length workers.now ≤ 16 }
+    requires few { length workers.now ≤ most_workers }
     requires turns { All (λ worker. TurnsBelow (2 ^ 40) worker.team) workers.now }
     ensures { result ≡ sum (turns_among (graph_of workers.now) (teams_of workers.now)) }
 {
@@ -155,7 +156,7 @@ pub(crate) fn burst_of<R: Threads + Sync, G: Gate>(
     threading: &mut Threading,
 ) -> Burst
     requires workers { AreWorkers workers.old }
-    requires few { length workers.old ≤ 16 }
+    requires few { length workers.old ≤ most_workers }
     requires met { AreAllMet (graph_of workers.old) (teams_of workers.old) }
     requires made_for { live.now ≡ live_of workers.old }
     requires links { AreLinks live.now.graph (length workers.old) links.now }

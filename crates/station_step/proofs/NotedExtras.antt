@@ -78,6 +78,10 @@ pub record NotedUpTo (k : ℕ) (worked : List Bool) (takes : ℕ) (before after 
   pub inputs : inputs_of after ≡ inputs_of before
   pub extras : take k (extras_of after) ≡ take k (extras_for worked takes)
 
+-- none yet
+pub noted_none : (worked : List Bool) (takes : ℕ) (inputs : List NotedInput) → NotedUpTo 0 worked takes inputs inputs
+noted_none worked takes inputs = record { count = refl; inputs = refl; extras = refl }
+
 -- one input more
 pub noted_more : (k : ℕ) (worked : List Bool) (takes : ℕ) (before after : List NotedInput) (noted : NotedInput) → k < length after → length worked ≡ length after → noted.input ≡ (get_or after k no_input).input → noted.extra ≡ (if get_or worked k false then takes else 0) → NotedUpTo k worked takes before after → NotedUpTo (k + 1) worked takes before (set after k noted)
 noted_more k worked takes before after noted low each input extra up_to =

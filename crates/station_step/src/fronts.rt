@@ -26,8 +26,7 @@ pub(crate) fn fronts_of(alloc: Global, inputs: &Vec<NotedInput>) -> Result<Vec<F
         front_extras fronts.items ≡ extras_of inputs.now.items) }
 {
     let mut fronts = Vec::with_capacity(alloc, inputs.len())?;
-    for k in 0..inputs.len() {
-        let noted = &inputs[k];
+    for noted in inputs.iter() {
         let Some(queue) = noted.input.inlet.queue() else {
             return Ok(Vec::new(alloc));
         };
@@ -74,8 +73,7 @@ pub(crate) fn latest_front(
         return None;
     }
     let mut latest = 0;
-    for k in 0..fronts.len() {
-        let front = fronts[k];
+    for front in fronts {
         let token = shelf.front(front.queue)?;
         latest = latest.max(token.saturating_add(front.extra));
     }
@@ -97,7 +95,7 @@ pub(crate) fn count_takes(fronts: &[Front], shelf: &mut Shelf)
     ensures logs { shelf.new.logs ≡ shelf.old.logs }
     ensures sources { shelf.new.sources ≡ shelf.old.sources }
 {
-    for k in 0..fronts.len() {
-        shelf.count_take(fronts[k].queue);
+    for front in fronts {
+        shelf.count_take(front.queue);
     }
 }

@@ -64,8 +64,7 @@ pub(crate) fn refill(inputs: &mut Vec<NotedInput>, shelf: &mut Shelf) -> Refille
 {
     let mut first = None;
     let mut latest = 0;
-    for k in 0..inputs.len() {
-        let noted = &mut inputs[k];
+    for (k, noted) in inputs.iter_mut().enumerate() {
         noted.input.refill(shelf);
         if noted.input.hand.is_none() {
             first = first.or(Some(k));

@@ -28,12 +28,11 @@ pub(crate) fn worked_into(alloc: Global, graph: &Graph, t: u32) -> Result<Vec<bo
     requires { t < stations graph.now }
     ensures { IfOk result (λ worked. worked.items ≡ worked_into graph.now t) }
 {
-    let (ins, arcs) = (graph.ins(t), graph.arcs());
-    let mut worked = Vec::with_capacity(alloc, ins.len())?;
-    for k in 0..ins.len() {
-        worked.push(arcs[ins[k] as usize].worked)?;
-    }
-    Ok(worked)
+    graph
+        .ins(t)
+        .iter()
+        .map(|a| graph.arc(*a).worked)
+        .collect(alloc)
 }
 
 /// Notes beside each input what a job that takes so long adds to its token.
@@ -42,9 +41,8 @@ pub(crate) fn note_time(inputs: &mut Vec<NotedInput>, worked: &[bool], time: u64
     ensures inputs { inputs_of inputs.new.items ≡ inputs_of inputs.old.items }
     ensures extras { extras_of inputs.new.items ≡ extras_for worked.now time }
 {
-    for k in 0..inputs.len() {
-        let extra = if worked[k] { time } else { 0 };
-        inputs[k].extra = extra;
+    for (k, noted) in inputs.iter_mut().enumerate() {
+        noted.extra = if worked[k] { time } else { 0 };
     }
 }
 

@@ -34,8 +34,8 @@ pub(crate) fn look_all(bounded: bool, outlets: &mut Vec<NotedOutlet>) -> Option<
         return None;
     }
     let mut first = None;
-    for k in 0..outlets.len() {
-        if !outlets[k].outlet.look() {
+    for (k, noted) in outlets.iter_mut().enumerate() {
+        if !noted.outlet.look() {
             first = first.or(Some(k));
         }
     }
@@ -62,8 +62,7 @@ fn put_rings(rings: bool, outlets: &mut Vec<NotedOutlet>, date: Date)
     if !rings {
         return;
     }
-    for k in 0..outlets.len() {
-        let noted = &mut outlets[k];
+    for noted in outlets.iter_mut() {
         let later = date.saturating_add(noted.delay);
         noted.outlet.put(later);
     }

@@ -1,4 +1,5 @@
 ghost use Rattle.std.specs.Prelude.{◌≡◌, ◌≤◌, IfOk};
+ghost use Rattle.line_base.specs.Limits.{most_workers};
 
 use crate::tests::same::same;
 use crate::tests::samples::live_stages;
@@ -14,7 +15,7 @@ use std::thread::Threads;
 /// A line of this many workers at the start.
 pub fn new_line(alloc: Global, live: &Live, workers: u32) -> Result<Line, Fail>
     requires some { 1 ≤ workers }
-    requires few { workers ≤ 16 }
+    requires few { workers ≤ most_workers }
     ensures { IfOk result (λ line. line.live ≡ live.now) }
 {
     Ok(Line::prepare(alloc, live, workers)?)
@@ -28,7 +29,7 @@ fn worked_line<R: Threads + Sync>(
     workers: u32,
 ) -> Result<Line, Fail>
     requires some { 1 ≤ workers }
-    requires few { workers ≤ 16 }
+    requires few { workers ≤ most_workers }
     ensures { IfOk result (λ line. line.live ≡ live.now) }
 {
     let mut line = new_line(alloc, live, workers)?;

@@ -1,36 +1,24 @@
-use Rattle.std.proofs.Common.{◌≡◌, ◌<◌, ◌≤◌, length, refl, ap, ◌∙◌, sum_by, arith}
-use Rattle.std.proofs.lemmas.List.{get_or_read, take_all}
-use Rattle.std.proofs.lemmas.List.Sums.{sum_by_more}
-use Rattle.line_worker.specs.Team.{member, no_station}
+use Rattle.std.proofs.Common.{◌*◌, ◌^◌, ◌≤◌, sum_by, rules, arith}
+use Rattle.std.proofs.lemmas.Iterator.{YieldsList-from_slice, YieldsList-from_map}
+use Rattle.std.proofs.lemmas.Iterator.Consumers.{sum_by_from_yields_List, fits_by_from_yields_list}
+use Rattle.line_base.specs.declared.limits.TheConstants.{MAX_STATIONS}
+use Rattle.line_worker.specs.Team.{no_station}
 use Rattle.line_worker.specs.Work.{turns_of}
+use Rattle.line_worker.proofs.StationCounts.{sum-few}
 use Rattle.line_worker.proofs.counts.turns_made.Goals as goal
-use Rattle.line_worker.proofs.counts.turns_made.Goals.{After-turns-turns}
+use Rattle.line_worker.proofs.counts.turns_made.Goals.{After-map}
 
-pub loop-i-init : goal.loop-i-init
-loop-i-init c = record { made = refl; few = omega arith }
+few : (c : After-map) → sum_by turns_of c.args.stations.now.items ≤ MAX_STATIONS * 2 ^ 40
+few c = sum-few turns_of (2 ^ 40) c.args.stations.now.items no_station c.requires.count (λ i low. omega (arith, c.requires.few i low))
 
--- the station whose turn it is
-there : (c : After-turns-turns) → c.loop-i.i < length c.args.stations.now.items
-there c = omega (arith, c.loop-i-test.true, c.len-i-end.ensures, c.args.stations.now.ok.0)
-
-counted : (c : After-turns-turns) → c.turns-turns.result ≡ turns_of (member c.args.stations.now.items c.loop-i.i)
-counted c =
-    c.turns-turns.ensures.turns
-    ∙ ap turns_of (get_or_read c.args.stations.now.items c.loop-i.i c.index.result.now (there c) c.index.ensures no_station)
-
-pub loop-i-preserved : goal.loop-i-preserved
-loop-i-preserved c = record {
-  made = omega (arith, c.loop-i.invariant.made, counted c, sum_by_more turns_of c.args.stations.now.items c.loop-i.i no_station (there c));
-  few = omega (arith, c.loop-i.invariant.few, counted c, c.requires.few c.loop-i.i (there c));
-}
-
-pub overflow_add-turns : goal.overflow_add-turns
-overflow_add-turns c =
-    omega (arith, c.loop-i.invariant.few, counted c, c.requires.few c.loop-i.i (there c), c.requires.count, there c)
+pub sum-requires-clause-fits : goal.sum-requires-clause-fits
+sum-requires-clause-fits c =
+    let stations = c.args.stations.now.items in
+    fits_by_from_yields_list turns_of stations _ _ (YieldsList-from_map _ turns_of (YieldsList-from_slice stations cc) c.map.ensures.closure (λ x r q k. search rules)) (omega (arith, few c))
 
 pub returns : goal.returns
 returns c =
-    let all : length c.args.stations.now.items ≤ c.loop-i.i = omega (arith, c.loop-i-test.false, c.len-i-end.ensures, c.args.stations.now.ok.0) in record {
-      turns = c.loop-i.invariant.made ∙ ap (sum_by turns_of) (take_all c.loop-i.i c.args.stations.now.items all);
-      few = omega (arith, c.loop-i.invariant.few, c.loop-i.auto.i-end, c.len-i-end.ensures, c.args.stations.now.ok.0, c.requires.count);
-    }
+    let stations = c.args.stations.now.items in
+    let turns =
+    sum_by_from_yields_List turns_of stations _ c.sum.result c.sum.ensures.ran (YieldsList-from_map _ turns_of (YieldsList-from_slice stations cc) c.map.ensures.closure (λ x r q k. search rules)) in
+    record { turns = turns; few = omega (arith, turns, few (goal.at.returns c).After-map) }

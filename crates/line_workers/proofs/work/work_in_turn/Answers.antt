@@ -1,7 +1,8 @@
 use Rattle.std.proofs.Common.{◌≡◌, ◌<◌, length, sym, subst, arith}
 use Rattle.std.proofs.lemmas.List.{get_or_default}
 use Rattle.line_worker.specs.Workers.{no_worker, worker_at, IsAtWork, MayGoOn}
-use Rattle.line_worker.proofs.BurstSweeps.{at_work_begins, may_go_on, at_work_in_full}
+use Rattle.line_worker.proofs.BurstSweeps.{at_work_begins, at_work_more, may_go_on, at_work_in_full}
+use Rattle.line_worker.specs.Sweeps.{most_sweeps}
 use Rattle.line_workers.proofs.work.work_in_turn.Goals as goal
 
 pub loop-sweep-init : goal.loop-sweep-init
@@ -17,11 +18,11 @@ go_on_all-requires-after_bounds g c κs h k d low =
 
 pub loop-sweep-preserved : goal.loop-sweep-preserved
 loop-sweep-preserved g c w low =
-    c.go_on_all.ensures w (omega (arith, low, c.loop-sweep.auto.workers)) (worker_at c.args.workers.now w) c.loop-sweep._sweep (omega (arith, c.loop-sweep-test.true)) (c.loop-sweep.invariant w low)
+    at_work_more (worker_at c.args.workers.now w) (worker_at c.loop-sweep.workers w) (worker_at c.go_on_all.new.workers w) c.loop-sweep._sweep (omega (arith, c.loop-sweep-test.true)) (c.go_on_all.ensures w (omega (arith, low, c.loop-sweep.auto.workers))) (c.loop-sweep.invariant w low)
 
 pub returns : goal.returns
 returns g c w low =
     let old = worker_at c.args.workers.now w in
     let new = worker_at c.loop-sweep.workers w in
-    let full : c.loop-sweep._sweep ≡ 16 = omega (arith, c.loop-sweep-test.false, c.loop-sweep.auto._sweep-end) in
+    let full : c.loop-sweep._sweep ≡ most_sweeps = omega (arith, c.loop-sweep-test.false, c.loop-sweep.auto._sweep-end) in
     at_work_in_full old new (subst (IsAtWork old new) full (c.loop-sweep.invariant w low))

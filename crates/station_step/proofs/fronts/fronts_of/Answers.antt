@@ -1,9 +1,8 @@
-use Rattle.std.proofs.Common.{◌≡◌, ◌≢◌, ◌<◌, ◌+◌, ap, subst, sym, ◌∙◌, arith, length, get_or}
+use Rattle.std.proofs.Common.{◌≡◌, ◌≢◌, ◌<◌, ◌+◌, List, ap, subst, sym, ◌∙◌, arith, length, get_or}
 use Rattle.std.proofs.lemmas.List.{length-map, take_all}
 use Rattle.std.proofs.lemmas.Result.{IfOk-from_err}
 use Rattle.station_step.specs.declared.input.Input.{Input}
 use Rattle.station_step.specs.declared.noted.NotedInput.{NotedInput}
-use Rattle.station_step.specs.declared.fronts.Front.{Front}
 use Rattle.station_step.specs.Ends.{inlet_queue}
 use Rattle.station_step.specs.Fronts.{front_extras, AreFronts}
 use Rattle.station_step.specs.Noted.{inputs_of, extras_of}
@@ -11,21 +10,22 @@ use Rattle.station_step.proofs.AtOnce.{FrontsUpTo, fronts_none, fronts_more}
 use Rattle.station_step.proofs.NotedExtras.{no_input, input-lent, input-at, extra-at, inputs-count}
 use Rattle.station_step.proofs.fronts.fronts_of.Goals as goal
 
-pub loop-k-preserved : goal.loop-k-preserved
-loop-k-preserved c =
+pub loop-noted-preserved : goal.loop-noted-preserved
+loop-noted-preserved c =
     let items = c.args.inputs.now.items in
-    let k = c.loop-k.k in
-    let low : k < length items = omega (arith, c.len-k-end.ensures, c.loop-k-test.true, c.args.inputs.now.ok.0) in
-    let lent : c.index-noted.result.now ≡ get_or items k no_input = input-lent items k c.index-noted.result.now low c.index-noted.ensures in
-    let next : Front = record { queue = c.in-Some.queue; extra = c.index-noted.result.now.extra } in
+    let all = c.deref-noted-items.ensures.value in
+    let k = c.loop-noted.noted-index in
+    let noted = c.noted-item.result in
+    let low : k < length items = omega (arith, ap length all, c.loop-noted-test.true) in
+    let lent : noted ≡ get_or items k no_input = input-lent items k noted low (c.noted-item.is ∙ ap (λ (l : List NotedInput). get_or l k noted) all) in
     subst (FrontsUpTo (k + 1) items) (sym c.in_ok-push.ensures.items)
-    (fronts_more k items c.loop-k.fronts.items c.in-Some.queue c.index-noted.result.now.extra low
+    (fronts_more k items c.loop-noted.fronts.items c.in-Some.queue noted.extra low
     (ap (λ (i : Input). inlet_queue i.inlet) (input-at items k)
     ∙ ap (λ (n : NotedInput). inlet_queue n.input.inlet) (sym lent)
     ∙ sym c.queue.ensures
     ∙ c.in-Some.is)
     (ap (λ (n : NotedInput). n.extra) lent ∙ sym (extra-at items k))
-    c.loop-k.invariant)
+    c.loop-noted.invariant)
 
 pub returns-in_err-fronts-clause-fronts : goal.returns-in_err-fronts-clause-fronts
 returns-in_err-fronts-clause-fronts c =
@@ -47,16 +47,13 @@ returns-in_err-push-clause-extras c =
     let items = c.args.inputs.now.items in
     IfOk-from_err c.from_residual-in_err-push.result (λ fronts. length fronts.items ≡ length (inputs_of items) → front_extras fronts.items ≡ extras_of items) c.from_residual-in_err-push.ensures.0
 
-pub loop-k-init : goal.loop-k-init
-loop-k-init c = subst (FrontsUpTo 0 c.args.inputs.now.items) (sym c.in_ok-fronts.ensures.items) (fronts_none c.args.inputs.now.items)
-
-pub index-noted-requires : goal.index-noted-requires
-index-noted-requires c = omega (arith, c.len-k-end.ensures, c.loop-k-test.true)
+pub loop-noted-init : goal.loop-noted-init
+loop-noted-init c = subst (FrontsUpTo 0 c.args.inputs.now.items) (sym c.in_ok-fronts.ensures.items) (fronts_none c.args.inputs.now.items)
 
 -- one input is over a ring, and there are no fronts
 some_input : (c : goal.After-drop-fronts) → length c.new.result.items ≢ length (inputs_of c.args.inputs.now.items)
 some_input c count =
-    omega (arith, count, ap length c.new.ensures.items, inputs-count c.args.inputs.now.items, c.len-k-end.ensures, c.loop-k-test.true, c.args.inputs.now.ok.0)
+    omega (arith, count, ap length c.new.ensures.items, inputs-count c.args.inputs.now.items, ap length c.deref-noted-items.ensures.value, c.loop-noted-test.true)
 
 pub returns-in_default-clause-fronts : goal.returns-in_default-clause-fronts
 returns-in_default-clause-fronts c count = absurd (some_input c count)
@@ -67,12 +64,12 @@ returns-in_default-clause-extras c count = absurd (some_input c count)
 pub returns-clause-fronts : goal.returns-clause-fronts
 returns-clause-fronts c count = record {
   count = count;
-  queues = λ k low. c.loop-k.invariant.queues k (omega (arith, low, count, c.loop-k.invariant.count));
+  queues = λ k low. c.loop-noted.invariant.queues k (omega (arith, low, count, c.loop-noted.invariant.count));
 }
 
 pub returns-clause-extras : goal.returns-clause-extras
 returns-clause-extras c count =
     let items = c.args.inputs.now.items in
     let many : length (extras_of items) ≡ length items = length-map items (λ (n : NotedInput). n.extra) in
-    c.loop-k.invariant.extras
-    ∙ take_all c.loop-k.k (extras_of items) (omega (arith, many, count, inputs-count items, c.loop-k.invariant.count))
+    c.loop-noted.invariant.extras
+    ∙ take_all c.loop-noted.noted-index (extras_of items) (omega (arith, many, count, inputs-count items, c.loop-noted.invariant.count))

@@ -1,6 +1,6 @@
-use Rattle.std.proofs.Common.{◌≡◌, ◌<◌, ◌+◌, ◌++◌, ℕ, List, take, drop, map, ap, subst, sym, ◌∙◌, arith, length, get_or, refl}
+use Rattle.std.proofs.Common.{◌≡◌, ◌<◌, ◌+◌, ◌++◌, List, take, drop, map, ap, subst, sym, ◌∙◌, arith, length, get_or, refl}
 use Rattle.std.specs.Prelude.{None}
-use Rattle.std.proofs.lemmas.List.{get_or_default, take-append-le, take_all}
+use Rattle.std.proofs.lemmas.List.{get_or_default}
 use Rattle.station_step.specs.declared.input.Input.{Input}
 use Rattle.station_step.specs.declared.noted.NotedInput.{NotedInput}
 use Rattle.station_step.specs.Input.{input_at}
@@ -8,6 +8,7 @@ use Rattle.station_step.specs.Noted.{inputs_of, extras_of}
 use Rattle.station_step.specs.Station.{bare_input}
 use Rattle.station_step.proofs.EmptiedHands.{EmptiedUpTo, emptied_none, emptied_more}
 use Rattle.station_step.proofs.NotedExtras.{no_input, input-at, inputs-count, inputs-set, extras-stay}
+use Rattle.station_step.proofs.Turns.{given_back}
 use Rattle.station_step.proofs.inputs.empty_hands.Goals as goal
 
 pub loop-noted-init : goal.loop-noted-init
@@ -34,14 +35,11 @@ loop-noted-preserved c =
 
 -- ---- what is so when the loop has ended
 
--- what the list is when the loop gives it back
-whole : (items rest : List NotedInput) (count : ℕ) → count ≡ length items → take count (items ++ rest) ≡ items
-whole items rest count all = take-append-le count items rest (omega (arith, all)) ∙ take_all count items (omega (arith, all))
-
-given_back : (c : goal.After-inputs-1) → take c.args.inputs.now.len (c.loop-noted.noted-items ++ drop (length c.loop-noted.noted-items) c.args.inputs.now.items) ≡ c.loop-noted.noted-items
-given_back c =
+-- the inputs as the loop leaves them
+left-is : (c : goal.After-inputs-1) → take c.args.inputs.now.len (c.loop-noted.noted-items ++ drop (length c.loop-noted.noted-items) c.args.inputs.now.items) ≡ c.loop-noted.noted-items
+left-is c =
     let items = c.loop-noted.noted-items in
-    whole items (drop (length items) c.args.inputs.now.items) c.args.inputs.now.len
+    given_back c.args.inputs.now.len items _
     (omega (arith, c.loop-noted.auto.noted-items, ap length c.deref_mut-noted-items.ensures.value, c.args.inputs.now.ok.0))
 
 -- its hands are empty, and all else is as it was
@@ -50,21 +48,21 @@ emptied c =
     subst (λ (l : List NotedInput). EmptiedUpTo c.loop-noted.noted-index (inputs_of l) (inputs_of c.loop-noted.noted-items)) c.deref_mut-noted-items.ensures.value c.loop-noted.invariant.emptied
 
 pub returns-clause-count : goal.returns-clause-count
-returns-clause-count c = ap (λ (l : List NotedInput). length (inputs_of l)) (given_back c) ∙ (emptied c).count
+returns-clause-count c = ap (λ (l : List NotedInput). length (inputs_of l)) (left-is c) ∙ (emptied c).count
 
 pub returns-clause-extras : goal.returns-clause-extras
 returns-clause-extras c =
-    ap extras_of (given_back c) ∙ c.loop-noted.invariant.extras ∙ ap extras_of c.deref_mut-noted-items.ensures.value
+    ap extras_of (left-is c) ∙ c.loop-noted.invariant.extras ∙ ap extras_of c.deref_mut-noted-items.ensures.value
 
 pub returns-clause-inlets : goal.returns-clause-inlets
 returns-clause-inlets c k =
-    ap (λ (l : List NotedInput). (input_at (inputs_of l) k).inlet) (given_back c) ∙ (emptied c).inlets k
+    ap (λ (l : List NotedInput). (input_at (inputs_of l) k).inlet) (left-is c) ∙ (emptied c).inlets k
 
 pub returns-clause-same : goal.returns-clause-same
-returns-clause-same c = ap (λ (l : List NotedInput). map bare_input (inputs_of l)) (given_back c) ∙ (emptied c).same
+returns-clause-same c = ap (λ (l : List NotedInput). map bare_input (inputs_of l)) (left-is c) ∙ (emptied c).same
 
 pub returns-clause-hands : goal.returns-clause-hands
 returns-clause-hands c k low =
     let all = c.deref_mut-noted-items.ensures.value in
-    ap (λ (l : List NotedInput). (input_at (inputs_of l) k).hand) (given_back c)
+    ap (λ (l : List NotedInput). (input_at (inputs_of l) k).hand) (left-is c)
     ∙ (emptied c).hands k (omega (arith, low, inputs-count c.args.inputs.now.items, ap length all, c.loop-noted-test.false, c.loop-noted.auto.noted-index-end))

@@ -1,57 +1,58 @@
 use Rattle.std.proofs.Common.{◌≡◌, ◌≢◌, ◌<◌, ◌+◌, ℕ, subst, sym, ap, ◌∙◌, arith, List, length, set, get_or, refl}
 use Rattle.std.specs.Prelude.{Option, None, Some, IsSome, IfSome, unwrap_or, slice_index}
 use Rattle.std.specs.List.{range_with_len}
+use Rattle.std.proofs.lemmas.List.{get_or_default}
 use Rattle.event_graph.specs.GreatestValue.{greatest}
 use Rattle.station_step.specs.declared.input.Input.{Input}
 use Rattle.station_step.specs.declared.noted.NotedInput.{NotedInput}
 use Rattle.station_step.specs.Shelf.{queue_at}
 use Rattle.station_step.specs.Ends.{inlet_queue}
-use Rattle.station_step.specs.Input.{input_at, IsRefilled, NoneTakes}
+use Rattle.station_step.specs.Input.{input_at, IsRefilled}
 use Rattle.station_step.specs.Kept.{saturating}
 use Rattle.station_step.specs.Noted.{inputs_of, extras_of}
 use Rattle.station_step.specs.Refilled.{hand_asks}
 use Rattle.station_step.proofs.Dates.{latest-none, latest-more}
-use Rattle.station_step.proofs.NotedExtras.{no_input, input-lent, input-at, extra-at, inputs-count, inputs-set, extras-stay}
+use Rattle.station_step.proofs.NotedExtras.{no_input, input-at, extra-at, inputs-count, inputs-set, extras-stay}
 use Rattle.station_step.proofs.RefilledHands.{RefilledUpTo, IsFirstEmpty, refilled_none, refilled_more, first-none, first-empty, first-full, full-where_none, empty-where_some}
+use Rattle.station_step.proofs.Turns.{walked, walked-is}
 use Rattle.station_step.proofs.inputs.refill.Goals.{then-is_none, else-is_none, After-loop-k}
 use Rattle.station_step.proofs.inputs.refill.Goals as goal
 
 pub loop-k-init : goal.loop-k-init
 loop-k-init c =
-    let inputs = inputs_of c.args.inputs.now.items in record {
-      extras = refl;
+    let all = c.deref_mut-noted-items.ensures.value in
+    let before = inputs_of c.args.inputs.now.items in
+    let shelf = c.args.shelf.now.queues in
+    let items = c.deref_mut-noted-items.result.now in
+    record {
+      extras = ap extras_of all;
       logs = refl;
       sources = refl;
-      refilled = refilled_none c.args.shelf.now.queues inputs;
-      found = first-none inputs;
-      date = latest-none (hand_asks (extras_of c.args.inputs.now.items) inputs);
+      refilled = subst (λ (l : List NotedInput). RefilledUpTo 0 shelf shelf before (inputs_of l)) (sym all) (refilled_none shelf before);
+      found = first-none (inputs_of items);
+      date = latest-none (hand_asks (extras_of items) (inputs_of items));
     }
-
-pub index_mut-noted-requires : goal.index_mut-noted-requires
-index_mut-noted-requires c =
-    omega (arith, c.len-k-end.ensures, c.loop-k-test.true, c.loop-k.invariant.refilled.count, inputs-count c.loop-k.inputs.items, inputs-count c.args.inputs.now.items, c.loop-k.inputs.ok.0, c.args.inputs.now.ok.0)
-
-pub saturating_add-requires : goal.saturating_add-requires
-saturating_add-requires c = tt
 
 pub refill-requires : goal.refill-requires
 refill-requires c =
-    let items = c.loop-k.inputs.items in
+    let items = c.loop-k.noted-items in
     let before = inputs_of c.args.inputs.now.items in
     let k = c.loop-k.k in
-    let was = c.loop-k.invariant in
-    let all = inputs-count items in
-    let low : k < length before = omega (arith, c.len-k-end.ensures, c.loop-k-test.true, inputs-count c.args.inputs.now.items, c.args.inputs.now.ok.0) in
-    let at : c.index_mut-noted.result.now.input ≡ input_at (inputs_of items) k =
-    ap (λ (n : NotedInput). n.input) (input-lent items k c.index_mut-noted.result.now (omega (arith, low, all, was.refilled.count)) c.index_mut-noted.ensures.value)
-    ∙ sym (input-at items k) in
-    subst (λ (i : Input). IfSome (inlet_queue i.inlet) (λ q. q < length c.loop-k.shelf.queues)) (sym (at ∙ was.refilled.rest k (omega arith)))
-    (subst (λ (n : ℕ). IfSome (inlet_queue (input_at before k).inlet) (λ q. q < n)) (sym was.refilled.only_takes.count) (c.requires.within k low))
+    let was = c.loop-k.invariant.refilled in
+    let low : k < length before = omega (arith, c.loop-k-test.true, ap length c.deref_mut-noted-items.ensures.value, inputs-count c.args.inputs.now.items) in
+    let lent : NotedInput = get_or items k c.noted-item.result in
+    let is_lent : lent ≡ get_or items k no_input = get_or_default items k _ _ (omega (arith, c.loop-k-test.true, c.loop-k.auto.noted-items)) in
+    let at : lent.input ≡ input_at before k =
+    ap (λ (n : NotedInput). n.input) is_lent
+    ∙ sym (input-at items k)
+    ∙ was.rest k (omega arith) in
+    subst (λ (i : Input). IfSome (inlet_queue i.inlet) (λ q. q < length c.loop-k.shelf.queues)) (sym at)
+    (subst (λ (n : ℕ). IfSome (inlet_queue (input_at before k).inlet) (λ q. q < n)) (sym was.only_takes.count) (c.requires.within k low))
 
 pub loop-k-preserved : goal.loop-k-preserved
 loop-k-preserved c =
-    let items = c.loop-k.inputs.items in
     let before = inputs_of c.args.inputs.now.items in
+    let items = c.loop-k.noted-items in
     let inputs = inputs_of items in
     let extras = extras_of items in
     let k = c.loop-k.k in
@@ -59,17 +60,18 @@ loop-k-preserved c =
     let mid = c.loop-k.shelf.queues in
     let new = c.refill.new.shelf.queues in
     let input : Input = c.refill.new.self in
-    let lent_now = c.index_mut-noted.result.now in
-    let noted : NotedInput = record { input = input; extra = lent_now.extra } in
-    let low : k < length inputs = omega (arith, c.len-k-end.ensures, c.loop-k-test.true, was.refilled.count, inputs-count c.args.inputs.now.items, c.args.inputs.now.ok.0) in
-    let is_lent : lent_now ≡ get_or items k no_input = input-lent items k lent_now (omega (arith, low, inputs-count items)) c.index_mut-noted.ensures.value in
-    let at : lent_now.input ≡ input_at inputs k = ap (λ (n : NotedInput). n.input) is_lent ∙ sym (input-at items k) in
-    let extra : lent_now.extra ≡ (get_or items k no_input).extra = ap (λ (n : NotedInput). n.extra) is_lent in
+    let lent : NotedInput = get_or items k c.noted-item.result in
+    let noted : NotedInput = record { input = input; extra = lent.extra } in
+    let there : k < length items = omega (arith, c.loop-k-test.true, c.loop-k.auto.noted-items) in
+    let low : k < length inputs = omega (arith, there, inputs-count items) in
+    let is_lent : lent ≡ get_or items k no_input = get_or_default items k _ _ there in
+    let at : lent.input ≡ input_at inputs k = ap (λ (n : NotedInput). n.input) is_lent ∙ sym (input-at items k) in
+    let extra : lent.extra ≡ (get_or items k no_input).extra = ap (λ (n : NotedInput). n.extra) is_lent in
     let stay : extras_of (set items k noted) ≡ extras = extras-stay items k noted extra in
     let changed : set inputs k input ≡ inputs_of (set items k noted) = sym (inputs-set items k noted) in
     let asks : c.saturating_add.result ≡ saturating (unwrap_or input.hand 0) (slice_index extras k) =
     c.saturating_add.ensures
-    ∙ ap (λ n. saturating n lent_now.extra) c.unwrap_or.ensures
+    ∙ ap (λ n. saturating n lent.extra) c.unwrap_or.ensures
     ∙ ap (saturating (unwrap_or input.hand 0)) (extra ∙ sym (extra-at items k)) in
     record {
       extras = stay ∙ was.extras;
@@ -98,38 +100,48 @@ loop-k-preserved c =
           ∙ ap (λ (l : List Input). greatest (hand_asks (extras_of (set items k noted)) l) (range_with_len 0 (k + 1))) changed;
     }
 
--- ---- what is so when the loop has ended
+-- ---- what is so when the loop has ended, of the inputs as it leaves them
+
+abbrev left : After-loop-k → List NotedInput
+left c = walked c.args.inputs.now c.loop-k.noted-items
+
+left-is : (c : After-loop-k) → left c ≡ c.loop-k.noted-items
+left-is c = walked-is c.args.inputs.now c.loop-k.noted-items (omega (arith, c.loop-k.invariant.refilled.count, inputs-count c.loop-k.noted-items, inputs-count c.args.inputs.now.items))
 
 all : (c : After-loop-k) → c.loop-k.k ≡ length (inputs_of c.args.inputs.now.items)
 all c =
-    omega (arith, c.loop-k-test.false, c.loop-k.auto.k-end, c.len-k-end.ensures, inputs-count c.args.inputs.now.items, c.args.inputs.now.ok.0)
+    omega (arith, c.loop-k-test.false, c.loop-k.auto.k-end, ap length c.deref_mut-noted-items.ensures.value, inputs-count c.args.inputs.now.items)
 
-each : (c : After-loop-k) (k : ℕ) → k < length (inputs_of c.args.inputs.now.items) → IsRefilled c.args.shelf.now.queues c.loop-k.shelf.queues (input_at (inputs_of c.args.inputs.now.items) k) (input_at (inputs_of c.loop-k.inputs.items) k)
-each c k low = c.loop-k.invariant.refilled.done k (omega (arith, low, all c))
+refilled : (c : After-loop-k) → RefilledUpTo c.loop-k.k c.args.shelf.now.queues c.loop-k.shelf.queues (inputs_of c.args.inputs.now.items) (inputs_of (left c))
+refilled c =
+    subst (λ (l : List NotedInput). RefilledUpTo c.loop-k.k c.args.shelf.now.queues c.loop-k.shelf.queues (inputs_of c.args.inputs.now.items) (inputs_of l)) (sym (left-is c)) c.loop-k.invariant.refilled
 
-others : (c : After-loop-k) (q : ℕ) → NoneTakes q (inputs_of c.args.inputs.now.items) → queue_at c.loop-k.shelf.queues q ≡ queue_at c.args.shelf.now.queues q
-others c q none = c.loop-k.invariant.refilled.others q (λ j less. none j (omega (arith, less, all c)))
-
-found : (c : After-loop-k) (answer : Option ℕ) → c.loop-k.first ≡ answer → IsFirstEmpty c.loop-k.k answer (inputs_of c.loop-k.inputs.items)
-found c answer is = subst (λ (first : Option ℕ). IsFirstEmpty c.loop-k.k first (inputs_of c.loop-k.inputs.items)) is c.loop-k.invariant.found
-
-pub returns-clause-count : goal.returns-clause-count
-returns-clause-count c = c.loop-k.invariant.refilled.count
-
-pub returns-clause-extras : goal.returns-clause-extras
-returns-clause-extras c = c.loop-k.invariant.extras
-
-pub returns-clause-same : goal.returns-clause-same
-returns-clause-same c = c.loop-k.invariant.refilled.same
-
-pub returns-clause-each : goal.returns-clause-each
-returns-clause-each c = each (goal.at.returns-clause-each c).After-loop-k
+found : (c : After-loop-k) (answer : Option ℕ) → c.loop-k.first ≡ answer → IsFirstEmpty c.loop-k.k answer (inputs_of (left c))
+found c answer is =
+    subst (λ (l : List NotedInput). IsFirstEmpty c.loop-k.k answer (inputs_of l)) (sym (left-is c))
+    (subst (λ (first : Option ℕ). IsFirstEmpty c.loop-k.k first (inputs_of c.loop-k.noted-items)) is c.loop-k.invariant.found)
 
 pub returns-clause-only_takes : goal.returns-clause-only_takes
 returns-clause-only_takes c = c.loop-k.invariant.refilled.only_takes
 
 pub returns-clause-others : goal.returns-clause-others
-returns-clause-others c = others (goal.at.returns-clause-others c).After-loop-k
+returns-clause-others c q none =
+    c.loop-k.invariant.refilled.others q (λ j less. none j (omega (arith, less, all (goal.at.returns-clause-others c).After-loop-k)))
+
+pub returns-clause-count : goal.returns-clause-count
+returns-clause-count c = (refilled (goal.at.returns-clause-count c).After-loop-k).count
+
+pub returns-clause-same : goal.returns-clause-same
+returns-clause-same c = (refilled (goal.at.returns-clause-same c).After-loop-k).same
+
+pub returns-clause-extras : goal.returns-clause-extras
+returns-clause-extras c =
+    ap extras_of (left-is (goal.at.returns-clause-extras c).After-loop-k) ∙ c.loop-k.invariant.extras
+
+pub returns-clause-each : goal.returns-clause-each
+returns-clause-each c k low =
+    let from = (goal.at.returns-clause-each c).After-loop-k in
+    (refilled from).done k (omega (arith, low, all from))
 
 pub returns-clause-logs : goal.returns-clause-logs
 returns-clause-logs c = c.loop-k.invariant.logs
@@ -142,31 +154,38 @@ returns-clause-sources c = c.loop-k.invariant.sources
 pub returns-clause-full : goal.returns-clause-full
 returns-clause-full c =
     let from = (goal.at.returns-clause-full c).After-loop-k in
-    let inputs = inputs_of c.loop-k.inputs.items in
+    let inputs = inputs_of (left from) in
     full-where_none c.of.result c.loop-k.first c.loop-k.latest (λ _. (k : ℕ) → k < length inputs → IsSome (input_at inputs k).hand) c.of.ensures
-    (λ none k low. (found from None none).none k (omega (arith, low, all from, c.loop-k.invariant.refilled.count)))
+    (λ none k low. (found from None none).none k (omega (arith, low, all from, (refilled from).count)))
 
 pub returns-clause-date : goal.returns-clause-date
 returns-clause-date c =
-    let inputs = inputs_of c.loop-k.inputs.items in
-    let asks = hand_asks (extras_of c.loop-k.inputs.items) inputs in
-    full-where_none c.of.result c.loop-k.first c.loop-k.latest (λ date. date ≡ greatest asks (range_with_len 0 (length inputs))) c.of.ensures
-    (λ none. c.loop-k.invariant.date ∙ ap (λ n. greatest asks (range_with_len 0 n)) (all (goal.at.returns-clause-date c).After-loop-k ∙ sym c.loop-k.invariant.refilled.count))
+    let from = (goal.at.returns-clause-date c).After-loop-k in
+    let latest : (n : ℕ) → c.loop-k.k ≡ n → c.loop-k.latest ≡ greatest (hand_asks (extras_of (left from)) (inputs_of (left from))) (range_with_len 0 n) =
+    λ n is.
+    c.loop-k.invariant.date
+    ∙ ap (λ (l : List NotedInput). greatest (hand_asks (extras_of l) (inputs_of l)) (range_with_len 0 c.loop-k.k)) (sym (left-is from))
+    ∙ ap (λ m. greatest (hand_asks (extras_of (left from)) (inputs_of (left from))) (range_with_len 0 m)) is in
+    let many = length (inputs_of (left from)) in
+    full-where_none c.of.result c.loop-k.first c.loop-k.latest (λ date. date ≡ greatest (hand_asks (extras_of (left from)) (inputs_of (left from))) (range_with_len 0 many)) c.of.ensures
+    (λ _. latest many (all from ∙ sym (refilled from).count))
 
 -- ---- a hand stays empty
 
 pub returns-clause-there : goal.returns-clause-there
 returns-clause-there c =
     let from = (goal.at.returns-clause-there c).After-loop-k in
-    empty-where_some c.of.result c.loop-k.first c.loop-k.latest (λ k. k < length (inputs_of c.loop-k.inputs.items)) c.of.ensures
-    (λ k some. omega (arith, (found from (Some k) some).there, all from, c.loop-k.invariant.refilled.count))
+    empty-where_some c.of.result c.loop-k.first c.loop-k.latest (λ k. k < length (inputs_of (left from))) c.of.ensures
+    (λ k some. omega (arith, (found from (Some k) some).there, all from, (refilled from).count))
 
 pub returns-clause-empty : goal.returns-clause-empty
 returns-clause-empty c =
-    empty-where_some c.of.result c.loop-k.first c.loop-k.latest (λ k. (input_at (inputs_of c.loop-k.inputs.items) k).hand ≡ None) c.of.ensures
-    (λ k some. (found (goal.at.returns-clause-empty c).After-loop-k (Some k) some).empty)
+    let from = (goal.at.returns-clause-empty c).After-loop-k in
+    empty-where_some c.of.result c.loop-k.first c.loop-k.latest (λ k. (input_at (inputs_of (left from)) k).hand ≡ None) c.of.ensures
+    (λ k some. (found from (Some k) some).empty)
 
 pub returns-clause-first : goal.returns-clause-first
 returns-clause-first c =
-    empty-where_some c.of.result c.loop-k.first c.loop-k.latest (λ k. (j : ℕ) → j < k → IsSome (input_at (inputs_of c.loop-k.inputs.items) j).hand) c.of.ensures
-    (λ k some. (found (goal.at.returns-clause-first c).After-loop-k (Some k) some).first)
+    let from = (goal.at.returns-clause-first c).After-loop-k in
+    empty-where_some c.of.result c.loop-k.first c.loop-k.latest (λ k. (j : ℕ) → j < k → IsSome (input_at (inputs_of (left from)) j).hand) c.of.ensures
+    (λ k some. (found from (Some k) some).first)

@@ -5,7 +5,7 @@ use Rattle.station_step.proofs.outlets.look_all.Given as goal
 
 abbrev pub invariant-loop-k : goal.invariant-loop-k
 invariant-loop-k l = record {
-  delays : delays_of l.outlets.items ≡ delays_of l.initial.outlets.items;
-  looked : LookedUpTo l.k (outlets_of l.initial.outlets.items) (outlets_of l.outlets.items);
-  found : IsFirstFull l.k l.first (outlets_of l.outlets.items);
+  delays : delays_of l.noted-items ≡ delays_of l.fn.outlets.items;
+  looked : LookedUpTo l.k (outlets_of l.fn.outlets.items) (outlets_of l.noted-items);
+  found : IsFirstFull l.k l.first (outlets_of l.noted-items);
 }
