@@ -11,7 +11,7 @@ status 9 may come without its line. `calls` tries every command with call 1, 2, 
 errors, then short, then as the last thing that the program does, with half of a write done or with none. A failing call
 gives 5, 6 or 12, or nothing changes; a short one changes nothing; and after the last one, `resume --slots` gives the report
 of the undisturbed run or `nothing saved`. In every case no file changes but the one that the command writes, and the
-checkpoint of a stop is as before, or the new one whole. Prints a line a command; each run that comes to anything else is
+checkpoint of a stop is as before, or the new one whole. Prints a line a command; each run that ends in another way is
 a line that begins with WRONG, and the status is then 1."""
 import os
 import sys
@@ -36,7 +36,7 @@ def requests_of_main(words):
 
 
 class Trial:
-    """A command, what it finds, and what it comes to when nothing fails."""
+    """A command, what it finds, and how it ends when nothing fails."""
 
     def __init__(self, command, shim):
         self.command, self.shim = command, shim
@@ -98,7 +98,7 @@ class Trial:
 
 
 def refuse_memory(trial):
-    """Refuses each request for memory in turn. Answers how many runs there were, and how many came to each status."""
+    """Refuses each request for memory in turn. Answers how many runs there were, and how many ended with each status."""
     runs = {}
     for number in range(1, trial.requests + 1):
         for way in "memory", "starve":
@@ -117,14 +117,14 @@ def refuse_memory(trial):
 
 
 def fits_failure(trial, status, out, files):
-    """Whether a run of which a call failed came to what it may."""
+    """Whether a run of which a call failed ended as it may."""
     if trial.is_same(status, out, files) or trial.is_refusal(status, out):
         return True
     return status == 6 and (is_prefix(out, trial.out) or out in (b"disk", b""))
 
 
 def fail_calls(trial):
-    """Lets each call fail, be short, and be the last. Answers how many runs came to each status."""
+    """Lets each call fail, be short, and be the last. Answers how many runs ended with each status."""
     runs = {}
     for number in range(1, len(trial.letters) + 1):
         for way in ERRORS + ["short", "crash", "torn"]:

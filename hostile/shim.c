@@ -122,7 +122,7 @@ static long failed(void) {
     return -1;
 }
 
-/* How many of so many bytes a short call moves. */
+/* How many of this many bytes a short call moves. */
 static size_t half(size_t count) { return count > 1 ? count / 2 : count; }
 
 #define CALL(letter, ...) (noted(letter) == ERROR ? failed() : syscall(__VA_ARGS__))

@@ -4,7 +4,7 @@
 
 Puts a folder, a device, a pipe, a link, a ring of links or a file without permission in the place of the plant, of the
 checkpoint that is written, of the one that is read, of the schedule, and of `pull.slots`; and closes, fills or breaks
-standard output, where slots from a run before are to stay good. Prints a line a case, and ends with 1 where one comes to
+standard output, where slots from a run before are to stay good. Prints a line a case, and ends with 1 where one has
 another answer than is wanted. Where root runs it, the cases without permission are run by the user NOBODY."""
 import os
 import subprocess
@@ -198,9 +198,10 @@ def status_with(made_in, words, output):
     return status
 
 
-def told(title, came, wanted):
-    fits = came == wanted
-    print(f"{'ok   ' if fits else 'WRONG'} {title}: {came if fits else f'{came}, wanted {wanted}'}", flush=True)
+def is_wrong(title, answered, wanted):
+    """Prints the line of a case. Answers whether it was answered otherwise than is wanted."""
+    fits = answered == wanted
+    print(f"{'ok   ' if fits else 'WRONG'} {title}: {answered if fits else f'{answered}, wanted {wanted}'}", flush=True)
     return not fits
 
 
@@ -209,19 +210,19 @@ def main():
     for title, make, words, wanted in CASES:
         made_in = made(make)
         user = NOBODY if os.getuid() == 0 and ("permission" in title or "shut" in title) else None
-        wrong += told(f"{title}: {words[:60]}", answer(made_in, words, user), wanted)
+        wrong += is_wrong(f"{title}: {words[:60]}", answer(made_in, words, user), wanted)
         os.chmod(made_in.path, 0o777)
         made_in.remove()
     for output, words in OUTPUTS:
         made_in = made(nothing)
         answer(made_in, SAVE)
         before = made_in.held(SLOTS)
-        wrong += told(f"output {output}: {words}", status_with(made_in, words, output), 6)
+        wrong += is_wrong(f"output {output}: {words}", status_with(made_in, words, output), 6)
         if words == SAVE:
             same = answer(made_in, FROM_SLOTS) == answer(made_in, "run forty.toml")
         else:
             same = made_in.held(SLOTS) == before
-        wrong += told(f"output {output}: {words}: slots stay good", same, True)
+        wrong += is_wrong(f"output {output}: {words}: slots stay good", same, True)
         made_in.remove()
     print(f"{len(CASES) + 2 * len(OUTPUTS)} cases, {wrong} wrong")
     sys.exit(1 if wrong else 0)

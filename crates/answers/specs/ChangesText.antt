@@ -27,8 +27,8 @@ unfoldable pub change_lines : Page → List (List ℕ)
 change_lines p = flat_map (lines_of_station p) (range_with_len 0 (stations p.live.graph))
 
 -- lines one after the other
-abbrev pub joined : List (List ℕ) → List ℕ
-joined lines = flat_map (λ line. line) lines
+abbrev pub joined_lines : List (List ℕ) → List ℕ
+joined_lines lines = flat_map (λ line. line) lines
 
 -- how many lines there are
 abbrev pub changed_line : ℕ → List ℕ
@@ -36,4 +36,4 @@ changed_line count = codes "changed " ++ (decimal count ++ codes "\n")
 
 -- the lines of all dates that differ, and how many these are
 unfoldable pub changes_text : Page → List ℕ
-changes_text p = joined (change_lines p) ++ changed_line (length (change_lines p))
+changes_text p = joined_lines (change_lines p) ++ changed_line (length (change_lines p))

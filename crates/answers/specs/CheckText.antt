@@ -3,10 +3,10 @@ use Rattle.std.specs.Prelude.{ℕ, List, ◌++◌, codes, decimal}
 use Rattle.std.specs.List.{flat_map}
 use Rattle.line_base.specs.declared.event.Parts.{Parts}
 use Rattle.plant_model.specs.declared.plant.Plant.{Plant}
-use Rattle.plant_model.specs.Line.{stage_at}
+use Rattle.plant_model.specs.Line.{stage_at, loop_at}
 use Rattle.plant_model.specs.Graph.{graph}
 use Rattle.event_graph.specs.Network.{stations, jobs, arc_count}
-use Rattle.circuit_sums.specs.Circuits.{circuits, loop_at}
+use Rattle.circuit_sums.specs.Circuits.{circuits}
 use Rattle.circuit_sums.specs.declared.circuit.CircuitKind.{CircuitKind}
 use Rattle.circuit_sums.specs.declared.circuit.CircuitKind.TheVariants.{Stage, Conwip, CardLoop}
 use Rattle.circuit_sums.specs.declared.circuit.CardCircuit.{CardCircuit}

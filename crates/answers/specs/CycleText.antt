@@ -1,12 +1,13 @@
 -- What `cycle` writes of a certificate: `cycle TIME/CARDS`, `circuit LABEL .. time W cards M`, and `potential LABEL V`
 -- for each station.
-use Rattle.std.specs.Prelude.{◌≡◌, ℕ, ℤ, pos, List, ◌∷◌, ◌++◌, length, slice_index_or, codes, decimal}
+use Rattle.std.specs.Prelude.{◌≡◌, ℕ, ℤ, pos, List, ◌++◌, length, slice_index_or, codes, decimal}
 use Rattle.std.specs.Fmt.{signed_decimal}
 use Rattle.std.specs.List.{flat_map, range_with_len}
 use Rattle.line_base.specs.declared.event.Parts.{Parts}
 use Rattle.event_graph.specs.Network.{stations, label}
 use Rattle.event_graph.specs.Circuit.{starting_stations, tokens_on, time_along}
 use Rattle.line_graph.specs.Turned.{IsTurned}
+use Rattle.command_line.specs.Lines.{after_space}
 use Rattle.cycle_time.specs.declared.certificate.Certificate.{Certificate}
 
 -- the ratio
@@ -15,7 +16,7 @@ ratio_line time cards = codes "cycle " ++ (decimal time ++ (codes "/" ++ (decima
 
 -- the label of station t with a space before it
 abbrev pub spaced_label : Parts → ℕ → List ℕ
-spaced_label g t = 32 ∷ label g t
+spaced_label g t = after_space (label g t)
 
 -- the labels of the stations along a circuit, from the one with the least number on, stand behind what was there
 pub record AreStationsAdded (g : Parts) (arcs before after : List ℕ) : Type 0 where

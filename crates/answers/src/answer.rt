@@ -92,8 +92,8 @@ pub enum Answer {
 }
 
 impl Answer {
-    /// Writes all of it to the sink. After `Failed` a prefix of it was written. It takes no memory but for a curve, whose
-    /// rows are found as they are written, by its workers: after `NoMemory` the rows of some first counts were.
+    /// Writes all of it to the sink. After `Failed` a prefix of it was written. It takes no memory but for a curve,
+    /// whose rows are found as they are written, by its workers: after `NoMemory` the rows of some first counts were.
     pub fn write<R: Threads + Sync, K: Sink>(
         mut self,
         rt: &R,

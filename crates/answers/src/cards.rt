@@ -1,7 +1,8 @@
 //! What `cards` writes.
 ghost use Rattle.std.specs.List.{flat_map};
 ghost use Rattle.std.specs.Prelude.{◌≡◌, ◌++◌, IfOk, OnOk};
-ghost use Rattle.answers.specs.CardsText.{spaced, job_words, dead_words, below_words, cards_text};
+ghost use Rattle.answers.specs.CardsText.{job_words, dead_words, below_words, cards_text};
+ghost use Rattle.command_line.specs.Lines.{after_space};
 
 use crate::words::add_number;
 use card_sizing::{Below, Sizing};
@@ -49,7 +50,7 @@ fn add_dead(text: &mut Vec<u8>, labels: &[Label]) -> Result<(), AllocError>
 
 /// Adds labels, each with a space before it.
 fn add_labels(text: &mut Vec<u8>, labels: &[Label]) -> Result<(), AllocError>
-    ensures { OnOk result (text.new.items ≡ text.old.items ++ flat_map spaced labels.now) }
+    ensures { OnOk result (text.new.items ≡ text.old.items ++ flat_map after_space labels.now) }
 {
     for label in labels {
         text.push(b' ')?;

@@ -58,8 +58,8 @@ impl Changes {
         Ok(Changes { live, sheet, out })
     }
 
-    /// Writes the lines to the sink, from the first on, in pieces of 4,096 bytes and a last one that may be shorter. After
-    /// `Failed` a prefix of them was written. It takes no memory.
+    /// Writes the lines to the sink, from the first on, in pieces of 4,096 bytes and a last one that may be shorter.
+    /// After `Failed` a prefix of them was written. It takes no memory.
     pub fn write<K: Sink>(&mut self, sink: &mut K) -> Result<(), Failed>
         ensures puts { WritesText (K.shown sink.old) (K.shown sink.new) (changes_text self.old) result }
         ensures same { self.new ≡ self.old }

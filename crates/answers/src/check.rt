@@ -1,7 +1,7 @@
 ghost use Rattle.std.specs.List.{flat_map};
 ghost use Rattle.std.specs.Prelude.{◌≡◌, ◌++◌, IfOk, OnOk};
-ghost use Rattle.circuit_sums.specs.Circuits.{loop_at};
 ghost use Rattle.plant_model.specs.Graph.{graph as graph_of};
+ghost use Rattle.plant_model.specs.Line.{loop_at};
 ghost use Rattle.plant_model.specs.Sound.{IsSound};
 ghost use Rattle.answers.specs.CheckText.{name_of, kind_words, circuit_line, live_line, check_text};
 

@@ -9,8 +9,8 @@ use card_sizing::{EachSizing, StageSizing};
 use line_base::Items;
 use std::alloc::{AllocError, Global};
 
-/// What `cards --each` writes of the least counts of cards, stage by stage: each stage with its count and why that can't be one
-/// less, and their sum.
+/// What `cards --each` writes of the least counts of cards, stage by stage: each stage with its count and why that
+/// can't be one less, and their sum.
 pub fn each_cards_text(alloc: Global, each: &EachSizing) -> Result<Items<u8>, AllocError>
     ensures { IfOk result (λ text. text ≡ each_cards_text each.now) }
 {

@@ -55,10 +55,10 @@ pub fn meet(put: &mut Put, take: &mut Take)
 
 /// Each end, and each plain queue, may move to another thread, on its own.
 fn queues_may_move(put: Put, take: Take, plain: Plain) {
-    moved(put);
-    moved(take);
-    moved(plain);
+    take_sent(put);
+    take_sent(take);
+    take_sent(plain);
 }
 
 /// Takes only what may move to another thread.
-fn moved<T: Send + Drop>(_queue: T) {}
+fn take_sent<T: Send + Drop>(_queue: T) {}

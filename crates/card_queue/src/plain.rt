@@ -6,7 +6,8 @@ use std::alloc::{AllocError, Global};
 use std::marker::Model;
 
 /// A queue inside one worker. It keeps every token that it was given, and the number of those taken, so at every moment
-/// the tokens that were taken are the first that were put. Its memory is exactly the room that `new` took, at every moment.
+/// the tokens that were taken are the first that were put. Its memory is exactly the room that `new` took, at every
+/// moment.
 #[derive(Drop)]
 pub struct Plain {
     tokens: Vec<Date>,

@@ -1,5 +1,5 @@
--- A plant with a count of cards for each stage: what the counts leave as it was, that it is sound, and that greater counts give
--- it more cards.
+-- A plant with a count of cards for each stage: what the counts leave as it was, that it is sound, and that greater
+-- counts give it more cards.
 use Rattle.std.proofs.Common.{◌≡◌, ◌≢◌, ℕ, ◌+◌, ◌*◌, ◌<◌, ◌≤◌, ◌⊎◌, true, false, List, length, replicate, ⊎_elim, get_or, map, inl, inr, refl, sym, ap, ◌∙◌, subst, eqb, arith}
 use Rattle.std.specs.List.{sum_by, list_any}
 use Rattle.std.proofs.lemmas.Bool.{cases_lt, eqb-true}
@@ -18,8 +18,8 @@ use Rattle.plant_model.specs.Sound.{IsSound, HasSoundNames, HasSoundSizes, IsSou
 use Rattle.plant_model.proofs.PlainSound.{IsSoundPlant-sound, IsSound-plain}
 use Rattle.line_graph.specs.MoreCards.{stage_without_cards, without_cards, DifferInCards, HasMoreCards}
 use Rattle.line_graph.proofs.CardlessPlants.{deliver-same, path-same, stage-same, machines-same, next-same}
-use Rattle.card_sizing.specs.Sized.{has_single_count, has_count_under, cards_under, policy_with, stage_with, sized}
-use Rattle.card_sizing.specs.Counted.{has_counts_under, has_stage_counts, least_under, stage_counted, counted, AreCounts}
+use Rattle.card_sizing.specs.Sized.{has_single_count, has_count_under, cards_under, policy_with, stage_with, sized_plant}
+use Rattle.card_sizing.specs.Counted.{has_counts_under, has_stage_counts, least_under, stage_counted, with_counts, AreCounts}
 
 -- ---- which plants have counts
 
@@ -47,25 +47,25 @@ loops-under Extended p counts = inr refl
 -- ---- what the counts leave
 
 module _ (p : Plant) (counts : List ℕ) where
-  pub length-counted : length (counted p counts).stages ≡ length p.stages
-  unfolding counted
+  pub length-counted : length (with_counts p counts).stages ≡ length p.stages
+  unfolding with_counts
   length-counted = length-map-range_with_len (stage_counted p counts) 0 (length p.stages)
 
-  pub stage_at-counted : (i : ℕ) → i < length p.stages → stage_at (counted p counts) i ≡ stage_counted p counts i
-  unfolding counted
+  pub stage_at-counted : (i : ℕ) → i < length p.stages → stage_at (with_counts p counts) i ≡ stage_counted p counts i
+  unfolding with_counts
   stage_at-counted i below =
       get_or-map-range_with_len (stage_counted p counts) 0 (length p.stages) i i no_stage below (omega arith)
 
-  pub policy-counted : (counted p counts).policy ≡ p.policy
-  unfolding counted
+  pub policy-counted : (with_counts p counts).policy ≡ p.policy
+  unfolding with_counts
   policy-counted = refl
 
-  pub demands-counted : (counted p counts).demands ≡ p.demands
-  unfolding counted
+  pub demands-counted : (with_counts p counts).demands ≡ p.demands
+  unfolding with_counts
   demands-counted = refl
 
-  pub differ-counted : DifferInCards p (counted p counts)
-  unfolding counted
+  pub differ-counted : DifferInCards p (with_counts p counts)
+  unfolding with_counts
   differ-counted =
       let bare = λ (i : ℕ). stage_without_cards (stage_at p i) in
       let n = length p.stages in
@@ -73,17 +73,17 @@ module _ (p : Plant) (counts : List ℕ) where
       let same = mine ∙ sym (map-map stage_without_cards (stage_counted p counts) (stage_numbers p)) in
       record { alike = λ j. record (without_cards p) { stages = same j } }
 
-  loops-counted : (counted p counts).loops ≡ p.loops
-  unfolding counted
+  loops-counted : (with_counts p counts).loops ≡ p.loops
+  unfolding with_counts
   loops-counted = refl
 
   -- stock, also where no stage is
-  stock-counted : (i : ℕ) → (stage_at (counted p counts) i).stock ≡ (stage_at p i).stock
+  stock-counted : (i : ℕ) → (stage_at (with_counts p counts) i).stock ≡ (stage_at p i).stock
   stock-counted i =
       ⊎_elim
       (λ below. ap (λ (s : Stage). s.stock) (stage_at-counted i below))
       (λ past.
-      let mine = get_or_past (counted p counts).stages i no_stage (omega (arith, length-counted)) in
+      let mine = get_or_past (with_counts p counts).stages i no_stage (omega (arith, length-counted)) in
       let its = get_or_past p.stages i no_stage past in
       ap (λ (s : Stage). s.stock) (mine ∙ sym its))
       (cases_lt i (length p.stages))
@@ -94,33 +94,33 @@ module _ (p : Plant) (counts : List ℕ) where
   stock_under-same BaseStock s t is same = same
   stock_under-same Extended s t is same = same
 
-  start-counted : p.policy ≡ Extended → (i : ℕ) → starting (counted p counts) i ≡ starting p i
+  start-counted : p.policy ≡ Extended → (i : ℕ) → starting (with_counts p counts) i ≡ starting p i
   start-counted is i =
-      ap (λ (policy : Policy). stock_under policy (stage_at (counted p counts) i)) policy-counted
-      ∙ stock_under-same p.policy (stage_at (counted p counts) i) (stage_at p i) is (stock-counted i)
+      ap (λ (policy : Policy). stock_under policy (stage_at (with_counts p counts) i)) policy-counted
+      ∙ stock_under-same p.policy (stage_at (with_counts p counts) i) (stage_at p i) is (stock-counted i)
 
 -- ---- soundness
 
 module _ (p : Plant) (counts : List ℕ) (sound : IsSound p) (has : has_stage_counts p ≡ true) (fit : AreCounts p counts) where
   q : Plant
-  q = counted p counts
+  q = with_counts p counts
 
   facts : IsSoundPlant p
   facts = IsSoundPlant-sound p sound
 
-  differ : DifferInCards p (counted p counts)
+  differ : DifferInCards p (with_counts p counts)
   differ = differ-counted p counts
 
-  inside : (i : ℕ) → i < length (counted p counts).stages → i < length p.stages
+  inside : (i : ℕ) → i < length (with_counts p counts).stages → i < length p.stages
   inside i below = omega (arith, length-counted p counts)
 
-  name-same : (i : ℕ) → (stage_at p i).name ≡ (stage_at (counted p counts) i).name
-  name-same i = ap (λ (s : Stage). s.name) (stage-same p (counted p counts) differ i)
+  name-same : (i : ℕ) → (stage_at p i).name ≡ (stage_at (with_counts p counts) i).name
+  name-same i = ap (λ (s : Stage). s.name) (stage-same p (with_counts p counts) differ i)
 
-  machines : (i : ℕ) → (stage_at p i).machines ≡ (stage_at (counted p counts) i).machines
-  machines = machines-same p (counted p counts) differ
+  machines : (i : ℕ) → (stage_at p i).machines ≡ (stage_at (with_counts p counts) i).machines
+  machines = machines-same p (with_counts p counts) differ
 
-  names : HasSoundNames (counted p counts)
+  names : HasSoundNames (with_counts p counts)
   names = record {
     none_reserved = λ i below.
         subst (λ (name : List ℕ). is_reserved name ≡ false) (name-same i) (facts.names.none_reserved i (inside i below));
@@ -131,11 +131,11 @@ module _ (p : Plant) (counts : List ℕ) (sound : IsSound p) (has : has_stage_co
         (facts.names.machines_differ i j k (inside i below) lt (omega (arith, ap (λ (ms : List Machine). length ms) (machines i))));
   }
 
-  stations : station_count p ≡ station_count (counted p counts)
-  stations = ap (λ (n : ℕ). n + 1) (deliver-same p (counted p counts) differ)
+  stations : station_count p ≡ station_count (with_counts p counts)
+  stations = ap (λ (n : ℕ). n + 1) (deliver-same p (with_counts p counts) differ)
 
-  sizes : HasSoundSizes (counted p counts)
-  unfolding counted
+  sizes : HasSoundSizes (with_counts p counts)
+  unfolding with_counts
   sizes =
       let of = facts.sizes in
       let n = length-counted p counts in
@@ -162,12 +162,12 @@ module _ (p : Plant) (counts : List ℕ) (sound : IsSound p) (has : has_stage_co
   enough-under Extended is i below extended =
       subst (λ (policy : Policy). least_under policy (stage_at p i) ≤ get_or counts i 0) is (fit.enough i below)
 
-  stages : (i : ℕ) → i < length (counted p counts).stages → IsSoundStage (counted p counts) i
+  stages : (i : ℕ) → i < length (with_counts p counts).stages → IsSoundStage (with_counts p counts) i
   stages i below =
       let low = inside i below in
       let of = facts.stages i low in
       let at = stage_at-counted p counts i low in
-      let same = stage-same p (counted p counts) differ i in
+      let same = stage-same p (with_counts p counts) differ i in
       let long = length-counted p counts in
       record {
         few_cards = omega (arith, ap (λ (s : Stage). s.cards) at, fit.within i low);
@@ -176,17 +176,17 @@ module _ (p : Plant) (counts : List ℕ) (sound : IsSound p) (has : has_stage_co
         short_card_time = omega (arith, ap (λ (s : Stage). s.card_time) same, of.short_card_time);
         some_machine = omega (arith, ap (λ (ms : List Machine). length ms) (machines i), of.some_machine);
         feeds_later = λ j is.
-            let later = of.feeds_later j (next-same p (counted p counts) differ i ∙ is) in
+            let later = of.feeds_later j (next-same p (with_counts p counts) differ i ∙ is) in
             (later.0, omega (arith, later.1, long));
         last_is_final = λ none.
-            let last = of.last_is_final (next-same p (counted p counts) differ i ∙ none) in omega (arith, last, long);
+            let last = of.last_is_final (next-same p (with_counts p counts) differ i ∙ none) in omega (arith, last, long);
         stock_has_cards = λ is.
             let stock = enough-under p.policy refl i low (sym (policy-counted p counts) ∙ is) in
             omega (arith, stock, stock-counted p counts i, ap (λ (s : Stage). s.cards) at);
       }
 
-  of_machine : (i j : ℕ) → i < length (counted p counts).stages → j < length (stage_at (counted p counts) i).machines → IsSoundMachine (counted p counts) i j
-  unfolding counted
+  of_machine : (i j : ℕ) → i < length (with_counts p counts).stages → j < length (stage_at (with_counts p counts) i).machines → IsSoundMachine (with_counts p counts) i j
+  unfolding with_counts
   of_machine i j below low =
       let of = facts.machines i j (inside i below) (omega (arith, ap (λ (ms : List Machine). length ms) (machines i))) in
       record {
@@ -194,12 +194,12 @@ module _ (p : Plant) (counts : List ℕ) (sound : IsSound p) (has : has_stage_co
         short_times = subst (λ (ms : List Machine). AreSoundTimes (length p.demands) (get_or ms j no_machine).times) (machines i) of.short_times;
       }
 
-  between : p.policy ≡ Extended → (a b : ℕ) → stock_between p a b ≡ stock_between (counted p counts) a b
+  between : p.policy ≡ Extended → (a b : ℕ) → stock_between p a b ≡ stock_between (with_counts p counts) a b
   between is a b =
-      ap (λ (is : List ℕ). sum_by (starting p) (up_to b is)) (path-same p (counted p counts) differ a)
-      ∙ (λ j. sum_by (λ (i : ℕ). sym (start-counted p counts is i) j) (up_to b (path (counted p counts) a)))
+      ap (λ (is : List ℕ). sum_by (starting p) (up_to b is)) (path-same p (with_counts p counts) differ a)
+      ∙ (λ j. sum_by (λ (i : ℕ). sym (start-counted p counts is i) j) (up_to b (path (with_counts p counts) a)))
 
-  of_loop : (k : ℕ) → k < length p.loops → IsSoundLoop (counted p counts) (loop_at p k)
+  of_loop : (k : ℕ) → k < length p.loops → IsSoundLoop (with_counts p counts) (loop_at p k)
   of_loop k below =
       let of = facts.loops k below in
       let l = loop_at p k in
@@ -208,19 +208,19 @@ module _ (p : Plant) (counts : List ℕ) (sound : IsSound p) (has : has_stage_co
       (λ none. absurd (omega (arith, none)))
       (λ is. record {
         first_exists = omega (arith, of.first_exists, long);
-        goes_downstream = subst (λ (is : List ℕ). list_any (λ i. eqb i l.last) is ≡ true) (path-same p (counted p counts) differ l.first) of.goes_downstream;
+        goes_downstream = subst (λ (is : List ℕ). list_any (λ i. eqb i l.last) is ≡ true) (path-same p (with_counts p counts) differ l.first) of.goes_downstream;
         stock_has_cards = omega (arith, of.stock_has_cards, between is l.first l.last);
         few_cards = of.few_cards;
         short_card_time = of.short_card_time;
       })
       (loops-under p.policy p has)
 
-  of_loops : (k : ℕ) → k < length (counted p counts).loops → IsSoundLoop (counted p counts) (loop_at (counted p counts) k)
-  unfolding counted
+  of_loops : (k : ℕ) → k < length (with_counts p counts).loops → IsSoundLoop (with_counts p counts) (loop_at (with_counts p counts) k)
+  unfolding with_counts
   of_loops k below = of_loop k below
 
-  pub sound_counted : IsSound (counted p counts)
-  sound_counted = IsSound-plain (counted p counts) (record {
+  pub sound_counted : IsSound (with_counts p counts)
+  sound_counted = IsSound-plain (with_counts p counts) (record {
     names = names;
     sizes = sizes;
     stages = stages;
@@ -238,9 +238,9 @@ no_loops-under BaseStock p counts is = cc
 no_loops-under Extended p counts is = cc
 
 -- greater counts give more cards
-pub more-counted : (p : Plant) (few many : List ℕ) → has_stage_counts p ≡ true → ((i : ℕ) → i < length p.stages → get_or few i 0 ≤ get_or many i 0) → HasMoreCards (counted p few) (counted p many)
+pub more-counted : (p : Plant) (few many : List ℕ) → has_stage_counts p ≡ true → ((i : ℕ) → i < length p.stages → get_or few i 0 ≤ get_or many i 0) → HasMoreCards (with_counts p few) (with_counts p many)
 more-counted p few many has more =
-    let inside = λ (i : ℕ). λ (below : i < length (counted p few).stages). let low : i < length p.stages = omega (arith, length-counted p few) in low in
+    let inside = λ (i : ℕ). λ (below : i < length (with_counts p few).stages). let low : i < length p.stages = omega (arith, length-counted p few) in low in
     record {
       differ = record { alike = sym (differ-counted p few).alike ∙ (differ-counted p many).alike };
       stages = λ i below.
@@ -268,8 +268,8 @@ cards-given (Conwip _) p c own counts = cc
 cards-given BaseStock p c own counts = cc
 cards-given Extended p c own counts = refl
 
-pub counted-sized : (p : Plant) (c : ℕ) → has_stage_counts p ≡ true → sized p c ≡ counted p (replicate (length p.stages) c)
-unfolding sized counted
+pub counted-sized : (p : Plant) (c : ℕ) → has_stage_counts p ≡ true → sized_plant p c ≡ with_counts p (replicate (length p.stages) c)
+unfolding sized_plant with_counts
 counted-sized p c has =
     let n = length p.stages in
     let counts = replicate n c in

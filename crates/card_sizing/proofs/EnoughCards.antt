@@ -1,4 +1,5 @@
--- More cards keep a line in time, so a count above one that serves serves; and what the run of a plant's graph says of its line.
+-- More cards keep a line in time, so a count above one that serves serves; and what the run of a plant's graph says of
+-- its line.
 use Rattle.std.proofs.Common.{◌≡◌, ℕ, List, ◌-◌, ◌<◌, ◌≤◌, true, length, sym, ap, ◌∙◌, subst, arith}
 use Rattle.line_base.specs.declared.limits.TheConstants.{MAX_CARDS}
 use Rattle.line_base.specs.declared.event.Parts.{Parts}
@@ -16,7 +17,7 @@ use Rattle.line_graph.proofs.CardlessPlants.{deliver-same, demands-same}
 use Rattle.line_graph.proofs.Sizes.{stations-graph, jobs-graph, demand-graph}
 use Rattle.line_graph.proofs.Inputs.{IsGraph-graph}
 use Rattle.line_graph.proofs.MoreCards.{cards_never_later}
-use Rattle.card_sizing.specs.Sized.{has_single_count, sized, lowest}
+use Rattle.card_sizing.specs.Sized.{has_single_count, sized_plant, lowest}
 use Rattle.card_sizing.specs.Serving.{wait_until, NoneIsLateIn, IsFirstLateIn, IsInTime, IsLate}
 use Rattle.card_sizing.specs.Laws.{MoreCardsServe}
 use Rattle.card_sizing.proofs.SizedStages.{more-sized, most-sized}
@@ -62,12 +63,12 @@ serves_more p sound single may c d serves more few =
     record {
       enough = enough;
       within = few;
-      in_time = in_time_more (sized p c) (sized p d) may (more-sized p c d single more) sound_few sound_many serves.in_time;
+      in_time = in_time_more (sized_plant p c) (sized_plant p d) may (more-sized p c d single more) sound_few sound_many serves.in_time;
     }
 
 -- a live plant is live with the most cards
-pub most_live : (p : Plant) → IsSound p → has_single_count p ≡ true → IsLive (graph p) → IsLive (graph (sized p MAX_CARDS))
-most_live p sound single live = (cards_never_later p (sized p MAX_CARDS) (most-sized p sound single) sound live).live
+pub most_live : (p : Plant) → IsSound p → has_single_count p ≡ true → IsLive (graph p) → IsLive (graph (sized_plant p MAX_CARDS))
+most_live p sound single live = (cards_never_later p (sized_plant p MAX_CARDS) (most-sized p sound single) sound live).live
 
 -- a graph with a circuit without a token isn't live
 pub dead_not_live : (g : Parts) (labels : List (List ℕ)) → AreDead g labels → IsLive g → ⊥

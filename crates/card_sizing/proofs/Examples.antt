@@ -9,8 +9,8 @@ use Rattle.plant_model.specs.declared.plant.CardLoop.{CardLoop}
 use Rattle.plant_model.specs.declared.plant.Plant.{Plant}
 use Rattle.event_graph.specs.GreatestValue.{greatest}
 use Rattle.event_graph.specs.Table.{Table, date_in}
-use Rattle.card_sizing.specs.Sized.{has_single_count, sized, lowest, highest}
-use Rattle.card_sizing.specs.Counted.{has_stage_counts, counted}
+use Rattle.card_sizing.specs.Sized.{has_single_count, sized_plant, lowest, highest}
+use Rattle.card_sizing.specs.Counted.{has_stage_counts, with_counts}
 use Rattle.card_sizing.specs.Serving.{wait_of}
 
 -- a stage with one machine
@@ -39,17 +39,17 @@ abbrev one_loop : List CardLoop
 one_loop = record { first = 0; last = 2; cards = 9; card_time = 0 } ∷ []
 
 -- each stage gets the cards under kanban and extended kanban, and keeps its stock
-kanban_sized : sized (assembly Kanban 1 0 2 0 3 0 []) 5 ≡ assembly Kanban 5 0 5 0 5 0 []
-unfolding sized
+kanban_sized : sized_plant (assembly Kanban 1 0 2 0 3 0 []) 5 ≡ assembly Kanban 5 0 5 0 5 0 []
+unfolding sized_plant
 kanban_sized = refl
 
-extended_sized : sized (assembly Extended 1 1 4 2 3 0 one_loop) 5 ≡ assembly Extended 5 1 5 2 5 0 one_loop
-unfolding sized
+extended_sized : sized_plant (assembly Extended 1 1 4 2 3 0 one_loop) 5 ≡ assembly Extended 5 1 5 2 5 0 one_loop
+unfolding sized_plant
 extended_sized = refl
 
 -- the line gets the cards under CONWIP
-conwip_sized : sized (assembly (Conwip 6) 1 1 4 2 3 0 []) 5 ≡ assembly (Conwip 5) 1 1 4 2 3 0 []
-unfolding sized
+conwip_sized : sized_plant (assembly (Conwip 6) 1 1 4 2 3 0 []) 5 ≡ assembly (Conwip 5) 1 1 4 2 3 0 []
+unfolding sized_plant
 conwip_sized = refl
 
 -- the lowest counts: none, the most stock of a stage, the most stock on the path of `left` or `right`
@@ -75,8 +75,8 @@ unfolding highest
 kanban_highest = refl
 
 -- each stage gets its own count
-each_counted : counted (assembly Extended 1 1 4 2 3 0 one_loop) (4 ∷ 5 ∷ 6 ∷ []) ≡ assembly Extended 4 1 5 2 6 0 one_loop
-unfolding counted
+each_counted : with_counts (assembly Extended 1 1 4 2 3 0 one_loop) (4 ∷ 5 ∷ 6 ∷ []) ≡ assembly Extended 4 1 5 2 6 0 one_loop
+unfolding with_counts
 each_counted = refl
 
 -- which plants have a single count

@@ -11,7 +11,7 @@ use Rattle.plant_model.specs.Sound.{IsSound}
 use Rattle.event_graph.specs.Live.{IsLive}
 use Rattle.line_graph.proofs.CardlessPlants.{deliver-same}
 use Rattle.line_graph.proofs.MoreCards.{cards_never_later}
-use Rattle.card_sizing.specs.Sized.{has_single_count, sized, most_stock, lowest, lowest_under, highest, highest_under}
+use Rattle.card_sizing.specs.Sized.{has_single_count, sized_plant, most_stock, lowest, lowest_under, highest, highest_under}
 use Rattle.card_sizing.specs.Serving.{wait_until, IsFirstLate, IsLate}
 use Rattle.card_sizing.proofs.SizedStages.{more-sized, differ-counts}
 use Rattle.card_sizing.proofs.SizedSound.{sound_sized, stock-lowest}
@@ -64,34 +64,34 @@ module _ (p : Plant) (sound : IsSound p) where
           (cases_lt (most_stock p + length p.demands) MAX_CARDS)
 
   module _ (single : has_single_count p ≡ true) where
-    sound_highest : IsSound (sized p (highest p))
+    sound_highest : IsSound (sized_plant p (highest p))
     sound_highest = sound_sized p (highest p) sound single (lowest_highest p sound) (highest_within p)
 
-    sound_most : IsSound (sized p MAX_CARDS)
+    sound_most : IsSound (sized_plant p MAX_CARDS)
     sound_most = sound_sized p MAX_CARDS sound single (lowest_within p sound) (omega arith)
 
     -- the line is live where it is with the most cards
-    pub highest_live : IsLive (graph (sized p MAX_CARDS)) → IsLive (graph (sized p (highest p)))
+    pub highest_live : IsLive (graph (sized_plant p MAX_CARDS)) → IsLive (graph (sized_plant p (highest p)))
     highest_live live =
         ⊎_elim
-        (λ same. subst (λ (c : ℕ). IsLive (graph (sized p c))) (sym same) live)
+        (λ same. subst (λ (c : ℕ). IsLive (graph (sized_plant p c))) (sym same) live)
         (λ covers. covered_live p sound covers.extended (highest p) MAX_CARDS covers.covers (highest_within p) sound_most live)
         most_or_covers
 
-    covered_late : (may job long : ℕ) → IsLate (sized p (highest p)) may job long → CoversJobs p → IsLate (sized p MAX_CARDS) may job long
-    unfolding sized
+    covered_late : (may job long : ℕ) → IsLate (sized_plant p (highest p)) may job long → CoversJobs p → IsLate (sized_plant p MAX_CARDS) may job long
+    unfolding sized_plant
     covered_late may job long late covers = record {
-      live = (cards_never_later (sized p (highest p)) (sized p MAX_CARDS) (more-sized p (highest p) MAX_CARDS single (highest_within p)) sound_highest late.live).live;
+      live = (cards_never_later (sized_plant p (highest p)) (sized_plant p MAX_CARDS) (more-sized p (highest p) MAX_CARDS single (highest_within p)) sound_highest late.live).live;
       waits = λ x least.
-          let same = deliver-same (sized p (highest p)) (sized p MAX_CARDS) (differ-counts p (highest p) MAX_CARDS) in
+          let same = deliver-same (sized_plant p (highest p)) (sized_plant p MAX_CARDS) (differ-counts p (highest p) MAX_CARDS) in
           let here = late.waits x (covered_least p sound covers.extended (highest p) MAX_CARDS covers.covers (highest_within p) x least) in
           subst (λ (t : ℕ). IsFirstLate (wait_until x t) (length p.demands) may job long) same here;
     }
 
     -- a job that is late is late with the most cards, and as late
-    pub highest_late : (may job long : ℕ) → IsLate (sized p (highest p)) may job long → IsLate (sized p MAX_CARDS) may job long
+    pub highest_late : (may job long : ℕ) → IsLate (sized_plant p (highest p)) may job long → IsLate (sized_plant p MAX_CARDS) may job long
     highest_late may job long late =
         ⊎_elim
-        (λ same. subst (λ (c : ℕ). IsLate (sized p c) may job long) same late)
+        (λ same. subst (λ (c : ℕ). IsLate (sized_plant p c) may job long) same late)
         (covered_late may job long late)
         most_or_covers

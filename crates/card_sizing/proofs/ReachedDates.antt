@@ -1,4 +1,5 @@
--- The dates that stations have made in a state that firings reach are those of the least solution: a run may stop early.
+-- The dates that stations have made in a state that firings reach are those of the least solution: a run may stop
+-- early.
 use Rattle.std.proofs.Common.{◌≡◌, ℕ, zero, suc, ◌+◌, ◌-◌, ◌<◌, ◌≤◌, cond, ltb, length, get_or, add-one, ap, subst, arith, ⊎_elim}
 use Rattle.std.specs.Prelude.{None}
 use Rattle.std.proofs.lemmas.Bool.{cases_lt, ne_eqb, cond-true, cond-false, lt-ltb, le-ltb}

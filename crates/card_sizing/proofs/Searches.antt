@@ -15,7 +15,7 @@ use Rattle.event_graph.specs.Live.{IsLive}
 use Rattle.line_base.proofs.RangeLists.{All-range}
 use Rattle.card_sizing.specs.declared.sizing.Below.{Below}
 use Rattle.card_sizing.specs.declared.sizing.Below.TheVariants.{Lowest, Job, Dead}
-use Rattle.card_sizing.specs.Sized.{has_single_count, sized, lowest_under, lowest}
+use Rattle.card_sizing.specs.Sized.{has_single_count, sized_plant, lowest_under, lowest}
 use Rattle.card_sizing.specs.Serving.{Serves, IsLateWith}
 use Rattle.line_graph.specs.DeadLabels.{AreDead}
 use Rattle.card_sizing.specs.Sizing.{NoneServesBelow, IsBelow, IsSearch}
@@ -48,29 +48,29 @@ module _ (p : Plant) (sound : IsSound p) (single : has_single_count p ≡ true) 
   none_below c few not d below serves = not (serves_more p sound single may d c serves (omega arith) few)
 
   -- a count that fails doesn't serve
-  fails_not_serves : (c : ℕ) (why : Below) → FailsBy (sized p c) may why → Serves p may c → ⊥
+  fails_not_serves : (c : ℕ) (why : Below) → FailsBy (sized_plant p c) may why → Serves p may c → ⊥
   fails_not_serves c Lowest fails serves = fails
   fails_not_serves c (Job job wait) fails serves =
-      late_not_in_time (sized p c) may job wait (sound_sized p c sound single serves.enough serves.within) fails serves.in_time
-  fails_not_serves c (Dead labels) fails serves = dead_not_live (graph (sized p c)) labels fails serves.in_time.live
+      late_not_in_time (sized_plant p c) may job wait (sound_sized p c sound single serves.enough serves.within) fails serves.in_time
+  fails_not_serves c (Dead labels) fails serves = dead_not_live (graph (sized_plant p c)) labels fails serves.in_time.live
 
   -- and says why one more can't be one less
-  is_below : (c : ℕ) (why : Below) → lowest p ≤ c → FailsBy (sized p c) may why → IsBelow p may (c + 1) why
+  is_below : (c : ℕ) (why : Below) → lowest p ≤ c → FailsBy (sized_plant p c) may why → IsBelow p may (c + 1) why
   is_below c Lowest enough fails = absurd fails
   is_below c (Job job wait) enough late =
       let same : c ≡ c + 1 - 1 = omega arith in
       (omega arith, subst (λ (d : ℕ). IsLateWith p may d job wait) same late)
   is_below c (Dead labels) enough dead =
       let same : c ≡ c + 1 - 1 = omega arith in
-      (omega arith, subst (λ (d : ℕ). AreDead (graph (sized p d)) labels) same dead)
+      (omega arith, subst (λ (d : ℕ). AreDead (graph (sized_plant p d)) labels) same dead)
 
   -- one step further, where `middle` doesn't serve
-  pub search_past : (low high middle : ℕ) (below why : Below) → IsSearch p may low high below → low ≤ middle → middle < high → FailsBy (sized p middle) may why → IsSearch p may (middle + 1) high why
+  pub search_past : (low high middle : ℕ) (below why : Below) → IsSearch p may low high below → low ≤ middle → middle < high → FailsBy (sized_plant p middle) may why → IsSearch p may (middle + 1) high why
   search_past low high middle below why search after before fails = record {
     ordered = omega arith;
     enough = omega (arith, search.enough);
     none = none_below middle (omega (arith, search.serves.within)) (fails_not_serves middle why fails);
-    why = is_below middle why (omega (arith, search.enough)) fails;
+    reason = is_below middle why (omega (arith, search.enough)) fails;
     serves = search.serves;
   }
 

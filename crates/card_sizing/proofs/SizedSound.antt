@@ -14,7 +14,7 @@ use Rattle.plant_model.specs.declared.plant.CardLoop.{CardLoop}
 use Rattle.plant_model.specs.declared.plant.Plant.{Plant}
 use Rattle.plant_model.specs.declared.place.FileTable.TheVariants.{InStage, InLoop}
 use Rattle.plant_model.specs.Place.{key_of}
-use Rattle.plant_model.specs.Line.{no_stage, stage_at, stage_numbers, station_count, stock_under, starting, feeds, is_first, first_stages, path, up_to, is_downstream, path_stock, stock_between}
+use Rattle.plant_model.specs.Line.{no_stage, no_loop, stage_at, stage_numbers, station_count, stock_under, starting, feeds, is_first, first_stages, path, up_to, is_downstream, path_stock, stock_between}
 use Rattle.plant_model.specs.Refusals.{refuse_if, each_from, each, bad_name, bad_names, stage_name_twice, names_twice, machine_name_twice, above, empty, cards_out_of_range, top_out_of_range, stage_out_of_range, out_of_range, feeds_not_later, all_feeds_not_later, second_final, second_finals, stage_times_count, times_counts, demand_order, too_few, too_few_in_line, too_few_in_stage, too_few_under, is_loop, too_few_in_loop, too_few_cards, not_downstream, loops_not_downstream, larger, too_large, parts_refusals, whole_refusals, refusals}
 use Rattle.plant_model.specs.Sound.{IsSound}
 use Rattle.plant_model.proofs.NoRefusals.{append-nil_left, append-nil_right, above-none}
@@ -22,10 +22,9 @@ use Rattle.plant_model.proofs.Soundness.{Parts}
 use Rattle.plant_model.proofs.SoundPlants.{PassesAll, PassesAll-sound, top-in_range, stage_in_range-from}
 use Rattle.event_graph.specs.GreatestValue.{greatest}
 use Rattle.event_graph.proofs.Greatest.{le-greatest}
-use Rattle.line_graph.specs.MoreCards.{no_loop}
 use Rattle.line_base.proofs.RangeLists.{Contains-map-range, Contains-map-filter}
 use Rattle.line_graph.proofs.CardlessPlants.{deliver-same, path-same}
-use Rattle.card_sizing.specs.Sized.{has_single_count, policy_with, cards_under, stage_with, sized, lowest_under, lowest}
+use Rattle.card_sizing.specs.Sized.{has_single_count, policy_with, cards_under, stage_with, sized_plant, lowest_under, lowest}
 use Rattle.card_sizing.proofs.SizedStages.{differ-sized, length-sized, stage_at-sized, policy-sized, loops-sized, no_loops}
 
 -- ---- lists of refusals
@@ -112,18 +111,18 @@ module _ (p : Plant) (c : ℕ) (sound : IsSound p) where
   parts : Parts p
   parts = passes.parts
 
-  bad_names-sized : bad_names (sized p c) ≡ []
-  unfolding sized
+  bad_names-sized : bad_names (sized_plant p c) ≡ []
+  unfolding sized_plant
   bad_names-sized = each_from-kept bad_name bad_name (stage_with p.policy c) 0 p.stages (λ i s none. none) parts.named
 
-  names_twice-sized : names_twice (sized p c) ≡ []
-  unfolding sized
+  names_twice-sized : names_twice (sized_plant p c) ≡ []
+  unfolding sized_plant
   names_twice-sized =
       let f = stage_with p.policy c in
       each_from-kept (stage_name_twice (map f p.stages)) (stage_name_twice p.stages) f 0 p.stages (λ i s none. name_twice-kept p.policy c p.stages i s ∙ none) parts.once
 
-  out_of_range-sized : c ≤ MAX_CARDS → out_of_range (sized p c) ≡ []
-  unfolding sized
+  out_of_range-sized : c ≤ MAX_CARDS → out_of_range (sized_plant p c) ≡ []
+  unfolding sized_plant
   out_of_range-sized few =
       let top = top-in_range p parts.in_range in
       let rest = append-nil_right (top_out_of_range p) _ parts.in_range in
@@ -134,35 +133,35 @@ module _ (p : Plant) (c : ℕ) (sound : IsSound p) where
       both-nil _ _ head (both-nil _ _ stages loops)
 
   -- what is refused of a stage by the number of stages and by what the count leaves
-  each-sized : (refused : ℕ → ℕ → Stage → List PlantError) → ((n i : ℕ) (s : Stage) → refused n i s ≡ [] → refused n i (stage_with p.policy c s) ≡ []) → each (refused (length p.stages)) p.stages ≡ [] → each (refused (length (sized p c).stages)) (sized p c).stages ≡ []
-  unfolding sized
+  each-sized : (refused : ℕ → ℕ → Stage → List PlantError) → ((n i : ℕ) (s : Stage) → refused n i s ≡ [] → refused n i (stage_with p.policy c s) ≡ []) → each (refused (length p.stages)) p.stages ≡ [] → each (refused (length (sized_plant p c).stages)) (sized_plant p c).stages ≡ []
+  unfolding sized_plant
   each-sized refused kept none =
       let f = stage_with p.policy c in
       let n = length p.stages in
       subst (λ (m : ℕ). each (refused m) (map f p.stages) ≡ []) (sym (length-map p.stages f)) (
       each_from-kept (refused n) (refused n) f 0 p.stages (kept n) none)
 
-  feeds-sized : all_feeds_not_later (sized p c) ≡ []
+  feeds-sized : all_feeds_not_later (sized_plant p c) ≡ []
   feeds-sized = each-sized feeds_not_later (λ n i s none. none) parts.later
 
-  finals-sized : second_finals (sized p c) ≡ []
+  finals-sized : second_finals (sized_plant p c) ≡ []
   finals-sized = each-sized second_final (λ n i s none. none) parts.one_final
 
-  times-sized : times_counts (sized p c) ≡ []
-  unfolding sized
+  times-sized : times_counts (sized_plant p c) ≡ []
+  unfolding sized_plant
   times-sized =
       let n = length p.demands in
       each_from-kept (stage_times_count n) (stage_times_count n) (stage_with p.policy c) 0 p.stages (λ i s none. none) passes.times_counted
 
-  order-sized : demand_order (sized p c) ≡ []
-  unfolding sized
+  order-sized : demand_order (sized_plant p c) ≡ []
+  unfolding sized_plant
   order-sized = passes.in_order
 
   -- what the sizes of a plant are refused for, by the numbers of its stages and of its stations
-  sizes-sized : too_large (sized p c) ≡ []
-  unfolding sized
+  sizes-sized : too_large (sized_plant p c) ≡ []
+  unfolding sized_plant
   sizes-sized =
-      let q = sized p c in
+      let q = sized_plant p c in
       let large = λ (n t : ℕ).
       larger (codes "stages") MAX_STAGES n
       ++ (larger (codes "stations") MAX_STATIONS t
@@ -180,8 +179,8 @@ module _ (p : Plant) (c : ℕ) (sound : IsSound p) where
   stock-stages [] = refl
   stock-stages (s ∷ stages) = ap (λ rest. s.stock ∷ rest) (stock-stages stages)
 
-  stock-sized : (i : ℕ) → (stage_at (sized p c) i).stock ≡ (stage_at p i).stock
-  unfolding sized
+  stock-sized : (i : ℕ) → (stage_at (sized_plant p c) i).stock ≡ (stage_at p i).stock
+  unfolding sized_plant
   stock-sized i =
       let stock = λ (s : Stage). s.stock in
       sym (get_or-map stock (map (stage_with p.policy c) p.stages) i no_stage) ∙ ap (λ (xs : List ℕ). get_or xs i 0) (stock-stages p.stages) ∙ get_or-map stock p.stages i no_stage
@@ -192,29 +191,29 @@ module _ (p : Plant) (c : ℕ) (sound : IsSound p) where
   stock_under-kept BaseStock s t other same = same
   stock_under-kept Extended s t other same = same
 
-  pub starting-sized : (p.policy ≡ Kanban → ⊥) → (i : ℕ) → starting (sized p c) i ≡ starting p i
+  pub starting-sized : (p.policy ≡ Kanban → ⊥) → (i : ℕ) → starting (sized_plant p c) i ≡ starting p i
   starting-sized other i =
-      rw (policy-sized p c) (stock_under-kept p.policy (stage_at (sized p c) i) (stage_at p i) other (stock-sized i))
+      rw (policy-sized p c) (stock_under-kept p.policy (stage_at (sized_plant p c) i) (stage_at p i) other (stock-sized i))
 
-  path-sized : (a : ℕ) → path (sized p c) a ≡ path p a
-  path-sized a = sym (path-same p (sized p c) (differ-sized p c) a)
+  path-sized : (a : ℕ) → path (sized_plant p c) a ≡ path p a
+  path-sized a = sym (path-same p (sized_plant p c) (differ-sized p c) a)
 
-  path_stock-sized : (p.policy ≡ Kanban → ⊥) → (a : ℕ) → path_stock (sized p c) a ≡ path_stock p a
+  path_stock-sized : (p.policy ≡ Kanban → ⊥) → (a : ℕ) → path_stock (sized_plant p c) a ≡ path_stock p a
   path_stock-sized other a =
-      ap (sum_by (starting (sized p c))) (path-sized a) ∙ (λ j. sum_by (λ (i : ℕ). starting-sized other i j) (path p a))
+      ap (sum_by (starting (sized_plant p c))) (path-sized a) ∙ (λ j. sum_by (λ (i : ℕ). starting-sized other i j) (path p a))
 
-  pub stock_between-sized : (p.policy ≡ Kanban → ⊥) → (a b : ℕ) → stock_between (sized p c) a b ≡ stock_between p a b
+  pub stock_between-sized : (p.policy ≡ Kanban → ⊥) → (a b : ℕ) → stock_between (sized_plant p c) a b ≡ stock_between p a b
   stock_between-sized other a b =
-      ap (λ (is : List ℕ). sum_by (starting (sized p c)) (up_to b is)) (path-sized a) ∙ (λ j. sum_by (λ (i : ℕ). starting-sized other i j) (up_to b (path p a)))
+      ap (λ (is : List ℕ). sum_by (starting (sized_plant p c)) (up_to b is)) (path-sized a) ∙ (λ j. sum_by (λ (i : ℕ). starting-sized other i j) (up_to b (path p a)))
 
-  is_loop-sized : (l : CardLoop) → is_loop (sized p c) l ≡ is_loop p l
+  is_loop-sized : (l : CardLoop) → is_loop (sized_plant p c) l ≡ is_loop p l
   is_loop-sized l =
-      ap (λ (n : ℕ). ltb l.first n && is_downstream (sized p c) l.first l.last) (length-sized p c) ∙ ap (λ (is : List ℕ). ltb l.first (length p.stages) && list_any (λ i. eqb i l.last) is) (path-sized l.first)
+      ap (λ (n : ℕ). ltb l.first n && is_downstream (sized_plant p c) l.first l.last) (length-sized p c) ∙ ap (λ (is : List ℕ). ltb l.first (length p.stages) && list_any (λ i. eqb i l.last) is) (path-sized l.first)
 
-  downstream-sized : loops_not_downstream (sized p c) ≡ []
-  unfolding sized
+  downstream-sized : loops_not_downstream (sized_plant p c) ≡ []
+  unfolding sized_plant
   downstream-sized =
-      each_from-weaker (not_downstream (sized p c)) (not_downstream p) 0 p.loops (λ k l none. refuse_if-same (not (is_loop (sized p c) l)) (not (is_loop p l)) _ (ap not (is_loop-sized l)) ∙ none) passes.loops_downstream
+      each_from-weaker (not_downstream (sized_plant p c)) (not_downstream p) 0 p.loops (λ k l none. refuse_if-same (not (is_loop (sized_plant p c) l)) (not (is_loop p l)) _ (ap not (is_loop-sized l)) ∙ none) passes.loops_downstream
 
   -- ---- cards and stock
 
@@ -241,69 +240,69 @@ module _ (p : Plant) (c : ℕ) (sound : IsSound p) where
   fed-sized i [] = refl
   fed-sized i (s ∷ stages) = ap (λ b. feeds i s || b) (fed-sized i stages)
 
-  is_first-sized : (i : ℕ) → is_first (sized p c) i ≡ is_first p i
-  unfolding sized
+  is_first-sized : (i : ℕ) → is_first (sized_plant p c) i ≡ is_first p i
+  unfolding sized_plant
   is_first-sized i = ap not (fed-sized i p.stages)
 
-  first-enough : (cards i : ℕ) (b : Bool) → p.policy ≡ Conwip cards → lowest p ≤ c → is_first (sized p c) i ≡ b → i < length p.stages → too_few_in_line (sized p c) c i no_stage ≡ []
+  first-enough : (cards i : ℕ) (b : Bool) → p.policy ≡ Conwip cards → lowest p ≤ c → is_first (sized_plant p c) i ≡ b → i < length p.stages → too_few_in_line (sized_plant p c) c i no_stage ≡ []
   first-enough cards i true is enough first below =
       let other : p.policy ≡ Kanban → ⊥ = λ kanban. cc in
       let stock = path_stock-lowest cards is enough i below (sym (is_first-sized i) ∙ first) in
-      let line = too_few (codes "cards") c (path_stock (sized p c) i) in
-      ap (λ (b : Bool). cond b line []) first ∙ too_few-enough (codes "cards") c (path_stock (sized p c) i) (omega (arith, stock, path_stock-sized other i))
+      let line = too_few (codes "cards") c (path_stock (sized_plant p c) i) in
+      ap (λ (b : Bool). cond b line []) first ∙ too_few-enough (codes "cards") c (path_stock (sized_plant p c) i) (omega (arith, stock, path_stock-sized other i))
   first-enough cards i false is enough first below =
-      ap (λ (b : Bool). cond b (too_few (codes "cards") c (path_stock (sized p c) i)) []) first
+      ap (λ (b : Bool). cond b (too_few (codes "cards") c (path_stock (sized_plant p c) i)) []) first
 
-  line-enough : (cards : ℕ) → p.policy ≡ Conwip cards → lowest p ≤ c → each (too_few_in_line (sized p c) c) (sized p c).stages ≡ []
+  line-enough : (cards : ℕ) → p.policy ≡ Conwip cards → lowest p ≤ c → each (too_few_in_line (sized_plant p c) c) (sized_plant p c).stages ≡ []
   line-enough cards is enough =
-      each_from-nil (too_few_in_line (sized p c) c) 0 (sized p c).stages no_stage (λ i j below at. first-enough cards j (is_first (sized p c) j) is enough refl (omega (arith, length-sized p c)))
+      each_from-nil (too_few_in_line (sized_plant p c) c) 0 (sized_plant p c).stages no_stage (λ i j below at. first-enough cards j (is_first (sized_plant p c) j) is enough refl (omega (arith, length-sized p c)))
 
-  stages-enough : p.policy ≡ Extended → lowest p ≤ c → each too_few_in_stage (sized p c).stages ≡ []
+  stages-enough : p.policy ≡ Extended → lowest p ≤ c → each too_few_in_stage (sized_plant p c).stages ≡ []
   stages-enough is enough =
-      each_from-nil too_few_in_stage 0 (sized p c).stages no_stage (λ i j below at.
+      each_from-nil too_few_in_stage 0 (sized_plant p c).stages no_stage (λ i j below at.
       let here : i < length p.stages = omega (arith, length-sized p c) in
       let s = stage_at p i in
       let given : s.stock ≤ cards_under p.policy c s.cards = subst (λ (policy : Policy). s.stock ≤ cards_under policy c s.cards) (sym is) (stock-lowest is enough i here) in
-      too_few-enough _ (stage_at (sized p c) i).cards (stage_at (sized p c) i).stock (subst (λ (t : Stage). t.stock ≤ t.cards) (sym (stage_at-sized p c i here)) given))
+      too_few-enough _ (stage_at (sized_plant p c) i).cards (stage_at (sized_plant p c) i).stock (subst (λ (t : Stage). t.stock ≤ t.cards) (sym (stage_at-sized p c i here)) given))
 
-  policy-enough : lowest p ≤ c → too_few_under (sized p c) (sized p c).policy ≡ []
+  policy-enough : lowest p ≤ c → too_few_under (sized_plant p c) (sized_plant p c).policy ≡ []
   policy-enough enough =
-      subst (λ (policy : Policy). too_few_under (sized p c) policy ≡ []) (sym (policy-sized p c)) (by_policy p.policy refl)
+      subst (λ (policy : Policy). too_few_under (sized_plant p c) policy ≡ []) (sym (policy-sized p c)) (by_policy p.policy refl)
     where
-      by_policy : (policy : Policy) → p.policy ≡ policy → too_few_under (sized p c) (policy_with c policy) ≡ []
+      by_policy : (policy : Policy) → p.policy ≡ policy → too_few_under (sized_plant p c) (policy_with c policy) ≡ []
       by_policy Kanban is = refl
       by_policy (Conwip cards) is = line-enough cards is enough
       by_policy BaseStock is = refl
       by_policy Extended is = stages-enough is enough
 
-  loop-sized : (p.policy ≡ Kanban → ⊥) → (k : ℕ) (l : CardLoop) → too_few_in_loop (sized p c) k l ≡ too_few_in_loop p k l
+  loop-sized : (p.policy ≡ Kanban → ⊥) → (k : ℕ) (l : CardLoop) → too_few_in_loop (sized_plant p c) k l ≡ too_few_in_loop p k l
   loop-sized other k l =
       let place = key_of (InLoop k) (codes "cards") in
-      ap (λ (b : Bool). cond b (too_few place l.cards (stock_between (sized p c) l.first l.last)) []) (is_loop-sized l)
+      ap (λ (b : Bool). cond b (too_few place l.cards (stock_between (sized_plant p c) l.first l.last)) []) (is_loop-sized l)
       ∙ ap (λ (stock : ℕ). cond (is_loop p l) (too_few place l.cards stock) []) (stock_between-sized other l.first l.last)
 
-  loops-enough : has_single_count p ≡ true → each (too_few_in_loop (sized p c)) p.loops ≡ []
+  loops-enough : has_single_count p ≡ true → each (too_few_in_loop (sized_plant p c)) p.loops ≡ []
   loops-enough single = by_policy p.policy refl
     where
       enough : each (too_few_in_loop p) p.loops ≡ []
       enough = append-nil_right (too_few_under p p.policy) _ passes.enough_cards
 
-      others : (p.policy ≡ Kanban → ⊥) → each (too_few_in_loop (sized p c)) p.loops ≡ []
+      others : (p.policy ≡ Kanban → ⊥) → each (too_few_in_loop (sized_plant p c)) p.loops ≡ []
       others other =
-          each_from-weaker (too_few_in_loop (sized p c)) (too_few_in_loop p) 0 p.loops (λ k l none. loop-sized other k l ∙ none) enough
+          each_from-weaker (too_few_in_loop (sized_plant p c)) (too_few_in_loop p) 0 p.loops (λ k l none. loop-sized other k l ∙ none) enough
 
-      by_policy : (policy : Policy) → p.policy ≡ policy → each (too_few_in_loop (sized p c)) p.loops ≡ []
+      by_policy : (policy : Policy) → p.policy ≡ policy → each (too_few_in_loop (sized_plant p c)) p.loops ≡ []
       by_policy Kanban is =
-          each_from-nil (too_few_in_loop (sized p c)) 0 p.loops no_loop (λ i j below at. absurd (omega (arith, no_loops p single is)))
+          each_from-nil (too_few_in_loop (sized_plant p c)) 0 p.loops no_loop (λ i j below at. absurd (omega (arith, no_loops p single is)))
       by_policy (Conwip cards) is = others (λ kanban. cc)
       by_policy BaseStock is = others (λ kanban. cc)
       by_policy Extended is = others (λ kanban. cc)
 
-  cards-sized : has_single_count p ≡ true → lowest p ≤ c → too_few_cards (sized p c) ≡ []
+  cards-sized : has_single_count p ≡ true → lowest p ≤ c → too_few_cards (sized_plant p c) ≡ []
   cards-sized single enough =
-      both-nil _ _ (policy-enough enough) (subst (λ (ls : List CardLoop). each (too_few_in_loop (sized p c)) ls ≡ []) (sym (loops-sized p c)) (loops-enough single))
+      both-nil _ _ (policy-enough enough) (subst (λ (ls : List CardLoop). each (too_few_in_loop (sized_plant p c)) ls ≡ []) (sym (loops-sized p c)) (loops-enough single))
 
-  pub sound_sized : has_single_count p ≡ true → lowest p ≤ c → c ≤ MAX_CARDS → IsSound (sized p c)
+  pub sound_sized : has_single_count p ≡ true → lowest p ≤ c → c ≤ MAX_CARDS → IsSound (sized_plant p c)
   unfolding refusals parts_refusals whole_refusals
   sound_sized single enough few =
       let of_parts = both-nil _ _ bad_names-sized (both-nil _ _ names_twice-sized (both-nil _ _ (out_of_range-sized few) (both-nil _ _ feeds-sized finals-sized))) in

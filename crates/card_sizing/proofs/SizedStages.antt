@@ -11,7 +11,7 @@ use Rattle.plant_model.specs.Line.{no_stage, stage_at, line_cards}
 use Rattle.plant_model.specs.Sound.{IsSound}
 use Rattle.plant_model.proofs.SoundPlants.{IsSoundStage-sound, HasSoundSizes-sound}
 use Rattle.line_graph.specs.MoreCards.{policy_without_cards, stage_without_cards, loop_without_cards, without_cards, DifferInCards, HasMoreCards}
-use Rattle.card_sizing.specs.Sized.{has_count_under, has_single_count, policy_with, cards_under, stage_with, sized}
+use Rattle.card_sizing.specs.Sized.{has_count_under, has_single_count, policy_with, cards_under, stage_with, sized_plant}
 
 -- ---- what the count touches
 
@@ -25,8 +25,8 @@ stages-without : (policy : Policy) (c : ℕ) (stages : List Stage) → map stage
 stages-without policy c [] = refl
 stages-without policy c (s ∷ stages) = ap (λ rest. stage_without_cards s ∷ rest) (stages-without policy c stages)
 
-pub sized-without : (p : Plant) (c : ℕ) → without_cards (sized p c) ≡ without_cards p
-unfolding sized
+pub sized-without : (p : Plant) (c : ℕ) → without_cards (sized_plant p c) ≡ without_cards p
+unfolding sized_plant
 sized-without p c =
     λ j. record p {
       policy = policy-without c p.policy j;
@@ -34,30 +34,30 @@ sized-without p c =
       loops = map loop_without_cards p.loops;
     }
 
-pub differ-sized : (p : Plant) (c : ℕ) → DifferInCards p (sized p c)
+pub differ-sized : (p : Plant) (c : ℕ) → DifferInCards p (sized_plant p c)
 differ-sized p c = record { alike = sym (sized-without p c) }
 
-pub differ-counts : (p : Plant) (c d : ℕ) → DifferInCards (sized p c) (sized p d)
+pub differ-counts : (p : Plant) (c d : ℕ) → DifferInCards (sized_plant p c) (sized_plant p d)
 differ-counts p c d = record { alike = sized-without p c ∙ sym (sized-without p d) }
 
-pub length-sized : (p : Plant) (c : ℕ) → length (sized p c).stages ≡ length p.stages
-unfolding sized
+pub length-sized : (p : Plant) (c : ℕ) → length (sized_plant p c).stages ≡ length p.stages
+unfolding sized_plant
 length-sized p c = length-map p.stages (stage_with p.policy c)
 
-pub stage_at-sized : (p : Plant) (c i : ℕ) → i < length p.stages → stage_at (sized p c) i ≡ stage_with p.policy c (stage_at p i)
-unfolding sized
+pub stage_at-sized : (p : Plant) (c i : ℕ) → i < length p.stages → stage_at (sized_plant p c) i ≡ stage_with p.policy c (stage_at p i)
+unfolding sized_plant
 stage_at-sized p c i below = get_or-map (stage_with p.policy c) p.stages i no_stage no_stage below
 
-pub policy-sized : (p : Plant) (c : ℕ) → (sized p c).policy ≡ policy_with c p.policy
-unfolding sized
+pub policy-sized : (p : Plant) (c : ℕ) → (sized_plant p c).policy ≡ policy_with c p.policy
+unfolding sized_plant
 policy-sized p c = refl
 
-pub loops-sized : (p : Plant) (c : ℕ) → (sized p c).loops ≡ p.loops
-unfolding sized
+pub loops-sized : (p : Plant) (c : ℕ) → (sized_plant p c).loops ≡ p.loops
+unfolding sized_plant
 loops-sized p c = refl
 
-pub demands-sized : (p : Plant) (c : ℕ) → (sized p c).demands ≡ p.demands
-unfolding sized
+pub demands-sized : (p : Plant) (c : ℕ) → (sized_plant p c).demands ≡ p.demands
+unfolding sized_plant
 demands-sized p c = refl
 
 -- ---- more cards
@@ -103,10 +103,10 @@ policy_with-kanban c BaseStock is = cc
 policy_with-kanban c Extended is = cc
 
 -- a greater count gives more cards
-pub more-sized : (p : Plant) (c d : ℕ) → has_single_count p ≡ true → c ≤ d → HasMoreCards (sized p c) (sized p d)
+pub more-sized : (p : Plant) (c d : ℕ) → has_single_count p ≡ true → c ≤ d → HasMoreCards (sized_plant p c) (sized_plant p d)
 more-sized p c d single h =
-    let few = λ (i : ℕ). λ (below : i < length (sized p c).stages). stage_at-sized p c i (omega (arith, length-sized p c)) in
-    let many = λ (i : ℕ). λ (below : i < length (sized p c).stages). stage_at-sized p d i (omega (arith, length-sized p c)) in
+    let few = λ (i : ℕ). λ (below : i < length (sized_plant p c).stages). stage_at-sized p c i (omega (arith, length-sized p c)) in
+    let many = λ (i : ℕ). λ (below : i < length (sized_plant p c).stages). stage_at-sized p d i (omega (arith, length-sized p c)) in
     record {
       differ = differ-counts p c d;
       stages = λ i below. rw (few i below, many i below) (cards-more p.policy c d (stage_at p i).cards h);
@@ -119,7 +119,7 @@ more-sized p c d single h =
     }
 
 -- the most cards are more than those of the plant
-pub most-sized : (p : Plant) → IsSound p → has_single_count p ≡ true → HasMoreCards p (sized p MAX_CARDS)
+pub most-sized : (p : Plant) → IsSound p → has_single_count p ≡ true → HasMoreCards p (sized_plant p MAX_CARDS)
 most-sized p sound single =
     let many = λ (i : ℕ). λ (below : i < length p.stages). stage_at-sized p MAX_CARDS i below in
     record {

@@ -15,7 +15,7 @@ use Rattle.card_sizing.specs.declared.sizing.Below.TheVariants.{Lowest, Job, Dea
 use Rattle.card_sizing.specs.Sized.{lowest}
 use Rattle.card_sizing.specs.Serving.{IsInTime, Serves}
 use Rattle.card_sizing.specs.Trying.{FailsBy}
-use Rattle.card_sizing.specs.Counted.{has_stage_counts, least_under, least_at, counted, AreCounts, ServeEach, with_count, IsLeastCount, NoneServesLessFrom, IsStageSearch}
+use Rattle.card_sizing.specs.Counted.{has_stage_counts, least_under, least_at, with_counts, AreCounts, ServeEach, with_count, IsLeastCount, NoneServesLessFrom, IsStageSearch}
 use Rattle.card_sizing.specs.Each.{no_sizing, counts_of, names_of, below_at, IsBelowAt, HaveReasons, IsEachRefusal}
 use Rattle.card_sizing.specs.Sizing.{IsSizingRefusal}
 use Rattle.card_sizing.specs.declared.each.StageSizing.{StageSizing}
@@ -57,16 +57,16 @@ module _ (p : Plant) (sound : IsSound p) (has : has_stage_counts p ≡ true) whe
   serve_more may few many serves fit more =
       record {
         counts_fit = fit;
-        in_time = in_time_more (counted p few) (counted p many) may (more-counted p few many has more) (sound_counted p few sound has serves.counts_fit) (sound_counted p many sound has fit) serves.in_time;
+        in_time = in_time_more (with_counts p few) (with_counts p many) may (more-counted p few many has more) (sound_counted p few sound has serves.counts_fit) (sound_counted p many sound has fit) serves.in_time;
       }
 
   -- counts with which a line isn't in time don't serve
-  pub fails_not_serve : (may : ℕ) (counts : List ℕ) (why : Below) → FailsBy (counted p counts) may why → ServeEach p may counts → ⊥
+  pub fails_not_serve : (may : ℕ) (counts : List ℕ) (why : Below) → FailsBy (with_counts p counts) may why → ServeEach p may counts → ⊥
   fails_not_serve may counts Lowest fails serves = fails
   fails_not_serve may counts (Job job wait) fails serves =
-      late_not_in_time (counted p counts) may job wait (sound_counted p counts sound has serves.counts_fit) fails serves.in_time
+      late_not_in_time (with_counts p counts) may job wait (sound_counted p counts sound has serves.counts_fit) fails serves.in_time
   fails_not_serve may counts (Dead labels) fails serves =
-      dead_not_live (graph (counted p counts)) labels fails serves.in_time.live
+      dead_not_live (graph (with_counts p counts)) labels fails serves.in_time.live
 
   -- ---- the start
 
@@ -87,7 +87,7 @@ module _ (p : Plant) (sound : IsSound p) (has : has_stage_counts p ≡ true) whe
           enough = λ i low. omega (arith, at i low, least-under p.policy c i refl serves.enough low);
           within = λ i low. omega (arith, at i low, serves.within);
         };
-        in_time = subst (λ (q : Plant). IsInTime q may) (counted-sized p c has ∙ ap (counted p) (sym is)) serves.in_time;
+        in_time = subst (λ (q : Plant). IsInTime q may) (counted-sized p c has ∙ ap (with_counts p) (sym is)) serves.in_time;
       }
 
   -- ---- one stage
@@ -107,7 +107,7 @@ module _ (p : Plant) (sound : IsSound p) (has : has_stage_counts p ≡ true) whe
     }
 
     -- a count that fails has none below that serves
-    pub search_on : (low high middle : ℕ) (why : Below) → IsStageSearch p may counts i low high → low ≤ middle → middle < high → FailsBy (counted p (with_count counts i middle)) may why → IsStageSearch p may counts i (middle + 1) high
+    pub search_on : (low high middle : ℕ) (why : Below) → IsStageSearch p may counts i low high → low ≤ middle → middle < high → FailsBy (with_counts p (with_count counts i middle)) may why → IsStageSearch p may counts i (middle + 1) high
     search_on low high middle why search after before fails =
         let there : i < length counts = omega (arith, serves.counts_fit.number) in
         let fit = fit_with counts i middle serves.counts_fit below (omega (arith, search.enough)) (omega (arith, search.no_more, serves.counts_fit.within i below)) in
@@ -126,7 +126,7 @@ module _ (p : Plant) (sound : IsSound p) (has : has_stage_counts p ≡ true) whe
           no_more = search.no_more;
         }
 
-    pub search_down : (low high middle : ℕ) → IsStageSearch p may counts i low high → low ≤ middle → middle < high → IsInTime (counted p (with_count counts i middle)) may → IsStageSearch p may counts i low middle
+    pub search_down : (low high middle : ℕ) → IsStageSearch p may counts i low high → low ≤ middle → middle < high → IsInTime (with_counts p (with_count counts i middle)) may → IsStageSearch p may counts i low middle
     search_down low high middle search after before in_time = record {
       ordered = after;
       enough = search.enough;
@@ -179,7 +179,7 @@ module _ (p : Plant) (sound : IsSound p) (has : has_stage_counts p ≡ true) whe
   -- ---- the reasons
 
   -- one card less fails, and why
-  pub reason_at : (may : ℕ) (counts : List ℕ) (i : ℕ) (why : Below) → least_at p i < get_or counts i 0 → FailsBy (counted p (with_count counts i (get_or counts i 0 - 1))) may why → IsBelowAt p may counts i why
+  pub reason_at : (may : ℕ) (counts : List ℕ) (i : ℕ) (why : Below) → least_at p i < get_or counts i 0 → FailsBy (with_counts p (with_count counts i (get_or counts i 0 - 1))) may why → IsBelowAt p may counts i why
   reason_at may counts i Lowest more fails = absurd fails
   reason_at may counts i (Job job wait) more fails = (more, fails)
   reason_at may counts i (Dead labels) more fails = (more, fails)

@@ -36,8 +36,8 @@ abbrev pub stage_counted : Plant → List ℕ → ℕ → Stage
 stage_counted p counts i = record (stage_at p i) { cards = slice_index counts i }
 
 -- the plant with a count of cards for each stage
-unfoldable pub counted : Plant → List ℕ → Plant
-counted p counts = record p { stages = map (stage_counted p counts) (stage_numbers p) }
+unfoldable pub with_counts : Plant → List ℕ → Plant
+with_counts p counts = record p { stages = map (stage_counted p counts) (stage_numbers p) }
 
 -- there is a count for each stage, which is enough for its stock and within the limit
 pub record AreCounts (p : Plant) (counts : List ℕ) : Type 0 where
@@ -48,7 +48,7 @@ pub record AreCounts (p : Plant) (counts : List ℕ) : Type 0 where
 -- with these counts the line is in time
 pub record ServeEach (p : Plant) (may : ℕ) (counts : List ℕ) : Type 0 where
   pub counts_fit : AreCounts p counts
-  pub in_time : IsInTime (counted p counts) may
+  pub in_time : IsInTime (with_counts p counts) may
 
 -- the counts with c cards at stage i, the others as they stand
 abbrev pub with_count : List ℕ → ℕ → ℕ → List ℕ

@@ -10,7 +10,7 @@ use Rattle.card_sizing.specs.declared.sizing.SizingError.{SizingError}
 use Rattle.card_sizing.specs.declared.sizing.SizingError.TheVariants.{NoSingleCount, NoCount, NoMemory}
 use Rattle.card_sizing.specs.declared.each.StageSizing.{StageSizing}
 use Rattle.card_sizing.specs.Serving.{IsLate, IsLateWith}
-use Rattle.card_sizing.specs.Counted.{has_stage_counts, least_at, counted, with_count}
+use Rattle.card_sizing.specs.Counted.{has_stage_counts, least_at, with_counts, with_count}
 
 -- the counts of the answer, in the order of the stages
 abbrev pub counts_of : List StageSizing → List ℕ
@@ -34,10 +34,10 @@ abbrev pub IsBelowAt : Plant → ℕ → List ℕ → ℕ → Below → Type 0
 IsBelowAt p may counts i Lowest = slice_index counts i ≡ least_at p i
 IsBelowAt p may counts i (Job job wait) =
     (least_at p i < slice_index counts i)
-    × IsLate (counted p (with_count counts i (slice_index counts i - 1))) may job wait
+    × IsLate (with_counts p (with_count counts i (slice_index counts i - 1))) may job wait
 IsBelowAt p may counts i (Dead labels) =
     (least_at p i < slice_index counts i)
-    × AreDead (graph (counted p (with_count counts i (slice_index counts i - 1)))) labels
+    × AreDead (graph (with_counts p (with_count counts i (slice_index counts i - 1)))) labels
 
 -- each of the first n stages has its reason
 abbrev pub HaveReasons : Plant → ℕ → List ℕ → List StageSizing → ℕ → Type 0

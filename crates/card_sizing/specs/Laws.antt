@@ -4,12 +4,12 @@ use Rattle.std.specs.Prelude.{ℕ, ◌≤◌}
 use Rattle.line_base.specs.Limits.{most_cards}
 use Rattle.plant_model.specs.declared.plant.Plant.{Plant}
 use Rattle.plant_model.specs.Sound.{IsSound}
-use Rattle.card_sizing.specs.Sized.{sized, lowest}
+use Rattle.card_sizing.specs.Sized.{sized_plant, lowest}
 use Rattle.card_sizing.specs.Serving.{Serves}
 
 -- with each count from the lowest to the limit the plant is sound
 abbrev pub CountsAreSound : Plant → Type 0
-CountsAreSound p = (c : ℕ) → lowest p ≤ c → c ≤ most_cards → IsSound (sized p c)
+CountsAreSound p = (c : ℕ) → lowest p ≤ c → c ≤ most_cards → IsSound (sized_plant p c)
 
 -- each count above one that serves serves, up to the limit
 abbrev pub MoreCardsServe : Plant → Type 0

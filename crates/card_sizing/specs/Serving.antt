@@ -11,7 +11,7 @@ use Rattle.event_graph.specs.Network.{stations, jobs}
 use Rattle.event_graph.specs.Table.{Table}
 use Rattle.event_graph.specs.Least.{IsLeast}
 use Rattle.event_graph.specs.Live.{IsLive}
-use Rattle.card_sizing.specs.Sized.{sized, lowest}
+use Rattle.card_sizing.specs.Sized.{sized_plant, lowest}
 
 -- how long job n waits, from its demand until station t is done with it
 abbrev pub wait_until : Table → ℕ → ℕ → ℕ
@@ -57,8 +57,8 @@ pub record IsLate (p : Plant) (may job long : ℕ) : Type 0 where
 pub record Serves (p : Plant) (may c : ℕ) : Type 0 where
   pub enough : lowest p ≤ c
   pub within : c ≤ most_cards
-  pub in_time : IsInTime (sized p c) may
+  pub in_time : IsInTime (sized_plant p c) may
 
 -- with c cards this job is the first that waits longer than it may, with how long it waits
 abbrev pub IsLateWith : Plant → ℕ → ℕ → ℕ → ℕ → Type 0
-IsLateWith p may c job long = IsLate (sized p c) may job long
+IsLateWith p may c job long = IsLate (sized_plant p c) may job long

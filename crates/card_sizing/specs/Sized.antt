@@ -34,12 +34,13 @@ cards_under (Conwip _) c own = own
 cards_under BaseStock c own = own
 cards_under Extended c own = c
 
+-- the stage with these cards
 abbrev pub stage_with : Policy → ℕ → Stage → Stage
 stage_with policy c s = record s { cards = cards_under policy c s.cards }
 
 -- the plant with c cards at each stage, or for the line
-unfoldable pub sized : Plant → ℕ → Plant
-sized p c =
+unfoldable pub sized_plant : Plant → ℕ → Plant
+sized_plant p c =
     record p {
       policy = policy_with c p.policy;
       stages = map (stage_with p.policy c) p.stages;

@@ -7,7 +7,7 @@ use Rattle.card_sizing.specs.declared.sizing.Below.{Below}
 use Rattle.card_sizing.specs.declared.sizing.Below.TheVariants.{Lowest, Job, Dead}
 use Rattle.card_sizing.specs.declared.sizing.SizingError.{SizingError}
 use Rattle.card_sizing.specs.declared.sizing.SizingError.TheVariants.{NoSingleCount, NoCount, NoMemory}
-use Rattle.card_sizing.specs.Sized.{has_single_count, sized, lowest, highest}
+use Rattle.card_sizing.specs.Sized.{has_single_count, sized_plant, lowest, highest}
 use Rattle.card_sizing.specs.Serving.{Serves, IsLateWith}
 use Rattle.line_graph.specs.DeadLabels.{AreDead}
 
@@ -20,7 +20,7 @@ NoneServesBelow p may c = (d : ℕ) → d < c → ¬ Serves p may d
 abbrev pub IsBelow : Plant → ℕ → ℕ → Below → Type 0
 IsBelow p may c Lowest = c ≡ lowest p
 IsBelow p may c (Job job wait) = (lowest p < c) × IsLateWith p may (c - 1) job wait
-IsBelow p may c (Dead labels) = (lowest p < c) × AreDead (graph (sized p (c - 1))) labels
+IsBelow p may c (Dead labels) = (lowest p < c) × AreDead (graph (sized_plant p (c - 1))) labels
 
 -- why no count is answered: the plant has no single count, or with the most cards this job is the first that waits
 -- longer than it may; running out of memory says nothing
@@ -39,5 +39,5 @@ pub record IsSearch (p : Plant) (may low high : ℕ) (below : Below) : Type 0 wh
   pub ordered : low ≤ high
   pub enough : lowest p ≤ low
   pub none : NoneServesBelow p may low
-  pub why : IsBelow p may low below
+  pub reason : IsBelow p may low below
   pub serves : Serves p may high

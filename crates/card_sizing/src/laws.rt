@@ -9,8 +9,8 @@ pub fn sized_plants_are_sound()
     ensures { (p : Plant) → IsSound p → has_single_count p ≡ true → CountsAreSound p }
 {}
 
-/// A law of the definitions: where a count of cards serves, each greater one up to 10,000 serves too. So halving finds the
-/// least. It rests on the law *More tokens, never later*.
+/// A law of the definitions: where a count of cards serves, each greater one up to 10,000 serves too. So halving finds
+/// the least. It rests on the law *More tokens, never later*.
 pub fn more_cards_serve()
     ensures { (p : Plant) → IsSound p → has_single_count p ≡ true → MoreCardsServe p }
 {}

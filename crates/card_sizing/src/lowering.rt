@@ -1,6 +1,6 @@
 //! What lowering the counts of the stages takes: one stage after the other, and why none can have one less.
 ghost use Rattle.std.specs.Prelude.{◌≡◌, ◌+◌, ◌*◌, ◌<◌, ◌≤◌, true, map, sum, length, IfOk, OnOk};
-ghost use Rattle.card_sizing.specs.Counted.{has_stage_counts, least_at, counted, AreCounts, ServeEach, with_count, IsLowered, NoneServesLess};
+ghost use Rattle.card_sizing.specs.Counted.{has_stage_counts, least_at, with_counts, AreCounts, ServeEach, with_count, IsLowered, NoneServesLess};
 ghost use Rattle.card_sizing.specs.Each.{counts_of, names_of, IsBelowAt, HaveReasons};
 ghost use Rattle.card_sizing.specs.Trying.{Tells};
 ghost use Rattle.line_base.specs.Limits.{most_cards};
@@ -89,7 +89,7 @@ fn try_counts(
     requires enough { least_at plant.now stage ≤ count }
     requires few { count ≤ most_cards }
     requires few_tries { tries.old < 1_000 }
-    ensures tells { IfOk result (Tells (counted plant.now (with_count counts.now stage count)) may) }
+    ensures tells { IfOk result (Tells (with_counts plant.now (with_count counts.now stage count)) may) }
     ensures counted { tries.new ≡ tries.old + 1 }
 {
     *tries += 1;

@@ -1,18 +1,18 @@
 //! A copy of a plant with another count of cards, or with a count for each stage.
 ghost use Rattle.std.specs.Prelude.{◌≡◌, map, length, IfOk};
-ghost use Rattle.card_sizing.specs.Counted.{stage_counted, counted};
-ghost use Rattle.card_sizing.specs.Sized.{policy_with, cards_under, stage_with, sized};
+ghost use Rattle.card_sizing.specs.Counted.{stage_counted, with_counts};
+ghost use Rattle.card_sizing.specs.Sized.{policy_with, cards_under, stage_with, sized_plant};
 ghost use Rattle.plant_model.specs.Line.{stage_numbers};
 
 use line_base::{Date, Items};
 use plant_model::{CardLoop, Machine, Plant, Policy, Stage};
 use std::alloc::{AllocError, Global};
 
-/// A copy of the plant with `count` cards at each stage under kanban and extended kanban, and for the line under CONWIP. Under
-/// base stock it is a copy of the plant as it is.
-#[tactic(auto, unfolding(crate::specs::Sized::sized))]
+/// A copy of the plant with `count` cards at each stage under kanban and extended kanban, and for the line under
+/// CONWIP. Under base stock it is a copy of the plant as it is.
+#[tactic(auto, unfolding(crate::specs::Sized::sized_plant))]
 pub fn sized_plant(alloc: Global, plant: &Plant, count: u32) -> Result<Plant, AllocError>
-    ensures { IfOk result (λ copy. copy ≡ sized plant.now count) }
+    ensures { IfOk result (λ copy. copy ≡ sized_plant plant.now count) }
 {
     let stages = copy_of_stages(alloc, plant.policy, plant.stages.as_slice(), count)?;
     with_stages(alloc, plant, policy_with(plant.policy, count), stages)
@@ -94,10 +94,10 @@ fn copy_of_stages(
 }
 
 /// A copy of the plant with a count of cards for each stage, under kanban and extended kanban.
-#[tactic(auto, unfolding(crate::specs::Counted::counted))]
+#[tactic(auto, unfolding(crate::specs::Counted::with_counts))]
 pub fn counted_plant(alloc: Global, plant: &Plant, counts: &[u32]) -> Result<Plant, AllocError>
     requires { length counts.now ≡ length plant.now.stages }
-    ensures { IfOk result (λ copy. copy ≡ counted plant.now counts.now) }
+    ensures { IfOk result (λ copy. copy ≡ with_counts plant.now counts.now) }
 {
     let stages = counted_stages(alloc, plant, counts)?;
     with_stages(alloc, plant, plant.policy, stages)

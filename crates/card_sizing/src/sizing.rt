@@ -32,7 +32,8 @@ pub struct Sizing {
 /// Why there is no count of cards to answer.
 #[derive(Clone, Copy)]
 pub enum SizingError {
-    /// The plant has no single count of cards: it runs by base stock, or by kanban with a loop.
+    /// The plant has no count of cards to answer: it runs by base stock, or by kanban with a loop. `least_each`, which
+    /// answers a count for each stage, refuses CONWIP so too.
     NoSingleCount,
     /// With 10,000 cards this job, counted from 1, is the first that waits longer than it may. Its wait is in the
     /// plant's unit.

@@ -1,7 +1,7 @@
-//! One plant tried.
+//! A try: whether the line of one plant is in time, and why it isn't.
 ghost use Rattle.std.specs.Prelude.{◌≡◌, ◌+◌, ◌≤◌, ◌<◌, true, IfOk, MatchOption};
 ghost use Rattle.card_sizing.specs.Serving.{NoneIsLateIn, IsFirstLateIn};
-ghost use Rattle.card_sizing.specs.Sized.{has_single_count, sized, lowest};
+ghost use Rattle.card_sizing.specs.Sized.{has_single_count, sized_plant, lowest};
 ghost use Rattle.card_sizing.specs.Trying.{Tells, ShowsItsCircuit, NamesItsCircuit};
 ghost use Rattle.line_base.specs.Limits.{most_cards};
 ghost use Rattle.plant_model.specs.Sound.{IsSound};
@@ -17,8 +17,8 @@ use live_check::{Live, NotLive, rank};
 use plant_model::Plant;
 use std::alloc::{AllocError, Global};
 
-/// Why a plant's line isn't in time, where no job may wait longer than `may`; `None` where it is. It takes the time of a run, up
-/// to the first job that waits longer.
+/// Why a plant's line isn't in time, where no job may wait longer than `may`; `None` where it is. It takes the time of
+/// a run, up to the first job that waits longer.
 pub fn try_plant(alloc: Global, plant: &Plant, may: u64) -> Result<Option<Below>, AllocError>
     requires { IsSound plant.now }
     ensures { IfOk result (Tells plant.now may) }
@@ -35,7 +35,8 @@ pub fn try_plant(alloc: Global, plant: &Plant, may: u64) -> Result<Option<Below>
     }
 }
 
-/// Why a count of cards doesn't serve, where no job may wait longer than `may`; `None` where it serves. It counts as a try.
+/// Why a count of cards doesn't serve, where no job may wait longer than `may`; `None` where it serves. It counts as a
+/// try.
 pub fn try_count(
     alloc: Global,
     plant: &Plant,
@@ -48,7 +49,7 @@ pub fn try_count(
     requires enough { lowest plant.now ≤ count }
     requires few { count ≤ most_cards }
     requires few_tries { tries.old < 1_000 }
-    ensures tells { IfOk result (Tells (sized plant.now count) may) }
+    ensures tells { IfOk result (Tells (sized_plant plant.now count) may) }
     ensures counted { tries.new ≡ tries.old + 1 }
 {
     *tries += 1;

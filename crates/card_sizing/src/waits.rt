@@ -26,8 +26,8 @@ fn last_wait(state: &State, live: &Live, done: u32) -> u64
     delivered[done as usize].saturating_sub(demanded[done as usize])
 }
 
-/// The first job that waits longer than `may` until the last station is done with it. The line runs from its start, job by job,
-/// and no further than to that job.
+/// The first job that waits longer than `may` until the last station is done with it. The line runs from its start, job
+/// by job, and no further than to that job.
 pub fn first_late(state: &mut State, live: &Live, may: u64) -> Option<LateJob>
     requires made_for { live.now.graph ≡ state.old.graph }
     requires none_fired { HasFired state.old 0 }

@@ -1,7 +1,7 @@
 //! A command over files, a sink and a disk in memory.
 use crate::files::content_of;
 use crate::looks::{arcs_of, circuits_of};
-use crate::reason::{Reason, where_well, with};
+use crate::reason::{Reason, both_if_ok, value_if_ok};
 use crate::run::Faults;
 use crate::runner::{Attempt, Found};
 use crate::slots::{Crash, Slots};
@@ -23,13 +23,13 @@ pub struct Ending {
 }
 
 impl Ending {
-    /// What a command finds.
-    fn before(alloc: Global, attempt: &Attempt) -> Result<Self, Reason> {
+    /// The files, the sink and the disk as a command finds them.
+    fn at_start(alloc: Global, attempt: &Attempt) -> Result<Self, Reason> {
         let faults = attempt.faults;
         let sink = sink_of(alloc, faults)?;
-        let (sink, store) = with(sink, store_of(alloc, &attempt.found.files, faults))?;
+        let (sink, store) = both_if_ok(sink, store_of(alloc, &attempt.found.files, faults))?;
         let disk = attempt.found.slots.disk(alloc, faults.disk);
-        let ((sink, store), disk) = with((sink, store), disk)?;
+        let ((sink, store), disk) = both_if_ok((sink, store), disk)?;
         Ok(Ending {
             status: 0,
             store,
@@ -48,10 +48,10 @@ impl Ending {
         self.store.files()
     }
 
-    /// What is left to the commands below, where this crash comes.
-    pub fn left(&self, alloc: Global, crash: Crash) -> Result<Found, Reason> {
-        let slots = Slots::left_on(alloc, &self.disk, crash)?;
-        let (slots, files) = with(slots, copy_of(self.files()))?;
+    /// What the commands below find, where this crash comes.
+    pub fn leftover(&self, alloc: Global, crash: Crash) -> Result<Found, Reason> {
+        let slots = Slots::left_by(alloc, &self.disk, crash)?;
+        let (slots, files) = both_if_ok(slots, copy_of(self.files()))?;
         Ok(Found { files, slots })
     }
 }
@@ -79,14 +79,14 @@ fn store_of(alloc: Global, files: &Files, faults: Faults) -> Result<MemStore, Re
 }
 
 /// How a command ends: a look, or the top call.
-pub fn call<R: Threads + Wait + Sync>(
+pub fn ending_of<R: Threads + Wait + Sync>(
     rt: &R,
     alloc: Global,
     attempt: &Attempt,
 ) -> Result<Ending, Reason> {
-    let mut ending = Ending::before(alloc, attempt)?;
-    let ran = run_words(rt, alloc, attempt, &mut ending);
-    where_well(ending, ran)
+    let mut ending = Ending::at_start(alloc, attempt)?;
+    let outcome = run_words(rt, alloc, attempt, &mut ending);
+    value_if_ok(ending, outcome)
 }
 
 /// Runs the words of a command.

@@ -1,6 +1,6 @@
 //! The texts of a case, and the files that hold them.
 use crate::lines::{is_comment, line_at};
-use crate::reason::{Reason, add_to, where_well, with};
+use crate::reason::{Reason, add_to, both_if_ok, value_if_ok};
 use crate::words::Words;
 use line_base::MAX_FILE_BYTES;
 use line_io::{Files, Store};
@@ -18,7 +18,7 @@ pub fn put_file<S: Store>(
     let mut words = words;
     let name = words.word();
     let bytes = text_of(alloc, &mut words, below, folder)?;
-    let (bytes, name) = with(bytes, name_of(alloc, name))?;
+    let (bytes, name) = both_if_ok(bytes, name_of(alloc, name))?;
     let _ = files.insert(name, bytes)?;
     Ok(())
 }
@@ -37,7 +37,7 @@ pub fn wanted_files<S: Store>(
 ) -> Result<Files, Reason> {
     let mut wanted = found.clone()?;
     let put = put_after(alloc, lines, &mut wanted, folder);
-    where_well(wanted, put)
+    value_if_ok(wanted, put)
 }
 
 /// Puts the files of the lines `after ..` among others.
@@ -88,7 +88,7 @@ fn text_of<S: Store>(
         text_of_lines(alloc, below)?
     };
     text.truncate(count);
-    where_well(text, words.expect_end())
+    value_if_ok(text, words.expect_end())
 }
 
 /// How many bytes of a text are meant.
@@ -104,7 +104,7 @@ fn count_of(words: &mut Words) -> Result<usize, Reason> {
 fn text_of_lines(alloc: Global, lines: &[&str]) -> Result<Vec<u8>, Reason> {
     let mut text = Vec::new(alloc);
     let added = add_text(&mut text, lines);
-    where_well(text, added)
+    value_if_ok(text, added)
 }
 
 /// What a file of the folder of the case files holds.

@@ -38,7 +38,7 @@ impl Findings {
     fn add_head(&mut self, attempt: &Attempt, status: u8) -> Result<(), Reason> {
         add_number(&mut self.text, "line ", as_u32(self.line))?;
         self.text.extend_from_slice(b": ")?;
-        self.text.extend_from_slice(attempt.asked.as_bytes())?;
+        self.text.extend_from_slice(attempt.line.as_bytes())?;
         add_number(&mut self.text, "\nstatus ", u32::from(status))?;
         Ok(self.text.push(b'\n')?)
     }

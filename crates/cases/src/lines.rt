@@ -1,5 +1,5 @@
 //! The lines of a case file.
-use crate::reason::{Reason, add_to, where_well};
+use crate::reason::{Reason, add_to, value_if_ok};
 use crate::words::first_word;
 use std::alloc::Global;
 
@@ -7,7 +7,7 @@ use std::alloc::Global;
 pub fn lines_of(alloc: Global, text: &str) -> Result<Vec<&str>, Reason> {
     let mut lines = Vec::new(alloc);
     let added = add_lines_of(&mut lines, text);
-    where_well(lines, added)
+    value_if_ok(lines, added)
 }
 
 /// Adds the lines of a text.
@@ -45,22 +45,19 @@ fn is_step(line: &str) -> bool {
 /// The lines that say what is wanted of a command, of those below it: behind the commands that stand next, and up
 /// to the next step.
 pub fn wanted_lines<'a>(below: &'a [&'a str]) -> &'a [&'a str] {
-    for index in 0..below.len() {
-        let (line, _) = line_at(below, index);
-        if !line.starts_with("$") && !is_comment(line) {
-            return up_to_step(below.get(index..).unwrap_or(&[]));
-        }
+    let first = below
+        .iter()
+        .position(|line| !line.starts_with("$") && !is_comment(*line));
+    match first {
+        Some(index) => up_to_step(below.get(index..).unwrap_or(&[])),
+        None => &[],
     }
-    &[]
 }
 
 /// The lines up to the next step.
 fn up_to_step<'a>(lines: &'a [&'a str]) -> &'a [&'a str] {
-    for index in 0..lines.len() {
-        let (line, _) = line_at(lines, index);
-        if is_step(line) {
-            return lines.get(..index).unwrap_or(lines);
-        }
+    match lines.iter().position(|line| is_step(*line)) {
+        Some(end) => lines.get(..end).unwrap_or(lines),
+        None => lines,
     }
-    lines
 }

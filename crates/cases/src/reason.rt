@@ -56,9 +56,9 @@ impl fmt::Display for Reason {
     }
 }
 
-/// A value, where what was done with it ended well; where not, it is let go here.
-pub fn where_well<T: Drop>(value: T, ended: Result<(), Reason>) -> Result<T, Reason> {
-    match ended {
+/// The value, where what was done with it went well; else the value is let go here.
+pub fn value_if_ok<T: Drop>(value: T, outcome: Result<(), Reason>) -> Result<T, Reason> {
+    match outcome {
         Ok(()) => Ok(value),
         Err(reason) => {
             drop(value);
@@ -67,9 +67,9 @@ pub fn where_well<T: Drop>(value: T, ended: Result<(), Reason>) -> Result<T, Rea
     }
 }
 
-/// Both values, where the second was made; where not, the first is let go here.
-pub fn with<T: Drop, U>(value: T, made: Result<U, Reason>) -> Result<(T, U), Reason> {
-    match made {
+/// Both values, where the second is there; else the first is let go here.
+pub fn both_if_ok<T: Drop, U>(value: T, second: Result<U, Reason>) -> Result<(T, U), Reason> {
+    match second {
         Ok(other) => Ok((value, other)),
         Err(reason) => {
             drop(value);
@@ -84,7 +84,7 @@ pub fn add_to<T: Drop>(list: &mut Vec<T>, value: T) -> Result<(), Reason> {
 }
 
 /// Puts a value in the place of another, which is let go here.
-pub fn put_in<T: Drop>(place: &mut T, value: T) {
+pub fn replace<T: Drop>(place: &mut T, value: T) {
     *place = value;
 }
 

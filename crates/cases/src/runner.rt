@@ -1,9 +1,9 @@
 //! Runs a case, and finds what it does that isn't wanted.
-use crate::ending::{Ending, call};
+use crate::ending::{Ending, ending_of};
 use crate::files::{output_of, put_file, wanted_files};
 use crate::findings::Findings;
 use crate::lines::{belongs, line_at};
-use crate::reason::{Reason, put_in, where_well, with};
+use crate::reason::{Reason, both_if_ok, replace, value_if_ok};
 use crate::run::{Faults, Run, run_of};
 use crate::slots::Slots;
 use crate::words::{Words, command_words};
@@ -11,6 +11,15 @@ use line_io::{Files, Store};
 use std::alloc::Global;
 use std::sync::Wait;
 use std::thread::Threads;
+
+/// The status where a call of the store fails.
+const STORE_FAULT: u32 = 5;
+
+/// The status where the output can't be written.
+const OUTPUT_FAULT: u32 = 6;
+
+/// The status where a call of the disk fails.
+const DISK_FAULT: u32 = 12;
 
 /// What a command finds: the files of the store, and the slots of the disk.
 #[derive(Drop)]
@@ -21,7 +30,7 @@ pub struct Found {
 
 /// The words of a command, and what is wanted of it beside its status.
 #[derive(Drop)]
-struct Asked {
+struct Request {
     words: Vec<String>,
     output: Vec<u8>,
     files: Files,
@@ -31,7 +40,7 @@ struct Asked {
 #[derive(Clone, Copy)]
 pub struct Attempt<'a> {
     /// The line that asks for it.
-    pub asked: &'a str,
+    pub line: &'a str,
     pub words: &'a [String],
     pub found: &'a Found,
     pub faults: Faults,
@@ -128,20 +137,20 @@ impl<'a, R: Threads + Wait + Sync, S: Store> Bench<'a, R, S> {
     ) -> Result<(), Reason> {
         let run = run_of(&*below)?;
         let status = run.status()?;
-        let asked = self.asked(words, &run, found)?;
-        let left = self.run_asked(line, &asked, status, &run, found);
-        drop(asked);
-        put_in(found, left?);
+        let request = self.request_of(words, &run, found)?;
+        let left = self.run_request(line, &request, status, &run, found);
+        drop(request);
+        replace(found, left?);
         Ok(())
     }
 
     /// The words of a command, and what is wanted of it.
-    fn asked(&mut self, words: &str, run: &Run, found: &Found) -> Result<Asked, Reason> {
+    fn request_of(&mut self, words: &str, run: &Run, found: &Found) -> Result<Request, Reason> {
         let words = command_words(self.alloc, words)?;
-        let (words, output) = with(words, output_of(self.alloc, run.lines, self.folder))?;
+        let (words, output) = both_if_ok(words, output_of(self.alloc, run.lines, self.folder))?;
         let files = wanted_files(self.alloc, run.lines, &found.files, self.folder);
-        let ((words, output), files) = with((words, output), files)?;
-        Ok(Asked {
+        let ((words, output), files) = both_if_ok((words, output), files)?;
+        Ok(Request {
             words,
             output,
             files,
@@ -149,28 +158,28 @@ impl<'a, R: Threads + Wait + Sync, S: Store> Bench<'a, R, S> {
     }
 
     /// Runs a command over what it finds: with each fault in turn, and then to its status. Answers what it leaves.
-    fn run_asked(
+    fn run_request(
         &mut self,
         line: &str,
-        asked: &Asked,
+        request: &Request,
         status: u32,
         run: &Run,
         found: &Found,
     ) -> Result<Found, Reason> {
         let attempt = Attempt {
-            asked: line,
-            words: &asked.words,
+            line,
+            words: &request.words,
             found,
             faults: run.faults,
             status,
-            output: &asked.output,
-            files: &asked.files,
+            output: &request.output,
+            files: &request.files,
         };
         for line in run.lines {
             self.run_line(&attempt, *line)?;
         }
-        let ending = self.tried(&attempt)?;
-        let left = ending.left(self.alloc, run.crash);
+        let ending = self.run_attempt(&attempt)?;
+        let left = ending.leftover(self.alloc, run.crash);
         drop(ending);
         left
     }
@@ -180,10 +189,7 @@ impl<'a, R: Threads + Wait + Sync, S: Store> Bench<'a, R, S> {
         let Some(rest) = line.strip_prefix("each ") else {
             return Ok(());
         };
-        let attempt = Attempt {
-            asked: line,
-            ..*attempt
-        };
+        let attempt = Attempt { line, ..*attempt };
         if let Some(names) = rest.strip_prefix("fault in turn") {
             self.fail_store(&attempt, names)?;
             self.fail_puts(&attempt)
@@ -208,7 +214,7 @@ impl<'a, R: Threads + Wait + Sync, S: Store> Bench<'a, R, S> {
     /// Makes a call of the store fail, which is of this file.
     fn fail_file(&mut self, attempt: &Attempt, faults: Faults, name: &str) -> Result<(), Reason> {
         let line = format!(in self.alloc; "store: {name}\n")?;
-        let failed = self.fail(attempt, faults, 5, line.as_bytes());
+        let failed = self.fail(attempt, faults, STORE_FAULT, line.as_bytes());
         drop(line);
         failed
     }
@@ -218,7 +224,7 @@ impl<'a, R: Threads + Wait + Sync, S: Store> Bench<'a, R, S> {
         let mut faults = attempt.faults;
         faults.disk = 1;
         for _ in 0..calls {
-            self.fail(attempt, faults, 12, b"disk\n")?;
+            self.fail(attempt, faults, DISK_FAULT, b"disk\n")?;
             faults.disk = faults.disk.saturating_add(1);
         }
         self.check(&Attempt { faults, ..*attempt })
@@ -257,23 +263,23 @@ impl<'a, R: Threads + Wait + Sync, S: Store> Bench<'a, R, S> {
                 keep: Some(keep),
                 ..attempt.faults
             },
-            status: 6,
+            status: OUTPUT_FAULT,
             output: kept,
             ..*attempt
         })
     }
 
-    /// Tries a command, and lets go how it ends, which is among the findings where it isn't wanted.
+    /// Runs a command for the findings alone.
     fn check(&mut self, attempt: &Attempt) -> Result<(), Reason> {
-        drop(self.tried(attempt)?);
+        drop(self.run_attempt(attempt)?);
         Ok(())
     }
 
-    /// How an attempt ends, which is among the findings where it isn't wanted.
-    fn tried(&mut self, attempt: &Attempt) -> Result<Ending, Reason> {
-        let ending = call(self.rt, self.alloc, attempt)?;
+    /// Runs a command, and answers how it ends, which is among the findings where it isn't wanted.
+    fn run_attempt(&mut self, attempt: &Attempt) -> Result<Ending, Reason> {
+        let ending = ending_of(self.rt, self.alloc, attempt)?;
         let judged = self.judge(attempt, &ending);
-        where_well(ending, judged)
+        value_if_ok(ending, judged)
     }
 
     /// Adds how an attempt ends to the findings where it isn't wanted.

@@ -1,5 +1,5 @@
 //! What the two slots of a disk hold, from one command of a case to the next.
-use crate::reason::{Reason, where_well, with};
+use crate::reason::{Reason, both_if_ok, value_if_ok};
 use line_base::digits;
 use line_disk::{Disk, DiskError, MemDisk};
 use slot_store::MAX_ROOM;
@@ -9,7 +9,7 @@ use std::alloc::Global;
 const HEADER: u32 = 16;
 
 /// The address of slot 1.
-const START_OF_ONE: u64 = MAX_ROOM + 16;
+const START_OF_ONE: u64 = MAX_ROOM + HEADER as u64;
 
 /// The most bytes of a slot that are kept.
 const MAX_KEPT: u32 = 67_108_864;
@@ -60,18 +60,18 @@ impl Slots {
         };
         let mut disk = MemDisk::new(alloc, vec![in alloc; failing]?);
         let filled = self.fill(&mut disk);
-        where_well(disk, filled)
+        value_if_ok(disk, filled)
     }
 
     /// Writes the slots to a disk.
     fn fill(&self, disk: &mut MemDisk) -> Result<(), Reason> {
-        fill(disk, 0, &self.zero)?;
-        fill(disk, START_OF_ONE, &self.one)?;
+        write_slot(disk, 0, &self.zero)?;
+        write_slot(disk, START_OF_ONE, &self.one)?;
         Ok(disk.sync()?)
     }
 
     /// The slots as a command leaves them, or as a crash during one of its calls does.
-    pub fn left_on(alloc: Global, disk: &MemDisk, crash: Crash) -> Result<Self, Reason> {
+    pub fn left_by(alloc: Global, disk: &MemDisk, crash: Crash) -> Result<Self, Reason> {
         let call = match crash.call {
             0 => disk.calls(),
             call => call.saturating_add(FILLING),
@@ -86,15 +86,15 @@ impl Slots {
             return Err(Reason::NoSuchCall);
         }
         let mut left = disk.crash(call, pick)?;
-        let slots = Slots::held_by(alloc, &mut left);
+        let slots = Slots::read_from(alloc, &mut left);
         drop(left);
         slots
     }
 
-    /// The slots that a disk holds.
-    fn held_by(alloc: Global, disk: &mut MemDisk) -> Result<Self, Reason> {
-        let zero = slot_at(alloc, disk, 0)?;
-        let (zero, one) = with(zero, slot_at(alloc, disk, START_OF_ONE))?;
+    /// Reads the slots of a disk.
+    fn read_from(alloc: Global, disk: &mut MemDisk) -> Result<Self, Reason> {
+        let zero = read_slot(alloc, disk, 0)?;
+        let (zero, one) = both_if_ok(zero, read_slot(alloc, disk, START_OF_ONE))?;
         Ok(Slots { zero, one })
     }
 
@@ -103,7 +103,7 @@ impl Slots {
     pub fn text(&self, alloc: Global) -> Result<Vec<u8>, Reason> {
         let mut text = Vec::new(alloc);
         let added = self.add_to_text(&mut text);
-        where_well(text, added)
+        value_if_ok(text, added)
     }
 
     /// Adds what both slots hold.
@@ -114,7 +114,7 @@ impl Slots {
 }
 
 /// Writes the bytes of a slot, which begins there.
-fn fill(disk: &mut MemDisk, start: u64, bytes: &[u8]) -> Result<(), Reason> {
+fn write_slot(disk: &mut MemDisk, start: u64, bytes: &[u8]) -> Result<(), Reason> {
     if start > START_OF_ONE || bytes.len() > MAX_KEPT as usize {
         return Err(Reason::NoSuchCall);
     }
@@ -122,18 +122,18 @@ fn fill(disk: &mut MemDisk, start: u64, bytes: &[u8]) -> Result<(), Reason> {
     Ok(())
 }
 
-/// The bytes of the slot that begins there.
-fn slot_at(alloc: Global, disk: &mut MemDisk, start: u64) -> Result<Vec<u8>, Reason> {
+/// Reads the bytes of the slot that begins there.
+fn read_slot(alloc: Global, disk: &mut MemDisk, start: u64) -> Result<Vec<u8>, Reason> {
     if start > START_OF_ONE {
         return Err(Reason::NoSuchCall);
     }
     let head = disk.read(alloc, start, HEADER)?;
-    let count = HEADER.saturating_add(kept_length(&head));
+    let count = HEADER.saturating_add(content_length(&head));
     Ok(disk.read(alloc, start, count)?)
 }
 
 /// How many bytes of content the head of a slot gives; none where it gives more than are kept.
-fn kept_length(head: &[u8]) -> u32 {
+fn content_length(head: &[u8]) -> u32 {
     match head {
         &[_, _, 0, 0, 0, 0, a, b, c, d, ..] => {
             let length = u32::from_be_bytes([a, b, c, d]);
@@ -157,13 +157,13 @@ fn add_slot(text: &mut Vec<u8>, slot: u32, bytes: &[u8]) -> Result<(), Reason> {
         ("slot ", slot),
         (" gate ", u32::from(gate)),
         (" number ", u32::from(number)),
-        (" length ", kept_length(bytes)),
+        (" length ", content_length(bytes)),
     ];
-    for (front, number) in &numbers {
-        add_number(text, *front, *number)?;
+    for (label, number) in &numbers {
+        add_number(text, *label, *number)?;
     }
     add_bytes(text, b"\n")?;
-    add_bytes(text, shown(bytes))
+    add_bytes(text, open_content(bytes))
 }
 
 /// Adds some bytes.
@@ -171,16 +171,16 @@ fn add_bytes(text: &mut Vec<u8>, bytes: &[u8]) -> Result<(), Reason> {
     Ok(text.extend_from_slice(bytes)?)
 }
 
-/// Adds a number behind this text.
-pub fn add_number(text: &mut Vec<u8>, front: &str, number: u32) -> Result<(), Reason> {
-    add_bytes(text, front.as_bytes())?;
+/// Adds a number behind its label.
+pub fn add_number(text: &mut Vec<u8>, label: &str, number: u32) -> Result<(), Reason> {
+    add_bytes(text, label.as_bytes())?;
     let mut buffer = [0; 40];
     let count = digits(u128::from(number), &mut buffer) as usize;
     add_bytes(text, &buffer[..count])
 }
 
 /// The content of a slot whose gate is open; nothing of any other.
-fn shown(bytes: &[u8]) -> &[u8] {
+fn open_content(bytes: &[u8]) -> &[u8] {
     match bytes {
         [1, _, ..] => bytes.get(HEADER as usize..).unwrap_or(&[]),
         _ => &[],

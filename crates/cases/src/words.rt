@@ -1,5 +1,5 @@
 //! The words of a line of a case file, with a space between two of them.
-use crate::reason::{Reason, add_to, where_well};
+use crate::reason::{Reason, add_to, value_if_ok};
 use std::alloc::Global;
 
 /// The words of a line that are left.
@@ -69,7 +69,7 @@ impl<'a> Words<'a> {
 pub fn command_words(alloc: Global, line: &str) -> Result<Vec<String>, Reason> {
     let mut list = Vec::new(alloc);
     let added = add_words(alloc, &mut list, line);
-    where_well(list, added)
+    value_if_ok(list, added)
 }
 
 /// Adds the words of a line.

@@ -7,7 +7,7 @@ use Rattle.line_base.specs.declared.times.Times.TheVariants.{Fixed as FixedTime}
 use Rattle.event_graph.specs.Network.{delay}
 use Rattle.event_graph.specs.State.{State}
 use Rattle.checkpoint.specs.declared.format.Format.TheVariants.{Dates, Differences}
-use Rattle.checkpoint.specs.Text.{date_words, dates_text, delayed_arcs, delays_line, station_words, place_words, station_lines, place_lines, lines, filled, text}
+use Rattle.checkpoint.specs.Text.{date_words, dates_text, delayed_arcs, delays_line, station_words, place_words, station_lines, place_lines, lines, lines_text, text}
 
 three_dates : dates_text Differences (0 ∷ 5 ∷ 10 ∷ []) ≡ codes "3 0 5 5\n"
 unfolding dates_text date_words digits
@@ -47,9 +47,9 @@ some_firings = record {
 }
 
 a_whole_text : text Differences sample some_firings ≡ codes "pull-checkpoint 2\ndelays 2 0 4 2 1\nstation feed 2 0 2\nstation cut 1 7\nplace 0 1 6\nplace 1 1 7\nplace 2 2 0 8\nend\n"
-unfolding sample some_firings filled lines station_lines place_lines station_words place_words delays_line delayed_arcs delay dates_text date_words digits
+unfolding sample some_firings lines_text lines station_lines place_lines station_words place_words delays_line delayed_arcs delay dates_text date_words digits
 a_whole_text = refl
 
 a_whole_text_as_it_is : text Dates sample some_firings ≡ codes "pull-checkpoint 1\nstation feed 2 0 2\nstation cut 1 7\nplace 0 1 6\nplace 1 1 7\nplace 2 2 0 8\nend\n"
-unfolding sample some_firings filled lines station_lines place_lines station_words place_words dates_text date_words digits
+unfolding sample some_firings lines_text lines station_lines place_lines station_words place_words dates_text date_words digits
 a_whole_text_as_it_is = refl

@@ -7,62 +7,62 @@ use Rattle.line_base.specs.declared.event.Parts.{Parts}
 use Rattle.event_graph.specs.Network.{stations, arc_count}
 use Rattle.checkpoint.specs.declared.format.Format.{Format}
 use Rattle.checkpoint.specs.declared.format.Format.TheVariants.{Dates, Differences}
-use Rattle.checkpoint.specs.Reading.{dated}
-use Rattle.checkpoint.specs.Text.{dates_text, Line, Fixed, Dated, filled, lines, head_lines, delays_line, station_words, place_words, station_lines, place_lines}
+use Rattle.checkpoint.specs.Reading.{dated_line_count}
+use Rattle.checkpoint.specs.Text.{dates_text, Line, Fixed, Dated, lines_text, lines, head_lines, delays_line, station_words, place_words, station_lines, place_lines}
 
 -- lines that are filled one after the other
-pub filled-append : (format : Format) (xs ys : List Line) (ls ms : List (List ℕ)) → dated xs ≡ length ls → filled format (xs ++ ys) (ls ++ ms) ≡ filled format xs ls ++ filled format ys ms
-unfolding filled
+pub filled-append : (format : Format) (xs ys : List Line) (ls ms : List (List ℕ)) → dated_line_count xs ≡ length ls → lines_text format (xs ++ ys) (ls ++ ms) ≡ lines_text format xs ls ++ lines_text format ys ms
+unfolding lines_text
 filled-append format [] ys [] ms same = refl
 filled-append format [] ys (l ∷ ls) ms same = cc
 filled-append format (Fixed text ∷ xs) ys ls ms same =
-    ap (λ r. text ++ r) (filled-append format xs ys ls ms same) ∙ sym (append_assoc text (filled format xs ls) (filled format ys ms))
+    ap (λ r. text ++ r) (filled-append format xs ys ls ms same) ∙ sym (append_assoc text (lines_text format xs ls) (lines_text format ys ms))
 filled-append format (Dated words ∷ xs) ys [] ms same = cc
 filled-append format (Dated words ∷ xs) ys (l ∷ ls) ms same =
     ap (λ r. words ++ (dates_text format l ++ r)) (filled-append format xs ys ls ms (omega (arith, same)))
-    ∙ ap (λ r. words ++ r) (sym (append_assoc (dates_text format l) (filled format xs ls) (filled format ys ms)))
-    ∙ sym (append_assoc words (dates_text format l ++ filled format xs ls) (filled format ys ms))
+    ∙ ap (λ r. words ++ r) (sym (append_assoc (dates_text format l) (lines_text format xs ls) (lines_text format ys ms)))
+    ∙ sym (append_assoc words (dates_text format l ++ lines_text format xs ls) (lines_text format ys ms))
 
-dated-map : (f : ℕ → List ℕ) (xs : List ℕ) → dated (map (λ k. Dated (f k)) xs) ≡ length xs
+dated-map : (f : ℕ → List ℕ) (xs : List ℕ) → dated_line_count (map (λ k. Dated (f k)) xs) ≡ length xs
 dated-map f [] = refl
 dated-map f (x ∷ xs) = ap suc (dated-map f xs)
 
-pub dated-station_lines : (g : Parts) → dated (station_lines g) ≡ stations g
+pub dated-station_lines : (g : Parts) → dated_line_count (station_lines g) ≡ stations g
 unfolding station_lines
 dated-station_lines g = dated-map (station_words g) (range_with_len 0 (stations g)) ∙ length-range_with_len 0 (stations g)
 
-pub dated-place_lines : (g : Parts) → dated (place_lines g) ≡ arc_count g
+pub dated-place_lines : (g : Parts) → dated_line_count (place_lines g) ≡ arc_count g
 unfolding place_lines
 dated-place_lines g = dated-map place_words (range_with_len 0 (arc_count g)) ∙ length-range_with_len 0 (arc_count g)
 
 -- the text of a whole file, part by part
-pub filled-lines : (format : Format) (g : Parts) (logs places : List (List ℕ)) → length logs ≡ stations g → length places ≡ arc_count g → filled format (lines format g) (logs ++ places) ≡ filled format (head_lines format g) [] ++ (filled format (station_lines g) logs ++ (filled format (place_lines g) places ++ codes "end\n"))
-unfolding lines filled
+pub filled-lines : (format : Format) (g : Parts) (logs places : List (List ℕ)) → length logs ≡ stations g → length places ≡ arc_count g → lines_text format (lines format g) (logs ++ places) ≡ lines_text format (head_lines format g) [] ++ (lines_text format (station_lines g) logs ++ (lines_text format (place_lines g) places ++ codes "end\n"))
+unfolding lines lines_text
 filled-lines format g logs places a_log a_place =
     filled-append format (head_lines format g) _ [] (logs ++ places) (no_dates format)
-    ∙ ap (λ l. filled format (head_lines format g) [] ++ l)
+    ∙ ap (λ l. lines_text format (head_lines format g) [] ++ l)
     (filled-append format (station_lines g) _ logs places (dated-station_lines g ∙ sym a_log)
-    ∙ ap (λ l. filled format (station_lines g) logs ++ l)
-    (ap (filled format (place_lines g ++ Fixed (codes "end\n") ∷ [])) (sym (append-nil places))
+    ∙ ap (λ l. lines_text format (station_lines g) logs ++ l)
+    (ap (lines_text format (place_lines g ++ Fixed (codes "end\n") ∷ [])) (sym (append-nil places))
     ∙ filled-append format (place_lines g) (Fixed (codes "end\n") ∷ []) places [] (dated-place_lines g ∙ sym a_place)
-    ∙ ap (λ l. filled format (place_lines g) places ++ l) (append-nil (codes "end\n"))))
+    ∙ ap (λ l. lines_text format (place_lines g) places ++ l) (append-nil (codes "end\n"))))
   where
-    no_dates : (f : Format) → dated (head_lines f g) ≡ 0
+    no_dates : (f : Format) → dated_line_count (head_lines f g) ≡ 0
     no_dates Dates = refl
     no_dates Differences = refl
 
 -- the parts of a written text
-pub text_written : (g : Parts) (logs places : List (List ℕ)) (delays stations_ places_ : List ℕ) → length logs ≡ stations g → length places ≡ arc_count g → delays ≡ filled Differences (head_lines Differences g) [] → stations_ ≡ delays ++ filled Differences (station_lines g) logs → places_ ≡ stations_ ++ filled Differences (place_lines g) places → places_ ++ codes "end\n" ≡ filled Differences (lines Differences g) (logs ++ places)
+pub text_written : (g : Parts) (logs places : List (List ℕ)) (delays stations_ places_ : List ℕ) → length logs ≡ stations g → length places ≡ arc_count g → delays ≡ lines_text Differences (head_lines Differences g) [] → stations_ ≡ delays ++ lines_text Differences (station_lines g) logs → places_ ≡ stations_ ++ lines_text Differences (place_lines g) places → places_ ++ codes "end\n" ≡ lines_text Differences (lines Differences g) (logs ++ places)
 text_written g logs places delays stations_ places_ a_log a_place head is_stations is_places =
-    let head_text = filled Differences (head_lines Differences g) [] in
-    let station_text = filled Differences (station_lines g) logs in
-    let place_text = filled Differences (place_lines g) places in
+    let head_text = lines_text Differences (head_lines Differences g) [] in
+    let station_text = lines_text Differences (station_lines g) logs in
+    let place_text = lines_text Differences (place_lines g) places in
     ap (λ l. l ++ codes "end\n") (is_places ∙ ap (λ l. l ++ place_text) (is_stations ∙ ap (λ l. l ++ station_text) head))
     ∙ append_assoc (head_text ++ station_text) place_text (codes "end\n")
     ∙ append_assoc head_text station_text (place_text ++ codes "end\n")
     ∙ sym (filled-lines Differences g logs places a_log a_place)
 
 -- the first lines, written
-pub head_written : (g : Parts) (titled delays : List ℕ) → titled ≡ codes "pull-checkpoint 2\n" → delays ≡ titled ++ delays_line g → delays ≡ filled Differences (head_lines Differences g) []
-unfolding filled
+pub head_written : (g : Parts) (titled delays : List ℕ) → titled ≡ codes "pull-checkpoint 2\n" → delays ≡ titled ++ delays_line g → delays ≡ lines_text Differences (head_lines Differences g) []
+unfolding lines_text
 head_written g titled delays title is = is ∙ ap (λ l. l ++ delays_line g) title ∙ ap (λ l. codes "pull-checkpoint 2\n" ++ l) (sym (append-nil (delays_line g)))

@@ -19,12 +19,12 @@ use Rattle.event_graph.specs.State.{State, log, place}
 use Rattle.event_graph.specs.Reached.{Reached}
 use Rattle.event_graph.proofs.Ranges.{All-range}
 use Rattle.event_graph.proofs.Sizes.{delay-small, tokens-small}
-use Rattle.line_core.specs.Consistent.{all_tokens, IsConsistent, fired}
+use Rattle.line_core.specs.Consistent.{all_tokens, IsConsistent, firing_count}
 use Rattle.line_core.proofs.Bounds.{fired-le, reached_is_within}
 use Rattle.line_core.proofs.Consistency.{reached_is_consistent}
 use Rattle.checkpoint.specs.declared.format.Format.{Format}
 use Rattle.checkpoint.specs.declared.format.Format.TheVariants.{Dates, Differences}
-use Rattle.checkpoint.specs.Text.{dates_text, delayed_arcs, two_words, delay_words, delays_line, head_lines, station_words, place_words, station_lines, place_lines, lines, filled}
+use Rattle.checkpoint.specs.Text.{dates_text, delayed_arcs, two_words, delay_words, delays_line, head_lines, station_words, place_words, station_lines, place_lines, lines, lines_text}
 use Rattle.checkpoint.specs.Length.{HasFewArcs, HasShortLabels, FitsLimit}
 use Rattle.checkpoint.proofs.FilledTexts.{filled-lines}
 use Rattle.checkpoint.proofs.WordLengths.{IsEarly, log_text-le, left_text-le, dated_lines-le, sum_of_sizes}
@@ -63,8 +63,8 @@ delays_line-le g limits =
     omega (arith, length-append (decimal (length arcs)) (words ++ codes "\n"), length-append words (codes "\n"), length-flat_map (delay_words g) arcs, each, delayed_arcs-le g, limits.few_arcs, length-decimal-le 4 (length arcs) (omega arith) (omega (arith, delayed_arcs-le g, limits.few_arcs)) (omega (arith, delayed_arcs-le g, limits.few_arcs)))
 
 -- the first lines are short
-head-le : (format : Format) (g : Parts) → IsWithinLimits g → length (filled format (head_lines format g) []) ≤ 100_100
-unfolding filled
+head-le : (format : Format) (g : Parts) → IsWithinLimits g → length (lines_text format (head_lines format g) []) ≤ 100_100
+unfolding lines_text
 head-le Dates g limits = omega arith
 head-le Differences g limits = omega (arith, ap length (append-nil (delays_line g)), delays_line-le g limits)
 
@@ -109,7 +109,7 @@ module _ (format : Format) (g : Parts) (s : State) (graph : IsGraph g) (limits :
       log_text-le format (log s t) (omega (arith, consistent.few_dates t there, limits.few_jobs)) ((reached_is_within g s limits reached).logs t there))
 
   -- so do those of all logs, which have a date for each firing; their words take 58 bytes each
-  stations-le : HasShortLabels g → length (filled format (station_lines g) s.logs) ≤ 64 * stations g + 18 * fired s
+  stations-le : HasShortLabels g → length (lines_text format (station_lines g) s.logs) ≤ 64 * stations g + 18 * firing_count s
   unfolding station_lines
   stations-le short =
       let numbers = range_with_len 0 (stations g) in
@@ -138,7 +138,7 @@ module _ (format : Format) (g : Parts) (s : State) (graph : IsGraph g) (limits :
       All-from_get_or (λ dates. length (dates_text format dates) ≤ 20_006 + 18 * jobs g) s.places [] (λ a low. place_text-le a (omega (arith, low, consistent.a_place_each)))
 
   -- and so all places
-  places-le : length (filled format (place_lines g) s.places) ≤ 20_017 * arc_count g + 18 * (arc_count g * jobs g)
+  places-le : length (lines_text format (place_lines g) s.places) ≤ 20_017 * arc_count g + 18 * (arc_count g * jobs g)
   unfolding place_lines
   places-le =
       let size = 20_006 + 18 * jobs g in
@@ -159,12 +159,12 @@ module _ (format : Format) (g : Parts) (s : State) (graph : IsGraph g) (limits :
       omega (arith, more, limits.small_table, limits.few_jobs)
 
   -- the first lines, those of the stations, those of the arcs, and the end
-  text-le : HasFewArcs g → HasShortLabels g → length (filled format (lines format g) (s.logs ++ s.places)) ≤ most_checkpoint_bytes
+  text-le : HasFewArcs g → HasShortLabels g → length (lines_text format (lines format g) (s.logs ++ s.places)) ≤ most_checkpoint_bytes
   text-le few short =
       let c = consistent in
-      let head = filled format (head_lines format g) [] in
-      let station_text = filled format (station_lines g) s.logs in
-      let place_text = filled format (place_lines g) s.places in
+      let head = lines_text format (head_lines format g) [] in
+      let station_text = lines_text format (station_lines g) s.logs in
+      let place_text = lines_text format (place_lines g) s.places in
       omega (arith, ap length (filled-lines format g s.logs s.places c.a_log_each c.a_place_each), length-append head (station_text ++ (place_text ++ codes "end\n")), length-append station_text (place_text ++ codes "end\n"), length-append place_text (codes "end\n"), head-le format g limits, stations-le short, places-le, fired-le g s c, arc_jobs-le few, limits.small_table, limits.few_stations, few)
 
 -- no text of a state that firings reach is longer than a checkpoint may be

@@ -23,9 +23,9 @@ use Rattle.checkpoint.specs.declared.format.Format.{Format}
 use Rattle.checkpoint.specs.declared.format.Format.TheVariants.{Dates, Differences}
 use Rattle.checkpoint.specs.declared.error.CheckpointError.{CheckpointError}
 use Rattle.checkpoint.specs.declared.error.CheckpointError.TheVariants.{Line, Count, Marking, Date, PlaceDate, NoMemory}
-use Rattle.checkpoint.specs.Text.{lines, head_lines, station_lines, place_lines, filled, IsTextOf, AreGiven}
+use Rattle.checkpoint.specs.Text.{lines, head_lines, station_lines, place_lines, lines_text, IsTextOf, AreGiven}
 use Rattle.checkpoint.specs.Text.{Fixed}
-use Rattle.checkpoint.specs.Reading.{dated}
+use Rattle.checkpoint.specs.Reading.{dated_line_count}
 use Rattle.checkpoint.specs.Answers.{IsRefused, Tells, IsStateOrNoMemory}
 use Rattle.checkpoint.proofs.FilledTexts.{dated-station_lines, dated-place_lines}
 use Rattle.checkpoint.proofs.ReadDates.{IsGiven}
@@ -54,13 +54,13 @@ shaped_reached g s limits reached =
       given = All-append (All IsGiven) s.logs s.places logs places;
     }
 
-pub dated-lines : (format : Format) (g : Parts) → dated (lines format g) ≡ stations g + arc_count g
+pub dated-lines : (format : Format) (g : Parts) → dated_line_count (lines format g) ≡ stations g + arc_count g
 unfolding lines
 dated-lines format g =
     dated-append (head_lines format g) _
     ∙ omega (arith, none format, dated-append (station_lines g) (place_lines g ++ Fixed (codes "end\n") ∷ []), dated-append (place_lines g) (Fixed (codes "end\n") ∷ []), dated-station_lines g, dated-place_lines g)
   where
-    none : (f : Format) → dated (head_lines f g) ≡ 0
+    none : (f : Format) → dated_line_count (head_lines f g) ≡ 0
     none Dates = refl
     none Differences = refl
 
@@ -84,9 +84,9 @@ short_reached format g s graph limits reached k low =
     (cases_lt k (length s.logs))
 
 module _ (g : Parts) (bytes : List ℕ) (s u : State) (shaped_s : IsShaped g s) (shaped_u : IsShaped g u) (text_s : IsTextOf g s bytes) (text_u : IsTextOf g u bytes) where
-  whole : (format : Format) (lists : List (List ℕ)) → bytes ≡ filled format (lines format g) lists → bytes ≡ filled format (take (length (lines format g)) (lines format g)) lists ++ []
+  whole : (format : Format) (lists : List (List ℕ)) → bytes ≡ lines_text format (lines format g) lists → bytes ≡ lines_text format (take (length (lines format g)) (lines format g)) lists ++ []
   whole format lists is =
-      is ∙ ap (λ l. filled format l lists) (sym (take_all (length (lines format g)) (lines format g) (omega arith))) ∙ sym (append-nil _)
+      is ∙ ap (λ l. lines_text format l lists) (sym (take_all (length (lines format g)) (lines format g) (omega arith))) ∙ sym (append-nil _)
 
   same_format : text_s.format ≡ text_u.format
   same_format =
@@ -96,9 +96,9 @@ module _ (g : Parts) (bytes : List ℕ) (s u : State) (shaped_s : IsShaped g s) 
   pub one_state : HasShortLists (lines text_s.format g) (lists_of s) → HasShortLists (lines text_u.format g) (lists_of u) → s ≡ u
   one_state short_s short_u =
       let format = text_s.format in
-      let is_u : bytes ≡ filled format (lines format g) (lists_of u) = text_u.is ∙ ap (λ f. filled f (lines f g) (lists_of u)) (sym same_format) in
+      let is_u : bytes ≡ lines_text format (lines format g) (lists_of u) = text_u.is ∙ ap (λ f. lines_text f (lines f g) (lists_of u)) (sym same_format) in
       let short_u' = subst (λ f. HasShortLists (lines f g) (lists_of u)) (sym same_format) short_u in
-      let both = append-nil (filled format (lines format g) (lists_of s)) ∙ sym text_s.is ∙ is_u ∙ sym (append-nil (filled format (lines format g) (lists_of u))) in
+      let both = append-nil (lines_text format (lines format g) (lists_of s)) ∙ sym text_s.is ∙ is_u ∙ sym (append-nil (lines_text format (lines format g) (lists_of u))) in
       let unique = filled-unique format (lines format g) (lists_of s) (lists_of u) [] [] shaped_s.given shaped_u.given short_s short_u' both in
       let long_s = length-append s.logs s.places in
       let long_u = length-append u.logs u.places in
@@ -113,7 +113,7 @@ module _ (g : Parts) (bytes : List ℕ) (s u : State) (shaped_s : IsShaped g s) 
 pub short_text : (g : Parts) (bytes : List ℕ) (s : State) → IsShaped g s → (text : IsTextOf g s bytes) → length bytes < 2 ^ 32 → HasShortLists (lines text.format g) (lists_of s)
 short_text g bytes s shaped text short =
     short_lists text.format (lines text.format g) (lists_of s) [] shaped.given
-    (omega (arith, short, ap length text.is, length-append (filled text.format (lines text.format g) (lists_of s)) []))
+    (omega (arith, short, ap length text.is, length-append (lines_text text.format (lines text.format g) (lists_of s)) []))
 
 module _ (g : Parts) (bytes : List ℕ) (limits : IsWithinLimits g) (short : length bytes < 2 ^ 32) (s : State) (reached : Reached g s) (text : IsTextOf g s bytes) where
   same_state : (u : State) → IsShaped g u → IsTextOf g u bytes → u ≡ s

@@ -8,7 +8,7 @@ use Rattle.event_graph.specs.Network.{stations, arc_count, label}
 use Rattle.line_core.specs.Parts.{list_at}
 use Rattle.checkpoint.specs.declared.format.Format.{Format}
 use Rattle.checkpoint.specs.declared.format.Format.TheVariants.{Dates, Differences}
-use Rattle.checkpoint.specs.Text.{dates_text, Line, Fixed, Dated, filled, lines, head_lines, delayed_arcs, delays_line, station_words, place_words, station_lines, place_lines, IsReadFor, AreGiven}
+use Rattle.checkpoint.specs.Text.{dates_text, Line, Fixed, Dated, lines_text, lines, head_lines, delayed_arcs, delays_line, station_words, place_words, station_lines, place_lines, IsReadFor, AreGiven}
 use Rattle.line_base.specs.Roomy.{RoomyLog, RoomyLogs, dates_of}
 use Rattle.checkpoint.specs.declared.error.CheckpointError.{CheckpointError}
 use Rattle.checkpoint.specs.declared.error.CheckpointError.TheVariants.{Line as LineError}
@@ -16,7 +16,7 @@ use Rattle.checkpoint.specs.declared.error.Stop.{Stop}
 use Rattle.checkpoint.specs.declared.error.Stop.TheVariants.{Form, Memory}
 use Rattle.checkpoint.specs.Answers.{stopped_at, Tells}
 use Rattle.checkpoint.specs.FirstBadLine.{BeginsWell, IsFirstBadLine}
-use Rattle.checkpoint.specs.Reading.{Reading, HasRead, head_count, dated}
+use Rattle.checkpoint.specs.Reading.{Reading, HasRead, head_count, dated_line_count}
 use Rattle.checkpoint.proofs.WrittenTexts.{length-station_lines, station_line_at, length-place_lines, place_line_at}
 use Rattle.checkpoint.proofs.FilledTexts.{filled-append}
 use Rattle.checkpoint.proofs.ReadDates.{IsGiven}
@@ -95,12 +95,12 @@ pub line_at-delays : (g : Parts) → line_at Differences g 1 ≡ Fixed (delays_l
 unfolding lines
 line_at-delays g = refl
 
-title_at : (format : Format) (g : Parts) (n : ℕ) (lists : List (List ℕ)) (rest : List ℕ) → get_or (filled format (take (suc n) (lines format g)) lists ++ rest) 16 0 ≡ format_byte format
-unfolding lines filled format_byte
+title_at : (format : Format) (g : Parts) (n : ℕ) (lists : List (List ℕ)) (rest : List ℕ) → get_or (lines_text format (take (suc n) (lines format g)) lists ++ rest) 16 0 ≡ format_byte format
+unfolding lines lines_text format_byte
 title_at Dates g n lists rest = refl
 title_at Differences g n lists rest = refl
 
-title_told : (format : Format) (g : Parts) (n : ℕ) (lists : List (List ℕ)) (rest text : List ℕ) → 1 ≤ n → text ≡ filled format (take n (lines format g)) lists ++ rest → get_or text 16 0 ≡ format_byte format
+title_told : (format : Format) (g : Parts) (n : ℕ) (lists : List (List ℕ)) (rest text : List ℕ) → 1 ≤ n → text ≡ lines_text format (take n (lines format g)) lists ++ rest → get_or text 16 0 ≡ format_byte format
 title_told format g zero lists rest text some is = absurd (omega (arith, some))
 title_told format g (suc n) lists rest text some is = ap (λ l. get_or l 16 0) is ∙ title_at format g n lists rest
 
@@ -109,7 +109,7 @@ unfolding format_byte
 bytes_differ e = omega (arith, e)
 
 -- a text with a first line has one format
-pub one_format : (f h : Format) (g : Parts) (n m : ℕ) (ls ms : List (List ℕ)) (r s text : List ℕ) → 1 ≤ n → 1 ≤ m → text ≡ filled f (take n (lines f g)) ls ++ r → text ≡ filled h (take m (lines h g)) ms ++ s → f ≡ h
+pub one_format : (f h : Format) (g : Parts) (n m : ℕ) (ls ms : List (List ℕ)) (r s text : List ℕ) → 1 ≤ n → 1 ≤ m → text ≡ lines_text f (take n (lines f g)) ls ++ r → text ≡ lines_text h (take m (lines h g)) ms ++ s → f ≡ h
 one_format f h g n m ls ms r s text some_n some_m is_f is_h =
     same_byte f h (sym (title_told f g n ls r text some_n is_f) ∙ title_told h g m ms s text some_m is_h)
   where
@@ -121,23 +121,23 @@ one_format f h g n m ls ms r s text some_n some_m is_f is_h =
 
 -- ---- one more line
 
-pub dated-append : (xs ys : List Line) → dated (xs ++ ys) ≡ dated xs + dated ys
+pub dated-append : (xs ys : List Line) → dated_line_count (xs ++ ys) ≡ dated_line_count xs + dated_line_count ys
 dated-append [] ys = omega arith
 dated-append (Fixed text ∷ xs) ys = dated-append xs ys
 dated-append (Dated words ∷ xs) ys = omega (arith, dated-append xs ys)
 
 -- lines that are filled one after the other, from lists of any number
-pub filled-split : (format : Format) (xs ys : List Line) (ls : List (List ℕ)) → filled format (xs ++ ys) ls ≡ filled format xs ls ++ filled format ys (drop (dated xs) ls)
-unfolding filled
+pub filled-split : (format : Format) (xs ys : List Line) (ls : List (List ℕ)) → lines_text format (xs ++ ys) ls ≡ lines_text format xs ls ++ lines_text format ys (drop (dated_line_count xs) ls)
+unfolding lines_text
 filled-split format [] ys ls = refl
 filled-split format (Fixed text ∷ xs) ys ls =
-    ap (λ r. text ++ r) (filled-split format xs ys ls) ∙ sym (append_assoc text (filled format xs ls) (filled format ys (drop (dated xs) ls)))
+    ap (λ r. text ++ r) (filled-split format xs ys ls) ∙ sym (append_assoc text (lines_text format xs ls) (lines_text format ys (drop (dated_line_count xs) ls)))
 filled-split format (Dated words ∷ xs) ys ls =
-    let rest = filled format ys (drop (dated xs) (drop 1 ls)) in
+    let rest = lines_text format ys (drop (dated_line_count xs) (drop 1 ls)) in
     ap (λ r. words ++ (dates_text format (list_at ls 0) ++ r)) (filled-split format xs ys (drop 1 ls))
-    ∙ ap (λ r. words ++ r) (sym (append_assoc (dates_text format (list_at ls 0)) (filled format xs (drop 1 ls)) rest))
-    ∙ sym (append_assoc words (dates_text format (list_at ls 0) ++ filled format xs (drop 1 ls)) rest)
-    ∙ ap (λ l. (words ++ (dates_text format (list_at ls 0) ++ filled format xs (drop 1 ls))) ++ filled format ys l) (further ls (dated xs))
+    ∙ ap (λ r. words ++ r) (sym (append_assoc (dates_text format (list_at ls 0)) (lines_text format xs (drop 1 ls)) rest))
+    ∙ sym (append_assoc words (dates_text format (list_at ls 0) ++ lines_text format xs (drop 1 ls)) rest)
+    ∙ ap (λ l. (words ++ (dates_text format (list_at ls 0) ++ lines_text format xs (drop 1 ls))) ++ lines_text format ys l) (further ls (dated_line_count xs))
   where
     further : (l : List (List ℕ)) (n : ℕ) → drop n (drop 1 l) ≡ drop (suc n) l
     further [] zero = refl
@@ -146,37 +146,37 @@ filled-split format (Dated words ∷ xs) ys ls =
 
 module _ (format : Format) (g : Parts) (n : ℕ) (lists : List (List ℕ)) (r : Reading) (has : HasRead format g n lists r) where
   pub read_dated : (words dates : List ℕ) (after : Reading) → n < length (lines format g) → line_at format g n ≡ Dated words → r.rest ≡ words ++ (dates_text format dates ++ after.rest) → after.text ≡ r.text → All IsGiven dates → HasRead format g (n + 1) (lists ++ dates ∷ []) after
-  unfolding filled
+  unfolding lines_text
   read_dated words dates after low line is text given =
       let more = take_more (lines format g) n (Fixed []) low ∙ ap (λ l. take n (lines format g) ++ l ∷ []) line in
       let read = filled-append format (take n (lines format g)) (Dated words ∷ []) lists (dates ∷ []) has.a_list_each in
       record {
         within = omega arith;
-        a_list_each = ap dated more ∙ dated-append (take n (lines format g)) (Dated words ∷ []) ∙ ap (λ m. m + 1) has.a_list_each ∙ sym (length_push lists dates);
+        a_list_each = ap dated_line_count more ∙ dated-append (take n (lines format g)) (Dated words ∷ []) ∙ ap (λ m. m + 1) has.a_list_each ∙ sym (length_push lists dates);
         given = All-push (All IsGiven) lists dates has.given given;
         is =
             text ∙ has.is
-            ∙ ap (λ l. filled format (take n (lines format g)) lists ++ l) (is ∙ sym (append_assoc words (dates_text format dates) after.rest) ∙ ap (λ l. (words ++ l) ++ after.rest) (sym (append-nil (dates_text format dates))))
-            ∙ sym (append_assoc (filled format (take n (lines format g)) lists) (words ++ (dates_text format dates ++ [])) after.rest)
+            ∙ ap (λ l. lines_text format (take n (lines format g)) lists ++ l) (is ∙ sym (append_assoc words (dates_text format dates) after.rest) ∙ ap (λ l. (words ++ l) ++ after.rest) (sym (append-nil (dates_text format dates))))
+            ∙ sym (append_assoc (lines_text format (take n (lines format g)) lists) (words ++ (dates_text format dates ++ [])) after.rest)
             ∙ ap (λ l. l ++ after.rest) (sym read)
-            ∙ ap (λ l. filled format l (lists ++ dates ∷ []) ++ after.rest) (sym more);
+            ∙ ap (λ l. lines_text format l (lists ++ dates ∷ []) ++ after.rest) (sym more);
       }
 
   pub read_fixed : (words : List ℕ) (after : Reading) → n < length (lines format g) → line_at format g n ≡ Fixed words → r.rest ≡ words ++ after.rest → after.text ≡ r.text → HasRead format g (n + 1) lists after
-  unfolding filled
+  unfolding lines_text
   read_fixed words after low line is text =
       let more = take_more (lines format g) n (Fixed []) low ∙ ap (λ l. take n (lines format g) ++ l ∷ []) line in
       let read = filled-split format (take n (lines format g)) (Fixed words ∷ []) lists in
       record {
         within = omega arith;
-        a_list_each = ap dated more ∙ dated-append (take n (lines format g)) (Fixed words ∷ []) ∙ same _ ∙ has.a_list_each;
+        a_list_each = ap dated_line_count more ∙ dated-append (take n (lines format g)) (Fixed words ∷ []) ∙ same _ ∙ has.a_list_each;
         given = has.given;
         is =
             text ∙ has.is
-            ∙ ap (λ l. filled format (take n (lines format g)) lists ++ l) (is ∙ ap (λ l. l ++ after.rest) (sym (append-nil words)))
-            ∙ sym (append_assoc (filled format (take n (lines format g)) lists) (words ++ []) after.rest)
+            ∙ ap (λ l. lines_text format (take n (lines format g)) lists ++ l) (is ∙ ap (λ l. l ++ after.rest) (sym (append-nil words)))
+            ∙ sym (append_assoc (lines_text format (take n (lines format g)) lists) (words ++ []) after.rest)
             ∙ ap (λ l. l ++ after.rest) (sym read)
-            ∙ ap (λ l. filled format l lists ++ after.rest) (sym more);
+            ∙ ap (λ l. lines_text format l lists ++ after.rest) (sym more);
       }
     where
       same : (m : ℕ) → m + 0 ≡ m
@@ -201,14 +201,14 @@ module _ (format : Format) (g : Parts) (n : ℕ) (lists : List (List ℕ)) (r : 
       record { from_one = omega arith; good_before = subst (BeginsWell g r.text) back (good read); bad = bad }
 
   -- what is left of the text in any other reading that goes as far
-  same_rest : (ms : List (List ℕ)) (rest : List ℕ) → length r.text < 2 ^ 64 → AreGiven ms → r.text ≡ filled format (take n (lines format g)) ms ++ rest → r.rest ≡ rest
+  same_rest : (ms : List (List ℕ)) (rest : List ℕ) → length r.text < 2 ^ 64 → AreGiven ms → r.text ≡ lines_text format (take n (lines format g)) ms ++ rest → r.rest ≡ rest
   same_rest ms rest short given is =
       let front = take n (lines format g) in
       let short_ls = short_lists format front lists r.rest has.given (omega (arith, short, ap length has.is)) in
       let short_ms = short_lists format front ms rest given (omega (arith, short, ap length is)) in
       (filled-unique format front lists ms r.rest rest has.given given short_ls short_ms (sym has.is ∙ is)).1
 
-  pub first_bad : IsReadFor format g → 1 ≤ n → n < length (lines format g) → length r.text < 2 ^ 64 → ((ms : List (List ℕ)) (after : List ℕ) → AreGiven ms → r.rest ≡ filled format (line_at format g n ∷ []) ms ++ after → ⊥) → IsFirstBadLine g r.text (n + 1)
+  pub first_bad : IsReadFor format g → 1 ≤ n → n < length (lines format g) → length r.text < 2 ^ 64 → ((ms : List (List ℕ)) (after : List ℕ) → AreGiven ms → r.rest ≡ lines_text format (line_at format g n ∷ []) ms ++ after → ⊥) → IsFirstBadLine g r.text (n + 1)
   first_bad read some low short none = bad_line read bad
     where
       bad : ¬ BeginsWell g r.text (n + 1)
@@ -216,28 +216,28 @@ module _ (format : Format) (g : Parts) (n : ℕ) (lists : List (List ℕ)) (r : 
           let front = take n (lines format g) in
           let line = line_at format g n in
           let same = one_format format b.format g n (n + 1) lists b.lists r.rest b.rest r.text some (omega arith) has.is b.is in
-          let is = b.is ∙ ap (λ h. filled h (take (n + 1) (lines h g)) b.lists ++ b.rest) (sym same) in
+          let is = b.is ∙ ap (λ h. lines_text h (take (n + 1) (lines h g)) b.lists ++ b.rest) (sym same) in
           let split =
-          ap (λ l. filled format l b.lists ++ b.rest) (take_more (lines format g) n (Fixed []) low)
+          ap (λ l. lines_text format l b.lists ++ b.rest) (take_more (lines format g) n (Fixed []) low)
           ∙ ap (λ l. l ++ b.rest) (filled-split format front (line ∷ []) b.lists)
-          ∙ append_assoc (filled format front b.lists) (filled format (line ∷ []) (drop (dated front) b.lists)) b.rest
+          ∙ append_assoc (lines_text format front b.lists) (lines_text format (line ∷ []) (drop (dated_line_count front) b.lists)) b.rest
           in
-          none (drop (dated front) b.lists) b.rest (All-drop (All IsGiven) (dated front) b.lists b.given) (same_rest b.lists _ short b.given (is ∙ split))
+          none (drop (dated_line_count front) b.lists) b.rest (All-drop (All IsGiven) (dated_line_count front) b.lists b.given) (same_rest b.lists _ short b.given (is ∙ split))
 
   pub first_bad_fixed : (words : List ℕ) → IsReadFor format g → 1 ≤ n → n < length (lines format g) → length r.text < 2 ^ 64 → line_at format g n ≡ Fixed words → ((after : List ℕ) → r.rest ≡ words ++ after → ⊥) → IsFirstBadLine g r.text (n + 1)
-  unfolding filled
+  unfolding lines_text
   first_bad_fixed words read some low short line none =
       first_bad read some low short
-      (λ ms after given is. none after (is ∙ ap (λ l. filled format (l ∷ []) ms ++ after) line ∙ ap (λ l. l ++ after) (append-nil words)))
+      (λ ms after given is. none after (is ∙ ap (λ l. lines_text format (l ∷ []) ms ++ after) line ∙ ap (λ l. l ++ after) (append-nil words)))
 
   pub first_bad_dated : (words : List ℕ) → IsReadFor format g → 1 ≤ n → n < length (lines format g) → length r.text < 2 ^ 64 → line_at format g n ≡ Dated words → ((dates after : List ℕ) → All IsGiven dates → r.rest ≡ words ++ (dates_text format dates ++ after) → ⊥) → IsFirstBadLine g r.text (n + 1)
-  unfolding filled
+  unfolding lines_text
   first_bad_dated words read some low short line none =
       first_bad read some low short
       (λ ms after given is.
       let text = dates_text format (list_at ms 0) in
       none (list_at ms 0) after (given_at ms given)
-      (is ∙ ap (λ l. filled format (l ∷ []) ms ++ after) line ∙ ap (λ l. (words ++ l) ++ after) (append-nil text) ∙ append_assoc words text after))
+      (is ∙ ap (λ l. lines_text format (l ∷ []) ms ++ after) line ∙ ap (λ l. (words ++ l) ++ after) (append-nil text) ∙ append_assoc words text after))
 
   -- something stands behind the last line
   pub first_bad_rest : IsReadFor format g → n ≡ length (lines format g) → length r.text < 2 ^ 64 → (r.rest ≡ [] → ⊥) → IsFirstBadLine g r.text (n + 1)
@@ -247,16 +247,16 @@ module _ (format : Format) (g : Parts) (n : ℕ) (lists : List (List ℕ)) (r : 
       bad b =
           let whole = length-lines format g in
           let same = one_format format b.format g n (n + 1) lists b.lists r.rest b.rest r.text (omega (arith, whole, all)) (omega arith) has.is b.is in
-          let is = b.is ∙ ap (λ h. filled h (take (n + 1) (lines h g)) b.lists ++ b.rest) (sym same) in
+          let is = b.is ∙ ap (λ h. lines_text h (take (n + 1) (lines h g)) b.lists ++ b.rest) (sym same) in
           let cut = take_all (n + 1) (lines format g) (omega (arith, all)) ∙ sym (take_all n (lines format g) (omega (arith, all))) in
-          let rest = same_rest b.lists b.rest short b.given (is ∙ ap (λ l. filled format l b.lists ++ b.rest) cut) in
+          let rest = same_rest b.lists b.rest short b.given (is ∙ ap (λ l. lines_text format l b.lists ++ b.rest) cut) in
           let none = b.ends (omega (arith, all, ap (λ h. length (lines h g)) same)) in
           some (rest ∙ none)
 
 -- ---- the first lines
 
 pub read_nothing : (format : Format) (g : Parts) (r : Reading) → r.rest ≡ r.text → HasRead format g 0 [] r
-unfolding filled
+unfolding lines_text
 read_nothing format g r fresh = record {
   within = omega arith;
   a_list_each = refl;
@@ -266,7 +266,7 @@ read_nothing format g r fresh = record {
 
 -- no first line that may stand there is that of the text
 pub first_line_bad : (g : Parts) (text : List ℕ) → ((format : Format) (after : List ℕ) → IsReadFor format g → text ≡ title format ++ after → ⊥) → IsFirstBadLine g text 1
-unfolding filled
+unfolding lines_text
 first_line_bad g text none = record {
   from_one = omega arith;
   good_before = record {
@@ -281,9 +281,9 @@ first_line_bad g text none = record {
   bad = bad;
 }
   where
-    first : (format : Format) (lists : List (List ℕ)) (rest : List ℕ) → filled format (take 1 (lines format g)) lists ++ rest ≡ title format ++ rest
+    first : (format : Format) (lists : List (List ℕ)) (rest : List ℕ) → lines_text format (take 1 (lines format g)) lists ++ rest ≡ title format ++ rest
     first format lists rest =
-        ap (λ l. filled format l lists ++ rest) (take_more (lines format g) 0 (Fixed []) (omega (arith, length-lines format g)) ∙ ap (λ l. l ∷ []) (line_at-title format g))
+        ap (λ l. lines_text format l lists ++ rest) (take_more (lines format g) 0 (Fixed []) (omega (arith, length-lines format g)) ∙ ap (λ l. l ∷ []) (line_at-title format g))
         ∙ ap (λ l. l ++ rest) (append-nil (title format))
 
     bad : ¬ BeginsWell g text 1
@@ -292,16 +292,16 @@ first_line_bad g text none = record {
 -- ---- a whole text
 
 -- the text of lists begins well, however far
-pub text_begins_well : (format : Format) (g : Parts) (lists : List (List ℕ)) (text : List ℕ) (number : ℕ) → IsReadFor format g → AreGiven lists → text ≡ filled format (lines format g) lists → BeginsWell g text number
-unfolding filled
+pub text_begins_well : (format : Format) (g : Parts) (lists : List (List ℕ)) (text : List ℕ) (number : ℕ) → IsReadFor format g → AreGiven lists → text ≡ lines_text format (lines format g) lists → BeginsWell g text number
+unfolding lines_text
 text_begins_well format g lists text number read given is = record {
   format = format;
   read = read;
   lists = lists;
   given = given;
-  rest = filled format (drop number (lines format g)) (drop (dated (take number (lines format g))) lists);
-  is = is ∙ ap (λ l. filled format l lists) (sym (take-append-drop number (lines format g))) ∙ filled-split format (take number (lines format g)) (drop number (lines format g)) lists;
-  ends = λ past. ap (λ l. filled format l (drop (dated (take number (lines format g))) lists)) (drop_all number (lines format g) (omega (arith, past)));
+  rest = lines_text format (drop number (lines format g)) (drop (dated_line_count (take number (lines format g))) lists);
+  is = is ∙ ap (λ l. lines_text format l lists) (sym (take-append-drop number (lines format g))) ∙ filled-split format (take number (lines format g)) (drop number (lines format g)) lists;
+  ends = λ past. ap (λ l. lines_text format l (drop (dated_line_count (take number (lines format g))) lists)) (drop_all number (lines format g) (omega (arith, past)));
 }
 
 -- ---- steps of the loops over stations and arcs
@@ -319,7 +319,7 @@ place_parts a after =
 -- what is left to read is no longer than the text
 pub rest_short : (format : Format) (g : Parts) (n : ℕ) (lists : List (List ℕ)) (r : Reading) (most : ℕ) → HasRead format g n lists r → length r.text < most → length r.rest < most
 rest_short format g n lists r most has short =
-    omega (arith, short, ap length has.is, length-append (filled format (take n (lines format g)) lists) r.rest)
+    omega (arith, short, ap length has.is, length-append (lines_text format (take n (lines format g)) lists) r.rest)
 
 -- the error of a line that was not read
 pub tells_stop : (g : Parts) (text : List ℕ) (stop : Stop) (number : ℕ) (error : CheckpointError) → error ≡ stopped_at stop number → (stop ≢ Memory → IsFirstBadLine g text number) → Tells g text error
@@ -379,9 +379,9 @@ rest_bad format g n lists r text has read all short same some =
     (first_bad_rest format g n lists r has read all (omega (arith, short, ap length same)) some)
 
 -- all lines are read, and nothing is left
-pub whole_read : (format : Format) (g : Parts) (n : ℕ) (lists : List (List ℕ)) (r : Reading) → HasRead format g n lists r → n ≡ length (lines format g) → r.rest ≡ [] → r.text ≡ filled format (lines format g) lists
+pub whole_read : (format : Format) (g : Parts) (n : ℕ) (lists : List (List ℕ)) (r : Reading) → HasRead format g n lists r → n ≡ length (lines format g) → r.rest ≡ [] → r.text ≡ lines_text format (lines format g) lists
 whole_read format g n lists r has all none =
     has.is
-    ∙ ap (λ l. filled format (take n (lines format g)) lists ++ l) none
-    ∙ append-nil (filled format (take n (lines format g)) lists)
-    ∙ ap (λ l. filled format l lists) (take_all n (lines format g) (omega (arith, all)))
+    ∙ ap (λ l. lines_text format (take n (lines format g)) lists ++ l) none
+    ∙ append-nil (lines_text format (take n (lines format g)) lists)
+    ∙ ap (λ l. lines_text format l lists) (take_all n (lines format g) (omega (arith, all)))

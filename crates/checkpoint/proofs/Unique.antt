@@ -9,8 +9,8 @@ use Rattle.std.proofs.lemmas.List.Elements.{All-head, All-tail}
 use Rattle.line_core.specs.Parts.{list_at}
 use Rattle.checkpoint.specs.declared.format.Format.{Format}
 use Rattle.checkpoint.specs.declared.format.Format.TheVariants.{Dates, Differences}
-use Rattle.checkpoint.specs.Text.{date_word, date_words, dates_text, Line, Fixed, Dated, filled, AreGiven}
-use Rattle.checkpoint.specs.Reading.{is_word_byte, EndsWord, dated}
+use Rattle.checkpoint.specs.Text.{date_word, date_words, dates_text, Line, Fixed, Dated, lines_text, AreGiven}
+use Rattle.checkpoint.specs.Reading.{is_word_byte, EndsWord, dated_line_count}
 use Rattle.checkpoint.proofs.WordBytes.{IsWord, no_minus, word-decimal, word-date_word, word_taken, word_dropped}
 use Rattle.checkpoint.proofs.ReadDates.{IsGiven, ends-date_words, length-date_words, dates_parts}
 
@@ -79,7 +79,7 @@ dates_text-unique format ds es r s gd ge small_d small_e same =
 
 -- the lists that lines take are no longer than a number of 64 bits can say
 abbrev pub HasShortLists : List Line → List (List ℕ) → Type 0
-HasShortLists lns lists = (k : ℕ) → k < dated lns → length (list_at lists k) < 2 ^ 64
+HasShortLists lns lists = (k : ℕ) → k < dated_line_count lns → length (list_at lists k) < 2 ^ 64
 
 pub given_at : (lists : List (List ℕ)) → AreGiven lists → All IsGiven (list_at lists 0)
 given_at [] given = λ k d low. absurd (omega (arith, low))
@@ -97,22 +97,22 @@ short_rest : (words : List ℕ) (lns : List Line) (lists : List (List ℕ)) → 
 short_rest words lns lists short k low = rw (at_rest lists k) (short (suc k) (omega (arith, low)))
 
 -- two ways to fill the same lines that give one text
-pub filled-unique : (format : Format) (lns : List Line) (ls ms : List (List ℕ)) (r s : List ℕ) → AreGiven ls → AreGiven ms → HasShortLists lns ls → HasShortLists lns ms → filled format lns ls ++ r ≡ filled format lns ms ++ s → ((k : ℕ) → k < dated lns → list_at ls k ≡ list_at ms k) × (r ≡ s)
-unfolding filled
+pub filled-unique : (format : Format) (lns : List Line) (ls ms : List (List ℕ)) (r s : List ℕ) → AreGiven ls → AreGiven ms → HasShortLists lns ls → HasShortLists lns ms → lines_text format lns ls ++ r ≡ lines_text format lns ms ++ s → ((k : ℕ) → k < dated_line_count lns → list_at ls k ≡ list_at ms k) × (r ≡ s)
+unfolding lines_text
 filled-unique format [] ls ms r s gl gm sl sm same = (λ k low. absurd (omega (arith, low)), same)
 filled-unique format (Fixed text ∷ lns) ls ms r s gl gm sl sm same =
     filled-unique format lns ls ms r s gl gm sl sm
-    (append_cancel_left text _ _ (sym (append_assoc text (filled format lns ls) r) ∙ same ∙ append_assoc text (filled format lns ms) s))
+    (append_cancel_left text _ _ (sym (append_assoc text (lines_text format lns ls) r) ∙ same ∙ append_assoc text (lines_text format lns ms) s))
 filled-unique format (Dated words ∷ lns) ls ms r s gl gm sl sm same =
     let l = list_at ls 0 in
     let m = list_at ms 0 in
-    let left = append_assoc words (dates_text format l ++ filled format lns (drop 1 ls)) r ∙ ap (λ t. words ++ t) (append_assoc (dates_text format l) (filled format lns (drop 1 ls)) r) in
-    let right = append_assoc words (dates_text format m ++ filled format lns (drop 1 ms)) s ∙ ap (λ t. words ++ t) (append_assoc (dates_text format m) (filled format lns (drop 1 ms)) s) in
+    let left = append_assoc words (dates_text format l ++ lines_text format lns (drop 1 ls)) r ∙ ap (λ t. words ++ t) (append_assoc (dates_text format l) (lines_text format lns (drop 1 ls)) r) in
+    let right = append_assoc words (dates_text format m ++ lines_text format lns (drop 1 ms)) s ∙ ap (λ t. words ++ t) (append_assoc (dates_text format m) (lines_text format lns (drop 1 ms)) s) in
     let here = dates_text-unique format l m _ _ (given_at ls gl) (given_at ms gm) (sl 0 (omega arith)) (sm 0 (omega arith)) (append_cancel_left words _ _ (sym left ∙ same ∙ right)) in
     let rest = filled-unique format lns (drop 1 ls) (drop 1 ms) r s (given_rest ls gl) (given_rest ms gm) (short_rest words lns ls sl) (short_rest words lns ms sm) here.1 in
     (each here.0 rest.0, rest.1)
   where
-    each : list_at ls 0 ≡ list_at ms 0 → ((k : ℕ) → k < dated lns → list_at (drop 1 ls) k ≡ list_at (drop 1 ms) k) → (k : ℕ) → k < suc (dated lns) → list_at ls k ≡ list_at ms k
+    each : list_at ls 0 ≡ list_at ms 0 → ((k : ℕ) → k < dated_line_count lns → list_at (drop 1 ls) k ≡ list_at (drop 1 ms) k) → (k : ℕ) → k < suc (dated_line_count lns) → list_at ls k ≡ list_at ms k
     each here later zero low = here
     each here later (suc k) low = sym (at_rest ls k) ∙ later k (omega (arith, low)) ∙ at_rest ms k
 
@@ -133,11 +133,11 @@ short_more words lns lists here later zero low = here
 short_more words lns lists here later (suc k) low = rw (← at_rest lists k) (later k (omega (arith, low)))
 
 -- a text that isn't too long has such lists alone
-pub short_lists : (format : Format) (lns : List Line) (lists : List (List ℕ)) (rest : List ℕ) → AreGiven lists → length (filled format lns lists ++ rest) < 2 ^ 64 → HasShortLists lns lists
-unfolding filled
+pub short_lists : (format : Format) (lns : List Line) (lists : List (List ℕ)) (rest : List ℕ) → AreGiven lists → length (lines_text format lns lists ++ rest) < 2 ^ 64 → HasShortLists lns lists
+unfolding lines_text
 short_lists format [] lists rest given short = λ k low. absurd (omega (arith, low))
 short_lists format (Fixed text ∷ lns) lists rest given short =
-    short_lists format lns lists rest given (omega (arith, short, length-append (text ++ filled format lns lists) rest, length-append text (filled format lns lists), length-append (filled format lns lists) rest))
+    short_lists format lns lists rest given (omega (arith, short, length-append (text ++ lines_text format lns lists) rest, length-append text (lines_text format lns lists), length-append (lines_text format lns lists) rest))
 short_lists format (Dated words ∷ lns) lists rest given short =
-    let lengths = lengths_in format words (list_at lists 0) (filled format lns (drop 1 lists)) rest (given_at lists given) short in
+    let lengths = lengths_in format words (list_at lists 0) (lines_text format lns (drop 1 lists)) rest (given_at lists given) short in
     short_more words lns lists lengths.0 (short_lists format lns (drop 1 lists) rest (given_rest lists given) lengths.1)

@@ -11,7 +11,7 @@ use Rattle.std.proofs.lemmas.List.Sums.{sum_by-cons}
 use Rattle.line_core.specs.Consistent.{LATEST_DATE}
 use Rattle.checkpoint.specs.declared.format.Format.{Format}
 use Rattle.checkpoint.specs.declared.format.Format.TheVariants.{Dates, Differences}
-use Rattle.checkpoint.specs.Text.{date_word, date_words, dates_text, Dated, filled}
+use Rattle.checkpoint.specs.Text.{date_word, date_words, dates_text, Dated, lines_text}
 
 -- the date is one that a state may have within the limits
 abbrev pub IsEarly : ℕ → Type 0
@@ -78,12 +78,12 @@ left_text-le format gone n dates few early =
 -- ---- lines with dates
 
 -- where the words of each line are short, and the text of its dates is within a size, so are all lines
-pub dated_lines-le : (format : Format) (words : ℕ → List ℕ) (size : List ℕ → ℕ) (most : ℕ) (numbers : List ℕ) (lists : List (List ℕ)) → length lists ≡ length numbers → All (λ k. length (words k) ≤ most) numbers → All (λ dates. length (dates_text format dates) ≤ size dates) lists → length (filled format (map (λ k. Dated (words k)) numbers) lists) ≤ most * length numbers + sum_by size lists
-unfolding filled
+pub dated_lines-le : (format : Format) (words : ℕ → List ℕ) (size : List ℕ → ℕ) (most : ℕ) (numbers : List ℕ) (lists : List (List ℕ)) → length lists ≡ length numbers → All (λ k. length (words k) ≤ most) numbers → All (λ dates. length (dates_text format dates) ≤ size dates) lists → length (lines_text format (map (λ k. Dated (words k)) numbers) lists) ≤ most * length numbers + sum_by size lists
+unfolding lines_text
 dated_lines-le format words size most [] lists same short within = omega arith
 dated_lines-le format words size most (k ∷ numbers) [] same short within = absurd (omega arith)
 dated_lines-le format words size most (k ∷ numbers) (dates ∷ lists) same short within =
-    let rest = filled format (map (λ j. Dated (words j)) numbers) lists in
+    let rest = lines_text format (map (λ j. Dated (words j)) numbers) lists in
     let later = dated_lines-le format words size most numbers lists (omega arith) (All-tail (λ j. length (words j) ≤ most) k numbers short) (All-tail (λ l. length (dates_text format l) ≤ size l) dates lists within) in
     omega (arith, length-append (words k) (dates_text format dates ++ rest), length-append (dates_text format dates) rest, All-head (λ j. length (words j) ≤ most) k numbers short, All-head (λ l. length (dates_text format l) ≤ size l) dates lists within, sum_by-cons size dates lists, later, mul-suc most (length numbers))
 

@@ -13,7 +13,7 @@ use Rattle.checkpoint.specs.declared.format.Format.TheVariants.{Differences}
 use Rattle.line_base.specs.declared.event.Parts.{Parts}
 use Rattle.line_base.proofs.RangeLists.{range-more}
 use Rattle.event_graph.specs.Network.{arc_count, delay, stations, label}
-use Rattle.checkpoint.specs.Text.{date_word, date_words, dates_text, delayed_arcs, delay_words, delays_line, station_words, place_words, station_lines, place_lines, Line, Fixed, Dated, filled}
+use Rattle.checkpoint.specs.Text.{date_word, date_words, dates_text, delayed_arcs, delay_words, delays_line, station_words, place_words, station_lines, place_lines, Line, Fixed, Dated, lines_text}
 use Rattle.checkpoint.specs.Writing.{date_before, words_from}
 
 -- the word of a date that is earlier than the one before it
@@ -71,20 +71,20 @@ dates_written format start counted written ended dates count words end =
     ∙ append_assoc start (decimal (length dates)) (date_words format 0 dates ++ codes "\n")
 
 -- the lines from number k on, where this one has dates
-pub filled_at : (format : Format) (lns : List Line) (lists : List (List ℕ)) (k : ℕ) (words : List ℕ) → k < length lns → get_or lns k (Fixed []) ≡ Dated words → filled format (drop k lns) (drop k lists) ≡ words ++ (dates_text format (list_at lists k) ++ filled format (drop (k + 1) lns) (drop (k + 1) lists))
-unfolding filled
+pub filled_at : (format : Format) (lns : List Line) (lists : List (List ℕ)) (k : ℕ) (words : List ℕ) → k < length lns → get_or lns k (Fixed []) ≡ Dated words → lines_text format (drop k lns) (drop k lists) ≡ words ++ (dates_text format (list_at lists k) ++ lines_text format (drop (k + 1) lns) (drop (k + 1) lists))
+unfolding lines_text
 filled_at format lns lists k words low line =
-    ap (λ l. filled format l (drop k lists)) (drop_more lns k (Fixed []) low ∙ ap (λ l. l ∷ drop (k + 1) lns) line)
-    ∙ ap (λ l. words ++ (dates_text format l ++ filled format (drop (k + 1) lns) (drop 1 (drop k lists)))) (get_or-drop k lists 0 [] ∙ ap (λ n. get_or lists n []) (add_zero k))
-    ∙ ap (λ l. words ++ (dates_text format (list_at lists k) ++ filled format (drop (k + 1) lns) l)) (drop-drop 1 k lists)
+    ap (λ l. lines_text format l (drop k lists)) (drop_more lns k (Fixed []) low ∙ ap (λ l. l ∷ drop (k + 1) lns) line)
+    ∙ ap (λ l. words ++ (dates_text format l ++ lines_text format (drop (k + 1) lns) (drop 1 (drop k lists)))) (get_or-drop k lists 0 [] ∙ ap (λ n. get_or lists n []) (add_zero k))
+    ∙ ap (λ l. words ++ (dates_text format (list_at lists k) ++ lines_text format (drop (k + 1) lns) l)) (drop-drop 1 k lists)
   where
     add_zero : (n : ℕ) → n + 0 ≡ n
     add_zero n = omega arith
 
 -- one more line is written
-pub line_step : (format : Format) (lns : List Line) (lists : List (List ℕ)) (k : ℕ) (words before written after whole : List ℕ) → k < length lns → get_or lns k (Fixed []) ≡ Dated words → before ++ filled format (drop k lns) (drop k lists) ≡ whole → written ≡ before ++ words → after ≡ written ++ dates_text format (list_at lists k) → after ++ filled format (drop (k + 1) lns) (drop (k + 1) lists) ≡ whole
+pub line_step : (format : Format) (lns : List Line) (lists : List (List ℕ)) (k : ℕ) (words before written after whole : List ℕ) → k < length lns → get_or lns k (Fixed []) ≡ Dated words → before ++ lines_text format (drop k lns) (drop k lists) ≡ whole → written ≡ before ++ words → after ≡ written ++ dates_text format (list_at lists k) → after ++ lines_text format (drop (k + 1) lns) (drop (k + 1) lists) ≡ whole
 line_step format lns lists k words before written after whole low line h w d =
-    let rest = filled format (drop (k + 1) lns) (drop (k + 1) lists) in
+    let rest = lines_text format (drop (k + 1) lns) (drop (k + 1) lists) in
     let text = dates_text format (list_at lists k) in
     ap (λ l. l ++ rest) (d ∙ ap (λ l. l ++ text) w)
     ∙ append_assoc (before ++ words) text rest
@@ -93,10 +93,10 @@ line_step format lns lists k words before written after whole low line h w d =
     ∙ h
 
 -- no line is left
-pub lines_end : (format : Format) (lns : List Line) (lists : List (List ℕ)) (k : ℕ) (written whole : List ℕ) → length lns ≤ k → written ++ filled format (drop k lns) (drop k lists) ≡ whole → written ≡ whole
-unfolding filled
+pub lines_end : (format : Format) (lns : List Line) (lists : List (List ℕ)) (k : ℕ) (written whole : List ℕ) → length lns ≤ k → written ++ lines_text format (drop k lns) (drop k lists) ≡ whole → written ≡ whole
+unfolding lines_text
 lines_end format lns lists k written whole past h =
-    sym (append-nil written) ∙ ap (λ l. written ++ filled format l (drop k lists)) (sym (drop_all k lns past)) ∙ h
+    sym (append-nil written) ∙ ap (λ l. written ++ lines_text format l (drop k lists)) (sym (drop_all k lns past)) ∙ h
 
 -- ---- the arcs with a delay
 

@@ -2,7 +2,7 @@
 use Rattle.std.specs.Prelude.{◌≡◌, ℕ, ◌-◌, ◌<◌, ◌≤◌, List, [], ◌++◌, length, take}
 use Rattle.line_base.specs.declared.event.Parts.{Parts}
 use Rattle.checkpoint.specs.declared.format.Format.{Format}
-use Rattle.checkpoint.specs.Text.{lines, filled, IsReadFor, AreGiven}
+use Rattle.checkpoint.specs.Text.{lines, lines_text, IsReadFor, AreGiven}
 
 -- the file begins with the first `number` lines of a checkpoint of this graph, whatever dates they give, and nothing
 -- stands behind its last line
@@ -12,7 +12,7 @@ pub record BeginsWell (g : Parts) (bytes : List ℕ) (number : ℕ) : Type 0 whe
   pub lists : List (List ℕ)
   pub given : AreGiven lists
   pub rest : List ℕ
-  pub is : bytes ≡ filled format (take number (lines format g)) lists ++ rest
+  pub is : bytes ≡ lines_text format (take number (lines format g)) lists ++ rest
   pub ends : length (lines format g) < number → rest ≡ []
 
 -- the file begins well up to this line, and with it no more

@@ -14,7 +14,7 @@ use Rattle.checkpoint.specs.declared.error.Stop.TheVariants.{Memory}
 use Rattle.line_base.specs.declared.event.Parts.{Parts}
 use Rattle.checkpoint.specs.declared.format.Format.{Format}
 use Rattle.checkpoint.specs.declared.format.Format.TheVariants.{Dates, Differences}
-use Rattle.checkpoint.specs.Text.{date_word, date_words, dates_text, place_words, Line, Fixed, Dated, lines, filled, AreGivenDates, AreGiven}
+use Rattle.checkpoint.specs.Text.{date_word, date_words, dates_text, place_words, Line, Fixed, Dated, lines, lines_text, AreGivenDates, AreGiven}
 
 -- a text, and what of it is left to read
 pub record Reading : Type 0 where
@@ -131,10 +131,10 @@ pub record ComparesLine (format : Format) (a count : ℕ) (left before rest : Li
 -- ---- lines
 
 -- how many of the lines have dates
-abbrev pub dated : List Line → ℕ
-dated [] = 0
-dated (Fixed text ∷ rest) = dated rest
-dated (Dated words ∷ rest) = suc (dated rest)
+abbrev pub dated_line_count : List Line → ℕ
+dated_line_count [] = 0
+dated_line_count (Fixed text ∷ rest) = dated_line_count rest
+dated_line_count (Dated words ∷ rest) = suc (dated_line_count rest)
 
 -- how many lines stand before those of the stations
 abbrev pub head_count : Format → ℕ
@@ -152,9 +152,9 @@ end_from format g = head_count format + stations g + arc_count g
 pub record HasRead (format : Format) (g : Parts) (number : ℕ) (lists : List (List ℕ))
     (r : Reading) : Type 0 where
   pub within : number ≤ length (lines format g)
-  pub a_list_each : dated (take number (lines format g)) ≡ length lists
+  pub a_list_each : dated_line_count (take number (lines format g)) ≡ length lists
   pub given : AreGiven lists
-  pub is : r.text ≡ filled format (take number (lines format g)) lists ++ r.rest
+  pub is : r.text ≡ lines_text format (take number (lines format g)) lists ++ r.rest
 
 -- the lines of the first t stations are read: their logs, each up to its first dates, one a job, and the first log that
 -- is too long

@@ -71,15 +71,15 @@ lines format g = head_lines format g
     ++ (station_lines g ++ (place_lines g ++ Fixed (codes "end\n") ∷ []))
 
 -- the text of lines, whose dates are those of the lists, one list after the other
-unfoldable pub filled : Format → List Line → List (List ℕ) → List ℕ
-filled format [] lists = []
-filled format (Fixed text ∷ rest) lists = text ++ filled format rest lists
-filled format (Dated words ∷ rest) lists =
-    words ++ (dates_text format (list_at lists 0) ++ filled format rest (drop 1 lists))
+unfoldable pub lines_text : Format → List Line → List (List ℕ) → List ℕ
+lines_text format [] lists = []
+lines_text format (Fixed text ∷ rest) lists = text ++ lines_text format rest lists
+lines_text format (Dated words ∷ rest) lists =
+    words ++ (dates_text format (list_at lists 0) ++ lines_text format rest (drop 1 lists))
 
 -- the text of a state: its logs stand in the lines of the stations, its places in those of the arcs
 abbrev pub text : Format → Parts → State → List ℕ
-text format g s = filled format (lines format g) (s.logs ++ s.places)
+text format g s = lines_text format (lines format g) (s.logs ++ s.places)
 
 -- format 1 says nothing of delays, and is read where no arc has one
 abbrev pub IsReadFor : Format → Parts → Type 0

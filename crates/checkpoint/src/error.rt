@@ -4,8 +4,8 @@ ghost use Rattle.checkpoint.specs.Refusals.{of_state_error};
 
 use line_core::StateError;
 
-/// Why bytes are no checkpoint of a state that firings reach. Lines, jobs and tokens are counted from 1, stations and arcs
-/// from 0, dates are in the plant's unit.
+/// Why bytes are no checkpoint of a state that firings reach. Lines, jobs and tokens are counted from 1, stations and
+/// arcs from 0, dates are in the plant's unit.
 #[derive(Clone, Copy)]
 pub enum CheckpointError {
     /// This line, the first such, is not of the form.

@@ -12,7 +12,7 @@ pub enum Format {
 
 impl Format {
     /// How many lines stand before those of the stations.
-    pub fn head_lines(self) -> u64
+    pub fn head_count(self) -> u64
         ensures { result ≡ head_count self }
     {
         match self {

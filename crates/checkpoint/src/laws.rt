@@ -11,8 +11,8 @@ pub fn texts_of_different_states_differ()
     ensures { (g : Parts) → IsGraph g → IsWithinLimits g → SaysOneState g }
 {}
 
-/// A law of the definitions: where a graph within the limits has few arcs, and short labels, the text of each state that
-/// firings reach fits into a checkpoint, in either format.
+/// A law of the definitions: where a graph within the limits has few arcs, and short labels, the text of each state
+/// that firings reach fits into a checkpoint, in either format.
 ///
 /// It runs nothing: its contract is the law.
 pub fn texts_of_few_arcs_fit()

@@ -1,5 +1,5 @@
 //! The lines of stations and arcs.
-ghost use Rattle.std.specs.Prelude.{◌≡◌, ℕ, ◌^◌, ◌<◌, ◌≤◌, ◌++◌, [], length, List, true, nat_lt, IfOk, IfErr};
+ghost use Rattle.std.specs.Prelude.{◌≡◌, ℕ, ◌^◌, ◌<◌, ◌++◌, [], length, List, true, nat_lt, IfOk, IfErr};
 ghost use Rattle.checkpoint.specs.Answers.{Tells};
 ghost use Rattle.checkpoint.specs.Reading.{HasRead, HasReadLogs, HasReadPlaces, KeepsLine, or_first, head_count, arcs_from, TellsPassing, TellsLine};
 ghost use Rattle.checkpoint.specs.Text.{station_words, IsReadFor, AreGiven};
@@ -111,7 +111,7 @@ pub fn read_stations(
                 note_log(&mut long, graph, t, line.count);
                 logs.add(line.log);
             }
-            Err(stop) => return Err(stop.at_line(format.head_lines() + u64::from(t) + 1)),
+            Err(stop) => return Err(stop.at_line(format.head_count() + u64::from(t) + 1)),
         }
     }
     Ok(StationLines { logs, long })
@@ -147,7 +147,7 @@ pub fn read_places(
     ensures text { reader.new.text ≡ reader.old.text }
 {
     let arcs = graph.arcs().len() as u32;
-    let before = format.head_lines() + u64::from(graph.stations());
+    let before = format.head_count() + u64::from(graph.stations());
     let Ok(mut counts) = Vec::with_capacity(alloc, arcs as usize) else {
         return Err(CheckpointError::NoMemory);
     };

@@ -1,7 +1,7 @@
 ghost use Rattle.std.specs.Prelude.{◌≡◌, ℕ, ◌^◌, ◌<◌, [], length, List, None, Some, IfOk, IfErr, OnOk};
 ghost use Rattle.checkpoint.specs.Answers.{IsRefused, Tells, FindsStates};
 ghost use Rattle.checkpoint.specs.Reading.{HasRead, IsReadOf, head_count, end_from};
-ghost use Rattle.checkpoint.specs.Text.{lines, filled, delayed_arcs, IsReadFor, IsTextOf, AreGiven};
+ghost use Rattle.checkpoint.specs.Text.{lines, lines_text, IsReadFor, IsTextOf, AreGiven};
 ghost use Rattle.checkpoint.specs.declared.format.Format.TheVariants.{Differences};
 ghost use Rattle.event_graph.specs.Network.{stations, arc_count};
 ghost use Rattle.line_base.specs.Roomy.{dates_of};
@@ -67,10 +67,10 @@ fn read_end(reader: &mut Reader, graph: &Graph, format: Format) -> Result<(), Ch
         × HasRead format graph.now (end_from format graph.now) lists reader.old }
     ensures read { OnOk result ((lists : List (List ℕ))
         → HasRead format graph.now (end_from format graph.now) lists reader.old
-        → reader.old.text ≡ filled format (lines format graph.now) lists) }
+        → reader.old.text ≡ lines_text format (lines format graph.now) lists) }
     ensures refused { IfErr result (Tells graph.now reader.old.text) }
 {
-    let before = format.head_lines() + u64::from(graph.stations()) + graph.arcs().len() as u64;
+    let before = format.head_count() + u64::from(graph.stations()) + graph.arcs().len() as u64;
     if !reader.pass(b"end\n") {
         return Err(CheckpointError::Line { number: before + 1 });
     }
@@ -114,7 +114,7 @@ fn read_parts(
 }
 
 /// Nothing, where no refusal was noted, else that refusal.
-fn none_noted(noted: Option<StateError>) -> Result<(), StateError>
+fn check_noted(noted: Option<StateError>) -> Result<(), StateError>
     ensures none { OnOk result (noted ≡ None) }
     ensures refused { IfErr result (λ refusal. noted ≡ Some refusal) }
 {
@@ -144,9 +144,9 @@ fn state_of(
         → IsReadOf live.now.graph bytes logs.logs logs.long places.now.marking places.now.wrong
         → IsRefused live.now.graph bytes refusal) }
 {
-    match none_noted(logs.long) {
+    match check_noted(logs.long) {
         Ok(()) => match State::of_logs(alloc, live, logs.logs, &places.marking) {
-            Ok(state) => match none_noted(places.wrong) {
+            Ok(state) => match check_noted(places.wrong) {
                 Ok(()) => Ok(state),
                 Err(refusal) => {
                     drop(state);
@@ -163,7 +163,7 @@ fn state_of(
 }
 
 /// The state that these bytes say, or the first thing that is wrong with them.
-fn read_said(
+fn read_bytes(
     alloc: Global,
     live: &Live,
     graph: &Graph,
@@ -183,8 +183,8 @@ fn read_said(
     Ok(said?)
 }
 
-/// The state whose text these bytes are: fewer than 2^32 bytes, in format 2, or in format 1 where no arc of the graph has
-/// a delay. The state can go on firing: it takes the room of all later firings.
+/// The state whose text these bytes are: fewer than 2^32 bytes, in format 2, or in format 1 where no arc of the graph
+/// has a delay. The state can go on firing: it takes the room of all later firings.
 ///
 /// Every other answer but out of memory is the first thing that is wrong with the bytes. The first line that is not of
 /// the form is refused; where each line is of it, the logs and places that they say are refused as `State::of_parts`
@@ -197,5 +197,5 @@ pub fn read_state(alloc: Global, live: &Live, bytes: &[u8]) -> Result<State, Che
     ensures found { FindsStates live.now.graph bytes.now result }
     ensures refused { IfErr result (Tells live.now.graph bytes.now) }
 {
-    read_said(alloc, live, live.graph(), bytes)
+    read_bytes(alloc, live, live.graph(), bytes)
 }

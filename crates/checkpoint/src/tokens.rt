@@ -28,7 +28,7 @@ fn tokens_left<'a>(graph: &Graph, logs: &'a Logs, a: u32) -> Tokens<'a>
     let made = logs.get(arc.from).dates();
     let initial = arc.tokens as usize;
     let all = initial + made.len();
-    Tokens::left(taken.min(all), initial, made, graph.delay(a))
+    Tokens::after_takes(taken.min(all), initial, made, graph.delay(a))
 }
 
 /// The date of the next token, and 0 where there is none.

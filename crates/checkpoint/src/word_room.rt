@@ -63,8 +63,8 @@ fn date_before(dates: &[Date], i: usize) -> Date
     if i == 0 { 0 } else { dates[i - 1] }
 }
 
-/// Writes the words of the dates from number `from` on and below number `to`, with a space before each, so that they end
-/// where the room ends, and answers where they begin.
+/// Writes the words of the dates from number `from` on and below number `to`, with a space before each, so that they
+/// end where the room ends, and answers where they begin.
 fn write_words(room: &mut [u8], dates: &[Date], from: usize, to: usize) -> usize
     requires room { length room.old ≡ ROOM }
     requires ordered { from ≤ to }

@@ -1,5 +1,5 @@
 //! The words of dates.
-ghost use Rattle.std.specs.Prelude.{◌≡◌, ℕ, ◌-◌, ◌<◌, ◌≤◌, ◌∷◌, decimal, IfSome, Some};
+ghost use Rattle.std.specs.Prelude.{◌≡◌, ℕ, ◌-◌, ◌<◌, ◌≤◌, decimal, IfSome, Some};
 ghost use Rattle.checkpoint.specs.Text.{date_word};
 ghost use Rattle.checkpoint.specs.declared.format.Format.TheVariants.{Differences};
 ghost use Rattle.line_core.specs.Parts.{LATEST_GIVEN};
@@ -8,10 +8,10 @@ use crate::format::Format;
 use line_base::{Date, number_of};
 
 /// The latest date that a text may give.
-pub const LAST_DATE: Date = 1_000_000_000_000_000_000;
+const MAX_GIVEN_DATE: Date = 1_000_000_000_000_000_000;
 
 /// The date that is earlier than another one by the number that a text writes.
-fn earlier(text: &[u8], before: Date) -> Option<Date>
+fn earlier_date(text: &[u8], before: Date) -> Option<Date>
     ensures read { IfSome result (λ date. text.now ≡ decimal (before - date)) }
     ensures earlier { IfSome result (λ date. date < before) }
     ensures tells { (date : ℕ) → date < before → text.now ≡ decimal (before - date)
@@ -25,7 +25,7 @@ fn earlier(text: &[u8], before: Date) -> Option<Date>
 }
 
 /// The date that is later than another one by the number that a text writes.
-fn later(text: &[u8], before: Date) -> Option<Date>
+fn later_date(text: &[u8], before: Date) -> Option<Date>
     requires { before ≤ LATEST_GIVEN }
     ensures read { IfSome result (λ date. text.now ≡ decimal (date - before)) }
     ensures later { IfSome result (λ date. before ≤ date) }
@@ -34,7 +34,7 @@ fn later(text: &[u8], before: Date) -> Option<Date>
         → text.now ≡ decimal (date - before)
         → result ≡ Some date }
 {
-    let more = number_of(text, LAST_DATE - before)?;
+    let more = number_of(text, MAX_GIVEN_DATE - before)?;
     Some(before + more)
 }
 
@@ -47,8 +47,8 @@ fn date_by_difference(word: &[u8], before: Date) -> Option<Date>
         → result ≡ Some date }
 {
     match word.strip_prefix(b"-") {
-        Some(text) => earlier(text, before),
-        None => later(word, before),
+        Some(text) => earlier_date(text, before),
+        None => later_date(word, before),
     }
 }
 
@@ -61,7 +61,7 @@ pub fn date_of(word: &[u8], format: Format, before: Date) -> Option<Date>
         → result ≡ Some date }
 {
     match format {
-        Format::Dates => number_of(word, LAST_DATE),
+        Format::Dates => number_of(word, MAX_GIVEN_DATE),
         Format::Differences => date_by_difference(word, before),
     }
 }

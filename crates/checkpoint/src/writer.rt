@@ -1,5 +1,5 @@
 ghost use Rattle.std.specs.Prelude.{◌≡◌, ◌≢◌, true, false, ◌++◌, ◌<◌, [], length, decimal, IfOk};
-ghost use Rattle.checkpoint.specs.Text.{dates_text, delayed_arcs, delays_line, two_words, station_lines, place_lines, place_words, filled, text};
+ghost use Rattle.checkpoint.specs.Text.{dates_text, delayed_arcs, delays_line, two_words, station_lines, place_lines, place_words, lines_text, text};
 ghost use Rattle.checkpoint.specs.declared.format.Format.TheVariants.{Differences};
 ghost use Rattle.event_graph.specs.Network.{stations, arc_count};
 ghost use Rattle.event_graph.specs.State.{place};
@@ -44,7 +44,7 @@ fn put_log(text: &mut Vec<u8>, dates: &[Date]) -> Result<(), AllocError>
 }
 
 /// Puts the dates of tokens into a list, in place of those that were there.
-fn gather(dates: &mut Vec<Date>, tokens: Tokens) -> Result<(), AllocError>
+fn gather_dates(dates: &mut Vec<Date>, tokens: Tokens) -> Result<(), AllocError>
     ensures { IfOk result (λ _. dates.new.items ≡ tokens.entry) }
 {
     dates.clear();
@@ -59,7 +59,7 @@ fn put_tokens(text: &mut Vec<u8>, dates: &mut Vec<Date>, tokens: Tokens) -> Resu
     ensures { IfOk result
         (λ _. text.new.items ≡ text.old.items ++ dates_text Differences tokens.entry) }
 {
-    gather(dates, tokens)?;
+    gather_dates(dates, tokens)?;
     put_log(text, dates.as_slice())
 }
 
@@ -110,7 +110,7 @@ fn put_delay(text: &mut Vec<u8>, a: u32, delay: u64) -> Result<(), AllocError>
 fn put_stations(text: &mut Vec<u8>, graph: &Graph, state: &State) -> Result<(), AllocError>
     requires { state.now.graph ≡ graph.now }
     ensures { IfOk result (λ _. text.new.items
-        ≡ text.old.items ++ filled Differences (station_lines graph.now) state.now.state.logs) }
+        ≡ text.old.items ++ lines_text Differences (station_lines graph.now) state.now.state.logs) }
 {
     for t in 0..graph.stations() {
         text.extend_from_slice(b"station ")?;
@@ -150,7 +150,7 @@ fn put_places(
     requires { live.now.graph ≡ state.now.graph }
     ensures { IfOk result (λ _. text.new.items
         ≡ text.old.items
-        ++ filled Differences (place_lines live.now.graph) state.now.state.places) }
+        ++ lines_text Differences (place_lines live.now.graph) state.now.state.places) }
 {
     let mut dates = Vec::new(alloc);
     for a in 0..live.graph().arcs().len() as u32 {
@@ -167,8 +167,8 @@ fn likely_digits(dates: &[Date]) -> usize {
     digits.format(mean).len().saturating_mul(dates.len())
 }
 
-/// About how many bytes the text of a state takes, so that it is seldom moved as it grows. For each date that is the space,
-/// its digits, and one more.
+/// About how many bytes the text of a state takes, so that it is seldom moved as it grows. For each date that is the
+/// space, its digits, and one more.
 fn likely_size(graph: &Graph, state: &State) -> usize
     requires { state.now.graph ≡ graph.now }
     ensures reached { IsReached state.now }
@@ -184,9 +184,9 @@ fn likely_size(graph: &Graph, state: &State) -> usize
     size
 }
 
-/// The text of a state in format 2: the number of the format, the delays of the arcs, the log of each station, the place
-/// of each arc, and the end, each on lines of their own. A date that follows another one stands as its difference from
-/// that one.
+/// The text of a state in format 2: the number of the format, the delays of the arcs, the log of each station, the
+/// place of each arc, and the end, each on lines of their own. A date that follows another one stands as its difference
+/// from that one.
 pub fn write_state(alloc: Global, live: &Live, state: &State) -> Result<Vec<u8>, AllocError>
     requires made_for { live.now.graph ≡ state.now.graph }
     ensures text { IfOk result

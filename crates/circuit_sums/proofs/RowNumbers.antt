@@ -5,7 +5,7 @@ use Rattle.std.proofs.lemmas.List.{length-append, length-map, get_or_append_left
 use Rattle.std.proofs.lemmas.List.Sums.{sum_by_more}
 use Rattle.plant_model.specs.declared.plant.Plant.{Plant}
 use Rattle.plant_model.specs.Line.{no_stage, no_loop, loop_at, stage_at, stage_numbers, machine_numbers, release, machine_station}
-use Rattle.plant_model.specs.Graph.{Row, worked, plain, onward, machine_rows, stage_rows, feed_row, policy_rows, loop_row, loop_rows, rows, graph}
+use Rattle.plant_model.specs.Graph.{Row, worked_row, plain_row, onward, machine_rows, stage_rows, feed_row, policy_rows, loop_row, loop_rows, rows, graph}
 use Rattle.event_graph.specs.Network.{arc_count, arc}
 use Rattle.line_base.proofs.RangeLists.{flat_map-range_more, get_or-flat_map-range, length-flat_map-range}
 use Rattle.plant_model.proofs.LayoutArcs.{entry_arc-all, entry_arc-next, entry_arc-le}
@@ -13,7 +13,7 @@ use Rattle.plant_model.specs.ArcNumbers.{entry_arc, delivery_arc, policy_arc, fi
 
 -- what stands where a number names no row
 abbrev pub no_row : Row
-no_row = plain 0 0 0 0
+no_row = plain_row 0 0 0 0
 
 -- row a of the plant is this one
 pub record IsRowAt (p : Plant) (a : ℕ) (r : Row) : Type 0 where
@@ -116,7 +116,7 @@ loop_row-at p k below =
     subst (λ a. IsRowAt p a (loop_row p (loop_at p k))) at found
 
 -- the first row of stage i, and the third of its machine j
-pub entry-at : (p : Plant) (i : ℕ) → i < length p.stages → IsRowAt p (entry_arc p i + 0) (worked (release p i) (machine_station p i 0) 0)
+pub entry-at : (p : Plant) (i : ℕ) → i < length p.stages → IsRowAt p (entry_arc p i + 0) (worked_row (release p i) (machine_station p i 0) 0)
 entry-at p i below = stage_row-at p i 0 _ below (omega (arith, length-stage_rows p i)) refl
 
 pub onward-at : (p : Plant) (i j : ℕ) → i < length p.stages → j < length (stage_at p i).machines → IsRowAt p (entry_arc p i + 3 * (j + 1)) (onward p i j)

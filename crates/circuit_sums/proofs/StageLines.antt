@@ -8,7 +8,7 @@ use Rattle.std.proofs.lemmas.List.{append-nil}
 use Rattle.std.proofs.lemmas.List.Sums.{sum_by-cons}
 use Rattle.plant_model.specs.declared.plant.Plant.{Plant}
 use Rattle.plant_model.specs.Line.{stage_at, release, machine_station, deliver, receiver, starting, next, path, up_to, is_downstream, path_stock, stock_between}
-use Rattle.plant_model.specs.Graph.{worked, plain, onward, graph}
+use Rattle.plant_model.specs.Graph.{worked_row, plain_row, onward, graph}
 use Rattle.plant_model.specs.Sound.{IsSound}
 use Rattle.plant_model.proofs.Soundness.{FeedsLater, IsSound-FeedsLater}
 use Rattle.plant_model.proofs.Paths.{path-step, is_downstream-step}
@@ -38,8 +38,8 @@ passes p i zero below inside =
 passes p i (suc j) below inside =
     let m = length (stage_at p i).machines in
     let other : j + 1 ≡ m → ⊥ = λ same. omega arith in
-    let here = worked (machine_station p i j) (machine_station p i (j + 1)) 0 in
-    let row : onward p i j ≡ here = ap (λ t. cond t (plain (machine_station p i j) (receiver p i) (starting p i) (stage_at p i).travel) here) (ne_eqb (j + 1) m other) in
+    let here = worked_row (machine_station p i j) (machine_station p i (j + 1)) 0 in
+    let row : onward p i j ≡ here = ap (λ t. cond t (plain_row (machine_station p i j) (receiver p i) (starting p i) (stage_at p i).travel) here) (ne_eqb (j + 1) m other) in
     let found = subst (λ r. IsRowAt p (entry_arc p i + 3 * (j + 1)) r) row (onward-at p i j below (omega arith)) in
     same_arc p _ _ _ _ _ _ 0 (HasArc-row p _ here found) (omega arith) (omega arith) (omega arith)
 
@@ -49,8 +49,8 @@ leaves p i zero below last some = absurd (omega arith)
 leaves p i (suc j) below last some =
     let m = length (stage_at p i).machines in
     let same : j + 1 ≡ m = omega arith in
-    let here = plain (machine_station p i j) (receiver p i) (starting p i) (stage_at p i).travel in
-    let row : onward p i j ≡ here = ap (λ t. cond t here (worked (machine_station p i j) (machine_station p i (j + 1)) 0)) (eq-eqb (j + 1) m same) in
+    let here = plain_row (machine_station p i j) (receiver p i) (starting p i) (stage_at p i).travel in
+    let row : onward p i j ≡ here = ap (λ t. cond t here (worked_row (machine_station p i j) (machine_station p i (j + 1)) 0)) (eq-eqb (j + 1) m same) in
     let found = subst (λ r. IsRowAt p (entry_arc p i + 3 * (j + 1)) r) row (onward-at p i j below (omega arith)) in
     same_arc p _ _ _ _ _ _ (starting p i) (HasArc-row p _ here found) (omega arith) (omega arith) refl
 

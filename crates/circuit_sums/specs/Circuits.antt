@@ -5,8 +5,7 @@ use Rattle.line_base.specs.declared.event.Parts.{Parts}
 use Rattle.plant_model.specs.declared.plant.Policy.{Policy}
 use Rattle.plant_model.specs.declared.plant.Policy.TheVariants.{Kanban, Conwip, BaseStock, Extended}
 use Rattle.plant_model.specs.declared.plant.Plant.{Plant}
-use Rattle.plant_model.specs.Line.{stage_at, stage_numbers, first_stages, path}
-pub use Rattle.plant_model.specs.Line.{no_loop, loop_at}
+use Rattle.plant_model.specs.Line.{stage_at, stage_numbers, loop_at, first_stages, path}
 use Rattle.event_graph.specs.Circuit.{IsCircuit, tokens_on}
 use Rattle.circuit_sums.specs.declared.circuit.CircuitKind.TheVariants as kind
 use Rattle.circuit_sums.specs.declared.circuit.CardCircuit.{CardCircuit}

@@ -1,8 +1,8 @@
 //! The card circuits of a plant's graph, and the bounds of its stages.
 #![tactic(auto)]
 
-mod around;
 mod circuit;
+mod circuit_arcs;
 mod laws;
 mod listing;
 mod tokens;

@@ -3,18 +3,18 @@ ghost use Rattle.circuit_sums.specs.Circuits.{stage_circuit, kanban_circuits, ex
 ghost use Rattle.plant_model.specs.Graph.{graph as plant_graph};
 ghost use Rattle.plant_model.specs.Sound.{IsSound};
 
-use crate::around::around;
 use crate::circuit::{CardCircuit, CircuitKind};
+use crate::circuit_arcs::circuit_arcs;
 use event_graph::Graph;
 use line_base::{Items, MAX_ARCS};
 use plant_model::{Layout, Plant, Policy};
 use std::alloc::{AllocError, Global};
 
 /// The card circuits of a plant, on its graph: under kanban and extended kanban one a stage, under CONWIP one a first
-/// stage, under base stock none, each in the order of the stages; then one a loop, in order. A stage's circuit goes from
-/// its release through its machines to what it feeds, and back by the arc of its cards; the line's circuit of a first stage
-/// goes along the stage's path to the delivery, and back by the arc of the line's cards; a loop's goes from the release of
-/// its first stage to what its last one feeds, and back by its own arc.
+/// stage, under base stock none, each in the order of the stages; then one a loop, in order. A stage's circuit goes
+/// from its release through its machines to what it feeds, and back by the arc of its cards; the line's circuit of a
+/// first stage goes along the stage's path to the delivery, and back by the arc of the line's cards; a loop's goes from
+/// the release of its first stage to what its last one feeds, and back by its own arc.
 pub fn card_circuits(
     alloc: Global,
     plant: &Plant,
@@ -69,7 +69,8 @@ fn kanban_circuits(alloc: Global, layout: &Layout) -> Result<Vec<CardCircuit>, A
     Ok(list)
 }
 
-/// The circuits of the stages under extended kanban, where the arc of a stage's demands stands before that of its cards.
+/// The circuits of the stages under extended kanban, where the arc of a stage's demands stands before that of its
+/// cards.
 fn extended_circuits(alloc: Global, layout: &Layout) -> Result<Vec<CardCircuit>, AllocError>
     requires { IsSound layout.now }
     ensures { IfOk result (λ list. list.items ≡ extended_circuits layout.now) }
@@ -98,7 +99,7 @@ fn conwip_circuits(
         if layout.is_first(stage) {
             list.push(CardCircuit {
                 kind: CircuitKind::Conwip(stage),
-                arcs: around(alloc, layout, stage, final_stage, card_arc)?,
+                arcs: circuit_arcs(alloc, layout, stage, final_stage, card_arc)?,
                 number: cards,
             })?;
             card_arc += 1;
@@ -120,7 +121,7 @@ fn stage_circuit(
 {
     Ok(CardCircuit {
         kind: CircuitKind::Stage(stage),
-        arcs: around(alloc, layout, stage, stage, card_arc)?,
+        arcs: circuit_arcs(alloc, layout, stage, stage, card_arc)?,
         number: layout.stage(stage).cards,
     })
 }
@@ -139,7 +140,7 @@ fn add_loop_circuits(
     for (number, card_loop) in layout.loops().iter().enumerate() {
         list.push(CardCircuit {
             kind: CircuitKind::CardLoop(number as u32),
-            arcs: around(
+            arcs: circuit_arcs(
                 alloc,
                 layout,
                 card_loop.first,

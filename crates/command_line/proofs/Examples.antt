@@ -9,7 +9,7 @@ use Rattle.line_base.specs.Text.{starts_plainly}
 use Rattle.line_base.proofs.Numbers.{decimal-read}
 use Rattle.command_line.specs.Numbers.{number_in}
 use Rattle.command_line.specs.Options.{with_flag, with_value, options_after}
-use Rattle.command_line.specs.Settings.{asked}
+use Rattle.command_line.specs.Settings.{asked_run}
 use Rattle.command_line.specs.Words.{after_help, after_big, after_resume, after_cards, after_curve, after_latest, after_plant_word, command_of, topic_of}
 use Rattle.command_line.specs.declared.command.Command.{Command}
 use Rattle.command_line.specs.declared.command.Command.TheVariants.{Run, Replay, Big, Resume, RunSlots, RunRoom, RunStand, ResumeSlots, Cards, Curve, Latest, WhatIf, Help}
@@ -91,7 +91,7 @@ commands =
     ∷ []
 
 commands_are : map (λ case. command_of case.0) commands ≡ map (λ case. Some case.1) commands
-unfolding number_in with_flag with_value options_after asked topic_of after_help after_big after_resume after_cards after_curve after_latest after_plant_word
+unfolding number_in with_flag with_value options_after asked_run topic_of after_help after_big after_resume after_cards after_curve after_latest after_plant_word
 commands_are =
     rw (numerals.none, numerals.two, numerals.sixteen, numerals.thousand, numerals.most_room, numerals.greatest) refl
 
@@ -136,6 +136,6 @@ others =
     ∷ []
 
 others_are_none : map command_of others ≡ map (λ words. None) others
-unfolding number_in with_flag with_value options_after asked topic_of after_help after_big after_resume after_cards after_curve after_latest after_plant_word
+unfolding number_in with_flag with_value options_after asked_run topic_of after_help after_big after_resume after_cards after_curve after_latest after_plant_word
 others_are_none =
     rw (numerals.none, numerals.two, numerals.sixteen, numerals.seventeen, numerals.more, numerals.more_room) refl

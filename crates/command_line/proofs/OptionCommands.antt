@@ -5,7 +5,7 @@ use Rattle.line_base.specs.Limits.{most_cards}
 use Rattle.line_base.specs.Text.{is_file_name, is_checkpoint_name}
 use Rattle.command_line.specs.AnyOrder.{Written, workers, stop_after, save, every, room, slots, stand, name_of, words_of_all, Operands, run, resume, resume_slots, big, curve, NamesCheckpoint, command_with, StandInAnyOrder, StandAtMostOnce}
 use Rattle.command_line.specs.Numbers.{number_in}
-use Rattle.command_line.specs.Settings.{Asked, asked}
+use Rattle.command_line.specs.Settings.{Asked, asked_run}
 use Rattle.command_line.specs.Words.{run_command, resume_command, resume_slots_command, big_command, curve_command, are_counts, after_big, after_resume, after_curve, after_plant_word, topic_of}
 use Rattle.command_line.specs.declared.command.Command.{Command}
 use Rattle.command_line.proofs.OptionOrder.{asked_same, asked_twice}
@@ -42,7 +42,7 @@ names_no_checkpoint slots = refl
 names_no_checkpoint stand = refl
 
 -- with an option behind them, operands are the command by what the options ask for
-asked_for : (operands : Operands) (option : Written) (options : List Written) → NamesCheckpoint operands → command_with operands (option ∷ options) ≡ by_asked operands (asked (words_of_all (option ∷ options)))
+asked_for : (operands : Operands) (option : Written) (options : List Written) → NamesCheckpoint operands → command_with operands (option ∷ options) ≡ by_asked operands (asked_run (words_of_all (option ∷ options)))
 unfolding after_big after_resume after_curve topic_of after_plant_word
 asked_for (run plant) option options named = refl
 asked_for (resume plant saved) option options named = rw named refl

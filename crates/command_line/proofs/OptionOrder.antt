@@ -5,7 +5,7 @@ use Rattle.std.proofs.lemmas.List.Sorted.{length_permutation}
 use Rattle.std.proofs.lemmas.List.Edits.{swap_is}
 use Rattle.command_line.specs.AnyOrder.{Written, words_of_all, name_of}
 use Rattle.command_line.specs.Options.{Given, none_given}
-use Rattle.command_line.specs.Settings.{asked, asked_by}
+use Rattle.command_line.specs.Settings.{asked_run, asked_by}
 use Rattle.command_line.proofs.OptionSteps.{with_one, with_all, with_two, same_then, twice, any_two, words_read}
 
 -- two steps and what follows
@@ -62,8 +62,8 @@ reordered g options (move ∷ moves) below =
     ∙ reordered g options moves below.2
 
 -- the same options ask for the same
-pub asked_same : (one other : List Written) → IsPermutation one other → asked (words_of_all one) ≡ asked (words_of_all other)
-unfolding asked
+pub asked_same : (one other : List Written) → IsPermutation one other → asked_run (words_of_all one) ≡ asked_run (words_of_all other)
+unfolding asked_run
 asked_same one other same =
     ap (option_and_then asked_by)
     (words_read none_given one
@@ -85,8 +85,8 @@ twice_given g (option ∷ before) between after one other same =
     none_then (with_one g option) _ (λ more. twice_given more before between after one other same)
 
 -- and ask for nothing
-pub asked_twice : (before between after : List Written) (one other : Written) → name_of one ≡ name_of other → asked (words_of_all (before ++ one ∷ (between ++ other ∷ after))) ≡ None
-unfolding asked
+pub asked_twice : (before between after : List Written) (one other : Written) → name_of one ≡ name_of other → asked_run (words_of_all (before ++ one ∷ (between ++ other ∷ after))) ≡ None
+unfolding asked_run
 asked_twice before between after one other same =
     ap (option_and_then asked_by)
     (words_read none_given (before ++ one ∷ (between ++ other ∷ after)) ∙ twice_given none_given before between after one other same)

@@ -5,7 +5,7 @@ use Rattle.std.proofs.lemmas.Result.{err_from_is_err_and}
 use Rattle.line_base.specs.Text.{is_file_name}
 use Rattle.command_line.specs.Ranges.{IsInRange}
 use Rattle.command_line.specs.ReadAs.{IsReadAs}
-use Rattle.command_line.specs.Settings.{Way, asked, way_seen, settings_seen}
+use Rattle.command_line.specs.Settings.{Way, asked_run, way_seen, settings_seen}
 use Rattle.command_line.specs.Words.{asking_of_file, one_file, with_options}
 use Rattle.command_line.specs.declared.command.Command.{Command}
 use Rattle.command_line.specs.declared.command.WordsError.{WordsError}
@@ -32,11 +32,11 @@ pub reads_none : (command : Option Command) → command ≡ None → IsReadAs (E
 reads_none command is = record { command_is = tt; usage = (λ e. is, λ none. refl); range = tt }
 
 -- what is asked for with options, as the command that it makes
-pub asked_for : (command : ℕ → Way → Option Command) (words : List (List ℕ)) (s : Settings) (mode : Mode) → Some (settings_seen s) ≡ asked words → s.mode ≡ mode → with_options command words ≡ command s.workers (way_seen mode)
+pub asked_for : (command : ℕ → Way → Option Command) (words : List (List ℕ)) (s : Settings) (mode : Mode) → Some (settings_seen s) ≡ asked_run words → s.mode ≡ mode → with_options command words ≡ command s.workers (way_seen mode)
 asked_for command words s mode e is = rw (← e, is) refl
 
 -- where it is nothing, there is none
-pub none_asked : (command : ℕ → Way → Option Command) (words : List (List ℕ)) → None ≡ asked words → with_options command words ≡ None
+pub none_asked : (command : ℕ → Way → Option Command) (words : List (List ℕ)) → None ≡ asked_run words → with_options command words ≡ None
 none_asked command words e = rw (← e) refl
 
 -- a question that names a further file, as the command that it makes

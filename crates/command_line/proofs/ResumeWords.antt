@@ -3,10 +3,10 @@ use Rattle.std.proofs.Common.{refl, ◌≡◌, ℕ, Bool, true, false, List, [],
 use Rattle.std.specs.Prelude.{codes, if◌then◌else◌, Option, Some, None, nat_lt, option_map, option_and_then, IfSome, ⊤}
 use Rattle.std.specs.Str.{bytes_eq}
 use Rattle.line_base.specs.Text.{is_file_name, is_checkpoint_name}
-use Rattle.line_base.specs.Limits.{most_demands, most_cards}
+use Rattle.line_base.specs.Limits.{most_demands, most_cards, last_observed}
 use Rattle.command_line.specs.Labels.{is_label_word}
 use Rattle.command_line.specs.Numbers.{number_in, longest_wait}
-use Rattle.command_line.specs.Settings.{Way, Asked, whole, stopped, saving, from_slots, bounded, standing, asked}
+use Rattle.command_line.specs.Settings.{Way, Asked, whole, stopped, saving, from_slots, bounded, standing, asked_run}
 use Rattle.command_line.specs.Words.{alone, run_command, resume_command, resume_slots_command, big_command, with_options, one_file, after_big, after_resume, each_command, after_cards, curve_command, are_counts, after_counts, after_curve, after_latest, after_why, window_command, after_chart, plant_command, after_plant_word, after_topic, help_of, after_help, is_help, after_word, command_of, topic_of}
 use Rattle.command_line.specs.declared.command.Topic.{Topic}
 use Rattle.command_line.specs.declared.command.Topic.TheVariants as topic
@@ -39,7 +39,7 @@ alone_named command [] h = h
 alone_named command (word ∷ words) h = tt
 
 options_named : (command : ℕ → Way → Option Command) (words : List (List ℕ)) → ((workers : ℕ) (way : Way) → Named (command workers way)) → Named (with_options command words)
-options_named command words h = then_named (λ (a : Asked). command a.workers a.way) (asked words) (λ a. h a.workers a.way)
+options_named command words h = then_named (λ (a : Asked). command a.workers a.way) (asked_run words) (λ a. h a.workers a.way)
 
 -- the commands that take options
 run_named : (plant : List ℕ) (workers : ℕ) (way : Way) → Named (run_command plant workers way)
@@ -125,8 +125,8 @@ unfolding after_chart
 after_chart_named plant [] = tt
 after_chart_named plant (from ∷ []) = tt
 after_chart_named plant (from ∷ (to ∷ [])) =
-    then_named (λ a. option_and_then (λ b. window_command plant a b) (number_in 0 longest_wait to)) (number_in 0 longest_wait from)
-    (λ a. then_named (λ b. window_command plant a b) (number_in 0 longest_wait to) (λ b. window_named plant a b))
+    then_named (λ a. option_and_then (λ b. window_command plant a b) (number_in 0 last_observed to)) (number_in 0 last_observed from)
+    (λ a. then_named (λ b. window_command plant a b) (number_in 0 last_observed to) (λ b. window_named plant a b))
 after_chart_named plant (from ∷ (to ∷ (word ∷ words))) = tt
 
 plant_command_named : (topic : Topic) (plant : List ℕ) (words : List (List ℕ)) → is_file_name plant ≡ true → Named (plant_command topic plant words)

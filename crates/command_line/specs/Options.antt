@@ -27,8 +27,8 @@ pub record Given : Type 0 where
   pub stand : Bool
 
 -- what the options of the code give
-abbrev pub seen : Options → Given
-seen options = record {
+abbrev pub seen_options : Options → Given
+seen_options options = record {
   workers = options.workers;
   stop_after = options.stop_after;
   save = option_map (λ file. file.now) options.save;

@@ -1,6 +1,6 @@
 -- The ranges of the numbers that a command takes.
 use Rattle.std.specs.Prelude.{ℕ, ◌+◌, ◌<◌, ◌≤◌, ⊤, IfSome}
-use Rattle.line_base.specs.Limits.{most_workers, most_demands, most_cards, most_ring_room}
+use Rattle.line_base.specs.Limits.{most_workers, most_demands, most_cards, most_ring_room, last_observed}
 use Rattle.command_line.specs.Numbers.{most_firings, longest_wait, most_counts}
 use Rattle.command_line.specs.declared.command.Command.{Command}
 use Rattle.command_line.specs.declared.command.Command.TheVariants.{Run, Big, Resume, RunSlots, RunRoom, RunStand, ResumeSlots, Cards, CardsEach, Curve, Latest, Why, Chart}
@@ -25,9 +25,9 @@ IsRingRoom n = (1 ≤ n) × (n ≤ most_ring_room)
 abbrev pub IsJobNumber : ℕ → Type 0
 IsJobNumber n = (1 ≤ n) × (n ≤ most_demands)
 
--- a window from one date to a later one
+-- a window from one date to a later one, no later than a date that may be observed
 abbrev pub IsWindowGiven : ℕ × ℕ → Type 0
-IsWindowGiven (from, to) = (from < to) × (to ≤ longest_wait)
+IsWindowGiven (from, to) = (from < to) × (to ≤ last_observed)
 
 -- the counts of cards of a curve: its least, and its greatest
 pub record AreCounts (from to : ℕ) : Type 0 where

@@ -43,8 +43,8 @@ abbrev pub asked_by : Given → Option Asked
 asked_by given = option_map (λ way. record { workers = unwrap_or given.workers 1; way = way }) (way_of given)
 
 -- what is asked for with the options that words are
-unfoldable pub asked : List (List ℕ) → Option Asked
-asked words = option_and_then asked_by (options_after none_given words)
+unfoldable pub asked_run : List (List ℕ) → Option Asked
+asked_run words = option_and_then asked_by (options_after none_given words)
 
 -- a mode of the code as a way, and settings of the code as what they ask for
 abbrev pub way_seen : Mode → Way

@@ -2,10 +2,10 @@
 use Rattle.std.specs.Prelude.{ℕ, Bool, false, ◌+◌, ◌-◌, ◌^◌, ◌&&◌, nat_le, nat_lt, List, [], ◌∷◌, codes, if◌then◌else◌, Option, Some, None, option_map, option_and_then}
 use Rattle.std.specs.Str.{bytes_eq}
 use Rattle.line_base.specs.Text.{is_file_name, is_checkpoint_name}
-use Rattle.line_base.specs.Limits.{most_demands, most_cards}
+use Rattle.line_base.specs.Limits.{most_demands, most_cards, last_observed}
 use Rattle.command_line.specs.Labels.{is_label_word}
 use Rattle.command_line.specs.Numbers.{number_in, longest_wait, most_counts}
-use Rattle.command_line.specs.Settings.{Way, whole, stopped, saving, from_slots, bounded, standing, asked}
+use Rattle.command_line.specs.Settings.{Way, whole, stopped, saving, from_slots, bounded, standing, asked_run}
 use Rattle.command_line.specs.declared.command.Topic.{Topic}
 use Rattle.command_line.specs.declared.command.Topic.TheVariants as topic
 use Rattle.command_line.specs.declared.command.Command.{Command}
@@ -69,7 +69,7 @@ big_command seed workers way = None
 
 -- what is asked for, as the command that it makes
 abbrev pub with_options : (ℕ → Way → Option Command) → List (List ℕ) → Option Command
-with_options command words = option_and_then (λ a. command a.workers a.way) (asked words)
+with_options command words = option_and_then (λ a. command a.workers a.way) (asked_run words)
 
 -- the words behind `big`
 unfoldable pub after_big : List (List ℕ) → Option Command
@@ -171,8 +171,8 @@ window_command plant from to = if nat_lt from to then Some (Chart plant (Some (f
 unfoldable pub after_chart : List ℕ → List (List ℕ) → Option Command
 after_chart plant [] = Some (Chart plant None)
 after_chart plant (from ∷ (to ∷ [])) =
-    option_and_then (λ a. option_and_then (λ b. window_command plant a b) (number_in 0 longest_wait to))
-    (number_in 0 longest_wait from)
+    option_and_then (λ a. option_and_then (λ b. window_command plant a b) (number_in 0 last_observed to))
+    (number_in 0 last_observed from)
 after_chart plant words = None
 
 -- the command of a topic, of the plant behind its word, and of the words behind that; `big` takes no plant

@@ -1,7 +1,7 @@
 ghost use Rattle.std.specs.Prelude.{◌≡◌, codes, option_map, IfSome, Some, string_bytes};
 ghost use Rattle.std.specs.List.{list_any};
 ghost use Rattle.std.specs.Str.{bytes_eq};
-ghost use Rattle.command_line.specs.Options.{seen, none_given, once, with_flag, with_value, options_after};
+ghost use Rattle.command_line.specs.Options.{seen_options, none_given, once, with_flag, with_value, options_after};
 ghost use Rattle.command_line.specs.Options.{takes_no_value, has_stand, texts};
 ghost use Rattle.command_line.specs.Ranges.{AreInRange};
 
@@ -32,7 +32,7 @@ pub struct Options<'a> {
 impl<'a> Options<'a> {
     /// No option.
     fn none() -> Self
-        ensures none { seen result ≡ none_given }
+        ensures none { seen_options result ≡ none_given }
         ensures range { AreInRange result }
     {
         Options {
@@ -80,7 +80,7 @@ fn is_stand(word: &str) -> bool
 #[tactic(auto, unfolding(crate::specs::Options::with_flag))]
 fn with_flag<'a>(given: Options<'a>, name: &str) -> Option<Options<'a>>
     requires range { AreInRange given }
-    ensures given { option_map seen result ≡ with_flag (seen given.entry) name.now }
+    ensures given { option_map seen_options result ≡ with_flag (seen_options given.entry) name.now }
     ensures range { IfSome result AreInRange }
 {
     match name {
@@ -100,7 +100,7 @@ fn with_flag<'a>(given: Options<'a>, name: &str) -> Option<Options<'a>>
 #[tactic(auto, unfolding(crate::specs::Options::with_value))]
 fn with_value<'a>(mut given: Options<'a>, name: &str, word: &'a str) -> Option<Options<'a>>
     requires range { AreInRange given }
-    ensures given { option_map seen result ≡ with_value (seen given.entry) name.now word.now }
+    ensures given { option_map seen_options result ≡ with_value (seen_options given.entry) name.now word.now }
     ensures range { IfSome result AreInRange }
 {
     match name {
@@ -135,7 +135,7 @@ fn once<T: Copy>(before: Option<T>, value: Option<T>) -> Option<T>
 #[tactic(auto, unfolding(crate::specs::Options::options_after))]
 fn options_after<'a>(given: Options<'a>, words: &'a [String]) -> Option<Options<'a>>
     requires range { AreInRange given }
-    ensures given { option_map seen result ≡ options_after (seen given.entry) (texts words.now) }
+    ensures given { option_map seen_options result ≡ options_after (seen_options given.entry) (texts words.now) }
     ensures range { IfSome result AreInRange }
 {
     let Some((name, rest)) = first_word(words) else {
@@ -150,7 +150,7 @@ fn options_after<'a>(given: Options<'a>, words: &'a [String]) -> Option<Options<
 
 /// The options that words are.
 pub fn options_of<'a>(words: &'a [String]) -> Option<Options<'a>>
-    ensures given { option_map seen result ≡ options_after none_given (texts words.now) }
+    ensures given { option_map seen_options result ≡ options_after none_given (texts words.now) }
     ensures range { IfSome result AreInRange }
 {
     options_after(Options::none(), words)

@@ -1,7 +1,7 @@
 ghost use Rattle.std.specs.Prelude.{◌≡◌, option_map, unwrap_or, IfSome};
-ghost use Rattle.command_line.specs.Options.{seen, texts};
+ghost use Rattle.command_line.specs.Options.{seen_options, texts};
 ghost use Rattle.command_line.specs.Ranges.{AreInRange, AreSettingsInRange, IsModeInRange};
-ghost use Rattle.command_line.specs.Settings.{way_of, way_seen, asked, settings_seen};
+ghost use Rattle.command_line.specs.Settings.{way_of, way_seen, asked_run, settings_seen};
 
 use crate::options::{Options, options_of};
 
@@ -43,9 +43,9 @@ pub struct Settings<'a> {
 }
 
 /// The settings of the options that words are.
-#[tactic(auto, unfolding(crate::specs::Settings::asked))]
+#[tactic(auto, unfolding(crate::specs::Settings::asked_run))]
 pub fn settings_of<'a>(words: &'a [String]) -> Option<Settings<'a>>
-    ensures asked { option_map settings_seen result ≡ asked (texts words.now) }
+    ensures asked { option_map settings_seen result ≡ asked_run (texts words.now) }
     ensures range { IfSome result AreSettingsInRange }
 {
     let options = options_of(words)?;
@@ -59,7 +59,7 @@ pub fn settings_of<'a>(words: &'a [String]) -> Option<Settings<'a>>
 /// The mode that options ask for beside the workers.
 fn mode_of<'a>(options: Options<'a>) -> Option<Mode<'a>>
     requires range { AreInRange options }
-    ensures way { option_map way_seen result ≡ way_of (seen options.entry) }
+    ensures way { option_map way_seen result ≡ way_of (seen_options options.entry) }
     ensures range { IfSome result IsModeInRange }
 {
     match (

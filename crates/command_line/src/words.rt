@@ -2,8 +2,8 @@ ghost use Rattle.std.specs.Prelude.{◌≡◌, ◌≢◌, ◌≤◌, ◌↔◌, 
 ghost use Rattle.command_line.specs.Numbers.{number_in, longest_wait};
 ghost use Rattle.command_line.specs.Options.{texts};
 ghost use Rattle.command_line.specs.Ranges.{IsInRange, AreSettingsInRange};
-ghost use Rattle.line_base.specs.Limits.{most_cards};
-ghost use Rattle.command_line.specs.Settings.{settings_seen, asked, way_seen};
+ghost use Rattle.line_base.specs.Limits.{most_cards, last_observed};
+ghost use Rattle.command_line.specs.Settings.{settings_seen, asked_run, way_seen};
 ghost use Rattle.command_line.specs.ReadAs.{IsReadAs};
 ghost use Rattle.command_line.specs.Words.{alone, asking, run_command, resume_command, resume_slots_command};
 ghost use Rattle.command_line.specs.Words.{with_options, one_file, after_big, after_resume};
@@ -19,7 +19,7 @@ use crate::label::is_label_word;
 use crate::limits::{MAX_COUNTS, MAX_WAIT};
 use crate::number::{cards_in, number_in};
 use crate::settings::{Mode, Settings, settings_of};
-use line_base::{MAX_DEMANDS, is_checkpoint_name, is_file_name};
+use line_base::{MAX_DEMANDS, MAX_OBSERVE_DATE, is_checkpoint_name, is_file_name};
 use std::alloc::{AllocError, Global};
 
 /// Reads the words after the program's name: the command first, then its operands in order, then its options in any
@@ -551,13 +551,13 @@ fn chart(alloc: Global, plant: &str, words: &[String]) -> Result<Command, WordsE
 /// The command `chart PLANT FROM TO`.
 fn chart_window(alloc: Global, plant: &str, from: &str, to: &str) -> Result<Command, WordsError>
     ensures { IsReadAs result (option_and_then
-        (λ a. option_and_then (λ b. window_command plant.now a b) (number_in 0 longest_wait to.now))
-        (number_in 0 longest_wait from.now)) }
+        (λ a. option_and_then (λ b. window_command plant.now a b) (number_in 0 last_observed to.now))
+        (number_in 0 last_observed from.now)) }
 {
-    let Some(from) = number_in(from, 0, MAX_WAIT) else {
+    let Some(from) = number_in(from, 0, MAX_OBSERVE_DATE) else {
         return Err(WordsError::Usage);
     };
-    let Some(to) = number_in(to, 0, MAX_WAIT) else {
+    let Some(to) = number_in(to, 0, MAX_OBSERVE_DATE) else {
         return Err(WordsError::Usage);
     };
     if from >= to {

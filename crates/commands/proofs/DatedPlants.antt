@@ -6,7 +6,6 @@ use Rattle.commands.proofs.OrNoMemory.{OrNoMemory}
 use Rattle.commands.specs.Dated.{IsDatedOf}
 use Rattle.commands.specs.Reports.{Writes, WritesOfLeast}
 use Rattle.commands.specs.declared.dates.DatedPlant.{DatedPlant}
-use Rattle.date_causes.specs.Caused.{AreOfPlant as AreCausesOf}
 use Rattle.event_graph.specs.Least.{IsLeast}
 use Rattle.event_graph.specs.Table.{date_in}
 use Rattle.line_stats.specs.PlantDates.{AreOfPlant}
@@ -28,13 +27,9 @@ module _ (line : LivePlant) (dated : DatedPlant) (is : IsLivePlant line) (of : I
   table_graph : dated.table.graph ≡ graph dated.plant
   table_graph = of.least.graph_is ∙ ap graph (sym of.plant)
 
-  -- a report, a picture, and every date
+  -- a report, a picture, every date, and a chain of causes
   pub dated_of : AreOfPlant dated.plant dated.live dated.table
   dated_of = record { sound = sound; live_graph = live_graph; table_graph = table_graph }
-
-  -- a chain of causes
-  pub caused_of : AreCausesOf dated.plant dated.live dated.table
-  caused_of = record { sound = sound; live_graph = live_graph; table_graph = table_graph }
 
 -- a text that is made of a plant and of its dates
 pub writes_dated : (line : LivePlant) (dated : DatedPlant) (text : Plant → (ℕ → ℕ → ℕ) → List ℕ) (p : Plant)

@@ -17,4 +17,4 @@ OrNoMemory P answer = P answer ⊎ (answer ≡ Err NoMemory)
 -- the refusal of an error
 pub refused_for : {E : Type 0} (IsReason : E → Type 0) (refusal_of : E → Refusal) (error : E) (refusal : Refusal) →
     IsReason error → refusal ≡ refusal_of error → IsRefusedFor IsReason refusal_of (said refusal)
-refused_for IsReason refusal_of error refusal why is = record { error = error; why = why; says = ap said is }
+refused_for IsReason refusal_of error refusal reason is = record { error = error; reason = reason; says = ap said is }

@@ -6,7 +6,7 @@ use Rattle.event_graph.specs.Network.{stations}
 use Rattle.event_graph.specs.State.{State, start}
 use Rattle.line_base.specs.declared.event.Parts.{Parts}
 use Rattle.line_base.specs.Limits.{most_checkpoint_bytes}
-use Rattle.line_core.specs.Consistent.{fired}
+use Rattle.line_core.specs.Consistent.{firing_count}
 use Rattle.line_disk.specs.DiskView.{DiskView, LeavesOnly, held_now}
 use Rattle.line_io.specs.Faults.{Rose}
 use Rattle.line_runs.proofs.RunSaves.{leaves_at_first, saves_live}
@@ -116,11 +116,11 @@ module _ (tells : Bool) (old new : DiskView) (p : Plant) (n : ℕ) (kept : Kept 
 
 -- the state that is saved last, of a run from the start
 pub late_of : (tells : Bool) (new : DiskView) (p : Plant) (g : Parts) (n : ℕ) (begun : State) → g ≡ graph p →
-    begun ≡ start g → (IsTrue tells → fired begun + n + most_sweeps * stations g ≤ all_firings g →
+    begun ≡ start g → (IsTrue tells → firing_count begun + n + most_sweeps * stations g ≤ all_firings g →
     IsLateState g n most_checkpoint_bytes (held_now new)) → IsTrue tells →
     n + most_sweeps * stations (graph p) ≤ all_firings (graph p) → IsLateState (graph p) n most_checkpoint_bytes (held_now new)
 late_of tells new p g n begun same is late known many =
-    let none : fired begun ≡ 0 = fired_at_start g begun is in
+    let none : firing_count begun ≡ 0 = fired_at_start g begun is in
     let few : n + most_sweeps * stations g ≤ all_firings g =
     subst (λ (h : Parts). n + most_sweeps * stations h ≤ all_firings h) (sym same) many in
     subst (λ (h : Parts). IsLateState h n most_checkpoint_bytes (held_now new)) same

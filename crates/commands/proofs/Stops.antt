@@ -9,7 +9,7 @@ use Rattle.checkpoint.specs.Text.{text}
 use Rattle.event_graph.specs.Network.{stations, jobs}
 use Rattle.event_graph.specs.State.{State, start}
 use Rattle.line_base.specs.declared.event.Parts.{Parts}
-use Rattle.line_core.specs.Consistent.{fired}
+use Rattle.line_core.specs.Consistent.{firing_count}
 use Rattle.line_core.specs.Run.{Run}
 use Rattle.line_io.specs.Calls.{Asked, none_asked}
 use Rattle.line_io.specs.StoreView.{StoreView}
@@ -40,7 +40,7 @@ use Rattle.answers.specs.declared.answer.Answer.{Answer}
 -- ---- firings
 
 -- no station has fired at the start
-pub none_fired : (g : Parts) → fired (start g) ≡ 0
+pub none_fired : (g : Parts) → firing_count (start g) ≡ 0
 unfolding start
 none_fired g = sum_by-replicate length (stations g) [] ∙ mul-zero (stations g)
 
@@ -56,8 +56,8 @@ some_jobs p sound = (HasSoundSizes-sound p sound).some_demand
 some_firings : (p : Plant) → IsSound p → 0 < all_firings (graph p)
 some_firings p sound = mul-pos (a_station p) (some_jobs p sound)
 
-pub fired_at_start : (g : Parts) (begun : State) → begun ≡ start g → fired begun ≡ 0
-fired_at_start g begun is = ap fired is ∙ none_fired g
+pub fired_at_start : (g : Parts) (begun : State) → begun ≡ start g → firing_count begun ≡ 0
+fired_at_start g begun is = ap firing_count is ∙ none_fired g
 
 -- a run from the start that wasn't stopped
 pub short_of : (p : Plant) (g : Parts) (n : ℕ) → IsSound p → g ≡ graph p → (0 < all_firings g → IsShort g n 0) →
@@ -88,7 +88,7 @@ ends_at_first live n workers first (Stopped r) stands ends =
       last = ends.last;
       led = led_below live n workers ends.count first ends.last stands ends.bursts;
       state_is = same;
-      enough = subst (λ (s : State). n ≤ fired s) (sym same) ends.enough;
+      enough = subst (λ (s : State). n ≤ firing_count s) (sym same) ends.enough;
     }
 
 -- ---- what the run answers
@@ -137,8 +137,8 @@ runs_not tells view p workers n file answer none =
 
 stop_answers : (p : Plant) (workers n : ℕ) (file : List ℕ) (state : State) (asked : Asked) (disk : DiskOver)
     (answer : Result Answer Refusal) → FitsLimit (graph p) → MayBeResumed (graph p) state →
-    IsStopAt (graph p) n 0 (fired state) → IsFirstEnd (graph p) n workers state → disk.new ≡ disk.old →
-    WritesText file (text Differences (graph p) state) (fired state) asked answer ⊎ AsksNothing asked answer →
+    IsStopAt (graph p) n 0 (firing_count state) → IsFirstEnd (graph p) n workers state → disk.new ≡ disk.old →
+    WritesText file (text Differences (graph p) state) (firing_count state) asked answer ⊎ AsksNothing asked answer →
     RunsUntil p workers n file asked disk answer
 stop_answers p workers n file state asked disk answer fits resumed stop first same (inl writes) = record {
   untouched = same;
@@ -159,15 +159,15 @@ stop_answers p workers n file state asked disk answer fits resumed stop first sa
 -- the run was stopped, and its state saved
 pub stops_run : (store : StoreOver) (p : Plant) (workers n : ℕ) (file : List ℕ) (r : Run)
     (answer : Result Answer Refusal) → FitsLimit (graph p) → r.graph ≡ graph p → MayBeResumed (graph p) r.state →
-    IsStopAt (graph p) n 0 (fired r.state) → IsFirstEnd (graph p) n workers r.state →
-    DoesOnStore store (SavesText file (text_of r) (fired r.state)) answer →
+    IsStopAt (graph p) n 0 (firing_count r.state) → IsFirstEnd (graph p) n workers r.state →
+    DoesOnStore store (SavesText file (text_of r) (firing_count r.state)) answer →
     DoesOnStore store (RunsUntil p workers n file) answer
 stops_run store p workers n file r answer fits same resumed stop first saved =
-    let of_plant : DoesOnStore store (SavesText file (text Differences (graph p) r.state) (fired r.state)) answer =
-    subst (λ (g : Parts). DoesOnStore store (SavesText file (text Differences g r.state) (fired r.state)) answer) same
+    let of_plant : DoesOnStore store (SavesText file (text Differences (graph p) r.state) (firing_count r.state)) answer =
+    subst (λ (g : Parts). DoesOnStore store (SavesText file (text Differences g r.state) (firing_count r.state)) answer) same
     saved in
     λ disk still.
-    does_also store disk (SavesText file (text Differences (graph p) r.state) (fired r.state))
+    does_also store disk (SavesText file (text Differences (graph p) r.state) (firing_count r.state))
     (RunsUntil p workers n file) answer
     (λ asked answers. stop_answers p workers n file r.state asked disk answer fits resumed stop first answers.0
     answers.1)

@@ -26,7 +26,7 @@ use Rattle.line_chart.specs.TableText.{table_text}
 use Rattle.answers.specs.ChangesText.{changes_text}
 use Rattle.answers.specs.CycleText.{IsCycleText}
 use Rattle.cycle_time.specs.CycleTime.{IsCycleTime}
-use Rattle.cycle_time.specs.Certificate.{NoneVaries, SaysWhy}
+use Rattle.cycle_time.specs.Certificate.{NoneVaries, IsCycleRefusal}
 use Rattle.cycle_time.specs.declared.certificate.Certificate.{Certificate}
 use Rattle.event_graph.specs.Least.{IsLeast}
 use Rattle.event_graph.specs.Network.{jobs}
@@ -64,7 +64,7 @@ use Rattle.commands.specs.declared.task.PlantQuestion.TheVariants as of_plant
 pub record IsRefusedFor {E : Type 0} (IsReason : E → Type 0) (refusal_of : E → Refusal)
     (answer : Result Answer Refusal) : Type 0 where
   pub error : E
-  pub why : IsReason error
+  pub reason : IsReason error
   pub says : answer ≡ Err (refusal_of error)
 
 -- `replay`: the report at the end of a schedule that can be followed, and its refusal at any other
@@ -87,7 +87,7 @@ pub record IsCycle (p : Plant) (answer : Result Answer Refusal) : Type 0 where
 
 -- `cycle`: the cycle time, or none
 abbrev pub IsCycled : Plant → Result Answer Refusal → Type 0
-IsCycled p answer = IsCycle p answer ⊎ IsRefusedFor (SaysWhy (graph p)) (cycle_refusal (graph p)) answer
+IsCycled p answer = IsCycle p answer ⊎ IsRefusedFor (IsCycleRefusal (graph p)) (cycle_refusal (graph p)) answer
 
 -- the plant has a single count of cards, and this is the least that serves, with why it can't be one less
 pub record IsSized (p : Plant) (wait : ℕ) (answer : Result Answer Refusal) : Type 0 where

@@ -3,7 +3,7 @@
 use Rattle.std.specs.Prelude.{◌≡◌, ℕ, ◌≤◌}
 use Rattle.event_graph.specs.State.{State, start}
 use Rattle.line_base.specs.declared.event.Parts.{Parts}
-use Rattle.line_core.specs.Consistent.{fired}
+use Rattle.line_core.specs.Consistent.{firing_count}
 use Rattle.line_runs.specs.Bursts.{BurstsBelow, IsDone}
 use Rattle.line_workers.specs.Line.{WorkLine, Stands}
 use Rattle.live_check.specs.Order.{LiveGraph}
@@ -24,7 +24,7 @@ pub record IsFirstEnd (g : Parts) (n workers : ℕ) (s : State) : Type 0 where
   pub last : WorkLine
   pub led : IsLedBelow g n workers last
   pub state_is : s ≡ last.state
-  pub enough : n ≤ fired s
+  pub enough : n ≤ firing_count s
 
 -- all firings were made, and at every burst's end before that fewer than n were
 pub record IsDoneFirst (g : Parts) (n workers : ℕ) : Type 0 where

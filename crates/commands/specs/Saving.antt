@@ -8,7 +8,7 @@ use Rattle.event_graph.specs.Network.{stations}
 use Rattle.event_graph.specs.State.{State, start}
 use Rattle.line_base.specs.declared.event.Parts.{Parts}
 use Rattle.line_base.specs.Limits.{most_checkpoint_bytes}
-use Rattle.line_core.specs.Consistent.{fired}
+use Rattle.line_core.specs.Consistent.{firing_count}
 use Rattle.line_core.specs.Run.{Dates}
 use Rattle.line_disk.specs.DiskView.{LeavesOnly, Stays, held_now}
 use Rattle.line_io.specs.Calls.{Asked, none_asked}
@@ -69,9 +69,9 @@ pub record Stops (p : Plant) (workers n : ℕ) (file : List ℕ) (asked : Asked)
   pub state : State
   pub resumed : MayBeResumed (graph p) state
   pub first_end : IsFirstEnd (graph p) n workers state
-  pub stop : IsStopAt (graph p) n 0 (fired state)
+  pub stop : IsStopAt (graph p) n 0 (firing_count state)
   pub fits : length (text Differences (graph p) state) ≤ most_checkpoint_bytes
-  pub saved : WritesText file (text Differences (graph p) state) (fired state) asked answer
+  pub saved : WritesText file (text Differences (graph p) state) (firing_count state) asked answer
 
 -- the run of this many workers answered its end, since at no burst's end before that n firings were made, and nothing
 -- was written to the store

@@ -5,7 +5,7 @@ ghost use Rattle.command_line.specs.Ranges.{AreWorkers};
 ghost use Rattle.commands.specs.Answers.{IsSummary};
 ghost use Rattle.live_plant.specs.LivePlant.{IsLivePlant};
 
-use crate::dates::{DatedPlant, dated};
+use crate::dates::{DatedPlant, with_dates};
 use crate::runs::table_of;
 use answers::Answer;
 use line_report::Report;
@@ -28,7 +28,7 @@ pub(crate) fn big<R: Threads + Sync, G: Gate>(
 {
     let line = big_line(alloc, seed)?;
     let table = table_of(rt, alloc, &line.live, workers, None, gate);
-    let DatedPlant { plant, live, table } = dated(line, table)?;
+    let DatedPlant { plant, live, table } = with_dates(line, table)?;
     // The summary has no lines of dates, so it is written by one.
     let report = Report::new(alloc, plant, live, table, 1)?;
     Ok(Answer::Summarized { report })

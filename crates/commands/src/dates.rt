@@ -33,11 +33,11 @@ pub(crate) fn find_dates(alloc: Global, line: LivePlant) -> Result<DatedPlant, A
     ensures { IfOk result (IsDatedOf line) }
 {
     let table = least_table(alloc, &line.live);
-    dated(line, table)
+    with_dates(line, table)
 }
 
 /// A live plant with the dates that a run of it answered, where there was memory for the run.
-pub(crate) fn dated(
+pub(crate) fn with_dates(
     line: LivePlant,
     table: Result<Table, AllocError>,
 ) -> Result<DatedPlant, AllocError>

@@ -4,7 +4,7 @@ ghost use Rattle.commands.specs.Reports.{IsReport};
 ghost use Rattle.line_runs.specs.Table.{IsLeastOf};
 ghost use Rattle.live_plant.specs.LivePlant.{IsLivePlant};
 
-use crate::dates::{DatedPlant, dated};
+use crate::dates::{DatedPlant, with_dates};
 use answers::Answer;
 use line_core::Table;
 use line_report::Report;
@@ -37,7 +37,7 @@ pub(crate) fn report_or_none(
     requires table { IfOk table (IsLeastOf line.live.graph) }
     ensures { IsReport line.plant result ⊎ (result ≡ Err Refusal.NoMemory) }
 {
-    let DatedPlant { plant, live, table } = dated(line, table)?;
+    let DatedPlant { plant, live, table } = with_dates(line, table)?;
     let report = Report::new(alloc, plant, live, table, workers)?;
     Ok(Answer::Reported { report })
 }

@@ -3,7 +3,7 @@ ghost use Rattle.std.specs.Prelude.{◌≡◌, IfOk, IsErrOf};
 ghost use Rattle.command_line.specs.Ranges.{AreWorkers};
 ghost use Rattle.commands.specs.EndsAsAsked.{EndsAsAsked};
 ghost use Rattle.commands.specs.Saving.{AnswersWrite, RunsUntil, SavesText};
-ghost use Rattle.line_core.specs.Consistent.{fired};
+ghost use Rattle.line_core.specs.Consistent.{firing_count};
 ghost use Rattle.line_runs.specs.Store.{text_of};
 ghost use Rattle.live_plant.specs.Actions.{DoesOnStore};
 ghost use Rattle.live_plant.specs.LivePlant.{IsLivePlant};
@@ -94,7 +94,7 @@ fn save<S: Store>(
 ) -> Result<Answer, Refusal>
     requires { line.live.graph ≡ state.graph }
     ensures { DoesOnStore (store_over S.tells (S.shown store.old) (S.shown store.new))
-        (SavesText stop.save (text_of state) (fired state.state)) result }
+        (SavesText stop.save (text_of state) (firing_count state.state)) result }
 {
     let saved = save_state(alloc, &line.live, &state, store, stop.save.as_str());
     let fired = state.fired();

@@ -21,7 +21,7 @@ use Rattle.cycle_time.specs.Weight.{weight_along, potential, ArePotentials, IsGr
 use Rattle.cycle_time.specs.Certificate.{HasRatio, IsCertificate, HasNoCircuit, NoneVaries}
 use Rattle.cycle_time.specs.CycleTime.{IsCycleTime}
 use Rattle.cycle_time.specs.Dates.{NoneIsNegative, HoldsBack}
-use Rattle.cycle_time.specs.Ratio.{IsRatio, IsWithout, Holds}
+use Rattle.cycle_time.specs.Ratio.{IsRatio, IsWithoutCircuit, Holds}
 use Rattle.cycle_time.specs.Search.{gains, losses, AreFinal}
 use Rattle.cycle_time.proofs.Dates.{bounds_dates, circuit_holds}
 use Rattle.cycle_time.proofs.WalkWeights.{telescopes, no_greater}
@@ -92,7 +92,7 @@ nowhere_left g (a ∷ arcs) e x least t n found one within = absurd (omega (arit
 pub cycle_time : (g : Parts) (r : Ratio) (P : List ℕ) (c : Certificate) → IsGraph g → IsWithinLimits g → NoneVaries g → IsRatio g r → AreFinal g (AtRatio r.time r.cards) P → Holds r P c → IsCycleTime g c
 cycle_time g r P c graph limits fixed h final holds =
     let ps : (t : ℕ) → potential c.potentials t ≡ pos (get_or P t 0) = λ t. ap (λ xs. potential xs t) holds.potentials_are ∙ signed-at P t in
-    let has : HasRatio g c.time c.cards c.circuit ⊎ IsWithout g c.time c.circuit = rw (holds.time, holds.cards, holds.circuit) h.circuit in
+    let has : HasRatio g c.time c.cards c.circuit ⊎ IsWithoutCircuit g c.time c.circuit = rw (holds.time, holds.cards, holds.circuit) h.circuit in
     let are : ArePotentials g c.time c.cards c.potentials = rw (holds.time, holds.cards, holds.potentials_are) (signed_potentials g r.time r.cards P final) in
     let cert : IsCertificate g c = record {
       some = omega (arith, holds.cards, h.some);

@@ -8,7 +8,7 @@ use Rattle.line_base.specs.declared.event.Parts.{Parts}
 use Rattle.event_graph.specs.Network.{IsGraph, arc, arc_count, stations}
 use Rattle.event_graph.specs.Circuit.{IsWalk}
 use Rattle.cycle_time.specs.declared.weights.Weighing.{Weighing}
-use Rattle.cycle_time.specs.Search.{gain, loss, gains, losses, Potentials, AreEntries, IsGrown, IsBest, raised}
+use Rattle.cycle_time.specs.Search.{gain, loss, gains, losses, Potentials, AreEntries, IsGrown, IsBest, with_potential}
 use Rattle.event_graph.proofs.Walks.{walk_push}
 use Rattle.cycle_time.proofs.Weighed.{gains-cons, losses-cons}
 
@@ -45,7 +45,7 @@ raised_up ps t v there more u =
 
 -- along new entries, the old potential at the end and the losses are at most that at the start and the gains; and they
 -- are less where one of the entries wasn't there before
-steps : (g : Parts) (w : Weighing) (p : Potentials) (t a v : ℕ) → IsGraph g → IsGrown g w p → t < stations g → IsBest g w p.potentials t a v → (s u : ℕ) (arcs : List ℕ) → IsWalk g s arcs u → AreEntries g (raised p t a v).entries arcs → (get_or p.potentials u 0 + losses g w arcs ≤ get_or p.potentials s 0 + gains g w arcs) × (AreEntries g p.entries arcs ⊎ (get_or p.potentials u 0 + losses g w arcs < get_or p.potentials s 0 + gains g w arcs))
+steps : (g : Parts) (w : Weighing) (p : Potentials) (t a v : ℕ) → IsGraph g → IsGrown g w p → t < stations g → IsBest g w p.potentials t a v → (s u : ℕ) (arcs : List ℕ) → IsWalk g s arcs u → AreEntries g (with_potential p t a v).entries arcs → (get_or p.potentials u 0 + losses g w arcs ≤ get_or p.potentials s 0 + gains g w arcs) × (AreEntries g p.entries arcs ⊎ (get_or p.potentials u 0 + losses g w arcs < get_or p.potentials s 0 + gains g w arcs))
 steps g w p t a v graph h there best s u [] walk entries =
     (omega (arith, ap (λ x. get_or p.potentials x 0) walk), inl (λ k d low. absurd (omega (arith, low))))
 steps g w p t a v graph h there best s u (b ∷ arcs) walk entries =
@@ -77,7 +77,7 @@ steps g w p t a v graph h there best s u (b ∷ arcs) walk entries =
           )
     ]
 
-pub grown_more : (g : Parts) (w : Weighing) (p : Potentials) (t a v : ℕ) → IsGraph g → IsGrown g w p → t < stations g → IsBest g w p.potentials t a v → IsGrown g w (raised p t a v)
+pub grown_more : (g : Parts) (w : Weighing) (p : Potentials) (t a v : ℕ) → IsGraph g → IsGrown g w p → t < stations g → IsBest g w p.potentials t a v → IsGrown g w (with_potential p t a v)
 grown_more g w p t a v graph h there best =
     let P = p.potentials in
     let E = p.entries in

@@ -10,7 +10,7 @@ use Rattle.event_graph.specs.Network.{IsGraph, arc, arc_count, stations}
 use Rattle.cycle_time.specs.declared.tree.Sweep.{Sweep}
 use Rattle.cycle_time.specs.declared.tree.Sweep.TheVariants.{Up, Down}
 use Rattle.cycle_time.specs.declared.weights.Weighing.{Weighing}
-use Rattle.cycle_time.specs.Search.{gain, loss, most_gain, step_of, Potentials, IsGrown, IsRaisedAt, IsRest, IsRaised, HasRisen, IsWithin}
+use Rattle.cycle_time.specs.Search.{gain, loss, most_gain, step_of, Potentials, IsGrown, IsRaisedAt, IsKeptAt, IsRaised, HasRisen, IsWithin}
 use Rattle.cycle_time.proofs.GreaterPotentials.{grown_more, raised_up}
 
 -- the stations of the first steps were looked at; last is the last of them that got more than it had
@@ -68,7 +68,7 @@ passed_raised g w sweep old p new step t last graph small h there here at =
       risen = record { exists = there; more = omega (arith, h.raised t there, best.more, own) };
     })
 
-pub passed_rest : (g : Parts) (w : Weighing) (sweep : Sweep) (old p new : Potentials) (step t : ℕ) (last : Option ℕ) → IsGraph g → IsPassed g w sweep old p step last → t < stations g → step_of sweep (stations g) t ≡ step → IsRest g w p new t → IsPassed g w sweep old new (step + 1) last
+pub passed_rest : (g : Parts) (w : Weighing) (sweep : Sweep) (old p new : Potentials) (step t : ℕ) (last : Option ℕ) → IsGraph g → IsPassed g w sweep old p step last → t < stations g → step_of sweep (stations g) t ≡ step → IsKeptAt g w p new t → IsPassed g w sweep old new (step + 1) last
 passed_rest g w sweep old p new step t last graph h there here at =
     subst (λ q. IsPassed g w sweep old q (step + 1) last) (sym at.same)
     (record {

@@ -89,7 +89,8 @@ room_falls_at d top time cards time' cards' some some' few low less =
     let most : q' ≤ top * d = le_trans (div-le_self (time' * d) cards') (omega (arith, mul-le-mul_left d low)) in
     omega (arith, above, most)
 
--- how many ratios there are at most above this one: two that differ do so by at least one over the product of their cards
+-- how many ratios there are at most above this one: two that differ do so by at least one over the product of their
+-- cards
 pub room_above : ℕ → ℕ → ℕ
 room_above time cards = 1_024_000_000_000 * (5_120_000 * 5_120_000) - time * (5_120_000 * 5_120_000) / cards
 

@@ -1,5 +1,5 @@
--- Back along entries: the way ends at a station without one, or comes back to a station that it left, and what lies between is
--- a circuit that gains more than it loses.
+-- Back along entries: the way ends at a station without one, or comes back to a station that it left, and what lies
+-- between is a circuit that gains more than it loses.
 use Rattle.std.proofs.Common.{◌≡◌, ◌≢◌, ℕ, zero, suc, ◌+◌, ◌-◌, ◌<◌, ◌≤◌, List, [], ◌∷◌, ◌++◌, length, set, get_or, map, drop, reverse, replicate, refl, sym, ap, ◌∙◌, subst, inl, inr, arith, length-drop}
 use Rattle.std.specs.List.{All, sum_by}
 use Rattle.std.proofs.lemmas.Bool.{cases_lt}
@@ -11,7 +11,7 @@ use Rattle.line_base.specs.declared.event.Parts.{Parts}
 use Rattle.event_graph.specs.Network.{IsGraph, arc, arc_count, stations}
 use Rattle.event_graph.specs.Circuit.{IsWalk, IsCircuit}
 use Rattle.cycle_time.specs.declared.weights.Weighing.{Weighing}
-use Rattle.cycle_time.specs.Search.{gain, loss, gains, losses, Potentials, AreEntries, IsGrown, IsHeavy, IsSoonReached, Enter}
+use Rattle.cycle_time.specs.Search.{gain, loss, gains, losses, Potentials, AreEntries, IsGrown, IsHeavy, IsSoonReached, EntriesEnter}
 use Rattle.event_graph.proofs.Walks.{walk_push}
 use Rattle.event_graph.proofs.LeftSteps.{AreLeftSteps, left_steps-none, left_steps-room, left_steps-more}
 use Rattle.cycle_time.proofs.Weighed.{gains-cons, losses-cons}
@@ -200,7 +200,7 @@ pub entry_read : (g : Parts) (p : Potentials) (at entry : ℕ) (entries : List �
 entry_read g p at entry entries each here is read =
     get_or_read p.entries at entry (omega (arith, each, here)) (read ∙ ap (λ xs. get_or xs at entry) is) 0
 
-pub trail_more_read : (g : Parts) (p : Potentials) (path left : List ℕ) (start at a n : ℕ) → IsGraph g → IsTrail g p path left start at → get_or left at 0 ≡ stations g → a < arc_count g → a ≡ get_or p.entries at 0 → Enter g p → n ≡ length path → IsTrail g p (path ++ a ∷ []) (set left at n) start (arc g a).from
+pub trail_more_read : (g : Parts) (p : Potentials) (path left : List ℕ) (start at a n : ℕ) → IsGraph g → IsTrail g p path left start at → get_or left at 0 ≡ stations g → a < arc_count g → a ≡ get_or p.entries at 0 → EntriesEnter g p → n ≡ length path → IsTrail g p (path ++ a ∷ []) (set left at n) start (arc g a).from
 trail_more_read g p path left start at a n graph h fresh exists entry enter is =
     let to : (arc g a).to ≡ at = ap (λ b. (arc g b).to) entry ∙ enter at h.here (omega (arith, entry, exists)) in
     rw is (trail_more g p path left start at a graph h fresh exists entry to)

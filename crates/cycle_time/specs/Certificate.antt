@@ -2,6 +2,7 @@
 -- Source: Baccelli, Cohen, Olsder, Quadrat, Synchronization and Linearity, maximum cycle means and critical circuits.
 use Rattle.std.specs.Prelude.{◌≡◌, ℕ, ◌*◌, ◌<◌, ◌≤◌, ◌^◌, pos, neg_ℤ, ◌≤ℤ◌, ◌⊎◌, List, [], length, All, ⊤}
 use Rattle.std.specs.Int.{IsGcd}
+use Rattle.line_base.specs.Limits.{most_stations}
 use Rattle.line_base.specs.declared.event.Parts.{Parts}
 use Rattle.event_graph.specs.Network.{stations, arc_count}
 use Rattle.event_graph.specs.Circuit.{IsCircuit, tokens_on, time_along}
@@ -53,10 +54,10 @@ pub record IsSmall (g : Parts) (c : Certificate) : Type 0 where
   pub potentials_high : All (λ p. p ≤ℤ pos (10 ^ 24)) c.potentials
   pub time : c.time ≤ 10 ^ 18
   pub cards : c.cards ≤ 10 ^ 9
-  pub few : length c.circuit ≤ 512
+  pub few : length c.circuit ≤ most_stations
   pub exist : All (λ a. a < arc_count g) c.circuit
 
 -- the error names the first station with a list of times; running out of memory may come at any time
-abbrev pub SaysWhy : Parts → CycleError → Type 0
-SaysWhy g (Varying station) = IsFirst (Varies g) (stations g) station
-SaysWhy g NoMemory = ⊤
+abbrev pub IsCycleRefusal : Parts → CycleError → Type 0
+IsCycleRefusal g (Varying station) = IsFirst (Varies g) (stations g) station
+IsCycleRefusal g NoMemory = ⊤

@@ -6,8 +6,8 @@ use Rattle.line_base.specs.declared.event.Parts.{Parts}
 use Rattle.event_graph.specs.Network.{stations, arc_count, arc, delay, EndsAt}
 use Rattle.event_graph.specs.Term.{work}
 use Rattle.event_graph.specs.Circuit.{IsWalk, IsCircuit}
-use Rattle.cycle_time.specs.declared.finding.Found.{Found}
-use Rattle.cycle_time.specs.declared.finding.Found.TheVariants.{Circuit, Potentials as Final}
+use Rattle.cycle_time.specs.declared.search.Found.{Found}
+use Rattle.cycle_time.specs.declared.search.Found.TheVariants.{Circuit, Potentials as Final}
 use Rattle.cycle_time.specs.declared.tree.Offer.{Offer}
 use Rattle.cycle_time.specs.declared.tree.Sweep.{Sweep}
 use Rattle.cycle_time.specs.declared.tree.Sweep.TheVariants.{Up, Down}
@@ -30,8 +30,8 @@ gains g w arcs = sum_by (gain g w) arcs
 abbrev pub losses : Parts → Weighing → List ℕ → ℕ
 losses g w arcs = sum_by (loss g w) arcs
 
--- the most that an arc can add: at a ratio of a circuit of most stations, each arc with the most tokens and the longest
--- times
+-- no arc adds more, and none takes more away, at the ratio of a circuit that has the most stations, each of its arcs
+-- with the most tokens and the longest times
 abbrev pub most_gain : ℕ
 most_gain = 20_000_000_000_000_000
 
@@ -121,18 +121,18 @@ step_of Up stations t = t
 step_of Down stations t = stations - 1 - t
 
 -- station t with this potential, which arc a gave
-abbrev pub raised : Potentials → ℕ → ℕ → ℕ → Potentials
-raised p t a potential = record { potentials = slice_set p.potentials t potential; entries = slice_set p.entries t a }
+abbrev pub with_potential : Potentials → ℕ → ℕ → ℕ → Potentials
+with_potential p t a potential = record { potentials = slice_set p.potentials t potential; entries = slice_set p.entries t a }
 
 -- station t got the best that an arc gives it
 pub record IsRaisedAt (g : Parts) (w : Weighing) (old new : Potentials) (t : ℕ) : Type 0 where
   pub entry : ℕ
   pub potential : ℕ
   pub best : IsBest g w old.potentials t entry potential
-  pub got : new ≡ raised old t entry potential
+  pub got : new ≡ with_potential old t entry potential
 
--- station t rests, since no arc gives it more
-pub record IsRest (g : Parts) (w : Weighing) (old new : Potentials) (t : ℕ) : Type 0 where
+-- station t keeps its potential, since no arc gives it more
+pub record IsKeptAt (g : Parts) (w : Weighing) (old new : Potentials) (t : ℕ) : Type 0 where
   pub same : new ≡ old
   pub settled : IsSettled g w old.potentials t
 
@@ -171,8 +171,8 @@ pub record IsSoonReached (g : Parts) (w : Weighing) (p : Potentials) (t : ℕ) :
   pub sum : slice_index p.potentials t + losses g w walk ≤ gains g w walk
 
 -- each arc that gave a station its potential ends there
-abbrev pub Enter : Parts → Potentials → Type 0
-Enter g p =
+abbrev pub EntriesEnter : Parts → Potentials → Type 0
+EntriesEnter g p =
     (t : ℕ) → t < stations g → slice_index p.entries t < arc_count g → (arc g (slice_index p.entries t)).to ≡ t
 
 -- walks of at most n arcs sum to no more than the potentials of their ends

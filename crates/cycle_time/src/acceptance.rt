@@ -1,7 +1,7 @@
-ghost use Rattle.std.specs.Prelude.{◌≡◌, ◌≤◌, ◌<◌, ◌^◌, length, All, IsTrue, ◌↔◌, neg_ℤ, pos, ◌≤ℤ◌, ◌+ℤ◌};
+ghost use Rattle.std.specs.Prelude.{◌≡◌, ◌≤◌, ◌<◌, ◌^◌, IsTrue, ◌↔◌, neg_ℤ, pos, ◌≤ℤ◌, ◌+ℤ◌};
 ghost use Rattle.cycle_time.specs.Certificate.{HasRatio, IsIdle, IsCertificate, HasNoGreaterRatio, NoneVaries, IsSmall};
 ghost use Rattle.cycle_time.specs.Weight.{weight, ArePotentials};
-ghost use Rattle.event_graph.specs.Network.{stations, arc_count};
+ghost use Rattle.event_graph.specs.Network.{arc_count};
 
 use crate::certificate::Certificate;
 use crate::circuit::{is_circuit, time_of, time_on, tokens_of};
@@ -73,8 +73,9 @@ fn are_potentials(graph: &Graph, given: &Certificate) -> bool
     true
 }
 
-/// Whether what is given is a certificate: a circuit of the ratio, and potentials which show that no circuit has a greater one.
-/// It takes no memory. It doesn't test that the ratio is in lowest terms, nor that a potential is the least that will do.
+/// Whether what is given is a certificate: a circuit of the ratio, and potentials which show that no circuit has a
+/// greater one. It takes no memory. It doesn't test that the ratio is in lowest terms, nor that a potential is the
+/// least that will do.
 pub fn accept(live: &Live, given: &Certificate) -> bool
     requires fixed { NoneVaries live.now.graph }
     requires small { IsSmall live.now.graph given.now }

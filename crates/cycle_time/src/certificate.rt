@@ -17,8 +17,8 @@ pub struct Certificate {
     pub cards: u64,
     /// The numbers of the arcs of one circuit of that ratio, in order; none where the graph has no circuit.
     pub circuit: Items<u32>,
-    /// One number a station: no arc leads to one that is below that of its start, plus `cards` times the arc's job time and
-    /// delay, less `time` times its tokens.
+    /// One number a station: no arc leads to one that is below that of its start, plus `cards` times the arc's job time
+    /// and delay, less `time` times its tokens.
     pub potentials: Items<i128>,
 }
 
@@ -40,7 +40,7 @@ impl From<AllocError> for CycleError {
 }
 
 /// The numbers as signed ones.
-fn signed(alloc: Global, numbers: &[u128]) -> Result<Vec<i128>, AllocError>
+fn signed_numbers(alloc: Global, numbers: &[u128]) -> Result<Vec<i128>, AllocError>
     requires { All (λ n. n ≤ 10 ^ 24) numbers.now }
     ensures { IfOk result (λ v. v.items ≡ map pos numbers.now) }
 {
@@ -52,7 +52,7 @@ fn signed(alloc: Global, numbers: &[u128]) -> Result<Vec<i128>, AllocError>
 }
 
 /// A ratio with potentials.
-pub fn certified(
+pub fn certificate_with(
     alloc: Global,
     ratio: Ratio,
     potentials: &[u128],
@@ -60,7 +60,7 @@ pub fn certified(
     requires { All (λ n. n ≤ 10 ^ 24) potentials.now }
     ensures { IfOk result (Holds ratio potentials.now) }
 {
-    let potentials = signed(alloc, potentials)?;
+    let potentials = signed_numbers(alloc, potentials)?;
     Ok(Certificate {
         time: ratio.time,
         cards: ratio.cards,

@@ -1,10 +1,11 @@
 ghost use Rattle.std.specs.List.{Contains};
-ghost use Rattle.std.specs.Prelude.{◌≡◌, ◌≢◌, ℕ, ◌+◌, ◌*◌, ◌<◌, ◌≤◌, length, All, AllPairs, IsTrue, ◌↔◌};
+ghost use Rattle.std.specs.Prelude.{◌≡◌, ◌≢◌, ◌+◌, ◌*◌, ◌<◌, ◌≤◌, length, All, AllPairs, IsTrue, ◌↔◌};
 ghost use Rattle.cycle_time.specs.Ratio.{IsRatio};
 ghost use Rattle.event_graph.specs.Circuit.{IsWalk, IsCircuit, starting_stations, tokens_on, time_along};
 ghost use Rattle.event_graph.specs.Live.{IsLive};
 ghost use Rattle.event_graph.specs.Network.{arc_count, delay};
 ghost use Rattle.event_graph.specs.Term.{work};
+ghost use Rattle.line_base.specs.Limits.{most_stations};
 
 use crate::ratio::{Ratio, gcd};
 use event_graph::Graph;
@@ -46,16 +47,16 @@ fn leave_distinct(graph: &Graph, arcs: &[u32]) -> bool
     ensures { IsTrue result ↔ AllPairs (λ t u. t ≢ u) (starting_stations graph.now arcs.now) }
 {
     let all = graph.arcs();
-    for (place, a) in arcs.iter().enumerate() {
-        if leave(graph, &arcs[..place], all[*a as usize].from) {
+    for (index, a) in arcs.iter().enumerate() {
+        if leave(graph, &arcs[..index], all[*a as usize].from) {
             return false;
         }
     }
     true
 }
 
-/// Whether the arcs are a circuit: at least one, each from where the one before ends, the first from where the last ends,
-/// through distinct stations.
+/// Whether the arcs are a circuit: at least one, each from where the one before ends, the first from where the last
+/// ends, through distinct stations.
 pub fn is_circuit(graph: &Graph, arcs: &[u32]) -> bool
     requires { All (λ a. a < arc_count graph.now) arcs.now }
     ensures { IsTrue result ↔ IsCircuit graph.now arcs.now }
@@ -70,7 +71,7 @@ pub fn is_circuit(graph: &Graph, arcs: &[u32]) -> bool
 /// The job times and delays along the arcs, in the plant's unit.
 pub fn time_of(graph: &Graph, arcs: &[u32]) -> u64
     requires exist { All (λ a. a < arc_count graph.now) arcs.now }
-    requires few { length arcs.now ≤ 512 }
+    requires few { length arcs.now ≤ most_stations }
     ensures time { result ≡ time_along graph.now arcs.now }
     ensures small { result ≤ length arcs.now * 2_000_000_000 }
 {
@@ -94,7 +95,7 @@ pub fn time_on(graph: &Graph, a: u32) -> u64
 /// How many tokens the arcs hold at the start.
 pub fn tokens_of(graph: &Graph, arcs: &[u32]) -> u64
     requires exist { All (λ a. a < arc_count graph.now) arcs.now }
-    requires few { length arcs.now ≤ 512 }
+    requires few { length arcs.now ≤ most_stations }
     ensures tokens { result ≡ tokens_on graph.now arcs.now }
     ensures small { result ≤ length arcs.now * 10_000 }
 {
@@ -110,7 +111,7 @@ pub fn tokens_of(graph: &Graph, arcs: &[u32]) -> u64
 pub fn ratio_of(graph: &Graph, circuit: Vec<u32>) -> Ratio
     requires circuit { IsCircuit graph.now circuit.items }
     requires live { IsLive graph.now }
-    requires few { length circuit.items ≤ 512 }
+    requires few { length circuit.items ≤ most_stations }
     requires exist { All (λ a. a < arc_count graph.now) circuit.items }
     ensures kept { result.circuit.items ≡ circuit.items }
     ensures ratio { IsRatio graph.now result }

@@ -15,18 +15,18 @@ pub fn certificates_bound_every_ratio()
         IsCertificate g c → HasNoGreaterRatio g c.time c.cards }
 {}
 
-/// A law of the definitions: where no time varies, no date of the least solution grows faster than the ratio of a certificate
-/// whose potentials are at least 0.
+/// A law of the definitions: where no time varies, no date of the least solution grows faster than the ratio of a
+/// certificate whose potentials are at least 0.
 ///
-/// It runs nothing: its contract is the law. Source of the rule: Baccelli, Cohen, Olsder and Quadrat, Synchronization and
-/// Linearity, on the growth of daters.
+/// It runs nothing: its contract is the law. Source of the rule: Baccelli, Cohen, Olsder and Quadrat, Synchronization
+/// and Linearity, on the growth of daters.
 pub fn potentials_bound_dates()
     ensures { (g : Parts) (c : Certificate) → IsGraph g → IsNonDecreasing g.dates → NoneVaries g → IsCertificate g c →
         NoneIsNegative g c → BoundsDates g c }
 {}
 
-/// A law of the definitions: where no time varies, the jobs at a station of a circuit follow each other no faster than the
-/// circuit's time for its tokens.
+/// A law of the definitions: where no time varies, the jobs at a station of a circuit follow each other no faster than
+/// the circuit's time for its tokens.
 ///
 /// It runs nothing: its contract is the law.
 pub fn circuits_hold_back_dates()

@@ -1,7 +1,8 @@
-ghost use Rattle.std.specs.Prelude.{◌≡◌, ℕ, ◌+◌, ◌*◌, ◌^◌, ◌<◌, ◌≤◌, length, reverse, drop, slice_index, All, IfOk, IfNone, IfSome, MatchBool, MatchOption};
-ghost use Rattle.cycle_time.specs.Search.{most_gain, AreWeights, IsGrown, IsBetter, IsBestOffer, IsRaisedAt, IsRest, step_of, IsRaised, Covers, HasRisen, IsWithin, Enter, IsSoonReached, IsHeavy};
+ghost use Rattle.std.specs.Prelude.{◌≡◌, ℕ, ◌+◌, ◌*◌, ◌^◌, ◌<◌, ◌≤◌, length, reverse, drop, All, IfOk, IfNone, IfSome, MatchBool, MatchOption};
+ghost use Rattle.cycle_time.specs.Search.{most_gain, AreWeights, IsGrown, IsBetter, IsBestOffer, IsRaisedAt, IsKeptAt, step_of, IsRaised, Covers, HasRisen, IsWithin, EntriesEnter, IsSoonReached, IsHeavy};
 ghost use Rattle.cycle_time.specs.declared.weights.Weighing.{Weighing};
-ghost use Rattle.event_graph.specs.Network.{stations, arc_count, EndsAt};
+ghost use Rattle.event_graph.specs.Network.{stations, arc_count};
+ghost use Rattle.line_base.specs.Limits.{most_stations};
 
 use crate::weights::Weights;
 use event_graph::Graph;
@@ -94,7 +95,7 @@ fn best_of(graph: &Graph, weights: &Weights, potentials: &[u128], t: u32) -> Off
     best
 }
 
-/// The elements from place `start` on, the last first.
+/// The elements from index `start` on, the last first.
 fn turned_rest(alloc: Global, elements: &[u32], start: usize) -> Result<Vec<u32>, AllocError>
     requires { start ≤ length elements.now }
     ensures { IfOk result (λ rest. rest.items ≡ reverse (drop start elements.now)) }
@@ -128,7 +129,7 @@ impl Tree {
         requires grown { IsGrown graph.now weights.now.weighing self.old }
         requires small { IsWithin (10 ^ 24) self.old }
         ensures { let w = weights.now.weighing in
-            MatchBool result (IsRaisedAt graph.now w self.old self.new t) (IsRest graph.now w self.old self.new t) }
+            MatchBool result (IsRaisedAt graph.now w self.old self.new t) (IsKeptAt graph.now w self.old self.new t) }
     {
         let best = best_of(graph, weights, &self.potentials, t);
         if best.potential <= self.potentials[t as usize] {
@@ -139,8 +140,8 @@ impl Tree {
         true
     }
 
-    /// Gives each station, in the order of the sweep, the greatest potential that an arc into it gives. The answer is the
-    /// last station that got more than it had.
+    /// Gives each station, in the order of the sweep, the greatest potential that an arc into it gives. The answer is
+    /// the last station that got more than it had.
     pub fn pass(&mut self, graph: &Graph, weights: &Weights, sweep: Sweep) -> Option<u32>
         requires weights { AreWeights graph.now weights.now }
         requires grown { IsGrown graph.now weights.now.weighing self.old }
@@ -149,7 +150,7 @@ impl Tree {
         ensures raised { IsRaised graph.now self.old self.new }
         ensures covers { Covers graph.now weights.now.weighing self.old self.new }
         ensures within { (most : ℕ) →
-            IsWithin most self.old → IsWithin (most + 512 * most_gain) self.new }
+            IsWithin most self.old → IsWithin (most + most_stations * most_gain) self.new }
         ensures rests { IfNone result (self.new ≡ self.old) }
         ensures risen { IfSome result (HasRisen graph.now self.old self.new) }
     {
@@ -164,8 +165,8 @@ impl Tree {
         last
     }
 
-    /// The circuit of entries to which the entries lead back from station `t`, or none where they lead back to a station
-    /// without an entry.
+    /// The circuit of entries to which the entries lead back from station `t`, or none where they lead back to a
+    /// station without an entry.
     pub fn circuit_behind(
         &self,
         alloc: Global,
@@ -174,7 +175,7 @@ impl Tree {
     ) -> Result<Option<Vec<u32>>, AllocError>
         requires station { t < stations graph.now }
         requires entry_for_each { length self.now.entries ≡ stations graph.now }
-        requires enter { Enter graph.now self.now }
+        requires enter { EntriesEnter graph.now self.now }
         ensures { IfOk result (λ found. (w : Weighing) → IsGrown graph.now w self.now →
             MatchOption found (IsSoonReached graph.now w self.now t) (λ arcs. IsHeavy graph.now w arcs.items)) }
     {

@@ -1,4 +1,4 @@
-ghost use Rattle.std.specs.Prelude.{◌≡◌, ◌*◌, ◌<◌, ◌≤◌, length, slice_index, IfOk};
+ghost use Rattle.std.specs.Prelude.{◌≡◌, ◌*◌, ◌<◌, length, slice_index, IfOk};
 ghost use Rattle.cycle_time.specs.Search.{gain, loss, IsModest, AreWeights};
 ghost use Rattle.event_graph.specs.Network.{arc_count};
 

@@ -1,5 +1,5 @@
--- The rows of a plant's graph, each with its kind: the rows are those of the graph, the kinds those of Kinds.antt, and each row
--- is what its kind says.
+-- The rows of a plant's graph, each with its kind: the rows are those of the graph, the kinds those of Kinds.antt, and
+-- each row is what its kind says.
 use Rattle.std.proofs.Common.{◌≡◌, ℕ, zero, suc, ◌+◌, ◌-◌, ◌<◌, ◌≤◌, true, false, eqb, List, [], ◌∷◌, ◌++◌, map, length, get_or, refl, sym, ap, ◌∙◌, subst, arith, inl, inr}
 use Rattle.std.specs.Prelude.{Option, None, Some}
 use Rattle.std.specs.Option.{option_map_or}
@@ -17,7 +17,7 @@ use Rattle.plant_model.specs.declared.plant.Policy.TheVariants.{Kanban, Conwip, 
 use Rattle.plant_model.specs.declared.plant.Plant.{Plant}
 use Rattle.plant_model.specs.Line.{stage_at, machine_at, stage_numbers, machine_numbers, release, machine_station, deliver, next, receiver, starting, first_stages}
 use Rattle.plant_model.specs.ArcNumbers.{delivery_arc, policy_arc, first_loop_arc}
-use Rattle.plant_model.specs.Graph.{Row, worked, plain, onward, stage_rows, feed_row, card_row, demand_row, line_card_row, policy_rows, loop_row, rows, graph}
+use Rattle.plant_model.specs.Graph.{Row, worked_row, plain_row, onward, stage_rows, feed_row, card_row, demand_row, line_card_row, policy_rows, loop_row, rows, graph}
 use Rattle.plant_model.specs.Sound.{IsSound}
 use Rattle.plant_model.proofs.LayoutStations.{receiver-above}
 use Rattle.circuit_sums.proofs.RowNumbers.{no_row, length-rows}
@@ -43,14 +43,14 @@ kind_of k = k.kind
 
 abbrev machine_part : Plant → ℕ → ℕ → List KindedRow
 machine_part p i j =
-    kinded Server (worked (machine_station p i j) (machine_station p i j) (machine_at p i j).servers)
-    ∷ kinded Order (plain (machine_station p i j) (machine_station p i j) 1 0)
+    kinded Server (worked_row (machine_station p i j) (machine_station p i j) (machine_at p i j).servers)
+    ∷ kinded Order (plain_row (machine_station p i j) (machine_station p i j) 1 0)
     ∷ kinded Part (onward p i j)
     ∷ []
 
 abbrev stage_part : Plant → ℕ → List KindedRow
 stage_part p i =
-    kinded Part (worked (release p i) (machine_station p i 0) 0) ∷ flat_map (machine_part p i) (machine_numbers p i)
+    kinded Part (worked_row (release p i) (machine_station p i 0) 0) ∷ flat_map (machine_part p i) (machine_numbers p i)
 
 abbrev stages_part : Plant → List KindedRow
 stages_part p = flat_map (stage_part p) (stage_numbers p)
@@ -117,7 +117,7 @@ all_parts-known part p stages policy loops of_stages of_policy of_loops =
 
 stage_part-rows : (p : Plant) (i : ℕ) → map row_of (stage_part p i) ≡ stage_rows p i
 stage_part-rows p i =
-    ap (λ ys. worked (release p i) (machine_station p i 0) 0 ∷ ys) (map-flat_map row_of (machine_part p i) (machine_numbers p i))
+    ap (λ ys. worked_row (release p i) (machine_station p i 0) 0 ∷ ys) (map-flat_map row_of (machine_part p i) (machine_numbers p i))
 
 stages_part-rows : (p : Plant) → map row_of (stages_part p) ≡ flat_map (stage_rows p) (stage_numbers p)
 stages_part-rows p =
@@ -202,8 +202,8 @@ onward-later : (p : Plant) (i j : ℕ) → IsSound p → i < length p.stages →
 onward-later p i j sound below inside =
     let up = receiver-above p i sound below in
     cond_both (eqb (j + 1) (length (stage_at p i).machines))
-    (plain (machine_station p i j) (receiver p i) (starting p i) (stage_at p i).travel)
-    (worked (machine_station p i j) (machine_station p i (j + 1)) 0)
+    (plain_row (machine_station p i j) (receiver p i) (starting p i) (stage_at p i).travel)
+    (worked_row (machine_station p i j) (machine_station p i (j + 1)) 0)
     (λ r. StageLike r.arc Part)
     (λ last. (omega arith, omega (arith, up.0)))
     (λ inner. (omega arith, omega arith))
@@ -211,12 +211,12 @@ onward-later p i j sound below inside =
 stages-like : (p : Plant) → IsSound p → All IsStageLike (stages_part p)
 stages-like p sound =
     All-flat_map-range IsStageLike (stage_part p) (length p.stages) (λ i below.
-    let entry : IsStageLike (kinded Part (worked (release p i) (machine_station p i 0) 0)) = (omega arith, omega arith) in
+    let entry : IsStageLike (kinded Part (worked_row (release p i) (machine_station p i 0) 0)) = (omega arith, omega arith) in
     let machines = All-flat_map-range IsStageLike (machine_part p i) (length (stage_at p i).machines) (λ j inside.
-    All-cons IsStageLike (kinded Server (worked (machine_station p i j) (machine_station p i j) (machine_at p i j).servers)) (kinded Order (plain (machine_station p i j) (machine_station p i j) 1 0) ∷ kinded Part (onward p i j) ∷ []) (omega arith, record { own = refl; worked_is = refl }) (
-    All-cons IsStageLike (kinded Order (plain (machine_station p i j) (machine_station p i j) 1 0)) (kinded Part (onward p i j) ∷ []) (omega arith, record { own = refl; worked_is = refl }) (
+    All-cons IsStageLike (kinded Server (worked_row (machine_station p i j) (machine_station p i j) (machine_at p i j).servers)) (kinded Order (plain_row (machine_station p i j) (machine_station p i j) 1 0) ∷ kinded Part (onward p i j) ∷ []) (omega arith, record { own = refl; worked_is = refl }) (
+    All-cons IsStageLike (kinded Order (plain_row (machine_station p i j) (machine_station p i j) 1 0)) (kinded Part (onward p i j) ∷ []) (omega arith, record { own = refl; worked_is = refl }) (
     All-cons IsStageLike (kinded Part (onward p i j)) [] (onward-later p i j sound below inside) (All-nil IsStageLike)))) in
-    All-cons IsStageLike (kinded Part (worked (release p i) (machine_station p i 0) 0)) (flat_map (machine_part p i) (machine_numbers p i)) entry machines)
+    All-cons IsStageLike (kinded Part (worked_row (release p i) (machine_station p i 0) 0)) (flat_map (machine_part p i) (machine_numbers p i)) entry machines)
 
 policy-like : (p : Plant) (policy : Policy) → All IsPolicyLike (policy_part policy p)
 policy-like p Kanban =

@@ -1,5 +1,5 @@
--- Each date of the least solution of a live graph has one chain of causes: the walk back goes down by job and then by rank, and
--- leaves no choice.
+-- Each date of the least solution of a live graph has one chain of causes: the walk back goes down by job and then by
+-- rank, and leaves no choice.
 use Rattle.std.proofs.Common.{◌≡◌, ◌≢◌, ℕ, zero, suc, ◌+◌, ◌-◌, ◌*◌, ◌<◌, ◌≤◌, ◌⊎◌, List, [], ◌∷◌, ◌++◌, get_or, refl, sym, ap, ◌∙◌, subst, arith, inl, inr, ⊎_elim}
 use Rattle.std.proofs.lemmas.Bool.{cases_eq, cases_lt, cases_order}
 use Rattle.line_base.specs.declared.event.Parts.{Parts}
@@ -28,7 +28,7 @@ job_falls n k T r s some few low =
 pub walk_falls : (g : Parts) (ranks : List ℕ) → IsUpward g ranks → IsGraph g → (t n a : ℕ) → EndsAt g t a → (arc g a).tokens < n → (n - (arc g a).tokens) * stations g + get_or ranks (arc g a).from 0 < n * stations g + get_or ranks t 0
 walk_falls g ranks up graph t n a enters later =
     let from = (arc g a).from in
-    let rank : get_or ranks from 0 < stations g = up.below from 0 (omega (arith, graph.starts_exist a enters.0, up.place_for_each)) in
+    let rank : get_or ranks from 0 < stations g = up.below from 0 (omega (arith, graph.starts_exist a enters.0, up.rank_for_each)) in
     elim (cases_eq (arc g a).tokens 0) [
       | inl none ↦
           let job : (n - (arc g a).tokens) * stations g ≡ n * stations g = ap (λ k. k * stations g) (omega arith) in

@@ -6,7 +6,6 @@ use Rattle.plant_model.specs.Graph.{graph}
 use Rattle.plant_model.specs.Sound.{IsSound}
 use Rattle.event_graph.specs.Network.{stations, jobs}
 use Rattle.event_graph.specs.Table.{date_in}
-use Rattle.live_check.specs.Order.{LiveGraph}
 use Rattle.line_core.specs.Run.{Dates}
 use Rattle.date_causes.specs.declared.link.Link.{Link}
 use Rattle.date_causes.specs.declared.writing.Chain.{Chain}
@@ -22,12 +21,6 @@ pub record Caused : Type 0 where
 -- the text of the chain
 abbrev pub text_of : Caused → List ℕ
 text_of c = why_text c.plant c.links
-
--- a sound plant, its live graph, and a table of that graph
-pub record AreOfPlant (p : Plant) (live : LiveGraph) (table : Dates) : Type 0 where
-  pub sound : IsSound p
-  pub live_graph : live.graph ≡ graph p
-  pub table_graph : table.graph ≡ graph p
 
 -- the plant has this station, and a job of this number
 abbrev pub HasStation : Plant → ℕ → Type 0

@@ -13,8 +13,8 @@ use Rattle.date_causes.specs.Kinds.{kind_at, kind_word}
 use Rattle.date_causes.specs.Shares.{shares}
 
 -- a word, and a space after it
-abbrev pub spaced : List ℕ → List ℕ → List ℕ
-spaced word rest = word ++ (codes " " ++ rest)
+abbrev pub before_space : List ℕ → List ℕ → List ℕ
+before_space word rest = word ++ (codes " " ++ rest)
 
 -- the word of a cause
 abbrev pub cause_word : Plant → Cause → List ℕ
@@ -25,14 +25,14 @@ cause_word p (Along a) = kind_word (kind_at p a)
 -- the line of a link at the station with this label, whose cause has this word
 abbrev pub link_words : List ℕ → ℕ → ℕ → List ℕ → ℕ → List ℕ
 link_words label job date cause added =
-    spaced label (spaced (decimal job) (spaced (decimal date) (spaced cause (decimal added ++ codes "\n"))))
+    before_space label (before_space (decimal job) (before_space (decimal date) (before_space cause (decimal added ++ codes "\n"))))
 
 unfoldable pub link_line : Plant → Link → List ℕ
 link_line p l = link_words (label (graph p) l.station) l.job l.date (cause_word p l.cause) l.added
 
 -- the line of the share of the station with this label, if it is more than 0
 abbrev pub share_words : List ℕ → ℕ → List ℕ
-share_words label sum = if sum == 0 then [] else codes "share " ++ spaced label (decimal sum ++ codes "\n")
+share_words label sum = if sum == 0 then [] else codes "share " ++ before_space label (decimal sum ++ codes "\n")
 
 unfoldable pub share_line : Parts → List ℕ → ℕ → List ℕ
 share_line g shares t = share_words (label g t) (slice_index shares t)

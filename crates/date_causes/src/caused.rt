@@ -1,6 +1,7 @@
 ghost use Rattle.std.specs.Prelude.{◌≡◌, ◌≤◌, IfOk};
-ghost use Rattle.date_causes.specs.Caused.{text_of, AreOfPlant, IsChainOf, HasStation, HasJob};
+ghost use Rattle.date_causes.specs.Caused.{text_of, IsChainOf, HasStation, HasJob};
 ghost use Rattle.line_io.specs.SinkView.{WritesText};
+ghost use Rattle.line_stats.specs.PlantDates.{AreOfPlant};
 
 use crate::making::chain_of;
 use crate::writing::{Chain, write_chain};
@@ -11,7 +12,8 @@ use plant_model::Plant;
 use std::alloc::{AllocError, Global};
 use std::marker::Model;
 
-/// The chain of causes of a date of a plant's run, and the memory for writing it. Contracts see the plant and the links.
+/// The chain of causes of a date of a plant's run, and the memory for writing it. Contracts see the plant and the
+/// links.
 #[derive(Drop)]
 pub struct Causes {
     plant: Plant,
@@ -22,19 +24,20 @@ pub struct Causes {
 
 impl Model for Causes {
     ghost use Rattle.std.specs.Prelude.{◌≡◌, false};
-    ghost use Rattle.line_io.specs.Outgoing.{emptied};
+    ghost use Rattle.line_io.specs.Outgoing.{nothing_waiting};
     ghost use Rattle.date_causes.specs.Caused.{Caused, IsWritable};
 
     ghost Value = { Caused };
 
     ghost view = { λ c. record { plant = c.plant; links = c.chain.links } };
 
-    ghost invariant = { λ c. IsWritable c.plant c.live.graph c.chain × (c.out ≡ emptied false) };
+    ghost invariant = { λ c. IsWritable c.plant c.live.graph c.chain × (c.out ≡ nothing_waiting false) };
 }
 
 impl Causes {
-    /// The chain of causes of the date of job `n` at station `t`, in a run of a sound plant with this live graph and this
-    /// table. It takes all memory that writing takes: the chain, a number a station, and room for one piece of the text.
+    /// The chain of causes of the date of job `n` at station `t`, in a run of a sound plant with this live graph and
+    /// this table. It takes all memory that writing takes: the chain, a number a station, and room for one piece of the
+    /// text.
     pub fn new(
         alloc: Global,
         plant: Plant,
@@ -65,9 +68,9 @@ impl Causes {
         }
     }
 
-    /// Writes the chain to the sink, from its beginning, a line a date, and then the share of each station that adds more
-    /// than 0, in pieces of 4,096 bytes and a last one that may be shorter. After `Failed` a prefix of it was written. It
-    /// takes no memory.
+    /// Writes the chain to the sink, from its beginning, a line a date, and then the share of each station that adds
+    /// more than 0, in pieces of 4,096 bytes and a last one that may be shorter. After `Failed` a prefix of it was
+    /// written. It takes no memory.
     pub fn write<K: Sink>(&mut self, sink: &mut K) -> Result<(), Failed>
         ensures puts { WritesText (K.shown sink.old) (K.shown sink.new) (text_of self.old) result }
         ensures same { self.new ≡ self.old }

@@ -89,9 +89,10 @@ fn before(graph: &Graph, link: Link) -> Option<(u32, u32)>
     }
 }
 
-/// The chain of causes of the date of job `n` at station `t`, from its beginning on: each link but the first is the date at
-/// the start of the first arc into the next one's station whose term is that date, and the first is a demand date or takes a
-/// token of the start. It takes memory for the chain alone, and as many steps as there are arcs into its stations.
+/// The chain of causes of the date of job `n` at station `t`, from its beginning on: each link but the first is the
+/// date at the start of the first arc into the next one's station whose term is that date, and the first is a demand
+/// date or takes a token of the start. It takes memory for the chain alone, and as many steps as there are arcs into
+/// its stations.
 ///
 /// Source of the rule: Baccelli, Cohen, Olsder and Quadrat, Synchronization and Linearity, critical paths.
 pub fn causes(

@@ -10,15 +10,15 @@ ghost use Rattle.plant_model.specs.Graph.{graph};
 ghost use Rattle.plant_model.specs.Sound.{IsSound};
 ghost use Rattle.plant_model.specs.declared.plant.Plant.{Plant};
 
-/// A law of the definitions: each date is the sum of the amounts of its chain of causes, which are those of a walk that ends
-/// there and begins at a demand or a token of the start.
+/// A law of the definitions: each date is the sum of the amounts of its chain of causes, which are those of a walk that
+/// ends there and begins at a demand or a token of the start.
 pub fn dates_sum_their_chains()
     ensures sums { (g : Parts) (x : Table) → ChainsSumToDates g x }
     ensures walks { (g : Parts) (x : Table) → ChainsAreWalks g x }
 {}
 
-/// A law of the definitions: in a least solution no walk that ends at a date and begins at a demand or a token of the start
-/// sums to more than the date.
+/// A law of the definitions: in a least solution no walk that ends at a date and begins at a demand or a token of the
+/// start sums to more than the date.
 pub fn no_walk_sums_to_more()
     ensures { (g : Parts) (x : Table) → IsLeast g x → NoWalkSumsToMore g x }
 {}

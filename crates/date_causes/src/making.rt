@@ -1,7 +1,8 @@
 //! What the chain of a date is made of.
 ghost use Rattle.std.specs.Prelude.{◌≡◌, ◌≤◌, false, IfOk};
-ghost use Rattle.date_causes.specs.Caused.{AreOfPlant, HasStation, HasJob, IsChainOf, IsWritable};
-ghost use Rattle.line_io.specs.Outgoing.{emptied};
+ghost use Rattle.date_causes.specs.Caused.{HasStation, HasJob, IsChainOf, IsWritable};
+ghost use Rattle.line_io.specs.Outgoing.{nothing_waiting};
+ghost use Rattle.line_stats.specs.PlantDates.{AreOfPlant};
 
 use crate::chain::causes;
 use crate::shares::shares_of;
@@ -28,9 +29,9 @@ pub fn chain_of(
     ensures chain { IfOk result
         (λ r. IsChainOf table.now t n (record { plant = plant.now; links = r.0.links })) }
     ensures writable { IfOk result (λ r. IsWritable plant.now live.now.graph r.0) }
-    ensures out { IfOk result (λ r. r.1 ≡ emptied false) }
+    ensures out { IfOk result (λ r. r.1 ≡ nothing_waiting false) }
 {
-    // For its clause that the dates are the least solution, and so none is late.
+    // called for its clause: the table is the least solution of its graph, and so none of its dates is late
     let _least = table.stations();
     let out = Outgoing::new(alloc)?;
     let numbers = LineNumbers::of(alloc, plant)?;

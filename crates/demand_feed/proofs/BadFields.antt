@@ -59,10 +59,10 @@ pub bad_field-found : (file used : List ℕ) (most : ℕ) (old new : ByteReader)
 unfolding bad_field
 bad_field-found file used most old new row number column passed next h lacks =
     let read = passed.read in
-    let place : number + 1 ≡ 1 + length read.rows = omega (arith, read.place) in
+    let number_is : number + 1 ≡ 1 + length read.rows = omega (arith, read.number_is) in
     let begins = HasGiven-begins file _ new (next file read.rows read.given) in
     let bad : lacks_number used most row ≡ true = any-found _ used ∙ rw lacks refl in
-    rw (begins.1, append_assoc read.rows (row ∷ []) begins.0, Taken-found used most read.rows passed.numbers passed.count row begins.0 (rw place at h) bad read.taken, lacks) refl
+    rw (begins.1, append_assoc read.rows (row ∷ []) begins.0, Taken-found used most read.rows passed.numbers passed.count row begins.0 (rw number_is at h) bad read.taken, lacks) refl
 
 -- at the end of the file none was bad
 pub bad_field-none : (file used : List ℕ) (most : ℕ) (old new : ByteReader) (row : Record) (number : ℕ)

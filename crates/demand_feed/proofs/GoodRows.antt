@@ -17,7 +17,7 @@ use Rattle.std.proofs.lemmas.List.Sums.{count_by-le-length, length-filter}
 use Rattle.std.proofs.Math.Seq.{drop-append_seam, take-append_seam}
 use Rattle.demand_feed.proofs.ReadRecords.{length-strip_bom}
 use Rattle.demand_feed.specs.Records.{Record, records_of}
-use Rattle.demand_feed.specs.Rows.{HoldsRows, Placed, Held, field_in, first_bad, is_header, jobs, lacks_number, number_at, numbers_of, rows_of, unless_bad}
+use Rattle.demand_feed.specs.Rows.{HoldsRows, NumberedRecord, FeedResult, field_in, first_bad, is_header, jobs, lacks_number, number_at, numbers_of, rows_of, unless_bad}
 use Rattle.demand_feed.specs.Field.{decimal_up_to, is_decimal, number_in, without_blanks}
 use Rattle.demand_feed.specs.JobTimes.{cut_rows}
 
@@ -57,7 +57,7 @@ IsRow-numbers_of (column ∷ used) most fields good = next (number_at most field
         record { wide = ap suc row.wide; limit = All-cons (λ m. m ≤ most) n _ (number_at-le most fields column n e) row.limit }
 
 -- the rows of records none of which is bad
-rows-good : (used : List ℕ) (most : ℕ) (rows : List Placed) → find (λ row. lacks_number used most row.1) rows ≡ None
+rows-good : (used : List ℕ) (most : ℕ) (rows : List NumberedRecord) → find (λ row. lacks_number used most row.1) rows ≡ None
     → AllByRecursion (IsRow (length used) most) (map (λ row. numbers_of used most row.1) rows)
 rows-good used most [] none = tt
 rows-good used most (row ∷ rows) none = elim (cases_Bool (lacks_number used most row.1)) [
@@ -69,7 +69,7 @@ rows-good used most (row ∷ rows) none = elim (cases_Bool (lacks_number used mo
 length-jobs-le : (used : List ℕ) (records : List Record) → length (jobs used records) ≤ length records
 unfolding jobs
 length-jobs-le used records =
-    let test : Placed → Bool = λ row. not (is_header used row) in
+    let test : NumberedRecord → Bool = λ row. not (is_header used row) in
     let all = enumerate_from 1 records in
     omega (arith, length-filter test all, count_by-le-length test all, length-enumerate_from 1 records)
 
@@ -79,13 +79,13 @@ pub rows_of-rows : (used : List ℕ) (most : ℕ) (records : List Record) (rows 
 unfolding first_bad
 rows_of-rows used most records rows h = by (find (λ row. lacks_number used most row.1) (jobs used records)) refl h
   where
-    by : (o : Option Placed) → find (λ row. lacks_number used most row.1) (jobs used records) ≡ o
+    by : (o : Option NumberedRecord) → find (λ row. lacks_number used most row.1) (jobs used records) ≡ o
         → unless_bad (option_map (λ row. row.0) o) (map (λ row. numbers_of used most row.1) (jobs used records)) ≡ Ok rows
         → AllByRecursion (IsRow (length used) most) rows × (length rows ≤ length records)
     by None e same =
         let is : map (λ row. numbers_of used most row.1) (jobs used records) ≡ rows = cc same in
         let fewer = length-jobs-le used records in
-        let size = length-map (jobs used records) (λ (row : Placed). numbers_of used most row.1) in
+        let size = length-map (jobs used records) (λ (row : NumberedRecord). numbers_of used most row.1) in
         subst (λ (found : List (List ℕ)). AllByRecursion (IsRow (length used) most) found × (length found ≤ length records)) is
         (rows-good used most (jobs used records) e, omega arith)
     by (Some bad) e same = cc same
@@ -103,11 +103,11 @@ pub Accepted-held : (used : List ℕ) (most : ℕ) (records : List Record) (numb
     → HoldsRows (rows_of used most records) numbers count → Accepted used most records numbers count
 Accepted-held used most records numbers count held = by (rows_of used most records) refl held
   where
-    by : (read : Held (List (List ℕ))) → rows_of used most records ≡ read → HoldsRows read numbers count → Accepted used most records numbers count
+    by : (read : FeedResult (List (List ℕ))) → rows_of used most records ≡ read → HoldsRows read numbers count → Accepted used most records numbers count
     by (Ok rows) e h =
         let good = rows_of-rows used most records rows e in
         record { rows = rows; tells = e; good = good.0; few = omega (arith, h.1, good.1); joined = h.0; counted = h.1 }
-    by (Err place) e h = absurd h
+    by (Err number) e h = absurd h
 
 -- rows joined have as many numbers as rows times columns
 pub length-concat-rows : (width most : ℕ) (rows : List (List ℕ)) → AllByRecursion (IsRow width most) rows → length (concat rows) ≡ length rows * width

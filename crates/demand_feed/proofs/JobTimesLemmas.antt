@@ -29,22 +29,22 @@ limit-cut_rows limit width (suc count) numbers low =
     All-cons (λ row. All (λ n. n ≤ limit) row) _ _ (All-take (λ n. n ≤ limit) width numbers low)
     (limit-cut_rows limit width count (drop width numbers) (All-drop (λ n. n ≤ limit) width numbers low))
 
--- the number of row k for the column at place p
+-- the number of row k for the column at index p
 pub numbers_in-cut_rows : (columns : List ℕ) (column count : ℕ) (numbers : List ℕ) (k p : ℕ) → k < count → p < length columns
     → position_or_len (λ other. eqb other column) columns ≡ p
     → get_or (map (number_for columns column) (cut_rows (length columns) count numbers)) k 0 ≡ get_or numbers (k * length columns + p) 0
 unfolding cut_rows
-numbers_in-cut_rows columns column zero numbers k p within inside place = absurd (omega arith)
-numbers_in-cut_rows columns column (suc count) numbers zero p within inside place =
+numbers_in-cut_rows columns column zero numbers k p within inside index = absurd (omega arith)
+numbers_in-cut_rows columns column (suc count) numbers zero p within inside index =
     let first : p ≡ 0 * length columns + p = omega arith in
-    rw place (get_or-take (length columns) numbers p 0 inside ∙ ap (λ (at : ℕ). get_or numbers at 0) first)
-numbers_in-cut_rows columns column (suc count) numbers (suc k) p within inside place =
+    rw index (get_or-take (length columns) numbers p 0 inside ∙ ap (λ (at : ℕ). get_or numbers at 0) first)
+numbers_in-cut_rows columns column (suc count) numbers (suc k) p within inside index =
     let later : length columns + (k * length columns + p) ≡ suc k * length columns + p = omega arith in
-    numbers_in-cut_rows columns column count (drop (length columns) numbers) k p (omega arith) inside place
+    numbers_in-cut_rows columns column count (drop (length columns) numbers) k p (omega arith) inside index
     ∙ get_or-drop (length columns) numbers (k * length columns + p) 0
     ∙ ap (λ (at : ℕ). get_or numbers at 0) later
 
--- numbers that rise, from one place to any later one
+-- numbers that rise, from one index to any later one
 rises : (xs : List ℕ) → IsStrictlyIncreasing xs → (i j : ℕ) → i < j → j < length xs → get_or xs i 0 < get_or xs j 0
 rises xs up i j below within = AllPairs-from_increasing xs up i j 0 below within
 
@@ -56,10 +56,10 @@ keeps-up xs up i j order within = elim (cases_lt i j) [
       rw same (omega arith)
 ]
 
--- a search in rising columns finds one at its only place
-pub place-found : (columns : List ℕ) (column p : ℕ) (r : Result ℕ ℕ) → r ≡ Ok p → IsStrictlyIncreasing columns
+-- a search in rising columns finds one at its only index
+pub index-found : (columns : List ℕ) (column p : ℕ) (r : Result ℕ ℕ) → r ≡ Ok p → IsStrictlyIncreasing columns
     → IsBinarySearchResult (λ y. nat_cmp y column) columns r → (p < length columns) × (position_or_len (λ other. eqb other column) columns ≡ p)
-place-found columns column p r is up found =
+index-found columns column p r is up found =
     let known = rw is at (searched columns column r found (keeps-up columns up)) in
     let inside = known.0 in (
       inside,
@@ -69,9 +69,9 @@ place-found columns column p r is up found =
     )
 
 -- and misses none that is there
-pub place-missing : (columns : List ℕ) (column i : ℕ) (r : Result ℕ ℕ) → r ≡ Err i → IsStrictlyIncreasing columns
+pub index-missing : (columns : List ℕ) (column i : ℕ) (r : Result ℕ ℕ) → r ≡ Err i → IsStrictlyIncreasing columns
     → IsBinarySearchResult (λ y. nat_cmp y column) columns r → Contains columns column → ⊥
-place-missing columns column i r is up missing (k, inside, there) =
+index-missing columns column i r is up missing (k, inside, there) =
     let known = rw is at (searched columns column r missing (keeps-up columns up)) in
     let here : get_or columns k 0 ≡ column = get_or_default columns k 0 column inside ∙ there in
     elim (cases_lt k i) [
@@ -79,25 +79,25 @@ place-missing columns column i r is up missing (k, inside, there) =
       | inr above ↦ omega (arith, known.2 k above inside)
     ]
 
--- a place in a row is a place among all numbers
-place-within : (count width k p : ℕ) → k < count → p < width → k * width + p < count * width
-place-within count width k p below inside = grind arith
+-- an index in a row is an index among all numbers
+index-within : (count width k p : ℕ) → k < count → p < width → k * width + p < count * width
+index-within count width k p below inside = grind arith
 
--- the time of a job in a column stands at the place of the column in the job's row; `shown` are the table's columns
-pub place-within-times : (table : JobTimes) (columns : List ℕ) (jobs : ℕ) (times : List ℕ) (job : ℕ) (shown : List ℕ) (place : ℕ)
+-- the time of a job in a column stands at the index of the column in the job's row; `shown` are the table's columns
+pub index-within-times : (table : JobTimes) (columns : List ℕ) (jobs : ℕ) (times : List ℕ) (job : ℕ) (shown : List ℕ) (index : ℕ)
     → job_times columns jobs times ≡ table → IsFilled columns jobs times → (1 ≤ job) × (job ≤ length table.rows)
-    → shown ≡ columns → place < length shown → (job - 1) * length shown + place < length times
-place-within-times table columns jobs times job shown place seen kept exists same inside =
+    → shown ≡ columns → index < length shown → (job - 1) * length shown + index < length times
+index-within-times table columns jobs times job shown index seen kept exists same inside =
     let count : length table.rows ≡ jobs = rw (← seen) (length-cut_rows (length columns) jobs times) in
-    rw (same, kept.filled) (place-within jobs (length columns) (job - 1) place (omega (arith, exists)) (rw same at inside))
+    rw (same, kept.filled) (index-within jobs (length columns) (job - 1) index (omega (arith, exists)) (rw same at inside))
 
-pub field_of-place : (table : JobTimes) (columns : List ℕ) (jobs : ℕ) (times : List ℕ) (job : ℕ) (shown : List ℕ) (place column : ℕ)
+pub field_of-index : (table : JobTimes) (columns : List ℕ) (jobs : ℕ) (times : List ℕ) (job : ℕ) (shown : List ℕ) (index column : ℕ)
     → job_times columns jobs times ≡ table → IsFilled columns jobs times → (1 ≤ job) × (job ≤ length table.rows)
-    → shown ≡ columns → place < length shown → place ≡ position_or_len (λ other. eqb other column) shown
-    → get_or times ((job - 1) * length shown + place) 0 ≡ field_of table job column
-field_of-place table columns jobs times job shown place column seen kept exists same inside found =
+    → shown ≡ columns → index < length shown → index ≡ position_or_len (λ other. eqb other column) shown
+    → get_or times ((job - 1) * length shown + index) 0 ≡ field_of table job column
+field_of-index table columns jobs times job shown index column seen kept exists same inside found =
     let count : length table.rows ≡ jobs = rw (← seen) (length-cut_rows (length columns) jobs times) in
-    rw (same, ← seen) (sym (numbers_in-cut_rows columns column jobs times (job - 1) place (omega (arith, exists)) (rw same at inside) (sym (rw same at found))))
+    rw (same, ← seen) (sym (numbers_in-cut_rows columns column jobs times (job - 1) index (omega (arith, exists)) (rw same at inside) (sym (rw same at found))))
 
 -- a column has a time for each job
 length-numbers_in : (table : JobTimes) (columns : List ℕ) (jobs : ℕ) (times : List ℕ) (column : ℕ) → job_times columns jobs times ≡ table → length (numbers_in table column) ≡ jobs
@@ -110,20 +110,20 @@ pub numbers_in-all : (table : JobTimes) (columns : List ℕ) (jobs : ℕ) (times
 numbers_in-all table columns jobs times job column seen past =
     take_all job (numbers_in table column) (omega (arith, length-numbers_in table columns jobs times column seen))
 
--- the place of one more job is one among all times; `shown` are the table's columns
-pub place-within-column : (columns : List ℕ) (jobs : ℕ) (times : List ℕ) (job : ℕ) (shown : List ℕ) (place : ℕ) → IsFilled columns jobs times
-    → job < jobs → shown ≡ columns → place < length shown → job * length shown + place < length times
-place-within-column columns jobs times job shown place kept below same inside =
-    rw (same, kept.filled) (place-within jobs (length columns) job place below (rw same at inside))
+-- the index of one more job is one among all times; `shown` are the table's columns
+pub index-within-column : (columns : List ℕ) (jobs : ℕ) (times : List ℕ) (job : ℕ) (shown : List ℕ) (index : ℕ) → IsFilled columns jobs times
+    → job < jobs → shown ≡ columns → index < length shown → job * length shown + index < length times
+index-within-column columns jobs times job shown index kept below same inside =
+    rw (same, kept.filled) (index-within jobs (length columns) job index below (rw same at inside))
 
 -- one more time of a column
-pub numbers_in-more : (table : JobTimes) (columns : List ℕ) (jobs : ℕ) (times : List ℕ) (job : ℕ) (shown : List ℕ) (place column : ℕ)
-    → job_times columns jobs times ≡ table → job < jobs → shown ≡ columns → place < length shown → place ≡ position_or_len (λ other. eqb other column) shown
-    → take (job + 1) (numbers_in table column) ≡ take job (numbers_in table column) ++ get_or times (job * length shown + place) 0 ∷ []
-numbers_in-more table columns jobs times job shown place column seen below same inside found =
+pub numbers_in-more : (table : JobTimes) (columns : List ℕ) (jobs : ℕ) (times : List ℕ) (job : ℕ) (shown : List ℕ) (index column : ℕ)
+    → job_times columns jobs times ≡ table → job < jobs → shown ≡ columns → index < length shown → index ≡ position_or_len (λ other. eqb other column) shown
+    → take (job + 1) (numbers_in table column) ≡ take job (numbers_in table column) ++ get_or times (job * length shown + index) 0 ∷ []
+numbers_in-more table columns jobs times job shown index column seen below same inside found =
     let count = length-numbers_in table columns jobs times column seen in
-    let here : get_or (numbers_in table column) job 0 ≡ get_or times (job * length shown + place) 0 =
-    rw (same, ← seen) (numbers_in-cut_rows columns column jobs times job place below (rw same at inside) (sym (rw same at found))) in
+    let here : get_or (numbers_in table column) job 0 ≡ get_or times (job * length shown + index) 0 =
+    rw (same, ← seen) (numbers_in-cut_rows columns column jobs times job index below (rw same at inside) (sym (rw same at found))) in
     take_more (numbers_in table column) job 0 (omega (arith, count))
     ∙ ap (λ (time : ℕ). take job (numbers_in table column) ++ time ∷ []) here
 

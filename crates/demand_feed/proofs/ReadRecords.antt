@@ -61,32 +61,32 @@ HasGiven-begins file rows reader given = (_, records-reached _ _ given.rest rows
 pub record HasRead (file used : List ℕ) (most : ℕ) (reader : ByteReader) (number : ℕ) (numbers : List ℕ) (count : ℕ) : Type 0 where
   pub rows : List Record
   pub given : HasGiven file rows reader
-  pub place : number ≡ length rows
+  pub number_is : number ≡ length rows
   pub taken : Taken used most rows numbers count
 
 -- at the start of a file
 pub HasRead-open : (file used : List ℕ) (most : ℕ) (reader : ByteReader) (numbers : List ℕ) → HasGiven file [] reader → numbers ≡ []
     → HasRead file used most reader 0 numbers 0
-HasRead-open file used most reader numbers given none = record { rows = []; given = given; place = refl; taken = rw none (Taken-none used most) }
+HasRead-open file used most reader numbers given none = record { rows = []; given = given; number_is = refl; taken = rw none (Taken-none used most) }
 
 -- one more record is one more of the file's
 pub HasRead-room : (file used : List ℕ) (most : ℕ) (old new : ByteReader) (row : Record) (number : ℕ) (numbers : List ℕ) (count : ℕ)
     → HasRead file used most old number numbers count → GivesNext old new row true → (number + 1 ≤ length file) × (count ≤ number)
 HasRead-room file used most old new row number numbers count read next =
     let room = HasGiven-room file _ new (next file read.rows read.given) in
-    (omega (arith, room, read.place, length-append read.rows (row ∷ [])), omega (arith, read.place, read.taken.few))
+    (omega (arith, room, read.number_is, length-append read.rows (row ∷ [])), omega (arith, read.number_is, read.taken.few))
 
 -- a header
 pub HasRead-header : (file used : List ℕ) (most : ℕ) (old new : ByteReader) (row : Record) (number : ℕ) (numbers : List ℕ) (count : ℕ)
     → HasRead file used most old number numbers count → GivesNext old new row true → is_header used (number + 1, row) ≡ true
     → HasRead file used most new (number + 1) numbers count
 HasRead-header file used most old new row number numbers count read next h =
-    let place : number + 1 ≡ 1 + length read.rows = omega (arith, read.place) in
+    let number_is : number + 1 ≡ 1 + length read.rows = omega (arith, read.number_is) in
     record {
       rows = read.rows ++ row ∷ [];
       given = next file read.rows read.given;
-      place = omega (arith, read.place, length-append read.rows (row ∷ []));
-      taken = Taken-header used most read.rows numbers count row (rw place at h) read.taken;
+      number_is = omega (arith, read.number_is, length-append read.rows (row ∷ []));
+      taken = Taken-header used most read.rows numbers count row (rw number_is at h) read.taken;
     }
 
 -- a job
@@ -95,12 +95,12 @@ pub HasRead-job : (file used : List ℕ) (most : ℕ) (old new : ByteReader) (ro
     → lacks_number used most row ≡ false → more ≡ numbers ++ numbers_of used most row
     → HasRead file used most new (number + 1) more (count + 1)
 HasRead-job file used most old new row number numbers more count read next h good added =
-    let place : number + 1 ≡ 1 + length read.rows = omega (arith, read.place) in
+    let number_is : number + 1 ≡ 1 + length read.rows = omega (arith, read.number_is) in
     record {
       rows = read.rows ++ row ∷ [];
       given = next file read.rows read.given;
-      place = omega (arith, read.place, length-append read.rows (row ∷ []));
-      taken = rw added (Taken-job used most read.rows numbers count row (rw place at h) good read.taken);
+      number_is = omega (arith, read.number_is, length-append read.rows (row ∷ []));
+      taken = rw added (Taken-job used most read.rows numbers count row (rw number_is at h) good read.taken);
     }
 
 -- a bad record is the first of the file
@@ -108,10 +108,10 @@ pub rows_of-bad : (file used : List ℕ) (most : ℕ) (old new : ByteReader) (ro
     → HasRead file used most old number numbers count → GivesNext old new row true → is_header used (number + 1, row) ≡ false
     → lacks_number used most row ≡ true → rows_of used most (records_of file) ≡ Err (number + 1)
 rows_of-bad file used most old new row number numbers count read next h bad =
-    let place : number + 1 ≡ 1 + length read.rows = omega (arith, read.place) in
+    let number_is : number + 1 ≡ 1 + length read.rows = omega (arith, read.number_is) in
     let begins = HasGiven-begins file _ new (next file read.rows read.given) in
-    rw (begins.1, append_assoc read.rows (row ∷ []) begins.0, place)
-    (Taken-bad used most read.rows numbers count row begins.0 (rw place at h) bad read.taken)
+    rw (begins.1, append_assoc read.rows (row ∷ []) begins.0, number_is)
+    (Taken-bad used most read.rows numbers count row begins.0 (rw number_is at h) bad read.taken)
 
 -- at the end of the file
 pub rows_of-all : (file used : List ℕ) (most : ℕ) (old new : ByteReader) (row : Record) (number : ℕ) (numbers : List ℕ) (count : ℕ)

@@ -5,16 +5,16 @@ use Rattle.std.proofs.lemmas.List.{append-nil, length-append, length-map, map-ap
 use Rattle.std.proofs.lemmas.List.Elements.{filter-append}
 use Rattle.std.proofs.lemmas.List.Folds.{concat-append, find-append}
 use Rattle.demand_feed.specs.Records.{Record}
-use Rattle.demand_feed.specs.Rows.{HoldsRows, Placed, first_bad, is_header, jobs, lacks_number, numbers_of, rows_of}
+use Rattle.demand_feed.specs.Rows.{HoldsRows, NumberedRecord, first_bad, is_header, jobs, lacks_number, numbers_of, rows_of}
 
 enumerate_from-append : (n : ℕ) (xs ys : List Record) → enumerate_from n (xs ++ ys) ≡ enumerate_from n xs ++ enumerate_from (n + length xs) ys
 enumerate_from-append n [] ys = rw (add-zero n) refl
 enumerate_from-append n (x ∷ xs) ys =
     let next : n + 1 + length xs ≡ n + length (x ∷ xs) = omega arith in
-    ap (λ (rest : List Placed). (n, x) ∷ rest) (enumerate_from-append (n + 1) xs ys ∙ rw next refl)
+    ap (λ (rest : List NumberedRecord). (n, x) ∷ rest) (enumerate_from-append (n + 1) xs ys ∙ rw next refl)
 
 -- the jobs among records that stand behind some number of others
-unfoldable later_jobs : List ℕ → ℕ → List Record → List Placed
+unfoldable later_jobs : List ℕ → ℕ → List Record → List NumberedRecord
 later_jobs used count rows = filter (λ row. not (is_header used row)) (enumerate_from (1 + count) rows)
 
 jobs-append : (used : List ℕ) (xs ys : List Record) → jobs used (xs ++ ys) ≡ jobs used xs ++ later_jobs used (length xs) ys
@@ -27,7 +27,7 @@ unfolding later_jobs
 later_jobs-header used count row h = rw h refl
 
 later_jobs-job : (used : List ℕ) (count : ℕ) (row : Record) (rows : List Record) → is_header used (1 + count, row) ≡ false
-    → (rest : List Placed) × (later_jobs used count (row ∷ rows) ≡ (1 + count, row) ∷ rest)
+    → (rest : List NumberedRecord) × (later_jobs used count (row ∷ rows) ≡ (1 + count, row) ∷ rest)
 unfolding later_jobs
 later_jobs-job used count row rows h =
     (filter (λ next. not (is_header used next)) (enumerate_from (1 + count + 1) rows), rw h refl)
@@ -38,7 +38,7 @@ unfolding later_jobs
 later_jobs-one used count row h = rw h refl
 
 -- a record that lacks no number
-abbrev pub is_lacking : List ℕ → ℕ → Placed → Bool
+abbrev pub is_lacking : List ℕ → ℕ → NumberedRecord → Bool
 is_lacking used most row = lacks_number used most row.1
 
 -- the rows of numbers of the jobs among some records
@@ -73,7 +73,7 @@ Taken-job used most rows numbers count row h good taken =
       whole = rw more (find-append (is_lacking used most) (jobs used rows) ((1 + length rows, row) ∷ []) ∙ rw (taken.whole, good) refl);
       joined = rw (
         more,
-        map-append (λ (job : Placed). numbers_of used most job.1) (jobs used rows) ((1 + length rows, row) ∷ []),
+        map-append (λ (job : NumberedRecord). numbers_of used most job.1) (jobs used rows) ((1 + length rows, row) ∷ []),
         concat-append (good_rows used most rows) (numbers_of used most row ∷ []),
         taken.joined,
         append-nil (numbers_of used most row),
@@ -101,4 +101,4 @@ Taken-bad used most rows numbers count row rest h bad taken =
 pub Taken-all : (used : List ℕ) (most : ℕ) (rows : List Record) (numbers : List ℕ) (count : ℕ)
     → Taken used most rows numbers count → HoldsRows (rows_of used most rows) numbers count
 unfolding first_bad
-Taken-all used most rows numbers count taken = rw taken.whole (taken.joined, taken.counted ∙ sym (length-map (jobs used rows) (λ (job : Placed). numbers_of used most job.1)))
+Taken-all used most rows numbers count taken = rw taken.whole (taken.joined, taken.counted ∙ sym (length-map (jobs used rows) (λ (job : NumberedRecord). numbers_of used most job.1)))

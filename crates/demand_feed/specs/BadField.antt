@@ -4,7 +4,7 @@ use Rattle.std.specs.List.{find, prefix_len}
 use Rattle.std.specs.Option.{option_map}
 use Rattle.line_base.specs.Text.{is_between}
 use Rattle.demand_feed.specs.Records.{Record}
-use Rattle.demand_feed.specs.Rows.{Placed, field_in, number_at, lacks_number, jobs}
+use Rattle.demand_feed.specs.Rows.{NumberedRecord, field_in, number_at, lacks_number, jobs}
 use Rattle.demand_feed.specs.declared.bad_field.BadField.{BadField}
 
 -- a blank, or another printable character of ASCII

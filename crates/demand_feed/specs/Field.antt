@@ -8,16 +8,16 @@ use Rattle.std.specs.Str.Parse.{digits_value}
 abbrev pub is_blank : ℕ → Bool
 is_blank byte = byte == 32 || byte == 9
 
--- a text without the blanks at its front, and one without those at its end
-abbrev pub without_front_blanks : List ℕ → List ℕ
-without_front_blanks text = drop (prefix_len is_blank text) text
+-- a text without the blanks that it begins with, and one without those that it ends with
+abbrev pub without_leading_blanks : List ℕ → List ℕ
+without_leading_blanks text = drop (prefix_len is_blank text) text
 
-abbrev pub without_end_blanks : List ℕ → List ℕ
-without_end_blanks text = take (length text - suffix_len is_blank text) text
+abbrev pub without_trailing_blanks : List ℕ → List ℕ
+without_trailing_blanks text = take (length text - suffix_len is_blank text) text
 
 -- a field without the blanks around it
 unfoldable pub without_blanks : List ℕ → List ℕ
-without_blanks field = without_end_blanks (without_front_blanks field)
+without_blanks field = without_trailing_blanks (without_leading_blanks field)
 
 -- 1 to 20 decimal digits, leading zeros among them
 abbrev pub is_decimal : List ℕ → Bool
@@ -32,6 +32,6 @@ decimal_up_to most text =
 abbrev pub number_in : ℕ → List ℕ → Option ℕ
 number_in most field = decimal_up_to most (without_blanks field)
 
--- a title: a field that begins with an ASCII letter, after the blanks in front of it
+-- a title: a field that begins with an ASCII letter, after any blanks
 abbrev pub is_title : List ℕ → Bool
 is_title field = list_any is_ascii_alphabetic (take 1 (without_blanks field))

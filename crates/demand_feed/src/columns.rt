@@ -50,37 +50,37 @@ impl Columns {
         ensures limit { result ≤ MAX_TIME }
     {
         let columns = self.columns.as_slice();
-        let place = place_of(columns, column);
-        self.times[(job as usize - 1) * columns.len() + place]
+        let index = index_of(columns, column);
+        self.times[(job as usize - 1) * columns.len() + index]
     }
 
-    /// The times in one of the columns, job by job, in the plant's unit of time. Columns count from 1. The column is looked
-    /// for once.
+    /// The times in one of the columns, job by job, in the plant's unit of time. Columns count from 1. The column is
+    /// looked for once.
     pub fn column(&self, alloc: Global, column: u32) -> Result<Vec<u64>, AllocError>
         requires { Contains self.now.columns column }
         ensures { IfOk result (λ times. times.items ≡ numbers_in self.now column) }
     {
         let columns = self.columns.as_slice();
-        let place = place_of(columns, column);
+        let index = index_of(columns, column);
         let mut times = Vec::with_capacity(alloc, self.jobs as usize)?;
         for job in 0..self.jobs as usize {
-            times.push(self.times[job * columns.len() + place])?;
+            times.push(self.times[job * columns.len() + index])?;
         }
         Ok(times)
     }
 }
 
-/// The place of a column among columns that rise.
-fn place_of(columns: &[u32], column: u32) -> usize
+/// The index of a column among columns that rise.
+fn index_of(columns: &[u32], column: u32) -> usize
     requires ascending { IsStrictlyIncreasing columns.now }
     requires there { Contains columns.now column }
-    ensures place { result ≡ position_or_len (λ other. other == column) columns.now }
+    ensures index { result ≡ position_or_len (λ other. other == column) columns.now }
     ensures within { result < length columns.now }
 {
-    let Ok(place) = columns.binary_search(&column) else {
+    let Ok(index) = columns.binary_search(&column) else {
         unreachable!()
     };
-    place
+    index
 }
 
 /// Reads the job times in these columns of a times file, in the plant's unit of time. Columns count
@@ -90,7 +90,7 @@ fn place_of(columns: &[u32], column: u32) -> usize
 /// The first record is a header where it begins with an ASCII letter in each of these columns.
 /// `BadRecord` names the first other record that lacks a time in one of the columns. Records are
 /// those of RFC 4180 as the crate `csv` reads them, of any number of fields each; a byte order mark
-/// at the front is no part of the first.
+/// at the beginning is no part of the first.
 pub fn read_times(alloc: Global, bytes: &[u8], columns: &[u32]) -> Result<Columns, FeedError>
     requires size { length bytes.now ≤ MAX_CHECKPOINT_BYTES }
     requires ascending { IsStrictlyIncreasing columns.now }

@@ -15,7 +15,7 @@ use std::alloc::Global;
 /// The first record is a header where its field in this column begins with an ASCII letter.
 /// `BadRecord` names the first other record that has no date in this column, and is 0 where the file
 /// has no date. Records are those of RFC 4180 as the crate `csv` reads them, of any number of fields
-/// each; a byte order mark at the front is no part of the first.
+/// each; a byte order mark at the beginning is no part of the first.
 pub fn read_dates(alloc: Global, bytes: &[u8], column: u32) -> Result<Vec<Date>, FeedError>
     requires { 1 ≤ column }
     ensures dates { IfOk result (λ dates. dates_of column bytes.now ≡ Ok dates.items) }

@@ -4,7 +4,7 @@ ghost use Rattle.std.specs.Prelude.{◌≡◌, ◌≤◌, length};
 ghost use Rattle.demand_feed.specs.Field.{decimal_up_to, is_blank, is_decimal, is_title, number_in, without_blanks};
 
 /// The most digits of a number, leading zeros among them.
-pub(crate) const MAX_DIGITS: usize = 20;
+const MAX_DIGITS: usize = 20;
 
 /// Whether a byte is a space or a tab.
 fn is_blank(byte: u8) -> bool
@@ -14,7 +14,7 @@ fn is_blank(byte: u8) -> bool
 }
 
 /// How many blanks a text begins with.
-fn front_blanks(text: &[u8]) -> usize
+fn leading_blanks(text: &[u8]) -> usize
     ensures count { result ≡ prefix_len is_blank text.now }
     ensures within { result ≤ length text.now }
 {
@@ -22,7 +22,7 @@ fn front_blanks(text: &[u8]) -> usize
 }
 
 /// How many blanks a text ends with.
-fn end_blanks(text: &[u8]) -> usize
+fn trailing_blanks(text: &[u8]) -> usize
     ensures count { result ≡ suffix_len is_blank text.now }
     ensures within { result ≤ length text.now }
 {
@@ -36,8 +36,8 @@ fn end_blanks(text: &[u8]) -> usize
 fn without_blanks(field: &[u8]) -> &[u8]
     ensures { result.now ≡ without_blanks field.now }
 {
-    let text = &field[front_blanks(field)..];
-    &text[..text.len() - end_blanks(text)]
+    let text = &field[leading_blanks(field)..];
+    &text[..text.len() - trailing_blanks(text)]
 }
 
 /// Whether a text has no byte but decimal digits.
@@ -77,7 +77,7 @@ pub(crate) fn number_in(field: &[u8], most: u64) -> Option<u64>
     decimal_up_to(without_blanks(field), most)
 }
 
-/// Whether a field begins with an ASCII letter, after the blanks in front of it.
+/// Whether a field begins with an ASCII letter, after any blanks.
 pub(crate) fn is_title(field: &[u8]) -> bool
     ensures { result ≡ is_title field.now }
 {

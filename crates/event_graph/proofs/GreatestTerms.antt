@@ -1,4 +1,5 @@
--- Each date of a least solution is the greatest of its terms: with the lesser of itself and of that it solves the graph too.
+-- Each date of a least solution is the greatest of its terms: with the lesser of itself and of that it solves the graph
+-- too.
 use Rattle.std.proofs.Common.{◌≡◌, ◌≢◌, ℕ, ◌+◌, ◌-◌, ◌<◌, ◌≤◌, Bool, true, false, cond, eqb, ltb, get_or, min, refl, ap, arith}
 use Rattle.std.proofs.lemmas.Bool.{cond-false, ne_eqb}
 use Rattle.line_base.specs.declared.event.Parts.{Parts}

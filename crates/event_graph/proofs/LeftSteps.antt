@@ -1,4 +1,5 @@
--- The steps at which a path left its stations: for each of this many stations the step, or their number where it was not left.
+-- The steps at which a path left its stations: for each of this many stations the step, or their number where it was
+-- not left.
 use Rattle.std.proofs.Common.{◌≡◌, ◌≢◌, ℕ, ◌+◌, ◌*◌, ◌<◌, cond, eqb, List, [], ◌∷◌, ◌++◌, length, set, get_or, replicate, count_by, sym, ap, ◌∙◌, refl, inl, inr, add-zero, mul-one, arith}
 use Rattle.std.proofs.lemmas.Bool.{cases_lt, cases_eq, eq-eqb, ne_eqb}
 use Rattle.std.proofs.lemmas.List.{length-set, length-replicate, get_or-replicate, get_or-set_same, get_or-set_other, length_push, get_or_push, get_or_append_left}

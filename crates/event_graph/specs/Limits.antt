@@ -12,6 +12,8 @@ abbrev pub AreTimesFor : ℕ → Times → Type 0
 AreTimesFor jobs (Fixed time) = time ≤ longest_time
 AreTimesFor jobs (Each times) = (length times ≡ jobs) × All (λ time. time ≤ longest_time) times
 
+-- at least one station and one job, demand dates in order, times for each station, a delay for each arc, and nothing past
+-- its limit
 pub record IsWithinLimits (g : Parts) : Type 0 where
   pub some_station : 1 ≤ stations g
   pub few_stations : stations g ≤ most_stations

@@ -1,4 +1,4 @@
-ghost use Rattle.std.specs.Prelude.{◌≡◌, ℕ, ◌^◌, ◌<◌, ◌≤◌, MatchResult};
+ghost use Rattle.std.specs.Prelude.{◌≡◌, ◌^◌, ◌<◌, MatchResult};
 ghost use Rattle.event_graph.specs.Faults.{AllNameStations, NoneEntersFeed, NoneLacksInput, IsFirstFault};
 ghost use Rattle.event_graph.specs.Lists.{lists_at};
 ghost use Rattle.event_graph.specs.Network.{stations, arc_count};

@@ -1,11 +1,11 @@
-ghost use Rattle.std.specs.Prelude.{◌≡◌, ℕ, ◌≤◌, ◌<◌, All, IfOk, OnOk, IfErr, slice_index_or, IsTrue, ◌↔◌};
+ghost use Rattle.std.specs.Prelude.{◌≡◌, ◌≤◌, ◌<◌, All, IfOk, OnOk, IfErr, IsTrue, ◌↔◌};
 ghost use Rattle.event_graph.specs.Faults.{IsFirstFault};
 ghost use Rattle.event_graph.specs.Limits.{IsWithinLimits};
 ghost use Rattle.event_graph.specs.Lists.{IsListed};
 ghost use Rattle.event_graph.specs.Network.{stations, jobs, arc_count, arc, time, demand, delay, label, ins, outs, IsGraph, EndsAt, StartsAt};
 ghost use Rattle.event_graph.specs.Term.{work};
 ghost use Rattle.event_graph.specs.Varying.{Varies};
-ghost use Rattle.line_base.specs.Limits.{longest_time};
+ghost use Rattle.line_base.specs.Limits.{longest_time, most_cards};
 ghost use Rattle.line_base.specs.Text.{is_label};
 
 use crate::checks::{check_ends, check_feed, check_inputs};
@@ -129,7 +129,7 @@ impl Graph {
         ensures arc { result ≡ arc self.now a }
         ensures starts { result.from < stations self.now }
         ensures ends { result.to < stations self.now }
-        ensures tokens { result.tokens ≤ 10_000 }
+        ensures tokens { result.tokens ≤ most_cards }
         ensures graph { IsGraph self.now }
         ensures limits { IsWithinLimits self.now }
     {

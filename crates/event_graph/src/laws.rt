@@ -9,8 +9,8 @@ pub fn one_least_solution()
     ensures { (g : Parts) → HasOneLeast g }
 {}
 
-/// A law of the definitions: each date of a graph's least solution is the greatest of its terms. The feed's is the demand
-/// date; that of another station is at least the term of each arc into it, and is one of them.
+/// A law of the definitions: each date of a graph's least solution is the greatest of its terms. The feed's is the
+/// demand date; that of another station is at least the term of each arc into it, and is one of them.
 pub fn least_dates_are_greatest_terms()
     ensures { (g : Parts) → IsGraph g → LeastIsGreatest g }
 {}

@@ -1,8 +1,7 @@
-ghost use Rattle.std.specs.List.{range_with_len};
-ghost use Rattle.std.specs.Prelude.{◌≡◌, ◌^◌, ◌<◌, [], ◌∷◌, ◌++◌, length, map, replicate, IfOk, OnOk, slice_index_or, slice_set};
+ghost use Rattle.std.specs.Prelude.{◌≡◌, ◌^◌, ◌<◌, [], length, map, replicate, IfOk, OnOk, slice_index_or};
 ghost use Rattle.event_graph.specs.Faults.{AllNameStations};
 ghost use Rattle.event_graph.specs.Lists.{station_at, lists_at, with_arc};
-ghost use Rattle.event_graph.specs.Network.{stations, arc_count, IsGraph};
+ghost use Rattle.event_graph.specs.Network.{stations, arc_count};
 
 use line_base::{Arc, Parts};
 use std::alloc::{AllocError, Global};

@@ -12,7 +12,7 @@ use Rattle.event_graph.specs.Term.{work}
 use Rattle.event_graph.specs.Varying.{IsList, Varies}
 use Rattle.latest_dates.specs.declared.arc_bounds.ArcBound.{ArcBound}
 use Rattle.latest_dates.specs.ArcBounds.{AddsToAll, IsBoundOf}
-use Rattle.latest_dates.specs.Found.{place, LeavesTime}
+use Rattle.latest_dates.specs.Found.{date_index, LeavesTime}
 use Rattle.latest_dates.specs.Latest.{LatestTable, IsNoLater, put_by, bound}
 use Rattle.latest_dates.proofs.EarliestBounds.{bound-read, bound-past}
 
@@ -41,10 +41,10 @@ bounds-next g bounds b before this a d low =
     ]
 
 module _ (g : Parts) (y : LatestTable) (n a : ℕ) (b : ArcBound) (is : IsBoundOf g a b) where
-  -- the place that is looked at
-  pub place-read : n + b.tokens ≤ jobs g → b.first + (n + b.tokens - 1) ≡ place g (arc g a).to (n + (arc g a).tokens)
-  unfolding place
-  place-read inside =
+  -- the index that is looked at
+  pub date_index-read : n + b.tokens ≤ jobs g → b.first + (n + b.tokens - 1) ≡ date_index g (arc g a).to (n + (arc g a).tokens)
+  unfolding date_index
+  date_index-read inside =
       ap (λ k. k + (n + b.tokens - 1)) is.first ∙ ap (λ k. (arc g a).to * jobs g + (n + k - 1)) is.tokens
 
   -- the date there leaves time

@@ -16,8 +16,8 @@ use Rattle.what_if.proofs.SlotOrder.{slot-station, slot-rank}
 use Rattle.latest_dates.specs.Latest.{LatestTable, earliest_bound}
 use Rattle.latest_dates.specs.Laws.{IsServed}
 use Rattle.latest_dates.specs.Pass.{AreLatestFrom}
-use Rattle.latest_dates.specs.Found.{IsInTime, LeavesTime, place, latest_in}
-use Rattle.latest_dates.proofs.Places.{place-station, place-job}
+use Rattle.latest_dates.specs.Found.{IsInTime, LeavesTime, date_index, latest_in}
+use Rattle.latest_dates.proofs.DateIndices.{date_index-station, date_index-job}
 use Rattle.latest_dates.proofs.FromLast.{reader, reads-later}
 use Rattle.latest_dates.proofs.EarliestBounds.{AgreesAfter, earliest_bound-same, term-sent}
 use Rattle.latest_dates.proofs.NoneLater.{none_later}
@@ -74,25 +74,25 @@ module _ (l : LiveGraph) (up : IsUpward l.graph l.ranks) (graph : IsGraph l.grap
   module _ (dates : List (Option ℕ)) (t n : ℕ) (here : IsDate l.graph t n) (v : Option ℕ) where
     -- the latest dates with this one for job n at station t
     next : List (Option ℕ)
-    next = set dates (place l.graph t n) v
+    next = set dates (date_index l.graph t n) v
 
     past : (u m : ℕ) → IsDate l.graph u m → slot l t n < slot l u m → latest_in l next u m ≡ latest_in l dates u m
     unfolding next
     past u m there after =
-        let other : place l.graph u m ≢ place l.graph t n = λ same.
-        let station = place-station l.graph u m t n there here same in
-        let job = place-job l.graph u m t n there here same in
+        let other : date_index l.graph u m ≢ date_index l.graph t n = λ same.
+        let station = date_index-station l.graph u m t n there here same in
+        let job = date_index-job l.graph u m t n there here same in
         let slots : slot l u m ≡ slot l t n = ap (λ s. slot l s m) station ∙ ap (slot l t) job in
         absurd (omega arith)
         in
-        get_or-set_other dates (place l.graph t n) (place l.graph u m) v None other
+        get_or-set_other dates (date_index l.graph t n) (date_index l.graph u m) v None other
 
     agrees : (u m : ℕ) → IsDate l.graph u m → slot l t n ≤ slot l u m → AgreesAfter l.graph (latest_in l next) (latest_in l dates) u m
     agrees u m date from a starts inside =
         let after = reads-later l up graph u m a date starts in
         past (arc l.graph a).to (m + (arc l.graph a).tokens) (reader l.graph u m a graph date starts inside) (omega arith)
 
-    pub one_earlier : place l.graph t n < length dates → AreLatestFrom l may (latest_in l dates) (slot l t n + 1) → v ≡ earliest_bound l.graph may (latest_in l dates) t n → AreLatestFrom l may (latest_in l (set dates (place l.graph t n) v)) (slot l t n)
+    pub one_earlier : date_index l.graph t n < length dates → AreLatestFrom l may (latest_in l dates) (slot l t n + 1) → v ≡ earliest_bound l.graph may (latest_in l dates) t n → AreLatestFrom l may (latest_in l (set dates (date_index l.graph t n) v)) (slot l t n)
     unfolding next
     one_earlier there latest found u m date from =
         let same = sym (earliest_bound-same l.graph may (latest_in l next) (latest_in l dates) u m (agrees u m date from)) in
@@ -102,8 +102,8 @@ module _ (l : LiveGraph) (up : IsUpward l.graph l.ranks) (graph : IsGraph l.grap
               let slots : slot l t n ≡ slot l u m = omega arith in
               let station = slot-rank l up t n u m here date slots in
               let job = slot-station l up t n u m here date slots in
-              let places : place l.graph u m ≡ place l.graph t n = ap (λ s. place l.graph s m) (sym station) ∙ ap (place l.graph t) (sym job) in
-              get_or-set_at dates (place l.graph t n) (place l.graph u m) v None places there
+              let same_index : date_index l.graph u m ≡ date_index l.graph t n = ap (λ s. date_index l.graph s m) (sym station) ∙ ap (date_index l.graph t) (sym job) in
+              get_or-set_at dates (date_index l.graph t n) (date_index l.graph u m) v None same_index there
               ∙ found
               ∙ ap (λ s. earliest_bound l.graph may (latest_in l dates) s n) station
               ∙ ap (earliest_bound l.graph may (latest_in l dates) u) job

@@ -7,7 +7,7 @@ use Rattle.event_graph.specs.Network.{stations, jobs, arc, demand, delay, outs, 
 use Rattle.event_graph.specs.Table.{Table}
 use Rattle.event_graph.specs.Term.{work, term}
 use Rattle.event_graph.proofs.ArcNumbers.{All-outs, each_output}
-use Rattle.latest_dates.specs.Latest.{LatestTable, earlier, earliest, promised, put_by, bound, earliest_bound, IsNoLater}
+use Rattle.latest_dates.specs.Latest.{LatestTable, earlier, earliest, promised_date, put_by, bound, earliest_bound, IsNoLater}
 use Rattle.latest_dates.proofs.Earliest.{IsWithin, no_later-first, no_later-second, no_later-both, no_later-each, no_later-all, within-both, within-all, earliest-same}
 
 pub bound-read : (g : Parts) (y : LatestTable) (n a : ℕ) → n + (arc g a).tokens ≤ jobs g → bound g y n a ≡ put_by g a (n + (arc g a).tokens) (y (arc g a).to (n + (arc g a).tokens))
@@ -22,43 +22,43 @@ bound-past g y n a past =
     let job = n + (arc g a).tokens in
     cond-false (leb job (jobs g)) (put_by g a job (y (arc g a).to job)) None (lt-leb job (jobs g) past)
 
-pub promised-last : (g : Parts) (may t n : ℕ) → t ≡ stations g - 1 → promised g may t n ≡ Some (demand g n + may)
-unfolding promised
+pub promised-last : (g : Parts) (may t n : ℕ) → t ≡ stations g - 1 → promised_date g may t n ≡ Some (demand g n + may)
+unfolding promised_date
 promised-last g may t n last =
     cond-true (eqb t (stations g - 1)) (Some (demand g n + may)) None (eq-eqb t (stations g - 1) last)
 
-pub promised-other : (g : Parts) (may t n : ℕ) → (t ≡ stations g - 1 → ⊥) → promised g may t n ≡ None
-unfolding promised
+pub promised-other : (g : Parts) (may t n : ℕ) → (t ≡ stations g - 1 → ⊥) → promised_date g may t n ≡ None
+unfolding promised_date
 promised-other g may t n other =
     cond-false (eqb t (stations g - 1)) (Some (demand g n + may)) None (ne_eqb t (stations g - 1) other)
 
 -- what is no later than the earliest bound is no later than each
-pub no_later-promised : (o : Option ℕ) (g : Parts) (may : ℕ) (y : LatestTable) (t n : ℕ) → IsNoLater o (earliest_bound g may y t n) → IsNoLater o (promised g may t n)
+pub no_later-promised : (o : Option ℕ) (g : Parts) (may : ℕ) (y : LatestTable) (t n : ℕ) → IsNoLater o (earliest_bound g may y t n) → IsNoLater o (promised_date g may t n)
 unfolding earliest_bound
-no_later-promised o g may y t n h = no_later-first o (promised g may t n) (earliest (bound g y n) (outs g t)) h
+no_later-promised o g may y t n h = no_later-first o (promised_date g may t n) (earliest (bound g y n) (outs g t)) h
 
 pub no_later-bound : (o : Option ℕ) (g : Parts) (may : ℕ) (y : LatestTable) (t n : ℕ) → IsNoLater o (earliest_bound g may y t n) → (a : ℕ) → StartsAt g t a → IsNoLater o (bound g y n a)
 unfolding earliest_bound
 no_later-bound o g may y t n h a starts =
     each_output g t
     (λ b. IsNoLater o (bound g y n b))
-    (no_later-each o (bound g y n) (outs g t) (no_later-second o (promised g may t n) (earliest (bound g y n) (outs g t)) h))
+    (no_later-each o (bound g y n) (outs g t) (no_later-second o (promised_date g may t n) (earliest (bound g y n) (outs g t)) h))
     a
     starts.0
     starts.1
 
 -- and what is no later than each is no later than it
-pub no_later-bounds : (o : Option ℕ) (g : Parts) (may : ℕ) (y : LatestTable) (t n : ℕ) → IsNoLater o (promised g may t n) → ((a : ℕ) → StartsAt g t a → IsNoLater o (bound g y n a)) → IsNoLater o (earliest_bound g may y t n)
+pub no_later-bounds : (o : Option ℕ) (g : Parts) (may : ℕ) (y : LatestTable) (t n : ℕ) → IsNoLater o (promised_date g may t n) → ((a : ℕ) → StartsAt g t a → IsNoLater o (bound g y n a)) → IsNoLater o (earliest_bound g may y t n)
 unfolding earliest_bound
 no_later-bounds o g may y t n first each =
-    no_later-both o (promised g may t n) (earliest (bound g y n) (outs g t))
+    no_later-both o (promised_date g may t n) (earliest (bound g y n) (outs g t))
     first
     (no_later-all o (bound g y n) (outs g t) (λ k d low. each (get_or (outs g t) k d) (All-outs g t k d low)))
 
-pub within-bounds : (most : ℕ) (g : Parts) (may : ℕ) (y : LatestTable) (t n : ℕ) → IsWithin most (promised g may t n) → ((a : ℕ) → StartsAt g t a → IsWithin most (bound g y n a)) → IsWithin most (earliest_bound g may y t n)
+pub within-bounds : (most : ℕ) (g : Parts) (may : ℕ) (y : LatestTable) (t n : ℕ) → IsWithin most (promised_date g may t n) → ((a : ℕ) → StartsAt g t a → IsWithin most (bound g y n a)) → IsWithin most (earliest_bound g may y t n)
 unfolding earliest_bound
 within-bounds most g may y t n first each =
-    within-both most (promised g may t n) (earliest (bound g y n) (outs g t))
+    within-both most (promised_date g may t n) (earliest (bound g y n) (outs g t))
     first
     (within-all most (bound g y n) (outs g t) (λ k d low. each (get_or (outs g t) k d) (All-outs g t k d low)))
 
@@ -79,7 +79,7 @@ bound-same g y z t n a agree starts =
 pub earliest_bound-same : (g : Parts) (may : ℕ) (y z : LatestTable) (t n : ℕ) → AgreesAfter g y z t n → earliest_bound g may y t n ≡ earliest_bound g may z t n
 unfolding earliest_bound
 earliest_bound-same g may y z t n agree =
-    ap (earlier (promised g may t n))
+    ap (earlier (promised_date g may t n))
     (earliest-same (bound g y n) (bound g z n) (outs g t) (λ k d low. bound-same g y z t n (get_or (outs g t) k d) agree (All-outs g t k d low)))
 
 -- what an arc asks of the job that takes job n's token, and of one that takes a token of the start

@@ -6,7 +6,7 @@ use Rattle.plant_model.proofs.TwoStage.{kanban_line, kanban_dates}
 use Rattle.event_graph.specs.Network.{demand, delay, time, outs}
 use Rattle.event_graph.specs.Term.{work}
 use Rattle.event_graph.specs.Table.{date_in}
-use Rattle.latest_dates.specs.Latest.{LatestTable, earliest, promised, bound, earliest_bound}
+use Rattle.latest_dates.specs.Latest.{LatestTable, earliest, promised_date, bound, earliest_bound}
 use Rattle.latest_dates.specs.LatestText.{latest_line, is_tight, station_lines, tight_at, all_lines, tight_count, latest_text}
 
 -- the table of these rows
@@ -31,7 +31,7 @@ abbrev found : ℕ → List (Option ℕ)
 found t = map (earliest_bound (graph kanban_line) 6 (late_in latest_rows) t) (1 ∷ 2 ∷ 3 ∷ [])
 
 dates_are_latest : map found (0 ∷ 1 ∷ 2 ∷ 3 ∷ 4 ∷ 5 ∷ []) ≡ latest_rows
-unfolding earliest_bound earliest promised bound graph labels rows times demand delay time outs work
+unfolding earliest_bound earliest promised_date bound graph labels rows times demand delay time outs work
 dates_are_latest = refl
 
 text :

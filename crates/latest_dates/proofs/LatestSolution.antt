@@ -10,7 +10,7 @@ use Rattle.event_graph.specs.Solves.{Solves}
 use Rattle.live_check.specs.Order.{LiveGraph, IsUpward}
 use Rattle.what_if.specs.Page.{IsDate}
 use Rattle.latest_dates.specs.Latest.{LatestTable, AreLatest, put_by, IsNoLater}
-use Rattle.latest_dates.specs.Laws.{IsServed, sent, late_term, SolvesWithNone, AreDates}
+use Rattle.latest_dates.specs.Laws.{IsServed, term_of, late_term, SolvesWithNone, AreDates}
 use Rattle.latest_dates.proofs.Earliest.{no_later-self}
 use Rattle.latest_dates.proofs.EarliestBounds.{bound-read, promised-last, no_later-promised, no_later-bound, term-sent, term-initial}
 use Rattle.latest_dates.proofs.NoneLater.{none_later}
@@ -20,18 +20,18 @@ no_later-less low high None less late = tt
 no_later-less low high (Some date) less late = omega arith
 
 -- what is put in time is sent in time, where the date isn't before what some date asks
-sent_in_time : (g : Parts) (a n date least : ℕ) (from to : Option ℕ) → IsNoLater from (put_by g a n to) → work g a n + (date + delay g a) ≤ least → IsNoLater (Some least) to → IsNoLater (sent g a n from) to
+sent_in_time : (g : Parts) (a n date least : ℕ) (from to : Option ℕ) → IsNoLater from (put_by g a n to) → work g a n + (date + delay g a) ≤ least → IsNoLater (Some least) to → IsNoLater (term_of g a n from) to
 sent_in_time g a n date least from None put asks late = tt
 sent_in_time g a n date least None (Some end) put asks late = put
 sent_in_time g a n date least (Some begin) (Some end) put asks late = omega arith
 
-pub late_term-sent : (g : Parts) (y : LatestTable) (a n : ℕ) → (arc g a).tokens < n → late_term g y a n ≡ sent g a n (y (arc g a).from (n - (arc g a).tokens))
+pub late_term-sent : (g : Parts) (y : LatestTable) (a n : ℕ) → (arc g a).tokens < n → late_term g y a n ≡ term_of g a n (y (arc g a).from (n - (arc g a).tokens))
 late_term-sent g y a n later =
-    cond-true (ltb (arc g a).tokens n) (sent g a n (y (arc g a).from (n - (arc g a).tokens))) (Some (work g a n)) (lt-ltb (arc g a).tokens n later)
+    cond-true (ltb (arc g a).tokens n) (term_of g a n (y (arc g a).from (n - (arc g a).tokens))) (Some (work g a n)) (lt-ltb (arc g a).tokens n later)
 
 pub late_term-initial : (g : Parts) (y : LatestTable) (a n : ℕ) → n ≤ (arc g a).tokens → late_term g y a n ≡ Some (work g a n)
 late_term-initial g y a n initial =
-    cond-false (ltb (arc g a).tokens n) (sent g a n (y (arc g a).from (n - (arc g a).tokens))) (Some (work g a n)) (le-ltb (arc g a).tokens n initial)
+    cond-false (ltb (arc g a).tokens n) (term_of g a n (y (arc g a).from (n - (arc g a).tokens))) (Some (work g a n)) (le-ltb (arc g a).tokens n initial)
 
 -- no date is later than what it bounds
 pub bounded : (g : Parts) (may : ℕ) (y : LatestTable) → AreLatest g may y → (a n : ℕ) → IsDate g (arc g a).from n → a < arc_count g → n + (arc g a).tokens ≤ jobs g → IsNoLater (y (arc g a).from n) (put_by g a (n + (arc g a).tokens) (y (arc g a).to (n + (arc g a).tokens)))
@@ -96,7 +96,7 @@ module _ (l : LiveGraph) (up : IsUpward l.graph l.ranks) (graph : IsGraph l.grap
                   let job : m + (arc g a).tokens ≡ n = omega arith in
                   let begin : IsDate g from m = record { station = graph.starts_exist a there; from_one = omega arith; job = omega (arith, inside) } in
                   let is : term g z a n ≡ work g a n + (z from m + delay g a) = subst (λ j. term g z a j ≡ work g a j + (z from m + delay g a)) job (term-sent g z a m begin.from_one) in
-                  let term_is = late_term-sent g y a n later ∙ ap (sent g a n) (dates from m begin) in
+                  let term_is = late_term-sent g y a n later ∙ ap (term_of g a n) (dates from m begin) in
                   let low : work g a n + (z from m + delay g a) ≤ z to n = subst (λ o. IsNoLater o (Some (z to n))) term_is ends in
                   omega (arith, is, low)
               | inr initial ↦

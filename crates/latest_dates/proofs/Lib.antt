@@ -1,5 +1,5 @@
 pub mod WordLemmas
-pub mod Places
+pub mod DateIndices
 pub mod FromLast
 pub mod Earliest
 pub mod EarliestBounds

@@ -9,7 +9,7 @@ use Rattle.event_graph.specs.Term.{work}
 use Rattle.event_graph.specs.Solves.{Solves}
 use Rattle.live_check.specs.Order.{LiveGraph, IsUpward}
 use Rattle.what_if.specs.Page.{IsDate, slot}
-use Rattle.latest_dates.specs.Latest.{LatestTable, promised, put_by, bound, IsNoLater}
+use Rattle.latest_dates.specs.Latest.{LatestTable, promised_date, put_by, bound, IsNoLater}
 use Rattle.latest_dates.specs.Laws.{IsServed}
 use Rattle.latest_dates.specs.Pass.{AreLatestFrom}
 use Rattle.latest_dates.proofs.FromLast.{OfReaders, from_last}
@@ -24,7 +24,7 @@ module _ (l : LiveGraph) (up : IsUpward l.graph l.ranks) (graph : IsGraph l.grap
   LaterThan : ℕ → ℕ → Type 0
   LaterThan t n = IsNoLater (Some (z t n)) (y t n)
 
-  by_promise : (t n : ℕ) → IsDate l.graph t n → IsNoLater (Some (z t n)) (promised l.graph may t n)
+  by_promise : (t n : ℕ) → IsDate l.graph t n → IsNoLater (Some (z t n)) (promised_date l.graph may t n)
   by_promise t n date =
       elim (cases_eq t (stations l.graph - 1)) [
         | inl last ↦

@@ -1,5 +1,5 @@
--- Where there is no latest date, tables that solve the graph and serve are as late as one likes: the latest dates where there
--- are some, and elsewhere the dates of a table that serves, all later by one number.
+-- Where there is no latest date, tables that solve the graph and serve are as late as one likes: the latest dates where
+-- there are some, and elsewhere the dates of a table that serves, all later by one number.
 use Rattle.std.proofs.Common.{◌≡◌, ℕ, zero, suc, ◌+◌, ◌-◌, ◌<◌, ◌≤◌, max, sym, ap, subst, arith, inl, inr}
 use Rattle.std.specs.Prelude.{Option, None, Some}
 use Rattle.std.proofs.lemmas.Bool.{cases_lt, cases_eq}
@@ -10,8 +10,8 @@ use Rattle.event_graph.specs.Term.{work, term}
 use Rattle.event_graph.specs.Solves.{Solves}
 use Rattle.live_check.specs.Order.{LiveGraph, IsUpward}
 use Rattle.what_if.specs.Page.{IsDate, slot}
-use Rattle.latest_dates.specs.Latest.{LatestTable, IsNoLater, AreLatest, promised, put_by, bound}
-use Rattle.latest_dates.specs.Laws.{IsServed, sent, IsServedBeyond}
+use Rattle.latest_dates.specs.Latest.{LatestTable, IsNoLater, AreLatest, promised_date, put_by, bound}
+use Rattle.latest_dates.specs.Laws.{IsServed, term_of, IsServedBeyond}
 use Rattle.latest_dates.proofs.Earliest.{IsWithin}
 use Rattle.latest_dates.proofs.FromLast.{OfReaders, from_last}
 use Rattle.latest_dates.proofs.EarliestBounds.{bound-read, bound-past, promised-last, promised-other, within-bounds, term-sent, term-initial}
@@ -51,7 +51,7 @@ unfolding later_by
 later_start work more date least None asks h = omega arith
 later_start work more date least (Some end) asks h = h
 
-later_sent : (g : Parts) (a n more date least : ℕ) (from to : Option ℕ) → IsNoLater (sent g a n from) to → IsWithin more from → work g a n + (date + delay g a) ≤ least → work g a n + (later_by more date from + delay g a) ≤ later_by more least to
+later_sent : (g : Parts) (a n more date least : ℕ) (from to : Option ℕ) → IsNoLater (term_of g a n from) to → IsWithin more from → work g a n + (date + delay g a) ≤ least → work g a n + (later_by more date from + delay g a) ≤ later_by more least to
 unfolding later_by
 later_sent g a n more date least None None put early asks = omega arith
 later_sent g a n more date least (Some begin) None put early asks = omega arith
@@ -68,7 +68,7 @@ module _ (l : LiveGraph) (up : IsUpward l.graph l.ranks) (graph : IsGraph l.grap
     Within : ℕ → ℕ → Type 0
     Within t n = IsWithin most (y t n)
 
-    by_promise : (t n : ℕ) → IsDate l.graph t n → IsWithin most (promised l.graph may t n)
+    by_promise : (t n : ℕ) → IsDate l.graph t n → IsWithin most (promised_date l.graph may t n)
     by_promise t n date =
         elim (cases_eq t (stations l.graph - 1)) [
           | inl last ↦ subst (IsWithin most) (sym (promised-last l.graph may t n last)) (above n date.job)

@@ -6,7 +6,7 @@ use Rattle.event_graph.specs.Table.{Table, date_in}
 use Rattle.event_graph.specs.Term.{work}
 use Rattle.live_check.specs.Order.{LiveGraph}
 use Rattle.line_core.specs.Run.{IsLeastTable}
-use Rattle.line_io.specs.Outgoing.{Pending, emptied}
+use Rattle.line_io.specs.Outgoing.{Pending, nothing_waiting}
 use Rattle.what_if.specs.Page.{IsDate}
 use Rattle.what_if.specs.Sheet.{date_count}
 use Rattle.card_sizing.specs.Serving.{wait_until, NoneWaitsLonger, IsFirstLate}
@@ -30,15 +30,15 @@ abbrev pub IsLatestRefusal : Parts → Table → ℕ → LatestError → Type 0
 IsLatestRefusal g x may (Late job wait) = IsFirstLate (wait_of g x) (jobs g) may job wait
 IsLatestRefusal g x may NoMemory = ⊤
 
--- the place of job n at station t in a list where the dates of a station follow one another
-unfoldable pub place : Parts → ℕ → ℕ → ℕ
-place g t n = t * jobs g + (n - 1)
+-- the index of job n at station t in a list where the dates of a station follow one another
+unfoldable pub date_index : Parts → ℕ → ℕ → ℕ
+date_index g t n = t * jobs g + (n - 1)
 
 -- the latest dates that are kept station by station, as a table
 abbrev pub latest_in : LiveGraph → List (Option ℕ) → LatestTable
-latest_in l dates t n = slice_index_or dates (place l.graph t n) None
+latest_in l dates t n = slice_index_or dates (date_index l.graph t n) None
 
--- there is a place for each station and job
+-- there is a latest date for each station and job
 abbrev pub HasDates : LiveGraph → List (Option ℕ) → Type 0
 HasDates l dates = length dates ≡ date_count l.graph
 
@@ -73,7 +73,7 @@ NoneIsBefore g x y = (t n : ℕ) → IsDate g t n → IsNoLater (Some (x t n)) (
 pub record IsFound (f : Found) : Type 0 where
   pub least : IsLeastTable (record { graph = f.live.graph; rows = f.rows })
   pub in_time : IsInTime f.live.graph (date_in f.rows) f.may
-  pub places : HasDates f.live f.dates
+  pub one_for_each : HasDates f.live f.dates
   pub latest : AreLatest f.live.graph f.may (latest_of f)
   pub not_before : NoneIsBefore f.live.graph (date_in f.rows) (latest_of f)
 
@@ -88,4 +88,4 @@ pub record IsRun (run : LatestRun) : Type 0 where
 
 -- the latest dates of a run can be written: they are found, and nothing is held back
 abbrev pub IsWritable : LatestRun → Pending → Type 0
-IsWritable run out = IsRun run × (out ≡ emptied false)
+IsWritable run out = IsRun run × (out ≡ nothing_waiting false)

@@ -29,8 +29,8 @@ earliest f [] = None
 earliest f (x ∷ xs) = earlier (f x) (earliest f xs)
 
 -- at the delivery, the date until which the customer of job n waits
-unfoldable pub promised : Parts → ℕ → ℕ → ℕ → Option ℕ
-promised g may t n = if t == stations g - 1 then Some (demand g n + may) else None
+unfoldable pub promised_date : Parts → ℕ → ℕ → ℕ → Option ℕ
+promised_date g may t n = if t == stations g - 1 then Some (demand g n + may) else None
 
 -- how late a token must be put on arc a, for job m to be done at the arc's end by this date
 abbrev pub put_by : Parts → ℕ → ℕ → Option ℕ → Option ℕ
@@ -45,7 +45,7 @@ bound g y n a =
 
 -- the earliest of all that bounds job n at station t
 unfoldable pub earliest_bound : Parts → ℕ → LatestTable → ℕ → ℕ → Option ℕ
-earliest_bound g may y t n = earlier (promised g may t n) (earliest (bound g y n) (outs g t))
+earliest_bound g may y t n = earlier (promised_date g may t n) (earliest (bound g y n) (outs g t))
 
 -- each latest date is the earliest of all that bounds it
 pub record AreLatest (g : Parts) (may : ℕ) (y : LatestTable) : Type 0 where

@@ -14,13 +14,13 @@ IsServed g may z = (n : ℕ) → 1 ≤ n → n ≤ jobs g → z (stations g - 1)
 
 -- what arc a asks of the date of job n at the station that it enters: a term of the evolution equations, over dates
 -- of which some are none
-abbrev pub sent : Parts → ℕ → ℕ → Option ℕ → Option ℕ
-sent g a n None = None
-sent g a n (Some date) = Some (work g a n + (date + delay g a))
+abbrev pub term_of : Parts → ℕ → ℕ → Option ℕ → Option ℕ
+term_of g a n None = None
+term_of g a n (Some date) = Some (work g a n + (date + delay g a))
 
 abbrev pub late_term : Parts → LatestTable → ℕ → ℕ → Option ℕ
 late_term g y a n =
-    if nat_lt (arc g a).tokens n then sent g a n (y (arc g a).from (n - (arc g a).tokens)) else Some (work g a n)
+    if nat_lt (arc g a).tokens n then term_of g a n (y (arc g a).from (n - (arc g a).tokens)) else Some (work g a n)
 
 -- each date is no earlier than any of its terms, as in a solution of the graph
 pub record SolvesWithNone (g : Parts) (y : LatestTable) : Type 0 where

@@ -10,7 +10,7 @@ use std::alloc::{AllocError, Global};
 /// How an arc bounds the dates at its start, by the latest dates of the station that it enters.
 #[derive(Clone, Copy)]
 pub struct ArcBound {
-    /// The place of the latest date of job 1 at the station that the arc enters.
+    /// The index of the latest date of job 1 at the station that the arc enters.
     pub first: usize,
     /// How many tokens the arc holds at the start.
     pub tokens: u32,
@@ -64,7 +64,7 @@ pub fn arc_bounds(alloc: Global, graph: &Graph) -> Result<Vec<ArcBound>, AllocEr
 }
 
 /// What arc `a` adds for job `n`, where this is what it adds to each date, if that is the same for all jobs.
-pub fn added(graph: &Graph, to_all: Option<u64>, a: u32, n: u32) -> u64
+pub fn added_time(graph: &Graph, to_all: Option<u64>, a: u32, n: u32) -> u64
     requires arc { a < arc_count graph.now }
     requires from_one { 1 ≤ n }
     requires job { n ≤ jobs graph.now }

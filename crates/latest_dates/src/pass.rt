@@ -5,10 +5,10 @@ ghost use Rattle.latest_dates.specs.ArcBounds.{AreBoundsOf};
 ghost use Rattle.latest_dates.specs.Found.{latest_in, HasDates, IsFound, IsInTime, IsLatestRefusal, NoneIsBefore};
 ghost use Rattle.latest_dates.specs.Latest.{AreLatest};
 ghost use Rattle.latest_dates.specs.Pass.{AreLatestFrom, IsServable};
-ghost use Rattle.line_io.specs.Outgoing.{emptied};
+ghost use Rattle.line_io.specs.Outgoing.{nothing_waiting};
 
 use crate::arc_bounds::{ArcBound, arc_bounds};
-use crate::bounds::{earliest_bound, place};
+use crate::bounds::{date_index, earliest_bound};
 use crate::error::LatestError;
 use crate::latest_date::LatestDate;
 use crate::waits::check_waits;
@@ -24,9 +24,9 @@ fn find_job(dates: &mut [LatestDate], bounds: &[ArcBound], live: &Live, wait: u6
     requires small { wait < 2 ^ 63 }
     requires bounds { AreBoundsOf live.now.graph bounds.now }
     requires servable { IsServable live.now.graph wait }
-    requires places { HasDates live.now dates.old }
+    requires one_for_each { HasDates live.now dates.old }
     requires later { AreLatestFrom live.now wait (latest_in live.now dates.old) (n * stations live.now.graph) }
-    ensures places { HasDates live.now dates.new }
+    ensures one_for_each { HasDates live.now dates.new }
     ensures latest { AreLatestFrom live.now wait (latest_in live.now dates.new)
         ((n - 1) * stations live.now.graph) }
 {
@@ -35,7 +35,7 @@ fn find_job(dates: &mut [LatestDate], bounds: &[ArcBound], live: &Live, wait: u6
     for above in 0..stations {
         let t = live.station_at(stations - 1 - above);
         let latest = earliest_bound(dates, bounds, live, wait, t, n);
-        dates[place(graph, t, n)] = latest;
+        dates[date_index(graph, t, n)] = latest;
     }
 }
 
@@ -52,13 +52,13 @@ fn latest_of(
     requires of_graph { table.now.graph ≡ live.now.graph }
     requires small { wait < 2 ^ 63 }
     requires in_time { IsInTime live.now.graph (date_in table.now.rows) wait }
-    ensures places { IfOk result (λ dates. HasDates live.now dates.items) }
+    ensures one_for_each { IfOk result (λ dates. HasDates live.now dates.items) }
     ensures latest { IfOk result
         (λ dates. AreLatest live.now.graph wait (latest_in live.now dates.items)) }
     ensures not_before { IfOk result
         (λ dates. NoneIsBefore live.now.graph (date_in table.now.rows) (latest_in live.now dates.items)) }
 {
-    // For its clause that the dates are the least solution.
+    // called for its clause: the table is the least solution of its graph
     let _least = table.stations();
     let graph = live.graph();
     let jobs = graph.jobs();
@@ -86,10 +86,10 @@ pub fn dates_of(
       may = wait;
       dates = made.0.items;
     })) }
-    ensures room { IfOk result (λ made. made.1 ≡ emptied false) }
+    ensures room { IfOk result (λ made. made.1 ≡ nothing_waiting false) }
     ensures refused { IfErr result (IsLatestRefusal live.now.graph (date_in table.now.rows) wait) }
 {
-    // For its clause that the dates are the least solution.
+    // called for its clause: the table is the least solution of its graph
     let _least = table.stations();
     check_waits(live.graph(), table, wait)?;
     let out = Outgoing::new(alloc)?;

@@ -1,5 +1,5 @@
--- The limits of a plant and of its files, as numbers. Every definition that speaks of a limit cites these; the constants of
--- the code are shown equal to them in `limits.rt`.
+-- The limits of a plant and of its files, as numbers. Every definition that speaks of a limit cites these; the
+-- constants of the code are shown equal to them in `limits.rt`.
 use Rattle.std.specs.Prelude.{ℕ}
 
 abbrev pub most_stages : ℕ

@@ -1,5 +1,6 @@
-//! What every other crate of `pull` stands on: the limits of a plant, names, labels, texts and numbers as text, job times,
-//! lists of dates with room taken beforehand, the parts of an event graph, and work that is shared among threads.
+//! What every other crate of `pull` stands on: the limits of a plant, names, labels, texts and numbers as text, job
+//! times, lists of dates with room taken beforehand, the parts of an event graph, and work that is shared among
+//! threads.
 #![tactic(auto)]
 
 mod decimal;

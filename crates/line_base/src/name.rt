@@ -115,18 +115,18 @@ pub fn is_name(text: &[u8]) -> bool
 fn has_name_bytes(text: &[u8]) -> bool
     ensures { result ≡ list_all is_name_byte text.now }
 {
-    text.iter().all(|byte| is_in_names(*byte))
+    text.iter().all(|byte| is_name_byte(*byte))
 }
 
 /// Whether a byte may stand in a name.
-fn is_in_names(byte: u8) -> bool
+fn is_name_byte(byte: u8) -> bool
     ensures { result ≡ is_name_byte byte }
 {
     matches!(byte, b'a'..=b'z' | b'0'..=b'9' | b'_' | b'-')
 }
 
 /// Whether a text may name a file of any kind: 1 to 255 bytes, none below 32 and none 127, the first no `-`.
-fn names_a_file(text: &[u8]) -> bool
+fn may_name_file(text: &[u8]) -> bool
     ensures { result ≡ may_name_file text.now }
 {
     let [first, ..] = text else {
@@ -146,12 +146,12 @@ fn has_file_bytes(text: &[u8]) -> bool
 pub fn is_file_name(text: &[u8]) -> bool
     ensures { result ≡ is_file_name text.now }
 {
-    names_a_file(text) && !text.ends_with(b".ckpt")
+    may_name_file(text) && !text.ends_with(b".ckpt")
 }
 
 /// Whether a text names a checkpoint: a file name that ends in `.ckpt`.
 pub fn is_checkpoint_name(text: &[u8]) -> bool
     ensures { result ≡ is_checkpoint_name text.now }
 {
-    names_a_file(text) && text.ends_with(b".ckpt")
+    may_name_file(text) && text.ends_with(b".ckpt")
 }

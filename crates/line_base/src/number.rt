@@ -3,8 +3,8 @@ ghost use Rattle.line_base.specs.Text.{starts_plainly};
 
 use itoa::Buffer;
 
-/// Writes a number in decimal without leading zeros at the front of the buffer, and answers how many bytes it takes.
-/// The rest of the buffer stays.
+/// Writes a number in decimal without leading zeros at the beginning of the buffer, and answers how many bytes it
+/// takes. The rest of the buffer stays.
 pub fn digits(n: u128, buffer: &mut [u8; 40]) -> u32
     ensures written { take result buffer.new ≡ decimal n }
     ensures rest { drop result buffer.new ≡ drop result buffer.old }

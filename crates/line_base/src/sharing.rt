@@ -7,26 +7,26 @@ use std::thread;
 use std::thread::Threads;
 
 /// Calls f(i, item).
-fn at_one<T, F: Fn(usize, &mut T)>(f: &F, i: usize, item: &mut T)
+fn call_one<T, F: Fn(usize, &mut T)>(f: &F, i: usize, item: &mut T)
     requires { AcceptsAt F.Fn f.now i item.old }
     ensures { ChangesAt F.Fn f.now i item.old item.new }
 {
     f(i, item);
 }
 
-/// Calls f(base + k, &mut s[k]) at each place, one after the other.
-fn in_turn<T, F: Fn(usize, &mut T)>(f: &F, base: usize, s: &mut [T])
+/// Calls f(base + k, &mut s[k]) for each element, one after the other.
+fn call_in_turn<T, F: Fn(usize, &mut T)>(f: &F, base: usize, s: &mut [T])
     requires { IsReady (AcceptsAt F.Fn f.now) base s.old }
     ensures { IsDone (ChangesAt F.Fn f.now) base s.old s.new }
 {
     for k in 0..s.len() {
-        at_one(f, base + k, &mut s[k]);
+        call_one(f, base + k, &mut s[k]);
     }
 }
 
-/// Calls f(base + k, &mut s[k]) at each place, `size` of them in a thread. This thread begins all others.
+/// Calls f(base + k, &mut s[k]) for each element, `size` of them in a thread. This thread begins all others.
 #[cycle(parts)]
-fn by_parts<R: Threads + Sync, T: Send, F: Fn(usize, &mut T) + Sync>(
+fn call_by_parts<R: Threads + Sync, T: Send, F: Fn(usize, &mut T) + Sync>(
     rt: &R,
     f: &F,
     base: usize,
@@ -38,16 +38,16 @@ fn by_parts<R: Threads + Sync, T: Send, F: Fn(usize, &mut T) + Sync>(
     ensures { IsDone (ChangesAt F.Fn f.now) base s.old s.new }
 {
     if s.len() <= size {
-        in_turn(f, base, s);
+        call_in_turn(f, base, s);
         return;
     }
     let (part, rest) = s.split_at_mut(size);
-    both_parts(rt, f, size, base, part, base + size, rest);
+    call_both_parts(rt, f, size, base, part, base + size, rest);
 }
 
 /// The calls of a part in a thread of its own, and meanwhile those of the rest.
 #[cycle(parts)]
-fn both_parts<R: Threads + Sync, T: Send, F: Fn(usize, &mut T) + Sync>(
+fn call_both_parts<R: Threads + Sync, T: Send, F: Fn(usize, &mut T) + Sync>(
     rt: &R,
     f: &F,
     size: usize,
@@ -65,15 +65,15 @@ fn both_parts<R: Threads + Sync, T: Send, F: Fn(usize, &mut T) + Sync>(
     let mut of_part = ||
         requires { IsReady (AcceptsAt F.Fn f.now) base part.now }
         ensures { IsDone (ChangesAt F.Fn f.entry.now) base part.entry.now part.exit.now }
-    { in_turn(f, base, part) };
+    { call_in_turn(f, base, part) };
     let mut of_rest = ||
         requires { (0 < size) × IsReady (AcceptsAt F.Fn f.now) next rest.now }
         ensures { IsDone (ChangesAt F.Fn f.entry.now) next rest.entry.now rest.exit.now }
-    { by_parts(rt, f, next, size, rest) };
+    { call_by_parts(rt, f, next, size, rest) };
     thread::join_mut(rt, &mut of_part, &mut of_rest);
 }
 
-/// Calls f(i, &mut s[i]) at each place, in at most `threads` threads, this one among them.
+/// Calls f(i, &mut s[i]) for each element, in at most `threads` threads, this one among them.
 ///
 /// It promises what `std::thread::for_each_mut` does. There a new thread begins others, which start later by as long as
 /// it takes that one to start; here this thread begins all of them, one after the other.
@@ -88,5 +88,5 @@ pub fn for_each_mut<R: Threads + Sync, T: Send, F: Fn(usize, &mut T) + Sync>(
     ensures { ChangesEach F.Fn f.now s.old s.new }
 {
     let size = s.len().div_ceil(threads).max(1);
-    by_parts(rt, f, 0, size, s);
+    call_by_parts(rt, f, 0, size, s);
 }

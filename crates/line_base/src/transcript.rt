@@ -3,8 +3,8 @@ ghost use Rattle.std.specs.Prelude.{◌≡◌, ◌++◌, [], List};
 
 use std::marker::{Model, PhantomData};
 
-/// Items that only contracts see, the oldest first: of a type `T` they are what contracts see of its values. A transcript
-/// takes no memory, and nothing reads it when the program runs.
+/// Items that only contracts see, the oldest first: of a type `T` they are what contracts see of its values. A
+/// transcript takes no memory, and nothing reads it when the program runs.
 #[derive(Drop)]
 pub struct Transcript<T> {
     marker: PhantomData<T>,

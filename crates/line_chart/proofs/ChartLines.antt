@@ -19,7 +19,7 @@ use Rattle.line_chart.specs.Machines.{IsMachineOf}
 use Rattle.line_chart.specs.Picture.{IsOfRun}
 use Rattle.event_graph.specs.Network.{jobs}
 use Rattle.line_chart.specs.Bars.{bar, meets, machine_bars}
-use Rattle.line_chart.specs.ChartText.{numbered, lane_number}
+use Rattle.line_chart.specs.ChartText.{with_number, lane_number}
 
 -- the bars of the first jobs of a machine
 abbrev pub first_bars : Parts → Table → Window → Lanes → ℕ → List Bar
@@ -48,7 +48,7 @@ text-met f g x w m n met =
     ap (flat_map f) (first_bars-met g x w m n met) ∙ flat_map-append f (first_bars g x w m n) (bar g x m (n + 1) ∷ []) ∙ ap (λ l. flat_map f (first_bars g x w m n) ++ l) (append-nil (f (bar g x m (n + 1))))
 
 -- the number of a lane, where there are several and where there is one
-pub lane_number-several : (count k : ℕ) → 1 < count → lane_number count k ≡ numbered (codes " ") (k + 1)
+pub lane_number-several : (count k : ℕ) → 1 < count → lane_number count k ≡ with_number (codes " ") (k + 1)
 lane_number-several count k several = rw (lt-ltb 1 count several) refl
 
 pub lane_number-one : (count k : ℕ) → count ≤ 1 → lane_number count k ≡ []

@@ -6,7 +6,7 @@ use Rattle.std.proofs.lemmas.List.Elements.{All-get_or}
 use Rattle.line_base.specs.declared.event.Arc.{Arc}
 use Rattle.plant_model.specs.declared.plant.Plant.{Plant}
 use Rattle.plant_model.specs.Line.{stage_at, machine_at, machine_station, release, deliver, receiver, starting}
-use Rattle.plant_model.specs.Graph.{Row, worked, plain, onward, rows, graph}
+use Rattle.plant_model.specs.Graph.{Row, worked_row, plain_row, onward, rows, graph}
 use Rattle.plant_model.specs.Sound.{IsSound}
 use Rattle.plant_model.proofs.LayoutStations.{release-next, release-all, release-le, at_receiver}
 use Rattle.event_graph.specs.Network.{arc, arc_count, delay, EndsAt}
@@ -49,12 +49,12 @@ receiver-other p i j k sound below inside there =
 
 -- a row into machine t is worked, or keeps the jobs in order
 abbrev WorksOrOrders : ℕ → Row → Type 0
-WorksOrOrders t r = r.arc.to ≡ t → (r.arc.worked ≡ true) ⊎ (r ≡ plain t t 1 0)
+WorksOrOrders t r = r.arc.to ≡ t → (r.arc.worked ≡ true) ⊎ (r ≡ plain_row t t 1 0)
 
 onward-works : (p : Plant) (i j k l : ℕ) → IsSound p → i < length p.stages → j < length (stage_at p i).machines → k < length p.stages → WorksOrOrders (machine_station p i j) (onward p k l)
 onward-works p i j k l sound below inside there =
-    let last = plain (machine_station p k l) (receiver p k) (starting p k) (stage_at p k).travel in
-    let inner = worked (machine_station p k l) (machine_station p k (l + 1)) 0 in
+    let last = plain_row (machine_station p k l) (receiver p k) (starting p k) (stage_at p k).travel in
+    let inner = worked_row (machine_station p k l) (machine_station p k (l + 1)) 0 in
     let P = WorksOrOrders (machine_station p i j) in
     elim (cases_eq (l + 1) (length (stage_at p k).machines)) [
       | inl same ↦
@@ -71,7 +71,7 @@ each-works p i j sound below inside =
       stages = λ k there. record {
         entry = λ ends. inl refl;
         servers = λ l within ends. inl refl;
-        order = λ l within ends. inr (ap (λ t. plain t t 1 0) ends);
+        order = λ l within ends. inr (ap (λ t. plain_row t t 1 0) ends);
         onward = λ l within. onward-works p i j k l sound below inside there;
       };
       feed = λ ends. absurd (deliver-other p i j below inside ends);
@@ -93,7 +93,7 @@ pub record Orders (p : Plant) (t a : ℕ) : Type 0 where
 pub works-or-orders : (p : Plant) (i j a : ℕ) → IsSound p → i < length p.stages → j < length (stage_at p i).machines → EndsAt (graph p) (machine_station p i j) a → ((arc (graph p) a).worked ≡ true) ⊎ Orders p (machine_station p i j) a
 works-or-orders p i j a sound below inside ends =
     let t = machine_station p i j in
-    let d = plain t t 1 0 in
+    let d = plain_row t t 1 0 in
     let low : a < length (rows p) = omega (arith, arc_count-graph p, ends.0) in
     let r = get_or (rows p) a d in
     let is = arc-graph p a d low in
@@ -108,8 +108,8 @@ works-or-orders p i j a sound below inside ends =
     ]
 
 -- the arc of the servers of a machine
-pub servers_row : (p : Plant) (i j : ℕ) → i < length p.stages → j < length (stage_at p i).machines → HasRow p (worked (machine_station p i j) (machine_station p i j) (machine_at p i j).servers)
+pub servers_row : (p : Plant) (i j : ℕ) → i < length p.stages → j < length (stage_at p i).machines → HasRow p (worked_row (machine_station p i j) (machine_station p i j) (machine_at p i j).servers)
 servers_row p i j below inside =
     let t = machine_station p i j in
-    let own = worked t t (machine_at p i j).servers in
-    has_row p own (in_machines p i j own below inside (Contains-head own (plain t t 1 0 ∷ onward p i j ∷ [])))
+    let own = worked_row t t (machine_at p i j).servers in
+    has_row p own (in_machines p i j own below inside (Contains-head own (plain_row t t 1 0 ∷ onward p i j ∷ [])))

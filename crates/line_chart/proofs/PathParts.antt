@@ -9,7 +9,7 @@ use Rattle.std.proofs.lemmas.List.Sums.{sum_by-append, sum_by-cons}
 use Rattle.line_base.specs.declared.event.Parts.{Parts}
 use Rattle.plant_model.specs.declared.plant.Plant.{Plant}
 use Rattle.plant_model.specs.Line.{stage_at, release, machine_station, deliver, next, path, path_stock, starting, receiver}
-use Rattle.plant_model.specs.Graph.{worked, plain, onward, graph}
+use Rattle.plant_model.specs.Graph.{worked_row, plain_row, onward, graph}
 use Rattle.plant_model.specs.Sound.{IsSound}
 use Rattle.plant_model.specs.ArcNumbers.{entry_arc, onward_arcs, onward_arcs_of}
 use Rattle.plant_model.proofs.Soundness.{IsSound-FeedsLater}
@@ -76,8 +76,8 @@ inner-tokens p i zero below inside = (HasArc-row p (entry_arc p i + 0) _ (entry-
 inner-tokens p i (suc j) below inside =
     let m = length (stage_at p i).machines in
     let other : j + 1 ≡ m → ⊥ = λ same. omega arith in
-    let here = worked (machine_station p i j) (machine_station p i (j + 1)) 0 in
-    let row : onward p i j ≡ here = ap (λ t. cond t (plain (machine_station p i j) (receiver p i) (starting p i) (stage_at p i).travel) here) (ne_eqb (j + 1) m other) in
+    let here = worked_row (machine_station p i j) (machine_station p i (j + 1)) 0 in
+    let row : onward p i j ≡ here = ap (λ t. cond t (plain_row (machine_station p i j) (receiver p i) (starting p i) (stage_at p i).travel) here) (ne_eqb (j + 1) m other) in
     let found = subst (λ r. IsRowAt p (entry_arc p i + 3 * (j + 1)) r) row (onward-at p i j below (omega arith)) in
     let tokens = (HasArc-row p _ here found).tokens_are in
     let same : entry_arc p i + 3 * (j + 1) ≡ entry_arc p i + 3 * suc j = omega arith in

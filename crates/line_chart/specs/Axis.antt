@@ -36,6 +36,6 @@ multiples step w =
 abbrev pub axis_dates : Window → List ℕ
 axis_dates w = multiples (axis_step (span w)) w
 
--- where a date of the window stands in the picture
-abbrev pub axis_place : Window → ℕ → ℕ
-axis_place w d = 170 + (d - w.from) * 1000 / span w
+-- where a date of the window stands, from the left of the picture
+abbrev pub axis_x : Window → ℕ → ℕ
+axis_x w d = 170 + (d - w.from) * 1000 / span w

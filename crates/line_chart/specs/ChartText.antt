@@ -14,11 +14,11 @@ use Rattle.line_chart.specs.declared.bar.Bar.{Bar}
 use Rattle.line_chart.specs.Window.{span}
 use Rattle.line_chart.specs.Bars.{lane_count, machines, bars}
 use Rattle.line_chart.specs.Areas.{count_of, Step, steps, most}
-use Rattle.line_chart.specs.Axis.{axis_step, multiples, axis_place}
+use Rattle.line_chart.specs.Axis.{axis_step, multiples, axis_x}
 
 -- a text, and a number behind it
-abbrev pub numbered : List ℕ → ℕ → List ℕ
-numbered text n = text ++ decimal n
+abbrev pub with_number : List ℕ → ℕ → List ℕ
+with_number text n = text ++ decimal n
 
 -- where the areas begin under this many lanes, and where this many of them end
 abbrev pub areas_top : ℕ → ℕ
@@ -34,7 +34,7 @@ area_count p = length p.stages + 1
 -- 1: the size of the picture, its colours, its ground
 unfoldable pub head_text : ℕ → List ℕ
 head_text end =
-    numbered (codes "<svg xmlns=\"http://www.w3.org/2000/svg\" width=\"1200\" height=\"") (end + 30)
+    with_number (codes "<svg xmlns=\"http://www.w3.org/2000/svg\" width=\"1200\" height=\"") (end + 30)
     ++ (codes "\" font-family=\"sans-serif\" font-size=\"11\">\n"
     ++ (codes "<style>.c0{fill:#4477aa}.c1{fill:#66ccee}.c2{fill:#228833}.c3{fill:#ccbb44}.c4{fill:#ee6677}"
     ++ (codes ".c5{fill:#aa3377}.g{stroke:#ccc}.n{fill:#ddd}.p{fill:#999}"
@@ -44,11 +44,11 @@ head_text end =
 -- 2: a date of the axis
 unfoldable pub axis_line : Window → ℕ → ℕ → List ℕ
 axis_line w end d =
-    numbered (codes "<line class=\"g\" x1=\"") (axis_place w d)
-    ++ (numbered (codes "\" y1=\"36\" x2=\"") (axis_place w d)
-    ++ (numbered (codes "\" y2=\"") end
-    ++ (numbered (codes "\"/><text class=\"m\" x=\"") (axis_place w d)
-    ++ (numbered (codes "\" y=\"30\">") d
+    with_number (codes "<line class=\"g\" x1=\"") (axis_x w d)
+    ++ (with_number (codes "\" y1=\"36\" x2=\"") (axis_x w d)
+    ++ (with_number (codes "\" y2=\"") end
+    ++ (with_number (codes "\"/><text class=\"m\" x=\"") (axis_x w d)
+    ++ (with_number (codes "\" y=\"30\">") d
     ++ codes "</text>\n"))))
 
 unfoldable pub axis_text : Window → ℕ → List ℕ
@@ -56,11 +56,11 @@ axis_text w end = flat_map (axis_line w end) (multiples (axis_step (span w)) w)
 
 -- how the name of a lane or an area begins, at this height
 abbrev pub name_begin : ℕ → List ℕ
-name_begin y = numbered (codes "<text class=\"e\" x=\"164\" y=\"") y ++ codes "\">"
+name_begin y = with_number (codes "<text class=\"e\" x=\"164\" y=\"") y ++ codes "\">"
 
 -- 3: the name of lane k of a machine: its label, and the number of the lane where there are several
 abbrev pub lane_number : ℕ → ℕ → List ℕ
-lane_number count k = if nat_lt 1 count then numbered (codes " ") (k + 1) else []
+lane_number count k = if nat_lt 1 count then with_number (codes " ") (k + 1) else []
 
 unfoldable pub lane_line : Parts → Lanes → ℕ → List ℕ
 lane_line g m k =
@@ -76,22 +76,22 @@ names_text p = flat_map (lane_lines (graph p)) (machines p)
 -- 4: a bar
 unfoldable pub bar_line : Bar → List ℕ
 bar_line b =
-    numbered (codes "<rect class=\"c") (b.job % 6)
-    ++ (numbered (codes "\" x=\"") b.start
-    ++ (numbered (codes "\" y=\"") (10 * b.lane + 1)
-    ++ (numbered (codes "\" width=\"") b.time
-    ++ (numbered (codes "\" height=\"8\"><title>job ") b.job
-    ++ (numbered (codes ", ") b.start
-    ++ (numbered (codes " to ") (b.start + b.time)
+    with_number (codes "<rect class=\"c") (b.job % 6)
+    ++ (with_number (codes "\" x=\"") b.start
+    ++ (with_number (codes "\" y=\"") (10 * b.lane + 1)
+    ++ (with_number (codes "\" width=\"") b.time
+    ++ (with_number (codes "\" height=\"8\"><title>job ") b.job
+    ++ (with_number (codes ", ") b.start
+    ++ (with_number (codes " to ") (b.start + b.time)
     ++ codes "</title></rect>\n"))))))
 
 -- the field of the bars, in the units of the plant
 unfoldable pub field_line : Window → ℕ → List ℕ
 field_line w lanes =
-    numbered (codes "<svg x=\"170\" y=\"40\" width=\"1000\" height=\"") (16 * lanes)
-    ++ (numbered (codes "\" viewBox=\"") w.from
-    ++ (numbered (codes " 0 ") (span w)
-    ++ (numbered (codes " ") (10 * lanes)
+    with_number (codes "<svg x=\"170\" y=\"40\" width=\"1000\" height=\"") (16 * lanes)
+    ++ (with_number (codes "\" viewBox=\"") w.from
+    ++ (with_number (codes " 0 ") (span w)
+    ++ (with_number (codes " ") (10 * lanes)
     ++ codes "\" preserveAspectRatio=\"none\">\n")))
 
 unfoldable pub bars_text : Plant → Table → Window → List ℕ
@@ -100,14 +100,14 @@ bars_text p x w =
 
 -- 5: a step of a path, and the path of a count
 abbrev pub step_text : Step → List ℕ
-step_text s = numbered (codes " H") s.date ++ numbered (codes " V") s.height
+step_text s = with_number (codes " H") s.date ++ with_number (codes " V") s.height
 
 unfoldable pub path_text : (ℕ → ℕ) → Window → List ℕ
 path_text f w =
-    numbered (codes "M") w.from
-    ++ (numbered (codes " 0 V") (f w.from)
+    with_number (codes "M") w.from
+    ++ (with_number (codes " 0 V") (f w.from)
     ++ (flat_map step_text (steps f w.from w.to)
-    ++ (numbered (codes " H") w.to
+    ++ (with_number (codes " H") w.to
     ++ codes " V0 Z")))
 
 -- the path of a count, with its class
@@ -120,13 +120,13 @@ unfoldable pub area_head : List ℕ → ℕ → ℕ → Window → List ℕ
 area_head name y most w =
     name_begin (y + 16)
     ++ (name
-    ++ (numbered (codes "</text><text class=\"e\" x=\"164\" y=\"") (y + 30)
-    ++ (numbered (codes "\">most ") most
-    ++ (numbered (codes "</text>\n<svg x=\"170\" y=\"") y
-    ++ (numbered (codes "\" width=\"1000\" height=\"40\" viewBox=\"") w.from
-    ++ (numbered (codes " 0 ") (span w)
-    ++ (numbered (codes " ") most
-    ++ (numbered (codes "\" preserveAspectRatio=\"none\"><g transform=\"translate(0 ") most
+    ++ (with_number (codes "</text><text class=\"e\" x=\"164\" y=\"") (y + 30)
+    ++ (with_number (codes "\">most ") most
+    ++ (with_number (codes "</text>\n<svg x=\"170\" y=\"") y
+    ++ (with_number (codes "\" width=\"1000\" height=\"40\" viewBox=\"") w.from
+    ++ (with_number (codes " 0 ") (span w)
+    ++ (with_number (codes " ") most
+    ++ (with_number (codes "\" preserveAspectRatio=\"none\"><g transform=\"translate(0 ") most
     ++ codes ") scale(1 -1)\">"))))))))
 
 -- the area of stage i: its parts, and on top those in process or on their way

@@ -1,7 +1,7 @@
 //! The axis of a picture.
 ghost use Rattle.std.specs.Prelude.{◌≡◌, ◌≤◌, ◌<◌, ◌+◌, ◌-◌};
 ghost use Rattle.line_io.specs.Outgoing.{Pushed, stream};
-ghost use Rattle.line_chart.specs.Axis.{axis_step, axis_place};
+ghost use Rattle.line_chart.specs.Axis.{axis_step, axis_x};
 ghost use Rattle.line_chart.specs.ChartText.{axis_line, axis_text};
 ghost use Rattle.line_chart.specs.Picture.{IsWindow};
 
@@ -31,12 +31,12 @@ fn axis_step(span: u64) -> u64
     ten
 }
 
-/// Where a date of the window stands.
-fn axis_place(window: Window, date: u64) -> u64
+/// Where a date of the window stands, from the left of the picture.
+fn axis_x(window: Window, date: u64) -> u64
     requires window { IsWindow window }
     requires from { window.from ≤ date }
     requires to { date ≤ window.to }
-    ensures { result ≡ axis_place window date }
+    ensures { result ≡ axis_x window date }
 {
     170 + (date - window.from) * 1000 / (window.to - window.from)
 }
@@ -59,8 +59,8 @@ fn write_line<K: Sink>(out: &mut Outgoing, sink: &mut K, window: Window, end: u6
     ensures { Pushed (stream (K.shown sink.old) out.old)
         (stream (K.shown sink.new) out.new) (axis_line window end date) }
 {
-    let place = axis_place(window, date);
-    write_interleaved(out, sink, &LINE, &[place, place, end, place, date]);
+    let x = axis_x(window, date);
+    write_interleaved(out, sink, &LINE, &[x, x, end, x, date]);
 }
 
 /// Writes the axis.

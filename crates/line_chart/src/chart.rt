@@ -34,14 +34,14 @@ pub struct Chart {
 impl Model for Chart {
     ghost use Rattle.std.specs.Prelude.{◌≡◌, ◌≤◌, false};
     ghost use Rattle.line_core.specs.Run.{IsLeastTable};
-    ghost use Rattle.line_io.specs.Outgoing.{emptied};
+    ghost use Rattle.line_io.specs.Outgoing.{nothing_waiting};
     ghost use Rattle.line_chart.specs.Picture.{Picture, IsOfRun, bars_and_lanes};
 
     ghost Value = { Picture };
 
     ghost view = { λ c. record { plant = c.run.plant; rows = c.run.table.rows; window = c.run.window } };
 
-    ghost invariant = { λ c. IsOfRun c.run × IsLeastTable c.run.table × (c.out ≡ emptied false)
+    ghost invariant = { λ c. IsOfRun c.run × IsLeastTable c.run.table × (c.out ≡ nothing_waiting false)
         × (bars_and_lanes (record { plant = c.run.plant; rows = c.run.table.rows; window = c.run.window }) ≤ 20_000) };
 }
 

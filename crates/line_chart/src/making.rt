@@ -3,7 +3,7 @@ ghost use Rattle.std.specs.Prelude.{◌≡◌, ◌≤◌, false, IfOk, IfErr};
 ghost use Rattle.line_chart.specs.DateTable.{path_stocks};
 ghost use Rattle.line_chart.specs.Machines.{AreLanesOf};
 ghost use Rattle.line_chart.specs.Picture.{IsOfRun, IsReason, IsRunOf, IsWindow, bars_and_lanes, picture_of};
-ghost use Rattle.line_io.specs.Outgoing.{emptied};
+ghost use Rattle.line_io.specs.Outgoing.{nothing_waiting};
 ghost use Rattle.line_stats.specs.PlantDates.{AreOfPlant};
 ghost use Rattle.plant_model.specs.Sound.{IsSound};
 
@@ -72,7 +72,7 @@ pub fn run_of(
 /// Room for one piece of the text. A picture of too many bars and lanes is refused.
 pub fn room_for(alloc: Global, run: &ChartRun) -> Result<Outgoing, ChartError>
     requires { IsOfRun run.now }
-    ensures room { IfOk result (λ out. out ≡ emptied false) }
+    ensures room { IfOk result (λ out. out ≡ nothing_waiting false) }
     ensures small { IfOk result (λ _. bars_and_lanes (picture_of run.now) ≤ 20_000) }
     ensures refused { IfErr result (IsReason (picture_of run.now)) }
 {
@@ -83,8 +83,8 @@ pub fn room_for(alloc: Global, run: &ChartRun) -> Result<Outgoing, ChartError>
     Ok(Outgoing::new(alloc)?)
 }
 
-/// What a table takes: the numbers of a plant's stations, the stock on the path of each stage, and room for one piece of
-/// the text.
+/// What a table takes: the numbers of a plant's stations, the stock on the path of each stage, and room for one piece
+/// of the text.
 pub fn memory_for(
     alloc: Global,
     plant: &Plant,
@@ -92,7 +92,7 @@ pub fn memory_for(
     requires { IsSound plant.now }
     ensures numbers { IfOk result (λ made. made.0 ≡ plant.now) }
     ensures stocks { IfOk result (λ made. made.1.items ≡ path_stocks plant.now) }
-    ensures out { IfOk result (λ made. made.2 ≡ emptied false) }
+    ensures out { IfOk result (λ made. made.2 ≡ nothing_waiting false) }
 {
     let numbers = LineNumbers::of(alloc, plant)?;
     let stocks = path_stocks(alloc, plant)?;

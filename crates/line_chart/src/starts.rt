@@ -17,7 +17,7 @@ fn token_date(graph: &Graph, table: &Table, a: u32, n: u32) -> Date
     ensures date { result ≡ token_date graph.now (date_in table.now.rows) a n }
     ensures early { result ≤ 2_002_000_000_000_000 }
 {
-    let arc = graph.arcs()[a as usize];
+    let arc = graph.arc(a);
     if arc.tokens < n {
         table.date(arc.from, n - arc.tokens) + graph.delay(a)
     } else {

@@ -52,7 +52,7 @@ impl DateTable {
             drop(table);
             return Err(AllocError);
         };
-        // For its clause that the dates are the least solution.
+        // called for its clause: the table is the least solution of its graph
         let _least = table.stations();
         Ok(DateTable {
             run: TableRun {
@@ -66,9 +66,9 @@ impl DateTable {
         })
     }
 
-    /// Writes the table to the sink, from its beginning: the names of the fields, and then a record for each station and
-    /// job in order, with whom the part serves, the start at a machine, and the date. It goes out in pieces of 4,096
-    /// bytes and a last one that may be shorter. After `Failed` a prefix of it was written. It takes no memory.
+    /// Writes the table to the sink, from its beginning: the names of the fields, and then a record for each station
+    /// and job in order, with whom the part serves, the start at a machine, and the date. It goes out in pieces of
+    /// 4,096 bytes and a last one that may be shorter. After `Failed` a prefix of it was written. It takes no memory.
     pub fn write<K: Sink>(&mut self, sink: &mut K) -> Result<(), Failed>
         ensures puts { WritesText (K.shown sink.old) (K.shown sink.new) (text_of self.old) result }
         ensures stays { Stays self.old self.new }

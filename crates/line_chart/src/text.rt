@@ -1,8 +1,8 @@
 //! Texts and numbers, one after another.
 ghost use Rattle.std.specs.Prelude.{◌≡◌, ◌+◌, length};
 ghost use Rattle.line_io.specs.Outgoing.{Pushed, stream};
-ghost use Rattle.line_chart.specs.ChartText.{numbered};
-ghost use Rattle.line_chart.specs.Interleaved.{interleaved};
+ghost use Rattle.line_chart.specs.ChartText.{with_number};
+ghost use Rattle.line_chart.specs.Interleaved.{interleave};
 
 use line_io::{Outgoing, Sink};
 
@@ -12,7 +12,7 @@ pub const NAME: [&[u8]; 2] = [b"<text class=\"e\" x=\"164\" y=\"", b"\">"];
 /// Writes a text, and a number behind it.
 pub fn write_numbered<K: Sink>(out: &mut Outgoing, sink: &mut K, text: &[u8], number: u64)
     ensures { Pushed (stream (K.shown sink.old) out.old)
-        (stream (K.shown sink.new) out.new) (numbered text.now number) }
+        (stream (K.shown sink.new) out.new) (with_number text.now number) }
 {
     out.push(sink, text);
     out.push_number(sink, number);
@@ -27,7 +27,7 @@ pub fn write_interleaved<K: Sink>(
 )
     requires { length texts.now ≡ length numbers.now + 1 }
     ensures { Pushed (stream (K.shown sink.old) out.old)
-        (stream (K.shown sink.new) out.new) (interleaved texts.now numbers.now) }
+        (stream (K.shown sink.new) out.new) (interleave texts.now numbers.now) }
 {
     for before in 0..numbers.len() {
         write_numbered(out, sink, texts[before], numbers[before]);

@@ -109,7 +109,8 @@ module _ (n : ℕ) (f : ℕ → List StateError) where
   pub each_none : ((i : ℕ) → i < n → f i ≡ []) → each_below n f ≡ []
   each_none none = none_below_all n (omega arith) (none_upto n (omega arith) none)
 
--- for a walk over the numbers that stops at the first refusal: none at its start, none more behind a test that refuses nothing
+-- for a walk over the numbers that stops at the first refusal: none at its start, none more behind a test that refuses
+-- nothing
 pub ruleset none_so_far = (none_below_0, none_below_next)
 
 -- the exit of a `?` at number i

@@ -10,7 +10,7 @@ use Rattle.event_graph.specs.Network.{stations, arc, arc_count, IsGraph}
 use Rattle.event_graph.specs.State.{State, log, place, start}
 use Rattle.event_graph.specs.Firing.{CanFire, new_date, after}
 use Rattle.event_graph.specs.Reached.{Reached, begins, fires}
-use Rattle.line_core.specs.Consistent.{all_tokens, tokens_left, due_date, state_of, IsConsistent, fired}
+use Rattle.line_core.specs.Consistent.{all_tokens, tokens_left, due_date, state_of, IsConsistent, firing_count}
 use Rattle.line_core.proofs.ArcTokens.{with_new, length-with_new, get_or-with_new, LogGains, log-after, length-all_tokens}
 use Rattle.line_core.proofs.Consistency.{HasHeld, HasHeld-gain, by_tokens-gain, due_date-by_tokens, new_date-by_tokens, held_now, exists, start_is_consistent, after_is_consistent}
 use Rattle.line_core.proofs.Bounds.{fired-after}
@@ -179,11 +179,11 @@ module _ (g : Parts) (s : State) (places : List ℕ) (graph : IsGraph g) (up : G
   fired_again =
       same_from_logs g (after g old t) s (after_is_consistent g old t old_is_consistent could_fire) c same_logs
 
-  one_firing : (before : State) × IsConsistent g before × (fired s ≡ fired before + 1) × (Reached g before → Reached g s)
+  one_firing : (before : State) × IsConsistent g before × (firing_count s ≡ firing_count before + 1) × (Reached g before → Reached g s)
   one_firing = (
     old,
     old_is_consistent,
-    ap fired (sym fired_again) ∙ fired-after g old t (exists g old t old_is_consistent could_fire),
+    ap firing_count (sym fired_again) ∙ fired-after g old t (exists g old t old_is_consistent could_fire),
     λ reached. subst (Reached g) fired_again (fires old t reached could_fire),
   )
 
@@ -209,7 +209,7 @@ undated_is_reached g s places t c last none =
     let undated = undated_is_start g s c (λ u known. omega (arith, none, no_more_dates s places u t (last u known))) in
     subst (Reached g) (sym undated) begins
 
-unwound : (g : Parts) (places : List ℕ) → 1 ≤ stations g → IsGraph g → GoesUp g places → (most : ℕ) (s : State) → fired s ≤ most → IsConsistent g s → Reached g s
+unwound : (g : Parts) (places : List ℕ) → 1 ≤ stations g → IsGraph g → GoesUp g places → (most : ℕ) (s : State) → firing_count s ≤ most → IsConsistent g s → Reached g s
 unwound g places some graph up zero s few c =
     let last = last_station g s places some in
     let none : length (log s last.0) ≡ 0 =
@@ -224,4 +224,4 @@ unwound g places some graph up (suc most) s few c =
     ⊎_elim (undated_is_reached g s places last.0 c last.2) go_back (cases_eq (length (log s last.0)) 0)
 
 pub consistent_is_reached : (g : Parts) (places : List ℕ) → 1 ≤ stations g → IsGraph g → GoesUp g places → (s : State) → IsConsistent g s → Reached g s
-consistent_is_reached g places some graph up s c = unwound g places some graph up (fired s) s (omega arith) c
+consistent_is_reached g places some graph up s c = unwound g places some graph up (firing_count s) s (omega arith) c

@@ -7,7 +7,7 @@ use Rattle.event_graph.specs.Network.{stations, jobs, arc, arc_count, IsGraph}
 use Rattle.event_graph.specs.State.{State, log, place, start}
 use Rattle.event_graph.specs.Firing.{CanFire, after}
 use Rattle.event_graph.specs.Reached.{Reached, begins, fires}
-use Rattle.line_core.specs.Consistent.{all_tokens, IsConsistent, IsFinished, fired}
+use Rattle.line_core.specs.Consistent.{all_tokens, IsConsistent, IsFinished, firing_count}
 use Rattle.line_core.proofs.ArcTokens.{length-all_tokens}
 use Rattle.line_core.proofs.Consistency.{exists, reached_is_consistent, after_is_consistent}
 use Rattle.line_core.proofs.Bounds.{fired-after, fired-le}
@@ -55,7 +55,7 @@ undone_or_finished g s (suc n) =
 done_is_finished : (g : Parts) (s : State) → IsConsistent g s → ((u : ℕ) → u < stations g → jobs g ≤ length (log s u)) → IsFinished g s
 done_is_finished g s c done t there = omega (arith, done t there, c.few_dates t there)
 
-finish : (g : Parts) (places : List ℕ) → IsGraph g → GoesUp g places → (left : ℕ) (s : State) → Reached g s → stations g * jobs g ≤ fired s + left → (end : State) × Reached g end × IsFinished g end
+finish : (g : Parts) (places : List ℕ) → IsGraph g → GoesUp g places → (left : ℕ) (s : State) → Reached g s → stations g * jobs g ≤ firing_count s + left → (end : State) × Reached g end × IsFinished g end
 finish g places graph up zero s reached enough =
     let c = reached_is_consistent g s reached in
     let Answer = (end : State) × Reached g end × IsFinished g end in

@@ -19,7 +19,7 @@ use Rattle.event_graph.specs.GreatestValue.{greatest}
 use Rattle.event_graph.specs.Reached.{Reached, begins, fires}
 use Rattle.line_core.specs.Consistent.{all_tokens, state_of, IsConsistent, IsFinished, LATEST_DATE}
 use Rattle.line_core.specs.ArcTokens.{tokens_of, HasRoom, FillsCircuits}
-use Rattle.line_core.specs.Run.{Run, run_of, fired_at, begun, IsReached, IsRunWithRoom, IsLeastTable}
+use Rattle.line_core.specs.Run.{Run, run_of, fired_at, first_run, IsReached, IsRunWithRoom, IsLeastTable}
 use Rattle.line_core.proofs.ArcTokens.{length-all_tokens}
 use Rattle.line_core.proofs.Consistency.{date_by_tokens, new_date-by_tokens, held_now, start_is_consistent, reached_is_consistent}
 use Rattle.line_core.proofs.Bounds.{fired-le, reached_is_within}
@@ -118,7 +118,7 @@ unfolding start
 logs-start g = refl
 
 -- where no station has made a date, the run has begun
-pub run_of-start : (g : Parts) (logs : RoomyLogs) → dates_of logs ≡ replicate (stations g) [] → run_of g logs ≡ begun g
+pub run_of-start : (g : Parts) (logs : RoomyLogs) → dates_of logs ≡ replicate (stations g) [] → run_of g logs ≡ first_run g
 run_of-start g logs none =
     ap (λ s. record { graph = g; state = s }) (
     ap (state_of g) (none ∙ sym (logs-start g)) ∙ sym (state_of-logs g (start g) (start_is_consistent g)))

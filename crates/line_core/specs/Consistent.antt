@@ -46,8 +46,8 @@ abbrev pub IsFinished : Parts → State → Type 0
 IsFinished g s = (t : ℕ) → t < stations g → length (log s t) ≡ jobs g
 
 -- how many firings made the state
-abbrev pub fired : State → ℕ
-fired s = sum_by length s.logs
+abbrev pub firing_count : State → ℕ
+firing_count s = sum_by length s.logs
 
 -- no date of a log or a place comes later
 pub record IsNoLaterThan (g : Parts) (s : State) (latest : ℕ) : Type 0 where

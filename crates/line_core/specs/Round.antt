@@ -5,9 +5,9 @@ use Rattle.event_graph.specs.State.{log}
 use Rattle.line_core.specs.Run.{Run}
 
 -- the stations below this rank have fired `done + 1` times, the others `done` times
-pub record IsInRound (places : List ℕ) (r : Run) (done place : ℕ) : Type 0 where
-  pub ahead : (t : ℕ) → t < stations r.graph → slice_index places t < place → length (log r.state t) ≡ done + 1
-  pub behind : (t : ℕ) → t < stations r.graph → place ≤ slice_index places t → length (log r.state t) ≡ done
+pub record IsInRound (ranks : List ℕ) (r : Run) (done rank : ℕ) : Type 0 where
+  pub ahead : (t : ℕ) → t < stations r.graph → slice_index ranks t < rank → length (log r.state t) ≡ done + 1
+  pub behind : (t : ℕ) → t < stations r.graph → rank ≤ slice_index ranks t → length (log r.state t) ≡ done
 
 -- each station has fired this many times
 abbrev pub HasFired : Run → ℕ → Type 0

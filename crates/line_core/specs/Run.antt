@@ -20,8 +20,8 @@ pub record Run : Type 0 where
   pub state : State
 
 -- no station of the graph has fired
-abbrev pub begun : Parts → Run
-begun g = record { graph = g; state = start g }
+abbrev pub first_run : Parts → Run
+first_run g = record { graph = g; state = start g }
 
 -- the same graph, after a firing of station t
 abbrev pub fired_at : Run → ℕ → Run

@@ -13,7 +13,7 @@ use line_base::{Date, Logs};
 
 /// How many dates station `t` has made.
 pub fn count_at(logs: &Logs, graph: &Graph, t: u32) -> usize
-    requires held { IsRunWithRoom graph.now logs.now }
+    requires has_room { IsRunWithRoom graph.now logs.now }
     requires station { t < stations graph.now }
     ensures count { result ≡ length (log (state_of graph.now (dates_of logs.now)) t) }
     ensures within { result ≤ jobs graph.now }
@@ -23,7 +23,7 @@ pub fn count_at(logs: &Logs, graph: &Graph, t: u32) -> usize
 
 /// How many tokens are on arc `a`.
 pub fn tokens_on(logs: &Logs, graph: &Graph, a: u32) -> usize
-    requires held { IsRunWithRoom graph.now logs.now }
+    requires has_room { IsRunWithRoom graph.now logs.now }
     requires arc { a < arc_count graph.now }
     ensures { result ≡ length (place (state_of graph.now (dates_of logs.now)) a) }
 {
@@ -34,7 +34,7 @@ pub fn tokens_on(logs: &Logs, graph: &Graph, a: u32) -> usize
 
 /// The first arc into station `t` without a token.
 pub fn first_empty(logs: &Logs, graph: &Graph, t: u32) -> Option<u32>
-    requires held { IsRunWithRoom graph.now logs.now }
+    requires has_room { IsRunWithRoom graph.now logs.now }
     requires station { t < stations graph.now }
     ensures { result ≡ first_empty graph.now (state_of graph.now (dates_of logs.now)) t }
 {
@@ -49,7 +49,7 @@ pub fn first_empty(logs: &Logs, graph: &Graph, t: u32) -> Option<u32>
 
 /// The first station that hasn't made a date for each job.
 pub fn first_unfinished(logs: &Logs, graph: &Graph) -> Option<u32>
-    requires held { IsRunWithRoom graph.now logs.now }
+    requires has_room { IsRunWithRoom graph.now logs.now }
     ensures found { result ≡ first_unfinished graph.now (state_of graph.now (dates_of logs.now)) }
     ensures exists { IfSome result (λ t. t < stations graph.now) }
 {
@@ -64,7 +64,7 @@ pub fn first_unfinished(logs: &Logs, graph: &Graph) -> Option<u32>
 
 /// The date of token `k` of arc `a`, counted from 0 over all tokens that the arc has held.
 fn token(logs: &Logs, graph: &Graph, a: u32, k: usize) -> Date
-    requires held { IsRunWithRoom graph.now logs.now }
+    requires has_room { IsRunWithRoom graph.now logs.now }
     requires arc { a < arc_count graph.now }
     requires token { k < length (all_tokens graph.now (dates_of logs.now) a) }
     ensures date { result ≡ slice_index (all_tokens graph.now (dates_of logs.now) a) k }
@@ -80,7 +80,7 @@ fn token(logs: &Logs, graph: &Graph, a: u32, k: usize) -> Date
 
 /// What token `k` of arc `a` asks of the date of job `k + 1` at the station that the arc enters.
 fn asked_date(logs: &Logs, graph: &Graph, a: u32, k: usize) -> Date
-    requires held { IsRunWithRoom graph.now logs.now }
+    requires has_room { IsRunWithRoom graph.now logs.now }
     requires arc { a < arc_count graph.now }
     requires token { k < length (all_tokens graph.now (dates_of logs.now) a) }
     requires job { k < jobs graph.now }
@@ -92,7 +92,7 @@ fn asked_date(logs: &Logs, graph: &Graph, a: u32, k: usize) -> Date
 
 /// The date of the next job of station `t`.
 pub fn next_date(logs: &Logs, graph: &Graph, t: u32) -> Date
-    requires held { IsRunWithRoom graph.now logs.now }
+    requires has_room { IsRunWithRoom graph.now logs.now }
     requires can { CanFire graph.now (state_of graph.now (dates_of logs.now)) t }
     ensures { result ≡ new_date graph.now (state_of graph.now (dates_of logs.now)) t }
 {

@@ -1,4 +1,4 @@
-ghost use Rattle.std.specs.Prelude.{◌≡◌, ℕ, ◌≤◌, List};
+ghost use Rattle.std.specs.Prelude.{◌≤◌};
 ghost use Rattle.event_graph.specs.Limits.{IsWithinLimits};
 ghost use Rattle.event_graph.specs.Live.{IsLive};
 ghost use Rattle.event_graph.specs.Network.{stations, IsGraph};
@@ -24,8 +24,8 @@ pub fn live_graphs_have_a_least_solution()
     ensures { (g : Parts) → IsGraph g → IsLive g → HasLeast g }
 {}
 
-/// A law of the definitions: no station on a circuit without a token ever fires, whatever else does. So a graph that isn't
-/// live never makes all of its dates.
+/// A law of the definitions: no station on a circuit without a token ever fires, whatever else does. So a graph that
+/// isn't live never makes all of its dates.
 pub fn dead_stations_stay_idle()
     ensures { (g : Parts) → DeadStationsStayIdle g }
 {}

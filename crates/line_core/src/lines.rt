@@ -3,8 +3,8 @@ ghost use Rattle.std.specs.List.{position_or_len};
 ghost use Rattle.std.specs.Prelude.{◌≡◌, ◌==◌, ◌≤◌, length, take, drop};
 ghost use Rattle.std.specs.Str.Lines.{strip_carriage_return};
 
-/// How many bytes of a text stand before the first that is this one: all, where none is. A line ends before a line feed,
-/// a word before a space.
+/// How many bytes of a text stand before the first that is this one: all, where none is. A line ends before a line
+/// feed, a word before a space.
 pub fn end_before(text: &[u8], stop: u8) -> usize
     ensures { result ≡ position_or_len (λ byte. byte == stop) text.now }
 {

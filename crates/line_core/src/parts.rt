@@ -6,12 +6,12 @@ ghost use Rattle.event_graph.specs.Term.{term, token_date};
 ghost use Rattle.line_base.specs.Roomy.{dates_of};
 ghost use Rattle.line_core.specs.Consistent.{due_date};
 ghost use Rattle.line_core.specs.Marked.{wrong_marked, wrong_counts, marked_refusals};
-ghost use Rattle.line_core.specs.Parts.{LATEST_GIVEN, AreLogs, AreParts, list_at, long_log, long_logs, wrong_count, wrong_marking, wrong_markings, wrong_date, wrong_dates_at, wrong_dates, wrong_token, wrong_tokens_on, wrong_tokens, state_refusals, AnswersFirst};
+ghost use Rattle.line_core.specs.Parts.{LATEST_GIVEN, AreLogs, AreParts, list_at, long_log, long_logs, wrong_count, wrong_marking, wrong_markings, wrong_date, wrong_dates_at, wrong_dates, wrong_tokens_on, wrong_tokens, state_refusals, AnswersFirst};
 
 use crate::error::StateError;
 use crate::logs::log_with;
 use event_graph::{Graph, Marking};
-use line_base::{Arc, Date, Logs, Places};
+use line_base::{Date, Logs, Places};
 use std::alloc::{AllocError, Global};
 
 /// The dates of list number `k`.

@@ -1,4 +1,4 @@
-ghost use Rattle.std.specs.Prelude.{◌≡◌, ◌+◌, ◌<◌, IfOk, OnOk};
+ghost use Rattle.std.specs.Prelude.{◌≡◌, ◌+◌, ◌<◌, IfOk};
 ghost use Rattle.event_graph.specs.Network.{stations, jobs};
 ghost use Rattle.line_core.specs.Consistent.{IsFinished};
 ghost use Rattle.line_core.specs.Round.{IsInRound, HasFired};
@@ -22,7 +22,8 @@ fn fire_at(state: &mut State, live: &Live, done: u32, rank: u32)
     state.fire_ready(live, live.station_at(rank));
 }
 
-/// Fires each station once, in the order of the ranks, where each has fired for the first `done` jobs. It takes no memory.
+/// Fires each station once, in the order of the ranks, where each has fired for the first `done` jobs. It takes no
+/// memory.
 pub fn fire_each(state: &mut State, live: &Live, done: u32)
     requires made_for { live.now.graph ≡ state.old.graph }
     requires more { done < jobs state.old.graph }

@@ -5,11 +5,11 @@ ghost use Rattle.event_graph.specs.Reached.{Reached};
 ghost use Rattle.event_graph.specs.State.{log, place};
 ghost use Rattle.line_base.specs.Roomy.{dates_of};
 ghost use Rattle.line_core.specs.ArcTokens.{FillsCircuits, HasRoom};
-ghost use Rattle.line_core.specs.Consistent.{IsFinished, fired, state_of};
+ghost use Rattle.line_core.specs.Consistent.{IsFinished, firing_count, state_of};
 ghost use Rattle.line_core.specs.Marked.{RefusesMarked, RefusesTokensAlone};
 ghost use Rattle.line_core.specs.Parts.{LATEST_GIVEN, AreParts, run_with, IsStateRefusal, IsReachedExactly};
 ghost use Rattle.line_core.specs.Refusals.{Refuses, first_unfinished};
-ghost use Rattle.line_core.specs.Run.{run_of, begun, fired_at, IsReached, IsLeastTable, IsRunWithRoom};
+ghost use Rattle.line_core.specs.Run.{run_of, first_run, fired_at, IsReached, IsLeastTable, IsRunWithRoom};
 
 use crate::dates::{count_at, first_empty, first_unfinished, next_date, tokens_on};
 use crate::error::{FireError, StateError};
@@ -47,8 +47,8 @@ impl Model for State {
 }
 
 /// An empty log for each station of the graph, with room for a date of each job.
-pub fn empty_logs(alloc: Global, graph: &Graph) -> Result<Logs, AllocError>
-    ensures held { IfOk result (IsRunWithRoom graph.now) }
+fn empty_logs(alloc: Global, graph: &Graph) -> Result<Logs, AllocError>
+    ensures has_room { IfOk result (IsRunWithRoom graph.now) }
     ensures start { IfOk result (λ logs. dates_of logs ≡ replicate (stations graph.now) []) }
 {
     let stations = graph.stations();
@@ -63,7 +63,7 @@ pub fn empty_logs(alloc: Global, graph: &Graph) -> Result<Logs, AllocError>
 impl State {
     /// The start: empty logs, and on each arc its tokens, of date 0. It takes the room of all later firings.
     pub fn start(alloc: Global, live: &Live) -> Result<State, AllocError>
-        ensures start { IfOk result (λ state. state ≡ begun live.now.graph) }
+        ensures start { IfOk result (λ state. state ≡ first_run live.now.graph) }
         ensures reached { IfOk result IsReached }
     {
         let logs = empty_logs(alloc, live.graph())?;
@@ -155,12 +155,12 @@ impl State {
         let arc = graph.arc(a);
         let taken = count_at(&self.logs, graph, arc.to);
         let dates = self.logs.get(arc.from).dates();
-        Tokens::left(taken, arc.tokens as usize, dates, graph.delay(a))
+        Tokens::after_takes(taken, arc.tokens as usize, dates, graph.delay(a))
     }
 
     /// How many firings made the state.
     pub fn fired(&self) -> u64
-        ensures fired { result ≡ fired self.now.state }
+        ensures fired { result ≡ firing_count self.now.state }
         ensures reached { IsReached self.now }
     {
         let mut fired = 0;
@@ -205,8 +205,8 @@ impl State {
     /// The state with these logs and these places, which can go on firing: it takes the room of all later firings.
     ///
     /// Every other answer but out of memory is the first thing that is wrong with the parts. A log with more dates than
-    /// there are jobs is refused, else a place with another number of tokens than the logs leave there, else a date that
-    /// isn't the one of its equation over the logs, else a token that isn't the one that the logs leave there.
+    /// there are jobs is refused, else a place with another number of tokens than the logs leave there, else a date
+    /// that isn't the one of its equation over the logs, else a token that isn't the one that the logs leave there.
     pub fn of_parts(
         alloc: Global,
         live: &Live,
@@ -226,11 +226,11 @@ impl State {
         Ok(State::of_reached(alloc, live, logs))
     }
 
-    /// The state with these logs, which have the room of all later firings, and with this many tokens in each place. It takes
-    /// no memory.
+    /// The state with these logs, which have the room of all later firings, and with this many tokens in each place. It
+    /// takes no memory.
     ///
-    /// Its refusals are those of `of_parts` but the last, for the dates of the tokens aren't given. After Ok nothing but these
-    /// can be wrong.
+    /// Its refusals are those of `of_parts` but the last, for the dates of the tokens aren't given. After Ok nothing
+    /// but these can be wrong.
     pub fn of_logs(
         alloc: Global,
         live: &Live,

@@ -28,7 +28,7 @@ impl<'a> Model for Tokens<'a> {
 impl<'a> Tokens<'a> {
     /// The tokens that are left when this many were taken: first those of the start, of date 0, then one for each date,
     /// later by the delay.
-    pub fn left(taken: usize, initial: usize, dates: &'a [Date], delay: u64) -> Tokens<'a>
+    pub fn after_takes(taken: usize, initial: usize, dates: &'a [Date], delay: u64) -> Tokens<'a>
         requires few { taken ≤ initial + length dates.now }
         requires within { AddWithin dates.now delay }
         ensures { result ≡ drop taken (tokens_of initial dates.now delay) }

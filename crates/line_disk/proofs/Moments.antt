@@ -1,7 +1,7 @@
 -- From one call of a disk to the next, for callers that say what a crash leaves.
 use Rattle.std.proofs.Common.{◌≡◌, ◌⊎◌, inl, inr, ⊎_elim, ℕ, ◌+◌, ◌<◌, ◌≤◌, refl, ◌∙◌, subst, arith, Result, Ok, Err, OnOk, OnErr}
 use Rattle.std.proofs.lemmas.Bool.{cases_lt}
-use Rattle.line_disk.specs.DiskView.{Image, Held, MayLeave, DiskView, held_now, Passes, LeftSince, LeavesOnly, Stays, synced}
+use Rattle.line_disk.specs.DiskView.{Image, Held, MayLeave, DiskView, held_now, Passes, LeftSince, LeavesOnly, Stays, synced_file}
 use Rattle.line_disk.specs.declared.disk.DiskError.{DiskError}
 
 left_in : (a b : Held) (image : Image) → b ≡ a → MayLeave b image → MayLeave a image
@@ -76,16 +76,16 @@ stays_on a b c first second = record {
 }
 
 -- a sync that succeeds leaves nothing that it might not have left before
-synced_before : (a b : Held) (image : Image) → b ≡ synced a → MayLeave b image → MayLeave a image
+synced_before : (a b : Held) (image : Image) → b ≡ synced_file a → MayLeave b image → MayLeave a image
 synced_before a b image same left =
     let after = subst (λ h. MayLeave h image) same left in
     record { elsewhere = λ i out. after.elsewhere i refl }
 
-sync_may : {T : Type 0} (a b : Held) (r : Result (Unit {0}) DiskError) → OnOk r (T → b ≡ synced a) → OnErr r (T → b ≡ a) → T → (image : Image) → MayLeave b image → MayLeave a image
+sync_may : {T : Type 0} (a b : Held) (r : Result (Unit {0}) DiskError) → OnOk r (T → b ≡ synced_file a) → OnErr r (T → b ≡ a) → T → (image : Image) → MayLeave b image → MayLeave a image
 sync_may a b (Ok _) done kept t image left = synced_before a b image (done t) left
 sync_may a b (Err e) done kept t image left = left_in a b image (kept t) left
 
-pub sync_leaves : {T : Type 0} (a b : DiskView) (r : Result (Unit {0}) DiskError) → OnOk r (T → held_now b ≡ synced (held_now a)) → OnErr r (T → held_now b ≡ held_now a) → (T → Passes a b) → T → LeavesOnly a b (MayLeave (held_now a))
+pub sync_leaves : {T : Type 0} (a b : DiskView) (r : Result (Unit {0}) DiskError) → OnOk r (T → held_now b ≡ synced_file (held_now a)) → OnErr r (T → held_now b ≡ held_now a) → (T → Passes a b) → T → LeavesOnly a b (MayLeave (held_now a))
 sync_leaves a b r done kept passes t = leaves_by a b (MayLeave (held_now a)) (passes t) (λ image left. left) (λ image left. sync_may (held_now a) (held_now b) r done kept t image left)
 
 -- and then nothing changes

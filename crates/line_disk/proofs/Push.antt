@@ -33,11 +33,11 @@ passes_push held calls more c f g r s is =
     passes_by_one _ _ (omega arith) (omega arith)
     (λ k le. ap (λ cs. held_after held (take k cs)) is ∙ ap (λ cs. held_after held cs) (take-append-le k calls (c ∷ []) le))
 
-pub was_told : (failed : Bool) (r : Result (Unit {0}) DiskError) → (IsTrue failed ↔ IsErrOf r Failed) → ¬ (IsErrOf r NoMemory) → not failed ≡ is_ok r
-was_told true r is memory = sym (ap is_ok (is.0 refl))
-was_told false (Ok x) is memory = refl
-was_told false (Err Failed) is memory = absurd (false≢true (is.1 refl))
-was_told false (Err NoMemory) is memory = absurd (memory refl)
+pub done_unless_failed : (failed : Bool) (r : Result (Unit {0}) DiskError) → (IsTrue failed ↔ IsErrOf r Failed) → ¬ (IsErrOf r NoMemory) → not failed ≡ is_ok r
+done_unless_failed true r is memory = sym (ap is_ok (is.0 refl))
+done_unless_failed false (Ok x) is memory = refl
+done_unless_failed false (Err Failed) is memory = absurd (false≢true (is.1 refl))
+done_unless_failed false (Err NoMemory) is memory = absurd (memory refl)
 
 pub on_ok : {A B : Type 0} (r : Result (Unit {0}) DiskError) → OnOk r A → (A → B) → OnOk r B
 on_ok (Ok x) a f = f a

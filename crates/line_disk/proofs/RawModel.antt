@@ -6,7 +6,7 @@ use Rattle.std.proofs.Math.Seq.{take-add}
 use Rattle.std.proofs.lemmas.Bool.{cases_Bool, cases_lt, true≢false}
 use Rattle.std.proofs.lemmas.Bool.Decides.{nat_tests}
 use Rattle.std.proofs.lemmas.List.{get_or_append_left, get_or-append-add, length-append, length-take, take_all}
-use Rattle.line_disk.specs.DiskView.{Image, Held, MayLeave, DiskView, DiskRead, Passes, Torn, IsAsBefore, IsPendingWithin, held_now, is_within, patched, written, bytes_at}
+use Rattle.line_disk.specs.DiskView.{Image, Held, MayLeave, DiskView, DiskRead, Passes, Torn, IsAsBefore, IsPendingWithin, held_now, is_within, patched_image, after_write, bytes_at}
 use Rattle.line_disk.specs.RawFile.{RawView, disk_of, disk_with}
 use Rattle.line_disk.proofs.Replay.{patched-out}
 
@@ -41,8 +41,8 @@ within_first : (at n m i : ℕ) → is_within at n i ≡ true → is_within at (
 within_first at n m i is = grind (arith, nat_tests)
 
 -- a write of nothing
-pub written-none : (held : Held) (at : ℕ) → written held at [] ≡ held
-written-none held at = held_same (written held at []) held
+pub written-none : (held : Held) (at : ℕ) → after_write held at [] ≡ held
+written-none held at = held_same (after_write held at []) held
     (λ i. patched-out held.bytes at [] i (within_none at i))
     (λ i. or_left (held.pending i) (is_within at 0 i) (within_none at i))
 
@@ -53,22 +53,22 @@ within_low at n i is = grind (arith, nat_tests)
 within_high : (at n i : ℕ) → is_within at n i ≡ true → i < at + n
 within_high at n i is = grind (arith, nat_tests)
 
-patched_append : (image : Image) (at : ℕ) (xs ys : List ℕ) (i : ℕ) (first second : Bool) → is_within at (length xs) i ≡ first → is_within (at + length xs) (length ys) i ≡ second → is_within at (length (xs ++ ys)) i ≡ (first || second) → patched (patched image at xs) (at + length xs) ys i ≡ patched image at (xs ++ ys) i
+patched_append : (image : Image) (at : ℕ) (xs ys : List ℕ) (i : ℕ) (first second : Bool) → is_within at (length xs) i ≡ first → is_within (at + length xs) (length ys) i ≡ second → is_within at (length (xs ++ ys)) i ≡ (first || second) → patched_image (patched_image image at xs) (at + length xs) ys i ≡ patched_image image at (xs ++ ys) i
 patched_append image at xs ys i first true one two both =
     let low = within_low (at + length xs) (length ys) i two in
-    ap (λ b. cond b (get_or ys (i - (at + length xs)) 0) (patched image at xs i)) two
+    ap (λ b. cond b (get_or ys (i - (at + length xs)) 0) (patched_image image at xs i)) two
     ∙ sym (ap (λ b. cond b (get_or (xs ++ ys) (i - at) 0) (image i)) (both ∙ or_right first)
     ∙ ap (λ k. get_or (xs ++ ys) k 0) (let e : i - at ≡ length xs + (i - (at + length xs)) = omega arith in e)
     ∙ get_or-append-add xs ys (i - (at + length xs)) 0)
 patched_append image at xs ys i true false one two both =
     let low = within_low at (length xs) i one in
     let high = within_high at (length xs) i one in
-    ap (λ b. cond b (get_or ys (i - (at + length xs)) 0) (patched image at xs i)) two
+    ap (λ b. cond b (get_or ys (i - (at + length xs)) 0) (patched_image image at xs i)) two
     ∙ ap (λ b. cond b (get_or xs (i - at) 0) (image i)) one
     ∙ sym (ap (λ b. cond b (get_or (xs ++ ys) (i - at) 0) (image i)) both
     ∙ get_or_append_left xs ys 0 (i - at) (omega arith))
 patched_append image at xs ys i false false one two both =
-    ap (λ b. cond b (get_or ys (i - (at + length xs)) 0) (patched image at xs i)) two
+    ap (λ b. cond b (get_or ys (i - (at + length xs)) 0) (patched_image image at xs i)) two
     ∙ ap (λ b. cond b (get_or xs (i - at) 0) (image i)) one
     ∙ sym (ap (λ b. cond b (get_or (xs ++ ys) (i - at) 0) (image i)) both)
 
@@ -79,13 +79,13 @@ or_assoc : (x y z : Bool) → ((x || y) || z) ≡ (x || (y || z))
 or_assoc true y z = refl
 or_assoc false y z = refl
 
-pub written-append : (held : Held) (at : ℕ) (xs ys : List ℕ) → written (written held at xs) (at + length xs) ys ≡ written held at (xs ++ ys)
-written-append held at xs ys = held_same (written (written held at xs) (at + length xs) ys) (written held at (xs ++ ys))
+pub written-append : (held : Held) (at : ℕ) (xs ys : List ℕ) → after_write (after_write held at xs) (at + length xs) ys ≡ after_write held at (xs ++ ys)
+written-append held at xs ys = held_same (after_write (after_write held at xs) (at + length xs) ys) (after_write held at (xs ++ ys))
     (λ i. patched_append held.bytes at xs ys i (is_within at (length xs) i) (is_within (at + length xs) (length ys) i) refl refl (within_append at xs ys i))
     (λ i. or_assoc (held.pending i) (is_within at (length xs) i) (is_within (at + length xs) (length ys) i) ∙ ap (λ b. held.pending i || b) (sym (within_append at xs ys i)))
 
 -- what a write leaves, a crash may leave once it was asked
-pub may_written : (held : Held) (at : ℕ) (bytes : List ℕ) (image : Image) → MayLeave held image → MayLeave (written held at bytes) image
+pub may_written : (held : Held) (at : ℕ) (bytes : List ℕ) (image : Image) → MayLeave held image → MayLeave (after_write held at bytes) image
 may_written held at bytes image left = record {
   elsewhere = λ i out.
       let both = or_false (held.pending i) (is_within at (length bytes) i) out in
@@ -107,10 +107,10 @@ torn_none old new at n same = record {
 }
 
 -- a write that failed behind one that was done
-pub torn_behind : (old new : Held) (at : ℕ) (bytes : List ℕ) (m : ℕ) → Torn (written old at bytes) new (at + length bytes) m → Torn old new at (length bytes + m)
+pub torn_behind : (old new : Held) (at : ℕ) (bytes : List ℕ) (m : ℕ) → Torn (after_write old at bytes) new (at + length bytes) m → Torn old new at (length bytes + m)
 torn_behind old new at bytes m torn = record {
   each = λ i. ⊎_elim
-      (λ (same : IsAsBefore (written old at bytes) new i). ⊎_elim
+      (λ (same : IsAsBefore (after_write old at bytes) new i). ⊎_elim
       (λ (inside : is_within at (length bytes) i ≡ true). inr (record {
         within = within_first at (length bytes) m i inside;
         pending = same.pending ∙ ap (λ b. old.pending i || b) inside ∙ or_right (old.pending i);
@@ -169,24 +169,24 @@ bytes_at-zeros image at (suc n) none =
     ∙ ap (λ xs. 0 ∷ xs) (bytes_at-zeros image (suc at) n (λ i le. none i (omega arith)))
 
 -- after a write that is so far done up to some bytes, and takes more
-pub written_more : (held : Held) (at : ℕ) (bytes : List ℕ) (taken count : ℕ) → taken ≤ length bytes → written (written held at (take taken bytes)) (at + taken) (take count (drop taken bytes)) ≡ written held at (take (taken + count) bytes)
+pub written_more : (held : Held) (at : ℕ) (bytes : List ℕ) (taken count : ℕ) → taken ≤ length bytes → after_write (after_write held at (take taken bytes)) (at + taken) (take count (drop taken bytes)) ≡ after_write held at (take (taken + count) bytes)
 written_more held at bytes taken count within =
     let size : length (take taken bytes) ≡ taken = omega (arith, length-take taken bytes) in
-    ap (λ n. written (written held at (take taken bytes)) (at + n) (take count (drop taken bytes))) (sym size)
+    ap (λ n. after_write (after_write held at (take taken bytes)) (at + n) (take count (drop taken bytes))) (sym size)
     ∙ written-append held at (take taken bytes) (take count (drop taken bytes))
-    ∙ ap (λ xs. written held at xs) (sym (take-add taken count bytes))
+    ∙ ap (λ xs. after_write held at xs) (sym (take-add taken count bytes))
 
 -- and then fails
-pub torn_more : (held mid new : Held) (at : ℕ) (bytes : List ℕ) (taken : ℕ) → taken ≤ length bytes → mid ≡ written held at (take taken bytes) → Torn mid new (at + taken) (length bytes - taken) → Torn held new at (length bytes)
+pub torn_more : (held mid new : Held) (at : ℕ) (bytes : List ℕ) (taken : ℕ) → taken ≤ length bytes → mid ≡ after_write held at (take taken bytes) → Torn mid new (at + taken) (length bytes - taken) → Torn held new at (length bytes)
 torn_more held mid new at bytes taken within is torn =
     let size : length (take taken bytes) ≡ taken = omega (arith, length-take taken bytes) in
     let first = subst (λ h. Torn h new (at + taken) (length bytes - taken)) is torn in
-    let behind = subst (λ k. Torn (written held at (take taken bytes)) new (at + k) (length bytes - taken)) (sym size) first in
+    let behind = subst (λ k. Torn (after_write held at (take taken bytes)) new (at + k) (length bytes - taken)) (sym size) first in
     let all : length (take taken bytes) + (length bytes - taken) ≡ length bytes = omega (arith, size) in
     subst (λ n. Torn held new at n) all (torn_behind held new at (take taken bytes) (length bytes - taken) behind)
 
 -- a crash in the middle of a write leaves what it may leave after it
-pub passes_written : (a b c : DiskView) (at : ℕ) (bytes : List ℕ) → Passes a b → Passes b c → held_now c ≡ written (held_now b) at bytes → Passes a c
+pub passes_written : (a b c : DiskView) (at : ℕ) (bytes : List ℕ) → Passes a b → Passes b c → held_now c ≡ after_write (held_now b) at bytes → Passes a c
 passes_written a b c at bytes first second is = passes_through a b c first second
     (λ image left. inr (subst (λ h. MayLeave h image) (sym is) (may_written (held_now b) at bytes image left)))
 

@@ -3,7 +3,7 @@ use Rattle.std.proofs.Common.{◌≡◌, ⊎_elim, ℕ, zero, suc, ◌+◌, ◌-
 use Rattle.std.specs.Prelude.{replicate, ◌==◌}
 use Rattle.std.proofs.lemmas.Bool.{true≢false, cases_Bool}
 use Rattle.std.proofs.lemmas.List.{take_all, take_more, length-take, length-replicate}
-use Rattle.line_disk.specs.DiskView.{Image, Held, MayLeave, is_within, patched, bytes_at}
+use Rattle.line_disk.specs.DiskView.{Image, Held, MayLeave, is_within, patched_image, bytes_at}
 use Rattle.line_disk.specs.Memory.{Span, span_of, byte_from, image_from, byte_by, byte_after, after_call, held_after, copied_span, copied_of, copied_spans, settles, settled_step, settled_count, left_by, first_held}
 use Rattle.line_disk.specs.declared.patch.Patch.{Patch}
 use Rattle.line_disk.specs.declared.patch.DiskCall.{DiskCall}
@@ -13,7 +13,7 @@ use Rattle.line_disk.specs.declared.patch.Copied.TheVariants as copied
 
 pub byte_from-image_from : (image : Image) (spans : List Span) (i : ℕ) → byte_from (image i) spans i ≡ image_from image spans i
 byte_from-image_from image [] i = refl
-byte_from-image_from image (span ∷ spans) i = byte_from-image_from (patched image span.at span.bytes) spans i
+byte_from-image_from image (span ∷ spans) i = byte_from-image_from (patched_image image span.at span.bytes) spans i
 
 byte_by-after_call : (held : Held) (c : DiskCall) (i : ℕ) → byte_by (held.bytes i) c i ≡ (after_call held c).bytes i
 byte_by-after_call held call.Read i = refl
@@ -40,7 +40,7 @@ held_after-append held (c ∷ xs) ys = held_after-append (after_call held c) xs 
 
 pub image_from-append : (image : Image) (xs ys : List Span) → image_from image (xs ++ ys) ≡ image_from (image_from image xs) ys
 image_from-append image [] ys = refl
-image_from-append image (span ∷ xs) ys = image_from-append (patched image span.at span.bytes) xs ys
+image_from-append image (span ∷ xs) ys = image_from-append (patched_image image span.at span.bytes) xs ys
 
 done_call : (held : Held) (c : DiskCall) → (after_call held c).bytes ≡ image_from held.bytes (copied_of copied.Done c)
 done_call held call.Read = refl
@@ -100,7 +100,7 @@ record Quiet (held : Held) (calls : List DiskCall) (i : ℕ) : Type 0 where
   pub byte : (held_after held calls).bytes i ≡ held.bytes i
 
 -- a patch leaves the bytes outside of it
-pub patched-out : (image : Image) (at : ℕ) (bytes : List ℕ) (i : ℕ) → is_within at (length bytes) i ≡ false → patched image at bytes i ≡ image i
+pub patched-out : (image : Image) (at : ℕ) (bytes : List ℕ) (i : ℕ) → is_within at (length bytes) i ≡ false → patched_image image at bytes i ≡ image i
 patched-out image at bytes i out = ap (λ b. cond b (get_or bytes (i - at) 0) (image i)) out
 
 quiet_call : (held : Held) (c : DiskCall) (i : ℕ) → settles c ≡ false → (after_call held c).pending i ≡ false → Quiet held (c ∷ []) i

@@ -26,8 +26,8 @@ abbrev pub is_within : ℕ → ℕ → ℕ → Bool
 is_within at n i = nat_le at i && nat_lt i (at + n)
 
 -- these bytes from an address on, and the rest as before
-abbrev pub patched : Image → ℕ → List ℕ → Image
-patched image at bytes i = if is_within at (length bytes) i then slice_index bytes (i - at)
+abbrev pub patched_image : Image → ℕ → List ℕ → Image
+patched_image image at bytes i = if is_within at (length bytes) i then slice_index bytes (i - at)
     else image i
 
 -- the addresses of a write wait for a sync, with those that waited before
@@ -35,9 +35,9 @@ abbrev pub awaiting : (ℕ → Bool) → ℕ → ℕ → ℕ → Bool
 awaiting pending at n i = pending i || is_within at n i
 
 -- what a disk holds after a write
-abbrev pub written : Held → ℕ → List ℕ → Held
-written held at bytes = record {
-  bytes = patched held.bytes at bytes;
+abbrev pub after_write : Held → ℕ → List ℕ → Held
+after_write held at bytes = record {
+  bytes = patched_image held.bytes at bytes;
   pending = awaiting held.pending at (length bytes);
 }
 
@@ -56,8 +56,8 @@ pub record Torn (old new : Held) (at n : ℕ) : Type 0 where
   pub each : (i : ℕ) → IsAsBefore old new i ⊎ IsPendingWithin new at n i
 
 -- after a sync that succeeded a crash leaves what a read gives
-abbrev pub synced : Held → Held
-synced held = record { bytes = held.bytes; pending = λ _. false }
+abbrev pub synced_file : Held → Held
+synced_file held = record { bytes = held.bytes; pending = λ _. false }
 
 -- as many bytes as are asked for, from an address on
 unfoldable pub bytes_at : Image → ℕ → ℕ → List ℕ
@@ -77,8 +77,8 @@ bytes_of (Err error) = Err error
 abbrev pub disk_read : ℕ → ℕ → Result (Vec ℕ Global) DiskError → DiskRead
 disk_read at len answer = record { at = at; len = len; answer = bytes_of answer }
 
--- What a disk shows: the moment, as a number that never falls, what it holds at that and at each earlier moment, how often a
--- call has failed, and every read with its answer, the oldest first.
+-- What a disk shows: the moment, as a number that never falls, what it holds at that and at each earlier moment, how
+-- often a call has failed, and every read with its answer, the oldest first.
 pub record DiskView : Type 0 where
   pub moment : ℕ
   pub held : ℕ → Held

@@ -1,6 +1,6 @@
 -- What a disk in memory keeps, and what a crash leaves of it.
 use Rattle.std.specs.Prelude.{ℕ, zero, suc, ◌-◌, ◌==◌, List, [], ◌∷◌, ◌++◌, length, take, drop, map, slice_index, slice_index_or, replicate, Bool, true, false, if◌then◌else◌}
-use Rattle.line_disk.specs.DiskView.{Image, Held, is_within, patched, awaiting, written, synced}
+use Rattle.line_disk.specs.DiskView.{Image, Held, is_within, patched_image, awaiting, after_write, synced_file}
 use Rattle.line_disk.specs.declared.patch.Patch.{Patch}
 use Rattle.line_disk.specs.declared.patch.DiskCall.{DiskCall}
 use Rattle.line_disk.specs.declared.patch.DiskCall.TheVariants as call
@@ -28,7 +28,7 @@ byte_from byte (span ∷ spans) i = byte_from (byte_over span i byte) spans i
 -- an image, with spans put over it one after another
 abbrev pub image_from : Image → List Span → Image
 image_from image [] = image
-image_from image (span ∷ spans) = image_from (patched image span.at span.bytes) spans
+image_from image (span ∷ spans) = image_from (patched_image image span.at span.bytes) spans
 
 -- the byte at an address after one more call, and after more of them
 abbrev pub byte_by : ℕ → DiskCall → ℕ → ℕ
@@ -44,10 +44,10 @@ byte_after byte (call ∷ calls) i = byte_after (byte_by byte call i) calls i
 -- What a disk holds after one more call. A write that failed changes nothing for reads.
 abbrev pub after_call : Held → DiskCall → Held
 after_call held call.Read = held
-after_call held (call.Write patch true) = written held patch.at patch.bytes.items
+after_call held (call.Write patch true) = after_write held patch.at patch.bytes.items
 after_call held (call.Write patch false) =
     record held { pending = awaiting held.pending patch.at (length patch.bytes.items) }
-after_call held (call.Sync true) = synced held
+after_call held (call.Sync true) = synced_file held
 after_call held (call.Sync false) = held
 
 -- what it holds after these calls

@@ -5,10 +5,10 @@ use Rattle.line_disk.specs.DiskView.{Held, DiskView, DiskRead}
 use Rattle.line_disk.specs.declared.opening.Opening.{Opening}
 use Rattle.line_disk.specs.declared.opening.Opening.TheVariants.{Opened, Absent, Refused}
 
--- One call. The file is opened, and made where that is asked for and it isn't there: it was, it isn't there, or the machine
--- refused. Bytes are read from an address on: how many were asked for, and those that were given, or none where the machine refused. Bytes
--- are written from an address on: how many of them, from the first on, the machine took, or none where it refused. What was
--- written is synced: whether the machine did so.
+-- One call. The file is opened, and made where that is asked for and it isn't there: it was, it isn't there, or the
+-- machine refused. Bytes are read from an address on: how many were asked for, and those that were given, or none where
+-- the machine refused. Bytes are written from an address on: how many of them, from the first on, the machine took, or
+-- none where it refused. What was written is synced: whether the machine did so.
 pub data RawCall : Type 0 where
   Opens : (makes : Bool) → (answer : Opening) → RawCall
   Reads : (at n : ℕ) → (answer : Option (List ℕ)) → RawCall
@@ -27,8 +27,8 @@ write_call at bytes (Err error) = Writes at bytes None
 abbrev pub sync_call : {E : Type 0} → Result (Unit {0}) E → RawCall
 sync_call answer = Syncs (is_ok answer)
 
--- What a file shows: whether it is open; every call with its answer, the oldest first; the moment, and what it holds at that
--- and at each earlier moment, which count only where contents are known.
+-- What a file shows: whether it is open; every call with its answer, the oldest first; the moment, and what it holds at
+-- that and at each earlier moment, which count only where contents are known.
 pub record RawView : Type 0 where
   pub is_open : Bool
   pub asked : List RawCall
@@ -47,8 +47,8 @@ disk_of file = record { moment = file.moment; held = file.held; faults = 0; read
 abbrev pub disk_with : RawView → ℕ → List DiskRead → DiskView
 disk_with file faults reads = record (disk_of file) { faults = faults; reads = reads }
 
--- These calls read n bytes from an address on, each what the one before left, until all are there or the file ends; the last
--- one was refused where `whole` is false.
+-- These calls read n bytes from an address on, each what the one before left, until all are there or the file ends; the
+-- last one was refused where `whole` is false.
 abbrev pub ReadsOn : ℕ → ℕ → List RawCall → Bool → Type 0
 ReadsOn at n [] whole = (n ≡ 0) × (whole ≡ true)
 ReadsOn at n (Reads from asked None ∷ calls) whole =
@@ -69,8 +69,8 @@ given_by (call ∷ calls) = given_by calls
 abbrev pub zeros_behind : ℕ → List ℕ → List ℕ
 zeros_behind n bytes = bytes ++ replicate (n - length bytes) 0
 
--- These calls write bytes from an address on, each what the one before left, until all were taken; the last one was refused,
--- or took none, where `whole` is false.
+-- These calls write bytes from an address on, each what the one before left, until all were taken; the last one was
+-- refused, or took none, where `whole` is false.
 abbrev pub WritesOn : ℕ → List ℕ → List RawCall → Bool → Type 0
 WritesOn at bytes [] whole = (bytes ≡ []) × (whole ≡ true)
 WritesOn at bytes (Writes from given answer ∷ calls) whole =
@@ -79,8 +79,8 @@ WritesOn at bytes (Writes from given answer ∷ calls) whole =
     × (0 < count_of answer → WritesOn (at + count_of answer) (drop (count_of answer) bytes) calls whole)
 WritesOn at bytes (call ∷ calls) whole = ⊥
 
--- What a read asks of the machine: nothing after a write or a sync that failed; to open the file, where it isn't open, which
--- reads as zeros where it isn't there; and then its bytes.
+-- What a read asks of the machine: nothing after a write or a sync that failed; to open the file, where it isn't open,
+-- which reads as zeros where it isn't there; and then its bytes.
 abbrev pub AsksToRead : (broken is_open : Bool) → (at n : ℕ) → List RawCall → (whole : Bool) → Type 0
 AsksToRead true is_open at n calls whole = (calls ≡ []) × (whole ≡ false)
 AsksToRead false true at n calls whole = ReadsOn at n calls whole
@@ -109,6 +109,6 @@ abbrev pub Asks : List RawCall → List RawCall → (List RawCall → Type 0) �
 Asks old new Are = (calls : List RawCall) × (new ≡ old ++ calls) × Are calls
 
 -- what a read gave of a buffer, or none where it was refused
-abbrev pub given : {E : Type 0} → Result ℕ E → List ℕ → Option (List ℕ)
-given (Ok n) bytes = Some (take n bytes)
-given (Err error) bytes = None
+abbrev pub read_bytes : {E : Type 0} → Result ℕ E → List ℕ → Option (List ℕ)
+read_bytes (Ok n) bytes = Some (take n bytes)
+read_bytes (Err error) bytes = None

@@ -1,5 +1,5 @@
 ghost use Rattle.std.specs.Prelude.{◌≡◌, ◌+◌, ◌≤◌, ◌++◌, ◌∷◌, [], ℕ, Bool, length, IsTrue, IfOk, OnOk, OnErr, IsErrOf};
-ghost use Rattle.line_disk.specs.DiskView.{DiskView, Passes, Torn, disk_read, held_now, written, synced, bytes_at};
+ghost use Rattle.line_disk.specs.DiskView.{DiskView, Passes, Torn, disk_read, held_now, after_write, synced_file, bytes_at};
 ghost use Rattle.line_disk.specs.declared.disk.DiskError.{DiskError};
 ghost use Rattle.line_io.specs.Faults.{Rose, RoseByOne};
 
@@ -42,7 +42,8 @@ pub trait Disk {
     /// Whether what the disk holds is known. Over a real file it isn't, and clauses on contents then say nothing.
     ghost tells: { Bool };
 
-    /// What the disk holds now and held at each moment before, how often calls have failed, and every read with its answer.
+    /// What the disk holds now and held at each moment before, how often calls have failed, and every read with its
+    /// answer.
     ghost shown: { Self → DiskView };
 
     /// As many bytes as are asked for, from an address on. A byte that was never written is 0.
@@ -69,7 +70,7 @@ pub trait Disk {
         requires inside { at + length bytes.now ≤ DISK_END }
         ensures reads_stay { (shown self.new).reads ≡ (shown self.old).reads }
         ensures written { OnOk result (IsTrue tells
-            → held_now (shown self.new) ≡ written (held_now (shown self.old)) at bytes.now) }
+            → held_now (shown self.new) ≡ after_write (held_now (shown self.old)) at bytes.now) }
         ensures torn { IsErrOf result DiskError.Failed → IsTrue tells
             → Torn (held_now (shown self.old)) (held_now (shown self.new)) at (length bytes.now) }
         ensures no_memory { IsErrOf result DiskError.NoMemory → IsTrue tells
@@ -88,7 +89,7 @@ pub trait Disk {
     fn sync(&mut self) -> Result<(), DiskError>
         ensures reads_stay { (shown self.new).reads ≡ (shown self.old).reads }
         ensures synced { OnOk result (IsTrue tells
-            → held_now (shown self.new) ≡ synced (held_now (shown self.old))) }
+            → held_now (shown self.new) ≡ synced_file (held_now (shown self.old))) }
         ensures stays { OnErr result
             (IsTrue tells → held_now (shown self.new) ≡ held_now (shown self.old)) }
         ensures time { IsTrue tells → Passes (shown self.old) (shown self.new) }

@@ -1,7 +1,7 @@
 ghost use Rattle.std.specs.Prelude.{◌≡◌, ◌+◌, ◌-◌, ◌<◌, ◌≤◌, ◌++◌, ◌∷◌, [], ℕ, Option, length, take, drop, replicate, true, false, is_ok, IsTrue, IfOk, IfErr, OnOk, OnErr, IsErrOf};
 ghost use Rattle.line_disk.specs.Counted.{CountsFault};
-ghost use Rattle.line_disk.specs.DiskView.{Passes, Torn, written, synced, bytes_at};
-ghost use Rattle.line_disk.specs.RawFile.{Reads, Writes, Syncs, Asks, ReadsOn, WritesOn, AsksToRead, AsksToWrite, AsksToSync, zeros_behind, given_by, given, raw_now, disk_of};
+ghost use Rattle.line_disk.specs.DiskView.{Passes, Torn, after_write, synced_file, bytes_at};
+ghost use Rattle.line_disk.specs.RawFile.{Reads, Writes, Syncs, Asks, ReadsOn, WritesOn, AsksToRead, AsksToWrite, AsksToSync, zeros_behind, given_by, read_bytes, raw_now, disk_of};
 ghost use Rattle.line_disk.specs.Reads.{reads_of};
 ghost use Rattle.line_io.specs.Faults.{Rose, RoseByOne};
 ghost use Rattle.line_io.specs.RawOut.{count_of};
@@ -14,9 +14,9 @@ use std::alloc::Global;
 use std::os::unix::fs::FileExt;
 use std::rt::Files;
 
-/// A file as a disk, opened at its first call. While it isn't there a read gives zeros, and the first write or sync makes it.
-/// After a write or a sync that failed it refuses every later call: what the machine still answers then says nothing of what
-/// it has on the disk.
+/// A file as a disk, opened at its first call. While it isn't there a read gives zeros, and the first write or sync
+/// makes it. After a write or a sync that failed it refuses every later call: what the machine still answers then says
+/// nothing of what it has on the disk.
 #[derive(Drop)]
 pub struct FileDisk<F: RawFile + Drop> {
     file: F,
@@ -73,7 +73,7 @@ where
     }
 }
 
-/// Reads once behind the first bytes of a buffer, and answers how many bytes there are more.
+/// Reads once behind the first `from` bytes of a buffer, and answers how many bytes there are more.
 fn read_once<F: RawFile>(
     file: &mut F,
     at: u64,
@@ -84,7 +84,7 @@ fn read_once<F: RawFile>(
     requires within { from ≤ length bytes.old }
     requires inside { at + length bytes.old ≤ DISK_END }
     ensures recorded { (F.shown file.new).asked ≡ (F.shown file.old).asked
-        ++ Reads (at + from) (length bytes.old - from) (given result (drop from bytes.new)) ∷ [] }
+        ++ Reads (at + from) (length bytes.old - from) (read_bytes result (drop from bytes.new)) ∷ [] }
     ensures open_stays { (F.shown file.new).is_open ≡ true }
     ensures kept { take from bytes.new ≡ take from bytes.old }
     ensures size { length bytes.new ≡ length bytes.old }
@@ -102,7 +102,7 @@ fn read_once<F: RawFile>(
     }
 }
 
-/// Puts zeros behind the first bytes of a buffer.
+/// Puts zeros behind the first `from` bytes of a buffer.
 fn clear_behind(bytes: &mut [u8], from: usize)
     requires { from ≤ length bytes.old }
     ensures { bytes.new ≡ take from bytes.old ++ replicate (length bytes.old - from) 0 }
@@ -138,7 +138,7 @@ fn fill<F: RawFile>(file: &mut F, at: u64, bytes: &mut [u8]) -> Result<(), Refus
     Ok(())
 }
 
-/// Writes the bytes behind the first ones, once, and answers how many the machine took: none where it refused.
+/// Writes the bytes behind the first `from`, once, and answers how many the machine took: none where it refused.
 fn write_once<F: RawFile>(file: &mut F, at: u64, bytes: &[u8], from: usize) -> usize
     requires open { (F.shown file.old).is_open ≡ true }
     requires within { from ≤ length bytes.now }
@@ -148,7 +148,7 @@ fn write_once<F: RawFile>(file: &mut F, at: u64, bytes: &[u8], from: usize) -> u
     ensures open_stays { (F.shown file.new).is_open ≡ true }
     ensures bound { result ≤ length bytes.now - from }
     ensures written { 0 < result → IsTrue F.tells → raw_now (F.shown file.new)
-        ≡ written (raw_now (F.shown file.old)) (at + from) (take result (drop from bytes.now)) }
+        ≡ after_write (raw_now (F.shown file.old)) (at + from) (take result (drop from bytes.now)) }
     ensures torn { result ≡ 0 → IsTrue F.tells → Torn (raw_now (F.shown file.old)) (raw_now (F.shown file.new))
         (at + from) (length bytes.now - from) }
     ensures time { IsTrue F.tells → Passes (disk_of (F.shown file.old)) (disk_of (F.shown file.new)) }
@@ -164,7 +164,7 @@ fn put<F: RawFile>(file: &mut F, at: u64, bytes: &[u8]) -> Result<(), Refused>
         (λ calls. WritesOn at bytes.now calls (is_ok result)) }
     ensures open_stays { (F.shown file.new).is_open ≡ true }
     ensures written { OnOk result (IsTrue F.tells
-        → raw_now (F.shown file.new) ≡ written (raw_now (F.shown file.old)) at bytes.now) }
+        → raw_now (F.shown file.new) ≡ after_write (raw_now (F.shown file.old)) at bytes.now) }
     ensures torn { OnErr result (IsTrue F.tells
         → Torn (raw_now (F.shown file.old)) (raw_now (F.shown file.new)) at (length bytes.now)) }
     ensures time { IsTrue F.tells → Passes (disk_of (F.shown file.old)) (disk_of (F.shown file.new)) }
@@ -217,7 +217,7 @@ fn write_file<F: RawFile>(file: &mut F, broken: bool, at: u64, bytes: &[u8]) -> 
     ensures asks { Asks (F.shown file.old).asked (F.shown file.new).asked
         (λ calls. AsksToWrite broken (F.shown file.old).is_open at bytes.now calls (is_ok result)) }
     ensures written { OnOk result (IsTrue F.tells
-        → raw_now (F.shown file.new) ≡ written (raw_now (F.shown file.old)) at bytes.now) }
+        → raw_now (F.shown file.new) ≡ after_write (raw_now (F.shown file.old)) at bytes.now) }
     ensures torn { OnErr result (IsTrue F.tells
         → Torn (raw_now (F.shown file.old)) (raw_now (F.shown file.new)) at (length bytes.now)) }
     ensures time { IsTrue F.tells → Passes (disk_of (F.shown file.old)) (disk_of (F.shown file.new)) }
@@ -239,7 +239,7 @@ fn sync_open<F: RawFile>(file: &mut F) -> Result<(), Refused>
     requires open { (F.shown file.old).is_open ≡ true }
     ensures recorded { (F.shown file.new).asked ≡ (F.shown file.old).asked ++ Syncs (is_ok result) ∷ [] }
     ensures synced { OnOk result (IsTrue F.tells
-        → raw_now (F.shown file.new) ≡ synced (raw_now (F.shown file.old))) }
+        → raw_now (F.shown file.new) ≡ synced_file (raw_now (F.shown file.old))) }
     ensures stays { OnErr result (IsTrue F.tells → raw_now (F.shown file.new) ≡ raw_now (F.shown file.old)) }
     ensures time { IsTrue F.tells → Passes (disk_of (F.shown file.old)) (disk_of (F.shown file.new)) }
 {
@@ -254,7 +254,7 @@ fn sync_file<F: RawFile>(file: &mut F, broken: bool) -> Result<(), Refused>
     ensures asks { Asks (F.shown file.old).asked (F.shown file.new).asked
         (λ calls. AsksToSync broken (F.shown file.old).is_open calls (is_ok result)) }
     ensures synced { OnOk result (IsTrue F.tells
-        → raw_now (F.shown file.new) ≡ synced (raw_now (F.shown file.old))) }
+        → raw_now (F.shown file.new) ≡ synced_file (raw_now (F.shown file.old))) }
     ensures stays { OnErr result (IsTrue F.tells → raw_now (F.shown file.new) ≡ raw_now (F.shown file.old)) }
     ensures time { IsTrue F.tells → Passes (disk_of (F.shown file.old)) (disk_of (F.shown file.new)) }
 {
@@ -271,7 +271,7 @@ fn sync_file<F: RawFile>(file: &mut F, broken: bool) -> Result<(), Refused>
 }
 
 /// The answer of a call, where a call that is refused is a fault that is counted.
-fn counted(answer: Result<(), Refused>, faults: &mut u64) -> Result<(), DiskError>
+fn count_fault(answer: Result<(), Refused>, faults: &mut u64) -> Result<(), DiskError>
     ensures same { is_ok result ≡ is_ok answer }
     ensures failed { IfErr result (λ error. error ≡ DiskError.Failed) }
     ensures stays { OnOk result (faults.new ≡ faults.old) }
@@ -312,7 +312,7 @@ fn read_counted<F: RawFile>(
     ensures faults { CountsFault faults.old faults.new result }
 {
     let mut bytes = vec![in alloc; 0; len as usize]?;
-    counted(read_file(file, broken, at, &mut bytes), faults)?;
+    count_fault(read_file(file, broken, at, &mut bytes), faults)?;
     Ok(bytes)
 }
 
@@ -366,7 +366,7 @@ impl<F: RawFile + Drop> Disk for FileDisk<F> {
         ensures reads_stay { reads_of self.new.reads ≡ reads_of self.old.reads }
         ensures never_no_memory { ¬ (IsErrOf result DiskError.NoMemory) }
         ensures written { OnOk result (IsTrue F.tells
-            → raw_now (F.shown self.new.file) ≡ written (raw_now (F.shown self.old.file)) at bytes.now) }
+            → raw_now (F.shown self.new.file) ≡ after_write (raw_now (F.shown self.old.file)) at bytes.now) }
         ensures torn { IsErrOf result DiskError.Failed → IsTrue F.tells
             → Torn (raw_now (F.shown self.old.file)) (raw_now (F.shown self.new.file)) at (length bytes.now) }
         ensures time { IsTrue F.tells → Passes
@@ -380,7 +380,7 @@ impl<F: RawFile + Drop> Disk for FileDisk<F> {
     {
         let answer = write_file(&mut self.file, self.broken, at, bytes);
         self.broken = answer.is_err();
-        counted(answer, &mut self.faults)
+        count_fault(answer, &mut self.faults)
     }
 
     fn sync(&mut self) -> Result<(), DiskError>
@@ -390,7 +390,7 @@ impl<F: RawFile + Drop> Disk for FileDisk<F> {
         ensures reads_stay { reads_of self.new.reads ≡ reads_of self.old.reads }
         ensures never_no_memory { ¬ (IsErrOf result DiskError.NoMemory) }
         ensures synced { OnOk result (IsTrue F.tells
-            → raw_now (F.shown self.new.file) ≡ synced (raw_now (F.shown self.old.file))) }
+            → raw_now (F.shown self.new.file) ≡ synced_file (raw_now (F.shown self.old.file))) }
         ensures stays { OnErr result (IsTrue F.tells
             → raw_now (F.shown self.new.file) ≡ raw_now (F.shown self.old.file)) }
         ensures time { IsTrue F.tells → Passes
@@ -404,6 +404,6 @@ impl<F: RawFile + Drop> Disk for FileDisk<F> {
     {
         let answer = sync_file(&mut self.file, self.broken);
         self.broken = answer.is_err();
-        counted(answer, &mut self.faults)
+        count_fault(answer, &mut self.faults)
     }
 }

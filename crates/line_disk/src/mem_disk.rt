@@ -131,7 +131,7 @@ impl MemDisk {
         ensures failing_stays { self.new.failing.items ≡ self.old.failing.items }
         ensures counted { ¬ (IsErrOf result DiskError.NoMemory) → Counts self.old self.new call }
         ensures not_counted { IsErrOf result DiskError.NoMemory → CountsNone self.old self.new }
-        ensures tells { ¬ (IsErrOf result DiskError.NoMemory) → not failed ≡ is_ok result }
+        ensures done_unless_failed { ¬ (IsErrOf result DiskError.NoMemory) → not failed ≡ is_ok result }
         ensures held { ¬ (IsErrOf result DiskError.NoMemory)
             → held_now (mem_view self.new) ≡ after_call (held_now (mem_view self.old)) call }
         ensures no_memory { IsErrOf result DiskError.NoMemory
@@ -162,7 +162,8 @@ fn copy_left(
     }
 }
 
-/// What a crash leaves after these calls: what was there at first, what a sync made stable, and what is left of the rest.
+/// What a crash leaves after these calls: what was there at first, what a sync made stable, and what is left of the
+/// rest.
 fn patches_left(
     alloc: Global,
     first: &[Patch],
@@ -197,7 +198,7 @@ fn answer(faults: &mut u64, failed: bool) -> Result<(), DiskError>
 
 impl Disk for MemDisk {
     ghost use Rattle.std.specs.Prelude.{true, IsErr, ◌∷◌};
-    ghost use Rattle.line_disk.specs.DiskView.{Passes, Torn, disk_read, held_now, written, synced, bytes_at};
+    ghost use Rattle.line_disk.specs.DiskView.{Passes, Torn, disk_read, held_now, after_write, synced_file, bytes_at};
     ghost use Rattle.line_disk.specs.MemDisk.{mem_view, IsDue, Counts, CountsWrite, CountsNone};
 
     ghost tells = { true };
@@ -238,7 +239,7 @@ impl Disk for MemDisk {
             → CountsWrite self.old self.new at bytes.now (is_ok result) }
         ensures not_counted { IsErrOf result DiskError.NoMemory → CountsNone self.old self.new }
         ensures written { OnOk result (held_now (mem_view self.new)
-            ≡ written (held_now (mem_view self.old)) at bytes.now) }
+            ≡ after_write (held_now (mem_view self.old)) at bytes.now) }
         ensures torn { IsErrOf result DiskError.Failed
             → Torn (held_now (mem_view self.old)) (held_now (mem_view self.new)) at
             (length bytes.now) }
@@ -269,7 +270,7 @@ impl Disk for MemDisk {
             → Counts self.old self.new (DiskCall.Sync (is_ok result)) }
         ensures not_counted { IsErrOf result DiskError.NoMemory → CountsNone self.old self.new }
         ensures synced { OnOk result
-            (held_now (mem_view self.new) ≡ synced (held_now (mem_view self.old))) }
+            (held_now (mem_view self.new) ≡ synced_file (held_now (mem_view self.old))) }
         ensures stays { OnErr result (held_now (mem_view self.new) ≡ held_now (mem_view self.old)) }
         ensures time { Passes (mem_view self.old) (mem_view self.new) }
         ensures cause { IsErrOf result DiskError.Failed → Rose self.old.faults self.new.faults }

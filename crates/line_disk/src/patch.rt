@@ -38,9 +38,9 @@ impl Patch {
         if address < self.at {
             return before;
         }
-        let place = address - self.at;
-        if place < self.bytes.len() as u64 {
-            self.bytes[place as usize]
+        let offset = address - self.at;
+        if offset < self.bytes.len() as u64 {
+            self.bytes[offset as usize]
         } else {
             before
         }

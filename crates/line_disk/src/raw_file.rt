@@ -1,6 +1,6 @@
 ghost use Rattle.std.specs.Prelude.{◌≡◌, ◌≢◌, ◌≤◌, ◌<◌, ◌++◌, ◌∷◌, [], ℕ, Bool, true, length, take, is_some, IsTrue, IfOk, OnOk, OnErr};
 ghost use Rattle.line_disk.specs.declared.opening.Opening.TheVariants.{Opened, Absent};
-ghost use Rattle.line_disk.specs.DiskView.{Passes, Torn, written, synced, bytes_at};
+ghost use Rattle.line_disk.specs.DiskView.{Passes, Torn, after_write, synced_file, bytes_at};
 ghost use Rattle.line_disk.specs.RawFile.{RawView, raw_now, Opens, disk_of, read_call, write_call, sync_call};
 
 use crate::opening::Opening;
@@ -10,12 +10,13 @@ use std::io;
 use std::os::unix::fs::FileExt;
 use std::rt::Files;
 
-/// The file that a disk over the machine is, in the folder in which the program runs.
-const FILE: &str = "pull.slots";
+/// The name of the file that is the machine's disk, in the folder in which the program runs.
+const FILE_NAME: &str = "pull.slots";
 
 /// One file as the machine has it, one call of the machine a method.
 pub trait RawFile {
-    /// Whether what the file holds is known. Of a file of the machine it isn't, and clauses on contents then say nothing.
+    /// Whether what the file holds is known. Of a file of the machine it isn't, and clauses on contents then say
+    /// nothing.
     ghost tells: { Bool };
 
     /// Whether the file is open, every call with its answer, and what it holds now and held at each moment before.
@@ -47,15 +48,15 @@ pub trait RawFile {
         ensures stays { IsTrue tells → raw_now (shown self.new) ≡ raw_now (shown self.old) }
         ensures time { IsTrue tells → Passes (disk_of (shown self.old)) (disk_of (shown self.new)) };
 
-    /// Writes bytes from an address on, and answers how many of them, from the first on, were taken. Until a sync succeeds
-    /// a crash may leave any bytes there.
+    /// Writes bytes from an address on, and answers how many of them, from the first on, were taken. Until a sync
+    /// succeeds a crash may leave any bytes there.
     fn write_at(&mut self, at: u64, bytes: &[u8]) -> io::Result<usize>
         requires open { (shown self.old).is_open ≡ true }
         ensures recorded { (shown self.new).asked ≡ (shown self.old).asked ++ write_call at bytes.now result ∷ [] }
         ensures open_stays { (shown self.new).is_open ≡ true }
         ensures bound { IfOk result (λ n. n ≤ length bytes.now) }
         ensures written { IfOk result (λ n. IsTrue tells
-            → raw_now (shown self.new) ≡ written (raw_now (shown self.old)) at (take n bytes.now)) }
+            → raw_now (shown self.new) ≡ after_write (raw_now (shown self.old)) at (take n bytes.now)) }
         ensures torn { OnErr result (IsTrue tells
             → Torn (raw_now (shown self.old)) (raw_now (shown self.new)) at (length bytes.now)) }
         ensures time { IsTrue tells → Passes (disk_of (shown self.old)) (disk_of (shown self.new)) };
@@ -66,7 +67,7 @@ pub trait RawFile {
         ensures recorded { (shown self.new).asked ≡ (shown self.old).asked ++ sync_call result ∷ [] }
         ensures open_stays { (shown self.new).is_open ≡ true }
         ensures synced { OnOk result (IsTrue tells
-            → raw_now (shown self.new) ≡ synced (raw_now (shown self.old))) }
+            → raw_now (shown self.new) ≡ synced_file (raw_now (shown self.old))) }
         ensures stays { OnErr result (IsTrue tells → raw_now (shown self.new) ≡ raw_now (shown self.old)) }
         ensures time { IsTrue tells → Passes (disk_of (shown self.old)) (disk_of (shown self.new)) };
 }
@@ -103,11 +104,11 @@ fn open_file<R: Files>(rt: &R, makes: bool) -> io::Result<R::File> {
         .read(true)
         .write(true)
         .create(makes)
-        .open(rt, FILE)
+        .open(rt, FILE_NAME)
 }
 
-/// The file that is open.
-fn opened<F>(file: &Option<F>) -> &F
+/// The handle of the file, which is open.
+fn handle_of<F>(file: &Option<F>) -> &F
     requires { is_some file.now ≡ true }
 {
     file.as_ref().unwrap()
@@ -141,17 +142,17 @@ where
     }
 
     fn read_at(&mut self, at: u64, bytes: &mut [u8]) -> io::Result<usize> {
-        let answer = opened(&self.file).read_at(bytes, at);
+        let answer = handle_of(&self.file).read_at(bytes, at);
         self.calls.note_read(at, bytes, answer)
     }
 
     fn write_at(&mut self, at: u64, bytes: &[u8]) -> io::Result<usize> {
-        let answer = opened(&self.file).write_at(bytes, at);
+        let answer = handle_of(&self.file).write_at(bytes, at);
         self.calls.note_write(at, bytes, answer)
     }
 
     fn sync(&mut self) -> io::Result<()> {
-        let answer = opened(&self.file).sync_all();
+        let answer = handle_of(&self.file).sync_all();
         self.calls.note_sync(answer)
     }
 }

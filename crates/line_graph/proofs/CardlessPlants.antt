@@ -10,9 +10,9 @@ use Rattle.line_base.specs.declared.times.Times.{Times}
 use Rattle.line_base.specs.declared.times.Times.TheVariants.{Fixed}
 use Rattle.plant_model.specs.Stages.{Machine, Stage}
 use Rattle.plant_model.specs.declared.plant.Plant.{Plant}
-use Rattle.plant_model.specs.Line.{no_stage, stage_at, stage_numbers, stations_of, release, deliver, next, receiver, feeds, is_first, first_stages, path_within, path}
+use Rattle.plant_model.specs.Line.{no_stage, no_loop, loop_at, stage_at, stage_numbers, stations_of, release, deliver, next, receiver, feeds, is_first, first_stages, path_within, path}
 use Rattle.plant_model.specs.Graph.{stage_labels, labels, stage_times, times}
-use Rattle.line_graph.specs.MoreCards.{stage_without_cards, loop_without_cards, without_cards, DifferInCards, no_loop, loop_at}
+use Rattle.line_graph.specs.MoreCards.{stage_without_cards, loop_without_cards, without_cards, DifferInCards}
 use Rattle.line_graph.proofs.RowPairs.{HaveOneShape}
 
 -- ---- what cards and stock do not touch

@@ -1,4 +1,5 @@
--- The stations of a plant, one after the other: what holds of the feed, of each release and machine, and of the delivery.
+-- The stations of a plant, one after the other: what holds of the feed, of each release and machine, and of the
+-- delivery.
 use Rattle.std.proofs.Common.{◌≡◌, ℕ, zero, suc, ◌+◌, ◌-◌, ◌<◌, ◌≤◌, length, sym, subst, inl, inr, arith}
 use Rattle.std.proofs.lemmas.Bool.{cases_lt}
 use Rattle.plant_model.specs.declared.plant.Plant.{Plant}

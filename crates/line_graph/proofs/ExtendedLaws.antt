@@ -9,7 +9,7 @@ use Rattle.plant_model.specs.declared.plant.Policy.{Policy}
 use Rattle.plant_model.specs.declared.plant.Policy.TheVariants.{Kanban, BaseStock, Extended}
 use Rattle.plant_model.specs.declared.plant.Plant.{Plant}
 use Rattle.plant_model.specs.Line.{stage_at, release, deliver, receiver, stock_under, starting}
-use Rattle.plant_model.specs.Graph.{plain, feed_row, card_row, demand_row, rows, times, labels, graph}
+use Rattle.plant_model.specs.Graph.{plain_row, feed_row, card_row, demand_row, rows, times, labels, graph}
 use Rattle.plant_model.specs.Sound.{IsSound}
 use Rattle.event_graph.specs.Network.{stations, jobs, demand}
 use Rattle.event_graph.specs.Table.{Table}
@@ -79,7 +79,7 @@ same_least policy p to back =
     )
 
 -- a plain arc without a token asks for the date at its start and its delay
-asked-plain : (ts : List Times) (x : Table) (s t late n : ℕ) → 1 ≤ n → asked ts x (plain s t 0 late).arc late n ≡ x s n + late
+asked-plain : (ts : List Times) (x : Table) (s t late n : ℕ) → 1 ≤ n → asked ts x (plain_row s t 0 late).arc late n ≡ x s n + late
 unfolding asked
 asked-plain ts x s t late n some =
     let dated = ap (λ (b : Bool). 0 + cond b (x s (n - 0) + late) 0) (lt-ltb 0 n some) in
@@ -87,7 +87,7 @@ asked-plain ts x s t late n some =
     dated ∙ zero-add (x s (n - 0) + late) ∙ ap (λ (m : ℕ). x s m + late) e
 
 -- a plain arc with a token for each job asks for nothing
-asked-full : (ts : List Times) (x : Table) (s t free late n : ℕ) → n ≤ free → asked ts x (plain s t free late).arc late n ≡ 0
+asked-full : (ts : List Times) (x : Table) (s t free late n : ℕ) → n ≤ free → asked ts x (plain_row s t free late).arc late n ≡ 0
 unfolding asked
 asked-full ts x s t free late n covered =
     ap (λ (b : Bool). 0 + cond b (x s (n - free) + late) 0) (le-ltb free n covered)

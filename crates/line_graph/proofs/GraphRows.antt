@@ -7,7 +7,7 @@ use Rattle.plant_model.specs.declared.plant.Policy.TheVariants.{Kanban, Conwip, 
 use Rattle.plant_model.specs.declared.plant.CardLoop.{CardLoop}
 use Rattle.plant_model.specs.declared.plant.Plant.{Plant}
 use Rattle.plant_model.specs.Line.{stage_at, machine_at, stage_numbers, machine_numbers, release, machine_station, starting, is_first}
-use Rattle.plant_model.specs.Graph.{Row, worked, plain, onward, machine_rows, stage_rows, feed_row, card_row, demand_row, line_card_row, loop_row, policy_rows, loop_rows, rows}
+use Rattle.plant_model.specs.Graph.{Row, worked_row, plain_row, onward, machine_rows, stage_rows, feed_row, card_row, demand_row, line_card_row, loop_row, policy_rows, loop_rows, rows}
 use Rattle.line_base.proofs.RangeLists.{All-map-range, All-map-filter, All-flat_map-range}
 use Rattle.line_graph.proofs.PolicyRows.{policy_rows-kanban, policy_rows-base_stock, policy_rows-extended, policy_rows-conwip}
 
@@ -40,9 +40,9 @@ All-three P a b c h_a h_b h_c = All-cons P a (b ∷ c ∷ []) h_a (All-cons P b 
 
 -- P holds of each row of a stage, and of its machines
 pub record EachStageRow (P : Row → Type 0) (p : Plant) (i : ℕ) : Type 0 where
-  pub entry : P (worked (release p i) (machine_station p i 0) 0)
-  pub servers : (j : ℕ) → j < length (stage_at p i).machines → P (worked (machine_station p i j) (machine_station p i j) (machine_at p i j).servers)
-  pub order : (j : ℕ) → j < length (stage_at p i).machines → P (plain (machine_station p i j) (machine_station p i j) 1 0)
+  pub entry : P (worked_row (release p i) (machine_station p i 0) 0)
+  pub servers : (j : ℕ) → j < length (stage_at p i).machines → P (worked_row (machine_station p i j) (machine_station p i j) (machine_at p i j).servers)
+  pub order : (j : ℕ) → j < length (stage_at p i).machines → P (plain_row (machine_station p i j) (machine_station p i j) 1 0)
   pub onward : (j : ℕ) → j < length (stage_at p i).machines → P (onward p i j)
 
 pub All-stage_rows : (P : Row → Type 0) (p : Plant) (i : ℕ) → EachStageRow P p i → All P (stage_rows p i)

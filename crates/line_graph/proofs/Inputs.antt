@@ -13,7 +13,7 @@ use Rattle.plant_model.specs.declared.plant.Policy.TheVariants.{Kanban, Conwip, 
 use Rattle.plant_model.specs.Stages.{Stage}
 use Rattle.plant_model.specs.declared.plant.Plant.{Plant}
 use Rattle.plant_model.specs.Line.{no_stage, stage_at, machine_at, stage_numbers, machine_numbers, release, machine_station, deliver, station_count, receiver, starting, feeds, is_first}
-use Rattle.plant_model.specs.Graph.{Row, worked, plain, onward, machine_rows, stage_rows, feed_row, card_row, demand_row, line_card_row, policy_rows, loop_rows, rows, graph}
+use Rattle.plant_model.specs.Graph.{Row, worked_row, plain_row, onward, machine_rows, stage_rows, feed_row, card_row, demand_row, line_card_row, policy_rows, loop_rows, rows, graph}
 use Rattle.plant_model.specs.Sound.{IsSound}
 use Rattle.event_graph.specs.Network.{arc_count, arc, IsGraph}
 use Rattle.plant_model.proofs.SoundPlants.{IsSoundStage-sound}
@@ -50,8 +50,8 @@ in_policy p r h =
 -- each machine has an arc from itself
 machine-input : (p : Plant) (i j : ℕ) → i < length p.stages → j < length (stage_at p i).machines → HasInput p (machine_station p i j)
 machine-input p i j below inside =
-    let self = worked (machine_station p i j) (machine_station p i j) (machine_at p i j).servers in
-    (self, in_machines p i j self below inside (Contains-head self (plain (machine_station p i j) (machine_station p i j) 1 0 ∷ onward p i j ∷ [])), refl)
+    let self = worked_row (machine_station p i j) (machine_station p i j) (machine_at p i j).servers in
+    (self, in_machines p i j self below inside (Contains-head self (plain_row (machine_station p i j) (machine_station p i j) 1 0 ∷ onward p i j ∷ [])), refl)
 
 -- the demands come to the delivery
 deliver-input : (p : Plant) → HasInput p (deliver p)
@@ -60,8 +60,8 @@ deliver-input p = (feed_row p, in_feed p, refl)
 -- the last machine of a stage goes on to what the stage feeds
 onward-last : (p : Plant) (i j : ℕ) → j + 1 ≡ length (stage_at p i).machines → (onward p i j).arc.to ≡ receiver p i
 onward-last p i j is =
-    let here = plain (machine_station p i j) (receiver p i) (starting p i) (stage_at p i).travel in
-    let there = worked (machine_station p i j) (machine_station p i (j + 1)) 0 in
+    let here = plain_row (machine_station p i j) (receiver p i) (starting p i) (stage_at p i).travel in
+    let there = worked_row (machine_station p i j) (machine_station p i (j + 1)) 0 in
     ap (λ (t : Bool). (cond t here there).arc.to) (eq-eqb (j + 1) (length (stage_at p i).machines) is)
 
 receiver-input : (p : Plant) (i : ℕ) → IsSound p → i < length p.stages → HasInput p (receiver p i)

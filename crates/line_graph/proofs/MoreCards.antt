@@ -1,4 +1,5 @@
--- More tokens, never later, on plants: the graphs of plants that differ in cards and stock alone differ in tokens alone.
+-- More tokens, never later, on plants: the graphs of plants that differ in cards and stock alone differ in tokens
+-- alone.
 use Rattle.std.proofs.Common.{◌≡◌, ℕ, ◌+◌, ◌-◌, ◌<◌, ◌≤◌, Bool, true, false, cond, eqb, List, length, get_or, map, inl, inr, refl, sym, ap, ◌∙◌, subst, arith}
 use Rattle.std.specs.List.{AllZip, sum_by}
 use Rattle.std.proofs.lemmas.Bool.{cases_lt}
@@ -10,13 +11,13 @@ use Rattle.plant_model.specs.declared.plant.Policy.TheVariants.{Kanban, Conwip, 
 use Rattle.plant_model.specs.Stages.{Machine, Stage}
 use Rattle.plant_model.specs.declared.plant.CardLoop.{CardLoop}
 use Rattle.plant_model.specs.declared.plant.Plant.{Plant}
-use Rattle.plant_model.specs.Line.{no_stage, stage_at, no_machine, release, machine_station, receiver, stock_under, starting, line_cards, path, path_stock, up_to, stock_between}
-use Rattle.plant_model.specs.Graph.{Row, worked, plain, onward, feed_row, loop_row, rows, labels, graph}
+use Rattle.plant_model.specs.Line.{no_stage, loop_at, stage_at, no_machine, release, machine_station, receiver, stock_under, starting, line_cards, path, path_stock, up_to, stock_between}
+use Rattle.plant_model.specs.Graph.{Row, worked_row, plain_row, onward, feed_row, loop_row, rows, labels, graph}
 use Rattle.plant_model.specs.Sound.{IsSound}
 use Rattle.event_graph.specs.Live.{IsLive}
 use Rattle.live_check.specs.MoreTokens.{KeepsArc, HasMoreTokens, IsNeverLater}
 use Rattle.live_check.proofs.NeverLater.{never_later}
-use Rattle.line_graph.specs.MoreCards.{policy_without_cards, DifferInCards, HasMoreOnEachArc, HasMoreCards, loop_at}
+use Rattle.line_graph.specs.MoreCards.{policy_without_cards, DifferInCards, HasMoreOnEachArc, HasMoreCards}
 use Rattle.line_graph.proofs.RowPairs.{rows-pairs, AllZip-from_get_or, AllZip-mapped, map-pairs}
 use Rattle.line_graph.proofs.CardlessPlants.{labels-same, times-same, demands-same, card_time-same, release-same, deliver-same, receiver-same, stages-same, stage-same, loop-same, machines-same, path-same, one_shape}
 use Rattle.line_graph.proofs.Sizes.{sum_by-same, arc_count-graph, times-graph}
@@ -31,10 +32,10 @@ record IsSameRow (r s : Row) : Type 0 where
   worked : r.arc.worked ≡ s.arc.worked
   delay : r.delay ≡ s.delay
 
-worked-row : (s t s' t' n n' : ℕ) → s ≡ s' → t ≡ t' → IsSameRow (worked s t n) (worked s' t' n')
+worked-row : (s t s' t' n n' : ℕ) → s ≡ s' → t ≡ t' → IsSameRow (worked_row s t n) (worked_row s' t' n')
 worked-row s t s' t' n n' from to = record { from = from; to = to; worked = refl; delay = refl }
 
-plain-row : (s t s' t' n n' late late' : ℕ) → s ≡ s' → t ≡ t' → late ≡ late' → IsSameRow (plain s t n late) (plain s' t' n' late')
+plain-row : (s t s' t' n n' late late' : ℕ) → s ≡ s' → t ≡ t' → late ≡ late' → IsSameRow (plain_row s t n late) (plain_row s' t' n' late')
 plain-row s t s' t' n n' late late' from to delay = record { from = from; to = to; worked = refl; delay = delay }
 
 -- a choice by the same test
@@ -47,10 +48,10 @@ module _ (p q : Plant) (differ : DifferInCards p q) where
   station-same i j = ap (λ (n : ℕ). n + 1 + j) (release-same p q differ i)
 
   -- the rows onward of a machine, where both cases of them are related
-  onward-pair : (R : Row → Row → Type 0) (i j : ℕ) → R (plain (machine_station p i j) (receiver p i) (starting p i) (stage_at p i).travel) (plain (machine_station q i j) (receiver q i) (starting q i) (stage_at q i).travel) → R (worked (machine_station p i j) (machine_station p i (j + 1)) 0) (worked (machine_station q i j) (machine_station q i (j + 1)) 0) → R (onward p i j) (onward q i j)
+  onward-pair : (R : Row → Row → Type 0) (i j : ℕ) → R (plain_row (machine_station p i j) (receiver p i) (starting p i) (stage_at p i).travel) (plain_row (machine_station q i j) (receiver q i) (starting q i) (stage_at q i).travel) → R (worked_row (machine_station p i j) (machine_station p i (j + 1)) 0) (worked_row (machine_station q i j) (machine_station q i (j + 1)) 0) → R (onward p i j) (onward q i j)
   onward-pair R i j last inner =
-      let here = plain (machine_station q i j) (receiver q i) (starting q i) (stage_at q i).travel in
-      let there = worked (machine_station q i j) (machine_station q i (j + 1)) 0 in
+      let here = plain_row (machine_station q i j) (receiver q i) (starting q i) (stage_at q i).travel in
+      let there = worked_row (machine_station q i j) (machine_station q i (j + 1)) 0 in
       subst (λ (ms : List Machine). R (onward p i j) (cond (eqb (j + 1) (length ms)) here there)) (machines-same p q differ i) (chosen R (eqb (j + 1) (length (stage_at p i).machines)) _ _ here there last inner)
 
   same_rows : AllZip IsSameRow (rows p) (rows q)

@@ -8,10 +8,11 @@ use Rattle.line_base.specs.declared.event.Arc.{Arc}
 use Rattle.line_base.specs.declared.times.Times.TheVariants.{Fixed}
 use Rattle.plant_model.specs.declared.plant.Plant.{Plant}
 use Rattle.plant_model.specs.Line.{no_stage, stage_at, machine_at, stations_of, release, machine_station, deliver, station_count}
-use Rattle.plant_model.specs.Graph.{Row, worked, plain, onward, rows, stage_times, times, graph}
+use Rattle.plant_model.specs.Graph.{Row, worked_row, plain_row, onward, rows, stage_times, times, graph}
 use Rattle.plant_model.proofs.LayoutStations.{release-below}
+use Rattle.event_graph.specs.Varying.{IsList}
 use Rattle.event_graph.specs.Network.{arc}
-use Rattle.live_check.specs.MoreTokens.{IsList, HasOwnToken, ListsKeepOrder}
+use Rattle.live_check.specs.MoreTokens.{HasOwnToken, ListsKeepOrder}
 use Rattle.line_base.proofs.RangeLists.{Contains-head, Contains-tail}
 use Rattle.line_graph.proofs.Sizes.{stations-graph, arc_count-graph, length-times_of, times-graph}
 use Rattle.line_graph.proofs.Inputs.{in_machines, arc-graph}
@@ -19,9 +20,9 @@ use Rattle.line_graph.proofs.EachStation.{each_station}
 
 -- ---- each machine has an arc to itself with one token
 
-row-own : (p : Plant) (t : ℕ) → Contains (rows p) (plain t t 1 0) → HasOwnToken (graph p) t
+row-own : (p : Plant) (t : ℕ) → Contains (rows p) (plain_row t t 1 0) → HasOwnToken (graph p) t
 row-own p t h =
-    let r = plain t t 1 0 in
+    let r = plain_row t t 1 0 in
     let is : arc (graph p) h.0 ≡ r.arc = arc-graph p h.0 r h.1 ∙ ap (λ (s : Row). s.arc) h.2 in
     record {
       own = h.0;
@@ -34,8 +35,8 @@ row-own p t h =
 machine-own : (p : Plant) (i j : ℕ) → i < length p.stages → j < length (stage_at p i).machines → HasOwnToken (graph p) (machine_station p i j)
 machine-own p i j below inside =
     let m = machine_station p i j in
-    let self = worked m m (machine_at p i j).servers in
-    let one = plain m m 1 0 in
+    let self = worked_row m m (machine_at p i j).servers in
+    let one = plain_row m m 1 0 in
     row-own p m (in_machines p i j one below inside (Contains-tail self (one ∷ onward p i j ∷ []) one (Contains-head one (onward p i j ∷ []))))
 
 -- ---- releases, the feed and the delivery have no list of times

@@ -5,9 +5,9 @@ use Rattle.std.proofs.lemmas.List.Elements.{All-head, All-tail, All-filter}
 use Rattle.plant_model.specs.declared.plant.Policy.{Policy}
 use Rattle.plant_model.specs.declared.plant.Policy.TheVariants.{Kanban, Conwip, BaseStock, Extended}
 use Rattle.plant_model.specs.declared.plant.Plant.{Plant}
-use Rattle.plant_model.specs.Line.{stage_at, machine_at, stage_numbers, machine_numbers, release, machine_station, starting, is_first, first_stages}
-use Rattle.plant_model.specs.Graph.{Row, worked, plain, onward, machine_rows, stage_rows, feed_row, card_row, demand_row, line_card_row, loop_row, policy_rows, loop_rows, rows}
-use Rattle.line_graph.specs.MoreCards.{policy_without_cards, loop_at}
+use Rattle.plant_model.specs.Line.{stage_at, loop_at, machine_at, stage_numbers, machine_numbers, release, machine_station, starting, is_first, first_stages}
+use Rattle.plant_model.specs.Graph.{Row, worked_row, plain_row, onward, machine_rows, stage_rows, feed_row, card_row, demand_row, line_card_row, loop_row, policy_rows, loop_rows, rows}
+use Rattle.line_graph.specs.MoreCards.{policy_without_cards}
 use Rattle.line_base.proofs.RangeLists.{All-range}
 use Rattle.line_graph.proofs.PolicyRows.{policy_rows-kanban, policy_rows-base_stock, policy_rows-extended, policy_rows-conwip}
 
@@ -67,9 +67,9 @@ extended_rows_of p i = demand_row p i ∷ card_row p ((stage_at p i).cards - sta
 
 -- R holds of each pair of rows
 pub record EachPair (R : Row → Row → Type 0) (p q : Plant) : Type 0 where
-  pub entry : (i : ℕ) → i < length p.stages → R (worked (release p i) (machine_station p i 0) 0) (worked (release q i) (machine_station q i 0) 0)
-  pub servers : (i j : ℕ) → i < length p.stages → R (worked (machine_station p i j) (machine_station p i j) (machine_at p i j).servers) (worked (machine_station q i j) (machine_station q i j) (machine_at q i j).servers)
-  pub order : (i j : ℕ) → i < length p.stages → R (plain (machine_station p i j) (machine_station p i j) 1 0) (plain (machine_station q i j) (machine_station q i j) 1 0)
+  pub entry : (i : ℕ) → i < length p.stages → R (worked_row (release p i) (machine_station p i 0) 0) (worked_row (release q i) (machine_station q i 0) 0)
+  pub servers : (i j : ℕ) → i < length p.stages → R (worked_row (machine_station p i j) (machine_station p i j) (machine_at p i j).servers) (worked_row (machine_station q i j) (machine_station q i j) (machine_at q i j).servers)
+  pub order : (i j : ℕ) → i < length p.stages → R (plain_row (machine_station p i j) (machine_station p i j) 1 0) (plain_row (machine_station q i j) (machine_station q i j) 1 0)
   pub onward : (i j : ℕ) → i < length p.stages → R (onward p i j) (onward q i j)
   pub feed : R (feed_row p) (feed_row q)
   pub demand : (i : ℕ) → i < length p.stages → R (demand_row p i) (demand_row q i)

@@ -1,4 +1,5 @@
--- Two plants that differ in their policy alone share all rows but the policy's, where their starting stocks are the same.
+-- Two plants that differ in their policy alone share all rows but the policy's, where their starting stocks are the
+-- same.
 use Rattle.std.proofs.Common.{◌≡◌, ℕ, zero, suc, Option, None, Some, ◌+◌, ◌-◌, ◌<◌, cond, eqb, List, [], ◌∷◌, ◌++◌, length, get_or, refl, sym, ap, ◌∙◌, subst, arith}
 use Rattle.std.specs.List.{All, Contains, flat_map, sum_by}
 use Rattle.std.specs.Option.{option_map_or}
@@ -10,7 +11,7 @@ use Rattle.plant_model.specs.declared.plant.Policy.TheVariants.{Kanban, BaseStoc
 use Rattle.plant_model.specs.declared.plant.CardLoop.{CardLoop}
 use Rattle.plant_model.specs.declared.plant.Plant.{Plant}
 use Rattle.plant_model.specs.Line.{next, path_within, stage_at, stage_numbers, machine_numbers, release, machine_station, receiver, starting, path, up_to, stock_between}
-use Rattle.plant_model.specs.Graph.{Row, worked, plain, onward, machine_rows, stage_rows, feed_row, card_row, demand_row, loop_row, policy_rows, loop_rows, rows}
+use Rattle.plant_model.specs.Graph.{Row, worked_row, plain_row, onward, machine_rows, stage_rows, feed_row, card_row, demand_row, loop_row, policy_rows, loop_rows, rows}
 use Rattle.plant_model.specs.Sound.{IsSound}
 use Rattle.plant_model.proofs.SoundPlants.{IsSoundLoop-sound}
 use Rattle.plant_model.proofs.LayoutPaths.{path-stages, All-up_to}
@@ -99,14 +100,14 @@ shared p policy P alike hold all each =
         servers = λ j inside. have _ (in_machines p i j _ below inside (0, omega arith, refl));
         order = λ j inside. have _ (in_machines p i j _ below inside (1, omega arith, refl));
         onward = λ j inside.
-            let same = ap (λ (s : ℕ). cond (eqb (j + 1) (length (stage_at p i).machines)) (plain (machine_station p i j) (receiver p i) s (stage_at p i).travel) (worked (machine_station p i j) (machine_station p i (j + 1)) 0)) (alike i below) in
+            let same = ap (λ (s : ℕ). cond (eqb (j + 1) (length (stage_at p i).machines)) (plain_row (machine_station p i j) (receiver p i) s (stage_at p i).travel) (worked_row (machine_station p i j) (machine_station p i (j + 1)) 0)) (alike i below) in
             subst P same (have (onward p i j) (in_machines p i j (onward p i j) below inside (2, omega arith, refl)));
       };
       feed = have (feed_row p) (in_feed p);
       policy = each;
       loops = λ k d below.
           let l = get_or p.loops k d in
-          let same = ap (λ (s : ℕ). plain (receiver p l.last) (release p l.first) (l.cards - s) l.card_time) (hold k d below) in
+          let same = ap (λ (s : ℕ). plain_row (receiver p l.last) (release p l.first) (l.cards - s) l.card_time) (hold k d below) in
           subst P same (have (loop_row p l) (in_loops p k d below));
     })
 

@@ -5,7 +5,7 @@ use Rattle.line_base.specs.declared.limits.TheConstants.{MAX_CARDS, MAX_TIME}
 use Rattle.plant_model.specs.declared.plant.CardLoop.{CardLoop}
 use Rattle.plant_model.specs.declared.plant.Plant.{Plant}
 use Rattle.plant_model.specs.Line.{stage_at, machine_station, station_count, receiver, starting}
-use Rattle.plant_model.specs.Graph.{Row, worked, plain, onward, card_row, demand_row, line_card_row, loop_row, feed_row, rows}
+use Rattle.plant_model.specs.Graph.{Row, worked_row, plain_row, onward, card_row, demand_row, line_card_row, loop_row, feed_row, rows}
 use Rattle.plant_model.specs.Sound.{IsSound}
 use Rattle.std.specs.List.{All}
 use Rattle.plant_model.proofs.SoundPlants.{HasSoundSizes-sound, IsSoundStage-sound, IsSoundMachine-sound, IsSoundLoop-sound}
@@ -76,7 +76,7 @@ module _ (p : Plant) (sound : IsSound p) where
       let stage = IsSoundStage-sound p i sound below in
       let up = receiver-above p i sound below in
       let last = last_machine-below p i below in
-      cond_both (eqb (j + 1) m) (plain (machine_station p i j) (receiver p i) (starting p i) (stage_at p i).travel) (worked (machine_station p i j) (machine_station p i (j + 1)) 0) (IsSmallRow p)
+      cond_both (eqb (j + 1) m) (plain_row (machine_station p i j) (receiver p i) (starting p i) (stage_at p i).travel) (worked_row (machine_station p i j) (machine_station p i (j + 1)) 0) (IsSmallRow p)
       (λ is. record {
         from = omega arith;
         to = omega (arith, up.1);

@@ -7,8 +7,7 @@ use Rattle.plant_model.specs.declared.plant.Policy.TheVariants.{Kanban, Conwip, 
 use Rattle.plant_model.specs.Stages.{Stage}
 use Rattle.plant_model.specs.declared.plant.CardLoop.{CardLoop}
 use Rattle.plant_model.specs.declared.plant.Plant.{Plant}
-use Rattle.plant_model.specs.Line.{stage_at, line_cards}
-pub use Rattle.plant_model.specs.Line.{no_loop, loop_at}
+use Rattle.plant_model.specs.Line.{stage_at, line_cards, loop_at}
 use Rattle.plant_model.specs.Graph.{graph}
 use Rattle.event_graph.specs.Network.{arc, arc_count}
 use Rattle.event_graph.specs.Live.{IsLive}

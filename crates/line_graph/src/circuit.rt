@@ -14,7 +14,7 @@ pub fn circuit_stations(alloc: Global, graph: &Graph, arcs: &[u32]) -> Result<Ve
     ensures exist { IfOk result (λ list. All (λ t. t < stations graph.now) list.items) }
 {
     let mut stations = stations_along(alloc, graph, arcs)?;
-    let least = place_of_least(stations.as_slice());
+    let least = index_of_least(stations.as_slice());
     stations.rotate_left(least);
     Ok(stations)
 }
@@ -32,16 +32,16 @@ fn stations_along(alloc: Global, graph: &Graph, arcs: &[u32]) -> Result<Vec<u32>
     Ok(stations)
 }
 
-/// Where the least of some numbers stands, and 0 where there is none.
-fn place_of_least(numbers: &[u32]) -> usize
+/// The index of the first least number, and 0 where there is none.
+fn index_of_least(numbers: &[u32]) -> usize
     ensures within { result ≤ length numbers.now }
     ensures inside { 0 < length numbers.now → result < length numbers.now }
     ensures least { All (λ n. slice_index numbers.now result ≤ n) numbers.now }
 {
     let mut least = 0;
-    for (place, number) in numbers.iter().enumerate() {
+    for (index, number) in numbers.iter().enumerate() {
         if *number < numbers[least] {
-            least = place;
+            least = index;
         }
     }
     least

@@ -8,8 +8,8 @@ use event_graph::Graph;
 use line_base::{Items, Label};
 use std::alloc::{AllocError, Global};
 
-/// The labels of the stations along this circuit without a token, in the order of its arcs, from the station with the least
-/// number on.
+/// The labels of the stations along this circuit without a token, in the order of its arcs, from the station with the
+/// least number on.
 pub fn dead_labels(alloc: Global, graph: &Graph, arcs: &[u32]) -> Result<Items<Label>, AllocError>
     requires { IsDeadCircuit graph.now arcs.now }
     ensures dead { IfOk result (AreDead graph.now) }

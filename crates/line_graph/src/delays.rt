@@ -17,14 +17,14 @@ pub(crate) fn policy_delays(
 {
     match plant.policy {
         Policy::Kanban => card_times(alloc, plant.stages.as_slice()),
-        Policy::Conwip(_) => repeated(alloc, plant.card_time, arcs),
-        Policy::BaseStock => repeated(alloc, 0, arcs),
+        Policy::Conwip(_) => repeat_delay(alloc, plant.card_time, arcs),
+        Policy::BaseStock => repeat_delay(alloc, 0, arcs),
         Policy::Extended => demand_and_card_times(alloc, plant.stages.as_slice()),
     }
 }
 
 /// The same delay this many times.
-fn repeated(alloc: Global, delay: u64, count: usize) -> Result<Vec<u64>, AllocError>
+fn repeat_delay(alloc: Global, delay: u64, count: usize) -> Result<Vec<u64>, AllocError>
     ensures { IfOk result (λ delays. delays.items ≡ replicate count delay) }
 {
     vec![in alloc; delay; count]

@@ -12,9 +12,9 @@ use line_base::{Items, Parts};
 use plant_model::Plant;
 use std::alloc::{AllocError, Global};
 
-/// The event graph of a plant. Its stations are the feed, each stage's release and machines, and the delivery; its arcs are
-/// those of the stages in order, the demands of the delivery, the rows of the policy, and those of the loops (Baccelli,
-/// Cohen, Olsder, Quadrat, Synchronization and Linearity; Dallery and Liberopoulos 2000 for the policies).
+/// The event graph of a plant. Its stations are the feed, each stage's release and machines, and the delivery; its arcs
+/// are those of the stages in order, the demands of the delivery, the rows of the policy, and those of the loops
+/// (Baccelli, Cohen, Olsder, Quadrat, Synchronization and Linearity; Dallery and Liberopoulos 2000 for the policies).
 pub fn graph_of(alloc: Global, plant: &Plant) -> Result<Graph, AllocError>
     requires { IsSound plant.now }
     ensures graph { IfOk result (λ g. g ≡ graph plant.now) }

@@ -1,4 +1,4 @@
-ghost use Rattle.std.specs.Prelude.{◌≡◌, ◌∷◌, [], ◌++◌, IfOk, OnOk, IsTrue, map, codes};
+ghost use Rattle.std.specs.Prelude.{◌≡◌, ◌∷◌, [], ◌++◌, IfOk, OnOk, IsTrue, codes};
 ghost use Rattle.line_base.specs.Text.{is_label};
 ghost use Rattle.line_graph.specs.Labels.{AreLabels};
 ghost use Rattle.plant_model.specs.Graph.{labels, stage_labels};

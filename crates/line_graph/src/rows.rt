@@ -1,6 +1,6 @@
 ghost use Rattle.std.specs.List.{flat_map};
 ghost use Rattle.std.specs.Prelude.{◌≡◌, ◌∷◌, [], ◌<◌, ◌++◌, length, IfOk, OnOk};
-ghost use Rattle.plant_model.specs.Graph.{arcs_of, delays_of, worked, plain, onward, machine_rows, stage_rows, feed_row, policy_rows, rows};
+ghost use Rattle.plant_model.specs.Graph.{arcs_of, delays_of, worked_row, plain_row, onward, machine_rows, stage_rows, feed_row, policy_rows, rows};
 ghost use Rattle.plant_model.specs.Line.{stage_at, stage_numbers};
 ghost use Rattle.plant_model.specs.Sound.{IsSound};
 
@@ -38,7 +38,8 @@ impl Rows {
     }
 }
 
-/// The rows of the graph: those of the stages in order, the demands of the delivery, those of the policy, those of the loops.
+/// The rows of the graph: those of the stages in order, the demands of the delivery, those of the policy, those of the
+/// loops.
 pub(crate) fn line_rows(alloc: Global, plant: &Plant) -> Result<Rows, AllocError>
     requires { IsSound plant.now }
     ensures arcs { IfOk result (λ all. all.arcs.items ≡ arcs_of (rows plant.now)) }
@@ -85,85 +86,85 @@ fn rows_of_stages(alloc: Global, layout: &Layout) -> Result<Rows, AllocError>
     for number in 0..layout.stages() {
         add_stage_rows(layout, number, &mut all)?;
     }
-    all.push(plain(FEED, layout.deliver(), 0), 0)?;
+    all.push(plain_arc(FEED, layout.deliver(), 0), 0)?;
     Ok(all)
 }
 
 /// Adds the rows of a stage: from its release to its first machine, then those of its machines.
-fn add_stage_rows(layout: &Layout, number: u32, all: &mut Rows) -> Result<(), AllocError>
+fn add_stage_rows(layout: &Layout, stage: u32, all: &mut Rows) -> Result<(), AllocError>
     requires sound { IsSound layout.now }
-    requires exists { number < length layout.now.stages }
+    requires exists { stage < length layout.now.stages }
     ensures arcs { OnOk result (all.new.arcs.items ≡
-        all.old.arcs.items ++ arcs_of (stage_rows layout.now number)) }
+        all.old.arcs.items ++ arcs_of (stage_rows layout.now stage)) }
     ensures delays { OnOk result (all.new.delays.items ≡
-        all.old.delays.items ++ delays_of (stage_rows layout.now number)) }
+        all.old.delays.items ++ delays_of (stage_rows layout.now stage)) }
 {
     all.push(
-        worked(layout.release(number), layout.machine(number, 0), 0),
+        worked_arc(layout.release(stage), layout.machine(stage, 0), 0),
         0,
     )?;
-    for place in 0..layout.stage(number).machines.len() {
-        add_machine_rows(layout, number, place as u32, all)?;
+    for number in 0..layout.stage(stage).machines.len() {
+        add_machine_rows(layout, stage, number as u32, all)?;
     }
     Ok(())
 }
 
-/// Adds the rows of a machine: with a token a server, with one token that keeps the parts in order, and from it on. Only the
-/// last machine's parts take time on their way.
+/// Adds the rows of a machine: with a token a server, with one token that keeps the parts in order, and from it on.
+/// Only the last machine's parts take time on their way.
 fn add_machine_rows(
     layout: &Layout,
+    stage: u32,
     number: u32,
-    place: u32,
     all: &mut Rows,
 ) -> Result<(), AllocError>
-    requires exists { number < length layout.now.stages }
-    requires machine { place < length (stage_at layout.now number).machines }
+    requires exists { stage < length layout.now.stages }
+    requires machine { number < length (stage_at layout.now stage).machines }
     ensures arcs { OnOk result (all.new.arcs.items ≡
-        all.old.arcs.items ++ arcs_of (machine_rows layout.now number place)) }
+        all.old.arcs.items ++ arcs_of (machine_rows layout.now stage number)) }
     ensures delays { OnOk result (all.new.delays.items ≡
-        all.old.delays.items ++ delays_of (machine_rows layout.now number place)) }
+        all.old.delays.items ++ delays_of (machine_rows layout.now stage number)) }
 {
-    let here = layout.machine(number, place);
-    let machine = &layout.stage(number).machines.as_slice()[place as usize];
-    all.push(worked(here, here, machine.servers), 0)?;
-    all.push(plain(here, here, 1), 0)?;
+    let here = layout.machine(stage, number);
+    let machine = &layout.stage(stage).machines.as_slice()[number as usize];
+    all.push(worked_arc(here, here, machine.servers), 0)?;
+    all.push(plain_arc(here, here, 1), 0)?;
     all.push(
-        onward_arc(layout, number, place),
-        onward_delay(layout, number, place),
+        onward_arc(layout, stage, number),
+        onward_delay(layout, stage, number),
     )
 }
 
 /// The arc from a machine on: to the next machine of the stage, or from the last one, over the starting stock, to what
 /// takes the stage's parts.
-fn onward_arc(layout: &Layout, number: u32, place: u32) -> Arc
-    requires exists { number < length layout.now.stages }
-    requires machine { place < length (stage_at layout.now number).machines }
-    ensures { result ≡ (onward layout.now number place).arc }
+fn onward_arc(layout: &Layout, stage: u32, number: u32) -> Arc
+    requires exists { stage < length layout.now.stages }
+    requires machine { number < length (stage_at layout.now stage).machines }
+    ensures { result ≡ (onward layout.now stage number).arc }
 {
-    let here = layout.machine(number, place);
-    if place as usize + 1 == layout.stage(number).machines.len() {
-        plain(here, layout.receiver(number), layout.starting(number))
+    let here = layout.machine(stage, number);
+    if number as usize + 1 == layout.stage(stage).machines.len() {
+        plain_arc(here, layout.receiver(stage), layout.starting(stage))
     } else {
-        worked(here, layout.machine(number, place + 1), 0)
+        worked_arc(here, layout.machine(stage, number + 1), 0)
     }
 }
 
 /// The delay on the arc from a machine on: the travel of the stage's parts from the last one, else none.
-fn onward_delay(layout: &Layout, number: u32, place: u32) -> u64
-    requires exists { number < length layout.now.stages }
-    ensures { result ≡ (onward layout.now number place).delay }
+fn onward_delay(layout: &Layout, stage: u32, number: u32) -> u64
+    requires exists { stage < length layout.now.stages }
+    ensures { result ≡ (onward layout.now stage number).delay }
 {
-    let stage = layout.stage(number);
-    if place as usize + 1 == stage.machines.len() {
-        stage.travel
+    let feeder = layout.stage(stage);
+    if number as usize + 1 == feeder.machines.len() {
+        feeder.travel
     } else {
         0
     }
 }
 
 /// An arc on which the job time of the station at its end is added.
-fn worked(from: u32, to: u32, tokens: u32) -> Arc
-    ensures { result ≡ (worked from to tokens).arc }
+fn worked_arc(from: u32, to: u32, tokens: u32) -> Arc
+    ensures { result ≡ (worked_row from to tokens).arc }
 {
     Arc {
         from,
@@ -174,8 +175,8 @@ fn worked(from: u32, to: u32, tokens: u32) -> Arc
 }
 
 /// An arc on which no job time is added.
-fn plain(from: u32, to: u32, tokens: u32) -> Arc
-    ensures { result ≡ (plain from to tokens 0).arc }
+fn plain_arc(from: u32, to: u32, tokens: u32) -> Arc
+    ensures { result ≡ (plain_row from to tokens 0).arc }
 {
     Arc {
         from,

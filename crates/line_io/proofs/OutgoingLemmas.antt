@@ -7,7 +7,7 @@ use Rattle.std.proofs.lemmas.List.Concat.{flat_map-append}
 use Rattle.std.proofs.lemmas.List.FromFn.{map-range_with_len_more}
 use Rattle.line_io.specs.SinkView.{SinkView, PutsAll, PutsPrefix, WritesText}
 use Rattle.line_io.specs.Faults.{Rose}
-use Rattle.line_io.specs.Outgoing.{Pending, Stream, Pushed, stream, emptied}
+use Rattle.line_io.specs.Outgoing.{Pending, Stream, Pushed, stream, nothing_waiting}
 use Rattle.line_io.proofs.WrittenLemmas.{puts_none, puts_all_after}
 
 -- a count that rose stays risen
@@ -186,6 +186,6 @@ pushed_element f xs i d below before now =
     rw more (before ⨟ now)
 
 -- a text is written, where nothing waited before it and all that waits is sent after it
-pub text_written : {T E : Type 0} {out : Pending} {old : SinkView} {b : Stream} {text : List ℕ} (new : SinkView) (r : Result T E) → out ≡ emptied false → Pushed (stream old out) b text → Pushed b (stream new (emptied (is_err r))) [] → WritesText old new text r
+pub text_written : {T E : Type 0} {out : Pending} {old : SinkView} {b : Stream} {text : List ℕ} (new : SinkView) (r : Result T E) → out ≡ nothing_waiting false → Pushed (stream old out) b text → Pushed b (stream new (nothing_waiting (is_err r))) [] → WritesText old new text r
 text_written new r empty pushed sent =
     writes_text new r (ap (λ (o : Pending). o.bytes) empty) (ap (λ (o : Pending). o.failed) empty) pushed sent

@@ -4,7 +4,7 @@ use Rattle.std.specs.Prelude.{Option, Some, None, Result, Ok, Err, is_ok}
 use Rattle.std.proofs.lemmas.Bool.{false≢true, true≢false}
 use Rattle.std.proofs.lemmas.List.{length-drop, length-append, drop-drop, drop_all}
 use Rattle.line_io.specs.RawOut.{count_of}
-use Rattle.line_io.specs.RawFiles.{FilesCall, Opens, Reads, Looks, Creates, CreatesSpare, Writes, Syncs, Renames, Removes, FilesView, Asks, Then, ReadsOn, WritesOn, given, given_by}
+use Rattle.line_io.specs.RawFiles.{FilesCall, Opens, Reads, Looks, Creates, CreatesSpare, Writes, Syncs, Renames, Removes, FilesView, Asks, Then, ReadsOn, WritesOn, read_bytes, given_by}
 use Rattle.line_io.specs.declared.store.StoreError.{StoreError}
 use Rattle.line_io.specs.declared.store.StoreError.TheVariants as store_error
 
@@ -59,7 +59,7 @@ given_by-push (Reads asked (Some first) ∷ calls) most bytes =
 given_by-push (Looks name answer ∷ calls) most bytes = given_by-push calls most bytes
 given_by-push (Creates name answer ∷ calls) most bytes = given_by-push calls most bytes
 given_by-push (CreatesSpare spare answer ∷ calls) most bytes = given_by-push calls most bytes
-given_by-push (Writes given answer ∷ calls) most bytes = given_by-push calls most bytes
+given_by-push (Writes read_bytes answer ∷ calls) most bytes = given_by-push calls most bytes
 given_by-push (Syncs answer ∷ calls) most bytes = given_by-push calls most bytes
 given_by-push (Renames spare name answer ∷ calls) most bytes = given_by-push calls most bytes
 given_by-push (Removes spare answer ∷ calls) most bytes = given_by-push calls most bytes
@@ -77,7 +77,7 @@ given_by-refused (Reads asked (Some first) ∷ calls) most =
 given_by-refused (Looks name answer ∷ calls) most = given_by-refused calls most
 given_by-refused (Creates name answer ∷ calls) most = given_by-refused calls most
 given_by-refused (CreatesSpare spare answer ∷ calls) most = given_by-refused calls most
-given_by-refused (Writes given answer ∷ calls) most = given_by-refused calls most
+given_by-refused (Writes read_bytes answer ∷ calls) most = given_by-refused calls most
 given_by-refused (Syncs answer ∷ calls) most = given_by-refused calls most
 given_by-refused (Renames spare name answer ∷ calls) most = given_by-refused calls most
 given_by-refused (Removes spare answer ∷ calls) most = given_by-refused calls most
@@ -160,10 +160,10 @@ puts_refused bytes taken count old mid new before once less none =
     (before.0 ++ call ∷ [], one_more old.asked mid.asked new.asked before.0 call before.1 once.1, writes_refused bytes taken before.0 once.0 before.2 less (once.2 ∙ none))
 
 -- what a read gave, by its answer
-pub given-ok : {E : Type 0} (answer : Result ℕ E) (n : ℕ) (bytes : List ℕ) → answer ≡ Ok n → given answer bytes ≡ Some (take n bytes)
-given-ok answer n bytes is = ap (λ r. given r bytes) is
+pub given-ok : {E : Type 0} (answer : Result ℕ E) (n : ℕ) (bytes : List ℕ) → answer ≡ Ok n → read_bytes answer bytes ≡ Some (take n bytes)
+given-ok answer n bytes is = ap (λ r. read_bytes r bytes) is
 
-pub given-err : {E : Type 0} (answer : Result ℕ E) (bytes : List ℕ) → false ≡ is_ok answer → given answer bytes ≡ None
+pub given-err : {E : Type 0} (answer : Result ℕ E) (bytes : List ℕ) → false ≡ is_ok answer → read_bytes answer bytes ≡ None
 given-err (Ok n) bytes is = absurd (false≢true is)
 given-err (Err error) bytes is = refl
 

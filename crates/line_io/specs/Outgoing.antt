@@ -23,8 +23,8 @@ abbrev pub waiting : List ℕ → Bool → Pending
 waiting bytes failed = record { bytes = bytes; failed = failed }
 
 -- nothing waits, and the sink has failed or not
-abbrev pub emptied : Bool → Pending
-emptied failed = waiting [] failed
+abbrev pub nothing_waiting : Bool → Pending
+nothing_waiting failed = waiting [] failed
 
 -- the end of a line: two numbers in decimal, each after a space, and a line feed
 abbrev pub last_two_numbers : ℕ → ℕ → List ℕ

@@ -1,4 +1,5 @@
--- Files as the machine has them: what was asked of them, what they answered, and what they hold, for callers of `RawFiles`.
+-- Files as the machine has them: what was asked of them, what they answered, and what they hold, for callers of
+-- `RawFiles`.
 use Rattle.std.specs.Prelude.{◌≡◌, ◌≢◌, ◌⊎◌, ℕ, ◌+◌, ◌<◌, ◌≤◌, List, [], ◌∷◌, ◌++◌, length, take, drop, Bool, true, false, IsTrue, Result, Ok, Err, is_ok, OnOk, OnErr, Option, Some, None, option_map, codes}
 use Rattle.std.specs.IoError.{error_kind}
 use Rattle.std.specs.declared.io.Error.{Error}
@@ -9,18 +10,18 @@ use Rattle.line_io.specs.RawOut.{count_of, taken_by_answer}
 use Rattle.line_io.specs.declared.store.StoreError.{StoreError}
 use Rattle.line_io.specs.declared.store.StoreError.TheVariants as store_error
 
--- A file, by its name; or a spare one, which is written beside a file and then takes its name. The names of spare files are
--- a set of their own: no file that is read or written by its name is one of them.
+-- A file, by its name; or a spare one, which is written beside a file and then takes its name. The names of spare files
+-- are a set of their own: no file that is read or written by its name is one of them.
 pub data RawName : Type 0 where
   Named : (name : List ℕ) → RawName
   Spare : (name : List ℕ) → RawName
 
--- One call, with its answer. A file is opened to be read: whether it was. Bytes are read of the file that is open: how many at
--- most, and those that were given, or none where the machine refused. A name is looked at: whether a plain file stands
--- there, or why that isn't known. A file is opened to be written, and made or emptied: whether it was. A spare file is
--- made where there is none: or why not. Bytes are written to the file that is open: how many of them, from the first on, were
--- taken, or none where the machine refused. The file that is open is synced, a spare file gets the name of a file, and a
--- spare file is removed: whether it was.
+-- One call, with its answer. A file is opened to be read: whether it was. Bytes are read of the file that is open: how
+-- many at most, and those that were given, or none where the machine refused. A name is looked at: whether a plain file
+-- stands there, or why that isn't known. A file is opened to be written, and made or emptied: whether it was. A spare
+-- file is made where there is none: or why not. Bytes are written to the file that is open: how many of them, from the
+-- first on, were taken, or none where the machine refused. The file that is open is synced, a spare file gets the name
+-- of a file, and a spare file is removed: whether it was.
 pub data FilesCall : Type 0 where
   Opens : (name : List ℕ) → (answer : Bool) → FilesCall
   Reads : (most : ℕ) → (answer : Option (List ℕ)) → FilesCall
@@ -38,19 +39,19 @@ by_kind (Ok value) = Ok value
 by_kind (Err error) = Err (error_kind error)
 
 -- what a read gave of a buffer, or none where it was refused
-abbrev pub given : {E : Type 0} → Result ℕ E → List ℕ → Option (List ℕ)
-given (Ok n) bytes = Some (take n bytes)
-given (Err error) bytes = None
+abbrev pub read_bytes : {E : Type 0} → Result ℕ E → List ℕ → Option (List ℕ)
+read_bytes (Ok n) bytes = Some (take n bytes)
+read_bytes (Err error) bytes = None
 
 -- a read and a write by what was given to it and what it answered
 abbrev pub read_call : {E : Type 0} → List ℕ → Result ℕ E → FilesCall
-read_call bytes answer = Reads (length bytes) (given answer bytes)
+read_call bytes answer = Reads (length bytes) (read_bytes answer bytes)
 
 abbrev pub write_call : {E : Type 0} → List ℕ → Result ℕ E → FilesCall
 write_call bytes answer = Writes bytes (taken_by_answer answer)
 
--- What files show: whether one is open; every call with its answer, the oldest first; and, which counts only where contents are
--- known, what each holds, what reads of the open file will still give, and which file is written to.
+-- What files show: whether one is open; every call with its answer, the oldest first; and, which counts only where
+-- contents are known, what each holds, what reads of the open file will still give, and which file is written to.
 pub record FilesView : Type 0 where
   pub is_open : Bool
   pub asked : List FilesCall
@@ -112,9 +113,9 @@ given_by [] = []
 given_by (Reads most (Some bytes) ∷ calls) = bytes ++ given_by calls
 given_by (call ∷ calls) = given_by calls
 
--- These calls read on, behind the bytes that were read before: to the end of the file, and all bytes are the answer; to one that
--- was refused; to one by which more than the limit were read; or to one for whose bytes there was no memory. None
--- asks for more bytes than are left of the limit and one.
+-- These calls read on, behind the bytes that were read before: to the end of the file, and all bytes are the answer; to
+-- one that was refused; to one by which more than the limit were read; or to one for whose bytes there was no memory.
+-- None asks for more bytes than are left of the limit and one.
 abbrev pub ReadsOn : ℕ → List ℕ → List FilesCall → Result (List ℕ) StoreError → Type 0
 ReadsOn limit before (Reads most None ∷ calls) answer =
     (0 < most) × (length before + most ≤ limit + 1) × (calls ≡ []) × (answer ≡ Err store_error.Failed)
@@ -133,8 +134,8 @@ AsksToRead name limit (Opens opened false ∷ calls) answer =
     (opened ≡ name) × (calls ≡ []) × (answer ≡ Err store_error.Failed)
 AsksToRead name limit calls answer = ⊥
 
--- These calls write bytes, each what the one before left, until all were taken; the last one was refused, or took none, where
--- `whole` is false.
+-- These calls write bytes, each what the one before left, until all were taken; the last one was refused, or took none,
+-- where `whole` is false.
 abbrev pub WritesOn : List ℕ → List FilesCall → Bool → Type 0
 WritesOn bytes [] whole = (bytes ≡ []) × (whole ≡ true)
 WritesOn bytes (Writes given answer ∷ calls) whole =
@@ -197,7 +198,8 @@ bars_new_files ReadOnlyFilesystem = true
 bars_new_files InvalidFilename = true
 bars_new_files kind = false
 
--- where no spare file was made: the file is written in its place if none can be made there, and else nothing more is asked
+-- where no spare file was made: the file is written in its place if none can be made there, and else nothing more is
+-- asked
 abbrev pub WithoutSpare : (barred : Bool) → (name bytes : List ℕ) → List FilesCall → Bool → Type 0
 WithoutSpare true name bytes calls whole = WritesInPlace name bytes calls whole
 WithoutSpare false name bytes calls whole = (calls ≡ []) × (whole ≡ false)
@@ -206,7 +208,8 @@ abbrev pub AfterMaking : Result (Unit {0}) ErrorKind → (spare name bytes : Lis
 AfterMaking (Ok made) spare name bytes calls whole = WritesBeside spare name bytes calls whole
 AfterMaking (Err kind) spare name bytes calls whole = WithoutSpare (bars_new_files kind) name bytes calls whole
 
--- a file is replaced: a spare file that is left of a run that was broken off is removed, one is made, filled, and renamed
+-- a file is replaced: a spare file that is left of a run that was broken off is removed, one is made, filled, and
+-- renamed
 abbrev pub Replaces : (spare name bytes : List ℕ) → List FilesCall → Bool → Type 0
 Replaces spare name bytes (Removes removed gone ∷ (CreatesSpare created answer ∷ calls)) whole =
     (removed ≡ spare) × (created ≡ spare) × AfterMaking answer spare name bytes calls whole
@@ -221,8 +224,8 @@ AfterLook (Ok true) spare name bytes calls whole = Replaces spare name bytes cal
 AfterLook (Ok false) spare name bytes calls whole = WritesInPlace name bytes calls whole
 AfterLook (Err kind) spare name bytes calls whole = AfterLookRefused (is_absent kind) spare name bytes calls whole
 
--- What a write of a file asks: what stands at its name; and then a plain file or none is replaced, a link or a device is written
--- in its place, and where that isn't known nothing more is asked.
+-- What a write of a file asks: what stands at its name; and then a plain file or none is replaced, a link or a device
+-- is written in its place, and where that isn't known nothing more is asked.
 abbrev pub AsksToWrite : (spare name bytes : List ℕ) → List FilesCall → Bool → Type 0
 AsksToWrite spare name bytes (Looks looked answer ∷ calls) whole =
     (looked ≡ name) × AfterLook answer spare name bytes calls whole

@@ -2,7 +2,8 @@
 use Rattle.std.specs.Prelude.{◌≡◌, ℕ, ◌<◌, List, [], ◌∷◌, ◌++◌, length, take, drop, Bool, true, false, Result, Ok, Err, Option, Some, None}
 use Rattle.line_io.specs.SinkView.{SinkView}
 
--- one call: the bytes that were handed on, and how many of them, from the first on, the machine took, or none where it refused
+-- one call: the bytes that were handed on, and how many of them, from the first on, the machine took, or none where it
+-- refused
 pub record OutCall : Type 0 where
   pub bytes : List ℕ
   pub taken : Option ℕ
@@ -26,8 +27,8 @@ abbrev pub taken_of : List OutCall → List ℕ
 taken_of [] = []
 taken_of (call ∷ calls) = take (count_of call.taken) call.bytes ++ taken_of calls
 
--- These calls hand on bytes, each what the one before left, until all were taken; the last one was refused, or took none,
--- where `whole` is false.
+-- These calls hand on bytes, each what the one before left, until all were taken; the last one was refused, or took
+-- none, where `whole` is false.
 abbrev pub HandsOn : List ℕ → List OutCall → Bool → Type 0
 HandsOn bytes [] whole = (bytes ≡ []) × (whole ≡ true)
 HandsOn bytes (call ∷ calls) whole =

@@ -5,8 +5,8 @@ use Rattle.line_io.specs.Faults.{Rose}
 use Rattle.line_io.specs.declared.store.StoreError.{StoreError}
 use Rattle.line_io.specs.declared.store.StoreError.TheVariants as store_error
 
--- A read took this many bytes, and the count of faults was `before` and is `now`: all that it took are the answer, or it took one
--- more than the limit, or it was refused, which is a fault that is counted once, or there was no memory.
+-- A read took this many bytes, and the count of faults was `before` and is `now`: all that it took are the answer, or
+-- it took one more than the limit, or it was refused, which is a fault that is counted once, or there was no memory.
 pub record TakesToLimit (limit taken before now : ℕ) (result : Result (Vec ℕ Global) StoreError) : Type 0 where
   pub within_limit : IfOk result (λ v. length v.items ≤ limit)
   pub took_them : IfOk result (λ v. taken ≡ length v.items)

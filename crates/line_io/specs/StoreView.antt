@@ -3,8 +3,8 @@ use Rattle.std.specs.Prelude.{◌≡◌, ℕ, List}
 use Rattle.line_io.specs.Calls.{Asked, none_asked}
 use Rattle.line_io.specs.Contents.{Contents}
 
--- What a store shows: what its files hold, which counts only where files are known; how often reads and writes of each name
--- have failed; how many bytes the last read took, 0 before the first; and all that was asked of it.
+-- What a store shows: what its files hold, which counts only where files are known; how often reads and writes of each
+-- name have failed; how many bytes the last read took, 0 before the first; and all that was asked of it.
 pub record StoreView : Type 0 where
   pub files : Contents
   pub read_faults : List ℕ → ℕ

@@ -6,8 +6,8 @@ use Rattle.line_io.specs.RawFiles.{FilesView, Asks, AsksToWrite, SameNamed, empt
 use Rattle.line_io.specs.declared.store.StoreError.{StoreError}
 use Rattle.line_io.specs.declared.store.StoreError.TheVariants as store_error
 
--- A file was written, and the count of faults was `before` and is `now`: it holds the bytes, or the machine refused, which is a
--- fault that is counted once, or there was no memory, and nothing was asked.
+-- A file was written, and the count of faults was `before` and is `now`: it holds the bytes, or the machine refused,
+-- which is a fault that is counted once, or there was no memory, and nothing was asked.
 pub record WritesCounted (tells : Bool) (old new : FilesView) (name bytes : List ℕ) (before now : ℕ)
     (result : Result (Unit {0}) StoreError) : Type 0 where
   pub asks : ¬ (IsErrOf result store_error.NoMemory) → Asks old new (λ calls.

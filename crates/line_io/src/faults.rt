@@ -5,7 +5,10 @@ ghost use Rattle.line_io.specs.declared.store.StoreError.{StoreError};
 use crate::store::StoreError;
 
 /// The answer of the machine, where each error is a fault that is counted.
-pub fn counted<T: Drop, E: Drop>(answer: Result<T, E>, faults: &mut u64) -> Result<T, StoreError>
+pub fn count_fault<T: Drop, E: Drop>(
+    answer: Result<T, E>,
+    faults: &mut u64,
+) -> Result<T, StoreError>
     ensures same { is_ok result ≡ is_ok answer }
     ensures value { IfOk result (λ value. answer ≡ Ok value) }
     ensures failed { IfErr result (λ error. error ≡ StoreError.Failed) }

@@ -2,10 +2,10 @@
 ghost use Rattle.std.specs.Prelude.{◌≡◌, ◌<◌, ◌≤◌, ◌+◌, ◌-◌, ◌^◌, ◌++◌, ◌∷◌, [], Some, true, length, take, min, IsTrue, IfOk, IfErr, OnOk, OnErr, IsErrOf};
 ghost use Rattle.line_io.specs.Calls.{bytes_of};
 ghost use Rattle.line_io.specs.Contents.{IsLongerThan};
-ghost use Rattle.line_io.specs.RawFiles.{Named, Reads, Asks, AsksToRead, ReadsOn, SameHeld, given, given_by};
+ghost use Rattle.line_io.specs.RawFiles.{Named, Reads, Asks, AsksToRead, ReadsOn, SameHeld, read_bytes, given_by};
 ghost use Rattle.line_io.specs.Reading.{TakesToLimit};
 
-use crate::faults::counted;
+use crate::faults::count_fault;
 use crate::raw_files::RawFiles;
 use crate::store::StoreError;
 use std::alloc::Global;
@@ -13,7 +13,8 @@ use std::alloc::Global;
 /// The most bytes that one turn of reading asks for.
 const MAX_TURN: usize = 16_384;
 
-/// Reads once into the front of a buffer, and answers how many bytes there are. A refusal is a fault that is counted.
+/// Reads once into the beginning of a buffer, `most` bytes at most, and answers how many there are. A refusal is a
+/// fault that is counted.
 fn read_once<F: RawFiles>(
     files: &mut F,
     buffer: &mut [u8],
@@ -23,7 +24,7 @@ fn read_once<F: RawFiles>(
     requires open { (F.shown files.old).is_open ≡ true }
     requires within { most ≤ length buffer.old }
     ensures recorded { (F.shown files.new).asked
-        ≡ (F.shown files.old).asked ++ Reads most (given result buffer.new) ∷ [] }
+        ≡ (F.shown files.old).asked ++ Reads most (read_bytes result buffer.new) ∷ [] }
     ensures open_stays { (F.shown files.new).is_open ≡ true }
     ensures size { length buffer.new ≡ length buffer.old }
     ensures bound { IfOk result (λ n. n ≤ most) }
@@ -36,7 +37,7 @@ fn read_once<F: RawFiles>(
     ensures once { OnErr result (faults.new ≡ min (faults.old + 1) (2 ^ 64 - 1)) }
     ensures faults_stay_or_rise { faults.old ≤ faults.new }
 {
-    counted(files.read(&mut buffer[..most]), faults)
+    count_fault(files.read(&mut buffer[..most]), faults)
 }
 
 /// How many bytes the next turn asks for: as many as the limit leaves and one more, or as a turn asks for at most.
@@ -49,7 +50,8 @@ fn turn_size(limit: u64, taken: u64) -> usize
     (limit - taken).saturating_add(1).min(MAX_TURN as u64) as usize
 }
 
-/// Reads the file that is open to its end, to an error, or until limit + 1 bytes were taken, and counts the bytes taken.
+/// Reads the file that is open to its end, to an error, or until limit + 1 bytes were taken, and counts the bytes
+/// taken.
 fn read_to_limit<F: RawFiles>(
     alloc: Global,
     files: &mut F,
@@ -101,6 +103,6 @@ pub fn read_file<F: RawFiles>(
     ensures stays { SameHeld F.tells (F.shown files.old) (F.shown files.new) }
     ensures takes { TakesToLimit limit taken.new faults.old faults.new result }
 {
-    counted(files.open(name), faults)?;
+    count_fault(files.open(name), faults)?;
     read_to_limit(alloc, files, limit, taken, faults)
 }

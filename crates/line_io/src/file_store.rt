@@ -8,7 +8,7 @@ ghost use Rattle.line_io.specs.RawFiles.{Asks, AsksToRead, AsksToWrite, SameHeld
 ghost use Rattle.line_io.specs.Writing.{WritesCounted};
 
 use crate::calls::Calls;
-use crate::faults::counted;
+use crate::faults::count_fault;
 use crate::file_reading::read_file;
 use crate::file_writing::write_file;
 use crate::raw_files::{HostFiles, RawFiles};
@@ -16,12 +16,13 @@ use crate::store::{Store, StoreError};
 use std::alloc::{AllocError, Global};
 use std::rt::Files;
 
-/// What stands behind the name of a file in the name of the spare file beside it.
-const BESIDE: &str = ".new";
+/// What the name of a spare file has behind the name of the file beside it.
+const SPARE_ENDING: &str = ".new";
 
-/// Files as a store, over the machine's own calls. One count of faults serves every name and both kinds of call. A file is
-/// written beside the named one, synced, and renamed over it, so that a fault or a crash leaves the old one or the new one
-/// whole; where no file can be made in that folder, or the name is a link or a device, it is written in its place.
+/// Files as a store, over the machine's own calls. One count of faults serves every name and both kinds of call. A file
+/// is written beside the named one, synced, and renamed over it, so that a fault or a crash leaves the old one or the
+/// new one whole; where no file can be made in that folder, or the name is a link or a device, it is written in its
+/// place.
 #[derive(Drop)]
 pub struct FileStore<F: RawFiles + Drop> {
     files: F,
@@ -34,7 +35,8 @@ pub struct FileStore<F: RawFiles + Drop> {
 impl<F: RawFiles + Drop> FileStore<F> {
     ghost use Rattle.line_io.specs.StoreView.{IsUnused};
 
-    /// The machine's own calls as a store of which nothing was asked. Names are put together in memory of this allocator.
+    /// The machine's own calls as a store of which nothing was asked. Names are put together in memory of this
+    /// allocator.
     pub fn over(alloc: Global, files: F) -> Self
         ensures files { result.files ≡ files }
         ensures unused { IsUnused (file_view (F.shown result.files) result.faults result.taken result.calls) }
@@ -78,11 +80,12 @@ fn spare_name(alloc: Global, name: &str) -> Result<String, AllocError>
     ensures { IfOk result (λ spare. string_bytes spare ≡ spare_of name.now) }
 {
     let mut spare = String::from_str(alloc, name)?;
-    spare.push_str(BESIDE)?;
+    spare.push_str(SPARE_ENDING)?;
     Ok(spare)
 }
 
-/// Writes a file, and counts a fault where the machine refused. Without memory for the name of the spare file nothing is asked.
+/// Writes a file, and counts a fault where the machine refused. Without memory for the name of the spare file nothing
+/// is asked.
 fn write_counted<F: RawFiles>(
     alloc: Global,
     files: &mut F,
@@ -94,7 +97,7 @@ fn write_counted<F: RawFiles>(
         result }
 {
     match spare_name(alloc, name) {
-        Ok(spare) => counted(write_file(files, spare.as_str(), name, bytes), faults),
+        Ok(spare) => count_fault(write_file(files, spare.as_str(), name, bytes), faults),
         Err(_) => Err(StoreError::NoMemory),
     }
 }
@@ -108,7 +111,7 @@ impl<F: RawFiles + Drop> Store for FileStore<F> {
         ensures asks { Asks (F.shown self.old.files) (F.shown self.new.files) (λ calls.
             AsksToRead name.now limit calls (bytes_of result) × (self.new.taken ≡ length (given_by calls))) }
         ensures closed { (F.shown self.new.files).is_open ≡ false }
-        ensures tells { asked_of self.new.calls ≡ after_read (asked_of self.old.calls) name.now result }
+        ensures recorded { asked_of self.new.calls ≡ after_read (asked_of self.old.calls) name.now result }
         ensures bytes { IfOk result (λ v. IsTrue F.tells
             → named_files (F.shown self.old.files) name.now ≡ Some v.items) }
         ensures within_limit { IfOk result (λ v. length v.items ≤ limit) }
@@ -146,7 +149,7 @@ impl<F: RawFiles + Drop> Store for FileStore<F> {
         ensures asks_nothing { IsErrOf result StoreError.NoMemory
             → (F.shown self.new.files).asked ≡ (F.shown self.old.files).asked }
         ensures closed { (F.shown self.new.files).is_open ≡ false }
-        ensures tells { asked_of self.new.calls ≡ after_write (asked_of self.old.calls) name.now bytes.now result }
+        ensures recorded { asked_of self.new.calls ≡ after_write (asked_of self.old.calls) name.now bytes.now result }
         ensures written { OnOk result (IsTrue F.tells
             → named_files (F.shown self.new.files) name.now ≡ Some bytes.now) }
         ensures others_stay { OthersStay F.tells (named_files (F.shown self.old.files))

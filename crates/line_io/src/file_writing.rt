@@ -16,7 +16,7 @@ pub struct Refused;
 /// Whether the machine did what it was asked.
 type Outcome = Result<(), Refused>;
 
-/// Writes the bytes behind the first ones, once, and answers how many the machine took: none where it refused.
+/// Writes the bytes behind the first `from`, once, and answers how many the machine took: none where it refused.
 fn write_once<F: RawFiles>(files: &mut F, bytes: &[u8], from: usize) -> usize
     requires open { (F.shown files.old).is_open ≡ true }
     requires within { from ≤ length bytes.now }

@@ -107,7 +107,7 @@ impl MemStore {
 /// A file that is there, unless the call is to fail.
 fn readable<'a>(files: &'a Files, name: &str, is_due: bool) -> Option<&'a Vec<u8>>
     ensures due { OnTrue is_due (result ≡ None) }
-    ensures else_told { OnFalse is_due (option_map (λ v. v.now.items) result ≡ contents files.now name.now) }
+    ensures else_found { OnFalse is_due (option_map (λ v. v.now.items) result ≡ contents files.now name.now) }
 {
     if is_due {
         return None;
@@ -220,7 +220,7 @@ impl Store for MemStore {
         ensures refused { IsErrOf result StoreError.Failed → IsDue (store_plan self.old) ⊎ IsAbsent self.old name.now }
         ensures counted { Counts (store_plan self.old) (store_plan self.new) }
         ensures keep_stays { store_keep self.new ≡ store_keep self.old }
-        ensures tells { (store_view self.new).asked ≡ after_read (store_view self.old).asked name.now result }
+        ensures recorded { (store_view self.new).asked ≡ after_read (store_view self.old).asked name.now result }
         ensures bytes { IfOk result (λ v. (store_view self.old).files name.now ≡ Some v.items) }
         ensures within_limit { IfOk result (λ v. length v.items ≤ limit) }
         ensures took_them { IfOk result (λ v. (store_view self.new).taken ≡ length v.items) }
@@ -262,7 +262,8 @@ impl Store for MemStore {
             → (store_view self.new).files name.now ≡ left_of self.old name.now bytes.now }
         ensures counted { Counts (store_plan self.old) (store_plan self.new) }
         ensures keep_stays { store_keep self.new ≡ store_keep self.old }
-        ensures tells { (store_view self.new).asked ≡ after_write (store_view self.old).asked name.now bytes.now result }
+        ensures recorded { (store_view self.new).asked
+            ≡ after_write (store_view self.old).asked name.now bytes.now result }
         ensures written { OnOk result ((store_view self.new).files name.now ≡ Some bytes.now) }
         ensures others_stay { OthersStay true (store_view self.old).files (store_view self.new).files name.now }
         ensures torn { IsErrOf result StoreError.Failed

@@ -3,8 +3,8 @@ ghost use Rattle.std.specs.Prelude.{◌≡◌, ◌++◌, ◌∷◌, []};
 
 use line_base::Transcript;
 
-/// Notes a call, which the caller's proof picks from the bytes that were given to it, in two parts at most, and from its
-/// answer; and hands on the answer.
+/// Notes a call, which the caller's proof picks from the bytes that were given to it, in two parts at most, and from
+/// its answer; and hands on the answer.
 pub fn note_call<C, T, E>(
     calls: &mut Transcript<C>,
     given: &[u8],

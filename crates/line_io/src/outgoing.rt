@@ -1,5 +1,5 @@
 ghost use Rattle.std.specs.Prelude.{◌≡◌, ◌+◌, ◌≤◌, ◌<◌, ◌++◌, [], false, length, take, decimal, is_err, IfOk};
-ghost use Rattle.line_io.specs.Outgoing.{Pushed, stream, emptied, waiting, last_two_numbers};
+ghost use Rattle.line_io.specs.Outgoing.{Pushed, stream, nothing_waiting, waiting, last_two_numbers};
 
 use crate::piece_buffer::{PieceBuffer, ROOM};
 use crate::pieces::put_all;
@@ -47,7 +47,7 @@ fn send_full<K: Sink>(buffer: &mut PieceBuffer, failed: bool, sink: &mut K) -> b
 fn send_piece<K: Sink>(piece: &[u8], failed: bool, sink: &mut K) -> bool
     requires { length piece.now ≡ MAX_PIECE }
     ensures { Pushed (stream (K.shown sink.old) (waiting piece.now failed))
-        (stream (K.shown sink.new) (emptied result)) [] }
+        (stream (K.shown sink.new) (nothing_waiting result)) [] }
 {
     failed || sink.put(piece).is_err()
 }
@@ -55,7 +55,7 @@ fn send_piece<K: Sink>(piece: &[u8], failed: bool, sink: &mut K) -> bool
 impl Outgoing {
     /// An empty buffer, with the room of a piece. The other calls take no memory.
     pub fn new(alloc: Global) -> Result<Outgoing, AllocError>
-        ensures { IfOk result (λ out. out ≡ emptied false) }
+        ensures { IfOk result (λ out. out ≡ nothing_waiting false) }
     {
         Ok(Outgoing {
             buffer: PieceBuffer::new(alloc)?,
@@ -83,9 +83,9 @@ impl Outgoing {
         self.failed = send_piece(piece, self.failed, sink);
     }
 
-    /// Gives a prefix of bytes to the sink, and answers how many these are: a whole piece where nothing waits, else what
-    /// the piece lacks that waits.
-    fn push_front<K: Sink>(&mut self, sink: &mut K, bytes: &[u8]) -> usize
+    /// Gives a prefix of bytes to the sink, and answers how many these are: a whole piece where nothing waits, else
+    /// what the piece lacks that waits.
+    fn push_prefix<K: Sink>(&mut self, sink: &mut K, bytes: &[u8]) -> usize
         requires { 0 < length bytes.now }
         ensures some { 0 < result }
         ensures few { result ≤ length bytes.now }
@@ -109,7 +109,7 @@ impl Outgoing {
     {
         let mut rest = bytes;
         while !rest.is_empty() {
-            let count = self.push_front(sink, rest);
+            let count = self.push_prefix(sink, rest);
             let (_, later) = rest.split_at(count);
             rest = later;
         }
@@ -158,8 +158,8 @@ impl Outgoing {
     /// Sends what is left, and says whether all went out. The buffer is then as new.
     pub fn finish<K: Sink>(&mut self, sink: &mut K) -> Result<(), Failed>
         ensures flushed { Pushed (stream (K.shown sink.old) self.old)
-            (stream (K.shown sink.new) (emptied (is_err result))) [] }
-        ensures as_new { self.new ≡ emptied false }
+            (stream (K.shown sink.new) (nothing_waiting (is_err result))) [] }
+        ensures as_new { self.new ≡ nothing_waiting false }
     {
         let failed = self.failed || put_all(sink, self.buffer.bytes()).is_err();
         self.buffer.clear();

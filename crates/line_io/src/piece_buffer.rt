@@ -57,7 +57,7 @@ fn write_number(room: &mut [u8], at: usize, n: u64) -> usize
     write_decimal(room, at, n)
 }
 
-/// Moves what waits over the end of a piece to the front, and answers how much that is.
+/// Moves what waits over the end of a piece to the beginning, and answers how much that is.
 fn move_over(room: &mut [u8], filled: usize) -> usize
     requires some { MAX_PIECE ≤ filled }
     requires filled { filled ≤ ROOM }

@@ -8,8 +8,8 @@ use std::io::{Read, Write};
 use std::rt::Files;
 use std::{fs, io};
 
-/// Files as the machine has them, of which one at most is open: to be read, or to be written. One call of the machine a method.
-/// Beside a file a spare one can be written, which then takes its name.
+/// Files as the machine has them, of which one at most is open: to be read, or to be written. One call of the machine a
+/// method. Beside a file a spare one can be written, which then takes its name.
 pub trait RawFiles {
     /// Whether what files hold is known. Of those of the machine it isn't, and clauses on contents then say nothing.
     ghost tells: { Bool };
@@ -57,8 +57,8 @@ pub trait RawFiles {
         ensures empty { OnOk result (IsTrue tells → StartsEmpty (shown self.old) (shown self.new) (Spare spare.now)) }
         ensures stays { OnErr result (SameHeld tells (shown self.old) (shown self.new)) };
 
-    /// Writes bytes behind those that were written to the file that is open, and answers how many of them, from the first
-    /// on, were taken.
+    /// Writes bytes behind those that were written to the file that is open, and answers how many of them, from the
+    /// first on, were taken.
     fn write(&mut self, bytes: &[u8]) -> io::Result<usize>
         requires open { (shown self.old).is_open ≡ true }
         ensures recorded { (shown self.new).asked ≡ (shown self.old).asked ++ write_call bytes.now result ∷ [] }

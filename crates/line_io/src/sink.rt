@@ -11,7 +11,8 @@ pub struct Failed;
 
 /// Where bytes go that are printed, one piece after another.
 pub trait Sink {
-    /// What was written, and how many pieces were refused. Over standard output what was written is what the machine took.
+    /// What was written, and how many pieces were refused. Over standard output what was written is what the machine
+    /// took.
     ghost shown: { Self → SinkView };
 
     /// Appends a piece of 1 to 4,096 bytes, or after `Failed` a prefix of it. It takes no memory.

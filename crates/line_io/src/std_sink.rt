@@ -38,7 +38,7 @@ impl<P: Print + Drop> StdSink<HostOut<P>> {
     }
 }
 
-/// Hands on the bytes behind the first few, once, and answers how many the machine took: none where it refused.
+/// Hands on the bytes behind the first `from`, once, and answers how many the machine took: none where it refused.
 fn hand_on_once<O: RawOut>(out: &mut O, piece: &[u8], from: usize) -> usize
     requires { from ≤ length piece.now }
     ensures once { AsksOnce (O.asked out.old) (O.asked out.new) (drop from piece.now) result }

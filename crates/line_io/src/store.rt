@@ -41,7 +41,7 @@ pub trait Store {
 
     /// The bytes of a file, at most `limit` of them.
     fn read(&mut self, alloc: Global, name: &str, limit: u64) -> Result<Vec<u8>, StoreError>
-        ensures tells { (shown self.new).asked ≡ after_read (shown self.old).asked name.now result }
+        ensures recorded { (shown self.new).asked ≡ after_read (shown self.old).asked name.now result }
         ensures bytes { IfOk result (λ v. IsTrue tells → (shown self.old).files name.now ≡ Some v.items) }
         ensures within_limit { IfOk result (λ v. length v.items ≤ limit) }
         ensures took_them { IfOk result (λ v. (shown self.new).taken ≡ length v.items) }
@@ -68,7 +68,7 @@ pub trait Store {
     /// Gives a file these bytes, whether it was there or not. After `Failed` it may hold a prefix of
     /// them.
     fn write(&mut self, name: &str, bytes: &[u8]) -> Result<(), StoreError>
-        ensures tells { (shown self.new).asked
+        ensures recorded { (shown self.new).asked
             ≡ after_write (shown self.old).asked name.now bytes.now result }
         ensures written { OnOk result (IsTrue tells → (shown self.new).files name.now ≡ Some bytes.now) }
         ensures others_stay { OthersStay tells (shown self.old).files (shown self.new).files name.now }

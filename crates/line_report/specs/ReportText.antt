@@ -1,4 +1,5 @@
--- The text of a report of a plant over a table of dates of its graph. Stages, stations and dates count from 0, jobs from 1.
+-- The text of a report of a plant over a table of dates of its graph. Stages, stations and dates count from 0, jobs
+-- from 1.
 use Rattle.std.specs.Prelude.{ℕ, nat_lt, if◌then◌else◌, List, [], ◌∷◌, ◌++◌, Option, Some, None, codes, decimal}
 use Rattle.std.specs.List.{flat_map, range_with_len}
 use Rattle.line_base.specs.declared.event.Parts.{Parts}

@@ -1,4 +1,5 @@
--- The text of a summary of a plant's run: its sizes and the sum of its dates in place of the dates, and then as a report ends.
+-- The text of a summary of a plant's run: its sizes and the sum of its dates in place of the dates, and then as a
+-- report ends.
 use Rattle.std.specs.Prelude.{ℕ, ◌*◌, List, [], ◌∷◌, ◌++◌, codes, decimal}
 use Rattle.line_base.specs.declared.event.Parts.{Parts}
 use Rattle.plant_model.specs.declared.plant.Plant.{Plant}

@@ -23,8 +23,8 @@ pub fn write_number(room: &mut [u8], at: usize, n: u64) -> usize
     write_decimal(room, at, n)
 }
 
-/// Writes a date and a line feed from `at` on, and answers where they end.
-pub fn write_end(room: &mut [u8], at: usize, date: Date) -> usize
+/// Writes the last number of a line, a date, and a line feed from `at` on, and answers where they end.
+pub(crate) fn write_last_number(room: &mut [u8], at: usize, date: Date) -> usize
     requires { at + MAX_DIGITS < length room.old }
     ensures written { take result room.new ≡ take at room.old ++ (decimal date ++ codes "\n") }
     ensures end { result ≤ at + MAX_DIGITS + 1 }

@@ -15,8 +15,8 @@ const MAX_LABEL: usize = 49;
 /// The most jobs with room in a start.
 const MAX_JOB: u32 = 99_999;
 
-/// How the line of a date begins: the label of its station, a space, the number of its job, and a space. From one job to
-/// the next mostly one digit changes. Contracts see the label and the job.
+/// How the line of a date begins: the label of its station, a space, the number of its job, and a space. From one job
+/// to the next mostly one digit changes. Contracts see the label and the job.
 #[derive(Drop)]
 pub struct LineStart {
     text: [u8; WIDTH],

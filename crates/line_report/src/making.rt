@@ -1,6 +1,6 @@
 //! What a report is made of.
 ghost use Rattle.std.specs.Prelude.{◌≡◌, ◌+◌, ◌<◌, false, length, IfOk, OnOk};
-ghost use Rattle.line_io.specs.Outgoing.{emptied};
+ghost use Rattle.line_io.specs.Outgoing.{nothing_waiting};
 ghost use Rattle.plant_model.specs.Sound.{IsSound};
 
 use crate::portion::Portion;
@@ -40,7 +40,7 @@ pub fn memory_for(
 ) -> Result<(LineNumbers, Outgoing, Vec<Portion>), AllocError>
     requires { IsSound plant.now }
     ensures numbers { IfOk result (λ made. made.0 ≡ plant.now) }
-    ensures out { IfOk result (λ made. made.1 ≡ emptied false) }
+    ensures out { IfOk result (λ made. made.1 ≡ nothing_waiting false) }
     ensures some { IfOk result (λ made. 0 < length made.2.items) }
 {
     let out = Outgoing::new(alloc)?;

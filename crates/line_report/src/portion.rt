@@ -5,7 +5,7 @@ ghost use Rattle.event_graph.specs.Table.{date_in};
 ghost use Rattle.line_report.specs.Portions.{HasLines, job_lines, numbered_lines};
 ghost use Rattle.line_report.specs.ReportText.{line};
 
-use crate::line_end::write_end;
+use crate::line_end::write_last_number;
 use crate::line_start::{LineStart, WIDTH};
 use event_graph::Graph;
 use line_base::{Date, MAX_DIGITS, digit_count};
@@ -57,11 +57,11 @@ fn write_line(room: &mut [u8], at: usize, start: &LineStart, date: Date) -> usiz
     ensures end { result ≤ at + MAX_LINE }
 {
     let end = start.write(room, at);
-    write_end(room, end, date)
+    write_last_number(room, end, date)
 }
 
-/// Writes lines of a station from `at` on, of the jobs behind the first few, as far as they fit. What is counted stands in
-/// locals, since another thread's portion may lie in the same cache line.
+/// Writes lines of a station from `at` on, of the jobs behind the first few, as far as they fit. What is counted stands
+/// in locals, since another thread's portion may lie in the same cache line.
 fn write_jobs(
     room: &mut [u8],
     at: usize,
@@ -130,8 +130,8 @@ fn room_of(portions: u32) -> usize
     if portions > 1 { ROOM_OF_THREADS } else { ROOM }
 }
 
-/// How many lines of the dates fit into each of this many portions, or about that many: each as long as the longest label
-/// with the greatest number of a job, and as the last date of the last station.
+/// How many lines of the dates fit into each of this many portions, or about that many: each as long as the longest
+/// label with the greatest number of a job, and as the last date of the last station.
 pub fn fitting_lines(graph: &Graph, table: &Table, portions: u32) -> u32
     requires { table.now.graph ≡ graph.now }
     ensures { 1 ≤ result }

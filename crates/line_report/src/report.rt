@@ -6,7 +6,7 @@ ghost use Rattle.line_stats.specs.PlantDates.{AreLeastDates, AreOfPlant, Stays};
 use crate::making::memory_for;
 use crate::portion::Portion;
 use crate::run::FinishedRun;
-use crate::texts::{write_short_text, write_text};
+use crate::texts::{write_summary_text, write_text};
 use line_core::Table;
 use line_io::{Failed, Outgoing, Sink};
 use live_check::Live;
@@ -27,7 +27,7 @@ pub struct Report {
 impl Model for Report {
     ghost use Rattle.std.specs.Prelude.{◌≡◌, ◌<◌, false, length};
     ghost use Rattle.line_core.specs.Run.{IsLeastTable};
-    ghost use Rattle.line_io.specs.Outgoing.{emptied};
+    ghost use Rattle.line_io.specs.Outgoing.{nothing_waiting};
     ghost use Rattle.line_stats.specs.PlantDates.{PlantDates, AreOfPlant};
 
     ghost Value = { PlantDates };
@@ -35,7 +35,7 @@ impl Model for Report {
     ghost view = { λ r. record { plant = r.run.plant; rows = r.run.table.rows } };
 
     ghost invariant = { λ r. AreOfPlant r.run.plant r.run.live r.run.table × IsLeastTable r.run.table
-        × (r.out ≡ emptied false) × (r.run.numbers ≡ r.run.plant) × (0 < length r.portions.items) };
+        × (r.out ≡ nothing_waiting false) × (r.run.numbers ≡ r.run.plant) × (0 < length r.portions.items) };
 }
 
 impl Report {
@@ -78,8 +78,9 @@ impl Report {
 
     /// Writes the report to the sink, from its beginning: a line for each station and job, what stands in each stage at
     /// each date that is looked at, the peak of each stage, how long the jobs wait, and the last date. It goes out in
-    /// pieces of 4,096 bytes and a last one that may be shorter. The lines of the dates are formatted by as many threads as
-    /// there are workers, and by one no thread is begun. After `Failed` a prefix of it was written. It takes no memory.
+    /// pieces of 4,096 bytes and a last one that may be shorter. The lines of the dates are formatted by as many
+    /// threads as there are workers, and by one no thread is begun. After `Failed` a prefix of it was written. It takes
+    /// no memory.
     pub fn write<R: Threads + Sync, K: Sink>(&mut self, rt: &R, sink: &mut K) -> Result<(), Failed>
         ensures puts { WritesText (K.shown sink.old) (K.shown sink.new) (report_of self.old) result }
         ensures stays { Stays self.old self.new }
@@ -88,14 +89,14 @@ impl Report {
         self.out.finish(sink)
     }
 
-    /// Writes the summary to the sink, from its beginning: how many stations, jobs and firings there are, the sum of all
-    /// dates, and then as the report ends, the peak of each stage, how long the jobs wait, and the last date. All else is
-    /// as with `write`.
+    /// Writes the summary to the sink, from its beginning: how many stations, jobs and firings there are, the sum of
+    /// all dates, and then as the report ends, the peak of each stage, how long the jobs wait, and the last date. All
+    /// else is as with `write`.
     pub fn write_summary<K: Sink>(&mut self, sink: &mut K) -> Result<(), Failed>
         ensures puts { WritesText (K.shown sink.old) (K.shown sink.new) (summary_of self.old) result }
         ensures stays { Stays self.old self.new }
     {
-        write_short_text(&mut self.out, sink, &self.run);
+        write_summary_text(&mut self.out, sink, &self.run);
         self.out.finish(sink)
     }
 }

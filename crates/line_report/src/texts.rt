@@ -35,7 +35,7 @@ pub fn write_text<R: Threads + Sync, K: Sink>(
 }
 
 /// Writes the whole text of a summary.
-pub fn write_short_text<K: Sink>(out: &mut Outgoing, sink: &mut K, run: &FinishedRun)
+pub fn write_summary_text<K: Sink>(out: &mut Outgoing, sink: &mut K, run: &FinishedRun)
     requires { IsOfRun run.now }
     ensures { Pushed (stream (K.shown sink.old) out.old)
         (stream (K.shown sink.new) out.new) (summary run.now.plant (date_in run.now.table.rows)) }

@@ -3,7 +3,7 @@ use Rattle.std.proofs.Common.{◌≡◌, ℕ, suc, ◌+◌, ◌*◌, ◌<◌, �
 use Rattle.std.specs.List.{sum}
 use Rattle.event_graph.specs.Network.{stations, jobs}
 use Rattle.live_check.specs.Order.{LiveGraph}
-use Rattle.line_core.specs.Consistent.{fired}
+use Rattle.line_core.specs.Consistent.{firing_count}
 use Rattle.line_core.specs.Round.{HasFired}
 use Rattle.line_core.specs.Run.{Dates}
 use Rattle.line_worker.specs.Sweeps.{most_sweeps}
@@ -21,7 +21,7 @@ pub record HaveLed (n : ℕ) (first last : WorkLine) : Type 0 where
   pub count : ℕ
   pub bursts : BurstsBelow n first count last
 
-pub led_more : (n : ℕ) (first l last : WorkLine) → HaveLed n first l → fired l.state < n → IsBurst l last → HaveLed n first last
+pub led_more : (n : ℕ) (first l last : WorkLine) → HaveLed n first l → firing_count l.state < n → IsBurst l last → HaveLed n first last
 led_more n first l last led below burst = record { count = suc led.count; bursts = more led.count l last led.bursts below burst }
 
 -- the graph stays
@@ -30,7 +30,7 @@ bursts_live n first count last none = refl
 bursts_live n first count last (more before l new bursts below burst) = burst_live l new burst ∙ bursts_live n first before l bursts
 
 -- each makes a firing
-bursts_grow : (n : ℕ) (first : WorkLine) (count : ℕ) (last : WorkLine) → BurstsBelow n first count last → count + fired first.state ≤ fired last.state
+bursts_grow : (n : ℕ) (first : WorkLine) (count : ℕ) (last : WorkLine) → BurstsBelow n first count last → count + firing_count first.state ≤ firing_count last.state
 bursts_grow n first count last none = omega arith
 bursts_grow n first count last (more before l new bursts below burst) = omega (arith, bursts_grow n first before l bursts, burst.some)
 
@@ -44,7 +44,7 @@ bursts_alone n first count last times (more before l new bursts below burst) one
     )
 
 -- and each step is a firing
-bursts_steps : (n : ℕ) (first : WorkLine) (count : ℕ) (last : WorkLine) (times : ℕ) → BurstsBelow n first count last → first.worker_count ≡ 1 → HasFired (run_in first) times → sum last.turns + fired first.state ≡ sum first.turns + fired last.state
+bursts_steps : (n : ℕ) (first : WorkLine) (count : ℕ) (last : WorkLine) (times : ℕ) → BurstsBelow n first count last → first.worker_count ≡ 1 → HasFired (run_in first) times → sum last.turns + firing_count first.state ≡ sum first.turns + firing_count last.state
 bursts_steps n first count last times none one has = refl
 bursts_steps n first count last times (more before l new bursts below burst) one has =
     let alone = bursts_alone n first before l times bursts one has in
@@ -61,14 +61,14 @@ bursts_made n first count last bursts is =
     }
 
 -- and where all firings are made, how many these are
-pub bursts_all : (n : ℕ) (first : WorkLine) (count : ℕ) (last : WorkLine) → BurstsBelow n first count last → IsLine last → IsDone last → fired last.state ≡ all_firings first.live.graph
+pub bursts_all : (n : ℕ) (first : WorkLine) (count : ℕ) (last : WorkLine) → BurstsBelow n first count last → IsLine last → IsDone last → firing_count last.state ≡ all_firings first.live.graph
 bursts_all n first count last bursts is done =
     done_is_all last is done ∙ ap (λ (v : LiveGraph). all_firings v.graph) (bursts_live n first count last bursts)
 
 -- there was no burst, or the last one began where fewer than n firings were made
 record IsSoon (n : ℕ) (first last : WorkLine) : Type 0 where
-  below : fired first.state < n
-  few : fired last.state < n + most_sweeps * stations first.live.graph
+  below : firing_count first.state < n
+  few : firing_count last.state < n + most_sweeps * stations first.live.graph
 
 bursts_soon : (n : ℕ) (first : WorkLine) (count : ℕ) (last : WorkLine) → BurstsBelow n first count last → (last ≡ first) ⊎ IsSoon n first last
 bursts_soon n first count last none = inl refl
@@ -80,23 +80,23 @@ bursts_soon n first count last (more before l new bursts below burst) =
     })
 
 -- how many firings a run made that was stopped
-pub stop_counts : (n : ℕ) (first : WorkLine) (count : ℕ) (last : WorkLine) → BurstsBelow n first count last → IsLine last → n ≤ fired last.state → ¬ IsDone last → IsStopAt first.live.graph n (fired first.state) (fired last.state)
+pub stop_counts : (n : ℕ) (first : WorkLine) (count : ℕ) (last : WorkLine) → BurstsBelow n first count last → IsLine last → n ≤ firing_count last.state → ¬ IsDone last → IsStopAt first.live.graph n (firing_count first.state) (firing_count last.state)
 stop_counts n first count last bursts is enough undone =
     let same : all_firings last.live.graph ≡ all_firings first.live.graph = ap (λ (v : LiveGraph). all_firings v.graph) (bursts_live n first count last bursts) in
     record {
       enough = enough;
       not_all = omega (arith, undone_is_below last is undone, same);
-      soon = ⊎_elim (λ none. inl (ap (λ (l : WorkLine). fired l.state) none)) (λ soon. inr soon.few) (bursts_soon n first count last bursts);
+      soon = ⊎_elim (λ none. inl (ap (λ (l : WorkLine). firing_count l.state) none)) (λ soon. inr soon.few) (bursts_soon n first count last bursts);
       at_once = λ early.
-          ⊎_elim (λ none. ap (λ (l : WorkLine). fired l.state) none) (λ soon. absurd (omega (arith, soon.below, early))) (bursts_soon n first count last bursts);
+          ⊎_elim (λ none. ap (λ (l : WorkLine). firing_count l.state) none) (λ soon. absurd (omega (arith, soon.below, early))) (bursts_soon n first count last bursts);
     }
 
 -- and one that made all firings
-pub finish_counts : (n : ℕ) (first : WorkLine) (count : ℕ) (last : WorkLine) → BurstsBelow n first count last → IsLine last → IsDone last → fired first.state < all_firings first.live.graph → IsShort first.live.graph n (fired first.state)
+pub finish_counts : (n : ℕ) (first : WorkLine) (count : ℕ) (last : WorkLine) → BurstsBelow n first count last → IsLine last → IsDone last → firing_count first.state < all_firings first.live.graph → IsShort first.live.graph n (firing_count first.state)
 finish_counts n first count last bursts is done left =
-    let all : fired last.state ≡ all_firings first.live.graph = bursts_all n first count last bursts is done in
+    let all : firing_count last.state ≡ all_firings first.live.graph = bursts_all n first count last bursts is done in
     ⊎_elim
-    (λ none. absurd (omega (arith, left, all, ap (λ (l : WorkLine). fired l.state) none)))
+    (λ none. absurd (omega (arith, left, all, ap (λ (l : WorkLine). firing_count l.state) none)))
     (λ soon. record { begun_below = soon.below; few = omega (arith, soon.few, all) })
     (bursts_soon n first count last bursts)
 

@@ -3,7 +3,7 @@ use Rattle.std.proofs.Common.{◌<◌, Ok, Err, refl}
 use Rattle.line_base.specs.declared.event.Parts.{Parts}
 use Rattle.event_graph.specs.State.{State}
 use Rattle.event_graph.specs.Reached.{Reached}
-use Rattle.line_core.specs.Consistent.{fired}
+use Rattle.line_core.specs.Consistent.{firing_count}
 use Rattle.line_core.specs.Run.{Run, IsReached}
 use Rattle.checkpoint.specs.declared.format.Format.TheVariants.{Differences}
 use Rattle.checkpoint.specs.Text.{text}
@@ -23,7 +23,7 @@ resumes_to_least : (g : Parts) (s : State) → Reached g s → ResumesToLeast g 
 resumes_to_least g s reached (Ok d) resumes = resumes.least
 resumes_to_least g s reached (Err error) resumes = resumes.found (text_is_checkpoint g s reached)
 
-pub may_be_resumed : (r : Run) → IsReached r → fired r.state < all_firings r.graph → MayBeResumed r.graph r.state
+pub may_be_resumed : (r : Run) → IsReached r → firing_count r.state < all_firings r.graph → MayBeResumed r.graph r.state
 may_be_resumed r is left = record {
   not_all = left;
   reached = is.reached;

@@ -5,7 +5,7 @@ use Rattle.std.proofs.lemmas.Bool.{cases_lt}
 use Rattle.line_base.specs.declared.event.Parts.{Parts}
 use Rattle.event_graph.specs.Network.{stations}
 use Rattle.live_check.specs.Order.{LiveGraph}
-use Rattle.line_core.specs.Consistent.{fired}
+use Rattle.line_core.specs.Consistent.{firing_count}
 use Rattle.line_core.specs.Run.{Dates}
 use Rattle.line_worker.specs.Sweeps.{most_sweeps}
 use Rattle.checkpoint.specs.declared.format.Format.TheVariants.{Differences}
@@ -36,7 +36,7 @@ saves_live n first saved last begins = refl
 saves_live n first saved last (passes old l new before burst not_due) = burst_live l new burst ∙ saves_live n first old l before
 saves_live n first saved last (saves old l new before burst due) = burst_live l new burst ∙ saves_live n first old l before
 
-pub counted_before : (n : ℕ) (first : WorkLine) (saved : Option WorkLine) (last : WorkLine) → SavesWhenDue n first saved last → counted_from first saved ≤ fired last.state
+pub counted_before : (n : ℕ) (first : WorkLine) (saved : Option WorkLine) (last : WorkLine) → SavesWhenDue n first saved last → counted_from first saved ≤ firing_count last.state
 counted_before n first saved last begins = omega arith
 counted_before n first saved last (passes old l new before burst not_due) = omega (arith, counted_before n first old l before, burst.some)
 counted_before n first saved last (saves old l new before burst due) = omega arith
@@ -50,21 +50,21 @@ due_or_not n from l =
     ⊎_elim
     (λ left. inl (record { since = since; not_all = left }))
     (λ none. inr (λ due. absurd (omega (arith, none, due.not_all))))
-    (cases_lt (fired l.state) (all_firings l.live.graph)))
-    (cases_lt (fired l.state) (from + n))
+    (cases_lt (firing_count l.state) (all_firings l.live.graph)))
+    (cases_lt (firing_count l.state) (from + n))
 
 -- where firings are left, fewer than n were made since the last save
-not_late : (n : ℕ) (first : WorkLine) (saved : Option WorkLine) (last : WorkLine) → 1 ≤ n → SavesWhenDue n first saved last → fired last.state < all_firings last.live.graph → fired last.state < counted_from first saved + n
+not_late : (n : ℕ) (first : WorkLine) (saved : Option WorkLine) (last : WorkLine) → 1 ≤ n → SavesWhenDue n first saved last → firing_count last.state < all_firings last.live.graph → firing_count last.state < counted_from first saved + n
 not_late n first saved last some begins left = omega arith
 not_late n first saved last some (passes old l new before burst not_due) left =
     ⊎_elim
     (λ low. low)
     (λ high. absurd (not_due (record { since = high; not_all = left })))
-    (cases_lt (fired new.state) (counted_from first old + n))
+    (cases_lt (firing_count new.state) (counted_from first old + n))
 not_late n first saved last some (saves old l new before burst due) left = omega arith
 
 -- before a burst firings are left
-left_before : (old new : WorkLine) → IsBurst old new → fired old.state < all_firings old.live.graph
+left_before : (old new : WorkLine) → IsBurst old new → firing_count old.state < all_firings old.live.graph
 left_before old new burst =
     let same : all_firings new.live.graph ≡ all_firings old.live.graph = ap (λ (v : LiveGraph). all_firings v.graph) (burst_live old new burst) in
     omega (arith, line_is_within new burst.line, burst.some, same)
@@ -74,10 +74,10 @@ pub saves_led : (n : ℕ) (first : WorkLine) (saved : Option WorkLine) (last : W
 saves_led n first saved last begins = record { count = 0; bursts = none }
 saves_led n first saved last (passes old l new before burst not_due) =
     led_more (all_firings first.live.graph) first l new (saves_led n first old l before)
-    (subst (λ (v : LiveGraph). fired l.state < all_firings v.graph) (saves_live n first old l before) (left_before l new burst)) burst
+    (subst (λ (v : LiveGraph). firing_count l.state < all_firings v.graph) (saves_live n first old l before) (left_before l new burst)) burst
 saves_led n first saved last (saves old l new before burst due) =
     led_more (all_firings first.live.graph) first l new (saves_led n first old l before)
-    (subst (λ (v : LiveGraph). fired l.state < all_firings v.graph) (saves_live n first old l before) (left_before l new burst)) burst
+    (subst (λ (v : LiveGraph). firing_count l.state < all_firings v.graph) (saves_live n first old l before) (left_before l new burst)) burst
 
 pub finishes_saving : (n : ℕ) (first : WorkLine) (saved : Option WorkLine) (last : WorkLine) → SavesWhenDue n first saved last → IsLine last → IsDone last → (d : Dates) → d.rows ≡ last.state.logs → FinishesSaving n first saved d
 finishes_saving n first saved last before is done d dates =
@@ -97,7 +97,7 @@ finishes_saving n first saved last before is done d dates =
 -- it has firings left, and is of the same graph
 pub record IsStopped (first l : WorkLine) : Type 0 where
   pub line : IsLine l
-  pub not_all : fired l.state < all_firings l.live.graph
+  pub not_all : firing_count l.state < all_firings l.live.graph
   pub live : l.live ≡ first.live
 
 abbrev pub SavedStopped : WorkLine → Option WorkLine → Type 0
@@ -114,37 +114,37 @@ saved_stopped n first saved last (saves old l new before burst due) = record {
 }
 
 -- of a line with firings left the state may be resumed
-pub stopped_resumes : (l : WorkLine) → IsLine l → fired l.state < all_firings l.live.graph → MayBeResumed l.live.graph l.state
+pub stopped_resumes : (l : WorkLine) → IsLine l → firing_count l.state < all_firings l.live.graph → MayBeResumed l.live.graph l.state
 stopped_resumes l is left = may_be_resumed (run_in l) is.reached left
 
 -- few firings were made after the last save
-few_after : (n : ℕ) (first : WorkLine) (saved : Option WorkLine) (last : WorkLine) → IsLine first → 1 ≤ n → SavesWhenDue n first saved last → IsDone last → fired first.state < all_firings first.live.graph → all_firings first.live.graph < counted_from first saved + n + most_sweeps * stations first.live.graph
+few_after : (n : ℕ) (first : WorkLine) (saved : Option WorkLine) (last : WorkLine) → IsLine first → 1 ≤ n → SavesWhenDue n first saved last → IsDone last → firing_count first.state < all_firings first.live.graph → all_firings first.live.graph < counted_from first saved + n + most_sweeps * stations first.live.graph
 few_after n first saved last is some begins done left = absurd (omega (arith, left, done_is_all first is done))
 few_after n first saved last is some (passes old l new before burst not_due) done left =
     let live_l = saves_live n first old l before in
     let same : stations l.live.graph ≡ stations first.live.graph = ap (λ (v : LiveGraph). stations v.graph) live_l in
-    let all : fired new.state ≡ all_firings first.live.graph =
+    let all : firing_count new.state ≡ all_firings first.live.graph =
     done_is_all new burst.line done ∙ ap (λ (v : LiveGraph). all_firings v.graph) (burst_live l new burst ∙ live_l) in
     omega (arith, not_late n first old l some before (left_before l new burst), burst.few, same, all)
 few_after n first saved last is some (saves old l new before burst due) done left =
     absurd (omega (arith, due.not_all, done_is_all new burst.line done))
 
-late_of : (g : Parts) (n room : ℕ) (first : WorkLine) (saved : Option WorkLine) (old new : DiskView) → g ≡ first.live.graph → SavedStopped first saved → HoldsLast room old new saved → all_firings first.live.graph < counted_from first saved + n + most_sweeps * stations first.live.graph → fired first.state + n + most_sweeps * stations g ≤ all_firings g → IsLateState g n room (held_now new)
+late_of : (g : Parts) (n room : ℕ) (first : WorkLine) (saved : Option WorkLine) (old new : DiskView) → g ≡ first.live.graph → SavedStopped first saved → HoldsLast room old new saved → all_firings first.live.graph < counted_from first saved + n + most_sweeps * stations first.live.graph → firing_count first.state + n + most_sweeps * stations g ≤ all_firings g → IsLateState g n room (held_now new)
 late_of g n room first None old new same stopped holds few many =
-    absurd (omega (arith, few, subst (λ (v : Parts). fired first.state + n + most_sweeps * stations v ≤ all_firings v) same many))
+    absurd (omega (arith, few, subst (λ (v : Parts). firing_count first.state + n + most_sweeps * stations v ≤ all_firings v) same many))
 late_of g n room first (Some l) old new same stopped holds few many =
     let of_l : l.live.graph ≡ g = ap (λ (v : LiveGraph). v.graph) stopped.live ∙ sym same in
     record {
       state = l.state;
       resumed = subst (λ (v : Parts). MayBeResumed v l.state) of_l (stopped_resumes l stopped.line stopped.not_all);
       saved = subst (λ (v : Parts). HoldsLast room old new (Some (record l { live = record l.live { graph = v } }))) of_l holds;
-      late = subst (λ (v : Parts). all_firings v < fired l.state + n + most_sweeps * stations v) (sym same) few;
+      late = subst (λ (v : Parts). all_firings v < firing_count l.state + n + most_sweeps * stations v) (sym same) few;
     }
 
-pub late_state : (g : Parts) (n room : ℕ) (first : WorkLine) (saved : Option WorkLine) (last : WorkLine) (old new : DiskView) → g ≡ first.live.graph → IsLine first → 1 ≤ n → SavesWhenDue n first saved last → IsDone last → HoldsLast room old new saved → fired first.state + n + most_sweeps * stations g ≤ all_firings g → IsLateState g n room (held_now new)
+pub late_state : (g : Parts) (n room : ℕ) (first : WorkLine) (saved : Option WorkLine) (last : WorkLine) (old new : DiskView) → g ≡ first.live.graph → IsLine first → 1 ≤ n → SavesWhenDue n first saved last → IsDone last → HoldsLast room old new saved → firing_count first.state + n + most_sweeps * stations g ≤ all_firings g → IsLateState g n room (held_now new)
 late_state g n room first saved last old new same is some before done holds many =
-    let left : fired first.state < all_firings first.live.graph =
-    omega (arith, some, subst (λ (v : Parts). fired first.state + n + most_sweeps * stations v ≤ all_firings v) same many) in
+    let left : firing_count first.state < all_firings first.live.graph =
+    omega (arith, some, subst (λ (v : Parts). firing_count first.state + n + most_sweeps * stations v ≤ all_firings v) same many) in
     late_of g n room first saved old new same (saved_stopped n first saved last before) holds (few_after n first saved last is some before done left) many
 
 -- ---- what a crash leaves
@@ -165,7 +165,7 @@ leaves_after a b c room g first second =
     leaves_on a b c P first (leaves_also b c (IsOldOrState (held_now b) room g) P carry second)
 
 -- a save of a state in which a run may stop
-pub leaves_saved : (b c : DiskView) (room : ℕ) (l : WorkLine) → IsLine l → fired l.state < all_firings l.live.graph → LeavesOnly b c (IsOldOrNew (held_now b) room (text Differences l.live.graph l.state)) → LeavesOnly b c (IsOldOrState (held_now b) room l.live.graph)
+pub leaves_saved : (b c : DiskView) (room : ℕ) (l : WorkLine) → IsLine l → firing_count l.state < all_firings l.live.graph → LeavesOnly b c (IsOldOrNew (held_now b) room (text Differences l.live.graph l.state)) → LeavesOnly b c (IsOldOrState (held_now b) room l.live.graph)
 leaves_saved b c room l is left only =
     leaves_also b c (IsOldOrNew (held_now b) room (text Differences l.live.graph l.state)) (IsOldOrState (held_now b) room l.live.graph)
     (λ image either. ⊎_elim
@@ -176,7 +176,8 @@ leaves_saved b c room l is left only =
 
 -- ---- a run on its way
 
--- bursts have led from the first line to this one, with saves on the way; this many firings had the line that was saved last
+-- bursts have led from the first line to this one, with saves on the way; this many firings had the line that was saved
+-- last
 pub record SavesOn (tells : Bool) (room n : ℕ) (first last : WorkLine) (count : ℕ) (old now : DiskView) : Type 0 where
   pub saved : Option WorkLine
   pub before : SavesWhenDue n first saved last
@@ -185,7 +186,7 @@ pub record SavesOn (tells : Bool) (room n : ℕ) (first last : WorkLine) (count 
   pub leaves : IsTrue tells → LeavesOnly old now (IsOldOrState (held_now old) room first.live.graph)
   pub faults : old.faults ≤ now.faults
 
-pub saves_begin : (tells : Bool) (room n : ℕ) (first : WorkLine) (count : ℕ) (old : DiskView) → count ≡ fired first.state → SavesOn tells room n first first count old old
+pub saves_begin : (tells : Bool) (room n : ℕ) (first : WorkLine) (count : ℕ) (old : DiskView) → count ≡ firing_count first.state → SavesOn tells room n first first count old old
 saves_begin tells room n first count old counted = record {
   saved = None;
   before = begins;

@@ -8,7 +8,7 @@ use Rattle.line_base.specs.declared.event.Parts.{Parts}
 use Rattle.event_graph.specs.State.{State, tokens_in}
 use Rattle.event_graph.specs.Reached.{Reached}
 use Rattle.event_graph.specs.Circuit.{IsCircuit, tokens_on}
-use Rattle.line_core.specs.Consistent.{fired}
+use Rattle.line_core.specs.Consistent.{firing_count}
 use Rattle.line_core.specs.Run.{Dates}
 use Rattle.checkpoint.specs.declared.error.CheckpointError.{CheckpointError}
 use Rattle.checkpoint.specs.declared.error.CheckpointError.TheVariants.{NoMemory}
@@ -28,7 +28,7 @@ ResumesToLeast g s =
 
 -- a state in which a run may stop
 pub record MayBeResumed (g : Parts) (s : State) : Type 0 where
-  pub not_all : fired s < all_firings g
+  pub not_all : firing_count s < all_firings g
   pub reached : Reached g s
   pub circuits : (arcs : List ℕ) → IsCircuit g arcs → tokens_in s arcs ≡ tokens_on g arcs
   pub resumes : ResumesToLeast g s

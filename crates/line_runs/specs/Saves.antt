@@ -4,7 +4,7 @@ use Rattle.line_base.specs.declared.event.Parts.{Parts}
 use Rattle.event_graph.specs.Network.{stations}
 use Rattle.event_graph.specs.State.{State}
 use Rattle.event_graph.specs.Reached.{Reached}
-use Rattle.line_core.specs.Consistent.{fired}
+use Rattle.line_core.specs.Consistent.{firing_count}
 use Rattle.line_core.specs.Run.{Dates}
 use Rattle.line_worker.specs.Sweeps.{most_sweeps}
 use Rattle.line_workers.specs.Line.{WorkLine}
@@ -20,19 +20,19 @@ use Rattle.line_runs.specs.Store.{IsOver}
 
 -- how many firings were made at the last save, or as the run began where there was none
 abbrev pub counted_from : WorkLine → Option WorkLine → ℕ
-counted_from first None = fired first.state
-counted_from first (Some saved) = fired saved.state
+counted_from first None = firing_count first.state
+counted_from first (Some saved) = firing_count saved.state
 
 -- n firings were made since the last save or the beginning, and not all
 pub record IsDue (n from : ℕ) (l : WorkLine) : Type 0 where
-  pub since : from + n ≤ fired l.state
-  pub not_all : fired l.state < all_firings l.live.graph
+  pub since : from + n ≤ firing_count l.state
+  pub not_all : firing_count l.state < all_firings l.live.graph
 
 -- the line was saved where that was due, and else the disk is untouched; this many firings had the
 -- state that was saved last before, and this many has the one that was saved last now
 pub record SavesIfDue (tells : Bool) (room n : ℕ) (l : WorkLine) (before last : ℕ)
     (old new : DiskView) : Type 0 where
-  pub due_count : IsDue n before l → last ≡ fired l.state
+  pub due_count : IsDue n before l → last ≡ firing_count l.state
   pub due_saved : IsDue n before l → IsTrue tells →
       IsSaved (held_now new) room (text Differences l.live.graph l.state)
   pub else_count : ¬ IsDue n before l → last ≡ before
@@ -97,4 +97,4 @@ pub record IsLateState (g : Parts) (n : ℕ) (room : ℕ) (held : Held) : Type 0
   pub state : State
   pub resumed : MayBeResumed g state
   pub saved : IsSaved held room (text Differences g state)
-  pub late : all_firings g < fired state + n + most_sweeps * stations g
+  pub late : all_firings g < firing_count state + n + most_sweeps * stations g

@@ -2,7 +2,7 @@
 use Rattle.std.specs.Prelude.{◌≡◌, ℕ, ◌+◌, ◌*◌, ◌<◌, ◌≤◌, ◌⊎◌}
 use Rattle.line_base.specs.declared.event.Parts.{Parts}
 use Rattle.event_graph.specs.Network.{stations}
-use Rattle.line_core.specs.Consistent.{fired}
+use Rattle.line_core.specs.Consistent.{firing_count}
 use Rattle.line_core.specs.Run.{Run, Dates}
 use Rattle.line_worker.specs.Sweeps.{most_sweeps}
 use Rattle.line_workers.specs.Line.{WorkLine, run_in}
@@ -19,7 +19,7 @@ pub record FinishesBefore (n : ℕ) (first : WorkLine) (d : Dates) : Type 0 wher
   pub bursts : BurstsBelow n first count last
   pub counts : HasMade first last count
   pub done : IsDone last
-  pub all : fired last.state ≡ all_firings first.live.graph
+  pub all : firing_count last.state ≡ all_firings first.live.graph
   pub dates : d.rows ≡ last.state.logs
 
 -- bursts, before each of which fewer than n firings were made, lead to a line that has made n, and
@@ -29,7 +29,7 @@ pub record StopsFirst (n : ℕ) (first : WorkLine) (r : Run) : Type 0 where
   pub count : ℕ
   pub bursts : BurstsBelow n first count last
   pub counts : HasMade first last count
-  pub enough : n ≤ fired last.state
+  pub enough : n ≤ firing_count last.state
   pub undone : ¬ IsDone last
   pub state : r ≡ run_in last
 
@@ -55,4 +55,4 @@ pub record IsStopAt (g : Parts) (n begun made : ℕ) : Type 0 where
 -- how many firings a run makes that is asked to stop at n, where this many were made as it began
 abbrev pub CountsWell : Parts → ℕ → ℕ → Outcome → Type 0
 CountsWell g n begun (Finished d) = begun < all_firings g → IsShort g n begun
-CountsWell g n begun (Stopped r) = IsStopAt g n begun (fired r.state)
+CountsWell g n begun (Stopped r) = IsStopAt g n begun (firing_count r.state)

@@ -1,6 +1,6 @@
 ghost use Rattle.std.specs.Prelude.{◌≡◌, ℕ, ◌+◌, ◌*◌, ◌<◌, ◌≤◌, ◌↔◌, IsTrue, IfOk, OnOk, IsErrOf};
 ghost use Rattle.event_graph.specs.Network.{stations};
-ghost use Rattle.line_core.specs.Consistent.{fired};
+ghost use Rattle.line_core.specs.Consistent.{firing_count};
 ghost use Rattle.line_disk.specs.DiskView.{LeavesOnly, held_now};
 ghost use Rattle.line_io.specs.Faults.{Rose};
 ghost use Rattle.line_runs.specs.Saves.{IsDue, SavesIfDue, HasSaved, IsLateState};
@@ -77,7 +77,7 @@ fn save_line<D: Disk>(
 
 /// Whether a line is to be saved: this many firings were made since the last save, and not all.
 fn is_due(line: &Line, every: u64, saved: u64) -> bool
-    requires { saved ≤ fired line.now.state }
+    requires { saved ≤ firing_count line.now.state }
     ensures due { IsTrue result ↔ IsDue every saved line.now }
     ensures line { IsLine line.now }
 {
@@ -95,7 +95,7 @@ fn save_if_due<D: Disk>(
     disk: &mut D,
 ) -> Result<u64, SlotError>
     requires made_for { live.now ≡ line.now.live }
-    requires before { saved ≤ fired line.now.state }
+    requires before { saved ≤ firing_count line.now.state }
     ensures saved { IfOk result (λ last. SavesIfDue D.tells MAX_ROOM every line.now saved last
         (D.shown disk.old) (D.shown disk.new)) }
     ensures any_moment { IsTrue D.tells → LeavesOnly (D.shown disk.old) (D.shown disk.new)
@@ -137,7 +137,7 @@ pub fn run_with_slots<R: Threads + Sync, G: Gate, D: Disk>(
     ensures saves { IfOk result
         (HasSaved D.tells MAX_ROOM every line (D.shown disk.old) (D.shown disk.new)) }
     ensures late { OnOk result (IsTrue D.tells
-        → fired line.state + every + most_sweeps * stations live.now.graph ≤ all_firings live.now.graph
+        → firing_count line.state + every + most_sweeps * stations live.now.graph ≤ all_firings live.now.graph
         → IsLateState live.now.graph every MAX_ROOM (held_now (D.shown disk.new))) }
 
     // What a crash leaves, whatever is answered.

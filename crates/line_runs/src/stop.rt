@@ -1,5 +1,5 @@
 ghost use Rattle.std.specs.Prelude.{◌≡◌};
-ghost use Rattle.line_core.specs.Consistent.{fired};
+ghost use Rattle.line_core.specs.Consistent.{firing_count};
 ghost use Rattle.line_runs.specs.Headline.{EndsWell};
 ghost use Rattle.line_runs.specs.Stop.{EndsFirst, CountsWell};
 
@@ -32,7 +32,7 @@ pub fn run_until<R: Threads + Sync, G: Gate>(
     requires { live.now ≡ line.live }
     ensures headline { EndsWell live.now.graph result }
     ensures stop { EndsFirst firings line result }
-    ensures count { CountsWell live.now.graph firings (fired line.state) result }
+    ensures count { CountsWell live.now.graph firings (firing_count line.state) result }
 {
     let mut line = line;
     while !line.finished() {

@@ -3,11 +3,12 @@ use Rattle.std.proofs.Common.{◌≡◌, ℕ, ◌+◌, ◌^◌, ◌<◌, ◌≤�
 use Rattle.std.proofs.lemmas.List.{length-drop, length-replicate}
 use Rattle.line_base.specs.declared.limits.TheConstants.{MAX_CARDS}
 use Rattle.line_base.specs.declared.event.Parts.{Parts}
+use Rattle.line_base.specs.Limits.{most_ring_room}
 use Rattle.event_graph.specs.Network.{stations, jobs, arc, arc_count}
 use Rattle.event_graph.specs.State.{log, place}
 use Rattle.event_graph.proofs.Places.{place-start}
 use Rattle.line_core.specs.Consistent.{all_tokens}
-use Rattle.line_core.specs.Run.{Run, IsReached, begun}
+use Rattle.line_core.specs.Run.{Run, IsReached, first_run}
 use Rattle.line_core.proofs.Consistency.{reached_is_consistent}
 use Rattle.line_core.proofs.Runs.{length-tokens}
 use Rattle.line_setup.specs.Making.{FitsRoom}
@@ -34,7 +35,7 @@ few_tokens g r a same reached there =
     omega (arith, ap jobs same, place-few_tokens r a reached (omega (arith, ap arc_count same)))
 
 -- the start has on each arc the tokens that its ring has room for
-pub start_fits : (g : Parts) (r : Run) (room : ℕ) → r ≡ begun g → 1 ≤ room → room ≤ 10000 → FitsRoom room g r.state
+pub start_fits : (g : Parts) (r : Run) (room : ℕ) → r ≡ first_run g → 1 ≤ room → room ≤ most_ring_room → FitsRoom room g r.state
 start_fits g r room is some most = record {
   some = some;
   most = most;

@@ -2,6 +2,7 @@
 use Rattle.std.specs.Prelude.{◌≡◌, ◌≢◌, ℕ, ◌+◌, ◌-◌, ◌^◌, ◌<◌, ◌≤◌, ◌==◌, ⊤, List, [], ◌∷◌, ◌++◌, Option, None, Some, map, length, filter, slice_index, slice_index_or, slice_set}
 use Rattle.std.specs.List.{range_with_len}
 use Rattle.line_base.specs.declared.event.Parts.{Parts}
+use Rattle.line_base.specs.Limits.{most_ring_room}
 use Rattle.line_base.specs.Roomy.{RoomyLog}
 use Rattle.card_queue.specs.Plain.{PlainQueue}
 use Rattle.card_queue.specs.Put.{PutEnd}
@@ -51,14 +52,14 @@ pub record IsNewRoom (g : Parts) (begun : State) (a : ℕ) (put : RoomPutEnd) (t
   pub known : length (place begun a) ≤ room_known take
   pub space : room_space put + length (place begun a) ≡ put.ring.room
 
--- the room is 1 to 10,000, and a ring with room for its arc's tokens at the start and that many more takes those there
--- now
+-- the room is 1 to 10,000, and a ring with room for its arc's tokens at the start and that many more takes those that
+-- the arc has now
 pub record FitsRoom (room : ℕ) (g : Parts) (begun : State) : Type 0 where
   pub some : 1 ≤ room
-  pub most : room ≤ 10000
+  pub most : room ≤ most_ring_room
   pub fits : (a : ℕ) → a < arc_count g → length (place begun a) ≤ (arc g a).tokens + room
 
--- so it is, where a room is given
+-- where a room is given, it is such a room
 abbrev pub MayHold : Option ℕ → Parts → State → Type 0
 MayHold None g begun = ⊤
 MayHold (Some room) g begun = FitsRoom room g begun

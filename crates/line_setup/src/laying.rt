@@ -3,6 +3,7 @@ ghost use Rattle.line_setup.specs.Making.{room_on, FitsRoom, MayHold, HasRing, Q
 ghost use Rattle.line_setup.specs.Start.{MayBegin, AreLaidFor, HasLaid};
 ghost use Rattle.event_graph.specs.Network.{stations, jobs, arc, arc_count, IsGraph};
 ghost use Rattle.event_graph.specs.State.{place};
+ghost use Rattle.line_base.specs.declared.limits.TheConstants.{MAX_CARDS};
 
 use crate::start::Start;
 use card_queue::queue;
@@ -17,8 +18,8 @@ use std::marker::Model;
 use std::mem;
 
 /// The ends of the queues of the arcs: for each station its outlets and its inlets, in the order of the arcs, and for
-/// each worker the tokens with which the queues of its shelf begin, and the arcs whose queues they are; and how much room
-/// a ring has beyond the tokens with which its arc starts, if it has a bound.
+/// each worker the tokens with which the queues of its shelf begin, and the arcs whose queues they are; and how much
+/// room a ring has beyond the tokens with which its arc starts, if it has a bound.
 #[derive(Drop)]
 pub(crate) struct Ends {
     outlets: Vec<Vec<Outlet>>,
@@ -66,12 +67,12 @@ fn room_on(live: &Live, state: &State, a: u32) -> u32
 fn tokens_at_start(live: &Live, a: u32) -> u32
     requires { a < arc_count live.now.graph }
     ensures tokens { result ≡ (arc live.now.graph a).tokens }
-    ensures few { result ≤ 10_000 }
+    ensures few { result ≤ MAX_CARDS }
 {
     live.graph().tokens(a)
 }
 
-/// A ring for arc `a` whose room is bounded: that of the tokens with which the arc starts, and so much more.
+/// A ring for arc `a` with room for the tokens with which the arc starts, and for `room` more.
 fn bounded_ring(
     alloc: Global,
     live: &Live,

@@ -224,8 +224,8 @@ fn new_teams(
 ///
 /// A queue stands for each arc and begins with the tokens that the state has there: a ring between two workers, else a
 /// queue on the worker's shelf. Each ring, and each log, has room for the dates that are left to be made. Each queue on
-/// a shelf has room for a token of each job. Where a room is given, a ring has that of the tokens with which its arc
-/// starts and so much more.
+/// a shelf has room for a token of each job. Where a room is given, a ring has room for the tokens with which its arc
+/// starts and for that many more.
 pub(crate) fn teams_of(alloc: Global, start: &Start) -> Result<Vec<Team>, AllocError>
     requires { MayBegin start.now }
     ensures count { IfOk result (λ teams. length teams.items ≡ start.now.worker_count) }

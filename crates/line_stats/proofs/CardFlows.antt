@@ -1,5 +1,5 @@
--- Where a stage has a bound, cards hold its release back: it has released no more parts than its receiver has taken, and
--- the bound beyond the stage's starting stock.
+-- Where a stage has a bound, cards hold its release back: it has released no more parts than its receiver has taken,
+-- and the bound beyond the stage's starting stock.
 use Rattle.std.proofs.Common.{◌≡◌, ℕ, zero, suc, ◌+◌, ◌-◌, ◌<◌, ◌≤◌, Bool, true, false, eqb, length, Option, None, Some, refl, sym, ap, ◌∙◌, subst, arith}
 use Rattle.std.specs.Prelude.{IfSome}
 use Rattle.std.specs.Option.{option_map_or}
@@ -24,7 +24,7 @@ use Rattle.line_graph.proofs.PolicyRows.{policy_rows-conwip}
 use Rattle.line_graph.proofs.Inputs.{in_policy, feeds-next}
 use Rattle.line_graph.proofs.SharedRows.{in_kanban, in_extended_card}
 use Rattle.plant_model.specs.Bound.{bound}
-use Rattle.line_stats.specs.Counts.{done}
+use Rattle.line_stats.specs.Counts.{jobs_done}
 use Rattle.line_stats.proofs.Flows.{row-flow_soon, process-flow, move-flow, stock-flow}
 
 -- a stage that isn't first is fed by one
@@ -44,16 +44,16 @@ tree p sound = IsSound-FeedsLater sound
 
 module _ (p : Plant) (x : Table) (v : ℕ) (sound : IsSound p) (solves : Solves (graph p) x) where
   by_now : ℕ → ℕ
-  by_now t = done (graph p) x t v
+  by_now t = jobs_done (graph p) x t v
 
   -- what takes a stage's parts has taken no more than the starting stock and the parts that were released
-  through : (i : ℕ) → i < length p.stages → done (graph p) x (receiver p i) v ≤ starting p i + done (graph p) x (release p i) v
+  through : (i : ℕ) → i < length p.stages → jobs_done (graph p) x (receiver p i) v ≤ starting p i + jobs_done (graph p) x (release p i) v
   through i below =
       omega (arith, process-flow p x i v sound solves below, move-flow p x i v, stock-flow p x i v sound solves below)
 
   -- no more parts were delivered than were taken from a stage and stood behind it at the start
   abbrev IsBehind : ℕ → Type 0
-  IsBehind i = done (graph p) x (deliver p) v + starting p i ≤ done (graph p) x (receiver p i) v + path_stock p i
+  IsBehind i = jobs_done (graph p) x (deliver p) v + starting p i ≤ jobs_done (graph p) x (receiver p i) v + path_stock p i
 
   behind-step : (i : ℕ) → i < length p.stages → ((j : ℕ) → i < j → j < length p.stages → IsBehind j) → IsBehind i
   behind-step i below rest_behind = by_next (next p i) refl
@@ -61,11 +61,11 @@ module _ (p : Plant) (x : Table) (v : ℕ) (sound : IsSound p) (solves : Solves 
       by_next : (o : Option ℕ) → next p i ≡ o → IsBehind i
       by_next None is =
           let stock = path_stock-step p (tree p sound) i below ∙ ap (λ o. starting p i + option_map_or (path_stock p) o 0) is in
-          let end = ap (λ o. done (graph p) x (option_map_or (release p) o (deliver p)) v) is in
+          let end = ap (λ o. jobs_done (graph p) x (option_map_or (release p) o (deliver p)) v) is in
           omega arith
       by_next (Some j) is =
           let stock = path_stock-step p (tree p sound) i below ∙ ap (λ o. starting p i + option_map_or (path_stock p) o 0) is in
-          let end = ap (λ o. done (graph p) x (option_map_or (release p) o (deliver p)) v) is in
+          let end = ap (λ o. jobs_done (graph p) x (option_map_or (release p) o (deliver p)) v) is in
           let later : i < j = (tree p sound).later i j below is in
           let inside = (tree p sound).exists i j below is in
           let rest = rest_behind j later inside in
@@ -82,7 +82,7 @@ module _ (p : Plant) (x : Table) (v : ℕ) (sound : IsSound p) (solves : Solves 
     pub stage : ℕ
     pub exists : stage < length p.stages
     pub first : is_first p stage ≡ true
-    pub before : done (graph p) x (release p i) v + path_stock p i ≤ done (graph p) x (release p stage) v + path_stock p stage
+    pub before : jobs_done (graph p) x (release p i) v + path_stock p i ≤ jobs_done (graph p) x (release p stage) v + path_stock p stage
 
   first-step : (i : ℕ) → i < length p.stages → ((k : ℕ) → k < i → k < length p.stages → HasFirst k) → HasFirst i
   first-step i below find = by_first (is_first p i) refl
@@ -95,7 +95,7 @@ module _ (p : Plant) (x : Table) (v : ℕ) (sound : IsSound p) (solves : Solves 
           let later : k < i = (tree p sound).later k i fed.1 fed.2 in
           let found = find k later fed.1 in
           let stock = path_stock-step p (tree p sound) k fed.1 ∙ ap (λ o. starting p k + option_map_or (path_stock p) o 0) fed.2 in
-          let end = ap (λ o. done (graph p) x (option_map_or (release p) o (deliver p)) v) fed.2 in
+          let end = ap (λ o. jobs_done (graph p) x (option_map_or (release p) o (deliver p)) v) fed.2 in
           let step = through k fed.1 in
           let rest = found.before in
           record { stage = found.stage; exists = found.exists; first = found.first; before = omega arith }
@@ -104,9 +104,10 @@ module _ (p : Plant) (x : Table) (v : ℕ) (sound : IsSound p) (solves : Solves 
   find_first zero i enough below = absurd (omega arith)
   find_first (suc room) i enough below = first-step i below (λ k before inside. find_first room k (omega arith) inside)
 
-  -- the parts that a stage has released and its receiver has not taken, with its starting stock, are no more than its bound
+  -- the parts that a stage has released and its receiver has not taken, with its starting stock, are no more than its
+  -- bound
   abbrev IsHeldBack : ℕ → ℕ → Type 0
-  IsHeldBack i number = starting p i + done (graph p) x (release p i) v ≤ number + done (graph p) x (receiver p i) v
+  IsHeldBack i number = starting p i + jobs_done (graph p) x (release p i) v ≤ number + jobs_done (graph p) x (receiver p i) v
 
   stage-held : (i free : ℕ) → Contains (rows p) (card_row p free i) → IsHeldBack i (starting p i + free)
   stage-held i free row = omega (arith, row-flow_soon p x (card_row p free i) v solves row)

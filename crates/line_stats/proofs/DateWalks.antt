@@ -15,8 +15,8 @@ pub dates_until-later : (dates : List ℕ) (v w : ℕ) → v ≤ w → dates_unt
 dates_until-later dates v w le =
     sum_by-le-sum_by (λ d. cond (leb d v) 1 0) (λ d. cond (leb d w) 1 0) dates (λ d. test-later d v w le)
 
--- the walk has passed the first dates of those that entered: this many had left by the last of them, and this is the most so
--- far
+-- the walk has passed the first dates of those that entered: this many had left by the last of them, and this is the
+-- most so far
 pub record WalksDates (entered left : List ℕ) (start most gone before : ℕ) : Type 0 where
   pub known : (k : ℕ) → before ≤ k → k < length entered → gone ≤ dates_until left (get_or entered k 0)
   pub first : between entered left start 0 ≤ most

@@ -15,7 +15,7 @@ use Rattle.event_graph.specs.Table.{Table, date_in}
 use Rattle.event_graph.specs.Solves.{Solves}
 use Rattle.line_core.specs.Run.{Dates, IsLeastTable}
 use Rattle.line_graph.proofs.Sizes.{stations-graph, jobs-graph}
-use Rattle.line_stats.specs.Counts.{count_until, done, arrived}
+use Rattle.line_stats.specs.Counts.{count_until, jobs_done, parts_arrived}
 use Rattle.line_stats.proofs.CountsOfDates.{until-le, until-moved, until-none}
 
 pub exists_in : (p : Plant) (g : Parts) (t : ℕ) → g ≡ graph p → t < station_count p → t < stations g
@@ -26,8 +26,8 @@ pub numbered_in : (p q : Plant) (t : ℕ) (f : Plant → ℕ) → q ≡ p → t 
 numbered_in p q t f same is exists =
     (is ∙ ap f same, subst (λ (r : Plant). t < station_count r) same exists)
 
-pub done_in : (p : Plant) (g : Parts) (x : Table) (t u v n : ℕ) → g ≡ graph p → t ≡ u → n ≡ done g x t v → n ≡ done (graph p) x u v
-done_in p g x t u v n is at count = count ∙ ap (λ (h : Parts). done h x t v) is ∙ ap (λ s. done (graph p) x s v) at
+pub done_in : (p : Plant) (g : Parts) (x : Table) (t u v n : ℕ) → g ≡ graph p → t ≡ u → n ≡ jobs_done g x t v → n ≡ jobs_done (graph p) x u v
+done_in p g x t u v n is at count = count ∙ ap (λ (h : Parts). jobs_done h x t v) is ∙ ap (λ s. jobs_done (graph p) x s v) at
 
 -- what was counted, where parts are taken from others: the others are `all` of them, the taken are `gone`
 pub record AreCounted (m n all gone : ℕ) : Type 0 where
@@ -39,7 +39,7 @@ pub solves_in : (p : Plant) (d : Dates) → d.graph ≡ graph p → IsLeastTable
 solves_in p d is table = subst (λ (g : Parts). Solves g (date_in d.rows)) is table.least.solves
 
 -- at two stations, where parts go from the first to the second
-pub counted_in : (p : Plant) (d : Dates) (s t u w v m n : ℕ) → d.graph ≡ graph p → IsLeastTable d → s ≡ t → u ≡ w → m ≡ done d.graph (date_in d.rows) s v → n ≡ done d.graph (date_in d.rows) u v → (Solves (graph p) (date_in d.rows) → done (graph p) (date_in d.rows) w v ≤ done (graph p) (date_in d.rows) t v) → AreCounted m n (done (graph p) (date_in d.rows) t v) (done (graph p) (date_in d.rows) w v)
+pub counted_in : (p : Plant) (d : Dates) (s t u w v m n : ℕ) → d.graph ≡ graph p → IsLeastTable d → s ≡ t → u ≡ w → m ≡ jobs_done d.graph (date_in d.rows) s v → n ≡ jobs_done d.graph (date_in d.rows) u v → (Solves (graph p) (date_in d.rows) → jobs_done (graph p) (date_in d.rows) w v ≤ jobs_done (graph p) (date_in d.rows) t v) → AreCounted m n (jobs_done (graph p) (date_in d.rows) t v) (jobs_done (graph p) (date_in d.rows) w v)
 counted_in p d s t u w v m n is table first second all gone flow =
     let all_is = done_in p d.graph (date_in d.rows) s t v m is first all in
     let gone_is = done_in p d.graph (date_in d.rows) u w v n is second gone in
@@ -52,17 +52,17 @@ travel-read p i stages s below same =
     ap (λ xs. (get_or xs i s).travel) same ∙ ap (λ (t : Stage). t.travel) (get_or_default p.stages i s no_stage below)
 
 -- what has arrived by a date left the last machine by then less the travel
-pub arrived-after : (p : Plant) (x : Table) (i v w n : ℕ) → (stage_at p i).travel ≤ v → w ≡ v - (stage_at p i).travel → n ≡ done (graph p) x (last_machine p i) w → n ≡ arrived p x i v
+pub arrived-after : (p : Plant) (x : Table) (i v w n : ℕ) → (stage_at p i).travel ≤ v → w ≡ v - (stage_at p i).travel → n ≡ jobs_done (graph p) x (last_machine p i) w → n ≡ parts_arrived p x i v
 unfolding count_until
 arrived-after p x i v w n le is made =
-    made ∙ ap (λ (u : ℕ). done (graph p) x (last_machine p i) u) is ∙ sym (until-moved (jobs (graph p)) (x (last_machine p i)) (stage_at p i).travel v le)
+    made ∙ ap (λ (u : ℕ). jobs_done (graph p) x (last_machine p i) u) is ∙ sym (until-moved (jobs (graph p)) (x (last_machine p i)) (stage_at p i).travel v le)
 
-pub arrived-before : (p : Plant) (x : Table) (i v : ℕ) → v < (stage_at p i).travel → 0 ≡ arrived p x i v
+pub arrived-before : (p : Plant) (x : Table) (i v : ℕ) → v < (stage_at p i).travel → 0 ≡ parts_arrived p x i v
 unfolding count_until
 arrived-before p x i v lt = sym (until-none (jobs (graph p)) (x (last_machine p i)) (stage_at p i).travel v lt)
 
 -- the counts are small
-pub arrived-small : (p : Plant) (x : Table) (i v : ℕ) → IsSound p → arrived p x i v ≤ 20000
+pub arrived-small : (p : Plant) (x : Table) (i v : ℕ) → IsSound p → parts_arrived p x i v ≤ 20000
 unfolding count_until
 arrived-small p x i v sound =
     omega (arith, until-le (jobs (graph p)) (λ n. x (last_machine p i) n + (stage_at p i).travel) v, jobs-graph p, (HasSoundSizes-sound p sound).few_demands)

@@ -15,7 +15,7 @@ use Rattle.event_graph.proofs.Greatest.{greatest-same}
 use Rattle.live_check.proofs.Counts.{count_by-range-agree}
 use Rattle.line_graph.proofs.Sizes.{stations-graph}
 use Rattle.line_graph.proofs.SharedRows.{sum_by-alike}
-use Rattle.line_stats.specs.Counts.{job_numbers, count_until, done, arrived, in_process, in_move, in_stock, standing, backlog, last_date, peak, waiting}
+use Rattle.line_stats.specs.Counts.{job_numbers, count_until, jobs_done, parts_arrived, in_process, in_move, in_stock, standing, backlog, last_date, peak, waiting}
 
 -- what holds at each number from a on holds of each number of the list
 pub All-numbers : (P : ℕ → Type 0) (a n : ℕ) → ((k : ℕ) → a ≤ k → k < a + n → P k) → All P (range_with_len a n)
@@ -30,11 +30,11 @@ until-same g f h v same =
     count_by-range-agree (λ n. leb (f n) v) (λ n. leb (h n) v) 1 (jobs g) (λ n one low. ap (λ d. leb d v) (same n one (omega arith)))
 
 module _ (p : Plant) (sound : IsSound p) (x y : Table) (same : IsSameTable (graph p) x y) where
-  done-same : (t v : ℕ) → t ≤ deliver p → done (graph p) x t v ≡ done (graph p) y t v
+  done-same : (t v : ℕ) → t ≤ deliver p → jobs_done (graph p) x t v ≡ jobs_done (graph p) y t v
   done-same t v there =
       until-same (graph p) (x t) (y t) v (λ n one within. same t n (omega (arith, stations-graph p)) one within)
 
-  arrived-same : (i v : ℕ) → i < length p.stages → arrived p x i v ≡ arrived p y i v
+  arrived-same : (i v : ℕ) → i < length p.stages → parts_arrived p x i v ≡ parts_arrived p y i v
   arrived-same i v low =
       let travel = (stage_at p i).travel in
       until-same (graph p) (λ n. x (last_machine p i) n + travel) (λ n. y (last_machine p i) n + travel) v (λ n one within. ap (λ (d : ℕ). d + travel) (same (last_machine p i) n (omega (arith, stations-graph p, last_machine-below p i low)) one within))

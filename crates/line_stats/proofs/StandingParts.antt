@@ -16,13 +16,13 @@ use Rattle.event_graph.specs.GreatestValue.{greatest}
 use Rattle.event_graph.proofs.Greatest.{le-greatest, greatest-le}
 use Rattle.line_graph.proofs.Sizes.{stations-graph}
 use Rattle.plant_model.specs.Bound.{bound}
-use Rattle.line_stats.specs.Counts.{job_numbers, count_until, done, in_process, in_move, in_stock, standing, last_date, peak}
+use Rattle.line_stats.specs.Counts.{job_numbers, count_until, jobs_done, in_process, in_move, in_stock, standing, last_date, peak}
 use Rattle.line_stats.proofs.CountsOfDates.{until-all}
 use Rattle.line_stats.proofs.Flows.{process-flow, move-flow, stock-flow}
 use Rattle.line_stats.proofs.CardFlows.{held-back}
 
 -- what is released and not taken, with the starting stock
-pub standing-is : (p : Plant) (x : Table) (i v : ℕ) → IsSound p → Solves (graph p) x → i < length p.stages → standing p x i v ≡ starting p i + done (graph p) x (release p i) v - done (graph p) x (receiver p i) v
+pub standing-is : (p : Plant) (x : Table) (i v : ℕ) → IsSound p → Solves (graph p) x → i < length p.stages → standing p x i v ≡ starting p i + jobs_done (graph p) x (release p i) v - jobs_done (graph p) x (receiver p i) v
 unfolding standing in_process in_move in_stock
 standing-is p x i v sound solves below =
     omega (arith, process-flow p x i v sound solves below, move-flow p x i v, stock-flow p x i v sound solves below)
@@ -44,7 +44,7 @@ date-le-last p x t n exists some few =
     omega arith
 
 -- from the last date on all jobs are done
-done-all : (p : Plant) (x : Table) (t v : ℕ) → t < station_count p → last_date (graph p) x ≤ v → done (graph p) x t v ≡ jobs (graph p)
+done-all : (p : Plant) (x : Table) (t v : ℕ) → t < station_count p → last_date (graph p) x ≤ v → jobs_done (graph p) x t v ≡ jobs (graph p)
 unfolding count_until
 done-all p x t v exists late =
     until-all (jobs (graph p)) (x t) v (λ n some few. let h = date-le-last p x t n exists some few in omega arith)
@@ -81,7 +81,7 @@ peak-is p x i most sound solves below covers least =
 pub standing-bounded : (p : Plant) (x : Table) (i v : ℕ) → IsSound p → Solves (graph p) x → i < length p.stages → IfSome (bound p i) (λ number. standing p x i v ≤ number)
 standing-bounded p x i v sound solves below = by_bound (bound p i) (held-back p x v sound solves i below)
   where
-    by_bound : (o : Option ℕ) → IfSome o (λ number. starting p i + done (graph p) x (release p i) v ≤ number + done (graph p) x (receiver p i) v) → IfSome o (λ number. standing p x i v ≤ number)
+    by_bound : (o : Option ℕ) → IfSome o (λ number. starting p i + jobs_done (graph p) x (release p i) v ≤ number + jobs_done (graph p) x (receiver p i) v) → IfSome o (λ number. standing p x i v ≤ number)
     by_bound None h = h
     by_bound (Some number) h = omega (arith, standing-is p x i v sound solves below)
 

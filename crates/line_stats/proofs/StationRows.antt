@@ -6,7 +6,7 @@ use Rattle.plant_model.specs.Line.{station_count}
 use Rattle.plant_model.specs.Graph.{graph}
 use Rattle.event_graph.specs.Table.{date_in}
 use Rattle.line_core.specs.Run.{Dates, IsLeastTable}
-use Rattle.line_stats.specs.Counts.{done}
+use Rattle.line_stats.specs.Counts.{jobs_done}
 use Rattle.line_stats.specs.Between.{dates_until}
 use Rattle.line_stats.proofs.RisingDates.{lists_keep_order, row-rises, count-row}
 use Rattle.line_stats.proofs.PlantTables.{exists_in, done_in}
@@ -21,6 +21,6 @@ module _ (p : Plant) (d : Dates) (t : ℕ) (row : List ℕ) (of_plant : d.graph 
       omega (arith, ap length read, table.a_date_each t (exists_in p d.graph t of_plant exists), table.limits.few_jobs)
 
   -- how many of the dates are at most v is how many jobs the station has done by v
-  pub row-done : (u v : ℕ) → t ≡ u → dates_until row v ≡ done (graph p) (date_in d.rows) u v
+  pub row-done : (u v : ℕ) → t ≡ u → dates_until row v ≡ jobs_done (graph p) (date_in d.rows) u v
   row-done u v at =
       done_in p d.graph (date_in d.rows) t u v (dates_until row v) of_plant at (ap (λ dates. dates_until dates v) read ∙ count-row d t v table (exists_in p d.graph t of_plant exists))

@@ -19,24 +19,24 @@ unfoldable pub count_until : Parts → (ℕ → ℕ) → ℕ → ℕ
 count_until g date v = count_by (λ n. nat_le (date n) v) (job_numbers g)
 
 -- how many jobs station t has done by date v
-abbrev pub done : Parts → Table → ℕ → ℕ → ℕ
-done g x t v = count_until g (x t) v
+abbrev pub jobs_done : Parts → Table → ℕ → ℕ → ℕ
+jobs_done g x t v = count_until g (x t) v
 
 -- how many jobs of stage i have left its last machine and ended their travel by date v
-abbrev pub arrived : Plant → Table → ℕ → ℕ → ℕ
-arrived p x i v = count_until (graph p) (λ n. x (last_machine p i) n + (stage_at p i).travel) v
+abbrev pub parts_arrived : Plant → Table → ℕ → ℕ → ℕ
+parts_arrived p x i v = count_until (graph p) (λ n. x (last_machine p i) n + (stage_at p i).travel) v
 
 -- how many parts are on the machines of stage i at date v: released, and not done by the last machine
 unfoldable pub in_process : Plant → Table → ℕ → ℕ → ℕ
-in_process p x i v = done (graph p) x (release p i) v - done (graph p) x (last_machine p i) v
+in_process p x i v = jobs_done (graph p) x (release p i) v - jobs_done (graph p) x (last_machine p i) v
 
 -- how many parts are on their travel from stage i at date v
 unfoldable pub in_move : Plant → Table → ℕ → ℕ → ℕ
-in_move p x i v = done (graph p) x (last_machine p i) v - arrived p x i v
+in_move p x i v = jobs_done (graph p) x (last_machine p i) v - parts_arrived p x i v
 
 -- how many parts are in the stock of stage i at date v: the starting stock and what arrived, less what was taken
 unfoldable pub in_stock : Plant → Table → ℕ → ℕ → ℕ
-in_stock p x i v = starting p i + arrived p x i v - done (graph p) x (receiver p i) v
+in_stock p x i v = starting p i + parts_arrived p x i v - jobs_done (graph p) x (receiver p i) v
 
 -- how many parts of stage i there are at date v
 unfoldable pub standing : Plant → Table → ℕ → ℕ → ℕ
@@ -44,7 +44,7 @@ standing p x i v = in_process p x i v + in_move p x i v + in_stock p x i v
 
 -- how many demands are not delivered at date v
 unfoldable pub backlog : Plant → Table → ℕ → ℕ
-backlog p x v = done (graph p) x 0 v - done (graph p) x (deliver p) v
+backlog p x v = jobs_done (graph p) x 0 v - jobs_done (graph p) x (deliver p) v
 
 -- the greatest date of all stations and jobs
 unfoldable pub last_date : Parts → Table → ℕ

@@ -5,7 +5,7 @@ ghost use Rattle.event_graph.specs.Network.{stations};
 ghost use Rattle.event_graph.specs.Table.{date_in};
 ghost use Rattle.line_core.specs.Run.{IsLeastTable};
 ghost use Rattle.line_stats.specs.Between.{dates_until};
-ghost use Rattle.line_stats.specs.Counts.{done};
+ghost use Rattle.line_stats.specs.Counts.{jobs_done};
 ghost use Rattle.live_check.specs.MoreTokens.{ListsKeepOrder};
 
 use line_base::Date;
@@ -34,10 +34,10 @@ pub fn dates_until_from(dates: &[Date], known: usize, at: Date) -> usize
 }
 
 /// How many jobs station `t` has done by a date.
-pub fn done(table: &Table, t: u32, at: Date) -> u32
+pub fn jobs_done(table: &Table, t: u32, at: Date) -> u32
     requires station { t < stations table.now.graph }
     requires order { ListsKeepOrder table.now.graph }
-    ensures count { result ≡ done table.now.graph (date_in table.now.rows) t at }
+    ensures count { result ≡ jobs_done table.now.graph (date_in table.now.rows) t at }
     ensures least { IsLeastTable table.now }
 {
     dates_until(table.dates(t), at) as u32

@@ -12,7 +12,7 @@ use Rattle.line_base.specs.declared.times.Times.TheVariants.{Fixed}
 use Rattle.line_base.specs.Times.{time_at}
 use Rattle.plant_model.specs.declared.plant.Plant.{Plant}
 use Rattle.plant_model.specs.Line.{stage_at, machine_at, machine_station, station_count, no_stage, no_machine}
-use Rattle.plant_model.specs.Graph.{worked, plain, onward, rows, times, stage_times, graph}
+use Rattle.plant_model.specs.Graph.{worked_row, plain_row, onward, rows, times, stage_times, graph}
 use Rattle.plant_model.specs.Sound.{IsSound}
 use Rattle.event_graph.specs.Network.{jobs}
 use Rattle.event_graph.specs.Table.{Table}
@@ -116,8 +116,8 @@ busy-fits p x i j sound solves below inside =
     let m = machine_station p i j in
     let servers = (machine_at p i j).servers in
     let last = last_date (graph p) x in
-    let row = worked m m servers in
-    let has = in_machines p i j row below inside (Contains-head row (plain m m 1 0 ∷ onward p i j ∷ [])) in
+    let row = worked_row m m servers in
+    let has = in_machines p i j row below inside (Contains-head row (plain_row m m 1 0 ∷ onward p i j ∷ [])) in
     let meets = All-contains (Meets (times p) (jobs (graph p)) x) (rows p) row (Meets-solves p x solves) has in
     let f = from_one (x m) in
     let work = time_at (machine_at p i j).times in

@@ -1,4 +1,5 @@
--- The summary of a small plant, against the text that was written by hand, and that of a plant in which nothing takes time.
+-- The summary of a small plant, against the text that was written by hand, and that of a plant in which nothing takes
+-- time.
 use Rattle.std.specs.Prelude.{◌≡◌, ℕ, List, [], ◌∷◌, ◌++◌, None, codes, refl}
 use Rattle.std.specs.Fmt.{digits}
 use Rattle.plant_model.specs.declared.plant.Plant.{Plant}

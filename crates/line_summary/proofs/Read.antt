@@ -9,10 +9,10 @@ use Rattle.line_stats.specs.Counts.{last_date, waiting}
 use Rattle.line_stats.proofs.PlantTables.{solves_in}
 use Rattle.line_summary.specs.Figures.{figures}
 use Rattle.line_summary.specs.OverTime.{parts_sum, backlog_sum}
-use Rattle.line_summary.specs.Summarized.{IsRead}
+use Rattle.line_summary.specs.Summarized.{IsOfRun}
 use Rattle.line_summary.specs.Waits.{most_wait, worst_job}
 use Rattle.line_summary.specs.declared.figures.Figures.{Figures}
-use Rattle.line_summary.specs.declared.texts.Reading.{Reading}
+use Rattle.line_summary.specs.declared.texts.SummaryRun.{SummaryRun}
 use Rattle.line_summary.proofs.Stays.{backlog-adds_up}
 
 -- the figures of a plant's line, each by what it is
@@ -24,7 +24,7 @@ pub record HasFigures (p : Plant) (x : Table) (f : Figures) : Type 0 where
   pub worst : f.worst ≡ worst_job (graph p) x
   pub parts : f.parts ≡ parts_sum p x
 
-module _ (r : Reading) (read : IsRead r) where
+module _ (r : SummaryRun) (read : IsOfRun r) where
   -- those that were read
   pub figures-read : HasFigures r.plant (date_in r.table.rows) r.figures
   unfolding figures

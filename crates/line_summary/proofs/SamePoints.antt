@@ -19,7 +19,7 @@ use Rattle.line_summary.specs.Figures.{figures}
 use Rattle.line_summary.specs.OverTime.{sum_until, stage_sum, parts_sum}
 use Rattle.line_summary.specs.Waits.{wait, first_of, most_wait, worst_job}
 use Rattle.line_summary.specs.declared.figures.Figures.{Figures}
-use Rattle.card_sizing.specs.Sized.{has_single_count, sized}
+use Rattle.card_sizing.specs.Sized.{has_single_count, sized_plant}
 use Rattle.card_sizing.proofs.SizedSound.{sound_sized}
 use Rattle.line_summary.specs.Laws.{HasOneCurve}
 use Rattle.line_summary.specs.Points.{AreFigures, IsPoint}
@@ -103,7 +103,7 @@ one_point p c Dead (Alive g) sound single few first second = absurd (first.1 sec
 one_point p c (Alive f) TooFew sound single few first second = absurd (omega (arith, first.0, second))
 one_point p c (Alive f) Dead sound single few first second = absurd (second.1 first.1.0)
 one_point p c (Alive f) (Alive g) sound single few first second =
-    ap (λ (h : Figures). Alive h) (one_figures (sized p c) f g (sound_sized p c sound single first.0 few) first.1.1 second.1.1)
+    ap (λ (h : Figures). Alive h) (one_figures (sized_plant p c) f g (sound_sized p c sound single first.0 few) first.1.1 second.1.1)
 
 pub one_curve : (p : Plant) → IsSound p → has_single_count p ≡ true → HasOneCurve p
 one_curve p sound single c [] [] same few first second = refl

@@ -16,7 +16,7 @@ use Rattle.plant_model.proofs.SoundPlants.{IsSoundStage-sound}
 use Rattle.plant_model.specs.declared.plant.Plant.{Plant}
 use Rattle.plant_model.specs.Line.{stage_at, release, last_machine, machine_station, machine_numbers, deliver, station_count}
 use Rattle.plant_model.specs.Bound.{bound}
-use Rattle.plant_model.specs.Graph.{Row, worked, onward, machine_rows, times, rows, graph}
+use Rattle.plant_model.specs.Graph.{Row, worked_row, onward, machine_rows, times, rows, graph}
 use Rattle.plant_model.specs.Sound.{IsSound}
 use Rattle.plant_model.proofs.LayoutStations.{last_machine-below}
 use Rattle.event_graph.specs.Network.{jobs, stations}
@@ -96,7 +96,7 @@ module _ (p : Plant) (x : Table) (sound : IsSound p) (solves : Solves (graph p) 
   -- no machine is done with a job before its release
   machine-after : (i j n : ℕ) → i < length p.stages → j < length (stage_at p i).machines → 1 ≤ n → n ≤ jobs (graph p) → x (release p i) n ≤ x (machine_station p i j) n
   machine-after i zero n below inside some few =
-      let entry = worked (release p i) (machine_station p i 0) 0 in
+      let entry = worked_row (release p i) (machine_station p i 0) 0 in
       let row = in_stages p i entry below (Contains-head entry (flat_map (machine_rows p i) (machine_numbers p i))) in
       row-after p x entry n solves row refl some few
   machine-after i (suc j) n below inside some few =
@@ -105,7 +105,7 @@ module _ (p : Plant) (x : Table) (sound : IsSound p) (solves : Solves (graph p) 
       let inner = onward-inner p i j (omega arith) in
       let has = in_machines p i j (onward p i j) below (omega arith) (2, omega arith, refl) in
       let row = subst (Contains (rows p)) inner has in
-      let h = row-after p x (worked (machine_station p i j) (machine_station p i (j + 1)) 0) n solves row refl some few in
+      let h = row-after p x (worked_row (machine_station p i j) (machine_station p i (j + 1)) 0) n solves row refl some few in
       subst (λ k. x (release p i) n ≤ x (machine_station p i k) n) e (omega (arith, h, before))
 
   pub parts-add_up : (i : ℕ) → i < length p.stages → process_sum p x i ≡ sum_by (λ n. x (last_machine p i) n - x (release p i) n) (job_numbers (graph p))

@@ -5,7 +5,7 @@ use Rattle.std.proofs.Math.Nat.{mul-le-mul}
 use Rattle.event_graph.specs.Network.{stations, jobs}
 use Rattle.event_graph.specs.Table.{date_in}
 use Rattle.line_core.specs.Run.{Dates, IsLeastTable}
-use Rattle.line_stats.specs.Counts.{done, count_until}
+use Rattle.line_stats.specs.Counts.{jobs_done, count_until}
 use Rattle.line_stats.proofs.RisingDates.{date-row}
 use Rattle.line_summary.specs.OverTime.{sum_until}
 use Rattle.line_summary.proofs.OverTime.{sum-row-left, sum-row-done, sum-until-small}
@@ -14,7 +14,7 @@ module _ (d : Dates) (t : ℕ) (table : IsLeastTable d) (exists : t < stations d
   pub row-short : length (get_or d.rows t []) ≤ 20_000
   row-short = omega (arith, table.a_date_each t exists, table.limits.few_jobs)
 
-  pub done-row : (end : ℕ) → sum_by (λ date. end - 0 - date) (get_or d.rows t []) ≡ sum_until end (done d.graph (date_in d.rows) t)
+  pub done-row : (end : ℕ) → sum_by (λ date. end - 0 - date) (get_or d.rows t []) ≡ sum_until end (jobs_done d.graph (date_in d.rows) t)
   unfolding count_until
   done-row end =
       sum-row-done end (jobs d.graph) (date_in d.rows t) (get_or d.rows t []) (table.a_date_each t exists) (λ k below. sym (date-row d t k))

@@ -7,7 +7,7 @@ use Rattle.plant_model.specs.Graph.{graph}
 use Rattle.event_graph.specs.Live.{IsLive}
 use Rattle.event_graph.specs.Least.{IsLeast}
 use Rattle.event_graph.specs.Table.{date_in}
-use Rattle.card_sizing.specs.Sized.{sized, lowest}
+use Rattle.card_sizing.specs.Sized.{sized_plant, lowest}
 use Rattle.line_summary.specs.Figures.{figures}
 use Rattle.line_summary.specs.declared.figures.Figures.{Figures}
 use Rattle.line_summary.specs.declared.point.Point.{Point}
@@ -28,8 +28,8 @@ IsPointOf p (Alive f) = IsLive (graph p) × AreFigures p f
 -- what c cards give: they are fewer than the stock needs, or enough, and this is what the plant gives with them
 abbrev pub IsPoint : Plant → ℕ → Point → Type 0
 IsPoint p c TooFew = c < lowest p
-IsPoint p c Dead = (lowest p ≤ c) × IsPointOf (sized p c) Dead
-IsPoint p c (Alive f) = (lowest p ≤ c) × IsPointOf (sized p c) (Alive f)
+IsPoint p c Dead = (lowest p ≤ c) × IsPointOf (sized_plant p c) Dead
+IsPoint p c (Alive f) = (lowest p ≤ c) × IsPointOf (sized_plant p c) (Alive f)
 
 -- what the counts from c on give, one after another
 abbrev pub ArePoints : Plant → ℕ → List Point → Type 0

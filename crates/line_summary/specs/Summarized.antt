@@ -1,4 +1,4 @@
--- The text of a `Summary`, and what was read of a line beforehand.
+-- The text of a `Summary`, and what was found of its run beforehand.
 use Rattle.std.specs.Prelude.{◌≡◌, ℕ, List}
 use Rattle.line_base.specs.declared.event.Parts.{Parts}
 use Rattle.plant_model.specs.declared.plant.Plant.{Plant}
@@ -12,7 +12,7 @@ use Rattle.line_summary.specs.Machines.{machine_uses}
 use Rattle.line_summary.specs.SummaryText.{summary_text}
 use Rattle.line_summary.specs.Waits.{percentile, at_once}
 use Rattle.line_summary.specs.declared.percentiles.Percentiles.{Percentiles}
-use Rattle.line_summary.specs.declared.texts.Reading.{Reading}
+use Rattle.line_summary.specs.declared.texts.SummaryRun.{SummaryRun}
 
 -- the text of the summary
 abbrev pub text_of : PlantDates → List ℕ
@@ -31,8 +31,8 @@ pub record ArePercentiles (g : Parts) (x : Table) (r : Percentiles) : Type 0 whe
   pub p99 : r.p99 ≡ percentile g x 99
   pub at_once : r.at_once ≡ at_once g x
 
--- what was read of a line is what its plant and its table say
-pub record IsRead (r : Reading) : Type 0 where
+-- what was found of a run is what its plant and its table say
+pub record IsOfRun (r : SummaryRun) : Type 0 where
   pub line : IsLine r.plant r.numbers r.table
   pub figures : r.figures ≡ figures r.plant (date_in r.table.rows)
   pub percentiles : ArePercentiles (graph r.plant) (date_in r.table.rows) r.percentiles

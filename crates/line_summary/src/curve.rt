@@ -2,7 +2,7 @@
 ghost use Rattle.std.specs.Prelude.{◌≡◌, ◌+◌, ◌-◌, ◌<◌, ◌≤◌, length, true, false, IfSome, OnOk, OnErr, IfErr};
 ghost use Rattle.card_sizing.specs.Sized.{has_single_count, lowest};
 ghost use Rattle.line_base.specs.Limits.{most_cards};
-ghost use Rattle.line_io.specs.Outgoing.{emptied};
+ghost use Rattle.line_io.specs.Outgoing.{nothing_waiting};
 ghost use Rattle.line_summary.specs.Curve.{HavePoints, PutsRows, EndsEarly, PutsPrefixOfCurve};
 ghost use Rattle.line_summary.specs.Points.{IsPoint};
 ghost use Rattle.line_summary.specs.declared.curve.CurveError.{CurveError};
@@ -73,7 +73,8 @@ fn counts_each(plant: &Plant) -> u32
     (DATES_EACH / dates).clamp(1, MOST_EACH) as u32
 }
 
-/// How many counts are found before their rows are written: a fixed number for each worker, and one where there is one worker.
+/// How many counts are found before their rows are written: a fixed number for each worker, and one where there is one
+/// worker.
 fn block_size(plant: &Plant, workers: u32) -> u32
     requires { 1 ≤ workers }
     ensures { 1 ≤ result }
@@ -132,8 +133,8 @@ fn write_block<R: Threads + Sync, K: Sink>(
     requires within { first + size ≤ most_cards + 1 }
     requires some { 0 < size }
     requires workers { 1 ≤ workers }
-    requires empty { out.old ≡ emptied false }
-    ensures as_new { OnOk result (out.new ≡ emptied false) }
+    requires empty { out.old ≡ nothing_waiting false }
+    ensures as_new { OnOk result (out.new ≡ nothing_waiting false) }
     ensures rows { OnOk result (PutsRows plant.now first size
         (K.shown sink.old) (K.shown sink.new)) }
     ensures early { IfErr result (EndsEarly plant.now first size
@@ -151,10 +152,10 @@ fn write_block<R: Threads + Sync, K: Sink>(
     Ok(())
 }
 
-/// Writes a row for each count of cards from `from` to `to`: what the plant gives with this many cards at each stage, or
-/// for the line under CONWIP. The counts are shared among at most `workers` threads, and the text doesn't depend on how
-/// many these are. They go in blocks, and the rows of a block are put, each to its end, before the next is begun. No
-/// more memory is held than a block takes: for each worker a run of the line, and the figures of each of its counts.
+/// Writes a row for each count of cards from `from` to `to`: what the plant gives with this many cards at each stage,
+/// or for the line under CONWIP. The counts are shared among at most `workers` threads, and the text doesn't depend on
+/// how many these are. They go in blocks, and the rows of a block are put, each to its end, before the next is begun.
+/// No more memory is held than a block takes: for each worker a run of the line, and the figures of each of its counts.
 pub fn write_curve<R: Threads + Sync, K: Sink>(
     rt: &R,
     alloc: Global,

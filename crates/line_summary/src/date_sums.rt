@@ -4,7 +4,7 @@ ghost use Rattle.std.specs.Prelude.{◌≡◌, ◌+◌, ◌-◌, ◌*◌, ◌<�
 ghost use Rattle.event_graph.specs.Network.{stations};
 ghost use Rattle.event_graph.specs.Table.{date_in};
 ghost use Rattle.line_core.specs.Run.{IsLeastTable};
-ghost use Rattle.line_stats.specs.Counts.{done, count_until};
+ghost use Rattle.line_stats.specs.Counts.{jobs_done, count_until};
 ghost use Rattle.line_summary.specs.OverTime.{sum_until};
 
 use line_base::{Date, MAX_DEMANDS};
@@ -25,7 +25,7 @@ fn time_left(dates: &[Date], travel: Date, end: Date) -> u128
 /// The sum over time, up to the end, of how many jobs a station has done.
 pub fn done_sum(table: &Table, t: u32, end: Date) -> u128
     requires { t < stations table.now.graph }
-    ensures sum { result ≡ sum_until end (done table.now.graph (date_in table.now.rows) t) }
+    ensures sum { result ≡ sum_until end (jobs_done table.now.graph (date_in table.now.rows) t) }
     ensures small { result ≤ 20_000 * 2 ^ 64 }
     ensures least { IsLeastTable table.now }
 {

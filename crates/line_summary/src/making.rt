@@ -1,7 +1,7 @@
 //! What a summary is made of.
 ghost use Rattle.std.specs.Prelude.{◌≡◌, false, IfOk};
 ghost use Rattle.event_graph.specs.Table.{date_in};
-ghost use Rattle.line_io.specs.Outgoing.{emptied};
+ghost use Rattle.line_io.specs.Outgoing.{nothing_waiting};
 ghost use Rattle.line_summary.specs.Machines.{machine_uses};
 ghost use Rattle.line_summary.specs.Summarized.{ArePercentiles, IsOfPlant};
 
@@ -23,7 +23,7 @@ pub fn memory_for(
     ensures numbers { IfOk result (λ made. made.0 ≡ plant.now) }
     ensures percentiles { IfOk result (λ made. ArePercentiles table.now.graph (date_in table.now.rows) made.1) }
     ensures uses { IfOk result (λ made. made.2.items ≡ machine_uses plant.now) }
-    ensures out { IfOk result (λ made. made.3 ≡ emptied false) }
+    ensures out { IfOk result (λ made. made.3 ≡ nothing_waiting false) }
 {
     let percentiles = wait_percentiles(alloc, table)?;
     let out = Outgoing::new(alloc)?;

@@ -42,8 +42,11 @@ fn count_zeros(waits: &[Date]) -> usize
     waits.iter().filter(|wait| **wait == 0).count()
 }
 
-/// The least of the waits that at least this many percent of them don't exceed: it stands at place `percent` of a
-/// hundred of them, rounded up, and places count from 1.
+/// The least of the waits that at least this many percent of them don't exceed. It is wait number `count` in order,
+/// where `count` is this many percent of their number, rounded up.
+///
+/// Source of the rule: Hyndman and Fan 1996, Sample quantiles in statistical packages, definition 1, the inverse of the
+/// empirical distribution function.
 fn percentile(sorted: &[Date], percent: usize) -> Date
     requires in_order { IsNonDecreasing sorted.now }
     requires some { 1 ≤ length sorted.now }
@@ -53,8 +56,8 @@ fn percentile(sorted: &[Date], percent: usize) -> Date
     ensures enough { percent * length sorted.now ≤ 100 * dates_until sorted.now result }
     ensures least { (v : ℕ) → v < result → 100 * dates_until sorted.now v < percent * length sorted.now }
 {
-    let place = (percent * sorted.len()).div_ceil(100);
-    sorted[place - 1]
+    let count = (percent * sorted.len()).div_ceil(100);
+    sorted[count - 1]
 }
 
 /// The percentiles of a table's waits, which were sorted.

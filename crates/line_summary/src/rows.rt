@@ -1,6 +1,6 @@
 //! The rows of a curve.
 ghost use Rattle.std.specs.Prelude.{◌≡◌, false};
-ghost use Rattle.line_io.specs.Outgoing.{Pushed, stream, emptied};
+ghost use Rattle.line_io.specs.Outgoing.{Pushed, stream, nothing_waiting};
 ghost use Rattle.line_io.specs.SinkView.{WritesText};
 ghost use Rattle.line_summary.specs.CurveText.{too_few_row, dead_row, figures_row, row_of};
 
@@ -63,10 +63,10 @@ pub fn write_row<K: Sink>(
     count: u32,
     point: &Point,
 ) -> Result<(), Failed>
-    requires { out.old ≡ emptied false }
+    requires { out.old ≡ nothing_waiting false }
     ensures puts { WritesText (K.shown sink.old) (K.shown sink.new)
         (row_of count point.now) result }
-    ensures as_new { out.new ≡ emptied false }
+    ensures as_new { out.new ≡ nothing_waiting false }
 {
     push_row(out, sink, count, point);
     out.finish(sink)

@@ -5,7 +5,7 @@ ghost use Rattle.line_summary.specs.Summarized.{IsOfPlant, text_of};
 
 use crate::figures::Figures;
 use crate::making::memory_for;
-use crate::texts::{Reading, write_text};
+use crate::texts::{SummaryRun, write_text};
 use line_core::Table;
 use line_io::{Failed, Outgoing, Sink};
 use plant_model::Plant;
@@ -15,22 +15,22 @@ use std::marker::Model;
 /// The summary of a finished run of a plant, and the memory for writing it. Contracts see the plant and the dates.
 #[derive(Drop)]
 pub struct Summary {
-    line: Reading,
+    line: SummaryRun,
     out: Outgoing,
 }
 
 impl Model for Summary {
     ghost use Rattle.std.specs.Prelude.{◌≡◌, false};
     ghost use Rattle.line_core.specs.Run.{IsLeastTable};
-    ghost use Rattle.line_io.specs.Outgoing.{emptied};
+    ghost use Rattle.line_io.specs.Outgoing.{nothing_waiting};
     ghost use Rattle.line_stats.specs.PlantDates.{PlantDates};
-    ghost use Rattle.line_summary.specs.Summarized.{IsRead};
+    ghost use Rattle.line_summary.specs.Summarized.{IsOfRun};
 
     ghost Value = { PlantDates };
 
     ghost view = { λ s. record { plant = s.line.plant; rows = s.line.table.rows } };
 
-    ghost invariant = { λ s. IsRead s.line × IsLeastTable s.line.table × (s.out ≡ emptied false) };
+    ghost invariant = { λ s. IsOfRun s.line × IsLeastTable s.line.table × (s.out ≡ nothing_waiting false) };
 }
 
 impl Summary {
@@ -49,7 +49,7 @@ impl Summary {
             drop(table);
             return Err(AllocError);
         };
-        let line = Reading {
+        let line = SummaryRun {
             figures: Figures::of(&plant, &numbers, &table),
             plant,
             numbers,

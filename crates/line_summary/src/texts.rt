@@ -4,7 +4,7 @@ ghost use Rattle.std.specs.Prelude.{◌<◌, length, slice_index_or};
 ghost use Rattle.event_graph.specs.Table.{date_in};
 ghost use Rattle.line_io.specs.Outgoing.{Pushed, stream};
 ghost use Rattle.line_summary.specs.Machines.{label_of};
-ghost use Rattle.line_summary.specs.Summarized.{IsRead};
+ghost use Rattle.line_summary.specs.Summarized.{IsOfRun};
 ghost use Rattle.line_summary.specs.SummaryText.{job_lines, wait_line, percentile_line, at_once_line, backlog_line, parts_line, head_lines, stage_line, machine_line, busiest_line, summary_text};
 ghost use Rattle.plant_model.specs.Line.{stage_at, machine_at, no_machine, stage_numbers};
 
@@ -22,9 +22,9 @@ use line_report::{write_number_behind, write_number_line, write_peak_end};
 use line_stats::peak;
 use plant_model::{LineNumbers, Machine, Plant, bound_of};
 
-/// A line, and what was read of it beforehand: what writing its summary looks at.
+/// A finished run of a plant, and what was found of it beforehand: what writing its summary looks at.
 #[derive(Drop)]
-pub struct Reading {
+pub struct SummaryRun {
     pub plant: Plant,
     /// The numbers of its stations.
     pub numbers: LineNumbers,
@@ -106,8 +106,8 @@ fn write_parts<K: Sink>(out: &mut Outgoing, sink: &mut K, sum: u128, last: Date)
 }
 
 /// Writes what is said of the jobs. The sum of the waits is that of the backlog over time (Little's law).
-fn write_head<K: Sink>(out: &mut Outgoing, sink: &mut K, line: &Reading)
-    requires { IsRead line.now }
+fn write_head<K: Sink>(out: &mut Outgoing, sink: &mut K, line: &SummaryRun)
+    requires { IsOfRun line.now }
     ensures { Pushed (stream (K.shown sink.old) out.old) (stream (K.shown sink.new) out.new)
         (head_lines line.now.plant (date_in line.now.table.rows)) }
 {
@@ -123,8 +123,8 @@ fn write_head<K: Sink>(out: &mut Outgoing, sink: &mut K, line: &Reading)
 }
 
 /// Writes the mean parts of a stage in process, on their travel and in stock, and its peak with its bound.
-fn write_stage<K: Sink>(out: &mut Outgoing, sink: &mut K, line: &Reading, stage: u32)
-    requires line { IsRead line.now }
+fn write_stage<K: Sink>(out: &mut Outgoing, sink: &mut K, line: &SummaryRun, stage: u32)
+    requires line { IsOfRun line.now }
     requires exists { stage < length line.now.plant.stages }
     ensures { Pushed (stream (K.shown sink.old) out.old) (stream (K.shown sink.new) out.new)
         (stage_line line.now.plant (date_in line.now.table.rows) stage) }
@@ -141,8 +141,8 @@ fn write_stage<K: Sink>(out: &mut Outgoing, sink: &mut K, line: &Reading, stage:
 }
 
 /// Writes the lines of all stages, in order.
-fn write_stages<K: Sink>(out: &mut Outgoing, sink: &mut K, line: &Reading)
-    requires { IsRead line.now }
+fn write_stages<K: Sink>(out: &mut Outgoing, sink: &mut K, line: &SummaryRun)
+    requires { IsOfRun line.now }
     ensures { Pushed (stream (K.shown sink.old) out.old) (stream (K.shown sink.new) out.new)
         (flat_map (stage_line line.now.plant (date_in line.now.table.rows)) (stage_numbers line.now.plant)) }
 {
@@ -241,8 +241,8 @@ fn write_machines<K: Sink>(
 }
 
 /// Writes the busiest machine.
-fn write_busiest<K: Sink>(out: &mut Outgoing, sink: &mut K, line: &Reading)
-    requires { IsRead line.now }
+fn write_busiest<K: Sink>(out: &mut Outgoing, sink: &mut K, line: &SummaryRun)
+    requires { IsOfRun line.now }
     ensures { Pushed (stream (K.shown sink.old) out.old)
         (stream (K.shown sink.new) out.new) (busiest_line line.now.plant) }
 {
@@ -252,8 +252,8 @@ fn write_busiest<K: Sink>(out: &mut Outgoing, sink: &mut K, line: &Reading)
 }
 
 /// Writes the whole text of a summary.
-pub fn write_text<K: Sink>(out: &mut Outgoing, sink: &mut K, line: &Reading)
-    requires { IsRead line.now }
+pub fn write_text<K: Sink>(out: &mut Outgoing, sink: &mut K, line: &SummaryRun)
+    requires { IsOfRun line.now }
     ensures { Pushed (stream (K.shown sink.old) out.old) (stream (K.shown sink.new) out.new)
         (summary_text line.now.plant (date_in line.now.table.rows)) }
 {

@@ -40,7 +40,7 @@ module _ (g : Parts) (places : List ℕ) (graph : IsGraph g) (limits : IsWithinL
   turn t k = k * stations g + get_or places t 0
 
   place-below : (t : ℕ) → t < stations g → get_or places t 0 < stations g
-  place-below t there = up.below t 0 (omega (arith, up.place_for_each))
+  place-below t there = up.below t 0 (omega (arith, up.rank_for_each))
 
   -- the date of which a token was made has an earlier number
   source-earlier : (a k : ℕ) → a < arc_count g → (arc g a).tokens ≤ k → turn (arc g a).from (k - (arc g a).tokens) < turn (arc g a).to k

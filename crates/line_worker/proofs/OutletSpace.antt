@@ -1,5 +1,6 @@
--- Which outlets have space: those of rings without bound and of queues on a shelf have it always, and that of a ring of bounded
--- room where no more tokens wait on its arc than those with which the arc starts. The first station in the order has it so.
+-- Which outlets have space: those of rings without bound and of queues on a shelf have it always, and that of a ring of
+-- bounded room where no more tokens wait on its arc than those with which the arc starts. The first station in the
+-- order has it so.
 use Rattle.std.proofs.Common.{◌≡◌, ◌≢◌, ℕ, ◌+◌, ◌<◌, ◌≤◌, List, Option, Some, None, length, get_or, ap, ◌∙◌, subst, arith, ⊎_elim}
 use Rattle.std.specs.Prelude.{IfSome, option_to_list}
 use Rattle.std.proofs.lemmas.Bool.{cases_eq}
@@ -128,8 +129,8 @@ module _ (g : Parts) (begun : State) (teams : List WorkTeam) (sound : IsGraph g)
 
 -- ---- the first station in the order
 
--- where some station isn't done, one can fire that has no more tokens on any arc out of it than at the start: the first by
--- its number of dates, then by its place
+-- where some station isn't done, one can fire that has no more tokens on any arc out of it than at the start: the first
+-- by its number of dates, then by its place
 pub first_can_fire : (g : Parts) (s : State) (places : List ℕ) → IsGraph g → GoesUp g places → IsConsistent g s → (u : ℕ) → u < stations g → length (log s u) < jobs g → (t : ℕ) × CanFire g s t × ((a : ℕ) → a < arc_count g → (arc g a).from ≡ t → length (place s a) ≤ (arc g a).tokens)
 first_can_fire g s places graph up c u there undone =
     let first = first_station g s places (omega arith) in

@@ -9,7 +9,7 @@ use Rattle.station_step.specs.Station.{WorkStation, StandsAt, bare_station}
 use Rattle.station_step.proofs.Posts.{stands-same}
 use Rattle.line_worker.specs.Team.{WorkTeam, AreAt, member, no_station}
 use Rattle.line_worker.specs.Logs.{log_of, copy_of, copy_with, dates_in}
-use Rattle.line_worker.specs.Cleared.{cleared}
+use Rattle.line_worker.specs.Cleared.{cleared_station}
 use Rattle.line_worker.specs.Work.{dates_of}
 use Rattle.line_worker.proofs.Cleared.{member-cleared}
 use Rattle.line_worker.proofs.TeamSteps.{graph-same, number-same, outlets-same, outlets-count}
@@ -55,9 +55,9 @@ at-met shelf stations team i before after view low at same log are =
     refl refl are
 
 -- their turns were counted from 0 again
-pub at-cleared : (shelf : WorkShelf) (stations : List WorkStation) → AreAt shelf stations → AreAt shelf (map cleared stations)
+pub at-cleared : (shelf : WorkShelf) (stations : List WorkStation) → AreAt shelf stations → AreAt shelf (map cleared_station stations)
 at-cleared shelf stations are =
-    let all = length-map stations cleared in
+    let all = length-map stations cleared_station in
     record {
       count = are.count ∙ sym all;
       each = λ i low.

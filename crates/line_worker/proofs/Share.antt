@@ -1,5 +1,5 @@
--- Which worker has which station: station t belongs to worker w exactly where it stands from the first of w on and before
--- the first of w + 1.
+-- Which worker has which station: station t belongs to worker w exactly where it stands from the first of w on and
+-- before the first of w + 1.
 use Rattle.std.proofs.Common.{◌≡◌, ℕ, ◌+◌, ◌-◌, ◌*◌, ◌/◌, ◌<◌, ◌≤◌, ap, arith, ⊎_elim}
 use Rattle.std.proofs.Math.Nat.{mul-le-mul_left}
 use Rattle.std.proofs.lemmas.Bool.{cases_lt}

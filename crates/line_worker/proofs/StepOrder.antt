@@ -6,7 +6,7 @@ use Rattle.std.proofs.lemmas.List.Folds.{position_or_len_push}
 use Rattle.std.proofs.lemmas.List.Sums.{prefix_len-le-length}
 use Rattle.event_graph.specs.Network.{stations}
 use Rattle.live_check.specs.Order.{LiveGraph, IsRanked}
-use Rattle.line_core.proofs.RoundLemmas.{one_at_a_place}
+use Rattle.line_core.proofs.RoundLemmas.{one_at_a_rank}
 use Rattle.line_worker.specs.Teams.{index_in}
 use Rattle.line_worker.specs.Worker.{IsOrder}
 use Rattle.line_worker.specs.Order.{IsOrderUpto}
@@ -22,7 +22,7 @@ order_begins ranks first count = record {
 pub order_ends : (live : LiveGraph) (first count : ℕ) (order : List ℕ) → IsRanked live → first + count ≤ stations live.graph → IsOrderUpto live.ranks first count order (stations live.graph) → IsOrder live.ranks first count order
 order_ends live first count order ranked within upto = record {
   exists = upto.exists;
-  listed = λ i low. upto.listed i low (ranked.upward.below (first + i) 0 (omega (arith, ranked.upward.place_for_each, low, within)));
+  listed = λ i low. upto.listed i low (ranked.upward.below (first + i) 0 (omega (arith, ranked.upward.rank_for_each, low, within)));
   rises = upto.rises;
 }
 
@@ -50,7 +50,7 @@ listed-new order x =
 module _ (live : LiveGraph) (ranked : IsRanked live) (first count : ℕ) (within : first + count ≤ stations live.graph) (order : List ℕ) (rank t : ℕ) (upto : IsOrderUpto live.ranks first count order rank) (there : t < stations live.graph) (at : get_or live.ranks t 0 ≡ rank) where
   -- a station of the worker of this rank is t
   is-t : (i : ℕ) → i < count → get_or live.ranks (first + i) 0 ≡ rank → first + i ≡ t
-  is-t i low same = one_at_a_place live.graph live.ranks ranked.upward (first + i) t (omega (arith, low, within)) there (same ∙ sym at)
+  is-t i low same = one_at_a_rank live.graph live.ranks ranked.upward (first + i) t (omega (arith, low, within)) there (same ∙ sym at)
 
   pub order_skips : (first ≤ t → t < first + count → ⊥) → IsOrderUpto live.ranks first count order (rank + 1)
   order_skips outside = record {

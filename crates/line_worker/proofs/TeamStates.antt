@@ -21,7 +21,7 @@ use Rattle.station_step.specs.declared.ends.Outlet.TheVariants as outlet
 use Rattle.station_step.specs.Ends.{inlet_taken, outlet_added, HasSpace}
 use Rattle.station_step.specs.Input.{input_at, IsHeld, tokens_ahead}
 use Rattle.station_step.specs.Station.{WorkStation, firings, outlet_at}
-use Rattle.station_step.specs.Kept.{saturating, asked, date_for, token_for}
+use Rattle.station_step.specs.Kept.{saturating, date_asked, date_for, token_for}
 use Rattle.station_step.specs.Step.{IsReady}
 use Rattle.line_worker.specs.Grown.{log_in, made_at, tokens_put, token_on, HasGrown}
 use Rattle.line_worker.specs.Share.{first_of}
@@ -38,8 +38,8 @@ unfolding date_for
 date_for-same g t job f h same =
     ap (λ date. cond (eqb t 0) (demand g job) date) (
     greatest-same
-    (asked g t job f)
-    (asked g t job h)
+    (date_asked g t job f)
+    (date_asked g t job h)
     (range_with_len 0 (length (ins g t)))
     (λ i d low.
     let many = length-range_with_len 0 (length (ins g t)) in

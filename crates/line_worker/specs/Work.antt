@@ -2,7 +2,7 @@
 use Rattle.std.specs.Prelude.{◌≡◌, ◌≢◌, ℕ, suc, ◌+◌, ◌<◌, ◌≤◌, ◌⊎◌, min, List, [], ◌∷◌, take, length, slice_set, sum_by}
 use Rattle.card_queue.specs.Plain.{PlainQueue}
 use Rattle.event_graph.specs.Network.{arc_count}
-use Rattle.station_step.specs.Shelf.{queue_at, unused}
+use Rattle.station_step.specs.Shelf.{queue_at, unused_queue}
 use Rattle.station_step.specs.Kept.{IsKept}
 use Rattle.station_step.specs.Station.{WorkStation, bare_station}
 use Rattle.station_step.specs.Step.{IsReady, MovesItsOwn}
@@ -33,7 +33,7 @@ pub record HasWorked (before after : WorkStation) : Type 0 where
 -- the queues of a shelf are those that they were, but for what was put and taken
 pub record IsSameShelf (old new : List PlainQueue) : Type 0 where
   pub count : length new ≡ length old
-  pub queues : (q : ℕ) → unused (queue_at new q) ≡ unused (queue_at old q)
+  pub queues : (q : ℕ) → unused_queue (queue_at new q) ≡ unused_queue (queue_at old q)
 
 -- each station of the team has worked
 pub record TeamWorked (old new : WorkTeam) : Type 0 where
@@ -135,8 +135,8 @@ pub record HasBurst (target : ℕ) (old new : WorkTeam) : Type 0 where
   pub idle : AllDone target old → (i : ℕ) → i < length old.stations →
       (member new.stations i).turns ≡ (member old.stations i).turns
 
--- the one worker of its line, where each station had made this many dates: each has fired as often as a burst has sweeps,
--- or as dates were left, and made as many turns
+-- the one worker of its line, where each station had made this many dates: each has fired as often as a burst has
+-- sweeps, or as dates were left, and made as many turns
 pub record HasBurstAlone (times : ℕ) (old new : LineWorker) : Type 0 where
   pub alone : IsAlone new (min (times + most_sweeps) old.target)
   pub turns : (i : ℕ) → i < length old.team.stations →

@@ -1,4 +1,4 @@
--- What contracts see of a worker: a worker's team, the line that it belongs to, and the order in which its stations step.
+-- What contracts see of a worker: its team, the line that it belongs to, and the order in which its stations step.
 use Rattle.std.specs.Prelude.{◌≡◌, ℕ, ◌+◌, ◌<◌, ◌≤◌, List, [], Option, map, length, slice_index}
 use Rattle.line_base.specs.Limits.{most_workers}
 use Rattle.line_base.specs.Roomy.{RoomyLogs}
@@ -15,7 +15,7 @@ pub record LineWorker : Type 0 where
   pub live : LiveGraph  -- the graph that the line was made for, and the ranks of its stations
   pub begun : State  -- the state with which the line began
   pub worker_count : ℕ  -- how many workers the line has
-  pub room : Option ℕ  -- how much a ring has beyond the tokens with which its arc starts; none: without bound
+  pub room : Option ℕ  -- how much room a ring has beyond the tokens with which its arc starts; none: no bound
   pub worker_number : ℕ  -- which of them this is
   pub first : ℕ  -- the number of its first station
   pub team : WorkTeam
@@ -45,7 +45,7 @@ pub record IsOrder (ranks : List ℕ) (first count : ℕ) (order : List ℕ) : T
   pub rises : (p q : ℕ) → p < q → q < length order →
       slice_index ranks (first + slice_index order p) < slice_index ranks (first + slice_index order q)
 
--- the line began with a reached state of a live graph, and the worker has the stations of its worker
+-- the line began with a reached state of a live graph, and the worker has the stations of its number
 pub record IsWorker (c : LineWorker) : Type 0 where
   pub ranked : IsRanked c.live
   pub reached : Reached c.live.graph c.begun

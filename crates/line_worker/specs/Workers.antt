@@ -24,7 +24,7 @@ no_worker = record {
   spare = record { logs = []; room = 0 };
 }
 
--- the worker of worker w
+-- worker w of these
 abbrev pub worker_at : List LineWorker → ℕ → LineWorker
 worker_at workers w = slice_index_or workers w no_worker
 
@@ -92,8 +92,8 @@ pub record MayGoOn (live : LiveGraph) (c : LineWorker) : Type 0 where
   pub made_for : live ≡ c.live
   pub turns : TurnsBelow (2 ^ 39) c.team
 
--- a sweep: some station of the worker was not done; each had one turn, in the worker's order, and nothing else of it has
--- changed. The one worker of its line, where all stations have made as many dates, fired each of them
+-- a sweep: some station of the worker was not done; each had one turn, in the worker's order, and nothing else of it
+-- has changed. The one worker of its line, where all stations have made as many dates, fired each of them
 pub record HasMadeSweep (old new : LineWorker) : Type 0 where
   pub undone : ¬ AllDone old.target old.team
   pub frame : new ≡ with_team old new.team

@@ -175,7 +175,7 @@ impl Worker {
         requires ready { MayGoOn live.now self.old }
         ensures { HasMadeRound self.old self.new }
     {
-        if !self.done() {
+        if !self.is_done() {
             self.sweep(live, gate);
         }
     }
@@ -191,7 +191,7 @@ impl Worker {
     }
 
     /// Whether each station of the worker has fired once for each job. It takes no memory.
-    pub fn done(&self) -> bool
+    pub fn is_done(&self) -> bool
         ensures done { IsTrue result ↔ AllDone self.now.target self.now.team }
         ensures worker { IsWorker self.now }
     {
@@ -247,7 +247,7 @@ impl Worker {
         meet_teams(&mut self.team, i, k, &mut to.team, j, l);
     }
 
-    /// Where the line takes its memory from.
+    /// The allocator from which the worker takes its memory.
     pub fn alloc(&self) -> Global
         ensures { IsWorker self.now }
     {

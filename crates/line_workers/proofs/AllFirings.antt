@@ -9,7 +9,7 @@ use Rattle.line_base.specs.declared.event.Parts.{Parts}
 use Rattle.event_graph.specs.Network.{stations, jobs}
 use Rattle.event_graph.specs.State.{State}
 use Rattle.live_check.specs.Order.{LiveGraph}
-use Rattle.line_core.specs.Consistent.{IsConsistent, IsFinished, fired}
+use Rattle.line_core.specs.Consistent.{IsConsistent, IsFinished, firing_count}
 use Rattle.line_worker.specs.Worker.{LineWorker}
 use Rattle.line_worker.specs.Workers.{graph_of}
 use Rattle.line_workers.specs.Counts.{AreCounts}
@@ -39,14 +39,14 @@ sum_full n (x ∷ xs) each =
     omega (arith, sum_by-cons length x xs, suc-mul (length xs) n, head, rest)
 
 -- a consistent state that has made all firings is finished
-pub all_is_finished : (g : Parts) (s : State) → IsConsistent g s → stations g * jobs g ≤ fired s → IsFinished g s
+pub all_is_finished : (g : Parts) (s : State) → IsConsistent g s → stations g * jobs g ≤ firing_count s → IsFinished g s
 all_is_finished g s c enough t there =
     let short : All (λ (dates : List ℕ). length dates ≤ jobs g) s.logs =
     All-from_get_or (λ dates. length dates ≤ jobs g) s.logs [] (λ u low. c.few_dates u (omega (arith, c.a_log_each, low))) in
-    all_full (jobs g) s.logs short (subst (λ n. n * jobs g ≤ fired s) (sym c.a_log_each) enough) t (omega (arith, there, c.a_log_each))
+    all_full (jobs g) s.logs short (subst (λ n. n * jobs g ≤ firing_count s) (sym c.a_log_each) enough) t (omega (arith, there, c.a_log_each))
 
 -- and a finished one has made them all
-pub finished_is_all : (g : Parts) (s : State) → IsConsistent g s → IsFinished g s → fired s ≡ stations g * jobs g
+pub finished_is_all : (g : Parts) (s : State) → IsConsistent g s → IsFinished g s → firing_count s ≡ stations g * jobs g
 finished_is_all g s c finished =
     sum_full (jobs g) s.logs (λ t there. finished t (omega (arith, there, c.a_log_each))) ∙ ap (λ n. n * jobs g) c.a_log_each
 
@@ -60,7 +60,7 @@ sum_none (x ∷ xs) none =
 module _ (room : Option ℕ) (live : LiveGraph) (state : State) (worker_count : ℕ) (workers : List LineWorker) (made : ℕ) (stands : StandsIn room live state worker_count (line_of workers made)) where
   pub new_counts : AreCounts (record { fired = made; steps = 0 }) workers
   new_counts = record {
-    fired = stands.made_is ∙ ap fired (sym stands.state_is);
+    fired = stands.made_is ∙ ap firing_count (sym stands.state_is);
     steps = sym (sum_none (line_of workers made).turns stands.no_turns);
   }
 

@@ -26,7 +26,7 @@ use Rattle.line_worker.proofs.WorkedTeams.{idle_team, then_team, teams-worked, r
 use Rattle.line_worker.proofs.WorkerTeams.{count-teams, team_at-workers}
 use Rattle.line_workers.proofs.ArcMeetings.{meets_on}
 use Rattle.line_workers.proofs.Totals.{sum_by-map, of_worker, sum-among}
-use Rattle.line_core.specs.Consistent.{fired}
+use Rattle.line_core.specs.Consistent.{firing_count}
 use Rattle.line_workers.specs.OfWorkers.{turns_among}
 use Rattle.std.specs.List.{sum_by, sum, range_with_len}
 use Rattle.std.specs.Prelude.{IfSome}
@@ -411,7 +411,7 @@ total f workers are =
     ∙ sym (sum-among g (begun_of workers) (teams_of workers) (ranked workers are).limits.some_station (workers_are_teams workers are) f)
     ∙ sum_by-map f (station_of g (teams_of workers)) (range_with_len 0 (stations g))
 
-pub dates-total : (workers : List LineWorker) → AreWorkers workers → sum_by (λ (worker : LineWorker). dates_made worker.team) workers ≡ fired (state_among (graph_of workers) (teams_of workers))
+pub dates-total : (workers : List LineWorker) → AreWorkers workers → sum_by (λ (worker : LineWorker). dates_made worker.team) workers ≡ firing_count (state_among (graph_of workers) (teams_of workers))
 unfolding state_among
 dates-total workers are =
     let g = graph_of workers in

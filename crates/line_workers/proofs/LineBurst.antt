@@ -11,7 +11,7 @@ use Rattle.event_graph.specs.State.{log}
 use Rattle.event_graph.specs.Firing.{CanFire}
 use Rattle.event_graph.specs.Reached.{Reached}
 use Rattle.live_check.specs.Order.{LiveGraph, IsRanked}
-use Rattle.line_core.specs.Consistent.{IsConsistent, IsFinished, fired}
+use Rattle.line_core.specs.Consistent.{IsConsistent, IsFinished, firing_count}
 use Rattle.line_core.specs.Round.{HasFired}
 use Rattle.line_core.proofs.Consistency.{reached_is_consistent}
 use Rattle.line_core.proofs.Bounds.{fired-le}
@@ -67,7 +67,7 @@ total-more : (f h : ℕ → ℕ) (k n : ℕ) → ((t : ℕ) → t < n → f t �
 total-more f h k zero le = omega arith
 total-more f h k (suc n) le = omega (arith, total-more f h k n (λ t low. le t (omega arith)), le n (omega arith))
 
-fired-total : (g : Parts) (teams : List WorkTeam) → fired (state_among g teams) ≡ total (λ t. dates_of (station_of g teams t)) (stations g)
+fired-total : (g : Parts) (teams : List WorkTeam) → firing_count (state_among g teams) ≡ total (λ t. dates_of (station_of g teams t)) (stations g)
 unfolding state_among
 fired-total g teams = total-map length (λ t. (station_of g teams t).log.dates) (stations g)
 
@@ -81,7 +81,7 @@ pub record LineBurst (old new : WorkLine) (f s : ℕ) : Type 0 where
   pub frame : new ≡ record old { state = new.state; turns = new.turns }
   pub logs : LogsGrow old.live.graph old.state new.state
   pub works : EachWorks old new
-  pub fired : fired new.state ≡ fired old.state + f
+  pub fired : firing_count new.state ≡ firing_count old.state + f
   pub steps : sum new.turns ≡ sum old.turns + s
   pub at_most : f ≤ s
   pub few : s ≤ most_sweeps * stations old.live.graph
@@ -103,7 +103,7 @@ module _ (old new : List LineWorker) (are_old : AreWorkers old) (b : WorkersBurs
   dates-grow t there =
       omega (arith, ap length (b.each t there).kept, length-take (dates_of (station_of (graph_of old) (teams_of old) t)) (station_of (graph_of old) (teams_of new) t).log.dates)
 
-  pub fired-grow : fired (state_among (graph_of old) (teams_of old)) ≤ fired (state_among (graph_of old) (teams_of new))
+  pub fired-grow : firing_count (state_among (graph_of old) (teams_of old)) ≤ firing_count (state_among (graph_of old) (teams_of new))
   fired-grow =
       let g = graph_of old in
       omega (arith, fired-total g (teams_of old), fired-total g (teams_of new), total-le (λ t. dates_of (station_of g (teams_of old) t)) (λ t. dates_of (station_of g (teams_of new) t)) (stations g) dates-grow)
@@ -114,9 +114,9 @@ module _ (old new : List LineWorker) (are_old : AreWorkers old) (b : WorkersBurs
       omega (arith, turns-total g (teams_of old), turns-total g (teams_of new), total-le (λ t. turns_of (station_of g (teams_of old) t)) (λ t. turns_of (station_of g (teams_of new) t)) (stations g) (λ t there. (b.each t there).turned))
 
   -- counted before and after
-  pub fired-since : (was now : ℕ) → was ≡ fired (state_among (graph_of old) (teams_of old)) → now ≡ fired (state_among (graph_of new) (teams_of new)) → (was ≤ now) × (fired (state_among (graph_of old) (teams_of new)) ≡ fired (state_among (graph_of old) (teams_of old)) + (now - was))
+  pub fired-since : (was now : ℕ) → was ≡ firing_count (state_among (graph_of old) (teams_of old)) → now ≡ firing_count (state_among (graph_of new) (teams_of new)) → (was ≤ now) × (firing_count (state_among (graph_of old) (teams_of new)) ≡ firing_count (state_among (graph_of old) (teams_of old)) + (now - was))
   fired-since was now is_was is_now =
-      let here = is_now ∙ ap (λ (l : LiveGraph). fired (state_among l.graph (teams_of new))) same-live in (
+      let here = is_now ∙ ap (λ (l : LiveGraph). firing_count (state_among l.graph (teams_of new))) same-live in (
         omega (arith, here, is_was, fired-grow),
         omega (arith, here, is_was, fired-grow),
       )
@@ -226,7 +226,7 @@ module _ (old new : List LineWorker) (made : ℕ) (rest : AreAtRest old made) (b
   finished-made : IsFinished g (state_among g (teams_of old)) → AllMade g (teams_of old)
   finished-made finished t there = sym (ap length (old-log t there)) ∙ finished t there
 
-  module _ (fired_is : fired (state_among (graph_of old) (teams_of new)) ≡ fired (state_among (graph_of old) (teams_of old)) + f) (steps_is : sum (turns_among (graph_of old) (teams_of new)) ≡ sum (turns_among (graph_of old) (teams_of old)) + s) where
+  module _ (fired_is : firing_count (state_among (graph_of old) (teams_of new)) ≡ firing_count (state_among (graph_of old) (teams_of old)) + f) (steps_is : sum (turns_among (graph_of old) (teams_of new)) ≡ sum (turns_among (graph_of old) (teams_of old)) + s) where
     dates_is : total D' (stations g) ≡ total D (stations g) + f
     dates_is = omega (arith, fired_is, fired-total g (teams_of old), fired-total g (teams_of new))
 
@@ -274,7 +274,7 @@ module _ (old new : List LineWorker) (made : ℕ) (rest : AreAtRest old made) (b
     pace =
         let before = rest.pace in
         let T = stations g in
-        let pace-at : (t : ℕ) → t < T → U t ≤ most_sweeps * (fired (state_among g (teams_of old)) - made) =
+        let pace-at : (t : ℕ) → t < T → U t ≤ most_sweeps * (firing_count (state_among g (teams_of old)) - made) =
         λ t there.
         let turn : get_or (turns_among g (teams_of old)) t 0 ≡ U t = get_or-map-range_with_len U 0 T t t 0 there (zero-add t) in
         omega (arith, sym turn, before.1 t 0 (omega (arith, there, length-map-range_with_len U 0 T))) in (
@@ -382,10 +382,10 @@ turns-low workers made rest k d within i low_i =
     omega (arith, sym turn, is, rest.pace.1 t 0 (omega (arith, seat.0, length-map-range_with_len U 0 (stations g))), few, ranks.limits.small_table)
 
 -- the line after a burst, as its fields show it
-pub line_after : (items lent new after : List LineWorker) (made f s : ℕ) (old : WorkLine) → lent ≡ items → after ≡ new → line_of items made ≡ old → AreAtRest items made → WorkersBurst lent new → fired (state_among (graph_of lent) (teams_of new)) ≡ fired (state_among (graph_of lent) (teams_of lent)) + f → sum (turns_among (graph_of lent) (teams_of new)) ≡ sum (turns_among (graph_of lent) (teams_of lent)) + s → LineBurst old (line_of after made) f s × AreAtRest after made
+pub line_after : (items lent new after : List LineWorker) (made f s : ℕ) (old : WorkLine) → lent ≡ items → after ≡ new → line_of items made ≡ old → AreAtRest items made → WorkersBurst lent new → firing_count (state_among (graph_of lent) (teams_of new)) ≡ firing_count (state_among (graph_of lent) (teams_of lent)) + f → sum (turns_among (graph_of lent) (teams_of new)) ≡ sum (turns_among (graph_of lent) (teams_of lent)) + s → LineBurst old (line_of after made) f s × AreAtRest after made
 line_after items lent new after made f s old is_items is_new view rest burst fired_is steps_is =
     let b : WorkersBurst items new = subst (λ (l : List LineWorker). WorkersBurst l new) is_items burst in
-    let f_is = subst (λ (l : List LineWorker). fired (state_among (graph_of l) (teams_of new)) ≡ fired (state_among (graph_of l) (teams_of l)) + f) is_items fired_is in
+    let f_is = subst (λ (l : List LineWorker). firing_count (state_among (graph_of l) (teams_of new)) ≡ firing_count (state_among (graph_of l) (teams_of l)) + f) is_items fired_is in
     let s_is = subst (λ (l : List LineWorker). sum (turns_among (graph_of l) (teams_of new)) ≡ sum (turns_among (graph_of l) (teams_of l)) + s) is_items steps_is in (
       subst (λ (o : WorkLine). LineBurst o (line_of after made) f s) view (
           subst (λ (l : List LineWorker). LineBurst (line_of items made) (line_of l made) f s) (sym is_new) (

@@ -7,7 +7,7 @@ use Rattle.event_graph.specs.Network.{stations, jobs, arc}
 use Rattle.event_graph.specs.State.{State, log}
 use Rattle.event_graph.specs.Reached.{Reached}
 use Rattle.live_check.specs.Order.{LiveGraph, IsRanked}
-use Rattle.line_core.specs.Consistent.{state_of, IsConsistent, IsFinished, fired}
+use Rattle.line_core.specs.Consistent.{state_of, IsConsistent, IsFinished, firing_count}
 use Rattle.line_core.proofs.Consistency.{reached_is_consistent}
 use Rattle.line_core.proofs.Runs.{is_reached}
 use Rattle.line_core.proofs.LastFirings.{state_of-logs}
@@ -70,7 +70,7 @@ at_rest_is_line workers made rest =
 
 -- ---- a new line
 
-module _ (live : LiveGraph) (begun : State) (worker_count : ℕ) (room : Option ℕ) (workers : List LineWorker) (made : ℕ) (new : AreNewWorkers live begun worker_count room workers) (reached : Reached live.graph begun) (few : worker_count ≤ most_workers) (made_is : made ≡ fired begun) where
+module _ (live : LiveGraph) (begun : State) (worker_count : ℕ) (room : Option ℕ) (workers : List LineWorker) (made : ℕ) (new : AreNewWorkers live begun worker_count room workers) (reached : Reached live.graph begun) (few : worker_count ≤ most_workers) (made_is : made ≡ firing_count begun) where
   abbrev g : Parts
   g = live.graph
 
@@ -110,7 +110,7 @@ module _ (live : LiveGraph) (begun : State) (worker_count : ℕ) (room : Option 
     whole = new.whole;
     few = omega (arith, new.count, few);
     met = met_here;
-    pace = (omega (arith, made_is, ap fired state-is), λ t d low. omega (arith, no-turns t d low));
+    pace = (omega (arith, made_is, ap firing_count state-is), λ t d low. omega (arith, no-turns t d low));
   }
 
   pub new_stands : StandsIn room live begun worker_count (line_of workers made)

@@ -26,9 +26,9 @@ use Rattle.line_workers.specs.Meeting.{AreStill}
 use Rattle.line_worker.specs.Workers.{worker_at, no_worker, live_of, graph_of, begun_of, room_of, AreWorkers, AreSameWorkers}
 use Rattle.line_workers.specs.Line.{StandsIn}
 use Rattle.line_workers.specs.OfWorkers.{line_of, turns_among, AreAtRest}
-use Rattle.line_worker.specs.Cleared.{cleared, cleared_team, cleared_worker}
+use Rattle.line_worker.specs.Cleared.{cleared_station, cleared_team, cleared_worker}
 use Rattle.line_workers.specs.Gather.{logs_in, Gathers}
-use Rattle.line_core.specs.Consistent.{fired}
+use Rattle.line_core.specs.Consistent.{firing_count}
 use Rattle.line_worker.proofs.Cleared.{member-cleared, worker_cleared}
 use Rattle.line_workers.proofs.AllWorkers.{workers-same}
 
@@ -43,7 +43,7 @@ module _ (g : Parts) (teams : List WorkTeam) where
   worker_number-cleared : (t : ℕ) → owner_of g (map cleared_team teams) t ≡ owner_of g teams t
   worker_number-cleared t = ap (λ n. worker_of n (stations g) t) (length-map teams cleared_team)
 
-  pub station-cleared : (t : ℕ) → station_of g (map cleared_team teams) t ≡ cleared (station_of g teams t)
+  pub station-cleared : (t : ℕ) → station_of g (map cleared_team teams) t ≡ cleared_station (station_of g teams t)
   station-cleared t =
       let w = owner_of g teams t in
       let i = t - first_of (length teams) (stations g) w in
@@ -142,7 +142,7 @@ module _ (workers : List LineWorker) where
 
 -- ---- a meeting after that
 
-module _ (workers : List LineWorker) (are : AreWorkers workers) (new : List LineWorker) (same : AreSameWorkers (map cleared_worker workers) new) (worked : TeamsWorked (teams_of (map cleared_worker workers)) (teams_of new)) (still : AreStill (graph_of workers) (teams_of (map cleared_worker workers)) (teams_of new)) (met : AreAllMet (graph_of workers) (teams_of new)) (made : ℕ) (made_is : made ≡ fired (state_among (graph_of new) (teams_of new))) where
+module _ (workers : List LineWorker) (are : AreWorkers workers) (new : List LineWorker) (same : AreSameWorkers (map cleared_worker workers) new) (worked : TeamsWorked (teams_of (map cleared_worker workers)) (teams_of new)) (still : AreStill (graph_of workers) (teams_of (map cleared_worker workers)) (teams_of new)) (met : AreAllMet (graph_of workers) (teams_of new)) (made : ℕ) (made_is : made ≡ firing_count (state_among (graph_of new) (teams_of new))) where
   abbrev g : Parts
   g = graph_of workers
 
@@ -213,7 +213,7 @@ workers_of_line live workers lent are made_for is = (
   made_for ∙ sym (live-cleared workers are) ∙ ap live_of (sym is),
 )
 
-pub gathers : (live : LiveGraph) (workers lent new : List LineWorker) (made : ℕ) → AreWorkers workers → live ≡ live_of workers → lent ≡ map cleared_worker workers → AreSameWorkers lent new → TeamsWorked (teams_of lent) (teams_of new) → AreStill live.graph (teams_of lent) (teams_of new) → AreAllMet live.graph (teams_of new) → made ≡ fired (state_among (graph_of new) (teams_of new)) → Gathers live workers new made
+pub gathers : (live : LiveGraph) (workers lent new : List LineWorker) (made : ℕ) → AreWorkers workers → live ≡ live_of workers → lent ≡ map cleared_worker workers → AreSameWorkers lent new → TeamsWorked (teams_of lent) (teams_of new) → AreStill live.graph (teams_of lent) (teams_of new) → AreAllMet live.graph (teams_of new) → made ≡ firing_count (state_among (graph_of new) (teams_of new)) → Gathers live workers new made
 gathers live workers lent new made are made_for lent_is same worked still met made_is =
     let same' = subst (λ (l : List LineWorker). AreSameWorkers l new) lent_is same in
     let worked' = subst (λ (l : List LineWorker). TeamsWorked (teams_of l) (teams_of new)) lent_is worked in

@@ -35,8 +35,8 @@ TurnsAsDates g old new = (t : ℕ) → t < stations g →
     turns_of (station_of g new t) + dates_of (station_of g old t) ≡
     turns_of (station_of g old t) + dates_of (station_of g new t)
 
--- the worker of station t, one of this many, gave each of its stations as many turns as the others, and as many as a burst
--- has sweeps, or fewer where all of them are done
+-- the worker of station t, one of this many, gave each of its stations as many turns as the others, and as many as a
+-- burst has sweeps, or fewer where all of them are done
 pub record WorkerBurst (g : Parts) (worker_count : ℕ) (old new : List WorkTeam) (t : ℕ) : Type 0 where
   pub even : (u : ℕ) → u < stations g → worker_of worker_count (stations g) u ≡ worker_of worker_count (stations g) t →
       turns_of (station_of g new u) + turns_of (station_of g old t) ≡

@@ -4,18 +4,18 @@ use Rattle.line_base.specs.declared.event.Parts.{Parts}
 use Rattle.event_graph.specs.Network.{stations, jobs, arc, arc_count}
 use Rattle.event_graph.specs.State.{State, log, place}
 use Rattle.live_check.specs.Order.{LiveGraph, IsRanked}
-use Rattle.line_core.specs.Consistent.{fired}
+use Rattle.line_core.specs.Consistent.{firing_count}
 use Rattle.line_core.specs.Run.{Run, IsReached}
 use Rattle.line_worker.specs.Share.{worker_of}
 use Rattle.line_worker.specs.Sweeps.{most_sweeps}
 
 -- what contracts see of a `Line`
 pub record WorkLine : Type 0 where
-  pub live : LiveGraph  -- the graph that it was made for, and the places of its stations
+  pub live : LiveGraph  -- the graph that it was made for, and the ranks of its stations
   pub state : State  -- the state that it stands for
   pub turns : List ℕ  -- how many steps each station has made
   pub worker_count : ℕ
-  pub room : Option ℕ  -- how much room a ring has beyond the tokens with which its arc starts; none: without bound
+  pub room : Option ℕ  -- how much room a ring has beyond the tokens with which its arc starts; none: no bound
   pub made : ℕ  -- how many firings had been made when the turns began to count
 
 -- the run of a line: its graph and its state
@@ -24,11 +24,11 @@ run_in l = record { graph = l.live.graph; state = l.state }
 
 -- how many firings the line has made since its turns began to count
 abbrev pub firings_of : WorkLine → ℕ
-firings_of l = fired l.state - l.made
+firings_of l = firing_count l.state - l.made
 
 -- no station has made more turns than a burst has sweeps for each firing
 abbrev pub KeepsPace : WorkLine → Type 0
-KeepsPace l = (l.made ≤ fired l.state) × All (λ turns. turns ≤ most_sweeps * firings_of l) l.turns
+KeepsPace l = (l.made ≤ firing_count l.state) × All (λ turns. turns ≤ most_sweeps * firings_of l) l.turns
 
 -- two workers have the stations of arc a
 abbrev pub IsBetween : WorkLine → ℕ → Type 0
@@ -64,8 +64,8 @@ abbrev pub AreOfOneWorker : WorkLine → ℕ → ℕ → Type 0
 AreOfOneWorker l t u =
     worker_of l.worker_count (stations l.live.graph) u ≡ worker_of l.worker_count (stations l.live.graph) t
 
--- what station t did in a burst: it made as many turns as the burst has sweeps, or fewer where all stations of its worker
--- are done, and as many as each of them; in a turn it made one firing at most
+-- what station t did in a burst: it made as many turns as the burst has sweeps, or fewer where all stations of its
+-- worker are done, and as many as each of them; in a turn it made one firing at most
 pub record WorksAt (old new : WorkLine) (t : ℕ) : Type 0 where
   pub turned : turns_at old t ≤ turns_at new t
   pub few : turns_at new t ≤ turns_at old t + most_sweeps
@@ -86,7 +86,7 @@ pub record StandsIn (room : Option ℕ) (live : LiveGraph) (state : State) (work
   pub state_is : l.state ≡ state
   pub workers_are : l.worker_count ≡ worker_count
   pub room_is : l.room ≡ room
-  pub made_is : l.made ≡ fired state
+  pub made_is : l.made ≡ firing_count state
   pub no_turns : All (λ turns. turns ≡ 0) l.turns
 
 -- a new line of this many workers, with rings whose room has no bound, which stands for this state

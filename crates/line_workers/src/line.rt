@@ -6,7 +6,7 @@ ghost use Rattle.event_graph.specs.Least.{IsLeast};
 ghost use Rattle.event_graph.specs.Network.{stations, jobs};
 ghost use Rattle.event_graph.specs.State.{log, start};
 ghost use Rattle.event_graph.specs.Table.{date_in};
-ghost use Rattle.line_core.specs.Consistent.{IsFinished, fired};
+ghost use Rattle.line_core.specs.Consistent.{IsFinished, firing_count};
 ghost use Rattle.line_core.specs.Round.{HasFired};
 ghost use Rattle.line_core.specs.Run.{IsReached};
 ghost use Rattle.line_workers.specs.Gather.{logs_in};
@@ -186,7 +186,7 @@ impl Line {
 
     /// How many firings made the state that the line stands for.
     pub fn fired(&self) -> u64
-        ensures fired { result ≡ fired self.now.state }
+        ensures fired { result ≡ firing_count self.now.state }
         ensures line { IsLine self.now }
     {
         self.counts.fired
@@ -219,7 +219,7 @@ impl Line {
 
         // What each station did, how many firings and steps were made, and which at least.
         ensures works { EachWorks self.old self.new }
-        ensures fired { fired self.new.state ≡ fired self.old.state + result.fired }
+        ensures fired { firing_count self.new.state ≡ firing_count self.old.state + result.fired }
         ensures steps { sum self.new.turns ≡ sum self.old.turns + result.steps }
         ensures at_most { result.fired ≤ result.steps }
         ensures few { result.steps ≤ most_sweeps * stations self.old.live.graph }
@@ -272,7 +272,7 @@ impl Line {
         State::of_reached(alloc, live, logs)
     }
 
-    /// The workers of the line, in the order of the workers. It takes no memory.
+    /// The workers of the line, in the order of their numbers. It takes no memory.
     pub fn workers(self) -> Vec<Worker>
         ensures workers { AreWorkers result.items }
         ensures line { line_of result.items self.made ≡ self }

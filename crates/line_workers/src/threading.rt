@@ -15,8 +15,8 @@ const FIRINGS_FOR_A_LOOK: u64 = 16;
 /// Whether the next burst of a line goes by threads.
 ///
 /// To begin a thread takes as long as a thousand firings, and one that begins late lets the others wait. So a line goes
-/// by threads as long as that pays; where it did not, some bursts go in turn on one thread before it tries again. What a
-/// burst gives is the same.
+/// by threads as long as that pays; where it did not, some bursts go in turn on one thread before it tries again. What
+/// a burst gives is the same.
 #[derive(Drop)]
 pub(crate) struct Threading {
     // How many bursts are to go in turn before the next by threads.
@@ -43,8 +43,8 @@ impl Threading {
         false
     }
 
-    /// Notes what came of a burst: how often the worker that waited most looked for the others, where it went by threads,
-    /// and how many firings were made.
+    /// Notes what came of a burst: how often the worker that waited most looked for the others, where it went by
+    /// threads, and how many firings were made.
     pub(crate) fn note(&mut self, looks: Option<u64>, fired: u64) {
         match looks {
             None => {}

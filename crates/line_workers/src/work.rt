@@ -62,8 +62,8 @@ fn work_at_once<R: Threads + Sync, G: Gate>(
     waits.most_looks()
 }
 
-/// Lets each worker work for a burst, each on a thread of its own, or all in turn on this one. Answers how often the worker
-/// that waited most looked for the others, where they worked at once.
+/// Lets each worker work for a burst, each on a thread of its own, or all in turn on this one. Answers how often the
+/// worker that waited most looked for the others, where they worked at once.
 pub(crate) fn work_all<R: Threads + Sync, G: Gate>(
     rt: &R,
     workers: &mut [Worker],

@@ -1,6 +1,6 @@
 ghost use Rattle.std.specs.Prelude.{◌≡◌, ◌+◌, ◌<◌, ◌≤◌, ◌^◌, length, sum, All};
 ghost use Rattle.event_graph.specs.Network.{arc_count};
-ghost use Rattle.line_core.specs.Consistent.{fired};
+ghost use Rattle.line_core.specs.Consistent.{firing_count};
 ghost use Rattle.line_workers.specs.Burst.{WorkersBurst};
 ghost use Rattle.line_workers.specs.Link.{IsRing, HaveMet, AreLinks, links_of};
 ghost use Rattle.line_workers.specs.Gather.{Gathers};
@@ -69,7 +69,7 @@ fn meet_on(workers: &mut [Worker], live: &Live, a: u32)
 }
 
 /// The two ends of every queue meet on this thread.
-pub(crate) fn meet_all(workers: &mut [Worker], live: &Live)
+fn meet_all(workers: &mut [Worker], live: &Live)
     requires workers { AreWorkers workers.old }
     requires few { length workers.old ≤ most_workers }
     requires made_for { live.now ≡ live_of workers.old }
@@ -119,10 +119,10 @@ fn meet_by(workers: &mut [Worker], live: &Live, links: &Links)
 }
 
 /// How many dates the stations of all workers have made together.
-pub(crate) fn dates_of(workers: &[Worker]) -> u64
+fn dates_of(workers: &[Worker]) -> u64
     requires workers { AreWorkers workers.now }
     requires few { length workers.now ≤ most_workers }
-    ensures { result ≡ fired (state_among (graph_of workers.now) (teams_of workers.now)) }
+    ensures { result ≡ firing_count (state_among (graph_of workers.now) (teams_of workers.now)) }
 {
     let mut dates = 0;
     for worker in workers {
@@ -132,7 +132,7 @@ pub(crate) fn dates_of(workers: &[Worker]) -> u64
 }
 
 /// How many turns the stations of all workers have made together.
-pub(crate) fn turns_of(workers: &[Worker]) -> u64
+fn turns_of(workers: &[Worker]) -> u64
     requires workers { AreWorkers workers.now }
     requires few { length workers.now ≤ most_workers }
     requires turns { All (λ worker. TurnsBelow (2 ^ 40) worker.team) workers.now }
@@ -164,8 +164,8 @@ pub(crate) fn burst_of<R: Threads + Sync, G: Gate>(
     requires turns { All (λ worker. TurnsBelow (2 ^ 38) worker.team) workers.old }
     ensures counts { AreCounts counts.new workers.new }
     ensures burst { WorkersBurst workers.old workers.new }
-    ensures fired { fired (state_among (graph_of workers.old) (teams_of workers.new)) ≡
-        fired (state_among (graph_of workers.old) (teams_of workers.old)) + result.fired }
+    ensures fired { firing_count (state_among (graph_of workers.old) (teams_of workers.new)) ≡
+        firing_count (state_among (graph_of workers.old) (teams_of workers.old)) + result.fired }
     ensures steps { sum (turns_among (graph_of workers.old) (teams_of workers.new)) ≡
         sum (turns_among (graph_of workers.old) (teams_of workers.old)) + result.steps }
 {

@@ -1,5 +1,5 @@
--- The stations of a graph have an order in which arcs without tokens go upwards, or the graph has a dead circuit: stations get
--- ranks one by one, and where none can get the next, a walk among those without a rank comes back.
+-- The stations of a graph have an order in which arcs without tokens go upwards, or the graph has a dead circuit:
+-- stations get ranks one by one, and where none can get the next, a walk among those without a rank comes back.
 use Rattle.std.proofs.Common.{◌≡◌, ℕ, zero, suc, ◌+◌, ◌<◌, ◌≤◌, ◌⊎◌, List, [], ◌∷◌, ◌++◌, length, get_or, set, map, drop, replicate, ap, ◌∙◌, subst, inl, inr, arith}
 use Rattle.std.proofs.lemmas.Bool.{cases_lt, cases_eq}
 use Rattle.std.proofs.lemmas.List.{length_push, get_or_default}

@@ -11,6 +11,7 @@ use Rattle.line_base.specs.declared.times.Times.{Times}
 use Rattle.line_base.specs.declared.times.Times.TheVariants.{Fixed, Each}
 use Rattle.line_base.specs.Times.{time_at}
 use Rattle.line_base.specs.declared.event.Parts.{Parts}
+use Rattle.event_graph.specs.Varying.{IsList}
 use Rattle.event_graph.specs.Network.{IsGraph, arc, arc_count, stations, jobs, demand, delay, time}
 use Rattle.event_graph.specs.Circuit.{IsWalk, IsCircuit, starting_stations}
 use Rattle.event_graph.specs.Live.{IsLive}
@@ -18,7 +19,7 @@ use Rattle.event_graph.specs.Table.{Table}
 use Rattle.event_graph.specs.Term.{work, term}
 use Rattle.event_graph.specs.Solves.{Solves}
 use Rattle.event_graph.specs.Least.{IsLeast}
-use Rattle.live_check.specs.MoreTokens.{KeepsArc, HasMoreTokens, IsList, HasOwnToken, ListsKeepOrder, MoreTokensNeverLater}
+use Rattle.live_check.specs.MoreTokens.{KeepsArc, HasMoreTokens, HasOwnToken, ListsKeepOrder, MoreTokensNeverLater}
 use Rattle.event_graph.proofs.GreatestTerms.{term-le}
 
 -- the lesser of each date and the next, up to job h

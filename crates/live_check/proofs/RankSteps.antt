@@ -9,7 +9,7 @@ use Rattle.std.proofs.lemmas.List.FromFn.{length-range_with_len}
 use Rattle.line_base.specs.declared.event.Arc.{Arc}
 use Rattle.line_base.specs.declared.event.Parts.{Parts}
 use Rattle.event_graph.specs.Network.{IsGraph, arc, arc_count, stations, ins}
-use Rattle.live_check.specs.Ranking.{Ranks, with_next, with_passed, released, is_free_from, is_open, open_count, IsFalling, IsPassing, IsPassed, NoneIsReady, CountsFree, IsComplete}
+use Rattle.live_check.specs.Ranking.{Ranks, with_next, with_passed, with_release, is_free_from, is_open, open_count, IsFalling, IsPassing, IsPassed, NoneIsReady, CountsFree, IsComplete}
 use Rattle.live_check.specs.DeadCircuit.{IsStuck}
 use Rattle.live_check.proofs.Counts.{count_by-range-agree, count_by-filter, sum_by-range-add, none_passes, some_passes}
 use Rattle.line_base.proofs.RangeLists.{count_by-range_more}
@@ -197,7 +197,7 @@ passed_keeps g r p a arcs graph h there none =
 
 -- ---- one arc, and the rank that may follow
 
-pub released_keeps : (g : Parts) (r : Ranks) (p a : ℕ) (arcs : List ℕ) → IsGraph g → IsPassing g r p (a ∷ arcs) → a < arc_count g → (arc g a).tokens ≡ 0 → IsPassing g (released r (arc g a).from) p arcs
+pub released_keeps : (g : Parts) (r : Ranks) (p a : ℕ) (arcs : List ℕ) → IsGraph g → IsPassing g r p (a ∷ arcs) → a < arc_count g → (arc g a).tokens ≡ 0 → IsPassing g (with_release r (arc g a).from) p arcs
 released_keeps g r p a arcs graph h there none =
     let s = (arc g a).from in
     let w = get_or r.waiting s 0 in
@@ -217,7 +217,7 @@ next_ready g r p s n arcs h exists unranked others = record {
       ];
 }
 
-pub released_ready : (g : Parts) (r : Ranks) (p a : ℕ) (arcs : List ℕ) → IsGraph g → IsPassing g r p (a ∷ arcs) → a < arc_count g → (arc g a).tokens ≡ 0 → NoneIsReady g r (stations g) → NoneIsReady g (released r (arc g a).from) (stations g)
+pub released_ready : (g : Parts) (r : Ranks) (p a : ℕ) (arcs : List ℕ) → IsGraph g → IsPassing g r p (a ∷ arcs) → a < arc_count g → (arc g a).tokens ≡ 0 → NoneIsReady g r (stations g) → NoneIsReady g (with_release r (arc g a).from) (stations g)
 released_ready g r p a arcs graph h there none ready =
     let s = (arc g a).from in
     let w = get_or r.waiting s 0 in
@@ -431,7 +431,7 @@ pub record HasTurned (g : Parts) (r : Ranks) (p : ℕ) (arcs : List ℕ) : Type 
   pub passing : IsPassing g r p arcs
   pub ready : NoneIsReady g r (stations g)
 
-pub passes_yes : (g : Parts) (r : Ranks) (p i : ℕ) (into : List ℕ) → IsGraph g → HasTurned g r p (drop i into) → i < length into → let a = get_or into i 0 in a < arc_count g → (arc g a).tokens ≡ 0 → HasTurned g (released r (arc g a).from) p (drop (i + 1) into)
+pub passes_yes : (g : Parts) (r : Ranks) (p i : ℕ) (into : List ℕ) → IsGraph g → HasTurned g r p (drop i into) → i < length into → let a = get_or into i 0 in a < arc_count g → (arc g a).tokens ≡ 0 → HasTurned g (with_release r (arc g a).from) p (drop (i + 1) into)
 passes_yes g r p i into graph h below there none =
     let e = drop_more into i 0 below in
     let passing = rw e at h.passing in

@@ -1,4 +1,5 @@
--- A walk among the stations without a rank comes back to a station that it left, and what lies between is a dead circuit.
+-- A walk among the stations without a rank comes back to a station that it left, and what lies between is a dead
+-- circuit.
 use Rattle.std.proofs.Common.{◌≡◌, ◌≢◌, ℕ, ◌+◌, ◌<◌, ◌≤◌, List, [], ◌∷◌, ◌++◌, length, set, get_or, map, drop, replicate, refl, sym, ap, ◌∙◌, subst, inl, inr, arith, length-drop}
 use Rattle.std.specs.List.{Contains}
 use Rattle.std.proofs.lemmas.Bool.{cases_lt}

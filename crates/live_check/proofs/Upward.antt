@@ -39,7 +39,7 @@ falling_upward g ranks order graph falling ranked =
     let T = stations g in
     let long = falling.rank_for_each in
     record {
-      place_for_each = length-map ranks (from_end T) ∙ long;
+      rank_for_each = length-map ranks (from_end T) ∙ long;
       below = All-map (λ rank. rank < T) (from_end T) ranks (λ k d below. omega (arith, ranked k d below));
       distinct = λ i j d before within same.
           (let j_in : j < T = omega (arith, length-map ranks (from_end T)) in

@@ -8,7 +8,7 @@ use Rattle.line_base.specs.declared.event.Arc.{Arc}
 use Rattle.line_base.specs.declared.event.Parts.{Parts}
 use Rattle.event_graph.specs.Network.{IsGraph, arc, arc_count, stations}
 use Rattle.event_graph.specs.Live.{IsLive}
-pub use Rattle.event_graph.specs.Varying.{IsList}
+use Rattle.event_graph.specs.Varying.{IsList}
 use Rattle.event_graph.specs.Table.{Table}
 use Rattle.event_graph.specs.Least.{IsLeast, IsNowhereAbove}
 

@@ -14,7 +14,7 @@ pub record LiveGraph : Type 0 where
 
 -- each station has a rank of its own, and each arc without a token goes upwards
 pub record IsUpward (g : Parts) (ranks : List ℕ) : Type 0 where
-  pub place_for_each : length ranks ≡ stations g
+  pub rank_for_each : length ranks ≡ stations g
   pub below : All (λ rank. rank < stations g) ranks
   pub distinct : AllPairs (λ rank other. rank ≢ other) ranks
   pub upward : (a : ℕ) → a < arc_count g → (arc g a).tokens ≡ 0 →

@@ -20,8 +20,8 @@ abbrev pub with_passed : Ranks → ℕ → Ranks
 with_passed r t = record r { waiting = slice_set r.waiting t (slice_index r.waiting t - 1) }
 
 -- one more arc out of station t is passed, and t gets the next rank if that was the last one
-abbrev pub released : Ranks → ℕ → Ranks
-released r t =
+abbrev pub with_release : Ranks → ℕ → Ranks
+with_release r t =
     if slice_index r.waiting t - 1 == 0 then with_next (with_passed r t) t else with_passed r t
 
 -- arc a leads out of station t, and holds no token

@@ -1,4 +1,4 @@
-ghost use Rattle.std.specs.Prelude.{◌≡◌, ◌<◌, ◌≤◌, length, drop, slice_index, vec_len, IfOk};
+ghost use Rattle.std.specs.Prelude.{◌≡◌, ◌<◌, ◌≤◌, length, drop, slice_index, IfOk};
 ghost use Rattle.event_graph.specs.Network.{stations};
 ghost use Rattle.live_check.specs.DeadCircuit.{IsDeadCircuit, IsStuck, LeadsOn};
 
@@ -25,7 +25,7 @@ fn arc_on(graph: &Graph, ranks: &[u32], t: u32) -> u32
     unreachable!()
 }
 
-/// The elements from rank `start` on.
+/// The elements from index `start` on.
 fn rest_of(alloc: Global, elements: &[u32], start: usize) -> Result<Vec<u32>, AllocError>
     requires { start ≤ length elements.now }
     ensures { IfOk result (λ rest. rest.items ≡ drop start elements.now) }

@@ -4,7 +4,8 @@ ghost use Rattle.line_base.specs.declared.event.Parts.{Parts};
 ghost use Rattle.live_check.specs.MoreTokens.{MoreTokensNeverLater};
 ghost use Rattle.live_check.specs.Order.{HasOrder};
 
-/// A law of the definitions: the stations of a live graph have an order in which every arc without a token goes upwards.
+/// A law of the definitions: the stations of a live graph have an order in which every arc without a token goes
+/// upwards.
 ///
 /// It runs nothing: its contract is the law. `rank` finds such an order.
 pub fn live_graphs_have_an_order()

@@ -1,10 +1,9 @@
-ghost use Rattle.std.specs.List.{range_with_len};
-ghost use Rattle.std.specs.Prelude.{◌≡◌, ℕ, ◌+◌, ◌-◌, ◌^◌, ◌<◌, ◌≤◌, [], length, slice_index, slice_set, replicate, reverse, map, count_by, All, IfOk, OnOk, MatchOption};
+ghost use Rattle.std.specs.Prelude.{◌≡◌, ◌+◌, ◌-◌, ◌^◌, ◌<◌, ◌≤◌, [], length, slice_index, reverse, map, IfOk, OnOk, MatchOption};
 ghost use Rattle.event_graph.specs.Limits.{IsWithinLimits};
 ghost use Rattle.event_graph.specs.Network.{IsGraph, stations, arc_count};
-ghost use Rattle.live_check.specs.Ranking.{Ranks, with_next, released, CountsFree, IsPassing, IsPassed, NoneIsReady, IsComplete, AllRanked, IsUnranked, from_end};
+ghost use Rattle.live_check.specs.Ranking.{Ranks, with_next, with_release, CountsFree, IsPassed, NoneIsReady, IsComplete, AllRanked, IsUnranked, from_end};
 
-use event_graph::{Arc, Graph};
+use event_graph::Graph;
 use std::alloc::{AllocError, Global};
 use std::marker::Model;
 
@@ -145,7 +144,7 @@ impl Ranking {
         requires station { t < length self.old.ranks }
         requires some { 0 < slice_index self.old.waiting t }
         requires room { length self.old.order < length self.old.ranks }
-        ensures { self.new ≡ released self.old t }
+        ensures { self.new ≡ with_release self.old t }
     {
         let waiting = self.waiting[t as usize] - 1;
         self.waiting[t as usize] = waiting;

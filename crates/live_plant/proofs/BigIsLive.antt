@@ -1,5 +1,5 @@
--- A plant under extended kanban is live where each stage has a free card and each machine a server: every arc without a token
--- then leads to a later station.
+-- A plant under extended kanban is live where each stage has a free card and each machine a server: every arc without a
+-- token then leads to a later station.
 use Rattle.std.proofs.Common.{◌≡◌, ℕ, zero, suc, ◌+◌, ◌-◌, ◌*◌, ◌<◌, ◌≤◌, eqb, [], length, get_or, refl, sym, ap, subst, arith}
 use Rattle.std.specs.List.{range_with_len, All}
 use Rattle.std.proofs.lemmas.Bool.{cond_both}
@@ -11,7 +11,7 @@ use Rattle.plant_model.specs.declared.plant.Policy.TheVariants.{Extended}
 use Rattle.plant_model.specs.Stages.{Stage}
 use Rattle.plant_model.specs.declared.plant.Plant.{Plant}
 use Rattle.plant_model.specs.Line.{no_stage, no_machine, stage_at, machine_at, machine_station, receiver, starting, stock_under}
-use Rattle.plant_model.specs.Graph.{Row, worked, plain, onward, feed_row, rows, graph}
+use Rattle.plant_model.specs.Graph.{Row, worked_row, plain_row, onward, feed_row, rows, graph}
 use Rattle.plant_model.specs.Sound.{IsSound}
 use Rattle.plant_model.proofs.LayoutStations.{receiver-above}
 use Rattle.event_graph.specs.Network.{arc, stations}
@@ -43,7 +43,7 @@ module _ (p : Plant) (filled : IsFilled p) where
   onward-up i j below inside =
       let m = length (stage_at p i).machines in
       let up = receiver-above p i filled.sound below in
-      cond_both (eqb (j + 1) m) (plain (machine_station p i j) (receiver p i) (starting p i) (stage_at p i).travel) (worked (machine_station p i j) (machine_station p i (j + 1)) 0) GoesUp
+      cond_both (eqb (j + 1) m) (plain_row (machine_station p i j) (receiver p i) (starting p i) (stage_at p i).travel) (worked_row (machine_station p i j) (machine_station p i (j + 1)) 0) GoesUp
       (λ is none. omega (arith, up.0))
       (λ isnt none. omega arith)
 
@@ -91,7 +91,7 @@ module _ (p : Plant) (filled : IsFilled p) where
       let good = IsGraph-graph p filled.sound in
       let is = λ (t : ℕ). λ (below : t < T). get_or-range_with_len 0 T t 0 below in
       record {
-        place_for_each = length-range_with_len 0 T;
+        rank_for_each = length-range_with_len 0 T;
         below = All-range (λ place. place < T) T (λ place below. below);
         distinct = λ i j d before within same.
             (let inside : j < T = omega (arith, length-range_with_len 0 T) in

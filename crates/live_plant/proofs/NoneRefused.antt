@@ -1,4 +1,5 @@
--- When nothing is refused: of a number, of two lists of refusals, of each element of a list that is made number by number.
+-- When nothing is refused: of a number, of two lists of refusals, of each element of a list that is made number by
+-- number.
 use Rattle.std.proofs.Common.{◌≡◌, ℕ, zero, suc, ◌+◌, ◌<◌, ◌≤◌, List, [], ◌∷◌, ◌++◌, length, map, refl, arith}
 use Rattle.std.proofs.lemmas.Bool.{le-ltb}
 use Rattle.std.specs.List.{range_with_len}

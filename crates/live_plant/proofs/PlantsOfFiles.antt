@@ -14,7 +14,7 @@ use Rattle.plant_model.specs.declared.plant.Plant.{Plant}
 use Rattle.plant_model.specs.Graph.{graph}
 use Rattle.plant_file.specs.declared.draft.DraftPlant.{DraftPlant}
 use Rattle.plant_file.specs.Draft.{demands_file}
-use Rattle.plant_file.specs.Finish.{completed}
+use Rattle.plant_file.specs.Finish.{completed_plant}
 use Rattle.plant_file.specs.PlantOfFiles.{bytes_of, plant_of_reading, plant_of}
 use Rattle.plant_file.specs.Reading.{reading}
 use Rattle.refusals.specs.declared.refusal.Refusal.{Refusal}
@@ -145,16 +145,16 @@ module _ (store : StoreOver) (known : IsTrue store.tells) where
       (λ bytes before after held rest reads_it gives. named_some name bytes answer (looked name before bytes reads_it held) gives.1)
 
   -- the plant of a draft
-  of_draft : (d : DraftPlant) (reads : List Read) (answer : Result Plant Refusal) → OfDraft d reads answer → All Held reads → AgreesWith (completed d (bytes_of files (demands_file d)) (bytes_of files d.times_file)) answer
+  of_draft : (d : DraftPlant) (reads : List Read) (answer : Result Plant Refusal) → OfDraft d reads answer → All Held reads → AgreesWith (completed_plant d (bytes_of files (demands_file d)) (bytes_of files d.times_file)) answer
   of_draft d reads answer steps all =
-      let W = completed d (bytes_of files (demands_file d)) (bytes_of files d.times_file) in
-      then_leads (LooksAtNamed (demands_file d)) (λ demands. Then (LooksAtNamed d.times_file) (λ times. Gives (or_refused (completed d demands times)))) Held (AgreesWith W) reads answer steps all
+      let W = completed_plant d (bytes_of files (demands_file d)) (bytes_of files d.times_file) in
+      then_leads (LooksAtNamed (demands_file d)) (λ demands. Then (LooksAtNamed d.times_file) (λ times. Gives (or_refused (completed_plant d demands times)))) Held (AgreesWith W) reads answer steps all
       (λ refusal before held stops. agrees_read W refusal (named (demands_file d) before (Err refusal) stops held))
       (λ demands before after held rest first next.
-      then_leads (LooksAtNamed d.times_file) (λ times. Gives (or_refused (completed d demands times))) Held (AgreesWith W) after answer next rest
+      then_leads (LooksAtNamed d.times_file) (λ times. Gives (or_refused (completed_plant d demands times))) Held (AgreesWith W) after answer next rest
       (λ refusal before held stops. agrees_read W refusal (named d.times_file before (Err refusal) stops held))
       (λ times later end held_times none second gives.
-      let own : completed d demands times ≡ W = ap (λ (o : Option (List ℕ)). completed d o times) (named (demands_file d) before (Ok demands) first held) ∙ ap (λ (o : Option (List ℕ)). completed d (bytes_of files (demands_file d)) o) (named d.times_file later (Ok times) second held_times) in
+      let own : completed_plant d demands times ≡ W = ap (λ (o : Option (List ℕ)). completed_plant d o times) (named (demands_file d) before (Ok demands) first held) ∙ ap (λ (o : Option (List ℕ)). completed_plant d (bytes_of files (demands_file d)) o) (named d.times_file later (Ok times) second held_times) in
       ⊎_elim
       (λ same. subst (AgreesWith W) (sym same) (subst (λ (r : Result Plant PlantError). AgreesWith W (or_refused r)) (sym own) (agrees_refused W)))
       (λ no_memory. agrees_memory W answer no_memory)

@@ -1,4 +1,5 @@
--- Two files, each read where it is named, one after the other; and then an answer of which something holds by their bytes.
+-- Two files, each read where it is named, one after the other; and then an answer of which something holds by their
+-- bytes.
 use Rattle.std.proofs.Common.{◌≡◌, ◌⊎◌, Bool, Option, ℕ, List, Result, subst}
 use Rattle.std.specs.Prelude.{Ok, Err, IfErr, IsErrAnd}
 use Rattle.line_io.specs.StoreView.{StoreView}

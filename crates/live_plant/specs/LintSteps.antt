@@ -34,8 +34,8 @@ abbrev pub IsFileLint : List ℕ → Result SoundFile Refusal → Type 0
 IsFileLint bytes (Ok file) = LintsFile bytes (lint.Sound file.notes) × (reading bytes ≡ Ok file.draft)
 IsFileLint bytes (Err refusal) = IsRefusedFile bytes refusal
 
--- a plant that nothing is refused of: that there is no fault, with the notes, where its graph is live, and else a circuit
--- without a token
+-- a plant that nothing is refused of: that there is no fault, with the notes, where its graph is live, and else a
+-- circuit without a token
 abbrev pub IsCleanOrDead : Plant → List ℕ → Result (List ℕ) Refusal → Type 0
 IsCleanOrDead p text (Ok same) = (same ≡ text) × IsLive (graph p)
 IsCleanOrDead p text (Err refusal) = IsDeadRefusal (graph p) refusal
@@ -45,8 +45,8 @@ abbrev pub IsSaid : Plant → List ℕ → FileLint → Result (List ℕ) Refusa
 IsSaid p notes (lint.Refused lines) answer = answer ≡ Err (Faults lines)
 IsSaid p notes (lint.Sound more) answer = IsCleanOrDead p (clean_text notes more) answer
 
--- the bytes of the files that a sound plant file names: their first bad records; then what is wrong with the plant as a whole;
--- then whether it is live
+-- the bytes of the files that a sound plant file names: their first bad records; then what is wrong with the plant as a
+-- whole; then whether it is live
 abbrev pub IsDraftLint : SoundFile → Option (List ℕ) → Option (List ℕ) → Result (List ℕ) Refusal → Type 0
 IsDraftLint file demands times =
     IsSaid (plant_of_bytes file.draft demands times) file.notes (lint_of_draft file.draft demands times)
@@ -58,7 +58,7 @@ LintsDraft file =
     Then (LooksAtNamed file.draft.times_file) (λ times.
     Settles (IsDraftLint file demands times)))
 
--- lint of a plant file: the file, and where nothing is wrong with it by itself the files that it names. What is answered is
--- what is written with status 0, or a refusal: all lines with status 3, a dead circuit with status 4.
+-- lint of a plant file: the file, and where nothing is wrong with it by itself the files that it names. What is
+-- answered is what is written with status 0, or a refusal: all lines with status 3, a dead circuit with status 4.
 abbrev pub LintsPlant : List ℕ → Step (List ℕ)
 LintsPlant name = Then (LooksAt name) (λ bytes. Then (Settles (IsFileLint bytes)) LintsDraft)

@@ -9,7 +9,7 @@ use Rattle.plant_model.specs.declared.plant.Plant.{Plant}
 use Rattle.plant_model.specs.Graph.{graph}
 use Rattle.plant_file.specs.declared.draft.DraftPlant.{DraftPlant}
 use Rattle.plant_file.specs.Draft.{demands_file}
-use Rattle.plant_file.specs.Finish.{completed}
+use Rattle.plant_file.specs.Finish.{completed_plant}
 use Rattle.plant_file.specs.Reading.{reading}
 use Rattle.event_graph.specs.Live.{IsLive}
 use Rattle.line_graph.specs.DeadLabels.{AreDead}
@@ -28,7 +28,7 @@ abbrev pub OfDraft : DraftPlant → Step Plant
 OfDraft d =
     Then (LooksAtNamed (demands_file d)) (λ demands.
     Then (LooksAtNamed d.times_file) (λ times.
-    Gives (or_refused (completed d demands times))))
+    Gives (or_refused (completed_plant d demands times))))
 
 -- the draft of the bytes of a plant file, or one of the refusals 1 to 9
 abbrev pub OfBytes : List ℕ → Step DraftPlant

@@ -19,9 +19,9 @@ const STAGES: u32 = 12;
 /// How many demands a big plant has.
 const DEMANDS: u32 = 2_000;
 
-/// The big plant of a seed: twelve stages of three machines under extended kanban, two lines of four stages that meet in
-/// stage `s9`, and 2,000 demands. Its numbers are drawn from the seed, so that a seed has one plant. It is sound, and its graph
-/// is live, since each stage has a card more than stock at least. The only error is out of memory.
+/// The big plant of a seed: twelve stages of three machines under extended kanban, two lines of four stages that meet
+/// in stage `s9`, and 2,000 demands. Its numbers are drawn from the seed, so that a seed has one plant. It is sound,
+/// and its graph is live, since each stage has a card more than stock at least. The only error is out of memory.
 pub fn big_plant(alloc: Global, seed: u64) -> Result<Plant, AllocError>
     ensures plant { IfOk result (λ plant. plant ≡ big_plant seed) }
     ensures sound { IfOk result IsSound }
@@ -136,7 +136,8 @@ fn name_of(alloc: Global, text: &[u8]) -> Result<Name, AllocError>
     }
 }
 
-/// The stage that a stage feeds, both numbered from 0: the two lines of four stages feed stage 8, and stage 11 is final.
+/// The stage that a stage feeds, both numbered from 0: the two lines of four stages feed stage 8, and stage 11 is
+/// final.
 fn fed_by(stage: u32) -> Option<u32>
     requires { stage < 12 }
     ensures { result ≡ fed_by stage }

@@ -87,8 +87,8 @@ fn lint_bytes(
     }
 }
 
-/// That there is no fault, with the notes of the file and of the plant, where its graph is live; else a circuit without a
-/// token.
+/// That there is no fault, with the notes of the file and of the plant, where its graph is live; else a circuit without
+/// a token.
 fn lint_live(
     alloc: Global,
     plant: &Plant,

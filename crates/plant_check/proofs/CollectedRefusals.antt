@@ -15,7 +15,8 @@ pub record Collected {X : Type 0} (f : ℕ → X → List PlantError) (xs : List
 drop-here : {X : Type 0} (xs : List X) (i : ℕ) (x : X) → i < length xs → x ≡ get_or xs i x → drop i xs ≡ x ∷ drop (i + 1) xs
 drop-here xs i x below is = rw (drop-cons xs i x below, add-one) (ap (λ y. y ∷ drop (suc i) xs) (sym is))
 
--- where what is added from number i on begins with what is added for element i, what is added for those after it is left
+-- where what is added from number i on begins with what is added for element i, what is added for those after it is
+-- left
 pub one_more : {X A : Type 0} (from : ℕ → List X → List A) (xs : List X) (i : ℕ) (x : X) (here all old mid new : List A) → ((rest : List X) → from i (x ∷ rest) ≡ here ++ from (i + 1) rest) → old ++ all ≡ mid ++ from i (drop i xs) → i < length xs → x ≡ get_or xs i x → new ≡ mid ++ here → old ++ all ≡ new ++ from (i + 1) (drop (i + 1) xs)
 one_more from xs i x here all old mid new step before below is added =
     before

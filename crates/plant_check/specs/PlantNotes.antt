@@ -8,7 +8,7 @@ use Rattle.plant_model.specs.declared.plant.Plant.{Plant}
 abbrev pub has_no_stock : Plant → Bool
 has_no_stock p = list_all (λ s. stock_under p.policy s == 0) p.stages
 
--- the date at place k + 1 is the one at place k plus 1
+-- date k + 1 is date k plus 1, both counted from 0
 abbrev pub goes_by_one_at : List ℕ → ℕ → Bool
 goes_by_one_at dates k = slice_index_or dates (k + 1) 0 == slice_index_or dates k 0 + 1
 

@@ -8,9 +8,9 @@ use crate::{names, ranges};
 use plant_model::{Plant, PlantError};
 use std::alloc::Global;
 
-/// Whether a plant is sound. The error is the first of the refusals 5 to 9 and 11 to 15 of `PlantError`, in their order,
-/// each tried over the whole plant before the next, at the first key in the order of a plant file. Running out of
-/// memory may come before any of them.
+/// Whether a plant is sound. The error is the first of the refusals 5 to 9 and 11 to 15 of `PlantError`, in their
+/// order, each tried over the whole plant before the next, at the first key in the order of a plant file. Running out
+/// of memory may come before any of them.
 #[tactic(auto, unfolding(plant_model::specs::Refusals::refusals))]
 pub fn check(alloc: Global, plant: &Plant) -> Result<(), PlantError>
     ensures sound { OnOk result (IsSound plant.now) }
@@ -21,8 +21,8 @@ pub fn check(alloc: Global, plant: &Plant) -> Result<(), PlantError>
     check_whole(alloc, plant)
 }
 
-/// Whether nothing is wrong with a plant as a whole, where its parts are right: the error is the first of the refusals 11
-/// to 15.
+/// Whether nothing is wrong with a plant as a whole, where its parts are right: the error is the first of the refusals
+/// 11 to 15.
 pub fn check_whole(alloc: Global, plant: &Plant) -> Result<(), PlantError>
     requires { parts_refusals plant.now ≡ [] }
     ensures sound { OnOk result (IsSound plant.now) }

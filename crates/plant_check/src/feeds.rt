@@ -5,8 +5,8 @@ ghost use Rattle.plant_check.specs.Rules.{refused_flow};
 use plant_model::{FileTable, PlantError, Stage, key_place, table_place};
 use std::alloc::Global;
 
-/// Whether each stage that feeds one feeds a later one, and then whether no stage but the last feeds none. The error is the
-/// first of the refusals 8 and 9 of `PlantError`; running out of memory may come before any of them.
+/// Whether each stage that feeds one feeds a later one, and then whether no stage but the last feeds none. The error is
+/// the first of the refusals 8 and 9 of `PlantError`; running out of memory may come before any of them.
 pub fn check_flow<T>(alloc: Global, stages: &[Stage<T>]) -> Result<(), PlantError>
     ensures { AnswersFirst result (feeds_not_later_in stages.now ++ second_finals_in stages.now) }
 {

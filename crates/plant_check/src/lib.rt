@@ -1,5 +1,5 @@
-//! The test whether a plant is sound, one file for neighbouring classes of refusals, all refusals of a plant as a whole,
-//! and what may not be meant in one that is sound.
+//! The test whether a plant is sound, one file for neighbouring classes of refusals, all refusals of a plant as a
+//! whole, and what may not be meant in one that is sound.
 #![tactic(auto)]
 
 mod classes;

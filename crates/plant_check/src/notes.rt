@@ -5,11 +5,11 @@ ghost use Rattle.plant_check.specs.PlantNotes.{has_no_stock, goes_by_one, counts
 ghost use Rattle.plant_model.specs.Line.{stock_under};
 
 use line_base::Date;
-use plant_model::{Plant, Policy, Stage};
+use plant_model::{Plant, Policy, Stage, stock_under};
 use std::alloc::{AllocError, Global};
 
-/// The notes of a plant: that no stage has starting stock, and that the dates of its demand file, if it has one, count up
-/// by one.
+/// The notes of a plant: that no stage has starting stock, and that the dates of its demand file, if it has one, count
+/// up by one.
 #[tactic(auto, unfolding(crate::specs::PlantNotes::plant_notes))]
 pub fn plant_notes(alloc: Global, file: Option<&str>, plant: &Plant) -> Result<String, AllocError>
     ensures { IfOk result
@@ -36,16 +36,6 @@ fn has_no_stock(policy: Policy, stages: &[Stage]) -> bool
     ensures { result ≡ list_all (λ s. stock_under policy s == 0) stages.now }
 {
     stages.iter().all(|stage| stock_under(policy, stage) == 0)
-}
-
-/// The starting stock of a stage.
-fn stock_under(policy: Policy, stage: &Stage) -> u32
-    ensures { result ≡ stock_under policy stage.now }
-{
-    match policy {
-        Policy::Kanban => stage.cards,
-        Policy::Conwip(_) | Policy::BaseStock | Policy::Extended => stage.stock,
-    }
 }
 
 /// Adds that the dates of a file count up by one, if they do.

@@ -23,7 +23,7 @@ use Rattle.plant_file.specs.declared.draft.DraftTimes.{DraftTimes}
 use Rattle.plant_file.specs.declared.draft.DraftTimes.TheVariants.{Column, Fixed, Each}
 use Rattle.plant_file.specs.declared.draft.DraftPlant.{DraftPlant}
 use Rattle.plant_file.specs.Draft.{DraftStage}
-use Rattle.plant_file.specs.Finish.{times_with, machine_with, stage_with, loop_with, plant_with, plant_or_first, finished}
+use Rattle.plant_file.specs.Finish.{times_with, machine_with, stage_with, loop_with, plant_with, plant_or_first, finished_plant}
 use Rattle.plant_file.specs.Counts.{machine_counts, stage_counts, stays_within, table_within}
 use Rattle.plant_file.proofs.PlantParts.{each_from-map, list_any-map}
 
@@ -230,7 +230,7 @@ whole_refusals-counted d dates t jobs are none =
     whole_refusals-within d dates t (stays_within jobs d.stages) (times_counts-draft d dates t jobs are ∙ none)
 
 -- and where nothing else is refused of that, it gives the plant
-pub finished-counted : (d : DraftPlant) (dates : Option (List ℕ)) (t : Option JobTimes) (jobs : ℕ) → jobs ≡ length (plant_with d dates t).demands → each (stage_counts jobs t) d.stages ≡ [] → whole_refusals (plant_with d dates (table_within (stays_within jobs d.stages) t)) ≡ [] → finished d dates t ≡ Ok (plant_with d dates (table_within (stays_within jobs d.stages) t))
+pub finished-counted : (d : DraftPlant) (dates : Option (List ℕ)) (t : Option JobTimes) (jobs : ℕ) → jobs ≡ length (plant_with d dates t).demands → each (stage_counts jobs t) d.stages ≡ [] → whole_refusals (plant_with d dates (table_within (stays_within jobs d.stages) t)) ≡ [] → finished_plant d dates t ≡ Ok (plant_with d dates (table_within (stays_within jobs d.stages) t))
 finished-counted d dates t jobs are none nothing =
     let whole : whole_refusals (plant_with d dates t) ≡ [] = sym (whole_refusals-counted d dates t jobs are none) ∙ nothing in
     let within : stays_within jobs d.stages ≡ true = ap (λ n. stays_within n d.stages) are ∙ stays_within-sound d dates t whole in

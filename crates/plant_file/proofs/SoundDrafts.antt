@@ -9,7 +9,7 @@ use Rattle.plant_model.proofs.NoRefusals.{append-nil_left, append-nil_right, eac
 use Rattle.toml.specs.Data.{Data, get}
 use Rattle.plant_keys.specs.declared.keys.Class.{Class}
 use Rattle.plant_keys.specs.declared.keys.Class.TheVariants.{MissingKeys, BadNames, OutOfRanges}
-use Rattle.plant_keys.specs.declared.keys.Kind.TheVariants.{StageText}
+use Rattle.plant_keys.specs.declared.keys.Kind.TheVariants.{StageReference}
 use Rattle.plant_file.specs.Draft.{IsSoundDraft, is_sound_stage, is_sound_machine, is_sound_loop}
 use Rattle.plant_keys.specs.Readers.{tables_at, text_at, stage_names}
 use Rattle.plant_keys.specs.Keys.{Key, optional, top_keys, stage_keys, has_stage_cards}
@@ -20,7 +20,7 @@ use Rattle.plant_file.proofs.ColumnUses.{times_file-columns}
 use Rattle.plant_file.proofs.SoundNames.{names_twice-draft}
 
 no_key : Key
-no_key = optional [] StageText
+no_key = optional [] StageReference
 
 stage_sound : (names : List (List ℕ)) (b : Bool) (i : ℕ) (s : Data) → stage_refusals BadNames b i s ≡ [] → stage_refusals MissingKeys b i s ≡ [] → stage_refusals OutOfRanges b i s ≡ [] → is_sound_stage (stage_of names s) ≡ true
 stage_sound names b i s bad missing out =

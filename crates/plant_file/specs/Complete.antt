@@ -18,8 +18,8 @@ abbrev pub refusal_of : List ℕ → FeedError → PlantError
 refusal_of file (feed.BadRecord number) = BadRecord file number
 refusal_of file feed.NoMemory = NoMemory
 
--- these are the dates in the draft's column of the demand file's bytes, in which no record is bad, and there are none where
--- no file is named
+-- these are the dates in the draft's column of the demand file's bytes, in which no record is bad, and there are none
+-- where no file is named
 pub record HoldsDates (d : DraftPlant) (bytes : Option (List ℕ)) (dates : Option (Vec ℕ Global)) : Type 0 where
   pub given : is_some dates ≡ is_some (demands_file d)
   pub some : IfSome dates (λ read. 0 < vec_len read)

@@ -30,18 +30,19 @@ stays_within jobs stages =
     nat_le (1 + stations_of stages + 1) most_stations
     && (nat_le jobs most_demands && nat_le ((1 + stations_of stages + 1) * jobs) most_dates)
 
--- the most numbers of copied columns, which are 512 MiB, and of the stations of a plant that has them copied
-abbrev pub most_copies : ℕ
-most_copies = 67108864
+-- the most numbers of copied columns, which are 512 MiB, and the most stations of a plant that has them copied
+abbrev pub most_copied_numbers : ℕ
+most_copied_numbers = 67_108_864
 
-abbrev pub most_copying : ℕ
-most_copying = 1000000
+abbrev pub most_copying_stations : ℕ
+most_copying_stations = 1_000_000
 
 -- a copy of the table's records for each of these stations is no more numbers than that
 abbrev pub can_be_copied : List DraftStage → Option JobTimes → Bool
 can_be_copied stages None = true
 can_be_copied stages (Some table) =
-    nat_le (stations_of stages) most_copying && nat_le (stations_of stages * length table.rows) most_copies
+    nat_le (stations_of stages) most_copying_stations
+    && nat_le (stations_of stages * length table.rows) most_copied_numbers
 
 -- the table, if the plant stays within its limits
 abbrev pub table_within : Bool → Option JobTimes → Option JobTimes

@@ -1,4 +1,5 @@
--- What a draft says beyond its fields: the files that it names, the columns that its machines use, and when it is sound.
+-- What a draft says beyond its fields: the files that it names, the columns that its machines use, and when it is
+-- sound.
 use Rattle.std.specs.Prelude.{◌≡◌, ℕ, Bool, true, false, not, ◌&&◌, ◌==◌, nat_le, List, [], filter, Option, None, Some, is_some, IsTrue}
 use Rattle.std.specs.List.{list_all, list_any, range_with_len}
 use Rattle.line_base.specs.Limits.{most_cards, longest_time, last_column, last_demand, last_observed}

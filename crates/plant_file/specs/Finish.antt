@@ -15,7 +15,7 @@ use Rattle.plant_model.specs.declared.plant.Plant.{Plant}
 use Rattle.plant_model.specs.Refusals.{whole_refusals}
 use Rattle.demand_feed.specs.Dates.{dates_of}
 use Rattle.demand_feed.specs.JobTimes.{JobTimes, numbers_in}
-use Rattle.demand_feed.specs.Rows.{Held}
+use Rattle.demand_feed.specs.Rows.{FeedResult}
 use Rattle.demand_feed.specs.Times.{times_of}
 use Rattle.plant_file.specs.declared.draft.DraftDemands.{DraftDemands}
 use Rattle.plant_file.specs.declared.draft.DraftDemands.TheVariants.{Given, File}
@@ -96,8 +96,8 @@ plant_or_first [] p = Ok p
 plant_or_first (refusal ∷ _) p = Err refusal
 
 -- the plant of a draft with these dates and times, or the first of its refusals 11 to 15
-abbrev pub finished : DraftPlant → Option (List ℕ) → Option JobTimes → Result Plant PlantError
-finished d dates table = plant_or_first (whole_refusals (plant_with d dates table)) (plant_with d dates table)
+abbrev pub finished_plant : DraftPlant → Option (List ℕ) → Option JobTimes → Result Plant PlantError
+finished_plant d dates table = plant_or_first (whole_refusals (plant_with d dates table)) (plant_with d dates table)
 
 -- the bytes of a draft's files, each given exactly where the draft names it, of the times file at most a checkpoint's
 pub record AreFilesOf (d : DraftPlant) (demands times : Option (Bor (List ℕ))) : Type 0 where
@@ -106,16 +106,16 @@ pub record AreFilesOf (d : DraftPlant) (demands times : Option (Bor (List ℕ)))
   pub times_size : IfSome times (λ bytes. length bytes.now ≤ MAX_CHECKPOINT_BYTES)
 
 -- 10, of a file: the number of its first bad record
-abbrev pub bad_record : {A : Type 0} → List ℕ → Held A → List PlantError
+abbrev pub bad_record : {A : Type 0} → List ℕ → FeedResult A → List PlantError
 bad_record file (Ok held) = []
 bad_record file (Err number) = BadRecord file number ∷ []
 
 -- 10, of a file that may not be used, by what is read of its bytes
-abbrev pub bad_record_in : {A : Type 0} → (List ℕ → Held A) → Option (List ℕ) → Option (List ℕ) → List PlantError
+abbrev pub bad_record_in : {A : Type 0} → (List ℕ → FeedResult A) → Option (List ℕ) → Option (List ℕ) → List PlantError
 bad_record_in read name bytes = option_map_or (λ bs. bad_record (unwrap_or name []) (read bs)) bytes []
 
 -- what is read of the bytes of a file that may not be used, where no record is bad
-abbrev pub held_in : {A : Type 0} → (List ℕ → Held A) → Option (List ℕ) → Option A
+abbrev pub held_in : {A : Type 0} → (List ℕ → FeedResult A) → Option (List ℕ) → Option A
 held_in read bytes = option_and_then (λ bs. result_ok (read bs)) bytes
 
 -- 10: a record of the demand file, or then of the times file, can't be used
@@ -130,8 +130,8 @@ plant_of_bytes d demands times =
     plant_with d (held_in (dates_of (demands_column d)) demands) (held_in (times_of (columns_of d)) times)
 
 -- the plant of a draft and of the bytes of its files, or the first of the refusals 10 to 15
-abbrev pub completed : DraftPlant → Option (List ℕ) → Option (List ℕ) → Result Plant PlantError
-completed d demands times =
+abbrev pub completed_plant : DraftPlant → Option (List ℕ) → Option (List ℕ) → Result Plant PlantError
+completed_plant d demands times =
     plant_or_first
     (bad_records d demands times ++ whole_refusals (plant_of_bytes d demands times))
     (plant_of_bytes d demands times)

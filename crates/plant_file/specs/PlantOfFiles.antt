@@ -5,7 +5,7 @@ use Rattle.plant_model.specs.declared.error.PlantError.{PlantError}
 use Rattle.plant_model.specs.declared.plant.Plant.{Plant}
 use Rattle.plant_file.specs.declared.draft.DraftPlant.{DraftPlant}
 use Rattle.plant_file.specs.Draft.{demands_file}
-use Rattle.plant_file.specs.Finish.{completed}
+use Rattle.plant_file.specs.Finish.{completed_plant}
 use Rattle.plant_file.specs.Reading.{reading}
 
 -- the bytes of each file that is there, by its name
@@ -22,7 +22,7 @@ bytes_of files name = option_map (bytes_at files) name
 
 -- what the reading of a plant file answers, with the files that it names
 abbrev pub plant_of_reading : Contents → Result DraftPlant PlantError → Result Plant PlantError
-plant_of_reading files (Ok d) = completed d (bytes_of files (demands_file d)) (bytes_of files d.times_file)
+plant_of_reading files (Ok d) = completed_plant d (bytes_of files (demands_file d)) (bytes_of files d.times_file)
 plant_of_reading files (Err refusal) = Err refusal
 
 -- the sound plant of a plant file, or its first refusal, each class before the next; it has a meaning where each file

@@ -188,7 +188,7 @@ fn feeds_of(names: &Names<'_>, stage: &Value) -> Result<Option<u32>, PlantError>
 {
     match value_at(stage, "feeds") {
         None => Ok(None),
-        Some(fed) => Ok(Some(numbered(names.place_of(text_of(fed)))?)),
+        Some(fed) => Ok(Some(number_within(names.number_or_count(text_of(fed)))?)),
     }
 }
 
@@ -198,12 +198,12 @@ fn stage_number(names: &Names<'_>, name: &str) -> Result<Option<u32>, PlantError
 {
     match names.number_of(name) {
         None => Ok(None),
-        Some(number) => Ok(Some(numbered(number)?)),
+        Some(number) => Ok(Some(number_within(number)?)),
     }
 }
 
 /// The number of a stage. No memory holds stages whose numbers pass 32 bits.
-fn numbered(number: usize) -> Result<u32, PlantError>
+fn number_within(number: usize) -> Result<u32, PlantError>
     ensures { Builds result number }
 {
     match u32::try_from(number) {

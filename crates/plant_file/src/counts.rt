@@ -11,6 +11,12 @@ use plant_check::count_stations;
 use plant_model::{FileTable, PlantError, table_place};
 use std::alloc::Global;
 
+/// The most numbers of copied columns, of 8 bytes each: 512 MiB.
+const MOST_COPIED_NUMBERS: u128 = 67_108_864;
+
+/// The most stations of a plant whose columns are copied before it is known to stay within its limits.
+const MOST_COPYING_STATIONS: u128 = 1_000_000;
+
 /// How many demands a plant has, with the dates of its demand file.
 pub(crate) fn count_demands(demands: &DraftDemands, dates: &Option<Vec<Date>>) -> usize
     ensures { result ≡ length (dates_with demands.now (option_map (λ read. read.items) dates.now)) }
@@ -94,12 +100,6 @@ fn list_length(times: &DraftTimes, table: &Option<Columns>) -> Option<u64>
     }
 }
 
-/// The most numbers of copied columns: 512 MiB.
-const MOST_COPIES: u128 = 67_108_864;
-
-/// The most stations of a plant whose columns are copied before it is known to stay within its limits.
-const MOST_COPYING: u128 = 1_000_000;
-
 /// Whether a copy of a table's records for each station is no more numbers than are copied.
 pub(crate) fn can_be_copied(stages: &[DraftStage], table: &Option<Columns>) -> bool
     ensures { result ≡ can_be_copied stages.now table.now }
@@ -109,7 +109,7 @@ pub(crate) fn can_be_copied(stages: &[DraftStage], table: &Option<Columns>) -> b
         Some(table) => {
             let stations = count_stations(stages);
             let records = u128::from(table.records());
-            stations <= MOST_COPYING && stations * records <= MOST_COPIES
+            stations <= MOST_COPYING_STATIONS && stations * records <= MOST_COPIED_NUMBERS
         }
     }
 }

@@ -5,7 +5,7 @@ ghost use Rattle.demand_feed.specs.Times.{times_of};
 ghost use Rattle.line_base.specs.declared.limits.TheConstants.{MAX_CHECKPOINT_BYTES, MAX_DEMAND_DATE};
 ghost use Rattle.plant_file.specs.Draft.{demands_file, demands_column, columns_of};
 ghost use Rattle.plant_file.specs.Complete.{HoldsDates, HoldsTimes, refusal_of};
-ghost use Rattle.plant_file.specs.Finish.{AnswersPlant, AreFilesOf, HasColumn, HasColumns, IsWithinLimit, bad_record_in, bad_records, plant_of_bytes, completed, dates_with, finished, loop_with, machine_with, plant_with, stage_with, times_with};
+ghost use Rattle.plant_file.specs.Finish.{AnswersPlant, AreFilesOf, HasColumn, HasColumns, IsWithinLimit, bad_record_in, bad_records, plant_of_bytes, completed_plant, dates_with, finished_plant, loop_with, machine_with, plant_with, stage_with, times_with};
 ghost use Rattle.plant_file.specs.PlantOfFiles.{Contents, IsReadFrom, plant_of};
 ghost use Rattle.plant_model.specs.Refusals.{all_feeds_not_later, first, whole_refusals};
 ghost use Rattle.plant_model.specs.Sound.{IsSound};
@@ -19,10 +19,10 @@ use plant_check::check_whole;
 use plant_model::{CardLoop, Machine, Plant, PlantError, Stage, Text};
 use std::alloc::{AllocError, Global};
 
-/// The plant of a draft, with the dates of its demand file and the times of its times file where it uses them. The error
-/// is the first of the refusals 11 to 15 of `PlantError`. A loop's end that names no stage becomes the number of stages,
-/// which class 14 refuses. Running out of memory may come before any refusal. No column of the times is copied before the
-/// number of records has been compared with that of the dates, and both with their limits.
+/// The plant of a draft, with the dates of its demand file and the times of its times file where it uses them. The
+/// error is the first of the refusals 11 to 15 of `PlantError`. A loop's end that names no stage becomes the number of
+/// stages, which class 14 refuses. Running out of memory may come before any refusal. No column of the times is copied
+/// before the number of records has been compared with that of the dates, and both with their limits.
 pub fn finish_draft(
     alloc: Global,
     draft: Draft,
@@ -34,7 +34,7 @@ pub fn finish_draft(
     requires dates_limit { IfSome dates (λ read. All (λ date. date ≤ MAX_DEMAND_DATE) read.items) }
     requires times_where_used { is_some times ≡ is_some draft.times_file }
     requires times_columns { IfSome times (λ table. table.columns ≡ columns_of draft) }
-    ensures plant { AnswersPlant result (finished draft (option_map (λ read. read.items) dates) times) }
+    ensures plant { AnswersPlant result (finished_plant draft (option_map (λ read. read.items) dates) times) }
     ensures sound { IfOk result IsSound }
 {
     let draft = draft.into_plant();
@@ -59,9 +59,9 @@ pub fn finish_draft(
     }
 }
 
-/// The plant of a draft and of the bytes of its demand file and of its times file, each given exactly where the draft names
-/// it. The error is the first of the refusals 10 to 15 of `PlantError`, the demand file tried before the times file.
-/// Running out of memory may come before any refusal.
+/// The plant of a draft and of the bytes of its demand file and of its times file, each given exactly where the draft
+/// names it. The error is the first of the refusals 10 to 15 of `PlantError`, the demand file tried before the times
+/// file. Running out of memory may come before any refusal.
 pub fn complete_draft(
     alloc: Global,
     draft: Draft,
@@ -69,7 +69,7 @@ pub fn complete_draft(
     times: Option<&[u8]>,
 ) -> Result<Plant, PlantError>
     requires { AreFilesOf draft demands times }
-    ensures plant { AnswersPlant result (completed draft (option_copied demands.entry) (option_copied times.entry)) }
+    ensures plant { AnswersPlant result (completed_plant draft (option_copied demands.entry) (option_copied times.entry)) }
     ensures sound { IfOk result IsSound }
 
     // where the draft and the bytes are those of files, the answer is the plant of the files
@@ -86,9 +86,9 @@ pub fn complete_draft(
     }
 }
 
-/// The plant of a draft and of the bytes of its files, whatever is wrong with it as a whole: the refusals 11 to 15 aren't
-/// tried. The error is the first of class 10, the demand file tried before the times file. Memory may run out before
-/// that, and `NoMemory` comes too where the columns of the machines would be more than 512 MiB.
+/// The plant of a draft and of the bytes of its files, whatever is wrong with it as a whole: the refusals 11 to 15
+/// aren't tried. The error is the first of class 10, the demand file tried before the times file. Memory may run out
+/// before that, and `NoMemory` comes too where the columns of the machines would be more than 512 MiB.
 pub fn assemble_plant(
     alloc: Global,
     draft: Draft,

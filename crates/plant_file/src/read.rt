@@ -18,7 +18,8 @@ use std::alloc::Global;
 use toml::Value;
 
 /// Reads the bytes of a plant file. The answer is what the file says, or the first of the refusals 1 to 9 of
-/// `PlantError`, each class tried over the whole file before the next. Running out of memory may come before any of them.
+/// `PlantError`, each class tried over the whole file before the next. Running out of memory may come before any of
+/// them.
 #[tactic(auto, unfolding(crate::specs::Reading::reading))]
 pub fn read_plant(alloc: Global, bytes: &[u8]) -> Result<Draft, PlantError>
     ensures { AnswersReading result (reading bytes.now) }

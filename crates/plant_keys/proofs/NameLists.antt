@@ -51,8 +51,8 @@ none_passes found all within none =
     elim (ltb found all) as (λ b. ltb found all ≡ b → None ≡ cond b (Some found) None → all ≡ found)
     [ true ↦ λ is none. cc | false ↦ λ is none. let up = ltb-false found all is in omega arith ] refl none
 
-pub place_where_none : {X : Type 0} (p : X → Bool) (xs : List X) → None ≡ position p xs → length xs ≡ position_or_len p xs
-place_where_none p xs none =
+pub number_where_none : {X : Type 0} (p : X → Bool) (xs : List X) → None ≡ position p xs → length xs ≡ position_or_len p xs
+number_where_none p xs none =
     none_passes (position_or_len p xs) (length xs) (prefix_len-le-length (λ x. not (p x)) xs) none
 
 -- the place of an element that passes
@@ -61,8 +61,8 @@ some_passes found all n some =
     elim (ltb found all) as (λ b. Some n ≡ cond b (Some found) None → n ≡ found)
     [ true ↦ λ some. cc | false ↦ λ some. cc ] some
 
-pub place_where_some : {X : Type 0} (p : X → Bool) (xs : List X) (n : ℕ) → Some n ≡ position p xs → n ≡ position_or_len p xs
-place_where_some p xs n some = some_passes (position_or_len p xs) (length xs) n some
+pub number_where_some : {X : Type 0} (p : X → Bool) (xs : List X) (n : ℕ) → Some n ≡ position p xs → n ≡ position_or_len p xs
+number_where_some p xs n some = some_passes (position_or_len p xs) (length xs) n some
 
 -- the names of the values below number j, and that of value j
 pub names_more : (vs : List Value) (j : ℕ) (x : Value) (names : List (List ℕ)) → names ≡ take j (map name_in (views vs)) → j < length vs → x ≡ get_or vs j x → names ++ name_in (view x) ∷ [] ≡ take (j + 1) (map name_in (views vs))

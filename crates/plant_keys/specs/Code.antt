@@ -44,6 +44,7 @@ refusal OutOfRanges place = OutOfRange place
 abbrev pub with_name : List ℕ → List (List ℕ) → List (List ℕ)
 with_name name names = if list_any (bytes_eq name) names then names else names ++ name ∷ []
 
--- the answer gives names where nothing is refused, and else is the first refusal; running out of memory may come instead
+-- the answer gives names where nothing is refused, and else is the first refusal; running out of memory may come
+-- instead
 abbrev pub GivesNames : Result (List (List ℕ)) PlantError → List PlantError → List (List ℕ) → Type 0
 GivesNames r rs names = MatchResult r (λ given. (rs ≡ []) × (given ≡ names)) (λ e. e ≢ NoMemory → first rs ≡ Some e)

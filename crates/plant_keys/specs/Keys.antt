@@ -1,11 +1,11 @@
--- The keys of the tables of a plant file: for each table its keys in byte order, each with what stands there, whether it
--- has to be there, and whether it is excluded: by another key of the table, or as one that it needs is absent.
+-- The keys of the tables of a plant file: for each table its keys in byte order, each with what stands there, whether
+-- it has to be there, and whether it is excluded: by another key of the table, or as one that it needs is absent.
 use Rattle.std.specs.Prelude.{ℕ, Bool, true, false, not, ◌&&◌, ◌||◌, List, [], ◌∷◌, codes, bytes_eq}
 use Rattle.std.specs.List.{list_any}
 use Rattle.line_base.specs.Limits.{most_cards, longest_time, last_column, last_demand, last_observed}
 use Rattle.toml.specs.Data.{Data}
 use Rattle.plant_keys.specs.declared.keys.Kind.{Kind}
-use Rattle.plant_keys.specs.declared.keys.Kind.TheVariants.{PolicyWord, StageName, MachineName, FileName, StageText, Number, Numbers, Tables}
+use Rattle.plant_keys.specs.declared.keys.Kind.TheVariants.{PolicyWord, StageName, MachineName, FileName, StageReference, Number, Numbers, Tables}
 use Rattle.plant_keys.specs.Readers.{has, text_at, tables_at}
 
 -- a key of a table
@@ -24,8 +24,8 @@ abbrev pub required_if : Bool → List ℕ → Kind → Key
 required_if test name kind = record { name = name; kind = kind; required = test; excluded = false }
 
 -- a key that has to be there
-abbrev pub required : List ℕ → Kind → Key
-required = required_if true
+abbrev pub required_key : List ℕ → Kind → Key
+required_key = required_if true
 
 -- a key that has to be there where the first test gives true, and may not be where the second does
 abbrev pub choice : Bool → Bool → List ℕ → Kind → Key
@@ -72,8 +72,8 @@ top_keys top =
     ∷ choice false (has (codes "demands") top) (codes "demands_file") FileName
     ∷ optional (codes "loop") (Tables true)
     ∷ optional (codes "observe") (Numbers last_observed true)
-    ∷ required (codes "policy") PolicyWord
-    ∷ required (codes "stage") (Tables false)
+    ∷ required_key (codes "policy") PolicyWord
+    ∷ required_key (codes "stage") (Tables false)
     ∷ required_if (has_column top) (codes "times_file") FileName
     ∷ []
 
@@ -82,18 +82,19 @@ abbrev pub stage_keys : Bool → List Key
 stage_keys with_cards =
     optional (codes "card_time") time
     ∷ required_if with_cards (codes "cards") count
-    ∷ optional (codes "feeds") StageText
-    ∷ required (codes "machine") (Tables false)
-    ∷ required (codes "name") StageName
+    ∷ optional (codes "feeds") StageReference
+    ∷ required_key (codes "machine") (Tables false)
+    ∷ required_key (codes "name") StageName
     ∷ optional (codes "stock") count
     ∷ optional (codes "travel") time
     ∷ []
 
--- the keys of a machine, of which `column`, `time` and `times` are a choice: the first stays, and of none `time` is missing
+-- the keys of a machine, of which `column`, `time` and `times` are a choice: the first stays, and of none `time` is
+-- missing
 abbrev pub machine_keys : Data → List Key
 machine_keys m =
     optional (codes "column") column
-    ∷ required (codes "name") MachineName
+    ∷ required_key (codes "name") MachineName
     ∷ optional (codes "servers") count
     ∷ choice
     (not (has (codes "column") m || has (codes "times") m))
@@ -111,9 +112,9 @@ machine_keys m =
 abbrev pub loop_keys : List Key
 loop_keys =
     optional (codes "card_time") time
-    ∷ required (codes "cards") count
-    ∷ required (codes "from") StageText
-    ∷ required (codes "to") StageText
+    ∷ required_key (codes "cards") count
+    ∷ required_key (codes "from") StageReference
+    ∷ required_key (codes "to") StageReference
     ∷ []
 
 -- the key is one of these, and none that is excluded

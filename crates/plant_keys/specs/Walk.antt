@@ -1,6 +1,6 @@
--- The classes of refusals that single keys meet, each over the whole tree in one order: the keys of the top table, then each
--- stage with its keys and after them its machines, then each loop. Within a table the keys stand in byte order, a key that
--- is missing among them, and the elements of a list right after its key.
+-- The classes of refusals that single keys meet, each over the whole tree in one order: the keys of the top table, then
+-- each stage with its keys and after them its machines, then each loop. Within a table the keys stand in byte order, a
+-- key that is missing among them, and the elements of a list right after its key.
 use Rattle.std.specs.Prelude.{ℕ, Bool, true, not, ◌&&◌, ◌||◌, ◌==◌, if◌then◌else◌, List, [], ◌++◌, map, take, codes, bytes_eq}
 use Rattle.std.specs.List.{list_all, list_any}
 use Rattle.std.specs.Option.{option_map_or}
@@ -13,7 +13,7 @@ use Rattle.plant_model.specs.Place.{at, key_of}
 use Rattle.plant_model.specs.Refusals.{refuse_if, each, is_reserved}
 use Rattle.toml.specs.Data.{Data, integer, Members, no_members, member, get}
 use Rattle.plant_keys.specs.declared.keys.Kind.{Kind}
-use Rattle.plant_keys.specs.declared.keys.Kind.TheVariants.{PolicyWord, StageName, MachineName, FileName, StageText, Number, Numbers, Tables}
+use Rattle.plant_keys.specs.declared.keys.Kind.TheVariants.{PolicyWord, StageName, MachineName, FileName, StageReference, Number, Numbers, Tables}
 use Rattle.plant_keys.specs.declared.keys.Class.{Class}
 use Rattle.plant_keys.specs.declared.keys.Class.TheVariants.{UnknownKeys, MissingKeys, WrongTypes, BadNames, OutOfRanges}
 use Rattle.plant_keys.specs.Readers.{members_in, elements_of, is_text, is_number, is_table, is_list_of, text_of, tables_of, tables_at, is_within, name_in, stage_names, is_filled}
@@ -25,12 +25,12 @@ is_plain byte =
     is_between 65 90 byte || (is_between 97 122 byte || (is_between 48 57 byte || (byte == 95 || byte == 45)))
 
 -- a key as paths show it: one that has another character is a question mark
-abbrev pub shown : List ℕ → List ℕ
-shown key = if list_all is_plain key then key else codes "?"
+abbrev pub shown_key : List ℕ → List ℕ
+shown_key key = if list_all is_plain key then key else codes "?"
 
 -- 2, of a member of a table with these keys
 abbrev pub unknown_key : FileTable → List Key → List ℕ → List PlantError
-unknown_key table keys name = refuse_if (not (is_allowed keys name)) (UnknownKey (key_of table (shown name)))
+unknown_key table keys name = refuse_if (not (is_allowed keys name)) (UnknownKey (key_of table (shown_key name)))
 
 -- 2, of all members of a table with these keys
 abbrev pub unknown_keys : FileTable → List Key → Members → List PlantError
@@ -43,7 +43,7 @@ has_kind PolicyWord v = is_text v
 has_kind StageName v = is_text v
 has_kind MachineName v = is_text v
 has_kind FileName v = is_text v
-has_kind StageText v = is_text v
+has_kind StageReference v = is_text v
 has_kind (Number least most) v = is_number v
 has_kind (Numbers most may_be_empty) v = is_list_of is_number v
 has_kind (Tables may_be_empty) v = is_list_of is_table v
@@ -54,7 +54,7 @@ keeps_name_rule StageName text = is_name text && not (is_reserved text)
 keeps_name_rule MachineName text = is_name text
 keeps_name_rule FileName text = is_file_name text
 keeps_name_rule PolicyWord text = true
-keeps_name_rule StageText text = true
+keeps_name_rule StageReference text = true
 keeps_name_rule (Number least most) text = true
 keeps_name_rule (Numbers most may_be_empty) text = true
 keeps_name_rule (Tables may_be_empty) text = true
@@ -89,7 +89,7 @@ out_of_range PolicyWord place v = out_unless (is_policy (text_of v)) place
 out_of_range StageName place v = []
 out_of_range MachineName place v = []
 out_of_range FileName place v = []
-out_of_range StageText place v = []
+out_of_range StageReference place v = []
 out_of_range (Number least most) place v = out_unless (may_be_number least most v) place
 out_of_range (Numbers most may_be_empty) place v =
     list_out most may_be_empty place (elements_of v)

@@ -137,12 +137,12 @@ impl Search {
         match self.class {
             Class::UnknownKeys | Class::MissingKeys => Ok(()),
             Class::WrongTypes => {
-                let is_well = has_kind(key.kind, value);
-                refuse_unless(self.alloc, Class::WrongTypes, table, key.name, is_well)
+                let is_right = has_kind(key.kind, value);
+                refuse_unless(self.alloc, Class::WrongTypes, table, key.name, is_right)
             }
             Class::BadNames => {
-                let is_well = keeps_name_rule(key.kind, text_of(value));
-                refuse_unless(self.alloc, Class::BadNames, table, key.name, is_well)
+                let is_right = keeps_name_rule(key.kind, text_of(value));
+                refuse_unless(self.alloc, Class::BadNames, table, key.name, is_right)
             }
             Class::OutOfRanges => check_range(self.alloc, table, key, value),
         }
@@ -154,8 +154,11 @@ pub fn has_kind(kind: Kind, value: &Value) -> bool
     ensures { result ≡ has_kind kind (view value.now) }
 {
     match kind {
-        Kind::PolicyWord | Kind::StageName | Kind::MachineName | Kind::FileName | Kind::StageText =>
-            value.is_str(),
+        Kind::PolicyWord
+        | Kind::StageName
+        | Kind::MachineName
+        | Kind::FileName
+        | Kind::StageReference => value.is_str(),
         Kind::Number { .. } => value.is_integer(),
         Kind::Numbers { .. } => is_list_of(Element::Number, value),
         Kind::Tables { .. } => is_list_of(Element::Table, value),
@@ -172,7 +175,7 @@ fn check_range(alloc: Global, table: FileTable, key: &Key, value: &Value) -> Res
             let is_right = is_policy(text_of(value));
             refuse_unless(alloc, Class::OutOfRanges, table, key.name, is_right)
         }
-        Kind::StageName | Kind::MachineName | Kind::FileName | Kind::StageText => Ok(()),
+        Kind::StageName | Kind::MachineName | Kind::FileName | Kind::StageReference => Ok(()),
         Kind::Number { least, most } => {
             let is_right = may_be_number(value, least, most);
             refuse_unless(alloc, Class::OutOfRanges, table, key.name, is_right)

@@ -1,7 +1,7 @@
 ghost use Rattle.std.specs.List.{list_any};
 ghost use Rattle.std.specs.Prelude.{◌≡◌, map, codes};
 ghost use Rattle.plant_keys.specs.Code.{key_of};
-ghost use Rattle.plant_keys.specs.Keys.{optional, required_if, required, choice, has_stage_cards, has_line_cards, stage_has_column, has_column, top_keys, stage_keys, machine_keys, loop_keys};
+ghost use Rattle.plant_keys.specs.Keys.{optional, required_if, required_key, choice, has_stage_cards, has_line_cards, stage_has_column, has_column, top_keys, stage_keys, machine_keys, loop_keys};
 ghost use Rattle.plant_keys.specs.Readers.{has};
 ghost use Rattle.toml.specs.View.{view};
 
@@ -21,7 +21,7 @@ pub enum Kind {
     /// The name of a file that is no checkpoint.
     FileName,
     /// The name of another stage.
-    StageText,
+    StageReference,
     /// A whole number between its limits.
     Number { least: u64, most: u64 },
     /// A list of whole numbers from 0 to a limit, empty only where it may be.
@@ -114,8 +114,8 @@ fn required_if(test: bool, name: &'static str, kind: Kind) -> Key
 }
 
 /// A key that has to be there.
-fn required(name: &'static str, kind: Kind) -> Key
-    ensures { key_of result ≡ required name.now kind }
+fn required_key(name: &'static str, kind: Kind) -> Key
+    ensures { key_of result ≡ required_key name.now kind }
 {
     choice(name, kind, true, false)
 }
@@ -139,9 +139,9 @@ pub fn stage_keys(with_cards: bool) -> [Key; 7]
     [
         optional("card_time", TIME),
         required_if(with_cards, "cards", COUNT),
-        optional("feeds", Kind::StageText),
-        required("machine", TABLES),
-        required("name", Kind::StageName),
+        optional("feeds", Kind::StageReference),
+        required_key("machine", TABLES),
+        required_key("name", Kind::StageName),
         optional("stock", COUNT),
         optional("travel", TIME),
     ]
@@ -156,7 +156,7 @@ pub fn has_stage_cards(top: &Value) -> bool
 }
 
 /// Whether the policy gives the line cards.
-fn has_line_cards(top: &Value) -> bool
+pub fn has_line_cards(top: &Value) -> bool
     ensures { result ≡ has_line_cards (view top.now) }
 {
     text_at(top, "policy") == "conwip"
@@ -218,8 +218,8 @@ pub fn top_keys(top: &Value) -> [Key; 10]
         choice("demands_file", Kind::FileName, false, has_dates),
         optional("loop", Kind::Tables { may_be_empty: true }),
         optional("observe", OBSERVED),
-        required("policy", Kind::PolicyWord),
-        required("stage", TABLES),
+        required_key("policy", Kind::PolicyWord),
+        required_key("stage", TABLES),
         required_if(with_column, "times_file", Kind::FileName),
     ]
 }
@@ -235,7 +235,7 @@ pub fn machine_keys(machine: &Value) -> [Key; 5]
     let bars_times = column || time;
     [
         optional("column", COLUMN),
-        required("name", Kind::MachineName),
+        required_key("name", Kind::MachineName),
         optional("servers", COUNT),
         choice("time", TIME, needs_time, column),
         choice("times", TIMES, false, bars_times),
@@ -248,8 +248,8 @@ pub fn loop_keys() -> [Key; 4]
 {
     [
         optional("card_time", TIME),
-        required("cards", COUNT),
-        required("from", Kind::StageText),
-        required("to", Kind::StageText),
+        required_key("cards", COUNT),
+        required_key("from", Kind::StageReference),
+        required_key("to", Kind::StageReference),
     ]
 }

@@ -122,8 +122,8 @@ impl<'a> Names<'a> {
     }
 
     /// The number of a name, or how many names there are where it isn't among them. It takes no memory.
-    #[tactic(auto, using(crate::proofs::NameLists::place_where_none, crate::proofs::NameLists::place_where_some))]
-    pub fn place_of(&self, name: &str) -> usize
+    #[tactic(auto, using(crate::proofs::NameLists::number_where_none, crate::proofs::NameLists::number_where_some))]
+    pub fn number_or_count(&self, name: &str) -> usize
         ensures { result ≡ position_or_len (bytes_eq name.now) self.now }
     {
         match self.number_of(name) {

@@ -1,6 +1,6 @@
 ghost use Rattle.std.specs.List.{list_all};
 ghost use Rattle.std.specs.Prelude.{◌≡◌};
-ghost use Rattle.plant_keys.specs.Walk.{keeps_name_rule, is_policy, is_plain, shown};
+ghost use Rattle.plant_keys.specs.Walk.{keeps_name_rule, is_policy, is_plain, shown_key};
 
 use crate::keys::Kind;
 use line_base::{is_file_name, is_name};
@@ -16,7 +16,7 @@ pub fn keeps_name_rule(kind: Kind, text: &str) -> bool
         Kind::MachineName => is_name(text),
         Kind::FileName => is_file_name(text),
         Kind::PolicyWord
-        | Kind::StageText
+        | Kind::StageReference
         | Kind::Number { .. }
         | Kind::Numbers { .. }
         | Kind::Tables { .. } => true,
@@ -31,8 +31,8 @@ pub fn is_policy(word: &str) -> bool
 }
 
 /// A key as paths show it: one that has a character other than `A-Z a-z 0-9 _ -` is a question mark.
-pub fn shown(key: &str) -> &str
-    ensures { result.now ≡ shown key.now }
+pub fn shown_key(key: &str) -> &str
+    ensures { result.now ≡ shown_key key.now }
 {
     if has_plain_bytes(key.as_bytes()) {
         key

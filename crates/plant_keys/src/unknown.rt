@@ -9,7 +9,7 @@ ghost use Rattle.toml.specs.View.{view, table_view};
 
 use crate::keys::{Class, Key};
 use crate::refuse::refuse_unless;
-use crate::rules::shown;
+use crate::rules::shown_key;
 use plant_model::{FileTable, PlantError};
 use std::alloc::Global;
 use toml::Value;
@@ -52,7 +52,7 @@ fn check_member(alloc: Global, table: FileTable, name: &str, keys: &[Key]) -> Re
         alloc,
         Class::UnknownKeys,
         table,
-        shown(name),
+        shown_key(name),
         is_allowed(keys, name),
     )
 }

@@ -6,7 +6,7 @@ use Rattle.plant_model.specs.declared.error.PlantError.TheVariants.{OutOfRange}
 use Rattle.plant_model.specs.Refusals.{refuse_if}
 use Rattle.toml.specs.Data.{Data}
 use Rattle.plant_keys.specs.declared.keys.Kind.{Kind}
-use Rattle.plant_keys.specs.declared.keys.Kind.TheVariants.{PolicyWord, StageName, MachineName, FileName, StageText, Number, Numbers, Tables}
+use Rattle.plant_keys.specs.declared.keys.Kind.TheVariants.{PolicyWord, StageName, MachineName, FileName, StageReference, Number, Numbers, Tables}
 use Rattle.plant_keys.specs.declared.keys.Class.{Class}
 use Rattle.plant_keys.specs.declared.keys.Class.TheVariants.{UnknownKeys, MissingKeys, WrongTypes, BadNames, OutOfRanges}
 use Rattle.plant_keys.specs.Code.{refusal}
@@ -14,7 +14,7 @@ use Rattle.plant_keys.specs.Readers.{is_filled, elements_of}
 use Rattle.plant_keys.specs.Walk.{element_out, list_out}
 use Rattle.plant_lint.specs.declared.fault.Wants.{Wants}
 use Rattle.plant_lint.specs.declared.fault.Wants.TheVariants.{Between, AnElement}
-use Rattle.plant_lint.specs.Faults.{wanting, all_of, wanted, wanted_range}
+use Rattle.plant_lint.specs.Faults.{wanting, all_of, wants_of, wanted_range}
 use Rattle.plant_lint.specs.Classes.{is_in_range, passes, number_faults, limit_faults}
 use Rattle.plant_lint.specs.Trees.{value_faults}
 use Rattle.plant_lint.proofs.FaultLists.{wanting-each}
@@ -44,7 +44,7 @@ refused_range PolicyWord place v h = one_if _ _ _ h
 refused_range StageName place v h = absurd (cc h)
 refused_range MachineName place v h = absurd (cc h)
 refused_range FileName place v h = absurd (cc h)
-refused_range StageText place v h = absurd (cc h)
+refused_range StageReference place v h = absurd (cc h)
 refused_range (Number least most) place v h = one_if _ _ _ h
 refused_range (Numbers most may_be_empty) place v h = empty_list most may_be_empty place (elements_of v) h
 refused_range (Tables may_be_empty) place v h = one_if _ _ _ h
@@ -54,13 +54,13 @@ passed_range PolicyWord place v h = none_if _ _ _ h
 passed_range StageName place v h = refl
 passed_range MachineName place v h = refl
 passed_range FileName place v h = refl
-passed_range StageText place v h = refl
+passed_range StageReference place v h = refl
 passed_range (Number least most) place v h = none_if _ _ _ h
 passed_range (Numbers most may_be_empty) place v h = other_list most may_be_empty place (elements_of v) h
 passed_range (Tables may_be_empty) place v h = none_if _ _ _ h
 
 -- a value that doesn't pass
-pub refused_value : (class : Class) (kind : Kind) (place : List ℕ) (v : Data) → passes class kind v ≡ false → value_faults class kind place v ≡ wanting (wanted class kind v) (refusal class place ∷ [])
+pub refused_value : (class : Class) (kind : Kind) (place : List ℕ) (v : Data) → passes class kind v ≡ false → value_faults class kind place v ≡ wanting (wants_of class kind v) (refusal class place ∷ [])
 refused_value UnknownKeys kind place v h = absurd (cc h)
 refused_value MissingKeys kind place v h = absurd (cc h)
 refused_value WrongTypes kind place v h = one_if _ _ _ h

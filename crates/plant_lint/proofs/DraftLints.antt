@@ -9,7 +9,7 @@ use Rattle.plant_file.specs.Finish.{bad_record, bad_record_in, bad_records, plan
 use Rattle.plant_model.specs.declared.plant.Plant.{Plant}
 use Rattle.plant_model.specs.declared.error.PlantError.{PlantError}
 use Rattle.demand_feed.specs.Dates.{dates_of}
-use Rattle.demand_feed.specs.Rows.{Held}
+use Rattle.demand_feed.specs.Rows.{FeedResult}
 use Rattle.demand_feed.specs.Times.{times_of}
 use Rattle.plant_lint.specs.declared.draft_lint.DraftLint.{DraftLint}
 use Rattle.plant_lint.specs.declared.draft_lint.DraftLint.TheVariants as draft
@@ -46,7 +46,7 @@ none_refused [] notes more h = refl
 none_refused (r ∷ rs) notes more h = absurd (cc h)
 
 -- a file without a bad record has none that is wrong
-pub good_record : {A : Type 0} (xs : List Fault) (what : Wants) (name : List ℕ) (held : Held A) (read : A) → held ≡ Ok read → xs ≡ xs ++ wanting what (bad_record name held)
+pub good_record : {A : Type 0} (xs : List Fault) (what : Wants) (name : List ℕ) (held : FeedResult A) (read : A) → held ≡ Ok read → xs ≡ xs ++ wanting what (bad_record name held)
 good_record xs what name held read good = rw good (rw (append-nil xs) refl)
 
 -- a draft with bad records

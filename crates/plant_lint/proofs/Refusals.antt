@@ -21,7 +21,7 @@ use Rattle.plant_file.specs.Reading.{stage_of, draft_of, last_refusals, tree_ref
 use Rattle.plant_lint.specs.declared.fault.Fault.{Fault}
 use Rattle.plant_lint.specs.declared.fault.Wants.{Wants}
 use Rattle.plant_lint.specs.declared.fault.Wants.TheVariants.{Nothing}
-use Rattle.plant_lint.specs.Faults.{wanting, plain, all_from, all_of, wanted}
+use Rattle.plant_lint.specs.Faults.{wanting, plain, all_from, all_of, wants_of}
 use Rattle.plant_lint.specs.Laws.{errors}
 use Rattle.plant_lint.specs.Trees.{value_faults, key_faults, table_faults, machine_faults, stage_faults, loop_faults, walk_faults, fed_faults, feeds_faults, final_faults, last_faults, tree_faults}
 use Rattle.plant_lint.proofs.Later.{later_by_position}
@@ -54,7 +54,7 @@ errors-key class table d key =
 
     by_value : (o : Option Data) → errors (option_map_or (value_faults class key.kind place) o (plain (absence_refusals class key.required place))) ≡ option_map_or (value_refusals class key.kind place) o (absence_refusals class key.required place)
     by_value None = errors-wanting Nothing (absence_refusals class key.required place)
-    by_value (Some v) = errors-wanting (wanted class key.kind v) (value_refusals class key.kind place v)
+    by_value (Some v) = errors-wanting (wants_of class key.kind v) (value_refusals class key.kind place v)
 
 errors-keys : (class : Class) (table : FileTable) (d : Data) (keys : List Key) → errors (all_of (λ _ key. key_faults class table d key) keys) ≡ each (λ _ key. key_refusals class table d key) keys
 errors-keys class table d keys =

@@ -3,7 +3,7 @@ use Rattle.std.specs.Prelude.{ℕ, Bool, true, ◌||◌, List, [], Option, None,
 use Rattle.std.specs.Option.{option_map_or}
 use Rattle.toml.specs.Data.{Data}
 use Rattle.plant_keys.specs.declared.keys.Kind.{Kind}
-use Rattle.plant_keys.specs.declared.keys.Kind.TheVariants.{PolicyWord, StageName, MachineName, FileName, StageText, Number, Numbers, Tables}
+use Rattle.plant_keys.specs.declared.keys.Kind.TheVariants.{PolicyWord, StageName, MachineName, FileName, StageReference, Number, Numbers, Tables}
 use Rattle.plant_keys.specs.declared.keys.Class.{Class}
 use Rattle.plant_keys.specs.declared.keys.Class.TheVariants.{UnknownKeys, MissingKeys, WrongTypes, BadNames, OutOfRanges}
 use Rattle.plant_keys.specs.Readers.{is_filled, elements_of, tables_of, text_of}
@@ -18,7 +18,7 @@ is_in_range PolicyWord v = is_policy (text_of v)
 is_in_range StageName v = true
 is_in_range MachineName v = true
 is_in_range FileName v = true
-is_in_range StageText v = true
+is_in_range StageReference v = true
 is_in_range (Number least most) v = may_be_number least most v
 is_in_range (Numbers most may_be_empty) v = may_be_empty || is_filled (elements_of v)
 is_in_range (Tables may_be_empty) v = may_be_empty || is_filled (tables_of v)
@@ -37,7 +37,7 @@ limit_in PolicyWord = None
 limit_in StageName = None
 limit_in MachineName = None
 limit_in FileName = None
-limit_in StageText = None
+limit_in StageReference = None
 limit_in (Number least most) = None
 limit_in (Numbers most may_be_empty) = Some most
 limit_in (Tables may_be_empty) = None

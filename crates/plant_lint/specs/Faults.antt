@@ -4,7 +4,7 @@ use Rattle.plant_model.specs.declared.error.PlantError.{PlantError}
 use Rattle.plant_model.specs.Refusals.{is_reserved}
 use Rattle.toml.specs.Data.{Data}
 use Rattle.plant_keys.specs.declared.keys.Kind.{Kind}
-use Rattle.plant_keys.specs.declared.keys.Kind.TheVariants.{PolicyWord, StageName, MachineName, FileName, StageText, Number, Numbers, Tables}
+use Rattle.plant_keys.specs.declared.keys.Kind.TheVariants.{PolicyWord, StageName, MachineName, FileName, StageReference, Number, Numbers, Tables}
 use Rattle.plant_keys.specs.declared.keys.Class.{Class}
 use Rattle.plant_keys.specs.declared.keys.Class.TheVariants.{UnknownKeys, MissingKeys, WrongTypes, BadNames, OutOfRanges}
 use Rattle.plant_keys.specs.Readers.{is_filled, elements_of, text_of}
@@ -39,7 +39,7 @@ wanted_type PolicyWord = wants.AText
 wanted_type StageName = wants.AText
 wanted_type MachineName = wants.AText
 wanted_type FileName = wants.AText
-wanted_type StageText = wants.AText
+wanted_type StageReference = wants.AText
 wanted_type (Number least most) = wants.ANumber
 wanted_type (Numbers most may_be_empty) = wants.ListOfNumbers
 wanted_type (Tables may_be_empty) = wants.ListOfTables
@@ -50,7 +50,7 @@ wanted_name PolicyWord text = wants.Nothing
 wanted_name StageName text = if is_reserved text then wants.FreeName else wants.AName
 wanted_name MachineName text = wants.AName
 wanted_name FileName text = wants.AFileName
-wanted_name StageText text = wants.Nothing
+wanted_name StageReference text = wants.Nothing
 wanted_name (Number least most) text = wants.Nothing
 wanted_name (Numbers most may_be_empty) text = wants.Nothing
 wanted_name (Tables may_be_empty) text = wants.Nothing
@@ -61,15 +61,15 @@ wanted_range PolicyWord v = wants.APolicy
 wanted_range StageName v = wants.Nothing
 wanted_range MachineName v = wants.Nothing
 wanted_range FileName v = wants.Nothing
-wanted_range StageText v = wants.Nothing
+wanted_range StageReference v = wants.Nothing
 wanted_range (Number least most) v = wants.Between least most
 wanted_range (Numbers most may_be_empty) v = if is_filled (elements_of v) then wants.Between 0 most else wants.AnElement
 wanted_range (Tables may_be_empty) v = wants.AnElement
 
 -- what is wanted where a class refuses the value at a key
-abbrev pub wanted : Class → Kind → Data → Wants
-wanted UnknownKeys kind v = wants.Nothing
-wanted MissingKeys kind v = wants.Nothing
-wanted WrongTypes kind v = wanted_type kind
-wanted BadNames kind v = wanted_name kind (text_of v)
-wanted OutOfRanges kind v = wanted_range kind v
+abbrev pub wants_of : Class → Kind → Data → Wants
+wants_of UnknownKeys kind v = wants.Nothing
+wants_of MissingKeys kind v = wants.Nothing
+wants_of WrongTypes kind v = wanted_type kind
+wants_of BadNames kind v = wanted_name kind (text_of v)
+wants_of OutOfRanges kind v = wanted_range kind v

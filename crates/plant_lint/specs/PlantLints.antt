@@ -7,7 +7,8 @@ use Rattle.plant_lint.specs.Faults.{plain}
 use Rattle.plant_lint.specs.FileLints.{faults_or_notes}
 use Rattle.plant_check.specs.PlantNotes.{plant_notes}
 
--- of a plant whose dates stand in this file, if they stand in one: the refusals 11 to 15, and where there is none its notes
+-- of a plant whose dates stand in this file, if they stand in one: the refusals 11 to 15, and where there is none its
+-- notes
 abbrev pub lint_of_plant : Option (List ℕ) → Plant → FileLint
 lint_of_plant file p = faults_or_notes (plain (whole_refusals p)) (plant_notes file p)
 

@@ -1,5 +1,5 @@
--- All that is wrong with the tree of a plant file: the refusals of the classes 2 to 9, each beside what is wanted there,
--- class by class and in each in the order of the walk.
+-- All that is wrong with the tree of a plant file: the refusals of the classes 2 to 9, each beside what is wanted
+-- there, class by class and in each in the order of the walk.
 use Rattle.std.specs.Prelude.{ℕ, ◌+◌, Bool, not, ◌&&◌, nat_lt, if◌then◌else◌, List, [], ◌++◌, length, take, codes, bytes_eq}
 use Rattle.std.specs.List.{list_any}
 use Rattle.std.specs.Option.{option_map_or}
@@ -14,14 +14,14 @@ use Rattle.plant_keys.specs.declared.keys.Class.{Class}
 use Rattle.plant_keys.specs.declared.keys.Class.TheVariants.{UnknownKeys, MissingKeys, WrongTypes, BadNames, OutOfRanges}
 use Rattle.plant_keys.specs.Keys.{Key, has_stage_cards, top_keys, stage_keys, machine_keys, loop_keys}
 use Rattle.plant_keys.specs.Readers.{has, members_in, tables_at, text_of, is_filled, stage_names}
-use Rattle.plant_keys.specs.Walk.{shown, unknown_keys, value_refusals, absence_refusals, names_twice}
+use Rattle.plant_keys.specs.Walk.{shown_key, unknown_keys, value_refusals, absence_refusals, names_twice}
 use Rattle.plant_lint.specs.declared.fault.Wants.TheVariants as wants
 use Rattle.plant_lint.specs.declared.fault.Fault.{Fault}
-use Rattle.plant_lint.specs.Faults.{wanting, plain, all_of, wanted}
+use Rattle.plant_lint.specs.Faults.{wanting, plain, all_of, wants_of}
 
 -- of what stands at a key
 abbrev pub value_faults : Class → Kind → List ℕ → Data → List Fault
-value_faults class kind place v = wanting (wanted class kind v) (value_refusals class kind place v)
+value_faults class kind place v = wanting (wants_of class kind v) (value_refusals class kind place v)
 
 -- of a key of a table
 abbrev pub key_faults : Class → FileTable → Data → Key → List Fault
@@ -72,9 +72,10 @@ name_faults table is_new = plain (refuse_if (not is_new) (NameTwice (key_of tabl
 abbrev pub is_later : List (List ℕ) → ℕ → List ℕ → Bool
 is_later names i name = list_any (bytes_eq name) names && not (list_any (bytes_eq name) (take (i + 1) names))
 
--- the text in place of a name, as lines show it: one that is empty or has another character than a key is a question mark
+-- the text in place of a name, as lines show it: one that is empty or has another character than a key is a question
+-- mark
 abbrev pub shown_name : List ℕ → List ℕ
-shown_name text = if is_filled text then shown text else codes "?"
+shown_name text = if is_filled text then shown_key text else codes "?"
 
 -- 8, of the name that stands at `feeds` of stage i, which is that of a later stage or isn't
 abbrev pub fed_fault : Bool → ℕ → List ℕ → List Fault

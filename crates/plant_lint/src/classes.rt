@@ -3,7 +3,7 @@ ghost use Rattle.std.specs.Prelude.{◌≡◌, if◌then◌else◌};
 ghost use Rattle.plant_keys.specs.Code.{views};
 ghost use Rattle.plant_keys.specs.Readers.{is_filled};
 ghost use Rattle.plant_lint.specs.Classes.{passes, is_in_range, limit_of_numbers, limit_in};
-ghost use Rattle.plant_lint.specs.Faults.{wanted, wanted_name, wanted_range, wanted_type};
+ghost use Rattle.plant_lint.specs.Faults.{wants_of, wanted_name, wanted_range, wanted_type};
 ghost use Rattle.toml.specs.View.{view};
 
 use crate::fault::Wants;
@@ -32,7 +32,7 @@ fn is_in_range(kind: Kind, value: &Value) -> bool
 {
     match kind {
         Kind::PolicyWord => is_policy(text_of(value)),
-        Kind::StageName | Kind::MachineName | Kind::FileName | Kind::StageText => true,
+        Kind::StageName | Kind::MachineName | Kind::FileName | Kind::StageReference => true,
         Kind::Number { least, most } => may_be_number(value, least, most),
         Kind::Numbers { may_be_empty, .. } => has_right_size(may_be_empty, elements_of(value)),
         Kind::Tables { may_be_empty } => has_right_size(may_be_empty, tables_of(value)),
@@ -59,15 +59,15 @@ fn limit_in(kind: Kind) -> Option<u64>
         | Kind::StageName
         | Kind::MachineName
         | Kind::FileName
-        | Kind::StageText
+        | Kind::StageReference
         | Kind::Number { .. }
         | Kind::Tables { .. } => None,
     }
 }
 
 /// What is wanted where a class refuses what stands at a key.
-pub(crate) fn wanted(class: Class, kind: Kind, value: &Value) -> Wants
-    ensures { result ≡ wanted class kind (view value.now) }
+pub(crate) fn wants_of(class: Class, kind: Kind, value: &Value) -> Wants
+    ensures { result ≡ wants_of class kind (view value.now) }
 {
     match class {
         Class::UnknownKeys | Class::MissingKeys => Wants::Nothing,
@@ -82,8 +82,11 @@ fn wanted_type(kind: Kind) -> Wants
     ensures { result ≡ wanted_type kind }
 {
     match kind {
-        Kind::PolicyWord | Kind::StageName | Kind::MachineName | Kind::FileName | Kind::StageText =>
-            Wants::AText,
+        Kind::PolicyWord
+        | Kind::StageName
+        | Kind::MachineName
+        | Kind::FileName
+        | Kind::StageReference => Wants::AText,
         Kind::Number { .. } => Wants::ANumber,
         Kind::Numbers { .. } => Wants::ListOfNumbers,
         Kind::Tables { .. } => Wants::ListOfTables,
@@ -99,7 +102,7 @@ fn wanted_name(kind: Kind, text: &str) -> Wants
         Kind::StageName | Kind::MachineName => Wants::AName,
         Kind::FileName => Wants::AFileName,
         Kind::PolicyWord
-        | Kind::StageText
+        | Kind::StageReference
         | Kind::Number { .. }
         | Kind::Numbers { .. }
         | Kind::Tables { .. } => Wants::Nothing,
@@ -112,7 +115,8 @@ fn wanted_range(kind: Kind, value: &Value) -> Wants
 {
     match kind {
         Kind::PolicyWord => Wants::APolicy,
-        Kind::StageName | Kind::MachineName | Kind::FileName | Kind::StageText => Wants::Nothing,
+        Kind::StageName | Kind::MachineName | Kind::FileName | Kind::StageReference =>
+            Wants::Nothing,
         Kind::Number { least, most } => Wants::Between { least, most },
         Kind::Numbers { most, .. } => wanted_numbers(most, elements_of(value)),
         Kind::Tables { .. } => Wants::AnElement,

@@ -18,8 +18,8 @@ use plant_file::{Draft, assemble_plant};
 use plant_model::Plant;
 use std::alloc::{AllocError, Global};
 
-/// What lint says of a draft and of the bytes of the files that it names: the first bad record of each, and where none is
-/// bad, all that is wrong with its plant as a whole. Where nothing is, the plant is handed on with its notes.
+/// What lint says of a draft and of the bytes of the files that it names: the first bad record of each, and where none
+/// is bad, all that is wrong with its plant as a whole. Where nothing is, the plant is handed on with its notes.
 pub fn lint_draft(
     alloc: Global,
     draft: Draft,

@@ -69,16 +69,16 @@ impl fmt::Display for Wants {
             Wants::AName => f.write_str(" wants 1 to 24 of a-z 0-9 _ -, a letter first"),
             Wants::FreeName => f.write_str(" is taken"),
             Wants::AFileName => f.write_str(" is no file name"),
-            Wants::LaterThan { name } => after_blank(f, name),
+            Wants::LaterThan { name } => write_name(f, name),
             Wants::ADate => f.write_str(" has no date"),
-            Wants::NumberFor { text } => quoted(f, text),
+            Wants::NumberFor { text } => write_quoted(f, text),
             Wants::AField { column } => write!(f, " has no column {column}"),
         }
     }
 }
 
 /// Writes a name behind a blank.
-fn after_blank<W: fmt::Write>(f: &mut fmt::Formatter<W>, name: &Text) -> fmt::Result
+fn write_name<W: fmt::Write>(f: &mut fmt::Formatter<W>, name: &Text) -> fmt::Result
     ensures { DisplaysOnOk W.write_str_gives f.old result (Some (codes " " ++ name.now)) f.new }
 {
     let name = name.as_str();
@@ -86,7 +86,7 @@ fn after_blank<W: fmt::Write>(f: &mut fmt::Formatter<W>, name: &Text) -> fmt::Re
 }
 
 /// Writes the text that stands there.
-fn quoted<W: fmt::Write>(f: &mut fmt::Formatter<W>, text: &Text) -> fmt::Result
+fn write_quoted<W: fmt::Write>(f: &mut fmt::Formatter<W>, text: &Text) -> fmt::Result
     ensures { DisplaysOnOk W.write_str_gives f.old result (Some (codes " has \"" ++ (text.now ++ codes "\""))) f.new }
 {
     let text = text.as_str();

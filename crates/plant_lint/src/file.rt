@@ -50,14 +50,14 @@ fn faults_or_unused(alloc: Global, faults: &[Fault], top: &Value) -> Result<File
     ensures { IfOk result (λ lint. lint ≡ faults_or_notes faults.now (unused_lines (view top.now))) }
 {
     if !faults.is_empty() {
-        return refused(alloc, faults);
+        return lint_of_faults(alloc, faults);
     }
     let notes = Text::from_string(unused_lines(alloc, top)?);
     Ok(FileLint::Sound { notes })
 }
 
 /// That there are these faults.
-pub(crate) fn refused(alloc: Global, faults: &[Fault]) -> Result<FileLint, AllocError>
+pub(crate) fn lint_of_faults(alloc: Global, faults: &[Fault]) -> Result<FileLint, AllocError>
     ensures { IfOk result (λ lint. lint ≡ FileLint.Refused (fault_lines faults.now)) }
 {
     let lines = Text::from_string(lines_of(alloc, faults)?);

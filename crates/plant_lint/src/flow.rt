@@ -11,7 +11,7 @@ ghost use Rattle.toml.specs.View.{view};
 use crate::fault::Wants;
 use crate::faults::Faults;
 use crate::rows::Rows;
-use plant_keys::{Names, has, shown, text_at, text_of, value_at};
+use plant_keys::{Names, has, shown_key, text_at, text_of, value_at};
 use plant_model::{FileTable, PlantError, Text, key_place, table_place};
 use std::alloc::AllocError;
 use toml::Value;
@@ -71,7 +71,8 @@ fn find_feed(
     }
 }
 
-/// Whether a later stage has the name, where these are the names of all stages, and of those up to the one that feeds it.
+/// Whether a later stage has the name, where these are the names of all stages, and of those up to the one that feeds
+/// it.
 fn is_later(all: &Names<'_>, before: &Names<'_>, name: &str) -> bool
     ensures { result ≡ (list_any (bytes_eq name.now) all.now && not (list_any (bytes_eq name.now) before.now)) }
 {
@@ -97,7 +98,11 @@ fn find_fed(later: bool, i: usize, name: &str, faults: &mut Faults) -> Result<()
 fn shown_name(name: &str) -> &str
     ensures { result.now ≡ shown_name name.now }
 {
-    if name.is_empty() { "?" } else { shown(name) }
+    if name.is_empty() {
+        "?"
+    } else {
+        shown_key(name)
+    }
 }
 
 /// The stages of a list of this many, of which each but the last feeds one.

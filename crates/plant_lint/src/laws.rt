@@ -9,9 +9,9 @@ ghost use Rattle.plant_lint.specs.FileLints.{LintsFile};
 ghost use Rattle.plant_lint.specs.Laws.{errors, is_sound};
 ghost use Rattle.plant_lint.specs.Trees.{tree_faults};
 
-/// A law of the definitions: the faults of a tree are its refusals, each in its place and no other. So the first fault is
-/// the refusal that every command answers, and nothing is wrong with a file by itself exactly where it is read. The bad
-/// records of its files are those of class 10.
+/// A law of the definitions: the faults of a tree are its refusals, each in its place and no other. So the first fault
+/// is the refusal that every command answers, and nothing is wrong with a file by itself exactly where it is read. The
+/// bad records of its files are those of class 10.
 pub fn faults_are_refusals()
     ensures trees { (top : Data) → errors (tree_faults top) ≡ tree_refusals top }
     ensures files { (bytes : List ℕ) (lint : FileLint) → LintsFile bytes lint

@@ -8,14 +8,14 @@ ghost use Rattle.plant_check.specs.PlantNotes.{plant_notes};
 
 use crate::fault::{Fault, Wants};
 use crate::faults::Faults;
-use crate::file::{FileLint, refused};
+use crate::file::{FileLint, lint_of_faults};
 use line_base::Text;
 use plant_check::{plant_notes, refusals_of_plant};
 use plant_model::{Plant, PlantError};
 use std::alloc::{AllocError, Global};
 
-/// What lint says of a plant whose parts are right, and whose dates stand in this file, if they stand in one: all that is
-/// wrong with it as a whole, and where nothing is, its notes.
+/// What lint says of a plant whose parts are right, and whose dates stand in this file, if they stand in one: all that
+/// is wrong with it as a whole, and where nothing is, its notes.
 pub fn lint_plant(alloc: Global, file: Option<&str>, plant: &Plant) -> Result<FileLint, AllocError>
     requires { all_feeds_not_later plant.now ≡ [] }
     ensures { IfOk result (λ lint. lint ≡ lint_of_plant (option_map (λ name. name.now) file.entry) plant.now) }
@@ -37,7 +37,7 @@ fn faults_or_plant_notes(
         ≡ faults_or_notes faults.now (plant_notes (option_map (λ name. name.now) file.entry) plant.now)) }
 {
     if !faults.is_empty() {
-        return refused(alloc, faults);
+        return lint_of_faults(alloc, faults);
     }
     let notes = Text::from_string(plant_notes(alloc, file, plant)?);
     Ok(FileLint::Sound { notes })

@@ -1,11 +1,10 @@
 //! The keys of a plant file that its policy doesn't use.
 ghost use Rattle.std.specs.Prelude.{◌≡◌, ◌++◌, not, IfOk, OnOk, string_bytes};
-ghost use Rattle.plant_keys.specs.Keys.{has_line_cards};
 ghost use Rattle.plant_lint.specs.Faults.{all_of};
 ghost use Rattle.plant_lint.specs.Unused.{unused_line, unused_if, unused_at_top, unused_in_stage, is_kanban, unused_lines};
 ghost use Rattle.toml.specs.View.{view};
 
-use plant_keys::{has, has_column, has_stage_cards, tables_at, text_at};
+use plant_keys::{has, has_column, has_line_cards, has_stage_cards, tables_at, text_at};
 use plant_model::{FileTable, key_place};
 use std::alloc::{AllocError, Global};
 use toml::Value;
@@ -41,13 +40,6 @@ fn is_kanban(top: &Value) -> bool
     ensures { result ≡ is_kanban (view top.now) }
 {
     text_at(top, "policy") == "kanban"
-}
-
-/// Whether the policy gives the line cards.
-fn has_line_cards(top: &Value) -> bool
-    ensures { result ≡ has_line_cards (view top.now) }
-{
-    text_at(top, "policy") == "conwip"
 }
 
 /// Adds the notes of the top.

@@ -9,13 +9,13 @@ ghost use Rattle.plant_lint.specs.Trees.{key_faults, keys_faults, table_faults, 
 ghost use Rattle.plant_lint.specs.Classes.{limit_faults};
 ghost use Rattle.toml.specs.View.{view, table_view};
 
-use crate::classes::{limit_of_numbers, passes, wanted};
+use crate::classes::{limit_of_numbers, passes, wants_of};
 use crate::fault::Wants;
 use crate::faults::Faults;
 use crate::rows::{Rows, find_in_rows};
 use plant_keys::{
     Class, Key, elements_of, has_stage_cards, is_allowed, loop_keys, machine_keys, may_be_number,
-    refusal, shown, stage_keys, tables_at, top_keys, value_at,
+    refusal, shown_key, stage_keys, tables_at, top_keys, value_at,
 };
 use plant_model::{FileTable, PlantError, element_place, key_place};
 use std::alloc::AllocError;
@@ -185,7 +185,7 @@ impl<'a> Table<'a> {
             return self.find_numbers(key, value, faults);
         }
         let place = key_place(faults.alloc, self.place, key.name)?;
-        let wants = wanted(self.class, key.kind, value);
+        let wants = wants_of(self.class, key.kind, value);
         faults.add(refusal(self.class, place), wants)
     }
 
@@ -263,6 +263,6 @@ fn find_member(
     if is_allowed(keys, name) {
         return Ok(());
     }
-    let place = key_place(faults.alloc, table, shown(name))?;
+    let place = key_place(faults.alloc, table, shown_key(name))?;
     faults.add(PlantError::UnknownKey { place }, Wants::Nothing)
 }

@@ -9,25 +9,25 @@ use Rattle.plant_model.specs.Stages.{Machine, Stage, one_server}
 use Rattle.plant_model.specs.declared.plant.CardLoop.{CardLoop}
 use Rattle.plant_model.specs.declared.plant.Plant.{Plant}
 use Rattle.plant_model.specs.Line.{path, first_stages}
-use Rattle.plant_model.specs.Graph.{Row, worked, plain, rows, graph, labels, times}
+use Rattle.plant_model.specs.Graph.{Row, worked_row, plain_row, rows, graph, labels, times}
 use Rattle.plant_model.proofs.TwoStage.{machine, stage, two_stages, kanban_line}
 use Rattle.plant_model.specs.Refusals.{refusals, parts_refusals, whole_refusals}
 
 -- the rows of the two stages and of the delivery's demands, with the starting stock of each stage
 abbrev line_a : ℕ → ℕ → List Row
 line_a cut_stock weld_stock =
-    worked 1 2 0
-    ∷ worked 2 2 1
-    ∷ plain 2 2 1 0
-    ∷ plain 2 3 cut_stock 0
-    ∷ worked 3 4 0
-    ∷ worked 4 4 1
-    ∷ plain 4 4 1 0
-    ∷ plain 4 5 weld_stock 0
-    ∷ plain 0 5 0 0
+    worked_row 1 2 0
+    ∷ worked_row 2 2 1
+    ∷ plain_row 2 2 1 0
+    ∷ plain_row 2 3 cut_stock 0
+    ∷ worked_row 3 4 0
+    ∷ worked_row 4 4 1
+    ∷ plain_row 4 4 1 0
+    ∷ plain_row 4 5 weld_stock 0
+    ∷ plain_row 0 5 0 0
     ∷ []
 
-kanban_a : rows kanban_line ≡ line_a 1 1 ++ plain 3 1 0 0 ∷ plain 5 3 0 0 ∷ []
+kanban_a : rows kanban_line ≡ line_a 1 1 ++ plain_row 3 1 0 0 ∷ plain_row 5 3 0 0 ∷ []
 unfolding rows
 kanban_a = refl
 
@@ -41,23 +41,23 @@ times_a : times kanban_line ≡ Fixed 0 ∷ Fixed 0 ∷ Fixed 3 ∷ Fixed 0 ∷ 
 unfolding times
 times_a = refl
 
-base_stock_a : rows (two_stages BaseStock 0 1 0 1 []) ≡ line_a 1 1 ++ plain 0 1 0 0 ∷ plain 0 3 0 0 ∷ []
+base_stock_a : rows (two_stages BaseStock 0 1 0 1 []) ≡ line_a 1 1 ++ plain_row 0 1 0 0 ∷ plain_row 0 3 0 0 ∷ []
 unfolding rows
 base_stock_a = refl
 
 extended_a :
     rows (two_stages Extended 2 1 3 1 [])
-    ≡ line_a 1 1 ++ plain 0 1 0 0 ∷ plain 3 1 1 0 ∷ plain 0 3 0 0 ∷ plain 5 3 2 0 ∷ []
+    ≡ line_a 1 1 ++ plain_row 0 1 0 0 ∷ plain_row 3 1 1 0 ∷ plain_row 0 3 0 0 ∷ plain_row 5 3 2 0 ∷ []
 unfolding rows
 extended_a = refl
 
-conwip_a : rows (two_stages (Conwip 2) 0 0 0 1 []) ≡ line_a 0 1 ++ plain 5 1 1 0 ∷ []
+conwip_a : rows (two_stages (Conwip 2) 0 0 0 1 []) ≡ line_a 0 1 ++ plain_row 5 1 1 0 ∷ []
 unfolding rows
 conwip_a = refl
 
 loop_a :
     rows (two_stages BaseStock 0 1 0 1 (record { first = 0; last = 1; cards = 2; card_time = 0 } ∷ []))
-    ≡ line_a 1 1 ++ plain 0 1 0 0 ∷ plain 0 3 0 0 ∷ plain 5 1 0 0 ∷ []
+    ≡ line_a 1 1 ++ plain_row 0 1 0 0 ∷ plain_row 0 3 0 0 ∷ plain_row 5 1 0 0 ∷ []
 unfolding rows
 loop_a = refl
 
@@ -80,28 +80,28 @@ assembly policy =
 -- the rows of its stages and of the delivery's demands
 abbrev assembly_line : ℕ → ℕ → ℕ → List Row
 assembly_line left right top =
-    worked 1 2 0
-    ∷ worked 2 2 1
-    ∷ plain 2 2 1 0
-    ∷ plain 2 5 left 0
-    ∷ worked 3 4 0
-    ∷ worked 4 4 1
-    ∷ plain 4 4 1 0
-    ∷ plain 4 5 right 0
-    ∷ worked 5 6 0
-    ∷ worked 6 6 1
-    ∷ plain 6 6 1 0
-    ∷ plain 6 7 top 0
-    ∷ plain 0 7 0 0
+    worked_row 1 2 0
+    ∷ worked_row 2 2 1
+    ∷ plain_row 2 2 1 0
+    ∷ plain_row 2 5 left 0
+    ∷ worked_row 3 4 0
+    ∷ worked_row 4 4 1
+    ∷ plain_row 4 4 1 0
+    ∷ plain_row 4 5 right 0
+    ∷ worked_row 5 6 0
+    ∷ worked_row 6 6 1
+    ∷ plain_row 6 6 1 0
+    ∷ plain_row 6 7 top 0
+    ∷ plain_row 0 7 0 0
     ∷ []
 
 kanban_assembly :
-    rows (assembly Kanban) ≡ assembly_line 1 1 1 ++ plain 5 1 0 0 ∷ plain 5 3 0 0 ∷ plain 7 5 0 0 ∷ []
+    rows (assembly Kanban) ≡ assembly_line 1 1 1 ++ plain_row 5 1 0 0 ∷ plain_row 5 3 0 0 ∷ plain_row 7 5 0 0 ∷ []
 unfolding rows
 kanban_assembly = refl
 
 -- both first stages have the stock of `top` on their paths
-conwip_assembly : rows (assembly (Conwip 6)) ≡ assembly_line 0 0 4 ++ plain 7 1 2 9 ∷ plain 7 3 2 9 ∷ []
+conwip_assembly : rows (assembly (Conwip 6)) ≡ assembly_line 0 0 4 ++ plain_row 7 1 2 9 ∷ plain_row 7 3 2 9 ∷ []
 unfolding rows
 conwip_assembly = refl
 
@@ -151,15 +151,15 @@ cell =
 
 kanban_cell :
     rows cell
-    ≡ worked 1 2 0
-    ∷ worked 2 2 1
-    ∷ plain 2 2 1 0
-    ∷ worked 2 3 0
-    ∷ worked 3 3 2
-    ∷ plain 3 3 1 0
-    ∷ plain 3 4 2 0
-    ∷ plain 0 4 0 0
-    ∷ plain 4 1 0 0
+    ≡ worked_row 1 2 0
+    ∷ worked_row 2 2 1
+    ∷ plain_row 2 2 1 0
+    ∷ worked_row 2 3 0
+    ∷ worked_row 3 3 2
+    ∷ plain_row 3 3 1 0
+    ∷ plain_row 3 4 2 0
+    ∷ plain_row 0 4 0 0
+    ∷ plain_row 4 1 0 0
     ∷ []
 unfolding rows
 kanban_cell = refl

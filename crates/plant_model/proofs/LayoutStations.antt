@@ -1,4 +1,5 @@
--- Where the stations of a line stand: releases one after the other, each stage's machines between them, the delivery last.
+-- Where the stations of a line stand: releases one after the other, each stage's machines between them, the delivery
+-- last.
 use Rattle.std.proofs.Common.{◌≡◌, ℕ, ◌+◌, ◌<◌, ◌≤◌, length, take, Option, None, Some, refl, ap, arith}
 use Rattle.std.specs.Option.{option_map_or}
 use Rattle.std.proofs.lemmas.List.{take_all, take-take}

@@ -288,7 +288,8 @@ own-le p tree i b below found =
     omega (arith, rest, between))
     i below found
 
--- the stock between two stages by that on their paths: `all` on the first's, `rest` on the second's, `own` of the second
+-- the stock between two stages by that on their paths: `all` on the first's, `rest` on the second's, `own` of the
+-- second
 pub record IsBetween (p : Plant) (i b all rest own : ℕ) : Type 0 where
   pub less : rest ≤ all
   pub own_in_rest : own ≤ rest

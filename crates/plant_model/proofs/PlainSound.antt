@@ -1,4 +1,5 @@
--- A plant is sound exactly where the plain facts hold: from the facts, class by class, that nothing is refused, and back.
+-- A plant is sound exactly where the plain facts hold: from the facts, class by class, that nothing is refused, and
+-- back.
 use Rattle.std.proofs.Common.{codes, ◌≡◌, ◌≢◌, ℕ, zero, suc, ◌+◌, ◌-◌, ◌*◌, ◌<◌, ◌≤◌, Bool, true, false, not, cond, ltb, List, [], ◌∷◌, ◌++◌, length, get_or, take, Option, None, Some, refl, sym, ap, ◌∙◌, subst, arith}
 use Rattle.std.specs.Prelude.{◌&&◌, nat_lt, bytes_eq, is_none}
 use Rattle.std.specs.Option.{option_map_or}

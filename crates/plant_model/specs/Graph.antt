@@ -20,44 +20,44 @@ pub record Row : Type 0 where
   pub delay : ℕ
 
 -- an arc on which the job time of the station at its end is added
-abbrev pub worked : ℕ → ℕ → ℕ → Row
-worked s t n = record { arc = record { from = s; to = t; tokens = n; worked = true }; delay = 0 }
+abbrev pub worked_row : ℕ → ℕ → ℕ → Row
+worked_row s t n = record { arc = record { from = s; to = t; tokens = n; worked = true }; delay = 0 }
 
 -- an arc on which no job time is added, with its delay
-abbrev pub plain : ℕ → ℕ → ℕ → ℕ → Row
-plain s t n late = record { arc = record { from = s; to = t; tokens = n; worked = false }; delay = late }
+abbrev pub plain_row : ℕ → ℕ → ℕ → ℕ → Row
+plain_row s t n late = record { arc = record { from = s; to = t; tokens = n; worked = false }; delay = late }
 
 -- from machine j of stage i on: to the next machine, or after the last one, over the starting stock, to what the stage
 -- feeds
 abbrev pub onward : Plant → ℕ → ℕ → Row
 onward p i j =
     if j + 1 == length (stage_at p i).machines
-    then plain (machine_station p i j) (receiver p i) (starting p i) (stage_at p i).travel
-    else worked (machine_station p i j) (machine_station p i (j + 1)) 0
+    then plain_row (machine_station p i j) (receiver p i) (starting p i) (stage_at p i).travel
+    else worked_row (machine_station p i j) (machine_station p i (j + 1)) 0
 
 -- the three arcs out of machine j of stage i: a token a server, one token that keeps the parts in order, and onward
 abbrev pub machine_rows : Plant → ℕ → ℕ → List Row
 machine_rows p i j =
-    worked (machine_station p i j) (machine_station p i j) (machine_at p i j).servers
-    ∷ plain (machine_station p i j) (machine_station p i j) 1 0
+    worked_row (machine_station p i j) (machine_station p i j) (machine_at p i j).servers
+    ∷ plain_row (machine_station p i j) (machine_station p i j) 1 0
     ∷ onward p i j
     ∷ []
 
 -- the arcs of stage i: from its release to its first machine, then those of its machines
 abbrev pub stage_rows : Plant → ℕ → List Row
-stage_rows p i = worked (release p i) (machine_station p i 0) 0 ∷ flat_map (machine_rows p i) (machine_numbers p i)
+stage_rows p i = worked_row (release p i) (machine_station p i 0) 0 ∷ flat_map (machine_rows p i) (machine_numbers p i)
 
 -- the feed tells the delivery of each demand
 abbrev pub feed_row : Plant → Row
-feed_row p = plain 0 (deliver p) 0 0
+feed_row p = plain_row 0 (deliver p) 0 0
 
 -- the feed tells the release of stage i of each demand
 abbrev pub demand_row : Plant → ℕ → Row
-demand_row p i = plain 0 (release p i) 0 0
+demand_row p i = plain_row 0 (release p i) 0 0
 
 -- the card of stage i goes back to its release as a part leaves; these many are free at the start
 abbrev pub card_row : Plant → ℕ → ℕ → Row
-card_row p free i = plain (receiver p i) (release p i) free (stage_at p i).card_time
+card_row p free i = plain_row (receiver p i) (release p i) free (stage_at p i).card_time
 
 -- kanban: for each stage the way back of its cards, which all lie with the starting stock
 abbrev pub kanban_rows : Plant → List Row
@@ -74,7 +74,7 @@ extended_rows p =
 
 -- the card of the line goes from the delivery to the release of a first stage
 abbrev pub line_card_row : Plant → ℕ → Row
-line_card_row p i = plain (deliver p) (release p i) (line_cards p.policy - path_stock p i) p.card_time
+line_card_row p i = plain_row (deliver p) (release p i) (line_cards p.policy - path_stock p i) p.card_time
 
 -- CONWIP: for each first stage the way back of the line's cards
 abbrev pub conwip_rows : Plant → List Row
@@ -92,7 +92,7 @@ policy_rows p = rows_under p.policy
 
 -- a loop's cards go from what takes the parts of its last stage to the release of its first stage
 abbrev pub loop_row : Plant → CardLoop → Row
-loop_row p l = plain (receiver p l.last) (release p l.first) (l.cards - stock_between p l.first l.last) l.card_time
+loop_row p l = plain_row (receiver p l.last) (release p l.first) (l.cards - stock_between p l.first l.last) l.card_time
 
 -- the rows of the loops, in order
 abbrev pub loop_rows : Plant → List Row

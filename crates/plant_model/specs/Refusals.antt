@@ -174,7 +174,7 @@ stage_times_count jobs i s = each (machine_times_count jobs i) s.machines
 abbrev pub times_counts : Plant → List PlantError
 times_counts p = each (stage_times_count (length p.demands)) p.stages
 
--- 12, of the job at place k of the demand dates: its date is less than the one before
+-- 12, of the job of demand date k, counted from 0: that date is less than the one before
 abbrev pub falling_date : List ℕ → ℕ → ℕ → List PlantError
 falling_date dates k date = refuse_if (nat_lt date (slice_index dates (k - 1))) (DemandOrder (k + 1))
 

@@ -55,31 +55,33 @@ impl fmt::Display for PlantError {
     fn fmt<W: fmt::Write>(&self, f: &mut fmt::Formatter<W>) -> fmt::Result {
         match self {
             PlantError::NotToml => f.write_str("not toml"),
-            PlantError::UnknownKey { place } => at_place(f, "unknown key", place),
-            PlantError::Missing { place } => at_place(f, "missing", place),
-            PlantError::WrongType { place } => at_place(f, "wrong type", place),
-            PlantError::BadName { place } => at_place(f, "bad name", place),
-            PlantError::NameTwice { place } => at_place(f, "name twice", place),
-            PlantError::OutOfRange { place } => at_place(f, "out of range", place),
-            PlantError::FeedsNotLater { place } => at_place(f, "feeds no later stage", place),
-            PlantError::TwoFinals { place } => at_place(f, "two final stages", place),
-            PlantError::BadRecord { file, number } => record_of(f, file, *number),
-            PlantError::TimesCount { place, have, need } => counts(f, "times", place, *have, *need),
+            PlantError::UnknownKey { place } => write_place(f, "unknown key", place),
+            PlantError::Missing { place } => write_place(f, "missing", place),
+            PlantError::WrongType { place } => write_place(f, "wrong type", place),
+            PlantError::BadName { place } => write_place(f, "bad name", place),
+            PlantError::NameTwice { place } => write_place(f, "name twice", place),
+            PlantError::OutOfRange { place } => write_place(f, "out of range", place),
+            PlantError::FeedsNotLater { place } => write_place(f, "feeds no later stage", place),
+            PlantError::TwoFinals { place } => write_place(f, "two final stages", place),
+            PlantError::BadRecord { file, number } => write_record(f, file, *number),
+            PlantError::TimesCount { place, have, need } => write_counts(
+                f, "times", place, *have, *need,
+            ),
             PlantError::DemandOrder { job } => write!(f, "demand order: {job}"),
             PlantError::TooFewCards {
                 place,
                 cards,
                 stock,
-            } => counts(f, "too few cards", place, *cards, *stock),
-            PlantError::LoopNotDownstream { place } => at_place(f, "loop not downstream", place),
-            PlantError::TooLarge { what } => at_place(f, "too large", what),
+            } => write_counts(f, "too few cards", place, *cards, *stock),
+            PlantError::LoopNotDownstream { place } => write_place(f, "loop not downstream", place),
+            PlantError::TooLarge { what } => write_place(f, "too large", what),
             PlantError::NoMemory => f.write_str("memory"),
         }
     }
 }
 
 /// Writes what is wrong, and where.
-fn at_place<W: fmt::Write>(f: &mut fmt::Formatter<W>, words: &str, place: &Text) -> fmt::Result
+fn write_place<W: fmt::Write>(f: &mut fmt::Formatter<W>, words: &str, place: &Text) -> fmt::Result
     ensures { DisplaysOnOk W.write_str_gives f.old result (Some (at_place words.now place.now)) f.new }
 {
     let place = place.as_str();
@@ -87,7 +89,7 @@ fn at_place<W: fmt::Write>(f: &mut fmt::Formatter<W>, words: &str, place: &Text)
 }
 
 /// Writes which record of a file can't be used.
-fn record_of<W: fmt::Write>(f: &mut fmt::Formatter<W>, file: &Text, number: u64) -> fmt::Result
+fn write_record<W: fmt::Write>(f: &mut fmt::Formatter<W>, file: &Text, number: u64) -> fmt::Result
     ensures { DisplaysOnOk W.write_str_gives f.old result (Some (bad_record file.now number)) f.new }
 {
     let file = file.as_str();
@@ -95,7 +97,7 @@ fn record_of<W: fmt::Write>(f: &mut fmt::Formatter<W>, file: &Text, number: u64)
 }
 
 /// Writes what is wrong, where, the number that stands there, and the one that is needed.
-fn counts<W: fmt::Write>(
+fn write_counts<W: fmt::Write>(
     f: &mut fmt::Formatter<W>,
     words: &str,
     place: &Text,

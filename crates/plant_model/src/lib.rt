@@ -16,6 +16,7 @@ pub use bound::bound_of;
 pub use error::PlantError;
 pub use laws::soundness_is_plain;
 pub use layout::Layout;
+pub use line::stock_under;
 pub use line_base::Text;
 pub use numbers::{FEED, LineNumbers};
 pub use path_table::PathTable;

@@ -78,8 +78,8 @@ pub(crate) fn next_stage(plant: &Plant, i: usize) -> Option<u32>
     plant.stages.as_slice()[i].feeds
 }
 
-/// The starting stock of a stage under a policy.
-fn stock_under(policy: Policy, stage: &Stage) -> u32
+/// The starting stock of a stage under a policy: its cards under kanban, else its stock. It takes no memory.
+pub fn stock_under(policy: Policy, stage: &Stage) -> u32
     ensures { result ≡ stock_under policy stage.now }
 {
     match policy {

@@ -10,8 +10,8 @@ use line_base::Arc;
 use plant_model::{Layout, Plant, Policy};
 use std::alloc::{AllocError, Global};
 
-/// The arcs of the line's cards, one a first stage in order: from the delivery to the stage's release, with the cards that
-/// the starting stock on its path leaves free.
+/// The arcs of the line's cards, one a first stage in order: from the delivery to the stage's release, with the cards
+/// that the starting stock on its path leaves free.
 pub fn arcs(alloc: Global, plant: &Plant) -> Result<Vec<Arc>, AllocError>
     requires sound { IsSound plant.now }
     requires policy { (cards : ℕ) × (plant.now.policy ≡ Policy.Conwip cards) }

@@ -9,8 +9,8 @@ use line_base::Arc;
 use plant_model::{Layout, Plant};
 use std::alloc::{AllocError, Global};
 
-/// The arcs of the cards, one a stage in order: from the station that takes the stage's parts to the stage's release. They
-/// hold no token, since all cards lie with the starting stock (Dallery and Liberopoulos 2000).
+/// The arcs of the cards, one a stage in order: from the station that takes the stage's parts to the stage's release.
+/// They hold no token, since all cards lie with the starting stock (Dallery and Liberopoulos 2000).
 pub fn arcs(alloc: Global, plant: &Plant) -> Result<Vec<Arc>, AllocError>
     requires sound { IsSound plant.now }
     ensures { IfOk result (λ arcs. arcs.items ≡ arcs_of (kanban_rows plant.now)) }

@@ -9,8 +9,8 @@ const NO_COMMAND: u8 = 2;
 /// The status of a plant file that is refused.
 const REFUSED: u8 = 3;
 
-/// Of each status which it is, and what to do next, where the name of the plant file goes in the place of `{}`.
-const SAYINGS: [(u8, &str, &str); 18] = [
+/// Each status with what it means and what to do next, in which the name of the plant file replaces `{}`.
+const HINTS: [(u8, &str, &str); 18] = [
     (1, "a word is no UTF-8", "write it in UTF-8"),
     (
         REFUSED,
@@ -104,7 +104,7 @@ pub fn hint(alloc: Global, status: u8, words: &[String]) -> Result<String, Alloc
     if status == NO_COMMAND {
         return words_hint(alloc, words);
     }
-    let (what, next) = saying_of(status, is_word(words, 0, "lint"));
+    let (what, next) = hint_of(status, is_word(words, 0, "lint"));
     match next.split_once("{}") {
         Some((before, behind)) => {
             let plant = plant_of(words);
@@ -114,9 +114,9 @@ pub fn hint(alloc: Global, status: u8, words: &[String]) -> Result<String, Alloc
     }
 }
 
-/// Which status it is, and what to do next. Where `lint` has already said what is wrong, the latter differs.
-fn saying_of(status: u8, asks_lint: bool) -> (&'static str, &'static str) {
-    for (of, what, next) in &SAYINGS {
+/// What a status means, and what to do next. Where `lint` has already said what is wrong, the latter differs.
+fn hint_of(status: u8, asks_lint: bool) -> (&'static str, &'static str) {
+    for (of, what, next) in &HINTS {
         if *of == status {
             return if status == REFUSED && asks_lint {
                 (*what, "mend what the lines name, and ask again")
@@ -138,22 +138,22 @@ fn plant_of(words: &[String]) -> &str {
 
 /// The line for words that are no command.
 fn words_hint(alloc: Global, words: &[String]) -> Result<String, AllocError> {
-    let place = first_unusable(alloc, words)?;
-    let fault = words_fault(alloc, words, place)?;
-    let next = words_advice(alloc, words, place)?;
+    let index = first_unusable(alloc, words)?;
+    let fault = words_fault(alloc, words, index)?;
+    let next = words_advice(alloc, words, index)?;
     format!(in alloc; "pull: status 2, the words are no command: {fault}; {next}")
 }
 
-/// What to do next, where the word at this place can't be used, or where words are missing.
+/// What to do next, where the word at this index can't be used, or where words are missing.
 fn words_advice(
     alloc: Global,
     words: &[String],
-    place: Option<usize>,
+    index: Option<usize>,
 ) -> Result<String, AllocError> {
     let Some(word) = words.first() else {
         return String::from_str(alloc, "'pull --help' lists the commands");
     };
-    if is_named_checkpoint(words, place) {
+    if is_named_checkpoint(words, index) {
         String::from_str(alloc, "the name of a checkpoint ends in .ckpt")
     } else if is_command(alloc, &words[..1], &["--help"])? {
         format!(in alloc; "'pull help {word}' shows its words, 'pull --help' lists the commands")
@@ -162,39 +162,39 @@ fn words_advice(
     }
 }
 
-/// Whether the word at this place stands where a checkpoint is named: behind `--save`, or behind the plant of `resume`.
-fn is_named_checkpoint(words: &[String], place: Option<usize>) -> bool {
-    let Some(place) = place else {
+/// Whether the word at this index stands where a checkpoint is named: behind `--save`, or behind the plant of `resume`.
+fn is_named_checkpoint(words: &[String], index: Option<usize>) -> bool {
+    let Some(index) = index else {
         return false;
     };
-    let is_file = match words.get(place) {
+    let is_file = match words.get(index) {
         Some(word) => !word.starts_with('-'),
         None => false,
     };
-    let of_resume = place == 2 && is_word(words, 0, "resume");
-    is_file && (of_resume || is_word(words, place.saturating_sub(1), "--save"))
+    let of_resume = index == 2 && is_word(words, 0, "resume");
+    is_file && (of_resume || is_word(words, index.saturating_sub(1), "--save"))
 }
 
-/// Whether the word at this place is this one.
-fn is_word(words: &[String], place: usize, wanted: &str) -> bool {
-    match words.get(place) {
+/// Whether the word at this index is this one.
+fn is_word(words: &[String], index: usize, wanted: &str) -> bool {
+    match words.get(index) {
         Some(word) => word.as_str() == wanted,
         None => false,
     }
 }
 
-/// Which word can't be used, the one at this place, or that there are too few.
+/// Which word can't be used, the one at this index, or that there are too few.
 fn words_fault(
     alloc: Global,
     words: &[String],
-    place: Option<usize>,
+    index: Option<usize>,
 ) -> Result<String, AllocError> {
-    let Some(place) = place else {
+    let Some(index) = index else {
         return String::from_str(alloc, "words are missing");
     };
-    match words.get(place) {
+    match words.get(index) {
         Some(word) if is_plain(word) => format!(in alloc; "'{word}' can't be used there"),
-        _ => format!(in alloc; "word {} can't be used there", place.saturating_add(1)),
+        _ => format!(in alloc; "word {} can't be used there", index.saturating_add(1)),
     }
 }
 
@@ -205,9 +205,9 @@ fn is_plain(word: &str) -> bool {
 
 /// The first word that no command with the words before it can go on with: no command begins with these.
 fn first_unusable(alloc: Global, words: &[String]) -> Result<Option<usize>, AllocError> {
-    for place in 0..words.len() {
-        if !begins_command(alloc, &words[..=place])? {
-            return Ok(Some(place));
+    for index in 0..words.len() {
+        if !begins_command(alloc, &words[..=index])? {
+            return Ok(Some(index));
         }
     }
     Ok(None)

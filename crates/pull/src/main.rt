@@ -28,8 +28,8 @@ fn words_of<R: Env + AllocGlobal>(rt: &R) -> io::Result<Vec<String>> {
     Ok(words.collect(rt.alloc())?)
 }
 
-/// The end with a status. Where it isn't 0, standard error gets a line: which status it is, and what to do next. Whether
-/// that can be written changes nothing.
+/// The end with a status. Where it isn't 0, standard error gets a line: which status it is, and what to do next.
+/// Whether that can be written changes nothing.
 fn end<R: Eprint + AllocGlobal>(rt: &R, status: u8, words: &[String]) -> ExitCode {
     if status != 0 {
         let _ = match hint(rt.alloc(), status, words) {

@@ -8,7 +8,7 @@ use Rattle.command_line.specs.Words.{command_of}
 use Rattle.command_line.specs.declared.command.Command.{Command}
 use Rattle.command_line.specs.declared.command.Command.TheVariants as command
 use Rattle.command_line.specs.declared.command.Stop.{Stop}
-use Rattle.line_core.specs.Consistent.{fired}
+use Rattle.line_core.specs.Consistent.{firing_count}
 use Rattle.line_io.specs.Calls.{Read, Asked, write_of, none_asked}
 use Rattle.line_io.specs.Contents.{IsTorn}
 use Rattle.line_io.specs.SinkView.{PutsAll}
@@ -174,7 +174,7 @@ module _ (store : StoreOver) (sink : SinkOver) (disk : DiskOver) (answer : Resul
         leaves = says.0;
         says = says.1;
       }))
-      (left stop.save (text Differences (graph s.plant) s.stops.state) (fired s.stops.state) s.stops.saved.given
+      (left stop.save (text Differences (graph s.plant) s.stops.state) (firing_count s.stops.state) s.stops.saved.given
       (state_written name workers stop s).leaves s.stops.saved.answers)
 
   saved_so : (name : List ℕ) (workers : ℕ) (stop : Stop) →

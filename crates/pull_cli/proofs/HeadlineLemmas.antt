@@ -8,7 +8,7 @@ use Rattle.command_line.specs.declared.command.Command.{Command}
 use Rattle.command_line.specs.declared.command.Command.TheVariants as command
 use Rattle.command_line.specs.declared.command.Stop.{Stop}
 use Rattle.event_graph.specs.State.{State}
-use Rattle.line_core.specs.Consistent.{fired}
+use Rattle.line_core.specs.Consistent.{firing_count}
 use Rattle.line_io.specs.Calls.{Read, Write, Asked, write_of}
 use Rattle.line_io.specs.declared.store.StoreError.{StoreError}
 use Rattle.line_io.specs.declared.store.StoreError.TheVariants as store_error
@@ -246,7 +246,7 @@ module _ (store : StoreOver) (sink : SinkOver) (disk : DiskOver) (answer : Resul
       Stops p workers stop.after stop.save (record asks { reads = after }) answer → HasSaved p stop store sink
   has_saved p workers stop after stops =
       let bytes = text Differences (graph p) stops.state in
-      let done = write_done stop.save (fired stops.state) stops.saved.given stops.saved.answers in
+      let done = write_done stop.save (firing_count stops.state) stops.saved.given stops.saved.answers in
       let one : asks.writes ≡ write_of stop.save bytes (Ok tt) ∷ [] =
       ap (λ (a : Asked). a.writes) stops.saved.writes ∙
       ap (λ (given : Result (Unit {0}) StoreError). write_of stop.save bytes given ∷ []) done.0 in
@@ -258,7 +258,7 @@ module _ (store : StoreOver) (sink : SinkOver) (disk : DiskOver) (answer : Resul
         fits = stops.fits;
         asked = ap (λ (a : Asked). a.writes) asked ∙ ap (λ (writes : List Write). store.old.asked.writes ++ writes) one;
         saved = (subst (Changes store) one changes).leaves;
-        written = (zero_writes sink (answer_bytes (Stopped (fired stops.state))) 0
+        written = (zero_writes sink (answer_bytes (Stopped (firing_count stops.state))) 0
             (subst (λ (r : Result Answer Refusal). Finishes sink r 0) done.1 ended)).1;
         resumes = text_resumes p stops.state stops.resumed;
       }

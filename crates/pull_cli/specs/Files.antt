@@ -8,7 +8,7 @@ use Rattle.command_line.specs.declared.command.Command.{Command}
 use Rattle.command_line.specs.declared.command.Command.TheVariants as command
 use Rattle.command_line.specs.declared.command.Stop.{Stop}
 use Rattle.event_graph.specs.State.{State}
-use Rattle.line_core.specs.Consistent.{fired}
+use Rattle.line_core.specs.Consistent.{firing_count}
 use Rattle.line_io.specs.Contents.{IsTorn}
 use Rattle.line_io.specs.SinkView.{PutsAll}
 use Rattle.line_runs.specs.Headline.{MayBeResumed}
@@ -39,10 +39,10 @@ pub record StopsAndSaves (name : List ℕ) (stop : Stop) (store : StoreOver) (si
   pub stopped : MayBeResumed (graph plant) state
   pub workers : ℕ
   pub first_end : IsFirstEnd (graph plant) stop.after workers state
-  pub count : IsStopAt (graph plant) stop.after 0 (fired state)
+  pub count : IsStopAt (graph plant) stop.after 0 (firing_count state)
   pub leaves : LeavesSaved status (store.old.files stop.save) (store.new.files stop.save)
       (text Differences (graph plant) state)
-  pub says : status ≡ 0 → PutsAll sink.old sink.new (answer_bytes (Stopped (fired state)))
+  pub says : status ≡ 0 → PutsAll sink.old sink.new (answer_bytes (Stopped (firing_count state)))
 
 -- FILE is as it was, or the run stopped
 abbrev pub StaysOrSaves : List ℕ → Stop → StoreOver → SinkOver → ℕ → Type 0

@@ -15,7 +15,7 @@ use Rattle.commands.specs.FirstEnd.{IsFirstEnd}
 use Rattle.commands.specs.Reports.{IsReport, IsResumed}
 use Rattle.event_graph.specs.State.{State}
 use Rattle.line_base.specs.Limits.{most_checkpoint_bytes}
-use Rattle.line_core.specs.Consistent.{fired}
+use Rattle.line_core.specs.Consistent.{firing_count}
 use Rattle.line_io.specs.Calls.{write_of}
 use Rattle.line_io.specs.SinkView.{PutsAll}
 use Rattle.line_runs.specs.Headline.{MayBeResumed}
@@ -41,7 +41,7 @@ pub record HasSaved (p : Plant) (stop : Stop) (store : StoreOver) (sink : SinkOv
   pub asked : store.new.asked.writes
       ≡ store.old.asked.writes ++ write_of stop.save (text Differences (graph p) state) (Ok tt) ∷ []
   pub saved : IsTrue store.tells → store.new.files stop.save ≡ Some (text Differences (graph p) state)
-  pub written : PutsAll sink.old sink.new (answer_bytes (Stopped (fired state)))
+  pub written : PutsAll sink.old sink.new (answer_bytes (Stopped (firing_count state)))
   pub resumes : ResumesToReport p (text Differences (graph p) state)
 
 -- the one or the other

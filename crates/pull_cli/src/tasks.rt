@@ -23,7 +23,7 @@ use std::alloc::Global;
 use std::sync::Wait;
 use std::thread::Threads;
 
-/// What a task answers.
+/// Does a task.
 pub fn do_task<R: Threads + Sync, S: Store, G: Gate, D: Disk>(
     rt: &R,
     alloc: Global,

@@ -27,9 +27,9 @@ use std::thread::Threads;
 /// Does what the words after the program's name ask for, and answers the status that the program
 /// ends with. The words are read first, then the plant file and what it names, then the command's
 /// own file or the slots. Nothing but the line of a refusal is written before all of this is done
-/// and tried. Each status but 0 and 6 has written exactly its one line, behind the rows that were
-/// found where memory runs out in a curve. No file changes but the one in which a run that is asked
-/// to stop saves, and that one only with status 0, 5 or 6.
+/// and tried. Each status but 0 and 6 has written exactly its one line, or of `lint` its lines, behind
+/// the rows that were found where memory runs out in a curve. No file changes but the one in which a
+/// run that is asked to stop saves, and that one only with status 0, 5 or 6.
 ///
 /// Where a word is `--stand` it may wait for standing workers, and doesn't promise to return. Where none is, it
 /// is `pull_still`.
@@ -57,7 +57,7 @@ pub fn pull<R: Threads + Wait + Sync, S: Store, K: Sink, G: Gate, D: Disk>(
         (sink_over (K.shown sink.old) (K.shown sink.new)) result }
 {
     if has_stand(words) {
-        let outcome = done_or_stood(rt, alloc, words, store, gate, disk);
+        let outcome = do_words(rt, alloc, words, store, gate, disk);
         write_outcome(rt, alloc, outcome, sink)
     } else {
         pull_still(rt, alloc, words, store, sink, gate, disk)
@@ -89,7 +89,7 @@ pub fn pull_still<R: Threads + Sync, S: Store, K: Sink, G: Gate, D: Disk>(
         (store_over S.tells (S.shown store.old) (S.shown store.new))
         (sink_over (K.shown sink.old) (K.shown sink.new)) result }
 {
-    let outcome = result_of(rt, alloc, words, store, gate, disk);
+    let outcome = do_words_still(rt, alloc, words, store, gate, disk);
     write_outcome(rt, alloc, outcome, sink)
 }
 
@@ -170,8 +170,8 @@ fn status_after(written: Result<(), Failed>, status: u8) -> u8
     }
 }
 
-/// What the words answer, by standing workers where they ask for them.
-fn done_or_stood<R: Threads + Wait + Sync, S: Store, G: Gate, D: Disk>(
+/// Does what the words ask for, by standing workers where they ask for them.
+fn do_words<R: Threads + Wait + Sync, S: Store, G: Gate, D: Disk>(
     rt: &R,
     alloc: Global,
     words: &[String],
@@ -184,11 +184,11 @@ fn done_or_stood<R: Threads + Wait + Sync, S: Store, G: Gate, D: Disk>(
         (OfWords S.tells (S.shown store.old).files (command_of (texts words.now))) result }
 {
     let command = command_in(alloc, words)?;
-    do_or_stand(rt, alloc, command, store, gate, disk)
+    do_command(rt, alloc, command, store, gate, disk)
 }
 
-/// What the words answer, by bursts.
-fn result_of<R: Threads + Sync, S: Store, G: Gate, D: Disk>(
+/// Does what the words ask for, by bursts.
+fn do_words_still<R: Threads + Sync, S: Store, G: Gate, D: Disk>(
     rt: &R,
     alloc: Global,
     words: &[String],
@@ -217,8 +217,8 @@ fn command_in(alloc: Global, words: &[String]) -> Result<Command, Refusal>
     }
 }
 
-/// What a command answers, by standing workers where it asks for them.
-fn do_or_stand<R: Threads + Wait + Sync, S: Store, G: Gate, D: Disk>(
+/// Does what a command asks for, by standing workers where it asks for them.
+fn do_command<R: Threads + Wait + Sync, S: Store, G: Gate, D: Disk>(
     rt: &R,
     alloc: Global,
     command: Command,

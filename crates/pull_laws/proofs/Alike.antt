@@ -12,7 +12,7 @@ use Rattle.event_graph.specs.Live.{IsLive}
 use Rattle.plant_file.specs.Draft.{demands_file}
 use Rattle.plant_file.specs.Reading.{reading}
 use Rattle.plant_file.specs.declared.draft.DraftPlant.{DraftPlant}
-use Rattle.plant_file.specs.Finish.{completed}
+use Rattle.plant_file.specs.Finish.{completed_plant}
 use Rattle.plant_file.specs.PlantOfFiles.{bytes_at}
 use Rattle.plant_model.specs.declared.plant.Plant.{Plant}
 use Rattle.plant_model.specs.Graph.{graph}
@@ -271,12 +271,12 @@ module _ (tells_one : Bool) (files_one : Contents) (known_one : IsTrue tells_one
   draft_agrees : (d : DraftPlant) → Agrees (λ (x y : Plant). x ≡ y) (OfDraft d)
   draft_agrees d =
       then_agrees {A = Option (List ℕ)} {B = Plant} (λ (x y : Plant). x ≡ y) (LooksAtNamed (demands_file d))
-      (λ demands. Then (LooksAtNamed d.times_file) (λ times. Gives (or_refused (completed d demands times))))
+      (λ demands. Then (LooksAtNamed d.times_file) (λ times. Gives (or_refused (completed_plant d demands times))))
       (named_agrees (demands_file d))
       (λ demands.
       then_agrees {A = Option (List ℕ)} {B = Plant} (λ (x y : Plant). x ≡ y) (LooksAtNamed d.times_file)
-      (λ times. Gives (or_refused (completed d demands times))) (named_agrees d.times_file)
-      (λ times. gives_agrees {A = Plant} (or_refused (completed d demands times))))
+      (λ times. Gives (or_refused (completed_plant d demands times))) (named_agrees d.times_file)
+      (λ times. gives_agrees {A = Plant} (or_refused (completed_plant d demands times))))
 
   file_agrees : (name : List ℕ) → Agrees (λ (x y : Plant). x ≡ y) (OfPlantFile name)
   file_agrees name =

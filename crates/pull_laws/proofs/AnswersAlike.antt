@@ -10,11 +10,11 @@ use Rattle.commands.specs.Reports.{Writes as Answers, WritesOfLeast, IsResumed}
 use Rattle.commands.specs.Saving.{AnswersWrite, RunsUntil, RunsWithSlots, ResumesSaved, IsResumedOf, ResumesSlots}
 use Rattle.cycle_time.specs.declared.certificate.CycleError.{CycleError}
 use Rattle.cycle_time.specs.declared.certificate.CycleError.TheVariants as cycle
-use Rattle.cycle_time.specs.Certificate.{NoneVaries, SaysWhy}
+use Rattle.cycle_time.specs.Certificate.{NoneVaries, IsCycleRefusal}
 use Rattle.event_graph.specs.State.{State}
 use Rattle.event_graph.specs.Table.{date_in}
 use Rattle.line_base.specs.declared.event.Parts.{Parts}
-use Rattle.line_core.specs.Consistent.{fired}
+use Rattle.line_core.specs.Consistent.{firing_count}
 use Rattle.line_core.specs.declared.error.ReplayError.{ReplayError}
 use Rattle.line_io.specs.Calls.{Asked}
 use Rattle.line_io.specs.declared.store.StoreError.{StoreError}
@@ -95,16 +95,16 @@ cycle_status : (g : Parts) (error : CycleError) → IsOrFree 8 (cycle_refusal g 
 cycle_status g (cycle.Varying t) = inr refl
 cycle_status g cycle.NoMemory = inl tt
 
-varying_free : (g : Parts) (error : CycleError) → NoneVaries g → SaysWhy g error → IsFree (cycle_refusal g error)
+varying_free : (g : Parts) (error : CycleError) → NoneVaries g → IsCycleRefusal g error → IsFree (cycle_refusal g error)
 varying_free g (cycle.Varying t) none why = absurd (none t why.within why.found)
 varying_free g cycle.NoMemory none why = tt
 
 pub cycled_alike : (p : Plant) (one other : Result Answer Refusal) → IsCycled p one → IsCycled p other → Ends one other
 cycled_alike p =
-    ways_alike (IsCycle p) (IsRefusedFor (SaysWhy (graph p)) (cycle_refusal (graph p)))
+    ways_alike (IsCycle p) (IsRefusedFor (IsCycleRefusal (graph p)) (cycle_refusal (graph p)))
     (λ a is. text_done is.text a is.written)
     (λ a b is not. refused_free (cycle_refusal (graph p) not.error) b not.says
-    (varying_free (graph p) not.error is.fixed not.why))
+    (varying_free (graph p) not.error is.fixed not.reason))
     (λ a b not nor.
     refused_alike 8 (cycle_refusal (graph p) not.error) (cycle_refusal (graph p) nor.error) a b not.says nor.says
     (cycle_status (graph p) not.error) (cycle_status (graph p) nor.error))
@@ -159,7 +159,7 @@ pub run_done : (p : Plant) (workers n : ℕ) (file : List ℕ) (asked : Asked) (
     (answer : Result Answer Refusal) → RunsUntil p workers n file asked disk answer → IsDoneOrFree answer
 run_done p workers n file asked disk answer runs =
     ⊎_elim
-    (λ stops. written_done file (fired stops.state) stops.saved.given answer stops.saved.answers)
+    (λ stops. written_done file (firing_count stops.state) stops.saved.given answer stops.saved.answers)
     (λ rest. ⊎_elim (λ ended. inr (least_done p (report p) answer ended.report))
     (λ none. inl (memory_free answer none.1)) rest)
     runs.answers

@@ -12,7 +12,7 @@ use Rattle.answers.specs.declared.answer.Answer.TheVariants.{Curved}
 use Rattle.card_sizing.specs.Counted.{has_stage_counts, AreCounts, ServeEach}
 use Rattle.card_sizing.specs.Each.{counts_of, IsEachRefusal}
 use Rattle.card_sizing.specs.Serving.{Serves, IsInTime, IsLateWith}
-use Rattle.card_sizing.specs.Sized.{has_single_count, sized}
+use Rattle.card_sizing.specs.Sized.{has_single_count, sized_plant}
 use Rattle.card_sizing.specs.Sizing.{IsSizingRefusal}
 use Rattle.card_sizing.specs.declared.sizing.SizingError.{SizingError}
 use Rattle.card_sizing.specs.declared.sizing.SizingError.TheVariants as sizing
@@ -34,7 +34,7 @@ use Rattle.pull_laws.proofs.AnswersAlike.{Ends, IsDone, text_done, IsOrFree, ref
 not_late : (p : Plant) → IsSound p → IsTrue (has_single_count p) → (wait c job long : ℕ) → Serves p wait c →
     IsLateWith p wait c job long → ⊥
 not_late p sound single wait c job long serves late =
-    late_not_in_time (sized p c) wait job long (sound_sized p c sound single serves.enough serves.within) late
+    late_not_in_time (sized_plant p c) wait job long (sound_sized p c sound single serves.enough serves.within) late
     serves.in_time
 
 -- What is asked of cards is answered alike: where counts serve, nothing but no memory is a refusal, and else a refusal
@@ -60,10 +60,10 @@ module _ (has : Bool) (IsReason : SizingError → Type 0) (none : IsReason sizin
   sizings_alike IsFound done counted serves =
       ways_alike IsFound (IsRefusedFor IsReason sizing_refusal) done
       (λ a b is not.
-      refused_free (sizing_refusal not.error) b not.says (sized_free (counted a is) (serves a is) not.error not.why))
+      refused_free (sizing_refusal not.error) b not.says (sized_free (counted a is) (serves a is) not.error not.reason))
       (λ a b not nor.
       refused_alike (cond has 13 17) (sizing_refusal not.error) (sizing_refusal nor.error) a b not.says nor.says
-      (unsized_status not.error not.why) (unsized_status nor.error nor.why))
+      (unsized_status not.error not.reason) (unsized_status nor.error nor.reason))
 
 module _ (p : Plant) (sound : IsSound p) (wait : ℕ) where
   -- where a count serves, the most cards do
@@ -95,7 +95,7 @@ module _ (p : Plant) (sound : IsSound p) (wait : ℕ) where
       serve_more p sound has wait counts most serves fit
       (λ i low. omega (arith, at i low, serves.counts_fit.within i low)) in
       let same = counted-sized p most_cards has in
-      late_not_in_time (sized p most_cards) wait job long
+      late_not_in_time (sized_plant p most_cards) wait job long
       (subst IsSound (sym same) (sound_counted p most sound has fit)) late
       (subst (λ (q : Plant). IsInTime q wait) (sym same) all.in_time)
 

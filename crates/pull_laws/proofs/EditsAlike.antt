@@ -20,7 +20,7 @@ use Rattle.refusals.specs.declared.refusal.Refusal.TheVariants.{NotEdited}
 use Rattle.what_if.specs.declared.edit.Edit.{Edit}
 use Rattle.what_if.specs.declared.edit.Edit.TheVariants.{Time, Demand}
 use Rattle.what_if.specs.Edited.{Inputs, inputs_of}
-use Rattle.what_if.specs.Edits.{machine_with, spaced, Writes, inputs_after, LeadsTo, IsRefused, Stopped, EditsGive}
+use Rattle.what_if.specs.Edits.{machine_with, before_space, Writes, inputs_after, LeadsTo, IsRefused, Stopped, EditsGive}
 use Rattle.what_if.specs.Edits.{ends, follows, refuses}
 use Rattle.what_if.proofs.WordsOfEdits.{decimal-no_space, one_word-no_edit, time-parts, demand-parts}
 use Rattle.pull_laws.proofs.AnswersAlike.{Ends, text_done, refused_alike, ways_alike}
@@ -40,8 +40,8 @@ module _ (g : Parts) (few : jobs g < 2 ^ 64) where
   one_edit : (text : List ℕ) (a b : Edit) → Writes g text a → Writes g text b → a ≡ b
   one_edit text (Time t n time) b first second =
       let own = first.valid in
-      let rest = spaced (decimal n) (decimal time) in
-      time-parts g (spaced (label g t) rest) (label g t) rest (decimal n) (decimal time) b
+      let rest = before_space (decimal n) (decimal time) in
+      time-parts g (before_space (label g t) rest) (label g t) rest (decimal n) (decimal time) b
       (λ (e : Edit). Time t n time ≡ e)
       (record { whole = refl; no_space = own.word })
       (record { whole = refl; no_space = decimal-no_space n (omega (arith, own.job, few)) })
@@ -55,7 +55,7 @@ module _ (g : Parts) (few : jobs g < 2 ^ 64) where
       λ j. Time (station j) (number j) (span j))
   one_edit text (Demand n date) b first second =
       let own = first.valid in
-      demand-parts g (spaced (decimal n) (decimal date)) (decimal n) (decimal date) b (λ (e : Edit). Demand n date ≡ e)
+      demand-parts g (before_space (decimal n) (decimal date)) (decimal n) (decimal date) b (λ (e : Edit). Demand n date ≡ e)
       (record { whole = refl; no_space = decimal-no_space n (omega (arith, own.job, few)) })
       few
       (subst (λ (bytes : List ℕ). Writes g bytes b) first.text_is second)

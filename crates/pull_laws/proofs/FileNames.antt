@@ -12,7 +12,7 @@ use Rattle.plant_model.proofs.NoRefusals.{append-nil_left, append-nil_right, eac
 use Rattle.toml.specs.Data.{Data, get}
 use Rattle.plant_keys.specs.declared.keys.Class.TheVariants.{UnknownKeys, MissingKeys, WrongTypes, BadNames}
 use Rattle.plant_keys.specs.declared.keys.Class.TheVariants.{OutOfRanges}
-use Rattle.plant_keys.specs.declared.keys.Kind.TheVariants.{StageText, FileName}
+use Rattle.plant_keys.specs.declared.keys.Kind.TheVariants.{StageReference, FileName}
 use Rattle.plant_keys.specs.Keys.{Key, optional, top_keys, has_column}
 use Rattle.plant_keys.specs.Readers.{has, text_of, text_at}
 use Rattle.plant_model.specs.Refusals.{feeds_not_later_in}
@@ -23,7 +23,7 @@ use Rattle.plant_file.specs.Draft.{file_of, demands_file, IsSoundDraft}
 use Rattle.plant_file.proofs.SoundDrafts.{sound_draft}
 use Rattle.plant_file.specs.Reading.{column_at, draft_of, tree_refusals, draft_or_first, tree_of, tree_reading}
 use Rattle.plant_file.specs.Reading.{reading}
-use Rattle.plant_file.specs.Finish.{completed}
+use Rattle.plant_file.specs.Finish.{completed_plant}
 use Rattle.plant_file.specs.PlantOfFiles.{Contents, bytes_at, bytes_of, plant_of_reading, plant_of}
 
 -- a name that no checkpoint has
@@ -52,7 +52,7 @@ named_plain place (Some v) h =
     (refuse_if-none (not (is_file_name (text_of v))) _ h))
 
 no_key : Key
-no_key = optional [] StageText
+no_key = optional [] StageReference
 
 -- a draft that names no checkpoint
 pub record NamesNoCheckpoint (d : DraftPlant) : Type 0 where
@@ -149,8 +149,8 @@ module _ (a b : Contents) (agree : (q : List ℕ) → IsPlain q → a q ≡ b q)
       plant_of_reading a r ≡ plant_of_reading b r
   reading_same (Ok d) names =
       let own = names d refl in
-      ap (λ (o : Option (List ℕ)). completed d o (bytes_of a d.times_file)) (bytes_same (demands_file d) own.demands)
-      ∙ ap (λ (o : Option (List ℕ)). completed d (bytes_of b (demands_file d)) o) (bytes_same d.times_file own.times)
+      ap (λ (o : Option (List ℕ)). completed_plant d o (bytes_of a d.times_file)) (bytes_same (demands_file d) own.demands)
+      ∙ ap (λ (o : Option (List ℕ)). completed_plant d (bytes_of b (demands_file d)) o) (bytes_same d.times_file own.times)
   reading_same (Err error) names = refl
 
   -- files that differ in checkpoints alone have one plant

@@ -9,7 +9,7 @@ use Rattle.line_io.specs.declared.store.StoreError.TheVariants as store_error
 use Rattle.plant_file.specs.Draft.{demands_file}
 use Rattle.plant_file.specs.Reading.{reading}
 use Rattle.plant_file.specs.declared.draft.DraftPlant.{DraftPlant}
-use Rattle.plant_file.specs.Finish.{completed}
+use Rattle.plant_file.specs.Finish.{completed_plant}
 use Rattle.plant_model.specs.declared.error.PlantError.{PlantError}
 use Rattle.plant_model.specs.declared.plant.Plant.{Plant}
 use Rattle.refusals.specs.declared.refusal.Refusal.{Refusal}
@@ -104,12 +104,12 @@ module _ (store : StoreOver) (known : IsTrue store.tells) (Q : Refusal → Type 
     draft_stops : (d : DraftPlant) → NamesShort store.old.files d → OnlyStops (OfDraft d)
     draft_stops d short =
         then_stops {A = Option (List ℕ)} {B = Plant} (LooksAtNamed (demands_file d))
-        (λ demands. Then (LooksAtNamed d.times_file) (λ times. Gives (or_refused (completed d demands times))))
+        (λ demands. Then (LooksAtNamed d.times_file) (λ times. Gives (or_refused (completed_plant d demands times))))
         (named_stops (demands_file d) short.demands)
         (λ demands before looks held. then_stops {A = Option (List ℕ)} {B = Plant} (LooksAtNamed d.times_file)
-        (λ times. Gives (or_refused (completed d demands times)))
+        (λ times. Gives (or_refused (completed_plant d demands times)))
         (named_stops d.times_file short.times)
-        (λ times later looks_on held_on. gives_stops (completed d demands times)))
+        (λ times later looks_on held_on. gives_stops (completed_plant d demands times)))
 
     file_stops : (name : List ℕ) → IsShortPlant store.old.files name → OnlyStops (OfPlantFile name)
     file_stops name short =

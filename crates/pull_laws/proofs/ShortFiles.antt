@@ -10,7 +10,7 @@ use Rattle.line_io.specs.declared.store.StoreError.TheVariants as store_error
 use Rattle.plant_file.specs.Draft.{demands_file}
 use Rattle.plant_file.specs.Reading.{reading}
 use Rattle.plant_file.specs.declared.draft.DraftPlant.{DraftPlant}
-use Rattle.plant_file.specs.Finish.{completed}
+use Rattle.plant_file.specs.Finish.{completed_plant}
 use Rattle.plant_file.specs.PlantOfFiles.{bytes_at}
 use Rattle.plant_model.specs.declared.error.PlantError.{PlantError}
 use Rattle.plant_model.specs.declared.plant.Plant.{Plant}
@@ -97,11 +97,11 @@ module _ (store : StoreOver) (known : IsTrue store.tells) where
       All Held reads → OnOk answer (NamesShort files d)
   draft_short d reads answer steps all =
       then_leads (LooksAtNamed (demands_file d)) (λ demands. Then (LooksAtNamed d.times_file)
-      (λ times. Gives (or_refused (completed d demands times)))) Held
+      (λ times. Gives (or_refused (completed_plant d demands times)))) Held
       (λ (a : Result Plant Refusal). OnOk a (NamesShort files d)) reads answer steps all
       (λ refusal before held stops. tt)
       (λ demands before after held rest first next.
-      then_leads (LooksAtNamed d.times_file) (λ times. Gives (or_refused (completed d demands times))) Held
+      then_leads (LooksAtNamed d.times_file) (λ times. Gives (or_refused (completed_plant d demands times))) Held
       (λ (a : Result Plant Refusal). OnOk a (NamesShort files d)) after answer next rest
       (λ refusal later held_times stops. tt)
       (λ times later end held_times none second gives.

@@ -7,7 +7,7 @@ use Rattle.std.proofs.lemmas.List.Elements.{All-cons, All-nil}
 use Rattle.line_base.specs.declared.limits.TheConstants.{MAX_TIME, MAX_DEMAND_DATE}
 use Rattle.demand_feed.specs.Dates.{date_columns, joined_dates, dates_of}
 use Rattle.demand_feed.specs.Records.{records_of}
-use Rattle.demand_feed.specs.Rows.{Held, rows_of}
+use Rattle.demand_feed.specs.Rows.{FeedResult, rows_of}
 use Rattle.demand_feed.specs.Times.{under_columns, times_of}
 use Rattle.demand_feed.proofs.GoodRows.{IsRow, rows_of-rows, length-concat-rows, All-concat-rows}
 use Rattle.plant_model.specs.declared.error.PlantError.{PlantError}
@@ -22,7 +22,7 @@ use Rattle.plant_file.specs.declared.draft.DraftPlant.{DraftPlant}
 use Rattle.plant_file.specs.Draft.{IsSoundDraft, file_of, date_column_of, demands_file, demands_column, columns_of}
 use Rattle.plant_file.specs.Reading.{reading}
 use Rattle.plant_file.specs.Finish.{IsWithinLimit, bad_record, bad_record_in, bad_records, held_in, plant_of_bytes}
-use Rattle.plant_file.specs.Finish.{plant_or_first, completed}
+use Rattle.plant_file.specs.Finish.{plant_or_first, completed_plant}
 use Rattle.plant_file.specs.PlantOfFiles.{Contents, bytes_at, bytes_of, plant_of_reading, plant_of}
 use Rattle.plant_file.proofs.PlantParts.{AreDates, parts-none}
 
@@ -31,7 +31,7 @@ filled_from : (xs : List ℕ) → 0 < length xs → is_filled xs ≡ true
 filled_from [] h = absurd (omega arith)
 filled_from (x ∷ xs) h = refl
 
-joined_good : (held : Held (List (List ℕ))) →
+joined_good : (held : FeedResult (List (List ℕ))) →
     ((rows : List (List ℕ)) → held ≡ Ok rows → AllByRecursion (IsRow 1 MAX_DEMAND_DATE) rows) → (ds : List ℕ) →
     joined_dates held ≡ Ok ds → (is_filled ds ≡ true) × All (λ date. date ≤ MAX_DEMAND_DATE) ds
 joined_good (Ok []) good ds is = absurd (cc)
@@ -51,11 +51,11 @@ dates_good column bytes ds is =
     (λ rows known. (rows_of-rows (date_columns column) MAX_DEMAND_DATE (records_of bytes) rows known).0) ds is
 
 -- what is held where no record is bad
-is_held : {A : Type 0} (file : List ℕ) (held : Held A) → bad_record file held ≡ [] → is_some (result_ok held) ≡ true
+is_held : {A : Type 0} (file : List ℕ) (held : FeedResult A) → bad_record file held ≡ [] → is_some (result_ok held) ≡ true
 is_held file (Ok a) none = refl
 is_held file (Err number) none = absurd (cc)
 
-of_file : (file : List ℕ) (column : ℕ) (bytes : List ℕ) (held : Held (List ℕ)) → dates_of column bytes ≡ held →
+of_file : (file : List ℕ) (column : ℕ) (bytes : List ℕ) (held : FeedResult (List ℕ)) → dates_of column bytes ≡ held →
     bad_record file held ≡ [] → AreDates (File file column) (result_ok held)
 of_file file column bytes (Ok ds) is none =
     let good = dates_good column bytes ds is in
@@ -77,7 +77,7 @@ rows_within width most [] good = All-nil (λ row. All (λ time. time ≤ most) r
 rows_within width most (row ∷ rows) good =
     All-cons (λ row. All (λ time. time ≤ most) row) row rows good.0.limit (rows_within width most rows good.1)
 
-times_within : (columns : List ℕ) (held : Held (List (List ℕ))) →
+times_within : (columns : List ℕ) (held : FeedResult (List (List ℕ))) →
     ((rows : List (List ℕ)) → held ≡ Ok rows → All (λ row. All (λ time. time ≤ MAX_TIME) row) rows) →
     IfSome (result_ok (under_columns columns held)) IsWithinLimit
 times_within columns (Ok rows) good = good rows refl
@@ -101,7 +101,7 @@ answered [] made p sound is = let same : made ≡ p = cc in subst IsSound same (
 answered (r ∷ rs) made p sound is = absurd (cc)
 
 completed_sound : (files : Contents) (d : DraftPlant) → IsSoundDraft d → (p : Plant) →
-    completed d (bytes_of files (demands_file d)) (bytes_of files d.times_file) ≡ Ok p → IsSound p
+    completed_plant d (bytes_of files (demands_file d)) (bytes_of files d.times_file) ≡ Ok p → IsSound p
 completed_sound files d sound p is =
     let demands = bytes_of files (demands_file d) in
     let times = bytes_of files d.times_file in

@@ -176,23 +176,23 @@ impl Refusal {
         ensures memory { OnErr result (IsFixed self.now → ⊥) }
     {
         let line = match self {
-            Refusal::Usage => return fixed("pull: the words are no command\n"),
+            Refusal::Usage => return fixed_line("pull: the words are no command\n"),
             Refusal::Refused { error } => format!(in alloc; "plant: {error}")?.into_bytes(),
-            Refusal::Faults { lines } => return fixed(lines.as_str()),
+            Refusal::Faults { lines } => return fixed_line(lines.as_str()),
             Refusal::Dead { labels } => dead_line(alloc, labels.as_slice())?,
             Refusal::StoreFault { file } => words_of(alloc, b"store: ", file.as_str().as_bytes())?,
             Refusal::NotReached { line } => Vec::from_slice(alloc, line.as_slice())?,
             Refusal::Varying { label } => words_of(alloc, b"varying: ", label.as_slice())?,
-            Refusal::NoMemory => return fixed(OUT_OF_MEMORY),
+            Refusal::NoMemory => return fixed_line(OUT_OF_MEMORY),
             Refusal::TooLong { file } => words_of(alloc, b"too long: ", file.as_str().as_bytes())?,
             Refusal::NotFollowed { line } => Vec::from_slice(alloc, line.as_slice())?,
-            Refusal::Disk => return fixed("disk\n"),
+            Refusal::Disk => return fixed_line("disk\n"),
             Refusal::NoCount { job, wait } => {
                 format!(in alloc; "no count: job {job} waits {wait}")?.into_bytes()
             }
-            Refusal::NothingSaved => return fixed("nothing saved\n"),
+            Refusal::NothingSaved => return fixed_line("nothing saved\n"),
             Refusal::NotEdited { line } => format!(in alloc; "edits: line {line}")?.into_bytes(),
-            Refusal::NoSingleCount => return fixed("no single count\n"),
+            Refusal::NoSingleCount => return fixed_line("no single count\n"),
             Refusal::NoDate { label, job } => no_date(alloc, label.as_str(), *job)?,
             Refusal::Late { job, wait } => {
                 format!(in alloc; "late: job {job} waits {wait}")?.into_bytes()
@@ -208,7 +208,7 @@ impl Refusal {
 }
 
 /// A line that is known beforehand.
-fn fixed<'a>(line: &'a str) -> Result<CowSlice<'a, u8>, AllocError>
+fn fixed_line<'a>(line: &'a str) -> Result<CowSlice<'a, u8>, AllocError>
     ensures text { IfOk result (λ text. cow_slice_items text ≡ line.now) }
     ensures memory { OnErr result ⊥ }
 {

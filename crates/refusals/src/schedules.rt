@@ -31,7 +31,7 @@ fn labelled_refusal(alloc: Global, graph: &Graph, error: ReplayError) -> Result<
             Ok(not_followed(text))
         }
         ReplayError::Empty { line, arc } => {
-            let arc = graph.arcs()[arc as usize];
+            let arc = graph.arc(arc);
             let mut text = line_words(alloc, line, graph.label(arc.to))?;
             text.extend_from_slice(b" waits for ")?;
             text.extend_from_slice(graph.label(arc.from))?;

@@ -2,7 +2,7 @@
 use Rattle.std.proofs.Common.{◌≡◌, ℕ, true, List, [], ◌∷◌, refl, sym, None, Some, arith}
 use mathlib.Core.Option.{some-ne-none}
 use Rattle.room_ring.specs.declared.view.View.{View}
-use Rattle.room_ring.specs.View.{first_putter, first_taker, note, spent, cell_stored, tail_stored, other_seen, cell_loaded, head_stored, joined}
+use Rattle.room_ring.specs.View.{first_putter, first_taker, note, spent_view, cell_stored, tail_stored, other_seen, cell_loaded, head_stored, joined_view}
 use Rattle.room_ring.specs.Rule.{takers, tail, head, cell_of, cell, Keeps}
 use Rattle.room_ring.proofs.Views.{prefix-none}
 use Rattle.room_ring.proofs.Steps.{none≢some, keeps_store_cell, keeps_store_tail}
@@ -53,11 +53,11 @@ looked : other_seen 3 (other_seen 1 (first_taker 2)) ≡ record (first_taker 2) 
 looked = refl
 
 -- a note of the taker is read
-heard : joined (first_putter 2) (note (7 ∷ 8 ∷ []) 2) ≡ record (first_putter 2) { heard = 7 ∷ 8 ∷ []; count = 2 }
+heard : joined_view (first_putter 2) (note (7 ∷ 8 ∷ []) 2) ≡ record (first_putter 2) { heard = 7 ∷ 8 ∷ []; count = 2 }
 heard = refl
 
 -- a taker, a note and a seat that was joined: one taker
-one_taker : takers (first_taker 2 ∷ note [] 0 ∷ spent ∷ []) ≡ 1
+one_taker : takers (first_taker 2 ∷ note [] 0 ∷ spent_view ∷ []) ≡ 1
 one_taker = refl
 
 -- the rule holds of a ring that has put nothing

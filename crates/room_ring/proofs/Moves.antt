@@ -8,7 +8,7 @@ use Rattle.atomic_table.specs.Table.{State, Act, keeps, step, Valid, carried_aft
 use Rattle.atomic_table.proofs.Lists.{set_again, set_else}
 use Rattle.room_ring.specs.declared.view.View.{View}
 use Rattle.room_ring.specs.declared.view.Role.TheVariants.{Putter, Taker, Note}
-use Rattle.room_ring.specs.View.{first_taker, note, took, note_of, IsPutter, IsTaker, MayNote, MayHear, spent, cell_stored, tail_stored, other_seen, cell_loaded, head_stored, opened, joined}
+use Rattle.room_ring.specs.View.{first_taker, note, took, note_of, IsPutter, IsTaker, MayNote, MayHear, spent_view, cell_stored, tail_stored, other_seen, cell_loaded, head_stored, split_view, joined_view}
 use Rattle.room_ring.specs.Rule.{number, head_word, tail, head, cell_of, Keeps, KeepsViews, KeepsRule}
 use Rattle.room_ring.specs.Plays.{Mine, StoresCell, StoresTail, LoadsHead, LoadsTail, LoadsCell, StoresHead}
 use Rattle.room_ring.proofs.Views.{prefix-length, prefix-self}
@@ -101,15 +101,15 @@ module _ (size slots id : ℕ) (me : Mine) where
   ))
 
 module _ (size id : ℕ) (v : View) where
-  first_split_by : v.role ≡ Putter → v.is_split ≡ false → (row : List ℕ) (views : List View) (at : ℕ) → KeepsViews size row views → get_elem? views at ≡ some v → KeepsViews size row (set views at (opened v) ++ first_taker v.room ∷ [])
+  first_split_by : v.role ≡ Putter → v.is_split ≡ false → (row : List ℕ) (views : List View) (at : ℕ) → KeepsViews size row views → get_elem? views at ≡ some v → KeepsViews size row (set views at (split_view v) ++ first_taker v.room ∷ [])
   first_split_by is unsplit row [] at kept here = absurd kept
   first_split_by is unsplit row (p ∷ others) zero kept here =
       let k : Keeps size row v others = subst (λ q. Keeps size row q others) (some-injective p v here) kept in
-      subst (λ os. Keeps size row (opened v) (os ++ first_taker v.room ∷ [])) (sym (k.seats.alone unsplit)) (keeps_first_split size row v others k unsplit)
+      subst (λ os. Keeps size row (split_view v) (os ++ first_taker v.room ∷ [])) (sym (k.seats.alone unsplit)) (keeps_first_split size row v others k unsplit)
   first_split_by is unsplit row (p ∷ others) (suc j) kept here = absurd (kept.seats.one_putter j v here is)
 
   -- the first split of the putter makes the taker
-  pub may_open : v.role ≡ Putter → v.is_split ≡ false → Splits (KeepsRule size) id v (opened v) (first_taker v.room)
+  pub may_open : v.role ≡ Putter → v.is_split ≡ false → Splits (KeepsRule size) id v (split_view v) (first_taker v.room)
   may_open is unsplit s kept at = first_split_by is unsplit s.words s.views id kept at
 
   put_note_by : v.role ≡ Putter → v.is_split ≡ true → (row : List ℕ) (views : List View) (at : ℕ) → KeepsViews size row views → get_elem? views at ≡ some v → KeepsViews size row (set views at v ++ note v.list 0 ∷ [])
@@ -137,7 +137,7 @@ module _ (size id : ℕ) (v : View) where
       may
 
   module _ (other : ℕ) (w : View) (is_note : w.role ≡ Note) where
-    join_by : MayHear v → (row : List ℕ) (views : List View) (i j : ℕ) → KeepsViews size row views → get_elem? views i ≡ some v → j ≢ i → get_elem? (set views i (joined v w)) j ≡ some w → KeepsViews size row (set (set views i (joined v w)) j spent)
+    join_by : MayHear v → (row : List ℕ) (views : List View) (i j : ℕ) → KeepsViews size row views → get_elem? views i ≡ some v → j ≢ i → get_elem? (set views i (joined_view v w)) j ≡ some w → KeepsViews size row (set (set views i (joined_view v w)) j spent_view)
     join_by is row [] i j kept here apart there_ = absurd kept
     join_by is row (p ∷ others) zero zero kept here apart there_ = absurd (apart refl)
     join_by is row (p ∷ others) zero (suc j) kept here apart there_ =
@@ -146,8 +146,8 @@ module _ (size id : ℕ) (v : View) where
     join_by is row (p ∷ others) (suc i) zero kept here apart there_ = absurd (note≢putter (sym is_note ∙ (ap (λ (u : View). u.role) (sym (some-injective p w there_)) ∙ kept.seats.putter)))
     join_by is row (p ∷ others) (suc i) (suc j) kept here apart there_ =
         let taker : v.role ≡ Taker = ⊎_elim (λ e. absurd (kept.seats.one_putter i v here e)) (λ e. e) is in
-        keeps_taker_join size row p others kept i j v w here taker (sym (set_else others i j (joined v w) (λ e. apart (ap suc e))) ∙ there_) there_ is_note
+        keeps_taker_join size row p others kept i j v w here taker (sym (set_else others i j (joined_view v w) (λ e. apart (ap suc e))) ∙ there_) there_ is_note
 
     -- the putter or the taker reads a note
-    pub may_join : MayHear v → Joins (KeepsRule size) id v other w (joined v w) spent
+    pub may_join : MayHear v → Joins (KeepsRule size) id v other w (joined_view v w) spent_view
     may_join is s kept at apart there_ = join_by is s.words s.views id other kept at apart there_

@@ -11,7 +11,7 @@ use Rattle.atomic_table.proofs.Lists.{one_turn}
 use Rattle.room_ring.specs.declared.view.View.{View}
 use Rattle.room_ring.specs.declared.view.Role.{Role}
 use Rattle.room_ring.specs.declared.view.Role.TheVariants.{Putter, Taker, Note, Spent}
-use Rattle.room_ring.specs.View.{first_taker, note, spent, cell_stored, tail_stored, other_seen, cell_loaded, head_stored, opened, joined}
+use Rattle.room_ring.specs.View.{first_taker, note, spent_view, cell_stored, tail_stored, other_seen, cell_loaded, head_stored, split_view, joined_view}
 use Rattle.room_ring.specs.Rule.{number, is_taker, takers, Each, head_word, first_cell, tail, head, cell_of, cell, IsCounted, IsSeen, IsRoomy, IsTrueOf, HasSeats, Keeps}
 use Rattle.room_ring.proofs.Views.{takers-set, takers-add, takers_at, one_seat, Takes, none, there, takes, each-set, each-add, prefix-none, prefix-longer, prefix-length, prefix-next}
 
@@ -30,11 +30,11 @@ note≢putter e = false≢true (ap is_putter e)
 pub note≢taker : Note ≢ Taker
 note≢taker e = false≢true (ap is_taker e)
 
-spent≢putter : Spent ≢ Putter
-spent≢putter e = false≢true (ap is_putter e)
+spent_view≢putter : Spent ≢ Putter
+spent_view≢putter e = false≢true (ap is_putter e)
 
-spent≢taker : Spent ≢ Taker
-spent≢taker e = false≢true (ap is_taker e)
+spent_view≢taker : Spent ≢ Taker
+spent_view≢taker e = false≢true (ap is_taker e)
 
 is_taker_of : {r : Role} → r ≡ Taker → is_taker r ≡ true
 is_taker_of e = ap is_taker e
@@ -250,7 +250,7 @@ module _ (size : ℕ) (row : List ℕ) (p : View) (others : List View) (k : Keep
             };
           }
 
-  pub keeps_first_split : p.is_split ≡ false → Keeps size row (opened p) (first_taker p.room ∷ [])
+  pub keeps_first_split : p.is_split ≡ false → Keeps size row (split_view p) (first_taker p.room ∷ [])
   keeps_first_split unsplit =
       let empty : others ≡ [] = k.seats.alone unsplit in
       let h : head row ≡ 0 = k.counts.untaken (ap takers empty) in
@@ -314,10 +314,10 @@ module _ (size : ℕ) (row : List ℕ) (p : View) (others : List View) (k : Keep
       }
 
   -- the putter reads a note
-  keeps_told : (w : View) → IsTrueOf p.list (head row) w → Keeps size row (joined p w) others
+  keeps_told : (w : View) → IsTrueOf p.list (head row) w → Keeps size row (joined_view p w) others
   keeps_told w t = record {
     words = k.words;
-    seats = same_seats (joined p w) refl refl refl;
+    seats = same_seats (joined_view p w) refl refl refl;
     counts = record { put = k.counts.put; taken = k.counts.taken; untaken = k.counts.untaken };
     room = record { seen = k.room.seen; room = k.room.room };
     taken = k.taken;
@@ -326,17 +326,17 @@ module _ (size : ℕ) (row : List ℕ) (p : View) (others : List View) (k : Keep
   }
 
 -- a note is spent
-spend : (size : ℕ) (row : List ℕ) (p : View) (others : List View) → Keeps size row p others → (j : ℕ) (w : View) → get_elem? others j ≡ some w → w.role ≡ Note → Keeps size row p (set others j spent)
-spend size row p others k j w at is = reseated size row p others k j w at spent spent≢putter (sym (ap is_taker is)) (λ r. absurd (spent≢taker r)) (λ r. absurd (spent≢taker r)) (λ r. absurd (spent≢taker r))
+spend : (size : ℕ) (row : List ℕ) (p : View) (others : List View) → Keeps size row p others → (j : ℕ) (w : View) → get_elem? others j ≡ some w → w.role ≡ Note → Keeps size row p (set others j spent_view)
+spend size row p others k j w at is = reseated size row p others k j w at spent_view spent_view≢putter (sym (ap is_taker is)) (λ r. absurd (spent_view≢taker r)) (λ r. absurd (spent_view≢taker r)) (λ r. absurd (spent_view≢taker r))
     (record { list = prefix-none p.list; heard = prefix-none p.list; count = omega arith })
 
-pub keeps_putter_join : (size : ℕ) (row : List ℕ) (p : View) (others : List View) → Keeps size row p others → (j : ℕ) (w : View) → get_elem? others j ≡ some w → w.role ≡ Note → Keeps size row (joined p w) (set others j spent)
-keeps_putter_join size row p others k j w at is = spend size row (joined p w) others (keeps_told size row p others k w (k.truth.each j w at)) j w at is
+pub keeps_putter_join : (size : ℕ) (row : List ℕ) (p : View) (others : List View) → Keeps size row p others → (j : ℕ) (w : View) → get_elem? others j ≡ some w → w.role ≡ Note → Keeps size row (joined_view p w) (set others j spent_view)
+keeps_putter_join size row p others k j w at is = spend size row (joined_view p w) others (keeps_told size row p others k w (k.truth.each j w at)) j w at is
 
-pub keeps_taker_join : (size : ℕ) (row : List ℕ) (p : View) (others : List View) → Keeps size row p others → (i j : ℕ) (v w : View) → get_elem? others i ≡ some v → v.role ≡ Taker → get_elem? others j ≡ some w → get_elem? (set others i (joined v w)) j ≡ some w → w.role ≡ Note
-    → Keeps size row p (set (set others i (joined v w)) j spent)
+pub keeps_taker_join : (size : ℕ) (row : List ℕ) (p : View) (others : List View) → Keeps size row p others → (i j : ℕ) (v w : View) → get_elem? others i ≡ some v → v.role ≡ Taker → get_elem? others j ≡ some w → get_elem? (set others i (joined_view v w)) j ≡ some w → w.role ≡ Note
+    → Keeps size row p (set (set others i (joined_view v w)) j spent_view)
 keeps_taker_join size row p others k i j v w at is at' there_ is' =
     let t = k.truth.each j w at' in let o = k.truth.each i v at in
-    spend size row p (set others i (joined v w))
-    (reseated size row p others k i v at (joined v w) (k.seats.one_putter i v at) refl (k.seats.taker_room i v at) (k.counts.taken i v at) (k.taken i v at) (record { list = o.list; heard = t.list; count = t.count }))
+    spend size row p (set others i (joined_view v w))
+    (reseated size row p others k i v at (joined_view v w) (k.seats.one_putter i v at) refl (k.seats.taker_room i v at) (k.counts.taken i v at) (k.taken i v at) (record { list = o.list; heard = t.list; count = t.count }))
     j w there_ is'

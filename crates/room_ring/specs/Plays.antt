@@ -9,6 +9,7 @@ use Rattle.room_ring.specs.View.{cell_stored, tail_stored, other_seen, cell_load
 abbrev pub Mine : Type 0
 Mine = Me (Unit {0}) View
 
+-- what a step of each kind does to the seat that makes it; a load has found this number
 abbrev pub StoresCell : Step (Unit {0}) → Mine → ℕ → Mine → Type 0
 StoresCell step before _ after = after ≡ (cell_stored step.first before.0, before.1)
 

@@ -2,8 +2,8 @@
 use Rattle.std.specs.Prelude.{ℕ}
 use Rattle.atomic_table.specs.Seated.{TableId}
 
--- the most tokens for which a ring may have room: the 10,000 with which an arc may start, and the 10,000 more that a run
--- may ask for
+-- the most tokens for which a ring may have room: the 10,000 with which an arc may start, and the 10,000 more that a
+-- run may ask for
 abbrev pub most_room : ℕ
 most_room = 20_000
 

@@ -32,6 +32,7 @@ cell_of room i = i % room + first_cell
 abbrev pub cell : ℕ → List ℕ → ℕ → ℕ
 cell room words i = slice_index words (cell_of room i)
 
+-- 1 for true, 0 for false
 abbrev pub number : Bool → ℕ
 number true = 1
 number false = 0
@@ -79,15 +80,15 @@ pub record HasSeats (size : ℕ) (p : View) (others : List View) : Type 0 where
   pub taker_room : Each (IsRoomy size) others
   pub alone : p.is_split ≡ false → others ≡ []
 
--- 2. The tail is the length of what was put. The head is the length of what was taken, or one less between the load of a
--- cell and the store of the head. While there is no taker, the head is 0.
+-- 2. The tail is the length of what was put. The head is the length of what was taken, or one less between the load of
+-- a cell and the store of the head. While there is no taker, the head is 0.
 pub record HasCounts (row : List ℕ) (p : View) (others : List View) : Type 0 where
   pub put : tail row ≡ length p.list
   pub taken : Each (IsCounted (head row)) others
   pub untaken : takers others ≡ 0 → head row ≡ 0
 
--- 3. The head that the putter has seen is at most the head, and the length of what was put is at most that head plus the
--- room, strictly less where a date is stored and not published.
+-- 3. The head that the putter has seen is at most the head, and the length of what was put is at most that head plus
+-- the room, strictly less where a date is stored and not published.
 pub record HasRoom (size : ℕ) (row : List ℕ) (p : View) : Type 0 where
   pub seen : p.seen ≤ head row
   pub room : length p.list + length (option_to_list p.stored) ≤ p.seen + size
@@ -96,8 +97,8 @@ pub record HasRoom (size : ℕ) (row : List ℕ) (p : View) : Type 0 where
 abbrev pub HasTaken : List ℕ → List View → Type 0
 HasTaken row others = Each (IsSeen (tail row)) others
 
--- 5. Token i stands in its cell, for each i from the head on and below the tail. A date that is stored stands in the cell
--- that comes next.
+-- 5. Token i stands in its cell, for each i from the head on and below the tail. A date that is stored stands in the
+-- cell that comes next.
 pub record HasCells (size : ℕ) (row : List ℕ) (p : View) : Type 0 where
   pub published : (i : ℕ) → head row ≤ i → i < tail row → cell size row i ≡ slice_index p.list i
   pub stored : (date : ℕ) → p.stored ≡ Some date → cell size row (tail row) ≡ date
@@ -119,6 +120,7 @@ pub record Keeps (size : ℕ) (row : List ℕ) (p : View) (others : List View) :
   pub cells : HasCells size row p
   pub truth : HasTruth row p others
 
+-- the views are those of the putter, which is the first seat, and of others, and the six sentences hold of them
 abbrev pub KeepsViews : ℕ → List ℕ → List View → Type 0
 KeepsViews size row [] = ⊥
 KeepsViews size row (p ∷ others) = Keeps size row p others

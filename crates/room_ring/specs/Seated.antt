@@ -5,7 +5,8 @@ use Rattle.room_ring.specs.declared.end.End.{End}
 use Rattle.room_ring.specs.Ring.{most_room}
 use Rattle.room_ring.specs.Rule.{first_cell}
 
--- the seat is one of the table that the end shares, which is that of a ring of this room, and the counts are what it knows
+-- the seat is one of the table that the end shares, which is that of a ring of this room, and the counts are what it
+-- knows
 pub record IsSeated (end : End) : Type 0 where
   pub table : end.seat.table_id ≡ (arc_value end.words).shared.table_id
   pub key : (arc_value end.words).shared.key ≡ end.room

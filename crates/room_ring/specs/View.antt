@@ -63,8 +63,8 @@ abbrev pub MayHear : View → Type 0
 MayHear v = (v.role ≡ Putter) ⊎ (v.role ≡ Taker)
 
 -- a seat that was joined into another
-abbrev pub spent : View
-spent = blank Spent 0
+abbrev pub spent_view : View
+spent_view = blank Spent 0
 
 -- store cell, of the putter: the date stands in its cell
 abbrev pub cell_stored : ℕ → View → View
@@ -87,9 +87,9 @@ abbrev pub head_stored : View → View
 head_stored v = record v { is_loaded = false }
 
 -- split seat, of the putter, for the first time
-abbrev pub opened : View → View
-opened v = record v { is_split = true }
+abbrev pub split_view : View → View
+split_view v = record v { is_split = true }
 
 -- join seat: the note is known
-abbrev pub joined : View → View → View
-joined v w = record v { heard = w.list; count = w.count }
+abbrev pub joined_view : View → View → View
+joined_view v w = record v { heard = w.list; count = w.count }

@@ -7,7 +7,7 @@ ghost use Rattle.room_ring.specs.Ends.{IsRoomRing, IsInOrder, IsWithinRoom, IsAl
 ghost use Rattle.room_ring.specs.Put.{room_tokens, room_space};
 ghost use Rattle.room_ring.specs.Ring.{most_room};
 ghost use Rattle.room_ring.specs.Take.{room_known, TakeLooks};
-ghost use Rattle.room_ring.specs.View.{note_of, joined, MayNote, MayHear};
+ghost use Rattle.room_ring.specs.View.{note_of, joined_view, MayNote, MayHear};
 
 mod end;
 mod put;
@@ -102,7 +102,7 @@ fn tell(words: &Words, from: &mut Seat<(), View>, to: &mut Seat<(), View>)
     ensures from_table { from.new.table_id ≡ from.old.table_id }
     ensures to_table { to.new.table_id ≡ to.old.table_id }
     ensures from { from.new.me ≡ from.old.me }
-    ensures to { to.new.me ≡ (joined to.old.me.0 (note_of from.old.me.0), to.old.me.1) }
+    ensures to { to.new.me ≡ (joined_view to.old.me.0 (note_of from.old.me.0), to.old.me.1) }
 {
     let note = words.shared.split_seat::<LeaveNote>(from);
     words.shared.join_seat::<Tell>(to, note);
@@ -146,9 +146,9 @@ pub fn meet(put: &mut RoomPut, take: &mut RoomTake)
 
 /// Each end may move to another thread, on its own.
 fn ends_may_move(put: RoomPut, take: RoomTake) {
-    moved(put);
-    moved(take);
+    take_sent(put);
+    take_sent(take);
 }
 
 /// Takes only what may move to another thread.
-fn moved<T: Send + Drop>(_end: T) {}
+fn take_sent<T: Send + Drop>(_end: T) {}

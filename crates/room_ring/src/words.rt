@@ -2,23 +2,23 @@
 ghost use Rattle.std.specs.Prelude.{◌≡◌, ◌<◌};
 ghost use Rattle.room_ring.specs.Plays.{StoresCell, StoresTail, LoadsHead, LoadsTail, LoadsCell, StoresHead};
 ghost use Rattle.room_ring.specs.Rule.{KeepsRule, cell_of};
-ghost use Rattle.room_ring.specs.View.{first_putter, first_taker, note_of, spent, opened, joined};
+ghost use Rattle.room_ring.specs.View.{first_putter, first_taker, note_of, spent_view, split_view, joined_view};
 
 use crate::view::View;
 use atomic_table::{Join, Play, Split, Table, TableRule};
 use std::alloc::Global;
 
-/// The words of a ring: the tail, the head, and then the cells, each of the three in a cache line of its own, with words
-/// between that nobody reads.
+/// The words of a ring: the tail, the head, and then the cells, each of the three in a cache line of its own, with
+/// words between that nobody reads.
 pub(crate) type Words = Table<(), View, u64, Rule, Global>;
 
-/// How many tokens were put.
+/// The word of the tail, which is how many tokens were put.
 pub(crate) const TAIL: usize = 0;
 
-/// How many tokens were taken.
+/// The word of the head, which is how many tokens were taken.
 pub(crate) const HEAD: usize = 8;
 
-/// The first cell.
+/// The word of the first cell.
 pub(crate) const FIRST_CELL: usize = 16;
 
 /// The word in which this token stands, counted from 0.
@@ -29,6 +29,7 @@ pub(crate) fn cell(room: u32, token: u64) -> usize
     (token % u64::from(room)) as usize + FIRST_CELL
 }
 
+/// The rule that each step on a ring's words keeps.
 pub(crate) struct Rule;
 
 impl TableRule<(), View, u64> for Rule {
@@ -83,7 +84,7 @@ impl Play<(), View> for StoreHead {
 pub(crate) struct Open;
 
 impl Split<View> for Open {
-    ghost left = { opened };
+    ghost left = { split_view };
 
     ghost right = { λ v. first_taker v.room };
 }
@@ -101,7 +102,7 @@ impl Split<View> for LeaveNote {
 pub(crate) struct Tell;
 
 impl Join<View> for Tell {
-    ghost both = { joined };
+    ghost both = { joined_view };
 
-    ghost spent = { spent };
+    ghost spent = { spent_view };
 }

@@ -2,7 +2,7 @@
 use Rattle.std.proofs.Common.{◌≡◌, ⊎_elim, ℕ, ◌+◌, ◌-◌, ◌<◌, ◌≤◌, Bool, true, false, List, length, get_or, refl, sym, ◌∙◌, ap, subst, arith, cond, ◌||◌}
 use Rattle.std.proofs.lemmas.Bool.{true≢false}
 use Rattle.std.proofs.lemmas.Bool.Decides.{nat_tests}
-use Rattle.line_disk.specs.DiskView.{Image, Held, MayLeave, is_within, patched, awaiting, written, synced, Torn, IsAsBefore, IsPendingWithin}
+use Rattle.line_disk.specs.DiskView.{Image, Held, MayLeave, is_within, patched_image, awaiting, after_write, synced_file, Torn, IsAsBefore, IsPendingWithin}
 use Rattle.line_disk.proofs.Replay.{patched-out}
 use Rattle.slot_store.specs.Crash.{IsSettled}
 use Rattle.slot_store.specs.Within.{IsNear, IsSameBut}
@@ -21,7 +21,7 @@ pub out_narrow : (at n low m i : ℕ) → at ≤ low → low + m ≤ at + n → 
 out_narrow at n low m i begins ends out = grind (arith, nat_tests)
 
 -- what a patch puts
-pub patched-in : (image : Image) (at : ℕ) (bytes : List ℕ) (k : ℕ) → k < length bytes → patched image at bytes (at + k) ≡ get_or bytes k 0
+pub patched-in : (image : Image) (at : ℕ) (bytes : List ℕ) (k : ℕ) → k < length bytes → patched_image image at bytes (at + k) ≡ get_or bytes k 0
 patched-in image at bytes k less =
     ap (λ b. cond b (get_or bytes (at + k - at) 0) (image (at + k))) (in_range at (length bytes) (at + k) (omega arith) (omega arith))
     ∙ ap (λ j. get_or bytes j 0) (let e : at + k - at ≡ k = omega arith in e)
@@ -37,13 +37,13 @@ near_settled at n held is = record { bytes = λ i out. refl; settled = λ i out.
 pub settled_left : (held : Held) (image : Image) → IsSettled held → MayLeave held image → (i : ℕ) → image i ≡ held.bytes i
 settled_left held image is left i = left.elsewhere i (is.stands i)
 
-pub synced_settled : (held : Held) → IsSettled (synced held)
+pub synced_settled : (held : Held) → IsSettled (synced_file held)
 synced_settled held = record { stands = λ i. refl }
 
 awaiting-out : (pending : ℕ → Bool) (at n i : ℕ) → pending i ≡ false → is_within at n i ≡ false → awaiting pending at n i ≡ false
 awaiting-out pending at n i old out = ap (λ b. b || is_within at n i) old ∙ out
 
-pub near_written : (at n : ℕ) (base : Image) (held : Held) (low : ℕ) (bytes : List ℕ) → at ≤ low → low + length bytes ≤ at + n → IsNear at n base held → IsNear at n base (written held low bytes)
+pub near_written : (at n : ℕ) (base : Image) (held : Held) (low : ℕ) (bytes : List ℕ) → at ≤ low → low + length bytes ≤ at + n → IsNear at n base held → IsNear at n base (after_write held low bytes)
 near_written at n base held low bytes begins ends near = record {
   bytes = λ i out. patched-out held.bytes low bytes i (out_narrow at n low (length bytes) i begins ends out) ∙ near.bytes i out;
   settled = λ i out. awaiting-out held.pending low (length bytes) i (near.settled i out) (out_narrow at n low (length bytes) i begins ends out);
@@ -65,5 +65,5 @@ near_torn at n base held new low m begins ends near torn = record {
 pub near_same : (at n : ℕ) (base : Image) (held new : Held) → new ≡ held → IsNear at n base held → IsNear at n base new
 near_same at n base held new same near = subst (λ h. IsNear at n base h) (sym same) near
 
-pub near_synced : (at n : ℕ) (base : Image) (held : Held) → IsNear at n base held → IsNear at n base (synced held)
+pub near_synced : (at n : ℕ) (base : Image) (held : Held) → IsNear at n base held → IsNear at n base (synced_file held)
 near_synced at n base held near = record { bytes = near.bytes; settled = λ i out. refl }

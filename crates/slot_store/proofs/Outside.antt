@@ -1,7 +1,7 @@
 -- What stays behind both slots.
 use Rattle.std.proofs.Common.{◌≡◌, ℕ, ◌+◌, ◌*◌, ◌≤◌, ◌∙◌, ap, arith, Result, Ok, Err, OnOk, OnErr}
 use Rattle.std.specs.Prelude.{Bool, IsTrue}
-use Rattle.line_disk.specs.DiskView.{Held, DiskView, synced}
+use Rattle.line_disk.specs.DiskView.{Held, DiskView, synced_file}
 use Rattle.line_disk.specs.declared.disk.DiskError.{DiskError}
 use Rattle.slot_store.specs.Layout.{start_of}
 use Rattle.slot_store.specs.declared.header.Slot.{Slot}
@@ -20,7 +20,7 @@ outside_within tells room at n old new went ends =
     λ known i behind. (went known).near.bytes i (out_behind at n i (omega arith))
 
 -- a sync
-pub synced_bytes : (r : Result (Unit {0}) DiskError) (tells : Bool) (old new : Held) → OnOk r (IsTrue tells → new ≡ synced old) → OnErr r (IsTrue tells → new ≡ old) → IsTrue tells → (i : ℕ) → new.bytes i ≡ old.bytes i
+pub synced_bytes : (r : Result (Unit {0}) DiskError) (tells : Bool) (old new : Held) → OnOk r (IsTrue tells → new ≡ synced_file old) → OnErr r (IsTrue tells → new ≡ old) → IsTrue tells → (i : ℕ) → new.bytes i ≡ old.bytes i
 synced_bytes (Ok x) tells old new done stays known i = ap (λ (h : Held). h.bytes i) (done known)
 synced_bytes (Err e) tells old new done stays known i = ap (λ (h : Held). h.bytes i) (stays known)
 

@@ -1,7 +1,7 @@
 -- The parts of a save, each from a disk on which nothing was pending.
 use Rattle.std.proofs.Common.{◌≡◌, ◌⊎◌, ℕ, ◌+◌, ◌≤◌, List, [], ◌∷◌, length, true, sym, ◌∙◌, ap, arith, Some, Result, Ok, Err, OnOk}
 use Rattle.std.proofs.lemmas.Bool.{eqb-true}
-use Rattle.line_disk.specs.DiskView.{Image, Held, MayLeave, DiskView, held_now, LeavesOnly, patched, written, synced}
+use Rattle.line_disk.specs.DiskView.{Image, Held, MayLeave, DiskView, held_now, LeavesOnly, patched_image, after_write, synced_file}
 use Rattle.line_disk.specs.declared.disk.DiskError.{DiskError}
 use Rattle.slot_store.specs.Layout.{start_of, content}
 use Rattle.slot_store.specs.Crash.{IsSettled, IsReady, IsClosed, IsStaged, TellsGate, SameContent, bytes_now}
@@ -63,10 +63,10 @@ pub settled_content : (held : Held) (image : Image) (room : ℕ) → IsSettled h
 settled_content held image room is left = content-same image held.bytes room (settled_left held image is left)
 
 -- what the gate is after it was written and synced
-pub gate_written : (start put now : Held) (low at gate : ℕ) → put ≡ written start low (gate ∷ []) → now ≡ synced put → low ≡ at → now.bytes at ≡ gate
+pub gate_written : (start put now : Held) (low at gate : ℕ) → put ≡ after_write start low (gate ∷ []) → now ≡ synced_file put → low ≡ at → now.bytes at ≡ gate
 gate_written start put now low at gate one two here =
     ap (λ (h : Held). h.bytes at) two
     ∙ ap (λ (h : Held). h.bytes at) one
-    ∙ ap (λ i. patched start.bytes i (gate ∷ []) at) here
-    ∙ ap (patched start.bytes at (gate ∷ [])) (let e : at ≡ at + 0 = omega arith in e)
+    ∙ ap (λ i. patched_image start.bytes i (gate ∷ []) at) here
+    ∙ ap (patched_image start.bytes at (gate ∷ [])) (let e : at ≡ at + 0 = omega arith in e)
     ∙ patched-in start.bytes at (gate ∷ []) 0 (omega arith)

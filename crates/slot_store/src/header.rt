@@ -14,10 +14,10 @@ use std::alloc::Global;
 pub const MAX_ROOM: u64 = 167_772_160;
 
 /// The bytes of a slot before its content.
-pub const HEADER: u64 = 16;
+pub const HEADER_BYTES: u64 = 16;
 
 /// How many of them say something: the gate, the number and the length.
-pub const USED: u32 = 10;
+pub const USED_BYTES: u32 = 10;
 
 /// The greatest number of a slot.
 const MAX_NUMBER: u8 = 2;
@@ -40,7 +40,7 @@ impl Slot {
     {
         match self {
             Slot::Zero => 0,
-            Slot::One => HEADER + room,
+            Slot::One => HEADER_BYTES + room,
         }
     }
 }
@@ -64,7 +64,7 @@ impl Header {
 
 /// The head of a slot by its bytes.
 fn header_of(bytes: &[u8]) -> Header
-    requires { length bytes.now ≡ USED }
+    requires { length bytes.now ≡ USED_BYTES }
     ensures { result ≡ header_of_bytes bytes.now }
 {
     let &[gate, number, a, b, c, d, e, f, g, h] = bytes else {
@@ -88,7 +88,7 @@ fn read_header<D: Disk>(disk: &mut D, alloc: Global, start: u64) -> Result<Heade
         → Rose (D.shown disk.old).faults (D.shown disk.new).faults }
     ensures faults_stay_or_rise { (D.shown disk.old).faults ≤ (D.shown disk.new).faults }
 {
-    let bytes = disk.read(alloc, start, USED)?;
+    let bytes = disk.read(alloc, start, USED_BYTES)?;
     Ok(header_of(&bytes))
 }
 

@@ -9,7 +9,7 @@ ghost use Rattle.slot_store.specs.Saving.{IsHarmless, SavesContent};
 ghost use Rattle.slot_store.specs.Within.{WritesWithin, OutsideStays};
 
 use crate::finding::find_target;
-use crate::header::{HEADER, MAX_ROOM, OPEN, Slot};
+use crate::header::{HEADER_BYTES, MAX_ROOM, OPEN, Slot};
 use crate::target::Target;
 use line_disk::{Disk, DiskError};
 use std::alloc::Global;
@@ -85,7 +85,7 @@ fn write_content<D: Disk>(disk: &mut D, room: u64, target: Target, bytes: &[u8])
         start + 1,
         &number_and_length(target.number, bytes.len() as u64),
     )?;
-    disk.write_at(start + HEADER, bytes)?;
+    disk.write_at(start + HEADER_BYTES, bytes)?;
     disk.sync()
 }
 

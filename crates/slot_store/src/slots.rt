@@ -2,7 +2,7 @@ ghost use Rattle.std.specs.Prelude.{◌≡◌, ◌≤◌};
 ghost use Rattle.slot_store.specs.declared.header.TheConstants.{MAX_ROOM};
 
 use crate::error::SlotError;
-use crate::header::{HEADER, MAX_ROOM, newer, read_headers};
+use crate::header::{HEADER_BYTES, MAX_ROOM, newer, read_headers};
 use crate::saving::save_content;
 use line_disk::Disk;
 use std::alloc::Global;
@@ -92,7 +92,7 @@ impl<'a, D: Disk> Slots<'a, D> {
         let Some((slot, header)) = newer(zero, one, self.room) else {
             return Err(SlotError::NoneSaved);
         };
-        let start = slot.start(self.room) + HEADER;
+        let start = slot.start(self.room) + HEADER_BYTES;
         Ok(self.disk.read(alloc, start, header.length as u32)?)
     }
 }

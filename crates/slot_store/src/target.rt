@@ -12,7 +12,8 @@ pub struct Target {
     pub gate_is_open: bool,
 }
 
-/// The slot that is not the newer one, with the number after that of the newer, or slot 0 with number 0 where none is open.
+/// The slot that is not the newer one, with the number after that of the newer, or slot 0 with number 0 where none is
+/// open.
 pub fn target_of(zero: Header, one: Header, room: u64) -> Target
     ensures { result ≡ target_by (newer_header room zero one) zero one }
 {

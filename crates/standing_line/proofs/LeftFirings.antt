@@ -4,7 +4,7 @@ use Rattle.std.proofs.lemmas.List.{take_all, take-take, length-take}
 use Rattle.event_graph.specs.Network.{stations, jobs}
 use Rattle.event_graph.specs.State.{log}
 use Rattle.live_check.specs.Order.{LiveGraph}
-use Rattle.line_core.specs.Consistent.{fired}
+use Rattle.line_core.specs.Consistent.{firing_count}
 use Rattle.line_core.proofs.Bounds.{fired-le}
 use Rattle.line_core.proofs.Consistency.{reached_is_consistent}
 use Rattle.line_workers.specs.Line.{WorkLine, IsLine}
@@ -38,9 +38,9 @@ goes_on_more first now next before after = record {
 
 -- how many firings are left of a line
 abbrev pub left_of : WorkLine → ℕ
-left_of l = stations l.live.graph * jobs l.live.graph - fired l.state
+left_of l = stations l.live.graph * jobs l.live.graph - firing_count l.state
 
-pub fewer_left : (old new : WorkLine) → GoesOn old new → fired old.state < fired new.state → left_of new < left_of old
+pub fewer_left : (old new : WorkLine) → GoesOn old new → firing_count old.state < firing_count new.state → left_of new < left_of old
 fewer_left old new goes more =
     let all : stations new.live.graph * jobs new.live.graph ≡ stations old.live.graph * jobs old.live.graph =
     ap (λ (v : LiveGraph). stations v.graph * jobs v.graph) goes.live in

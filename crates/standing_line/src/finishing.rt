@@ -1,5 +1,5 @@
 ghost use Rattle.std.specs.Prelude.{◌≡◌, ◌<◌};
-ghost use Rattle.line_core.specs.Consistent.{IsFinished, fired};
+ghost use Rattle.line_core.specs.Consistent.{IsFinished, firing_count};
 ghost use Rattle.line_workers.specs.Line.{IsLine};
 ghost use Rattle.standing_line.specs.Standing.{GoesOn};
 
@@ -12,7 +12,7 @@ fn burst_on<R: Threads + Sync, G: Gate>(rt: &R, line: &mut Line, live: &Live, ga
     requires made_for { live.now ≡ line.old.live }
     requires undone { ¬ IsFinished line.old.live.graph line.old.state }
     ensures goes_on { GoesOn line.old line.new }
-    ensures fires { fired line.old.state < fired line.new.state }
+    ensures fires { firing_count line.old.state < firing_count line.new.state }
 {
     line.burst(rt, live, gate);
 }

@@ -10,7 +10,7 @@ use std::sync::atomic::{AtomicBool, Ordering};
 use std::thread;
 use std::thread::Promise;
 
-/// With as many turns of a station its worker ends, to be gathered.
+/// How many turns a station makes at most before its worker stops sweeping.
 const MAX_TURNS: u64 = 1 << 39;
 
 /// What the thread of a worker gives back: that very worker, after some sweeps.
@@ -28,12 +28,12 @@ fn may_sweep(worker: &Worker, turns: u64) -> bool
     ensures may { IsTrue result ↔ MaySweep worker.now }
     ensures worker { IsWorker worker.now }
 {
-    !worker.done() && turns < MAX_TURNS
+    !worker.is_done() && turns < MAX_TURNS
 }
 
 /// Lets another thread run after a sweep in which nothing was fired. With more workers than processors one that has
 /// something to fire may then go on instead.
-fn rest(fired: u64) {
+fn yield_if_idle(fired: u64) {
     if fired == 0 {
         thread::yield_now();
     }
@@ -49,7 +49,7 @@ pub(crate) fn sweep_on<G: Gate>(worker: Worker, live: &Live, gate: &G, stop: &At
     let mut worker = worker;
     let mut turns = worker.turns();
     while !stop.load(Ordering::SeqCst) && may_sweep(&worker, turns) {
-        rest(worker.sweep(live, gate));
+        yield_if_idle(worker.sweep(live, gate));
         turns += 1;
     }
     worker

@@ -9,7 +9,7 @@ use Rattle.std.proofs.lemmas.Bool.{cases_eq, cases_lt}
 use Rattle.line_base.specs.declared.event.Parts.{Parts}
 use Rattle.card_queue.specs.Plain.{PlainQueue, plain_taken, plain_waiting, plain_tokens}
 use Rattle.event_graph.specs.GreatestValue.{greatest}
-use Rattle.station_step.specs.Shelf.{queue_at, counted, untaken, OnlyTakes}
+use Rattle.station_step.specs.Shelf.{queue_at, with_take, without_takes, OnlyTakes}
 use Rattle.station_step.proofs.Queues.{front-some, front-more}
 use Rattle.station_step.specs.declared.ends.Inlet.{Inlet}
 use Rattle.station_step.specs.declared.ends.Inlet.TheVariants as inlet
@@ -67,7 +67,7 @@ fronts_more k inputs fronts q extra low queue extra_is up_to =
 -- ---- the walk that counts a take at each front
 
 pub record CountedUpTo (k : ℕ) (fronts : List Front) (old new : List PlainQueue) : Type 0 where
-  pub done : (j : ℕ) → j < k → queue_at new (front_at fronts j).queue ≡ counted (queue_at old (front_at fronts j).queue)
+  pub done : (j : ℕ) → j < k → queue_at new (front_at fronts j).queue ≡ with_take (queue_at old (front_at fronts j).queue)
   pub rest : (q : ℕ) → ((j : ℕ) → j < k → (front_at fronts j).queue ≢ q) → queue_at new q ≡ queue_at old q
   pub only : OnlyTakes old new
 
@@ -82,16 +82,16 @@ abbrev no_queue : PlainQueue
 no_queue = record { initial = []; added = []; room = 0; takes = 0 }
 
 -- one queue counts a take
-only-counted : (shelf : List PlainQueue) (q : ℕ) → q < length shelf → OnlyTakes shelf (set shelf q (counted (queue_at shelf q)))
+only-counted : (shelf : List PlainQueue) (q : ℕ) → q < length shelf → OnlyTakes shelf (set shelf q (with_take (queue_at shelf q)))
 only-counted shelf q low = record {
-  count = length-set shelf q (counted (queue_at shelf q));
+  count = length-set shelf q (with_take (queue_at shelf q));
   puts = λ r.
       ⊎_elim
       (λ (e : r ≡ q).
-      ap (λ n. untaken (queue_at (set shelf q (counted (queue_at shelf q))) n)) e
-      ∙ ap untaken (get_or-set_same shelf q (counted (queue_at shelf q)) no_queue low)
-      ∙ ap (λ n. untaken (queue_at shelf n)) (sym e))
-      (λ (ne : r ≢ q). ap untaken (get_or-set_other shelf q r (counted (queue_at shelf q)) no_queue ne))
+      ap (λ n. without_takes (queue_at (set shelf q (with_take (queue_at shelf q))) n)) e
+      ∙ ap without_takes (get_or-set_same shelf q (with_take (queue_at shelf q)) no_queue low)
+      ∙ ap (λ n. without_takes (queue_at shelf n)) (sym e))
+      (λ (ne : r ≢ q). ap without_takes (get_or-set_other shelf q r (with_take (queue_at shelf q)) no_queue ne))
       (cases_eq r q);
 }
 
@@ -99,15 +99,15 @@ only-counted shelf q low = record {
 pub not-yet : (k : ℕ) (fronts : List Front) (old mid : List PlainQueue) → FrontsApart fronts → k < length fronts → CountedUpTo k fronts old mid → queue_at mid (front_at fronts k).queue ≡ queue_at old (front_at fronts k).queue
 not-yet k fronts old mid apart low up_to = up_to.rest (front_at fronts k).queue (λ j less. apart j k less low)
 
-pub counted_more : (k : ℕ) (fronts : List Front) (old mid new : List PlainQueue) → FrontsApart fronts → k < length fronts → (front_at fronts k).queue < length mid → new ≡ set mid (front_at fronts k).queue (counted (queue_at mid (front_at fronts k).queue)) → CountedUpTo k fronts old mid → CountedUpTo (k + 1) fronts old new
+pub counted_more : (k : ℕ) (fronts : List Front) (old mid new : List PlainQueue) → FrontsApart fronts → k < length fronts → (front_at fronts k).queue < length mid → new ≡ set mid (front_at fronts k).queue (with_take (queue_at mid (front_at fronts k).queue)) → CountedUpTo k fronts old mid → CountedUpTo (k + 1) fronts old new
 counted_more k fronts old mid new apart low there is up_to =
     let q = (front_at fronts k).queue in
-    let here : queue_at new q ≡ counted (queue_at old q) =
+    let here : queue_at new q ≡ with_take (queue_at old q) =
     ap (λ (l : List PlainQueue). queue_at l q) is
-    ∙ get_or-set_same mid q (counted (queue_at mid q)) no_queue there
-    ∙ ap counted (not-yet k fronts old mid apart low up_to) in
+    ∙ get_or-set_same mid q (with_take (queue_at mid q)) no_queue there
+    ∙ ap with_take (not-yet k fronts old mid apart low up_to) in
     let elsewhere : (r : ℕ) → r ≢ q → queue_at new r ≡ queue_at mid r =
-    λ r ne. ap (λ (l : List PlainQueue). queue_at l r) is ∙ get_or-set_other mid q r (counted (queue_at mid q)) no_queue ne in
+    λ r ne. ap (λ (l : List PlainQueue). queue_at l r) is ∙ get_or-set_other mid q r (with_take (queue_at mid q)) no_queue ne in
     record {
       done = λ j less.
           ⊎_elim
@@ -116,7 +116,7 @@ counted_more k fronts old mid new apart low there is up_to =
           let e : j ≡ k = omega (arith, less, past) in
           ap (λ n. queue_at new (front_at fronts n).queue) e
           ∙ here
-          ∙ ap (λ n. counted (queue_at old (front_at fronts n).queue)) (sym e))
+          ∙ ap (λ n. with_take (queue_at old (front_at fronts n).queue)) (sym e))
           (cases_lt j k);
       rest = λ r none.
           elsewhere r (λ e. none k (omega arith) (sym e))
@@ -231,11 +231,11 @@ local-is (inlet.Room take) q is = absurd (None-Some is)
 local-is (inlet.Local k) q is = ap (λ n. inlet.Local n) (Some-injective is)
 
 -- one token more was taken from a queue that counts a take
-taken-counted : (queue : PlainQueue) → plain_waiting queue ≢ [] → plain_taken (counted queue) ≡ plain_taken queue ++ slice_index (plain_waiting queue) 0 ∷ []
+taken-counted : (queue : PlainQueue) → plain_waiting queue ≢ [] → plain_taken (with_take queue) ≡ plain_taken queue ++ slice_index (plain_waiting queue) 0 ∷ []
 taken-counted queue some =
     front-more (plain_tokens queue) queue.takes (slice_index (plain_waiting queue) 0) (front-some (plain_waiting queue) some)
 
-local-refilled : (old mid : List PlainQueue) (i : Inlet) (hand : Option ℕ) (q : ℕ) → inlet_queue i ≡ Some q → hand ≡ None → plain_waiting (queue_at old q) ≢ [] → queue_at mid q ≡ counted (queue_at old q) → inlet_taken mid i ++ option_to_list hand ≡ inlet_taken old i ++ next_token old i ∷ []
+local-refilled : (old mid : List PlainQueue) (i : Inlet) (hand : Option ℕ) (q : ℕ) → inlet_queue i ≡ Some q → hand ≡ None → plain_waiting (queue_at old q) ≢ [] → queue_at mid q ≡ with_take (queue_at old q) → inlet_taken mid i ++ option_to_list hand ≡ inlet_taken old i ++ next_token old i ∷ []
 local-refilled old mid i hand q is empty some now =
     ap (λ (j : Inlet). inlet_taken mid j ++ option_to_list hand) (local-is i q is)
     ∙ ap (λ (h : Option ℕ). plain_taken (queue_at mid q) ++ option_to_list h) empty
@@ -250,7 +250,7 @@ not_full None empty full = absurd (cc)
 not_full (Some token) empty full = absurd (cc)
 
 -- each hand is filled where its front counts a take
-pub each-filled : (old mid : List PlainQueue) (inputs : List Input) (fronts : List Front) → AreFronts inputs fronts → AreEmptyHanded inputs → AreAllThere old fronts → ((k : ℕ) → k < length fronts → queue_at mid (front_at fronts k).queue ≡ counted (queue_at old (front_at fronts k).queue)) → (k : ℕ) → k < length inputs → IsRefilled old mid (input_at inputs k) (input_at (filled old inputs) k)
+pub each-filled : (old mid : List PlainQueue) (inputs : List Input) (fronts : List Front) → AreFronts inputs fronts → AreEmptyHanded inputs → AreAllThere old fronts → ((k : ℕ) → k < length fronts → queue_at mid (front_at fronts k).queue ≡ with_take (queue_at old (front_at fronts k).queue)) → (k : ℕ) → k < length inputs → IsRefilled old mid (input_at inputs k) (input_at (filled old inputs) k)
 each-filled old mid inputs fronts is empty there now k low =
     let at = filled-at old inputs k low in
     let i = input_at inputs k in

@@ -16,12 +16,12 @@ use Rattle.event_graph.specs.GreatestValue.{greatest}
 use Rattle.station_step.specs.declared.ends.Inlet.TheVariants.{Local}
 use Rattle.station_step.specs.declared.input.Input.{Input}
 use Rattle.station_step.specs.Input.{input_at}
-use Rattle.station_step.specs.Kept.{saturating, asked, date_for}
+use Rattle.station_step.specs.Kept.{saturating, date_asked, date_for}
 use Rattle.station_step.specs.Noted.{extras_into, delays_from}
 use Rattle.station_step.specs.Refilled.{hand_asks}
 
 -- the feed's date, and the latest that the tokens of every other station ask for
-pub date_for-is : (g : Parts) (t job latest : ℕ) (token : ℕ → ℕ) → latest ≡ greatest (asked g t job token) (range_with_len 0 (length (ins g t))) → (if t == 0 then demand g job else latest) ≡ date_for g t job token
+pub date_for-is : (g : Parts) (t job latest : ℕ) (token : ℕ → ℕ) → latest ≡ greatest (date_asked g t job token) (range_with_len 0 (length (ins g t))) → (if t == 0 then demand g job else latest) ≡ date_for g t job token
 unfolding date_for
 date_for-is g t job latest token is = ap (λ m. if nat_eq t 0 then demand g job else m) is
 
@@ -64,7 +64,7 @@ pub date_for-agree : (g : Parts) (t job : ℕ) (one other : ℕ → ℕ) → ((k
 unfolding date_for
 date_for-agree g t job one other agree =
     ap (λ m. if nat_eq t 0 then demand g job else m)
-    (greatest-agree (asked g t job one) (asked g t job other) 0 (length (ins g t))
+    (greatest-agree (date_asked g t job one) (date_asked g t job other) 0 (length (ins g t))
     (λ j from to. ap (λ token. saturating token (work g (slice_index (ins g t) j) job)) (agree j (omega arith))))
 
 -- the greater of two numbers, as `Ord::max` has it
@@ -101,9 +101,9 @@ latest-more extras k inputs input latest asks low is asks_is =
     ∙ ap (λ m. greatest new (range_with_len 0 m)) next
 
 -- it is what the arcs of the graph ask for
-pub latest-is : (g : Parts) (t job : ℕ) (extras : List ℕ) (inputs : List Input) (count : ℕ) → count ≡ length (ins g t) → extras ≡ extras_into g t job → greatest (hand_asks extras inputs) (range_with_len 0 count) ≡ greatest (asked g t job (λ k. unwrap_or (input_at inputs k).hand 0)) (range_with_len 0 (length (ins g t)))
+pub latest-is : (g : Parts) (t job : ℕ) (extras : List ℕ) (inputs : List Input) (count : ℕ) → count ≡ length (ins g t) → extras ≡ extras_into g t job → greatest (hand_asks extras inputs) (range_with_len 0 count) ≡ greatest (date_asked g t job (λ k. unwrap_or (input_at inputs k).hand 0)) (range_with_len 0 (length (ins g t)))
 latest-is g t job extras inputs count each noted =
     let token : ℕ → ℕ = λ k. unwrap_or (input_at inputs k).hand 0 in
     ap (λ n. greatest (hand_asks extras inputs) (range_with_len 0 n)) each
-    ∙ greatest-agree (hand_asks extras inputs) (asked g t job token) 0 (length (ins g t))
+    ∙ greatest-agree (hand_asks extras inputs) (date_asked g t job token) 0 (length (ins g t))
     (λ k from to. ap (saturating (token k)) (extra-noted g t job k extras (omega (arith, to)) noted))

@@ -1,5 +1,5 @@
--- The outlets of a station while a token is put on each: those over rings are given it, one after the other, and those on
--- the shelf see it in the station's log.
+-- The outlets of a station while a token is put on each: those over rings are given it, one after the other, and those
+-- on the shelf see it in the station's log.
 use Rattle.std.proofs.Common.{◌≡◌, ◌≢◌, ℕ, ◌+◌, ◌<◌, ◌≤◌, List, [], ◌∷◌, ◌++◌, length, set, map, refl, sym, ap, ◌∙◌, subst, arith, ⊎_elim, get_or-set_other, append_assoc}
 use mathlib.Core.List.{IsPrefix}
 use Rattle.std.specs.List.{list_any}
@@ -12,7 +12,7 @@ use Rattle.card_queue.specs.Plain.{PlainQueue, plain_taken}
 use Rattle.station_step.specs.declared.ends.Outlet.{Outlet}
 use Rattle.station_step.specs.declared.ends.Outlet.TheVariants as outlet
 use Rattle.station_step.specs.declared.source.Source.{Source}
-use Rattle.station_step.specs.Shelf.{WorkShelf, source_at, later_by, queue_at, unfilled, OnlyPuts}
+use Rattle.station_step.specs.Shelf.{WorkShelf, source_at, later_by, queue_at, without_added, OnlyPuts}
 use Rattle.station_step.specs.Ends.{outlet_added, outlet_queue, bare_outlet, is_ring, HasGot, HasShelfRoom}
 use Rattle.station_step.specs.Station.{outlet_at, NonePuts, PutWithin, ComeFrom}
 use Rattle.station_step.specs.Kept.{saturating}
@@ -99,9 +99,9 @@ module _ (i date : ℕ) (sources : List Source) (old new : List PlainQueue) (is 
   only-puts = record {
     count = is.count;
     takes = λ q.
-        either {C = unfilled (queue_at new q) ≡ unfilled (queue_at old q)} q
-        (λ low e. ap unfilled (is.added q low e))
-        (λ same. ap unfilled same);
+        either {C = without_added (queue_at new q) ≡ without_added (queue_at old q)} q
+        (λ low e. ap without_added (is.added q low e))
+        (λ same. ap without_added same);
     taken = is.taken;
   }
 

@@ -15,11 +15,11 @@ use Rattle.station_step.specs.declared.ends.Outlet.{Outlet}
 use Rattle.station_step.specs.declared.ends.Inlet.TheVariants as inlet
 use Rattle.station_step.specs.declared.ends.Outlet.TheVariants as outlet
 use Rattle.station_step.specs.declared.input.Input.{Input}
-use Rattle.station_step.specs.Shelf.{queue_at, unused, OnlyTakes, OnlyPuts}
+use Rattle.station_step.specs.Shelf.{queue_at, unused_queue, OnlyTakes, OnlyPuts}
 use Rattle.station_step.specs.Ends.{inlet_taken, inlet_ahead, inlet_queue, outlet_added, outlet_room, outlet_queue, bare_inlet, unseen_inlet, bare_outlet, unseen_outlet, IsUntaken, IsUnfilled, HasRingRoom, HasShelfRoom}
 use Rattle.station_step.specs.Input.{empty_handed, input_at, IsHeld, IsRefilled, NoneTakes}
 use Rattle.station_step.specs.Station.{new_station, WorkStation, firings, outlet_at, NonePuts, AreApart, IsStation, IsSeated, MayPut, bare_input, bare_station}
-use Rattle.station_step.specs.Kept.{IsKept, IsFresh, date_for, token_for, saturating, sent}
+use Rattle.station_step.specs.Kept.{IsKept, IsFresh, date_for, token_for, saturating, dates_sent}
 use Rattle.station_step.specs.Step.{MovesItsOwn, Grows, MovesApart, IsReady, FiredOnce}
 use Rattle.station_step.proofs.OwnQueues.{input-same, outlet-same, inlet_queue-same, outlet_queue-same, bare-unseen, taken-unseen}
 use Rattle.station_step.proofs.OutletLooks.{AreAlike, bare-alike, added-alike, ring_room-alike, at-set, beside-set}
@@ -180,7 +180,7 @@ alike-set outlets k o low same = record {
 -- ---- a station that fires
 
 -- what every output got has one date more
-sent-more : (s : WorkStation) (date k : ℕ) → s.made ≤ length s.log.dates → sent (record s { log = with_date s.log date }) k ≡ sent s k ++ saturating date (delay s.graph (slice_index (outs s.graph s.number) k)) ∷ []
+sent-more : (s : WorkStation) (date k : ℕ) → s.made ≤ length s.log.dates → dates_sent (record s { log = with_date s.log date }) k ≡ dates_sent s k ++ saturating date (delay s.graph (slice_index (outs s.graph s.number) k)) ∷ []
 sent-more s date k made =
     let later : ℕ → ℕ = λ d. saturating d (delay s.graph (slice_index (outs s.graph s.number) k)) in
     ap (map later) (drop-append-le s.made s.log.dates (date ∷ []) made) ∙ map_push later (drop s.made s.log.dates) date
@@ -417,7 +417,7 @@ kept-others old new s own other sound apart kept =
     }
 
 -- at least as many tokens wait where nothing was taken
-waiting-grows : (old new : List PlainQueue) (q : ℕ) → unused (queue_at new q) ≡ unused (queue_at old q) → (queue_at new q).takes ≡ (queue_at old q).takes → Grows old new → length (plain_waiting (queue_at old q)) ≤ length (plain_waiting (queue_at new q))
+waiting-grows : (old new : List PlainQueue) (q : ℕ) → unused_queue (queue_at new q) ≡ unused_queue (queue_at old q) → (queue_at new q).takes ≡ (queue_at old q).takes → Grows old new → length (plain_waiting (queue_at old q)) ≤ length (plain_waiting (queue_at new q))
 waiting-grows old new q made takes grows =
     let was = queue_at old q in
     let is = queue_at new q in

@@ -1,4 +1,5 @@
--- What stands beside the inputs and the outlets of a station: words over the inputs or the outlets alone see nothing of it.
+-- What stands beside the inputs and the outlets of a station: words over the inputs or the outlets alone see nothing of
+-- it.
 use Rattle.std.proofs.Common.{◌≡◌, ℕ, suc, ◌+◌, ◌<◌, List, [], ◌∷◌, ◌++◌, length, set, map, take, get_or, refl, sym, ap, ◌∙◌, arith}
 use Rattle.std.specs.Prelude.{Bool, None, All, false, if◌then◌else◌, slice_index}
 use Rattle.std.proofs.Math.Seq.{map-set, map-set_same}
@@ -16,7 +17,7 @@ use Rattle.station_step.specs.declared.noted.NotedInput.{NotedInput}
 use Rattle.station_step.specs.declared.noted.NotedOutlet.{NotedOutlet}
 use Rattle.station_step.specs.Input.{input_at, empty_handed}
 use Rattle.station_step.specs.Station.{outlet_at}
-use Rattle.station_step.specs.Noted.{inputs_of, extras_of, unnoted, outlets_of, delays_of, worked_into, extras_for, extras_into, delays_from}
+use Rattle.station_step.specs.Noted.{inputs_of, extras_of, unnoted_input, outlets_of, delays_of, worked_into, extras_for, extras_into, delays_from}
 
 abbrev pub no_input : NotedInput
 no_input = record { input = record { inlet = Local 0; hand = None }; extra = 0 }
@@ -52,7 +53,7 @@ pub outlet-lent : (outlets : List NotedOutlet) (k : ℕ) (lent : NotedOutlet) �
 outlet-lent outlets k lent low is = is ∙ get_or_default outlets k _ _ low
 
 -- the inputs of which nothing is noted yet
-pub inputs-unnoted : (inlets : List Inlet) → inputs_of (map unnoted inlets) ≡ map empty_handed inlets
+pub inputs-unnoted : (inlets : List Inlet) → inputs_of (map unnoted_input inlets) ≡ map empty_handed inlets
 inputs-unnoted [] = refl
 inputs-unnoted (inlet ∷ inlets) = ap (λ l. empty_handed inlet ∷ l) (inputs-unnoted inlets)
 

@@ -8,7 +8,7 @@ use Rattle.std.proofs.lemmas.Bool.{cases_lt, cases_eq}
 use Rattle.line_base.specs.Roomy.{RoomyLog, with_date}
 use Rattle.card_queue.specs.Plain.{PlainQueue, plain_tokens, plain_taken, plain_waiting}
 use Rattle.station_step.specs.declared.tally.Tally.{Tally}
-use Rattle.station_step.specs.Shelf.{log_on, source_at, later_by, queue_at, untaken, counted}
+use Rattle.station_step.specs.Shelf.{log_on, source_at, later_by, queue_at, without_takes, with_take}
 use Rattle.station_step.specs.Counts.{no_tally, tally_at, dates_for, firsts_of, seen_queue, IsTally, AreTallies, one_taken}
 
 abbrev no_queue : PlainQueue
@@ -103,7 +103,7 @@ pub record TakenFrom (old new : List PlainQueue) (k : ℕ) (token : Option ℕ) 
   pub only : new ≡ set old k (queue_at new k)
   pub taken : plain_taken (queue_at new k) ≡ plain_taken (queue_at old k) ++ option_to_list token
   pub none : IsNone token ↔ (plain_waiting (queue_at old k) ≡ [])
-  pub puts : untaken (queue_at new k) ≡ untaken (queue_at old k)
+  pub puts : without_takes (queue_at new k) ≡ without_takes (queue_at old k)
 
 -- the tally is sound after it
 tally-one_taken : (firsts : List ℕ) (room : ℕ) (logs : List RoomyLog) (tally : Tally) → IsTally firsts room logs tally → tally.taken < tally.initial + (length (dates_for logs tally) - tally.made) → IsTally firsts room logs (one_taken tally)
@@ -157,15 +157,15 @@ take-none shelf k low front = record {
 }
 
 -- and where one is there, it is counted
-pub take-some : (shelf : List PlainQueue) (k token : ℕ) → k < length shelf → token ∷ [] ≡ take 1 (plain_waiting (queue_at shelf k)) → TakenFrom shelf (set shelf k (counted (queue_at shelf k))) k (Some token)
+pub take-some : (shelf : List PlainQueue) (k token : ℕ) → k < length shelf → token ∷ [] ≡ take 1 (plain_waiting (queue_at shelf k)) → TakenFrom shelf (set shelf k (with_take (queue_at shelf k))) k (Some token)
 take-some shelf k token low front =
     let was = queue_at shelf k in
-    let now : queue_at (set shelf k (counted was)) k ≡ counted was = get_or-set_same shelf k (counted was) no_queue low in
+    let now : queue_at (set shelf k (with_take was)) k ≡ with_take was = get_or-set_same shelf k (with_take was) no_queue low in
     record {
       only = ap (set shelf k) (sym now);
       taken = ap plain_taken now ∙ front-more (plain_tokens was) was.takes token front;
       none = (λ none. absurd (cc), λ empty. absurd (omega (arith, ap length (front ∙ ap (take 1) empty))));
-      puts = ap untaken now;
+      puts = ap without_takes now;
     }
 
 module _ (firsts : List ℕ) (room : ℕ) (logs : List RoomyLog) (tallies : List Tally) (k token : ℕ) (is : AreTallies firsts room logs tallies) (low : k < length tallies) (front : token ∷ [] ≡ take 1 (plain_waiting (seen_queue firsts room logs (tally_at tallies k)))) where
@@ -179,10 +179,10 @@ module _ (firsts : List ℕ) (room : ℕ) (logs : List RoomyLog) (tallies : List
   new = seen_queues firsts room logs (set tallies k (one_taken taken_from))
 
   -- what is seen of all queues after it
-  pub take-counted : new ≡ set old k (counted (queue_at old k))
+  pub take-counted : new ≡ set old k (with_take (queue_at old k))
   take-counted =
       map-set (seen_queue firsts room logs) tallies k (one_taken taken_from)
-      ∙ ap (λ (queue : PlainQueue). set old k (counted queue)) (sym (queue-seen firsts room logs tallies k low))
+      ∙ ap (λ (queue : PlainQueue). set old k (with_take queue)) (sym (queue-seen firsts room logs tallies k low))
 
   pub take-sound : AreTallies firsts room logs (set tallies k (one_taken taken_from))
   take-sound q there =

@@ -9,7 +9,7 @@ use Rattle.station_step.specs.declared.ends.Inlet.{Inlet}
 use Rattle.station_step.specs.declared.ends.Inlet.TheVariants.{Local}
 use Rattle.station_step.specs.declared.input.Input.{Input}
 use Rattle.station_step.specs.declared.refilled.Refilled.{Refilled}
-use Rattle.station_step.specs.Refilled.{refilled, IfFull, IfEmpty}
+use Rattle.station_step.specs.Refilled.{refill_result, IfFull, IfEmpty}
 use Rattle.station_step.specs.Shelf.{queue_at, OnlyTakes}
 use Rattle.station_step.specs.Ends.{inlet_queue}
 use Rattle.station_step.specs.Input.{input_at, IsRefilled, TakeApart}
@@ -139,10 +139,10 @@ first-full k None inputs input low full is = record {
 
 -- ---- what came of it, by the first hand that is empty
 
-pub full-where_none : (r : Refilled) (found : Option ℕ) (latest : ℕ) (holds : ℕ → Type 0) → r ≡ refilled found latest → (found ≡ None → holds latest) → IfFull r holds
+pub full-where_none : (r : Refilled) (found : Option ℕ) (latest : ℕ) (holds : ℕ → Type 0) → r ≡ refill_result found latest → (found ≡ None → holds latest) → IfFull r holds
 full-where_none r None latest holds is full = subst (λ (a : Refilled). IfFull a holds) (sym is) (full refl)
 full-where_none r (Some k) latest holds is full = subst (λ (a : Refilled). IfFull a holds) (sym is) tt
 
-pub empty-where_some : (r : Refilled) (found : Option ℕ) (latest : ℕ) (holds : ℕ → Type 0) → r ≡ refilled found latest → ((k : ℕ) → found ≡ Some k → holds k) → IfEmpty r holds
+pub empty-where_some : (r : Refilled) (found : Option ℕ) (latest : ℕ) (holds : ℕ → Type 0) → r ≡ refill_result found latest → ((k : ℕ) → found ≡ Some k → holds k) → IfEmpty r holds
 empty-where_some r None latest holds is empty = subst (λ (a : Refilled). IfEmpty a holds) (sym is) tt
 empty-where_some r (Some k) latest holds is empty = subst (λ (a : Refilled). IfEmpty a holds) (sym is) (empty k refl)

@@ -1,6 +1,6 @@
--- How a shelf keeps its queues: the tokens that they began with stand queue after queue in one list. Those that were put
--- since stand nowhere: they are the dates of their source's log, later by a delay. Of each queue it is counted how many
--- tokens were taken. Only the shelf itself reads these words.
+-- How a shelf keeps its queues: the tokens that they began with stand queue after queue in one list. Those that were
+-- put since stand nowhere: they are the dates of their source's log, later by a delay. Of each queue it is counted how
+-- many tokens were taken. Only the shelf itself reads these words.
 use Rattle.std.specs.Prelude.{ℕ, ◌+◌, ◌-◌, ◌^◌, ◌≤◌, ◌<◌, List, map, take, drop, length, slice_index_or}
 use Rattle.card_queue.specs.Plain.{PlainQueue}
 use Rattle.line_base.specs.Roomy.{RoomyLog}
@@ -8,8 +8,8 @@ use Rattle.station_step.specs.declared.source.Source.{Source}
 use Rattle.station_step.specs.declared.tally.Tally.{Tally}
 use Rattle.station_step.specs.Shelf.{WorkShelf, log_on, later_by}
 
--- the tally of a queue whose first tokens, this many, stand from this place on, where the log of its source has this many
--- dates
+-- the tally of a queue whose first tokens, this many, stand from this place on, where the log of its source has this
+-- many dates
 abbrev pub new_tally : ℕ → ℕ → Source → ℕ → Tally
 new_tally start initial source made = record {
   taken = 0;
@@ -52,8 +52,8 @@ seen_shelf firsts room logs tallies = record {
   queues = map (seen_queue firsts room logs) tallies;
 }
 
--- the first tokens of a queue stand in the list, and its source's log is there. No more was taken than is there; as many
--- were put as there is room for
+-- the first tokens of a queue stand in the list, and its source's log is there. No more was taken than is there,
+-- and no more were put than there is room for
 pub record IsTally (firsts : List ℕ) (room : ℕ) (logs : List RoomyLog) (tally : Tally) : Type 0 where
   pub began : tally.start + tally.initial ≤ length firsts
   pub counted : tally.initial + room < 2 ^ 32

@@ -17,22 +17,22 @@ abbrev pub saturating : ℕ → ℕ → ℕ
 saturating a b = min (a + b) (2 ^ 64 - 1)
 
 -- what the token on input k of station t asks of the date of a job: its date, with the time where the arc is worked
-abbrev pub asked : Parts → ℕ → ℕ → (ℕ → ℕ) → ℕ → ℕ
-asked g t job token k = saturating (token k) (work g (slice_index (ins g t) k) job)
+abbrev pub date_asked : Parts → ℕ → ℕ → (ℕ → ℕ) → ℕ → ℕ
+date_asked g t job token k = saturating (token k) (work g (slice_index (ins g t) k) job)
 
 -- the date of a job at station t for which these tokens were taken, one on each input: the greatest that
 -- they ask for, and for the feed the demand date
 unfoldable pub date_for : Parts → ℕ → ℕ → (ℕ → ℕ) → ℕ
 date_for g t job token =
-    if t == 0 then demand g job else greatest (asked g t job token) (range_with_len 0 (length (ins g t)))
+    if t == 0 then demand g job else greatest (date_asked g t job token) (range_with_len 0 (length (ins g t)))
 
 -- the token that was taken on input k for firing n, where firings are counted from 0
 abbrev pub token_for : List PlainQueue → WorkStation → ℕ → ℕ → ℕ
 token_for shelf s n k = slice_index (inlet_taken shelf (input_at s.inputs k).inlet) n
 
 -- what output k got: the date of each firing, with the delay of its arc
-abbrev pub sent : WorkStation → ℕ → List ℕ
-sent s k =
+abbrev pub dates_sent : WorkStation → ℕ → List ℕ
+dates_sent s k =
     map (λ date. saturating date (delay s.graph (slice_index (outs s.graph s.number) k))) (drop s.made s.log.dates)
 
 -- the log is the one that the station was made with, followed by a date for each firing, which follows from the
@@ -41,7 +41,7 @@ pub record IsKept (shelf : List PlainQueue) (s : WorkStation) : Type 0 where
   pub held : (k : ℕ) → k < length s.inputs → IsHeld shelf (firings s) (input_at s.inputs k)
   pub dates : (n : ℕ) → n < firings s →
       slice_index s.log.dates (s.made + n) ≡ date_for s.graph s.number (s.made + n + 1) (token_for shelf s n)
-  pub added : (k : ℕ) → k < length s.outlets → outlet_added shelf (outlet_at s.outlets k) ≡ sent s k
+  pub added : (k : ℕ) → k < length s.outlets → outlet_added shelf (outlet_at s.outlets k) ≡ dates_sent s k
   pub room : (k : ℕ) → k < length s.outlets → jobs s.graph ≤ s.made + outlet_room shelf (outlet_at s.outlets k)
 
 -- since they were made, nothing was taken from the station's queues on the shelf and nothing put on them, and they have

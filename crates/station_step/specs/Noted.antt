@@ -23,8 +23,8 @@ abbrev pub extras_of : List NotedInput → List ℕ
 extras_of inputs = map (λ (n : NotedInput). n.extra) inputs
 
 -- an input with an empty hand, beside which nothing is noted yet
-abbrev pub unnoted : Inlet → NotedInput
-unnoted inlet = record { input = empty_handed inlet; extra = 0 }
+abbrev pub unnoted_input : Inlet → NotedInput
+unnoted_input inlet = record { input = empty_handed inlet; extra = 0 }
 
 -- the outlets, and what stands beside each: the delay of its arc
 abbrev pub outlets_of : List NotedOutlet → List Outlet
@@ -50,8 +50,8 @@ abbrev pub delays_from : Parts → ℕ → List ℕ
 delays_from g t = map (delay g) (outs g t)
 
 -- what the station with this number notes: beside its inputs, where it takes one time for every job, what that adds;
--- beside its outlets their delays; which arcs into it are worked, whether one of its outlets can lack space, and whether
--- one is over a ring
+-- beside its outlets their delays; which arcs into it are worked, whether one of its outlets can lack space, and
+-- whether one is over a ring
 pub record IsNoted (g : Parts) (t : ℕ) (inputs : List NotedInput) (outlets : List NotedOutlet)
     (fixed : Bool) (worked : List Bool) (bounded rings : Bool) : Type 0 where
   pub extras_are : IsTrue fixed → (job : ℕ) → extras_of inputs ≡ extras_into g t job

@@ -7,9 +7,9 @@ use Rattle.station_step.specs.Input.{input_at}
 use Rattle.station_step.specs.Kept.{saturating}
 
 -- what came of it, by the first hand that is empty, if one is, and the date that the tokens in the hands ask for
-abbrev pub refilled : Option ℕ → ℕ → Refilled
-refilled None latest = Full latest
-refilled (Some k) latest = Empty k
+abbrev pub refill_result : Option ℕ → ℕ → Refilled
+refill_result None latest = Full latest
+refill_result (Some k) latest = Empty k
 
 -- where all hands are full, this holds of the date that their tokens ask for
 abbrev pub IfFull : Refilled → (ℕ → Type 0) → Type 0

@@ -32,28 +32,28 @@ abbrev pub new_queue : ℕ → List ℕ → PlainQueue
 new_queue room tokens = record { initial = tokens; added = []; room = room; takes = 0 }
 
 -- a queue without the number of its takes: what was put into it, and its room
-abbrev pub untaken : PlainQueue → PlainQueue
-untaken queue = record queue { takes = 0 }
+abbrev pub without_takes : PlainQueue → PlainQueue
+without_takes queue = record queue { takes = 0 }
 
 -- a queue of which one token more was taken
-abbrev pub counted : PlainQueue → PlainQueue
-counted queue = record queue { takes = queue.takes + 1 }
+abbrev pub with_take : PlainQueue → PlainQueue
+with_take queue = record queue { takes = queue.takes + 1 }
 
 -- a queue without the tokens that were put since it was made
-abbrev pub unfilled : PlainQueue → PlainQueue
-unfilled queue = record queue { added = [] }
+abbrev pub without_added : PlainQueue → PlainQueue
+without_added queue = record queue { added = [] }
 
 -- a queue as it was made
-abbrev pub unused : PlainQueue → PlainQueue
-unused queue = record queue { added = []; takes = 0 }
+abbrev pub unused_queue : PlainQueue → PlainQueue
+unused_queue queue = record queue { added = []; takes = 0 }
 
 -- nothing was put on any queue
 pub record OnlyTakes (old new : List PlainQueue) : Type 0 where
   pub count : length new ≡ length old
-  pub puts : (q : ℕ) → untaken (queue_at new q) ≡ untaken (queue_at old q)
+  pub puts : (q : ℕ) → without_takes (queue_at new q) ≡ without_takes (queue_at old q)
 
 -- nothing was taken from any queue
 pub record OnlyPuts (old new : List PlainQueue) : Type 0 where
   pub count : length new ≡ length old
-  pub takes : (q : ℕ) → unfilled (queue_at new q) ≡ unfilled (queue_at old q)
+  pub takes : (q : ℕ) → without_added (queue_at new q) ≡ without_added (queue_at old q)
   pub taken : (q : ℕ) → plain_taken (queue_at new q) ≡ plain_taken (queue_at old q)

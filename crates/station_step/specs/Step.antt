@@ -6,7 +6,7 @@ use Rattle.card_queue.specs.Plain.{PlainQueue, plain_taken}
 use Rattle.event_graph.specs.Network.{jobs, ins, outs}
 use Rattle.station_step.specs.declared.stepped.Stepped.{Stepped}
 use Rattle.station_step.specs.declared.stepped.Stepped.TheVariants.{Fired, Blocked, Full, Done}
-use Rattle.station_step.specs.Shelf.{queue_at, unused, OnlyTakes}
+use Rattle.station_step.specs.Shelf.{queue_at, unused_queue, OnlyTakes}
 use Rattle.station_step.specs.Ends.{outlet_looks, HasSpace, HasNoSpace, HasLooked}
 use Rattle.station_step.specs.Input.{input_at, tokens_ahead, IsRefilled, NoneTakes}
 use Rattle.station_step.specs.Station.{WorkStation, IsStation, AreApart, outlet_at, NonePuts}
@@ -103,7 +103,7 @@ Did Done old new before after = OnlyTurned old new before after
 -- tokens were taken from the queues of the station's own inlets alone, and put on those of its own outlets alone
 pub record MovesItsOwn (s : WorkStation) (old new : List PlainQueue) : Type 0 where
   pub count : length new ≡ length old
-  pub made : (q : ℕ) → unused (queue_at new q) ≡ unused (queue_at old q)
+  pub made : (q : ℕ) → unused_queue (queue_at new q) ≡ unused_queue (queue_at old q)
   pub takes : (q : ℕ) → NoneTakes q s.inputs → (queue_at new q).takes ≡ (queue_at old q).takes
   pub taken : (q : ℕ) → NoneTakes q s.inputs → plain_taken (queue_at new q) ≡ plain_taken (queue_at old q)
   pub puts : (q : ℕ) → NonePuts q s.outlets → (queue_at new q).added ≡ (queue_at old q).added
@@ -112,8 +112,8 @@ pub record MovesItsOwn (s : WorkStation) (old new : List PlainQueue) : Type 0 wh
 abbrev pub Grows : List PlainQueue → List PlainQueue → Type 0
 Grows old new = (q : ℕ) → IsPrefix (queue_at old q).added (queue_at new q).added
 
--- a step of a station moves tokens of its own queues alone and takes no put back, so that every other station of the shelf,
--- where no queue is an input of both or an output of both, keeps what it kept, and can still fire if it could
+-- a step of a station moves tokens of its own queues alone and takes no put back, so that every other station of the
+-- shelf, where no queue is an input of both or an output of both, keeps what it kept, and can still fire if it could
 pub record MovesApart (s : WorkStation) (old new : List PlainQueue) : Type 0 where
   pub grows : Grows old new
   pub own : MovesItsOwn s old new

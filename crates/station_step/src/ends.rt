@@ -87,8 +87,8 @@ impl Outlet {
         }
     }
 
-    /// Puts a token at the end of a ring, behind all others. It takes no memory. At a queue on the shelf there is nothing
-    /// to do.
+    /// Puts a token at the end of a ring, behind all others. It takes no memory. At a queue on the shelf there is
+    /// nothing to do.
     #[inline]
     pub(crate) fn put(&mut self, date: Date)
         requires ring_room { HasRingRoom 1 self.old }

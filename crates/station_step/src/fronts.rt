@@ -3,7 +3,7 @@ ghost use Rattle.std.specs.Prelude.{◌≡◌, ◌≢◌, ℕ, ◌<◌, false, l
 ghost use Rattle.event_graph.specs.GreatestValue.{greatest};
 ghost use Rattle.station_step.specs.Fronts.{front_at, front_extras, front_asks, FrontsWithin, FrontsApart, NoneAt, AreAllThere, AreFronts};
 ghost use Rattle.station_step.specs.Noted.{inputs_of, extras_of};
-ghost use Rattle.station_step.specs.Shelf.{queue_at, counted, OnlyTakes};
+ghost use Rattle.station_step.specs.Shelf.{queue_at, with_take, OnlyTakes};
 
 use crate::noted::NotedInput;
 use crate::shelf::Shelf;
@@ -88,7 +88,7 @@ pub(crate) fn count_takes(fronts: &[Front], shelf: &mut Shelf)
     requires there { AreAllThere shelf.old.queues fronts.now }
     ensures each { (k : ℕ) → k < length fronts.now →
         queue_at shelf.new.queues (front_at fronts.now k).queue ≡
-        counted (queue_at shelf.old.queues (front_at fronts.now k).queue) }
+        with_take (queue_at shelf.old.queues (front_at fronts.now k).queue) }
     ensures only_takes { OnlyTakes shelf.old.queues shelf.new.queues }
     ensures others { (q : ℕ) → NoneAt q fronts.now →
         queue_at shelf.new.queues q ≡ queue_at shelf.old.queues q }

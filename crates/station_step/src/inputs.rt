@@ -3,7 +3,7 @@ ghost use Rattle.std.specs.Prelude.{◌≡◌, ◌≢◌, ℕ, ◌<◌, ◌≤�
 ghost use Rattle.event_graph.specs.GreatestValue.{greatest};
 ghost use Rattle.event_graph.specs.Network.{jobs, demand};
 ghost use Rattle.station_step.specs.Input.{input_at, IsRefilled, TakeWithin, TakeApart, NoneTakes};
-ghost use Rattle.station_step.specs.Noted.{inputs_of, extras_of, unnoted};
+ghost use Rattle.station_step.specs.Noted.{inputs_of, extras_of, unnoted_input};
 ghost use Rattle.station_step.specs.Refilled.{IfFull, IfEmpty, hand_asks};
 ghost use Rattle.station_step.specs.Shelf.{queue_at, OnlyTakes};
 ghost use Rattle.station_step.specs.Station.{bare_input};
@@ -22,7 +22,7 @@ pub(crate) fn with_empty_hands(
     alloc: Global,
     inlets: Vec<Inlet>,
 ) -> Result<Vec<NotedInput>, AllocError>
-    ensures { IfOk result (λ inputs. inputs.items ≡ map unnoted inlets.items) }
+    ensures { IfOk result (λ inputs. inputs.items ≡ map unnoted_input inlets.items) }
 {
     inlets
         .into_iter()

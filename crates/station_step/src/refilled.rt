@@ -1,5 +1,5 @@
 ghost use Rattle.std.specs.Prelude.{◌≡◌};
-ghost use Rattle.station_step.specs.Refilled.{refilled};
+ghost use Rattle.station_step.specs.Refilled.{refill_result};
 
 use line_base::Date;
 
@@ -15,7 +15,7 @@ impl Refilled {
     /// What came of it, by the first hand that is empty, if one is, and the date that the tokens in the hands ask for.
     #[inline(always)]
     pub(crate) fn of(first: Option<usize>, latest: Date) -> Refilled
-        ensures { result ≡ refilled first latest }
+        ensures { result ≡ refill_result first latest }
     {
         match first {
             None => Refilled::Full(latest),

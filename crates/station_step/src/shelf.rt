@@ -1,7 +1,7 @@
 ghost use Rattle.std.specs.Prelude.{◌≡◌, ◌≢◌, ℕ, ◌<◌, ◌≤◌, ◌+◌, ◌^◌, ◌++◌, ◌∷◌, [], ◌↔◌, All, map, take, length, slice_set, IfOk, IsNone, option_to_list};
 ghost use Rattle.card_queue.specs.Plain.{plain_taken, plain_waiting};
 ghost use Rattle.line_base.specs.Roomy.{with_date};
-ghost use Rattle.station_step.specs.Shelf.{log_on, source_at, later_by, queue_at, new_queue, untaken, counted};
+ghost use Rattle.station_step.specs.Shelf.{log_on, source_at, later_by, queue_at, new_queue, without_takes, with_take};
 
 use crate::source::Source;
 use crate::tally::Tally;
@@ -10,8 +10,8 @@ use std::alloc::{AllocError, Global};
 use std::marker::Model;
 use std::snapshot::Snapshot;
 
-/// The logs of one worker's stations, and the queues between these stations, numbered from 0. Contracts see the lists of
-/// both.
+/// The logs of one worker's stations, and the queues between these stations, numbered from 0. Contracts see the lists
+/// of both.
 ///
 /// A token that is put on a queue is a date of the station from which it comes, with a delay. So a queue keeps none of
 /// them: it counts what was taken, and looks into that station's log.
@@ -37,8 +37,9 @@ impl Model for Shelf {
 }
 
 impl Shelf {
-    /// The shelf with these logs, and with a queue for each of these lists of tokens, which it begins with, and for each
-    /// of these sources, from which its further tokens come. `room` may come on each. Fails only where memory runs out.
+    /// The shelf with these logs, and with a queue for each of these lists of tokens, which it begins with, and for
+    /// each of these sources, from which its further tokens come. `room` may come on each. Fails only where memory runs
+    /// out.
     pub fn new(
         alloc: Global,
         logs: Vec<Log>,
@@ -120,7 +121,7 @@ impl Shelf {
         requires there { k < length self.old.queues }
         requires some { plain_waiting (queue_at self.old.queues k) ≢ [] }
         ensures counted { self.new.queues ≡
-            slice_set self.old.queues k (counted (queue_at self.old.queues k)) }
+            slice_set self.old.queues k (with_take (queue_at self.old.queues k)) }
         ensures logs { self.new.logs ≡ self.old.logs }
         ensures sources { self.new.sources ≡ self.old.sources }
     {
@@ -136,7 +137,7 @@ impl Shelf {
         ensures taken { plain_taken (queue_at self.new.queues k) ≡ plain_taken (queue_at self.old.queues k) ++
             option_to_list result }
         ensures none { IsNone result ↔ (plain_waiting (queue_at self.old.queues k) ≡ []) }
-        ensures puts { untaken (queue_at self.new.queues k) ≡ untaken (queue_at self.old.queues k) }
+        ensures puts { without_takes (queue_at self.new.queues k) ≡ without_takes (queue_at self.old.queues k) }
         ensures logs { self.new.logs ≡ self.old.logs }
         ensures sources { self.new.sources ≡ self.old.sources }
     {

@@ -1,5 +1,6 @@
-mod got;
-mod kept;
+mod assert_same;
+mod expect_ok;
+mod leak;
 mod mem_files;
 mod of_card_queue;
 mod of_file_disk;
@@ -9,6 +10,5 @@ mod of_line_io;
 mod of_room_ring;
 mod of_slot_store;
 mod parts;
-mod same;
 mod short_file;
 mod texts;

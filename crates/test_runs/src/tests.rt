@@ -1,7 +1,8 @@
+mod assert_same;
 mod counting_gate;
-mod got;
-mod held_gate;
-mod kept;
+mod expect_ok;
+mod holding_gate;
+mod leak;
 mod noting_gate;
 mod of_cycle_time;
 mod of_event_graph;
@@ -12,5 +13,4 @@ mod of_plant_model;
 mod of_pull_cli;
 mod of_what_if;
 mod pair_gate;
-mod same;
 mod samples;

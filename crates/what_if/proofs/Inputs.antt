@@ -19,7 +19,7 @@ use Rattle.event_graph.specs.GreatestValue.{greatest}
 use Rattle.event_graph.proofs.ArcNumbers.{All-ins}
 use Rattle.event_graph.proofs.Greatest.{greatest-same}
 use Rattle.line_core.specs.Consistent.{due_date}
-use Rattle.what_if.specs.Edited.{Inputs, edited, with_number, FitsBetween}
+use Rattle.what_if.specs.Edited.{Inputs, edited_graph, with_number, FitsBetween}
 use Rattle.what_if.specs.Page.{IsDate}
 use Rattle.what_if.specs.Sheet.{HasRows}
 use Rattle.what_if.proofs.Rows.{date_in-at}
@@ -33,18 +33,18 @@ times-at : (rows : List (List ℕ)) (t : ℕ) (d : Times) → t < length rows �
 times-at rows t d low = get_or-map Each rows t [] d low
 
 -- the time of a job in the edited graph
-pub time-edited : (g : Parts) (i : Inputs) (t n : ℕ) → t < length i.times → 1 ≤ n → time (edited g i) t n ≡ date_in i.times t n
+pub time-edited : (g : Parts) (i : Inputs) (t n : ℕ) → t < length i.times → 1 ≤ n → time (edited_graph g i) t n ≡ date_in i.times t n
 unfolding time
 time-edited g i t n there one =
     ap (λ times. time_at times n) (times-at i.times t (Fixed 0) there) ∙ sym (date_in-at i.times t n one)
 
 -- the demand date of a job in it
-pub demand-edited : (g : Parts) (i : Inputs) (n : ℕ) → demand (edited g i) n ≡ get_or i.demands (n - 1) 0
+pub demand-edited : (g : Parts) (i : Inputs) (n : ℕ) → demand (edited_graph g i) n ≡ get_or i.demands (n - 1) 0
 unfolding demand
 demand-edited g i n = refl
 
 -- the edited graph is within the limits where its times and demand dates are
-pub edited-limits : (g : Parts) (i : Inputs) → IsWithinLimits g → HasRows g i.times → AreShort g i.times → length i.demands ≡ jobs g → IsNonDecreasing i.demands → All (λ date. date ≤ last_demand) i.demands → IsWithinLimits (edited g i)
+pub edited-limits : (g : Parts) (i : Inputs) → IsWithinLimits g → HasRows g i.times → AreShort g i.times → length i.demands ≡ jobs g → IsNonDecreasing i.demands → All (λ date. date ≤ last_demand) i.demands → IsWithinLimits (edited_graph g i)
 edited-limits g i limits has short many in_order small = record {
   some_station = limits.some_station;
   few_stations = limits.few_stations;
@@ -65,7 +65,7 @@ edited-limits g i limits has short many in_order small = record {
 }
 
 -- and then they are
-pub edited-short : (g : Parts) (i : Inputs) → HasRows g i.times → IsWithinLimits (edited g i) → AreShort g i.times
+pub edited-short : (g : Parts) (i : Inputs) → HasRows g i.times → IsWithinLimits (edited_graph g i) → AreShort g i.times
 edited-short g i has limits = record {
   each = λ t there.
       let low : t < length i.times = omega (arith, there, has.row_for_each) in
@@ -158,15 +158,15 @@ module _ (g : Parts) (ts us : List Times) (ds es : List ℕ) where
       ]
 
 -- over other inputs
-pub due-inputs : (g : Parts) (i j : Inputs) (rows : List (List ℕ)) (t n : ℕ) → (t ≡ 0 → demand (edited g i) n ≡ demand (edited g j) n) → (t ≢ 0 → time (edited g i) t n ≡ time (edited g j) t n) → due_date (edited g i) rows t n ≡ due_date (edited g j) rows t n
+pub due-inputs : (g : Parts) (i j : Inputs) (rows : List (List ℕ)) (t n : ℕ) → (t ≡ 0 → demand (edited_graph g i) n ≡ demand (edited_graph g j) n) → (t ≢ 0 → time (edited_graph g i) t n ≡ time (edited_graph g j) t n) → due_date (edited_graph g i) rows t n ≡ due_date (edited_graph g j) rows t n
 due-inputs g i j = due-re g (map Each i.times) (map Each j.times) i.demands j.demands
 
 -- and over those of the graph itself
-pub due-own : (g : Parts) (i : Inputs) (rows : List (List ℕ)) (t n : ℕ) → (t ≡ 0 → demand (edited g i) n ≡ demand g n) → (t ≢ 0 → time (edited g i) t n ≡ time g t n) → due_date (edited g i) rows t n ≡ due_date g rows t n
+pub due-own : (g : Parts) (i : Inputs) (rows : List (List ℕ)) (t n : ℕ) → (t ≡ 0 → demand (edited_graph g i) n ≡ demand g n) → (t ≢ 0 → time (edited_graph g i) t n ≡ time g t n) → due_date (edited_graph g i) rows t n ≡ due_date g rows t n
 due-own g i = due-re g (map Each i.times) g.times i.demands g.dates
 
-pub ins-edited : (g : Parts) (i : Inputs) (t : ℕ) → ins (edited g i) t ≡ ins g t
+pub ins-edited : (g : Parts) (i : Inputs) (t : ℕ) → ins (edited_graph g i) t ≡ ins g t
 ins-edited g i t = ins-re g (map Each i.times) g.times i.demands g.dates t
 
-pub delay-edited : (g : Parts) (i : Inputs) (a : ℕ) → delay (edited g i) a ≡ delay g a
+pub delay-edited : (g : Parts) (i : Inputs) (a : ℕ) → delay (edited_graph g i) a ≡ delay g a
 delay-edited g i a = delay-re g (map Each i.times) g.times i.demands g.dates a

@@ -10,9 +10,9 @@ use Rattle.event_graph.specs.Table.{date_in}
 use Rattle.live_check.specs.Order.{LiveGraph, IsUpward}
 use Rattle.line_core.specs.Consistent.{due_date, LATEST_DATE}
 use Rattle.what_if.specs.Marks.{is_at}
-use Rattle.what_if.specs.Edited.{Inputs, edited, with_number, with_time, with_demand, FitsBetween}
+use Rattle.what_if.specs.Edited.{Inputs, edited_graph, with_number, with_time, with_demand, FitsBetween}
 use Rattle.what_if.specs.Page.{Page, graph_of, IsDate, slot, is_marked, date_at, greatest_term}
-use Rattle.what_if.specs.Evaluation.{unmarked, marked, with_readers, marks_after, evaluated, retimed, redemanded}
+use Rattle.what_if.specs.Evaluation.{without_mark, with_mark, with_readers, marks_after, after_evaluation, with_new_time, with_new_demand}
 use Rattle.what_if.specs.Sheet.{date_count, latest_at, IsSheet}
 use Rattle.what_if.proofs.SlotOrder.{slot-below, slot-station, slot-rank}
 use Rattle.what_if.proofs.Rows.{date_in-same, date_in-other, HasRows-with_number}
@@ -52,8 +52,8 @@ marks_after-code p t n live date greatest same_live same_date_ same_greatest =
     ∙ ap (λ d. renewed p.live (eqb d greatest)) same_date_
     ∙ ap (λ d. renewed p.live (eqb (date_at p t n) d)) same_greatest
 
-pub evaluated-code : (p : Page) (t n : ℕ) (dates : List (List ℕ)) (marks : List Bool) → dates ≡ with_number p.dates t n (greatest_term p t n) → marks ≡ marks_after p t n → record p { dates = dates; marks = marks; evaluations = p.evaluations + 1 } ≡ evaluated p t n
-unfolding evaluated
+pub evaluated-code : (p : Page) (t n : ℕ) (dates : List (List ℕ)) (marks : List Bool) → dates ≡ with_number p.dates t n (greatest_term p t n) → marks ≡ marks_after p t n → record p { dates = dates; marks = marks; evaluations = p.evaluations + 1 } ≡ after_evaluation p t n
+unfolding after_evaluation
 evaluated-code p t n dates marks dates_are marks_are =
     ap (λ d. record p { dates = d; marks = marks; evaluations = p.evaluations + 1 }) dates_are
     ∙ ap (λ m. record p { dates = with_number p.dates t n (greatest_term p t n); marks = m; evaluations = p.evaluations + 1 }) marks_are
@@ -114,11 +114,11 @@ module _ (p : Page) (s : IsSheet p) where
           | inr other ↦ other
         ])
 
-    pub marks_after-same : date_at p t n ≡ greatest_term p t n → marks_after p t n ≡ unmarked p t n
+    pub marks_after-same : date_at p t n ≡ greatest_term p t n → marks_after p t n ≡ without_mark p t n
     unfolding marks_after
     marks_after-same same = cond-true (eqb (date_at p t n) (greatest_term p t n)) _ _ (eq-eqb _ _ same)
 
-    pub marks_after-changed : date_at p t n ≢ greatest_term p t n → marks_after p t n ≡ with_readers p.live t n (unmarked p t n)
+    pub marks_after-changed : date_at p t n ≢ greatest_term p t n → marks_after p t n ≡ with_readers p.live t n (without_mark p t n)
     unfolding marks_after
     marks_after-changed changed = cond-false (eqb (date_at p t n) (greatest_term p t n)) _ _ (ne_eqb _ _ changed)
 
@@ -126,7 +126,7 @@ module _ (p : Page) (s : IsSheet p) where
     length-marks_after =
         elim (cases_eq (date_at p t n) (greatest_term p t n)) [
           | inl same ↦ ap length (marks_after-same same) ∙ length-set p.marks (slot p.live t n) false
-          | inr changed ↦ ap length (marks_after-changed changed) ∙ length-with_readers p.live t n (unmarked p t n) ∙ length-set p.marks (slot p.live t n) false
+          | inr changed ↦ ap length (marks_after-changed changed) ∙ length-with_readers p.live t n (without_mark p t n) ∙ length-set p.marks (slot p.live t n) false
         ]
 
     -- a reader is there
@@ -146,7 +146,7 @@ module _ (p : Page) (s : IsSheet p) where
           | inl same ↦ ap (λ m. is_at m k) (marks_after-same same) ∙ alone
           | inr changed ↦
               ap (λ m. is_at m k) (marks_after-changed changed)
-              ∙ only-with_readers p.live t n (unmarked p t n) k (λ a starts within e. omega (arith, e, slot-below p.live up _ _ (reader-date a starts within)))
+              ∙ only-with_readers p.live t n (without_mark p t n) k (λ a starts within e. omega (arith, e, slot-below p.live up _ _ (reader-date a starts within)))
               ∙ alone
         ]
 
@@ -164,8 +164,8 @@ module _ (p : Page) (s : IsSheet p) where
         let alone = is_at-set_other p.marks (slot p.live t n) k false (slots_differ u m t n there date other) in
         elim (cases_eq (date_at p t n) (greatest_term p t n)) [
           | inl same ↦ sym alone ∙ sym (ap (λ m. is_at m k) (marks_after-same same)) ∙ none
-          | inr changed ↦ elim (cases_Bool (is_at (unmarked p t n) k)) [
-            | inl is ↦ absurd (true≢false (sym (keeps-with_readers p.live t n (unmarked p t n) k is) ∙ sym (ap (λ m. is_at m k) (marks_after-changed changed)) ∙ none))
+          | inr changed ↦ elim (cases_Bool (is_at (without_mark p t n) k)) [
+            | inl is ↦ absurd (true≢false (sym (keeps-with_readers p.live t n (without_mark p t n) k is) ∙ sym (ap (λ m. is_at m k) (marks_after-changed changed)) ∙ none))
             | inr isnt ↦ sym alone ∙ isnt
           ]
         ]
@@ -181,8 +181,8 @@ module _ (p : Page) (s : IsSheet p) where
               let starts : StartsAt p.live.graph t a = (enters.0, same.0) in
               let within : n + tokens ≤ jobs p.live.graph = omega (arith, job, there.job) in
               let target = slot p.live (arc p.live.graph a).to (n + tokens) in
-              let room : target < length (unmarked p t n) = omega (arith, slot-room _ _ (reader-date a starts within), length-set p.marks (slot p.live t n) false) in
-              let is = marks-with_readers p.live t n (unmarked p t n) a starts within room in
+              let room : target < length (without_mark p t n) = omega (arith, slot-room _ _ (reader-date a starts within), length-set p.marks (slot p.live t n) false) in
+              let is = marks-with_readers p.live t n (without_mark p t n) a starts within room in
               let at : target ≡ slot p.live u m = ap (slot p.live (arc p.live.graph a).to) job ∙ ap (λ v. slot p.live v m) enters.1 in
               absurd (true≢false (sym is ∙ sym (ap (λ m. is_at m target) (marks_after-changed changed)) ∙ ap (is_at (marks_after p t n)) at ∙ none))
         ]
@@ -228,16 +228,16 @@ module _ (p : Page) (s : IsSheet p) where
           | inr other ↦ omega (arith, elsewhere u m there.from_one other, s.early u m there)
         ]
 
-    pub date_at-evaluated : date_at (evaluated p t n) t n ≡ greatest_term p t n
-    unfolding evaluated dates_after
+    pub date_at-evaluated : date_at (after_evaluation p t n) t n ≡ greatest_term p t n
+    unfolding after_evaluation dates_after
     date_at-evaluated = here
 
-    pub date_at-elsewhere : (u m : ℕ) → 1 ≤ m → (u ≢ t) ⊎ (m ≢ n) → date_at (evaluated p t n) u m ≡ date_at p u m
-    unfolding evaluated dates_after
+    pub date_at-elsewhere : (u m : ℕ) → 1 ≤ m → (u ≢ t) ⊎ (m ≢ n) → date_at (after_evaluation p t n) u m ≡ date_at p u m
+    unfolding after_evaluation dates_after
     date_at-elsewhere = elsewhere
 
-    pub evaluated-is_sheet : IsSheet (evaluated p t n)
-    unfolding evaluated dates_after
+    pub evaluated-is_sheet : IsSheet (after_evaluation p t n)
+    unfolding after_evaluation dates_after
     evaluated-is_sheet = record {
       ranked = s.ranked;
       limits = s.limits;
@@ -254,21 +254,21 @@ module _ (p : Page) (s : IsSheet p) where
     -- ---- another time
 
     -- where a date gets a mark, the others have theirs as before
-    is_marked-other : (u m : ℕ) → IsDate p.live.graph u m → (u ≢ t) ⊎ (m ≢ n) → is_at (marked p t n) (slot p.live u m) ≡ is_marked p u m
+    is_marked-other : (u m : ℕ) → IsDate p.live.graph u m → (u ≢ t) ⊎ (m ≢ n) → is_at (with_mark p t n) (slot p.live u m) ≡ is_marked p u m
     is_marked-other u m there other =
         is_at-set_other p.marks (slot p.live t n) (slot p.live u m) true (slots_differ u m t n there date other)
 
     -- a date without a mark isn't the one that got it
-    isnt_marked : (u m : ℕ) → IsDate p.live.graph u m → is_at (marked p t n) (slot p.live u m) ≡ false → (u ≢ t) ⊎ (m ≢ n)
+    isnt_marked : (u m : ℕ) → IsDate p.live.graph u m → is_at (with_mark p t n) (slot p.live u m) ≡ false → (u ≢ t) ⊎ (m ≢ n)
     isnt_marked u m there none =
         elim (same_date u m t n) [
           | inr other ↦ other
           | inl same ↦
               let at : slot p.live u m ≡ slot p.live t n = ap (λ v. slot p.live v m) same.0 ∙ ap (slot p.live t) same.1 in
-              absurd (true≢false (sym (is_at-set_same p.marks (slot p.live t n) true (slot-room t n date)) ∙ sym (ap (is_at (marked p t n)) at) ∙ none))
+              absurd (true≢false (sym (is_at-set_same p.marks (slot p.live t n) true (slot-room t n date)) ∙ sym (ap (is_at (with_mark p t n)) at) ∙ none))
         ]
 
-    marked-exist : (k : ℕ) → is_at (marked p t n) k ≡ true → k < date_count p.live.graph
+    marked-exist : (k : ℕ) → is_at (with_mark p t n) k ≡ true → k < date_count p.live.graph
     marked-exist k is =
         elim (cases_eq k (slot p.live t n)) [
           | inl same ↦ omega (arith, slot-below p.live up t n date, same)
@@ -279,7 +279,7 @@ module _ (p : Page) (s : IsSheet p) where
       inputs_retimed : Inputs
       inputs_retimed = with_time p.inputs t n time_
 
-      time-retimed : (u m : ℕ) → IsDate p.live.graph u m → (u ≢ t) ⊎ (m ≢ n) → time (edited p.live.graph inputs_retimed) u m ≡ time (graph_of p) u m
+      time-retimed : (u m : ℕ) → IsDate p.live.graph u m → (u ≢ t) ⊎ (m ≢ n) → time (edited_graph p.live.graph inputs_retimed) u m ≡ time (graph_of p) u m
       unfolding inputs_retimed
       time-retimed u m there other =
           let in_times : u < length p.inputs.times = omega (arith, there.station, s.times.row_for_each) in
@@ -287,7 +287,7 @@ module _ (p : Page) (s : IsSheet p) where
           ∙ date_in-other p.live.graph p.inputs.times s.times t n date time_ u m there.from_one other
           ∙ sym (time-edited p.live.graph p.inputs u m in_times there.from_one)
 
-      pub retimed-is_sheet : IsSheet (retimed p t n time_)
+      pub retimed-is_sheet : IsSheet (with_new_time p t n time_)
       unfolding inputs_retimed
       retimed-is_sheet = record {
         ranked = s.ranked;
@@ -318,19 +318,19 @@ module _ (p : Page) (s : IsSheet p) where
       job = omega (arith, fits.job, s.demand_for_each);
     }
 
-    demand-redemanded : (m : ℕ) → 1 ≤ m → m ≢ n → demand (edited p.live.graph (with_demand p.inputs n date_)) m ≡ demand (graph_of p) m
+    demand-redemanded : (m : ℕ) → 1 ≤ m → m ≢ n → demand (edited_graph p.live.graph (with_demand p.inputs n date_)) m ≡ demand (graph_of p) m
     demand-redemanded m one other =
         demand-edited p.live.graph (with_demand p.inputs n date_) m
         ∙ get_or-set_other p.inputs.demands (n - 1) (m - 1) date_ 0 (λ e. other (omega (arith, e, fits.from_one)))
         ∙ sym (demand-edited p.live.graph p.inputs m)
 
-    time-redemanded : (u m : ℕ) → IsDate p.live.graph u m → time (edited p.live.graph (with_demand p.inputs n date_)) u m ≡ time (graph_of p) u m
+    time-redemanded : (u m : ℕ) → IsDate p.live.graph u m → time (edited_graph p.live.graph (with_demand p.inputs n date_)) u m ≡ time (graph_of p) u m
     time-redemanded u m there =
         let in_times : u < length p.inputs.times = omega (arith, there.station, s.times.row_for_each) in
         time-edited p.live.graph (with_demand p.inputs n date_) u m in_times there.from_one
         ∙ sym (time-edited p.live.graph p.inputs u m in_times there.from_one)
 
-    pub redemanded-is_sheet : IsSheet (redemanded p n date_)
+    pub redemanded-is_sheet : IsSheet (with_new_demand p n date_)
     redemanded-is_sheet =
         let many = length-set p.inputs.demands (n - 1) date_ ∙ s.demand_for_each in
         record {

@@ -14,7 +14,7 @@ use Rattle.event_graph.specs.Least.{IsLeast}
 use Rattle.live_check.specs.Order.{LiveGraph, IsUpward}
 use Rattle.line_core.specs.Consistent.{due_date}
 use Rattle.event_graph.proofs.Sizes.{work-small, delay-small}
-use Rattle.what_if.specs.Edited.{Inputs, edited}
+use Rattle.what_if.specs.Edited.{Inputs, edited_graph}
 use Rattle.what_if.specs.Page.{IsDate, slot}
 use Rattle.what_if.specs.Sheet.{latest_at}
 use Rattle.what_if.proofs.SlotOrder.{slot-reader}
@@ -31,7 +31,7 @@ demand-early g n limits =
     ]
 
 -- the edited graph is a graph
-pub edited-graph : (g : Parts) (i : Inputs) → IsGraph g → IsGraph (edited g i)
+pub edited-graph : (g : Parts) (i : Inputs) → IsGraph g → IsGraph (edited_graph g i)
 edited-graph g i graph = record {
   starts_exist = graph.starts_exist;
   ends_exist = graph.ends_exist;
@@ -57,11 +57,11 @@ module _ (l : LiveGraph) (i : Inputs) (graph : IsGraph l.graph) (up : IsUpward l
       let back : n - tokens + tokens ≡ n = omega arith in
       omega (arith, slot-reader l up graph a (n - tokens) enters.0 (omega arith), ap (slot l (arc l.graph a).to) back, ap (λ u. slot l u n) enters.1)
 
-  module _ (rows : List (List ℕ)) (limits : IsWithinLimits (edited l.graph i)) where
+  module _ (rows : List (List ℕ)) (limits : IsWithinLimits (edited_graph l.graph i)) where
     -- where the dates before it are not late, neither is the greatest of the terms
-    pub due-early : (t n : ℕ) → IsDate l.graph t n → ((u m : ℕ) → IsDate l.graph u m → slot l u m < slot l t n → date_in rows u m ≤ latest_at (slot l u m)) → due_date (edited l.graph i) rows t n ≤ latest_at (slot l t n)
+    pub due-early : (t n : ℕ) → IsDate l.graph t n → ((u m : ℕ) → IsDate l.graph u m → slot l u m < slot l t n → date_in rows u m ≤ latest_at (slot l u m)) → due_date (edited_graph l.graph i) rows t n ≤ latest_at (slot l t n)
     due-early t n date before =
-        let g = edited l.graph i in
+        let g = edited_graph l.graph i in
         let most = latest_at (slot l t n) in
         due-le g rows t n most
         (λ feed. omega (arith, demand-early g n limits))
@@ -73,7 +73,7 @@ module _ (l : LiveGraph) (i : Inputs) (graph : IsGraph l.graph) (up : IsUpward l
         let earlier = read-before a t n enters later in
         omega (arith, work-small g a n limits, delay-small g a limits, before from job (read-date a t n enters date later) earlier, earlier)))
 
-    module _ (due : (t n : ℕ) → IsDate l.graph t n → date_in rows t n ≡ due_date (edited l.graph i) rows t n) where
+    module _ (due : (t n : ℕ) → IsDate l.graph t n → date_in rows t n ≡ due_date (edited_graph l.graph i) rows t n) where
       early-below : (k t n : ℕ) → IsDate l.graph t n → slot l t n < k → date_in rows t n ≤ latest_at (slot l t n)
       early-below zero t n date low = absurd (omega arith)
       early-below (suc k) t n date low =
@@ -82,10 +82,10 @@ module _ (l : LiveGraph) (i : Inputs) (graph : IsGraph l.graph) (up : IsUpward l
       pub all_early : (t n : ℕ) → IsDate l.graph t n → date_in rows t n ≤ latest_at (slot l t n)
       all_early t n date = early-below (slot l t n + 1) t n date (omega arith)
 
-  module _ (rows : List (List ℕ)) (many : length i.demands ≡ jobs l.graph) (some : 1 ≤ stations l.graph) (due : (t n : ℕ) → IsDate l.graph t n → date_in rows t n ≡ due_date (edited l.graph i) rows t n) where
-    solved : Solves (edited l.graph i) (date_in rows)
+  module _ (rows : List (List ℕ)) (many : length i.demands ≡ jobs l.graph) (some : 1 ≤ stations l.graph) (due : (t n : ℕ) → IsDate l.graph t n → date_in rows t n ≡ due_date (edited_graph l.graph i) rows t n) where
+    solved : Solves (edited_graph l.graph i) (date_in rows)
     solved =
-        let g = edited l.graph i in
+        let g = edited_graph l.graph i in
         record {
           feed = λ n one within.
               omega (arith, due 0 n (record { station = omega arith; from_one = one; job = omega (arith, many) }), due-feed g rows n);
@@ -94,11 +94,11 @@ module _ (l : LiveGraph) (i : Inputs) (graph : IsGraph l.graph) (up : IsUpward l
               omega (arith, due (arc l.graph a).to n date, term-le-due g rows a n (edited-graph l.graph i graph) there);
         }
 
-    module _ (y : Table) (solves : Solves (edited l.graph i) y) where
+    module _ (y : Table) (solves : Solves (edited_graph l.graph i) y) where
       not_above : (k t n : ℕ) → IsDate l.graph t n → slot l t n < k → date_in rows t n ≤ y t n
       not_above zero t n date low = absurd (omega arith)
       not_above (suc k) t n date low =
-          let g = edited l.graph i in
+          let g = edited_graph l.graph i in
           let most = y t n in
           let greatest = due-le g rows t n most
           (λ feed. omega (arith, solves.feed n date.from_one (omega (arith, date.job, many)), ap (λ u. y u n) feed))
@@ -113,7 +113,7 @@ module _ (l : LiveGraph) (i : Inputs) (graph : IsGraph l.graph) (up : IsUpward l
           omega (arith, read, term-later g y a n later, asked))) in
           omega (arith, due t n date, greatest)
 
-    pub greatest_is_least : IsLeast (edited l.graph i) (date_in rows)
+    pub greatest_is_least : IsLeast (edited_graph l.graph i) (date_in rows)
     greatest_is_least = record {
       solves = solved;
       least = λ y solves t n there one within.

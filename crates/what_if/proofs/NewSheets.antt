@@ -1,4 +1,5 @@
--- A sheet as it is made of a table: the graph's own times and demand dates, under which each date is the greatest of its terms.
+-- A sheet as it is made of a table: the graph's own times and demand dates, under which each date is the greatest of
+-- its terms.
 use Rattle.std.proofs.Common.{◌≡◌, ℕ, ◌+◌, ◌-◌, ◌<◌, ◌≤◌, Bool, false, List, [], map, length, get_or, sym, ap, ◌∙◌, subst, arith, inl, inr}
 use Rattle.std.specs.List.{All, range_with_len}
 use Rattle.std.specs.List.Sorted.{IsNonDecreasing}
@@ -20,7 +21,7 @@ use Rattle.line_core.specs.Consistent.{due_date}
 use Rattle.line_core.specs.Run.{Dates, IsLeastTable}
 use Rattle.event_graph.proofs.Sizes.{time-small}
 use Rattle.what_if.specs.Marks.{is_at}
-use Rattle.what_if.specs.Edited.{times_of, inputs_of, edited}
+use Rattle.what_if.specs.Edited.{times_of, inputs_of, edited_graph}
 use Rattle.what_if.specs.Page.{Page, IsDate}
 use Rattle.what_if.specs.Sheet.{HasRows, date_count, IsSheet, page_of}
 use Rattle.what_if.proofs.Rows.{date_in-at}
@@ -59,7 +60,7 @@ module _ (g : Parts) where
         omega (arith, get_or-times_of t k d (omega (arith, low, length-times_of t)), time-small g t (k + 1) limits));
   }
 
-  own-time : (t n : ℕ) → IsDate g t n → time (edited g (inputs_of g)) t n ≡ time g t n
+  own-time : (t n : ℕ) → IsDate g t n → time (edited_graph g (inputs_of g)) t n ≡ time g t n
   own-time t n date =
       let back : n - 1 + 1 ≡ n = omega (arith, date.from_one) in
       time-edited g (inputs_of g) t n (omega (arith, date.station, times-rows)) date.from_one
@@ -78,11 +79,11 @@ module _ (g : Parts) where
       get_or-map-range_with_len (demand g) 1 (jobs g) k (k + 1) 0 (omega (arith, low, many)) (omega arith)
       ∙ ap (λ j. get_or g.dates j 0) back)
 
-  own-demand : (n : ℕ) → demand (edited g (inputs_of g)) n ≡ demand g n
+  own-demand : (n : ℕ) → demand (edited_graph g (inputs_of g)) n ≡ demand g n
   unfolding demand
   own-demand n = ap (λ dates. get_or dates (n - 1) 0) own-demands
 
-  own-limits : IsWithinLimits g → IsWithinLimits (edited g (inputs_of g))
+  own-limits : IsWithinLimits g → IsWithinLimits (edited_graph g (inputs_of g))
   own-limits limits =
       edited-limits g (inputs_of g) limits own-rows (own-short limits)
       (ap length own-demands)
@@ -107,7 +108,7 @@ module _ (g : Parts) where
               omega (arith, due-other g rows t n other, below, above, is.equal)
         ]
 
-    own-due : (t n : ℕ) → IsDate g t n → date_in rows t n ≡ due_date (edited g (inputs_of g)) rows t n
+    own-due : (t n : ℕ) → IsDate g t n → date_in rows t n ≡ due_date (edited_graph g (inputs_of g)) rows t n
     own-due t n date =
         due-table t n date
         ∙ sym (due-own g (inputs_of g) rows t n (λ feed. own-demand n) (λ other. own-time t n date))
@@ -119,7 +120,7 @@ module _ (l : LiveGraph) (ranked : IsRanked l) (d : Dates) (same : d.graph ≡ l
   table-rows : HasRows l.graph d.rows
   table-rows = subst (λ (g : Parts). HasRows g d.rows) same (record { row_for_each = least.a_row_each; number_for_each = least.a_date_each })
 
-  table-due : (t n : ℕ) → IsDate l.graph t n → date_in d.rows t n ≡ due_date (edited l.graph (inputs_of l.graph)) d.rows t n
+  table-due : (t n : ℕ) → IsDate l.graph t n → date_in d.rows t n ≡ due_date (edited_graph l.graph (inputs_of l.graph)) d.rows t n
   table-due = own-due l.graph d.rows ranked.sound (subst (λ (g : Parts). IsGreatestOfTerms g (date_in d.rows)) same least.greatest)
 
   pub begun-is_sheet : IsSheet (record { live = l; inputs = inputs_of l.graph; first = d.rows; dates = d.rows; marks = marks; evaluations = 0 })

@@ -8,7 +8,7 @@ use Rattle.event_graph.specs.Table.{date_in}
 use Rattle.live_check.specs.Order.{LiveGraph}
 use Rattle.what_if.specs.Marks.{is_at, count_of, HasNone, IsFirstFrom}
 use Rattle.what_if.specs.Page.{Page, IsDate, slot, date_at, greatest_term, mark_count}
-use Rattle.what_if.specs.Evaluation.{unmarked, marks_after, evaluated}
+use Rattle.what_if.specs.Evaluation.{without_mark, marks_after, after_evaluation}
 use Rattle.what_if.specs.Sheet.{date_count, IsSheet}
 use Rattle.what_if.specs.Settled.{changed_outs, IsSolved, HasEvaluatedFew, HasEvaluatedEachOnce, KeepsInputs}
 use Rattle.what_if.proofs.Bits.{count_of-removed, count_of-none}
@@ -47,20 +47,20 @@ module _ (old p : Page) (from k t n : ℕ) (s : IsSettling old p from) (first : 
       omega (arith, slot-reader p.live s.sheet.ranked.upward s.sheet.ranked.sound a n starts.0 date.from_one, ap (λ u. slot p.live u n) starts.1, at, same)
 
   -- so up to it only its own mark changes
-  marks-up_to : (j : ℕ) → j ≤ k → is_at (marks_after p t n) j ≡ is_at (unmarked p t n) j
+  marks-up_to : (j : ℕ) → j ≤ k → is_at (marks_after p t n) j ≡ is_at (without_mark p t n) j
   marks-up_to j low =
       elim (cases_eq (date_at p t n) (greatest_term p t n)) [
         | inl same ↦ ap (λ m. is_at m j) (marks_after-same p s.sheet t n date same)
         | inr changed ↦
             ap (λ m. is_at m j) (marks_after-changed p s.sheet t n date changed)
-            ∙ only-with_readers p.live t n (unmarked p t n) j (λ a starts within. reader-after j low a starts)
+            ∙ only-with_readers p.live t n (without_mark p t n) j (λ a starts within. reader-after j low a starts)
       ]
 
   none_up_to : (j : ℕ) → j < k + 1 → is_at (marks_after p t n) j ≡ false
   none_up_to j low =
       marks-up_to j (omega arith)
       ∙ elim (cases_eq j (slot p.live t n)) [
-        | inl same ↦ ap (is_at (unmarked p t n)) same ∙ is_at-cleared p.marks (slot p.live t n)
+        | inl same ↦ ap (is_at (without_mark p t n)) same ∙ is_at-cleared p.marks (slot p.live t n)
         | inr other ↦
             is_at-set_other p.marks (slot p.live t n) j false other
             ∙ elim (cases_lt j from) [
@@ -76,24 +76,24 @@ module _ (old p : Page) (from k t n : ℕ) (s : IsSettling old p from) (first : 
         | inl same ↦ absurd (omega (arith, after, at, ap (λ v. slot p.live v m) same.0, ap (slot p.live t) same.1))
       ]
 
-  was_marked : count_of p.marks ≡ count_of (unmarked p t n) + 1
+  was_marked : count_of p.marks ≡ count_of (without_mark p t n) + 1
   was_marked =
       count_of-removed p.marks (slot p.live t n) (omega (arith, at, first.within)) (ap (is_at p.marks) at ∙ first.marked)
 
   as_at_first : date_at old t n ≡ date_at p t n
   as_at_first = sym (s.same_after t n date (omega (arith, first.after, at)))
 
-  one_more : (evaluated p t n).evaluations ≡ p.evaluations + 1
-  unfolding evaluated
+  one_more : (after_evaluation p t n).evaluations ≡ p.evaluations + 1
+  unfolding after_evaluation
   one_more = refl
 
-  marks_are : (evaluated p t n).marks ≡ marks_after p t n
-  unfolding evaluated
+  marks_are : (after_evaluation p t n).marks ≡ marks_after p t n
+  unfolding after_evaluation
   marks_are = refl
 
-  few_still : (evaluated p t n).evaluations + mark_count (evaluated p t n) ≤ old.evaluations + mark_count old + changed_outs p.live.graph (date_in old.dates) (date_in (evaluated p t n).dates)
+  few_still : (after_evaluation p t n).evaluations + mark_count (after_evaluation p t n) ≤ old.evaluations + mark_count old + changed_outs p.live.graph (date_in old.dates) (date_in (after_evaluation p t n).dates)
   few_still =
-      let q = evaluated p t n in
+      let q = after_evaluation p t n in
       let x = date_in old.dates in
       let y = date_in p.dates in
       let z = date_in q.dates in
@@ -109,11 +109,11 @@ module _ (old p : Page) (from k t n : ℕ) (s : IsSettling old p from) (first : 
             omega (arith, s.few, as_before, was_marked, one_more, ap count_of (marks_are ∙ marks_after-same p s.sheet t n date same))
         | inr changed ↦
             let more = changed_outs-more g x y z t n date (λ u m there other. date_at-elsewhere p s.sheet t n date u m there.from_one other) as_at_first (λ e. changed (sym as_at_first ∙ e ∙ date_at-evaluated p s.sheet t n date)) in
-            omega (arith, s.few, more, was_marked, one_more, ap count_of (marks_are ∙ marks_after-changed p s.sheet t n date changed), count-with_readers p.live t n (unmarked p t n))
+            omega (arith, s.few, more, was_marked, one_more, ap count_of (marks_are ∙ marks_after-changed p s.sheet t n date changed), count-with_readers p.live t n (without_mark p t n))
       ]
 
-  pub goes_on : IsSettling old (evaluated p t n) (k + 1)
-  unfolding evaluated
+  pub goes_on : IsSettling old (after_evaluation p t n) (k + 1)
+  unfolding after_evaluation
   goes_on = record {
     sheet = evaluated-is_sheet p s.sheet t n date;
     inputs = record { live = s.inputs.live; inputs = s.inputs.inputs; first = s.inputs.first };

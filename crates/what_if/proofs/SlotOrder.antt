@@ -1,4 +1,5 @@
--- The numbers of dates in the order of evaluation: each date has its own, and dates that read another one come after it.
+-- The numbers of dates in the order of evaluation: each date has its own, and dates that read another one come after
+-- it.
 use Rattle.std.proofs.Common.{◌≡◌, ℕ, ◌+◌, ◌-◌, ◌*◌, ◌/◌, ◌%◌, ◌<◌, ◌≤◌, List, length, get_or, sym, ap, ◌∙◌, arith, inl, inr}
 use Rattle.std.proofs.Math.Nat.{mul-le-mul_right, mul_comm, div-add-mod', div-lt_iff_lt-mul}
 use Rattle.std.proofs.lemmas.Bool.{cases_lt, cases_eq}
@@ -18,11 +19,11 @@ before_row i j width p low within =
 
 module _ (l : LiveGraph) (up : IsUpward l.graph l.ranks) where
   pub rank-below : (t : ℕ) → t < stations l.graph → get_or l.ranks t 0 < stations l.graph
-  rank-below t there = up.below t 0 (omega (arith, up.place_for_each))
+  rank-below t there = up.below t 0 (omega (arith, up.rank_for_each))
 
   pub rank-injective : (t u : ℕ) → t < stations l.graph → u < stations l.graph → get_or l.ranks t 0 ≡ get_or l.ranks u 0 → t ≡ u
   rank-injective t u t_there u_there same =
-      let many = up.place_for_each in
+      let many = up.rank_for_each in
       elim (cases_lt t u) [
         | inl before ↦ absurd (up.distinct t u 0 before (omega (arith, many)) same)
         | inr after ↦ elim (cases_lt u t) [
@@ -80,7 +81,7 @@ pub slot-by_ranks : (l : LiveGraph) (ranks : List ℕ) (t n : ℕ) → IsUpward 
 unfolding slot
 slot-by_ranks l ranks t n up same =
     ap (λ (ps : List ℕ). (n - 1) * length ps + get_or ps t 0) same
-    ∙ ap (λ w. (n - 1) * w + get_or l.ranks t 0) up.place_for_each
+    ∙ ap (λ w. (n - 1) * w + get_or l.ranks t 0) up.rank_for_each
 
 -- the slot of the station of a rank, and of the job, that a slot's number gives
 pub slot-of_number : (l : LiveGraph) (t at : ℕ) → get_or l.ranks t 0 ≡ at % stations l.graph → slot l t (at / stations l.graph + 1) ≡ at

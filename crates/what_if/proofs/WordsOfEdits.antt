@@ -14,19 +14,19 @@ use Rattle.event_graph.specs.Network.{stations, jobs, label}
 use Rattle.line_core.proofs.Searches.{find-here, find-later}
 use Rattle.what_if.specs.declared.edit.Edit.{Edit}
 use Rattle.what_if.specs.declared.edit.Edit.TheVariants.{Time, Demand}
-use Rattle.what_if.specs.Edits.{spaced, is_machine_with, HasNoSpace, IsTimeEdit, IsDemandEdit, Writes, IsSplit}
+use Rattle.what_if.specs.Edits.{before_space, is_machine_with, HasNoSpace, IsTimeEdit, IsDemandEdit, Writes, IsSplit}
 
 tail : List ℕ → List ℕ
 tail [] = []
 tail (x ∷ xs) = xs
 
 -- a text with a space isn't one word
-pub has_space : (word rest : List ℕ) → HasNoSpace (spaced word rest) → ⊥
+pub has_space : (word rest : List ℕ) → HasNoSpace (before_space word rest) → ⊥
 has_space word rest none =
     none (length word) 0 (omega (arith, length-append word (32 ∷ rest))) (get_or_at word 32 rest 0 (length word) refl)
 
 -- there is one way to split a text at its first space
-pub split_once : (word rest other others : List ℕ) → HasNoSpace word → HasNoSpace other → spaced word rest ≡ spaced other others → (word ≡ other) × (rest ≡ others)
+pub split_once : (word rest other others : List ℕ) → HasNoSpace word → HasNoSpace other → before_space word rest ≡ before_space other others → (word ≡ other) × (rest ≡ others)
 unfolding tail
 split_once [] rest [] others none no_other same = (refl, ap tail same)
 split_once [] rest (y ∷ ys) others none no_other same = absurd (All-head (λ b. b ≢ 32) y ys no_other (sym (ap (λ l. get_or l 0 0) same)))
@@ -36,7 +36,7 @@ split_once (x ∷ xs) rest (y ∷ ys) others none no_other same =
     (ap (λ b. b ∷ xs) (ap (λ l. get_or l 0 0) same) ∙ ap (λ l. y ∷ l) later.0, later.1)
 
 -- the words of a text that is known
-pub split_is : (text word rest other others : List ℕ) → IsSplit text word rest → HasNoSpace other → text ≡ spaced other others → (word ≡ other) × (rest ≡ others)
+pub split_is : (text word rest other others : List ℕ) → IsSplit text word rest → HasNoSpace other → text ≡ before_space other others → (word ≡ other) × (rest ≡ others)
 split_is text word rest other others split none is =
     split_once word rest other others split.no_space none (sym split.whole ∙ is)
 
@@ -76,8 +76,8 @@ split-at text end found more =
 
 -- a line that is one word writes no edit
 pub one_word-no_edit : (g : Parts) (text : List ℕ) (edit : Edit) → HasNoSpace text → Writes g text edit → ⊥
-one_word-no_edit g text (Time t n time) none writes = has_space (codes "time") (spaced (label g t) (spaced (decimal n) (decimal time))) (subst HasNoSpace writes.text_is none)
-one_word-no_edit g text (Demand n date) none writes = has_space (codes "demand") (spaced (decimal n) (decimal date)) (subst HasNoSpace writes.text_is none)
+one_word-no_edit g text (Time t n time) none writes = has_space (codes "time") (before_space (label g t) (before_space (decimal n) (decimal time))) (subst HasNoSpace writes.text_is none)
+one_word-no_edit g text (Demand n date) none writes = has_space (codes "demand") (before_space (decimal n) (decimal date)) (subst HasNoSpace writes.text_is none)
 
 -- a word that is known has no space where a look at each of its bytes finds none
 no_space-looked : (word : List ℕ) → list_all (λ byte. not (is_space byte)) word ≡ true → HasNoSpace word
@@ -93,14 +93,14 @@ demand-no_space : HasNoSpace (codes "demand")
 demand-no_space = no_space-looked (codes "demand") refl
 
 -- behind `time` stand the label, the job and the time
-pub time-writes : (g : Parts) (text : List ℕ) (edit : Edit) (P : Edit → Type 0) → Writes g (spaced (codes "time") text) edit → ((t n time : ℕ) → IsTimeEdit g t n time → text ≡ spaced (label g t) (spaced (decimal n) (decimal time)) → P (Time t n time)) → P edit
+pub time-writes : (g : Parts) (text : List ℕ) (edit : Edit) (P : Edit → Type 0) → Writes g (before_space (codes "time") text) edit → ((t n time : ℕ) → IsTimeEdit g t n time → text ≡ before_space (label g t) (before_space (decimal n) (decimal time)) → P (Time t n time)) → P edit
 time-writes g text (Time t n time) P writes known =
     known t n time writes.valid (split_once (codes "time") text (codes "time") _ time-no_space time-no_space writes.text_is).1
 time-writes g text (Demand n date) P writes known =
     absurd (omega (arith, ap length (split_once (codes "time") text (codes "demand") _ time-no_space demand-no_space writes.text_is).0))
 
 -- behind `demand` stand the job and the date
-pub demand-writes : (g : Parts) (text : List ℕ) (edit : Edit) (P : Edit → Type 0) → Writes g (spaced (codes "demand") text) edit → ((n date : ℕ) → IsDemandEdit g n date → text ≡ spaced (decimal n) (decimal date) → P (Demand n date)) → P edit
+pub demand-writes : (g : Parts) (text : List ℕ) (edit : Edit) (P : Edit → Type 0) → Writes g (before_space (codes "demand") text) edit → ((n date : ℕ) → IsDemandEdit g n date → text ≡ before_space (decimal n) (decimal date) → P (Demand n date)) → P edit
 demand-writes g text (Demand n date) P writes known =
     known n date writes.valid (split_once (codes "demand") text (codes "demand") _ demand-no_space demand-no_space writes.text_is).1
 demand-writes g text (Time t n time) P writes known =
@@ -143,21 +143,21 @@ some-is x y same = ap (λ (o : Option ℕ). unwrap_or o x) same
 -- ---- the words of an edit of a time, and of a demand date, as they were split
 
 -- the text behind `time`, split once
-pub time-split : (g : Parts) (text label_ rest : List ℕ) (edit : Edit) (P : Edit → Type 0) → IsSplit text label_ rest → Writes g (spaced (codes "time") text) edit → ((t n time : ℕ) → IsTimeEdit g t n time → label_ ≡ label g t → rest ≡ spaced (decimal n) (decimal time) → P (Time t n time)) → P edit
+pub time-split : (g : Parts) (text label_ rest : List ℕ) (edit : Edit) (P : Edit → Type 0) → IsSplit text label_ rest → Writes g (before_space (codes "time") text) edit → ((t n time : ℕ) → IsTimeEdit g t n time → label_ ≡ label g t → rest ≡ before_space (decimal n) (decimal time) → P (Time t n time)) → P edit
 time-split g text label_ rest edit P split writes known =
     time-writes g text edit P writes (λ t n time valid is.
-    let words = split_is text label_ rest (label g t) (spaced (decimal n) (decimal time)) split valid.word is in
+    let words = split_is text label_ rest (label g t) (before_space (decimal n) (decimal time)) split valid.word is in
     known t n time valid words.0 words.1)
 
 -- and twice
-pub time-parts : (g : Parts) (text label_ rest job last : List ℕ) (edit : Edit) (P : Edit → Type 0) → IsSplit text label_ rest → IsSplit rest job last → jobs g < 2 ^ 64 → Writes g (spaced (codes "time") text) edit → ((t n time : ℕ) → IsTimeEdit g t n time → label_ ≡ label g t → job ≡ decimal n → last ≡ decimal time → P (Time t n time)) → P edit
+pub time-parts : (g : Parts) (text label_ rest job last : List ℕ) (edit : Edit) (P : Edit → Type 0) → IsSplit text label_ rest → IsSplit rest job last → jobs g < 2 ^ 64 → Writes g (before_space (codes "time") text) edit → ((t n time : ℕ) → IsTimeEdit g t n time → label_ ≡ label g t → job ≡ decimal n → last ≡ decimal time → P (Time t n time)) → P edit
 time-parts g text label_ rest job last edit P split further few writes known =
     time-split g text label_ rest edit P split writes (λ t n time valid named follows.
     let words = split_is rest job last (decimal n) (decimal time) further (decimal-no_space n (omega (arith, valid.job, few))) follows in
     known t n time valid named words.0 words.1)
 
 -- the text behind `demand`, split
-pub demand-parts : (g : Parts) (text job last : List ℕ) (edit : Edit) (P : Edit → Type 0) → IsSplit text job last → jobs g < 2 ^ 64 → Writes g (spaced (codes "demand") text) edit → ((n date : ℕ) → IsDemandEdit g n date → job ≡ decimal n → last ≡ decimal date → P (Demand n date)) → P edit
+pub demand-parts : (g : Parts) (text job last : List ℕ) (edit : Edit) (P : Edit → Type 0) → IsSplit text job last → jobs g < 2 ^ 64 → Writes g (before_space (codes "demand") text) edit → ((n date : ℕ) → IsDemandEdit g n date → job ≡ decimal n → last ≡ decimal date → P (Demand n date)) → P edit
 demand-parts g text job last edit P split few writes known =
     demand-writes g text edit P writes (λ n date valid is.
     let words = split_is text job last (decimal n) (decimal date) split (decimal-no_space n (omega (arith, valid.job, few))) is in

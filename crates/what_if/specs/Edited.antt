@@ -21,8 +21,8 @@ inputs_of g = record {
 }
 
 -- the edited graph: stations, arcs, tokens and delays stay
-abbrev pub edited : Parts → Inputs → Parts
-edited g inputs = record g { times = map Each inputs.times; dates = inputs.demands }
+abbrev pub edited_graph : Parts → Inputs → Parts
+edited_graph g inputs = record g { times = map Each inputs.times; dates = inputs.demands }
 
 -- lists of numbers, one a station, in which the number of job n at station t is another one
 abbrev pub with_number : List (List ℕ) → ℕ → ℕ → ℕ → List (List ℕ)

@@ -23,14 +23,14 @@ abbrev pub machine_with : Parts → List ℕ → Option ℕ
 machine_with g text = find (is_machine_with g text) (range_with_len 1 (stations g - 1))
 
 -- a word, a space, and what follows
-abbrev pub spaced : List ℕ → List ℕ → List ℕ
-spaced word rest = word ++ 32 ∷ rest
+abbrev pub before_space : List ℕ → List ℕ → List ℕ
+before_space word rest = word ++ 32 ∷ rest
 
 -- the text of an edit
 abbrev pub text_of : Parts → Edit → List ℕ
-text_of g (Time t n time) = spaced (codes "time")
-    (spaced (label g t) (spaced (decimal n) (decimal time)))
-text_of g (Demand n date) = spaced (codes "demand") (spaced (decimal n) (decimal date))
+text_of g (Time t n time) = before_space (codes "time")
+    (before_space (label g t) (before_space (decimal n) (decimal time)))
+text_of g (Demand n date) = before_space (codes "demand") (before_space (decimal n) (decimal date))
 
 -- there is no space: the text is one word
 abbrev pub HasNoSpace : List ℕ → Type 0
@@ -109,5 +109,5 @@ pub data EditsGive (g : Parts) : List (List ℕ) → ℕ → Inputs → Result I
 
 -- a word, a space, and the rest of a text
 pub record IsSplit (text word rest : List ℕ) : Type 0 where
-  pub whole : text ≡ spaced word rest
+  pub whole : text ≡ before_space word rest
   pub no_space : HasNoSpace word

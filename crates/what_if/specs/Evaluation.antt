@@ -7,19 +7,19 @@ use Rattle.what_if.specs.Edited.{with_number, with_time, with_demand}
 use Rattle.what_if.specs.Page.{Page, slot, date_at, greatest_term}
 
 -- the marks with one more, or one fewer
-abbrev pub marked : Page → ℕ → ℕ → List Bool
-marked p t n = slice_set p.marks (slot p.live t n) true
+abbrev pub with_mark : Page → ℕ → ℕ → List Bool
+with_mark p t n = slice_set p.marks (slot p.live t n) true
 
-abbrev pub unmarked : Page → ℕ → ℕ → List Bool
-unmarked p t n = slice_set p.marks (slot p.live t n) false
+abbrev pub without_mark : Page → ℕ → ℕ → List Bool
+without_mark p t n = slice_set p.marks (slot p.live t n) false
 
 -- another time of job n at station t, which marks that date
-abbrev pub retimed : Page → ℕ → ℕ → ℕ → Page
-retimed p t n time = record p { inputs = with_time p.inputs t n time; marks = marked p t n }
+abbrev pub with_new_time : Page → ℕ → ℕ → ℕ → Page
+with_new_time p t n time = record p { inputs = with_time p.inputs t n time; marks = with_mark p t n }
 
 -- another demand date of job n, which marks the feed's date
-abbrev pub redemanded : Page → ℕ → ℕ → Page
-redemanded p n date = record p { inputs = with_demand p.inputs n date; marks = marked p 0 n }
+abbrev pub with_new_demand : Page → ℕ → ℕ → Page
+with_new_demand p n date = record p { inputs = with_demand p.inputs n date; marks = with_mark p 0 n }
 
 -- the marks with that of the date whose term through arc a reads the date of job n at the arc's start, if there is one
 abbrev pub with_reader : LiveGraph → ℕ → List Bool → ℕ → List Bool
@@ -35,12 +35,12 @@ with_readers l t n marks = fold (with_reader l n) marks (outs l.graph t)
 -- the marks after an evaluation: its own is gone, and where the date changed those who read it are marked
 unfoldable pub marks_after : Page → ℕ → ℕ → List Bool
 marks_after p t n =
-    if date_at p t n == greatest_term p t n then unmarked p t n
-    else with_readers p.live t n (unmarked p t n)
+    if date_at p t n == greatest_term p t n then without_mark p t n
+    else with_readers p.live t n (without_mark p t n)
 
 -- the date of job n at station t becomes the greatest of its terms
-unfoldable pub evaluated : Page → ℕ → ℕ → Page
-evaluated p t n = record p {
+unfoldable pub after_evaluation : Page → ℕ → ℕ → Page
+after_evaluation p t n = record p {
   dates = with_number p.dates t n (greatest_term p t n);
   marks = marks_after p t n;
   evaluations = p.evaluations + 1;

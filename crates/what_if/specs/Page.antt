@@ -5,7 +5,7 @@ use Rattle.event_graph.specs.Network.{stations, jobs}
 use Rattle.event_graph.specs.Table.{date_in}
 use Rattle.live_check.specs.Order.{LiveGraph}
 use Rattle.line_core.specs.Consistent.{due_date}
-use Rattle.what_if.specs.Edited.{Inputs, edited}
+use Rattle.what_if.specs.Edited.{Inputs, edited_graph}
 use Rattle.what_if.specs.Marks.{is_at, count_of}
 
 -- the graph that the sheet was made for and the order of its stations; the present job times and demand dates; the
@@ -21,7 +21,7 @@ pub record Page : Type 0 where
 
 -- the edited graph that the sheet stands for
 abbrev pub graph_of : Page → Parts
-graph_of p = edited p.live.graph p.inputs
+graph_of p = edited_graph p.live.graph p.inputs
 
 -- the graph has a date of job n at station t
 pub record IsDate (g : Parts) (t n : ℕ) : Type 0 where

@@ -28,6 +28,8 @@ UnmarkedAreGreatest p =
     (t n : ℕ) → IsDate p.live.graph t n → is_marked p t n ≡ false
     → date_at p t n ≡ greatest_term p t n
 
+-- a time, a date of the table and a present date for each station and job, marks on dates that exist, no date late, and
+-- each date that isn't marked the greatest of its terms
 pub record IsSheet (p : Page) : Type 0 where
   pub ranked : IsRanked p.live
   pub limits : IsWithinLimits (graph_of p)
@@ -53,7 +55,7 @@ page_of live times demands first dates marks evaluations = record {
 }
 
 -- and the sheet has the ranks of its stations beside
-pub record IsHeld (p : Page) (ranks : List ℕ) : Type 0 where
+pub record IsSheetWithRanks (p : Page) (ranks : List ℕ) : Type 0 where
   pub sheet : IsSheet p
   pub same_ranks : ranks ≡ p.live.ranks
 

@@ -1,5 +1,4 @@
-ghost use Rattle.std.specs.List.{range_with_len};
-ghost use Rattle.std.specs.Prelude.{◌≡◌, ◌<◌, map, IfOk};
+ghost use Rattle.std.specs.Prelude.{◌≡◌, ◌<◌, IfOk};
 ghost use Rattle.event_graph.specs.Network.{stations, jobs, demand};
 ghost use Rattle.line_core.specs.Run.{IsLeastTable};
 ghost use Rattle.what_if.specs.Edited.{times_of, inputs_of};

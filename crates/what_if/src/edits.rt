@@ -76,14 +76,14 @@ fn follow_line(sheet: &mut Sheet, live: &Live, line: &[u8]) -> bool
     }
 }
 
-/// Follows the lines of an edits file on a sheet, in order: `time LABEL JOB TIME` gives a job another time at the machine
-/// with this label, `demand JOB DATE` another demand date. Words are separated by single spaces, and numbers have no sign and
-/// no leading zero. Each line ends with a line feed, which the last may lack; a carriage return at a line's end is dropped,
-/// and an empty line is passed over and counted.
+/// Follows the lines of an edits file on a sheet, in order: `time LABEL JOB TIME` gives a job another time at the
+/// machine with this label, `demand JOB DATE` another demand date. Words are separated by single spaces, and numbers
+/// have no sign and no leading zero. Each line ends with a line feed, which the last may lack; a carriage return at a
+/// line's end is dropped, and an empty line is passed over and counted.
 ///
-/// It stops at the first line that isn't of these forms, or whose demand date is before the present one of the job before or
-/// after that of the job after; the lines before it are followed then. No date changes before the sheet is settled. It takes
-/// no memory.
+/// It stops at the first line that isn't of these forms, or whose demand date is before the present one of the job
+/// before or after that of the job after; the lines before it are followed then. No date changes before the sheet is
+/// settled. It takes no memory.
 pub fn follow_edits(sheet: &mut Sheet, live: &Live, edits: &[u8]) -> Result<(), RefusedLine>
     requires made_for { live.now ≡ sheet.old.live }
     ensures followed { OnOk result

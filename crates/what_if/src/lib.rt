@@ -4,9 +4,9 @@
 mod copies;
 mod edit;
 mod edits;
-mod marking;
 mod marks;
 mod reader;
+mod renewal;
 mod row;
 mod settle;
 mod sheet;

@@ -1,6 +1,6 @@
 ghost use Rattle.std.specs.Prelude.{◌≡◌, ◌<◌, ◌≤◌, ℕ, decimal, codes, Some, IfSome};
 ghost use Rattle.event_graph.specs.Network.{jobs, label, stations};
-ghost use Rattle.what_if.specs.Edits.{is_machine, machine_with, spaced, Writes, FindsEdit};
+ghost use Rattle.what_if.specs.Edits.{is_machine, machine_with, before_space, Writes, FindsEdit};
 
 use crate::edit::Edit;
 use crate::words::split_word;
@@ -50,8 +50,8 @@ fn read_job(graph: &Graph, text: &[u8]) -> Option<u32>
 
 /// The edit that follows the word `time`.
 fn read_time(graph: &Graph, text: &[u8]) -> Option<Edit>
-    ensures read { IfSome result (Writes graph.now (spaced (codes "time") text.now)) }
-    ensures tells { FindsEdit graph.now (spaced (codes "time") text.now) result }
+    ensures read { IfSome result (Writes graph.now (before_space (codes "time") text.now)) }
+    ensures tells { FindsEdit graph.now (before_space (codes "time") text.now) result }
 {
     let (label, rest) = split_word(text)?;
     let (job, time) = split_word(rest)?;
@@ -63,8 +63,8 @@ fn read_time(graph: &Graph, text: &[u8]) -> Option<Edit>
 
 /// The edit that follows the word `demand`.
 fn read_demand(graph: &Graph, text: &[u8]) -> Option<Edit>
-    ensures read { IfSome result (Writes graph.now (spaced (codes "demand") text.now)) }
-    ensures tells { FindsEdit graph.now (spaced (codes "demand") text.now) result }
+    ensures read { IfSome result (Writes graph.now (before_space (codes "demand") text.now)) }
+    ensures tells { FindsEdit graph.now (before_space (codes "demand") text.now) result }
 {
     let (job, date) = split_word(text)?;
     let job = read_job(graph, job)?;

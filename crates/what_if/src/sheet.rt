@@ -1,17 +1,17 @@
-ghost use Rattle.std.specs.Prelude.{◌≡◌, ◌≢◌, ◌-◌, ◌^◌, ◌<◌, ◌≤◌, ◌↔◌, if◌then◌else◌, IsTrue, IfOk, MatchOption, length, slice_index, slice_index_or};
+ghost use Rattle.std.specs.Prelude.{◌≡◌, ◌≢◌, ◌-◌, ◌^◌, ◌<◌, ◌≤◌, ◌↔◌, if◌then◌else◌, IsTrue, IfOk, MatchOption, length, slice_index};
 ghost use Rattle.event_graph.specs.Network.{arc_count, jobs, time};
 ghost use Rattle.event_graph.specs.Table.{date_in};
 ghost use Rattle.event_graph.specs.Term.{term};
 ghost use Rattle.line_base.specs.Limits.{longest_time, last_demand};
 ghost use Rattle.what_if.specs.Edited.{FitsBetween};
-ghost use Rattle.what_if.specs.Evaluation.{retimed, redemanded, evaluated};
+ghost use Rattle.what_if.specs.Evaluation.{with_new_time, with_new_demand, after_evaluation};
 ghost use Rattle.what_if.specs.Marks.{HasNone, IsFirstFrom};
 ghost use Rattle.what_if.specs.Page.{graph_of, IsDate, date_at, greatest_term, is_marked, mark_count};
 ghost use Rattle.what_if.specs.Sheet.{IsSheet, IsBegun};
 
 use crate::copies::{all_times, demands_of, ranks_of, rows_of};
-use crate::marking::renew_marks;
 use crate::marks::Marks;
+use crate::renewal::renew_marks;
 use crate::row::Row;
 use crate::slots::{slot, slot_at};
 use event_graph::Arc;
@@ -22,8 +22,9 @@ use std::alloc::{AllocError, Global};
 use std::marker::Model;
 use std::snapshot::Snapshot;
 
-/// The dates of a run whose job times and demand dates can be edited. An edit changes no date: it marks the date that it
-/// bears on, and an evaluation of a marked date marks those that follow from it. Contracts see the sheet as a `Page`.
+/// The dates of a run whose job times and demand dates can be edited. An edit changes no date: it marks the date that
+/// it bears on, and an evaluation of a marked date marks those that follow from it. Contracts see the sheet as a
+/// `Page`.
 ///
 /// Each call that takes a `Live` takes the one that the sheet was made for. Stations are counted from 0, jobs from 1,
 /// dates and times are in the plant's unit.
@@ -36,28 +37,28 @@ pub struct Sheet {
     dates: Vec<Row>,
     marks: Marks,
     evaluations: u64,
-    // The graph that the sheet was made for. Contracts alone read it.
+    // The live graph that the sheet was made for. Contracts alone read it.
     live: Snapshot<Live>,
 }
 
 impl Model for Sheet {
     ghost use Rattle.what_if.specs.Page.{Page};
-    ghost use Rattle.what_if.specs.Sheet.{page_of, IsHeld};
+    ghost use Rattle.what_if.specs.Sheet.{page_of, IsSheetWithRanks};
 
     ghost Value = { Page };
 
     ghost view = { λ s. page_of s.live.value s.times.items s.demands s.first.items s.dates.items
         s.marks s.evaluations };
 
-    ghost invariant = { λ s. IsHeld
+    ghost invariant = { λ s. IsSheetWithRanks
         (page_of s.live.value s.times.items s.demands s.first.items s.dates.items
         s.marks s.evaluations)
         s.ranks.items };
 }
 
 impl Sheet {
-    /// The sheet of a graph's table, with the graph's own job times and demand dates, and no mark. It takes all the memory
-    /// that later calls need.
+    /// The sheet of a graph's table, with the graph's own job times and demand dates, and no mark. It takes all the
+    /// memory that later calls need.
     pub fn new(alloc: Global, live: &Live, table: &Table) -> Result<Sheet, AllocError>
         requires { table.now.graph ≡ live.now.graph }
         ensures begun { IfOk result (IsBegun live.now table.now.rows) }
@@ -88,20 +89,20 @@ impl Sheet {
         requires not_the_feed { 1 ≤ t }
         requires date { IsDate self.old.live.graph t n }
         requires short { time ≤ longest_time }
-        ensures retimed { self.new ≡ retimed self.old t n time }
+        ensures retimed { self.new ≡ with_new_time self.old t n time }
         ensures kept { IsSheet self.new }
     {
         self.times[t as usize].set(n - 1, time);
         self.marks.insert(slot(live, t, n));
     }
 
-    /// Another demand date of job `n`, neither before that of the job before nor after that of the job after. It marks the
-    /// feed's date, and takes no memory.
+    /// Another demand date of job `n`, neither before that of the job before nor after that of the job after. It marks
+    /// the feed's date, and takes no memory.
     pub fn set_demand(&mut self, live: &Live, n: u32, date: Date)
         requires made_for { live.now ≡ self.old.live }
         requires in_order { FitsBetween self.old.inputs.demands n date }
         requires early { date ≤ last_demand }
-        ensures redemanded { self.new ≡ redemanded self.old n date }
+        ensures redemanded { self.new ≡ with_new_demand self.old n date }
         ensures kept { IsSheet self.new }
     {
         self.demands.set(n - 1, date);
@@ -170,9 +171,9 @@ impl Sheet {
         self.evaluations
     }
 
-    /// Makes the date of job `n` at station `t` the greatest of its terms over the present dates, and takes its mark away.
-    /// Where the date changed, each date with a term that reads it is marked. It answers whether the date changed, and takes
-    /// no memory.
+    /// Makes the date of job `n` at station `t` the greatest of its terms over the present dates, and takes its mark
+    /// away. Where the date changed, each date with a term that reads it is marked. It answers whether the date
+    /// changed, and takes no memory.
     ///
     /// Source of the rule: Baccelli, Cohen, Olsder and Quadrat, Synchronization and Linearity, evolution equations.
     pub fn evaluate(&mut self, live: &Live, t: u32, n: u32) -> bool
@@ -180,7 +181,7 @@ impl Sheet {
         requires date { IsDate self.old.live.graph t n }
         requires few { self.old.evaluations < 2 ^ 60 }
         ensures changed { IsTrue result ↔ (date_at self.new t n ≢ date_at self.old t n) }
-        ensures evaluated { self.new ≡ evaluated self.old t n }
+        ensures evaluated { self.new ≡ after_evaluation self.old t n }
         ensures kept { IsSheet self.new }
     {
         let date = self.greatest_term(live, t, n);

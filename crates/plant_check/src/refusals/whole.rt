@@ -118,7 +118,7 @@ fn find_falls(dates: &[Date], refusals: &mut Vec<PlantError>) -> Result<(), Allo
     Ok(())
 }
 
-/// Adds the job at place `k`, if its date is less than the one before.
+/// Adds the job of demand date `k`, counted from 0, if that date is less than the one before.
 fn find_fall(
     dates: &[Date],
     k: usize,

@@ -116,7 +116,7 @@ impl MemFiles {
     }
 
     /// What opening the file to be read answers.
-    fn opening(&mut self) -> io::Result<()>
+    fn answer_open(&mut self) -> io::Result<()>
         ensures calls { self.new.calls ≡ self.old.calls }
         ensures opened { OnOk result (self.new.is_open ≡ true) }
     {
@@ -150,7 +150,7 @@ impl MemFiles {
     }
 
     /// What looking at the name answers.
-    fn look(&mut self) -> io::Result<bool>
+    fn answer_look(&mut self) -> io::Result<bool>
         ensures calls { self.new.calls ≡ self.old.calls }
     {
         if self.is_due() {
@@ -163,7 +163,7 @@ impl MemFiles {
     }
 
     /// What making or emptying the file answers.
-    fn emptying(&mut self) -> io::Result<()>
+    fn answer_create(&mut self) -> io::Result<()>
         ensures calls { self.new.calls ≡ self.old.calls }
         ensures opened { OnOk result (self.new.is_open ≡ true) }
     {
@@ -177,7 +177,7 @@ impl MemFiles {
     }
 
     /// What making the spare file answers.
-    fn making_spare(&mut self) -> io::Result<()>
+    fn answer_create_spare(&mut self) -> io::Result<()>
         ensures calls { self.new.calls ≡ self.old.calls }
         ensures opened { OnOk result (self.new.is_open ≡ true) }
     {
@@ -236,7 +236,7 @@ impl MemFiles {
     }
 
     /// What renaming the spare file answers.
-    fn renaming(&mut self) -> io::Result<()>
+    fn answer_rename(&mut self) -> io::Result<()>
         ensures calls { self.new.calls ≡ self.old.calls }
     {
         if self.is_due() || self.spare.is_none() {
@@ -248,7 +248,7 @@ impl MemFiles {
     }
 
     /// What removing the spare file answers.
-    fn removing(&mut self) -> io::Result<()>
+    fn answer_remove(&mut self) -> io::Result<()>
         ensures calls { self.new.calls ≡ self.old.calls }
     {
         if self.is_due() || self.spare.is_none() {
@@ -299,7 +299,7 @@ impl RawFiles for MemFiles {
     } };
 
     fn open(&mut self, name: &str) -> io::Result<()> {
-        let answer = self.opening();
+        let answer = self.answer_open();
         self.calls.note_open(name, answer)
     }
 
@@ -309,17 +309,17 @@ impl RawFiles for MemFiles {
     }
 
     fn is_file(&mut self, name: &str) -> io::Result<bool> {
-        let answer = self.look();
+        let answer = self.answer_look();
         self.calls.note_look(name, answer)
     }
 
     fn create(&mut self, name: &str) -> io::Result<()> {
-        let answer = self.emptying();
+        let answer = self.answer_create();
         self.calls.note_create(name, answer)
     }
 
     fn create_spare(&mut self, spare: &str) -> io::Result<()> {
-        let answer = self.making_spare();
+        let answer = self.answer_create_spare();
         self.calls.note_create_spare(spare, answer)
     }
 
@@ -334,12 +334,12 @@ impl RawFiles for MemFiles {
     }
 
     fn rename(&mut self, spare: &str, name: &str) -> io::Result<()> {
-        let answer = self.renaming();
+        let answer = self.answer_rename();
         self.calls.note_rename(spare, name, answer)
     }
 
     fn remove(&mut self, spare: &str) -> io::Result<()> {
-        let answer = self.removing();
+        let answer = self.answer_remove();
         self.calls.note_remove(spare, answer)
     }
 

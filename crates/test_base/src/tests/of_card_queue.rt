@@ -1,6 +1,6 @@
 ghost use Rattle.std.specs.Prelude.{◌+◌, ◌≤◌, length};
 
-use crate::tests::same::same;
+use crate::tests::assert_same::assert_same;
 use card_queue::{Plain, Put, Take, queue};
 use line_base::Date;
 use std::test::Fail;
@@ -10,7 +10,7 @@ use std::thread;
 fn a_take_looks_past_what_a_meeting_told(rt: HostRuntime) -> Result<(), Fail> {
     let (mut put, mut take) = queue(rt.alloc(), &[], 1)?;
     put.put(7);
-    same(&rt, take.take(), Some(7));
+    assert_same(&rt, take.take(), Some(7));
     drop(put);
     drop(take);
     Ok(())
@@ -19,15 +19,16 @@ fn a_take_looks_past_what_a_meeting_told(rt: HostRuntime) -> Result<(), Fail> {
 #[test]
 fn a_plain_queue_gives_its_front_token(rt: HostRuntime) -> Result<(), Fail> {
     let mut plain = Plain::new(rt.alloc(), &[0], 2)?;
-    same(&rt, plain.len(), 1);
-    same(&rt, plain.take(), Some(0));
-    same(&rt, plain.take(), None);
+    assert_same(&rt, plain.len(), 1);
+    assert_same(&rt, plain.take(), Some(0));
+    assert_same(&rt, plain.take(), None);
     plain.put(7);
-    same(&rt, plain.take(), Some(7));
+    assert_same(&rt, plain.take(), Some(7));
     drop(plain);
     Ok(())
 }
 
+/// How many dates pass through the queue.
 const DATES: u32 = 10_000;
 
 /// Puts the dates 0, 3, 6, ..
@@ -39,8 +40,8 @@ fn put_all(mut put: Put)
     }
 }
 
-/// Takes what there is, and counts those that came as they were put, of which this many came before. It asks a bounded number
-/// of times, so it ends whatever the other thread does.
+/// Takes what there is, and counts those that came as they were put, of which this many came before. It asks a bounded
+/// number of times, so it ends whatever the other thread does.
 fn take_some(mut take: Take, before: u32) -> (Take, u32) {
     let mut taken = before;
     for _ in 0..2 * DATES {
@@ -57,6 +58,6 @@ fn two_threads_move_every_date_in_order(rt: HostRuntime) -> Result<(), Fail> {
     let ((), (take, taken)) = thread::join(&rt, move || put_all(put), move || take_some(take, 0));
     let (take, taken) = take_some(take, taken);
     drop(take);
-    same(&rt, taken, DATES);
+    assert_same(&rt, taken, DATES);
     Ok(())
 }

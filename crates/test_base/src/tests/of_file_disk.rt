@@ -1,6 +1,6 @@
-use crate::tests::kept::kept;
+use crate::tests::assert_same::assert_same;
+use crate::tests::leak::leak;
 use crate::tests::of_slot_store::{load, rank_after, save};
-use crate::tests::same::same;
 use crate::tests::short_file::ShortFile;
 use crate::tests::texts::TEXTS;
 use line_disk::{Disk, DiskError, FileDisk, MemDisk};
@@ -15,7 +15,7 @@ fn file_disk(
     most: u32,
 ) -> Result<&'static mut FileDisk<ShortFile>, AllocError> {
     let file = ShortFile::new(alloc, MemDisk::new(alloc, failing), false, most);
-    kept(alloc, FileDisk::over(file))
+    leak(alloc, FileDisk::over(file))
 }
 
 /// Saves the three texts, and answers the rank of the last one whose save was acknowledged, or 3.
@@ -34,8 +34,8 @@ fn saves_over_short_calls_succeed(rt: HostRuntime) -> Result<(), Fail> {
     let alloc = rt.alloc();
     for most in [1, 3, 64] {
         let disk = file_disk(alloc, Vec::new(alloc), most)?;
-        same(&rt, save_all(alloc, disk), 2);
-        same(&rt, load(alloc, disk)?.as_slice(), TEXTS[2]);
+        assert_same(&rt, save_all(alloc, disk), 2);
+        assert_same(&rt, load(alloc, disk)?.as_slice(), TEXTS[2]);
     }
     Ok(())
 }
@@ -44,16 +44,16 @@ fn saves_over_short_calls_succeed(rt: HostRuntime) -> Result<(), Fail> {
 fn nothing_is_asked_after_a_sync_that_failed(rt: HostRuntime) -> Result<(), Fail> {
     let alloc = rt.alloc();
     let disk = file_disk(alloc, vec![in alloc; 2]?, 64)?;
-    same(&rt, disk.sync(), Err(DiskError::Failed));
-    same(&rt, disk.sync(), Err(DiskError::Failed));
-    same(&rt, disk.write_at(0, b"a"), Err(DiskError::Failed));
-    same(&rt, disk.read(alloc, 0, 1).err(), Some(DiskError::Failed));
-    same(&rt, disk.file().disk.calls(), 2);
+    assert_same(&rt, disk.sync(), Err(DiskError::Failed));
+    assert_same(&rt, disk.sync(), Err(DiskError::Failed));
+    assert_same(&rt, disk.write_at(0, b"a"), Err(DiskError::Failed));
+    assert_same(&rt, disk.read(alloc, 0, 1).err(), Some(DiskError::Failed));
+    assert_same(&rt, disk.file().disk.calls(), 2);
     Ok(())
 }
 
-/// Whether three saves of which this call fails leave the text whose save was acknowledged last, or the one after it, by this
-/// pick of a crash behind them.
+/// Whether three saves of which this call fails leave the text whose save was acknowledged last, or the one after it,
+/// by this pick of a crash behind them.
 fn old_or_new_is_left(alloc: Global, call: u32, pick: u8) -> Result<bool, Fail> {
     let disk = file_disk(alloc, vec![in alloc; call]?, 5)?;
     let last = save_all(alloc, disk);

@@ -1,8 +1,8 @@
-use crate::tests::got::got;
-use crate::tests::kept::kept;
+use crate::tests::assert_same::assert_same;
+use crate::tests::expect_ok::expect_ok;
+use crate::tests::leak::leak;
 use crate::tests::mem_files::{Failing, MemFile, MemFiles};
-use crate::tests::same::same;
-use crate::tests::texts::{TEXTS, rank_among};
+use crate::tests::texts::{NO_TEXT, TEXTS, rank_among};
 use line_io::{FileStore, Store, StoreError};
 use std::alloc::Global;
 use std::process::Abort;
@@ -15,9 +15,9 @@ fn store_of(
     failing: Failing,
     bars_spare: bool,
 ) -> &'static mut FileStore<MemFiles> {
-    let old = got(rt, MemFile::of(alloc, b"old"));
+    let old = expect_ok(rt, MemFile::of(alloc, b"old"));
     let files = MemFiles::new(alloc, Some(old), most, failing, bars_spare);
-    got(rt, kept(alloc, FileStore::over(alloc, files)))
+    expect_ok(rt, leak(alloc, FileStore::over(alloc, files)))
 }
 
 /// What a read of the file answers.
@@ -38,12 +38,12 @@ fn write_all(store: &mut FileStore<MemFiles>) -> (u32, usize) {
     (count, last)
 }
 
-/// The rank of what the file holds among the texts, 3 for `old`, or 9 for anything else.
+/// The rank of what the file holds among the texts, 3 for `old`, or `NO_TEXT` for anything else.
 fn rank_of(store: &FileStore<MemFiles>, after_crash: bool) -> usize {
     match store.files().content(after_crash) {
         Some(b"old") => 3,
         Some(bytes) => rank_among(bytes),
-        None => 9,
+        None => NO_TEXT,
     }
 }
 
@@ -52,16 +52,17 @@ fn writes_and_reads_go_on_after_short_calls(rt: HostRuntime) {
     let alloc = rt.alloc();
     for most in [1, 3, 64] {
         let store = store_of(&rt, alloc, most, Failing::None, false);
-        same(&rt, write_all(store), (3, 2));
-        let bytes = got(&rt, read(store, alloc, 5));
+        assert_same(&rt, write_all(store), (3, 2));
+        let bytes = expect_ok(&rt, read(store, alloc, 5));
         assert!(rt; bytes.as_slice() == TEXTS[2]);
         drop(bytes);
-        same(&rt, read(store, alloc, 4).err(), Some(StoreError::TooLong));
+        assert_same(&rt, read(store, alloc, 4).err(), Some(StoreError::TooLong));
     }
 }
 
-/// Whether three writes end as they should, where this one of their calls fails. Each asks for six calls: to look at the name,
-/// to remove a spare file, to make one, to write it, to sync it, and to rename it. Where the second fails, all goes well.
+/// Whether three writes end as they should, where this one of their calls fails. Each asks for six calls: to look at
+/// the name, to remove a spare file, to make one, to write it, to sync it, and to rename it. Where the second fails,
+/// all goes well.
 fn ends_well_where_one_fails(rt: &impl Abort, alloc: Global, number: u32) -> bool {
     let store = store_of(rt, alloc, 64, Failing::One(number), false);
     let (count, last) = write_all(store);
@@ -101,8 +102,8 @@ fn a_stop_at_any_call_leaves_what_was_acknowledged(rt: HostRuntime) {
     }
 }
 
-/// What is left of three writes in place, where one of their calls fails, and after a crash. Each asks for six calls: to look
-/// at the name, to remove and to make a spare file, to empty the file, to write it, and to sync it.
+/// What is left of three writes in place, where one of their calls fails, and after a crash. Each asks for six calls:
+/// to look at the name, to remove and to make a spare file, to empty the file, to write it, and to sync it.
 fn left_in_place(rt: &impl Abort, alloc: Global, failing: Failing) -> (u32, usize, usize) {
     let store = store_of(rt, alloc, 64, failing, true);
     let (count, _) = write_all(store);
@@ -112,10 +113,18 @@ fn left_in_place(rt: &impl Abort, alloc: Global, failing: Failing) -> (u32, usiz
 #[test]
 fn a_file_is_written_in_its_place_where_no_other_can_be_made(rt: HostRuntime) {
     let alloc = rt.alloc();
-    same(&rt, left_in_place(&rt, alloc, Failing::None), (3, 2, 2));
-    same(&rt, left_in_place(&rt, alloc, Failing::One(16)), (2, 1, 1));
-    same(&rt, left_in_place(&rt, alloc, Failing::One(17)), (2, 9, 9));
-    same(&rt, left_in_place(&rt, alloc, Failing::One(18)), (2, 2, 9));
+    assert_same(&rt, left_in_place(&rt, alloc, Failing::None), (3, 2, 2));
+    assert_same(&rt, left_in_place(&rt, alloc, Failing::One(16)), (2, 1, 1));
+    assert_same(
+        &rt,
+        left_in_place(&rt, alloc, Failing::One(17)),
+        (2, NO_TEXT, NO_TEXT),
+    );
+    assert_same(
+        &rt,
+        left_in_place(&rt, alloc, Failing::One(18)),
+        (2, 2, NO_TEXT),
+    );
 }
 
 /// What a read answers of which this call fails: to open, to read, and to find the end.
@@ -129,7 +138,7 @@ fn a_read_of_which_a_call_fails_answers_no_bytes(rt: HostRuntime) {
     let alloc = rt.alloc();
     for number in 1..=3 {
         let answer = read_where_one_fails(&rt, alloc, number);
-        same(&rt, answer, Some(StoreError::Failed));
+        assert_same(&rt, answer, Some(StoreError::Failed));
     }
-    same(&rt, read_where_one_fails(&rt, alloc, 4), None);
+    assert_same(&rt, read_where_one_fails(&rt, alloc, 4), None);
 }

@@ -1,4 +1,4 @@
-use crate::tests::same::same;
+use crate::tests::assert_same::assert_same;
 use line_disk::{Disk, FileDisk};
 use slot_store::{SlotError, Slots};
 use std::alloc::Global;
@@ -22,8 +22,8 @@ fn loads_hello<D: Disk>(
     Ok(bytes.as_slice() == b"hello".as_slice())
 }
 
-/// The same of the file of the machine. The runtime is named here, since a function for any runtime that makes this disk
-/// is slow to prove.
+/// The same of the file of the machine. The runtime is named here, since a function for any runtime that makes this
+/// disk is slow to prove.
 fn file_loads_hello(rt: &HostRuntime, saved: Option<&[u8]>) -> Result<bool, SlotError> {
     let mut disk = FileDisk::new(rt);
     loads_hello(&mut disk, rt.alloc(), saved)
@@ -34,13 +34,13 @@ fn the_file_of_the_machine_is_a_disk_and_a_folder_in_its_place_a_fault(
     rt: HostRuntime,
 ) -> Result<(), Fail> {
     let hello = b"hello".as_slice();
-    same(&rt, file_loads_hello(&rt, None), Err(SlotError::NoneSaved));
+    assert_same(&rt, file_loads_hello(&rt, None), Err(SlotError::NoneSaved));
     assert!(rt; !fs::exists(&rt, FILE)?);
-    same(&rt, file_loads_hello(&rt, Some(hello)), Ok(true));
-    same(&rt, file_loads_hello(&rt, None), Ok(true));
+    assert_same(&rt, file_loads_hello(&rt, Some(hello)), Ok(true));
+    assert_same(&rt, file_loads_hello(&rt, None), Ok(true));
     fs::remove_file(&rt, FILE)?;
     fs::create_dir(&rt, FILE)?;
-    same(&rt, file_loads_hello(&rt, None), Err(SlotError::DiskFault));
+    assert_same(&rt, file_loads_hello(&rt, None), Err(SlotError::DiskFault));
     fs::remove_dir(&rt, FILE)?;
     Ok(())
 }

@@ -1,5 +1,5 @@
-use crate::tests::got::got;
-use crate::tests::same::same;
+use crate::tests::assert_same::assert_same;
+use crate::tests::expect_ok::expect_ok;
 use line_io::{Failed, FileStore, MemSink, Outgoing, StdSink, Store, StoreError, put_all};
 use std::alloc::Global;
 use std::cell::Cell;
@@ -10,8 +10,8 @@ use std::{env, fs, io, process};
 
 /// A sink whose put of this number fails and keeps nothing.
 fn sink_of(rt: &impl Abort, alloc: Global, failing: u32) -> MemSink {
-    let failing = got(rt, vec![in alloc; failing]);
-    got(rt, MemSink::new(alloc, 20_000, failing, 0))
+    let failing = expect_ok(rt, vec![in alloc; failing]);
+    expect_ok(rt, MemSink::new(alloc, 20_000, failing, 0))
 }
 
 /// Whether these bytes go out, and how much is written.
@@ -29,7 +29,7 @@ fn push_parts(out: &mut Outgoing, sink: &mut MemSink, bytes: &[u8]) {
 
 /// The same through a buffer, by parts of seven bytes.
 fn put_by_parts(rt: &impl Abort, alloc: Global, sink: &mut MemSink, bytes: &[u8]) -> (bool, usize) {
-    let mut out = got(rt, Outgoing::new(alloc));
+    let mut out = expect_ok(rt, Outgoing::new(alloc));
     push_parts(&mut out, sink, bytes);
     let well = out.finish(sink).is_ok();
     (well, sink.written().len())
@@ -37,21 +37,27 @@ fn put_by_parts(rt: &impl Abort, alloc: Global, sink: &mut MemSink, bytes: &[u8]
 
 /// Asserts whether a text of that many bytes goes out where one put fails, and how much is
 /// written, both ways.
-fn goes_out(rt: &impl Abort, alloc: Global, length: usize, failing: u32, written: (bool, usize)) {
-    let bytes = got(rt, vec![in alloc; b'x'; length]);
+fn assert_goes_out(
+    rt: &impl Abort,
+    alloc: Global,
+    length: usize,
+    failing: u32,
+    written: (bool, usize),
+) {
+    let bytes = expect_ok(rt, vec![in alloc; b'x'; length]);
     let mut sink = sink_of(rt, alloc, failing);
-    same(rt, put_whole(&mut sink, &bytes), written);
+    assert_same(rt, put_whole(&mut sink, &bytes), written);
     drop(sink);
     let mut sink = sink_of(rt, alloc, failing);
-    same(rt, put_by_parts(rt, alloc, &mut sink, &bytes), written);
+    assert_same(rt, put_by_parts(rt, alloc, &mut sink, &bytes), written);
     drop(sink);
 }
 
 #[test]
 fn long_texts_go_out_in_pieces_of_4096_bytes(rt: HostRuntime) {
-    goes_out(&rt, rt.alloc(), 4_096, 2, (true, 4_096));
-    goes_out(&rt, rt.alloc(), 4_097, 2, (false, 4_096));
-    goes_out(&rt, rt.alloc(), 12_288, 3, (false, 8_192));
+    assert_goes_out(&rt, rt.alloc(), 4_096, 2, (true, 4_096));
+    assert_goes_out(&rt, rt.alloc(), 4_097, 2, (false, 4_096));
+    assert_goes_out(&rt, rt.alloc(), 12_288, 3, (false, 8_192));
 }
 
 /// What is read of a file of a store, after these bytes were written to it, where some are given.
@@ -91,7 +97,8 @@ fn gives(rt: &HostRuntime, name: &str, is_written: bool, bytes: &[u8]) -> bool {
     }
 }
 
-/// Whether a file of the machine holds these bytes once they were written to this one, which is that file or a link to it.
+/// Whether a file of the machine holds these bytes once they were written to this one, which is that file or a link to
+/// it.
 fn holds(rt: &HostRuntime, name: &str, to: &str, bytes: &[u8]) -> bool {
     gives(rt, to, true, bytes) && gives(rt, name, false, bytes)
 }
@@ -113,8 +120,8 @@ fn name_of(rt: &HostRuntime, ending: &str) -> io::Result<String> {
     Ok(name?)
 }
 
-/// Whether a file holds each of these texts once it was written to it. Of the 40,000 bytes of the long one those at one place
-/// in two pieces of 4,096 bytes differ.
+/// Whether a file holds each of these texts once it was written to it. Of the 40,000 bytes of the long one those at one
+/// place in two pieces of 4,096 bytes differ.
 fn holds_each(rt: &HostRuntime, name: &str) -> io::Result<bool> {
     let long = b"0123456789abcdefghijklmno".repeat(rt.alloc(), 1_600)?;
     let bytes = long.as_slice();
@@ -135,18 +142,18 @@ fn is_written_through(rt: &HostRuntime, name: &str, link: &str) -> io::Result<bo
 
 #[test]
 fn a_file_of_the_machine_is_written_and_read(rt: HostRuntime) {
-    let name = got(&rt, name_of(&rt, ""));
+    let name = expect_ok(&rt, name_of(&rt, ""));
     let name = name.as_str();
-    assert!(rt; got(&rt, holds_each(&rt, name)));
-    let beside = got(&rt, name_of(&rt, ".new"));
-    assert!(rt; !got(&rt, fs::exists(&rt, beside.as_str())));
+    assert!(rt; expect_ok(&rt, holds_each(&rt, name)));
+    let beside = expect_ok(&rt, name_of(&rt, ".new"));
+    assert!(rt; !expect_ok(&rt, fs::exists(&rt, beside.as_str())));
     drop(beside);
-    same(&rt, refusal(&rt, name, 39_999), Some(StoreError::TooLong));
-    let link = got(&rt, name_of(&rt, ".link"));
-    assert!(rt; got(&rt, is_written_through(&rt, name, link.as_str())));
+    assert_same(&rt, refusal(&rt, name, 39_999), Some(StoreError::TooLong));
+    let link = expect_ok(&rt, name_of(&rt, ".link"));
+    assert!(rt; expect_ok(&rt, is_written_through(&rt, name, link.as_str())));
     drop(link);
-    got(&rt, fs::remove_file(&rt, name));
-    same(&rt, refusal(&rt, name, 40_000), Some(StoreError::Failed));
+    expect_ok(&rt, fs::remove_file(&rt, name));
+    assert_same(&rt, refusal(&rt, name, 40_000), Some(StoreError::Failed));
 }
 
 /// A printer that refuses what goes past its room.
@@ -177,7 +184,7 @@ impl Print for Printer {
 
 #[test]
 fn standard_output_takes_pieces(rt: HostRuntime) {
-    got(
+    expect_ok(
         &rt,
         put_all(&mut StdSink::new(&rt), b"written through a sink\n"),
     );
@@ -185,8 +192,8 @@ fn standard_output_takes_pieces(rt: HostRuntime) {
         printed: Cell::new(0),
         room: 8_191,
     };
-    let bytes = got(&rt, vec![in rt.alloc(); b'x'; 8_192]);
+    let bytes = expect_ok(&rt, vec![in rt.alloc(); b'x'; 8_192]);
     let failed = put_all(&mut StdSink::new(&printer), &bytes);
-    same(&rt, failed, Err(Failed));
-    same(&rt, printer.printed.get(), 4_096);
+    assert_same(&rt, failed, Err(Failed));
+    assert_same(&rt, printer.printed.get(), 4_096);
 }

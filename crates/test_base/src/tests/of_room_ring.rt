@@ -1,6 +1,6 @@
 ghost use Rattle.std.specs.Prelude.{◌≡◌, []};
 
-use crate::tests::same::same;
+use crate::tests::assert_same::assert_same;
 use line_base::Date;
 use room_ring::{Full, RoomPut, RoomTake, room_ring};
 use std::process::Abort;
@@ -8,29 +8,30 @@ use std::test::Fail;
 use std::thread;
 
 /// Asserts that a ring gives these tokens in order, and then none.
-fn gives(rt: &impl Abort, take: &mut RoomTake, dates: &[Date]) {
+fn assert_gives(rt: &impl Abort, take: &mut RoomTake, dates: &[Date]) {
     for date in dates {
-        same(rt, take.take(), Some(*date));
+        assert_same(rt, take.take(), Some(*date));
     }
-    same(rt, take.take(), None);
+    assert_same(rt, take.take(), None);
 }
 
 #[test]
 fn a_full_ring_refuses_until_a_token_is_taken(rt: HostRuntime) -> Result<(), Fail> {
     let (mut put, mut take) = room_ring(rt.alloc(), &[0], 2)?;
-    same(&rt, put.space(), 1);
-    same(&rt, put.put(5), Ok(()));
-    same(&rt, put.put(7), Err(Full));
-    same(&rt, take.take(), Some(0));
-    same(&rt, put.put(7), Ok(()));
-    gives(&rt, &mut take, &[5, 7]);
-    same(&rt, put.space(), 0);
-    same(&rt, put.look(), 2);
+    assert_same(&rt, put.space(), 1);
+    assert_same(&rt, put.put(5), Ok(()));
+    assert_same(&rt, put.put(7), Err(Full));
+    assert_same(&rt, take.take(), Some(0));
+    assert_same(&rt, put.put(7), Ok(()));
+    assert_gives(&rt, &mut take, &[5, 7]);
+    assert_same(&rt, put.space(), 0);
+    assert_same(&rt, put.look(), 2);
     drop(put);
     drop(take);
     Ok(())
 }
 
+/// How many dates pass through the ring.
 const DATES: u32 = 10_000;
 
 /// How often each thread tries, so that it ends whatever the other thread does.
@@ -74,7 +75,7 @@ fn take_all(mut take: RoomTake) -> u32 {
 fn two_threads_move_every_date_in_order_through_a_small_ring(rt: HostRuntime) -> Result<(), Fail> {
     let (put, take) = room_ring(rt.alloc(), &[], 3)?;
     let (given, taken) = thread::join(&rt, move || put_all(put), move || take_all(take));
-    same(&rt, given, DATES);
-    same(&rt, taken, DATES);
+    assert_same(&rt, given, DATES);
+    assert_same(&rt, taken, DATES);
     Ok(())
 }

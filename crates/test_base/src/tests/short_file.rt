@@ -6,8 +6,8 @@ use line_disk::{DISK_END, Disk, MemDisk, Opening, RawCalls, RawFile};
 use std::alloc::Global;
 use std::io;
 
-/// A file over a disk in memory, which takes and gives at most `most` bytes a call. Each call of it is one of the disk, to
-/// open it too, so each can fail and be cut by a crash.
+/// A file over a disk in memory, which takes and gives at most `most` bytes a call. Each call of it is one of the disk,
+/// to open it too, so each can fail and be cut by a crash.
 #[derive(Drop)]
 pub struct ShortFile {
     alloc: Global,
@@ -32,7 +32,7 @@ impl ShortFile {
     }
 
     /// What opening it answers.
-    fn opening(&mut self, makes: bool) -> Opening
+    fn answer_open(&mut self, makes: bool) -> Opening
         ensures calls { self.new.calls ≡ self.old.calls }
         ensures opened { result ≡ Opened → self.new.is_open ≡ true }
         ensures refused { result ≢ Opened → self.new.is_open ≡ self.old.is_open }
@@ -110,7 +110,7 @@ impl RawFile for ShortFile {
     }
 
     fn open(&mut self, makes: bool) -> Opening {
-        let answer = self.opening(makes);
+        let answer = self.answer_open(makes);
         self.calls.note_open(makes, answer)
     }
 

@@ -1,5 +1,5 @@
-use crate::tests::got::got;
-use crate::tests::same::same;
+use crate::tests::assert_same::assert_same;
+use crate::tests::expect_ok::expect_ok;
 use crate::tests::samples::live_pair;
 use cycle_time::{Certificate, CycleError, accept, cycle};
 use live_check::Live;
@@ -20,9 +20,9 @@ fn answer_for(rt: &impl Abort, alloc: Global, live: &Live) -> Result<Certificate
 #[test]
 fn the_delay_of_an_arc_counts(rt: HostRuntime) -> Result<(), Fail> {
     let live = live_pair(rt.alloc(), 2)?;
-    let certificate = got(&rt, answer_for(&rt, rt.alloc(), live));
-    same(&rt, (certificate.time, certificate.cards), (5, 1));
-    same(&rt, certificate.circuit.as_slice(), [1].as_slice());
-    same(&rt, certificate.potentials.as_slice(), [0, 4].as_slice());
+    let certificate = expect_ok(&rt, answer_for(&rt, rt.alloc(), live));
+    assert_same(&rt, (certificate.time, certificate.cards), (5, 1));
+    assert_same(&rt, certificate.circuit.as_slice(), [1].as_slice());
+    assert_same(&rt, certificate.potentials.as_slice(), [0, 4].as_slice());
     Ok(())
 }

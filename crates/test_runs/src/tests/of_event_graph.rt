@@ -1,4 +1,4 @@
-use crate::tests::same::same;
+use crate::tests::assert_same::assert_same;
 use crate::tests::samples::{plain, two_stations};
 use event_graph::{Arc, GraphError};
 use std::alloc::Global;
@@ -6,9 +6,14 @@ use std::process::Abort;
 use std::test::Fail;
 
 /// Asserts the fault of two stations with these arcs, none of which has a delay.
-fn is_refused(rt: &impl Abort, alloc: Global, arcs: &[Arc], fault: GraphError) -> Result<(), Fail> {
+fn assert_refused(
+    rt: &impl Abort,
+    alloc: Global,
+    arcs: &[Arc],
+    fault: GraphError,
+) -> Result<(), Fail> {
     let delays = vec![in alloc; 0; arcs.len()]?;
-    same(rt, two_stations(alloc, arcs, &delays)?.err(), Some(fault));
+    assert_same(rt, two_stations(alloc, arcs, &delays)?.err(), Some(fault));
     Ok(())
 }
 
@@ -17,8 +22,8 @@ fn is_refused(rt: &impl Abort, alloc: Global, arcs: &[Arc], fault: GraphError) -
 fn the_first_fault_of_the_arcs_is_named(rt: HostRuntime) -> Result<(), Fail> {
     let alloc = rt.alloc();
     let outside = [plain(1, 0, 1), plain(0, 1, 1), plain(2, 1, 1)];
-    is_refused(&rt, alloc, &outside, GraphError::EndOutOfRange { arc: 2 })?;
+    assert_refused(&rt, alloc, &outside, GraphError::EndOutOfRange { arc: 2 })?;
     let into_the_feed = [plain(0, 1, 1), plain(1, 0, 1), plain(0, 0, 1)];
-    is_refused(&rt, alloc, &into_the_feed, GraphError::FeedInput { arc: 1 })?;
-    is_refused(&rt, alloc, &[], GraphError::NoInput { station: 1 })
+    assert_refused(&rt, alloc, &into_the_feed, GraphError::FeedInput { arc: 1 })?;
+    assert_refused(&rt, alloc, &[], GraphError::NoInput { station: 1 })
 }

@@ -1,6 +1,6 @@
-use crate::tests::kept::kept;
+use crate::tests::assert_same::assert_same;
+use crate::tests::leak::leak;
 use crate::tests::of_line_workers::new_line;
-use crate::tests::same::same;
 use crate::tests::samples::live_forty_jobs;
 use line_base::Date;
 use line_core::Table;
@@ -21,20 +21,20 @@ fn dates_of<'a>(rt: &impl Abort, table: &'a Table, t: u32) -> &'a [Date] {
 }
 
 /// Asserts that a part is delivered every five, forty in all.
-fn has_forty_deliveries(rt: &impl Abort, delivered: &[Date]) {
-    same(rt, delivered.len(), 40);
+fn assert_forty_deliveries(rt: &impl Abort, delivered: &[Date]) {
+    assert_same(rt, delivered.len(), 40);
     let mut date: Date = 0;
     for delivery in delivered {
-        same(rt, *delivery, date);
+        assert_same(rt, *delivery, date);
         date = date.saturating_add(5);
     }
 }
 
 /// Asserts that a table has the dates of the two stages with forty demands: a part every five.
-fn has_forty_dates(rt: &impl Abort, table: &Table) {
-    same(rt, table.stations(), 6);
-    has_forty_deliveries(rt, dates_of(rt, table, 5));
-    same(rt, dates_of(rt, table, 4).last(), Some(&200));
+fn assert_forty_dates(rt: &impl Abort, table: &Table) {
+    assert_same(rt, table.stations(), 6);
+    assert_forty_deliveries(rt, dates_of(rt, table, 5));
+    assert_same(rt, dates_of(rt, table, 4).last(), Some(&200));
 }
 
 /// A run of forty jobs by one worker, with the state saved after every fifty firings.
@@ -56,7 +56,7 @@ fn saved_run<R: Threads + Sync>(
     disk: &mut MemDisk,
 ) -> Result<&'static Table, Fail> {
     let table = run_saving(rt, alloc, live, disk)??;
-    Ok(kept(alloc, table)?)
+    Ok(leak(alloc, table)?)
 }
 
 /// What a run by one worker that goes on from the slots of a disk answers. What its contract says is let go here.
@@ -80,10 +80,10 @@ fn leaves_nothing<R: Abort + Threads + Sync>(
     pick: u8,
 ) -> Result<bool, Fail> {
     assert!(rt; call <= disk.calls() && pick <= 2);
-    let left = kept(alloc, disk.crash(call, pick)?)?;
+    let left = leak(alloc, disk.crash(call, pick)?)?;
     match resumed_from_slots(rt, alloc, live, left) {
         Ok(table) => {
-            has_forty_dates(rt, kept(alloc, table)?);
+            assert_forty_dates(rt, leak(alloc, table)?);
             Ok(false)
         }
         Err(error) => {
@@ -97,8 +97,8 @@ fn leaves_nothing<R: Abort + Threads + Sync>(
 fn a_run_that_crashed_is_resumed(rt: HostRuntime) -> Result<(), Fail> {
     let alloc = rt.alloc();
     let live = live_forty_jobs(alloc)?;
-    let disk = kept(alloc, MemDisk::new(alloc, Vec::new(alloc)))?;
-    has_forty_dates(&rt, saved_run(&rt, alloc, live, disk)?);
+    let disk = leak(alloc, MemDisk::new(alloc, Vec::new(alloc)))?;
+    assert_forty_dates(&rt, saved_run(&rt, alloc, live, disk)?);
     let mut was_blank = false;
     for call in 0..disk.calls() {
         for pick in 0..3 {

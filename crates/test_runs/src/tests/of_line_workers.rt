@@ -1,7 +1,7 @@
 ghost use Rattle.std.specs.Prelude.{◌≡◌, ◌≤◌, IfOk};
 ghost use Rattle.line_base.specs.Limits.{most_workers};
 
-use crate::tests::same::same;
+use crate::tests::assert_same::assert_same;
 use crate::tests::samples::live_stages;
 use line_base::Date;
 use line_core::State;
@@ -43,11 +43,11 @@ fn worked_line<R: Threads + Sync>(
 }
 
 /// Asserts that a state has these dates of a station.
-fn has_log(rt: &impl Abort, live: &Live, state: &State, t: u32, dates: &[Date])
+fn assert_log(rt: &impl Abort, live: &Live, state: &State, t: u32, dates: &[Date])
     requires { live.now.graph ≡ state.now.graph }
 {
     assert!(rt; t < live.graph().stations());
-    same(rt, state.log(t), dates);
+    assert_same(rt, state.log(t), dates);
 }
 
 /// All dates of the two stages, by station.
@@ -61,21 +61,21 @@ const ALL_DATES: [(u32, [Date; 3]); 6] = [
 ];
 
 /// Asserts that a state has all dates of the two stages.
-fn has_all_dates(rt: &impl Abort, live: &Live, state: &State)
+fn assert_all_dates(rt: &impl Abort, live: &Live, state: &State)
     requires { live.now.graph ≡ state.now.graph }
 {
-    same(rt, live.graph().stations(), 6);
+    assert_same(rt, live.graph().stations(), 6);
     for (t, dates) in ALL_DATES {
-        has_log(rt, live, state, t, &dates);
+        assert_log(rt, live, state, t, &dates);
     }
 }
 
 /// Asserts that the state of a line has all dates of the two stages.
-fn closes_with_all_dates(rt: &impl Abort, live: &Live, line: Line)
+fn assert_closes_with_all_dates(rt: &impl Abort, live: &Live, line: Line)
     requires { live.now ≡ line.live }
 {
     let state = line.close(live);
-    has_all_dates(rt, live, &state);
+    assert_all_dates(rt, live, &state);
     drop(state);
 }
 
@@ -84,7 +84,7 @@ fn a_thousand_runs_give_the_same_dates(rt: HostRuntime) -> Result<(), Fail> {
     let live = live_stages(rt.alloc())?;
     for run in 0..1000 {
         let line = worked_line(&rt, rt.alloc(), live, 2 + run % 15)?;
-        closes_with_all_dates(&rt, live, line);
+        assert_closes_with_all_dates(&rt, live, line);
     }
     Ok(())
 }

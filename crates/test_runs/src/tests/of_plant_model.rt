@@ -1,7 +1,7 @@
 //! The refusals of a plant as a value that no plant file brings as far as `check`, each of a plant that only just isn't
 //! sound. The others are cases.
-use crate::tests::got::got;
-use crate::tests::same::same;
+use crate::tests::assert_same::assert_same;
+use crate::tests::expect_ok::expect_ok;
 use line_base::{Date, Items, Name, Times};
 use plant_check::check;
 use plant_model::{Machine, Plant, Policy, Stage};
@@ -32,7 +32,7 @@ fn plant_of(rt: &impl Abort, alloc: Global, parts: &Parts) -> Plant {
     let weld = stage_of(rt, alloc, parts, weld, None);
     Plant {
         policy: Policy::Extended,
-        stages: Items::from_vec(got(rt, vec![in alloc; cut, weld])),
+        stages: Items::from_vec(expect_ok(rt, vec![in alloc; cut, weld])),
         loops: Items::from_vec(Vec::new(alloc)),
         card_time: 0,
         demands: numbers_of(rt, alloc, parts.demands),
@@ -49,37 +49,37 @@ fn stage_of(
     feeds: Option<u32>,
 ) -> Stage {
     let times = Times::Each(numbers_of(rt, alloc, parts.times));
-    let machine = Machine::of(got(rt, Name::of(alloc, b"m")), times);
+    let machine = Machine::of(expect_ok(rt, Name::of(alloc, b"m")), times);
     Stage {
-        name: got(rt, Name::of(alloc, name)),
+        name: expect_ok(rt, Name::of(alloc, name)),
         feeds,
         cards: 2,
         stock: 1,
         travel: 0,
         card_time: 0,
-        machines: Items::from_vec(got(rt, vec![in alloc; machine])),
+        machines: Items::from_vec(expect_ok(rt, vec![in alloc; machine])),
     }
 }
 
 /// These numbers as a list.
 fn numbers_of(rt: &impl Abort, alloc: Global, numbers: &[u64]) -> Items<u64> {
-    Items::from_vec(got(rt, Vec::from_slice(alloc, numbers)))
+    Items::from_vec(expect_ok(rt, Vec::from_slice(alloc, numbers)))
 }
 
-/// The text of the refusal of a plant, or `sound`.
-fn said_of(rt: &impl Abort, alloc: Global, plant: &Plant) -> String {
+/// The verdict on a plant: the text of its refusal, or `sound`.
+fn verdict_of(rt: &impl Abort, alloc: Global, plant: &Plant) -> String {
     match check(alloc, plant) {
-        Ok(()) => got(rt, String::from_str(alloc, "sound")),
+        Ok(()) => expect_ok(rt, String::from_str(alloc, "sound")),
         Err(error) => {
             let text = format!(in alloc; "{error}");
             drop(error);
-            got(rt, text)
+            expect_ok(rt, text)
         }
     }
 }
 
-/// Each of these parts, and what is said of their plant.
-const SAID: [(Parts, &str); 7] = [
+/// Parts of plants, each with the verdict on its plant.
+const VERDICTS: [(Parts, &str); 7] = [
     (SOUND, "sound"),
     (
         Parts {
@@ -127,10 +127,10 @@ const SAID: [(Parts, &str); 7] = [
 
 #[test]
 fn plants_are_refused_at_their_first_fault(rt: HostRuntime) {
-    for (parts, line) in &SAID {
+    for (parts, line) in &VERDICTS {
         let plant = plant_of(&rt, rt.alloc(), parts);
-        let said = said_of(&rt, rt.alloc(), &plant);
+        let verdict = verdict_of(&rt, rt.alloc(), &plant);
         drop(plant);
-        same(&rt, said.as_str(), *line);
+        assert_same(&rt, verdict.as_str(), *line);
     }
 }

@@ -1,10 +1,10 @@
+use crate::tests::assert_same::assert_same;
 use crate::tests::counting_gate::CountingGate;
-use crate::tests::got::got;
-use crate::tests::held_gate::HeldGate;
-use crate::tests::kept::kept;
+use crate::tests::expect_ok::expect_ok;
+use crate::tests::holding_gate::HoldingGate;
+use crate::tests::leak::leak;
 use crate::tests::noting_gate::NotingGate;
 use crate::tests::pair_gate::PairGate;
-use crate::tests::same::same;
 use crate::tests::samples::{
     BASE_STOCK, FORTY_DEMANDS, KANBAN, ONE_CARD, ONE_PART, THREE_DEMANDS, stages_file,
 };
@@ -78,8 +78,8 @@ fn stages_store(
     demands: &str,
     said: &str,
 ) -> MemStore {
-    let file = got(rt, stages_file(alloc, policy, demands, said, said));
-    got(rt, store_of(alloc, "a.toml", file.as_str()))
+    let file = expect_ok(rt, stages_file(alloc, policy, demands, said, said));
+    expect_ok(rt, store_of(alloc, "a.toml", file.as_str()))
 }
 
 /// The status of the top call over a store, a sink and a disk, through a gate. What its contract says is let go here.
@@ -97,7 +97,7 @@ fn status_of<R: Threads + Wait + Sync, G: Gate>(
 
 /// Does what the words of a line ask for over a store and a new disk, through a gate, and asserts that it ends well.
 /// Answers what it wrote.
-fn written<R: Abort + Threads + Wait + Sync, G: Gate>(
+fn output_of<R: Abort + Threads + Wait + Sync, G: Gate>(
     rt: &R,
     alloc: Global,
     line: &str,
@@ -105,14 +105,14 @@ fn written<R: Abort + Threads + Wait + Sync, G: Gate>(
     gate: &G,
 ) -> Vec<u8> {
     let mut disk = MemDisk::new(alloc, Vec::new(alloc));
-    let report = written_over(rt, alloc, line, store, gate, &mut disk);
+    let report = output_over(rt, alloc, line, store, gate, &mut disk);
     drop(disk);
     report
 }
 
 /// Does what the words of a line ask for over a store and a disk, through a gate, and asserts that it ends well.
 /// Answers what it wrote.
-fn written_over<R: Abort + Threads + Wait + Sync, G: Gate>(
+fn output_over<R: Abort + Threads + Wait + Sync, G: Gate>(
     rt: &R,
     alloc: Global,
     line: &str,
@@ -120,12 +120,12 @@ fn written_over<R: Abort + Threads + Wait + Sync, G: Gate>(
     gate: &G,
     disk: &mut MemDisk,
 ) -> Vec<u8> {
-    let words = got(rt, words_of(alloc, line));
-    let mut sink = got(rt, MemSink::new(alloc, 100_000, Vec::new(alloc), 0));
+    let words = expect_ok(rt, words_of(alloc, line));
+    let mut sink = expect_ok(rt, MemSink::new(alloc, 100_000, Vec::new(alloc), 0));
     let status = status_of(rt, alloc, &words, store, &mut sink, gate, disk);
     drop(words);
-    same(rt, status, 0);
-    let report = got(rt, Vec::from_slice(alloc, sink.written()));
+    assert_same(rt, status, 0);
+    let report = expect_ok(rt, Vec::from_slice(alloc, sink.written()));
     drop(sink);
     report
 }
@@ -144,14 +144,14 @@ const FEEDS: [(&str, u64, u64); 3] = [
 fn a_bounded_ring_holds_the_feed_back(rt: HostRuntime) {
     let alloc = rt.alloc();
     let mut store = stages_store(&rt, alloc, BASE_STOCK, FORTY_DEMANDS, ONE_PART);
-    let whole = written(&rt, alloc, "run a.toml", &mut store, &FreeGate);
+    let whole = output_of(&rt, alloc, "run a.toml", &mut store, &FreeGate);
     for (line, least, most) in FEEDS {
-        let gate = HeldGate::new(1, PASSES);
-        let report = written(&rt, alloc, line, &mut store, &gate);
-        same(&rt, gate.has_missed(), false);
+        let gate = HoldingGate::new(1, PASSES);
+        let report = output_of(&rt, alloc, line, &mut store, &gate);
+        assert_same(&rt, gate.has_missed(), false);
         let feeds = gate.feeds();
-        same(&rt, least <= feeds && feeds <= most, true);
-        same(&rt, report.as_slice(), whole.as_slice());
+        assert_same(&rt, least <= feeds && feeds <= most, true);
+        assert_same(&rt, report.as_slice(), whole.as_slice());
         drop(report);
     }
     drop(whole);
@@ -175,12 +175,12 @@ const BY_THREE: [(&str, u64); 8] = [
 fn as_many_workers_are_at_work_as_are_asked_for(rt: HostRuntime) {
     let alloc = rt.alloc();
     let mut store = stages_store(&rt, alloc, KANBAN, FORTY_DEMANDS, ONE_CARD);
-    let disk = got(&rt, kept(alloc, MemDisk::new(alloc, Vec::new(alloc))));
+    let disk = expect_ok(&rt, leak(alloc, MemDisk::new(alloc, Vec::new(alloc))));
     for (line, steps) in BY_THREE {
         let gate = NotingGate::new();
-        drop(written_over(&rt, alloc, line, &mut store, &gate, disk));
-        same(&rt, gate.greatest(), 2);
-        same(&rt, gate.passes() >= steps, true);
+        drop(output_over(&rt, alloc, line, &mut store, &gate, disk));
+        assert_same(&rt, gate.greatest(), 2);
+        assert_same(&rt, gate.passes() >= steps, true);
     }
     drop(store);
 }
@@ -196,9 +196,9 @@ fn forty_deliveries(alloc: Global) -> Result<String, AllocError> {
 }
 
 /// Asserts that a report of the two stages delivers a part every five, forty in all.
-fn delivers_forty(rt: &impl Abort, alloc: Global, report: &[u8]) {
-    let end = got(rt, forty_deliveries(alloc));
-    same(rt, report.ends_with(end.as_bytes()), true);
+fn assert_delivers_forty(rt: &impl Abort, alloc: Global, report: &[u8]) {
+    let end = expect_ok(rt, forty_deliveries(alloc));
+    assert_same(rt, report.ends_with(end.as_bytes()), true);
 }
 
 // Sixteen sweeps of six stations are 96 firings, of 240; a run that began again would make all of them.
@@ -207,55 +207,55 @@ fn a_resumed_run_goes_on_from_its_checkpoint(rt: HostRuntime) {
     let alloc = rt.alloc();
     let mut store = stages_store(&rt, alloc, KANBAN, FORTY_DEMANDS, ONE_CARD);
     let whole = CountingGate::new();
-    let report = written(&rt, alloc, "run a.toml", &mut store, &whole);
-    same(&rt, whole.steps(), 240);
-    delivers_forty(&rt, alloc, &report);
+    let report = output_of(&rt, alloc, "run a.toml", &mut store, &whole);
+    assert_same(&rt, whole.steps(), 240);
+    assert_delivers_forty(&rt, alloc, &report);
     let line = "run a.toml --stop-after 96 --save c.ckpt";
-    let stopped = written(&rt, alloc, line, &mut store, &FreeGate);
-    same(&rt, stopped.as_slice(), b"stopped 96\n".as_slice());
+    let stopped = output_of(&rt, alloc, line, &mut store, &FreeGate);
+    assert_same(&rt, stopped.as_slice(), b"stopped 96\n".as_slice());
     let rest = CountingGate::new();
-    let resumed = written(&rt, alloc, "resume a.toml c.ckpt", &mut store, &rest);
+    let resumed = output_of(&rt, alloc, "resume a.toml c.ckpt", &mut store, &rest);
     drop(store);
-    same(&rt, rest.steps(), 144);
-    same(&rt, resumed, report);
+    assert_same(&rt, rest.steps(), 144);
+    assert_same(&rt, resumed, report);
 }
 
 /// Does what the words of a line ask for over the two stages with a card each and three demands, and their checkpoint
 /// `one.ckpt` after all firings, through a gate. Asserts that it writes their report.
-fn writes_report<R: Abort + Threads + Wait + Sync, G: Gate>(
+fn assert_writes_report<R: Abort + Threads + Wait + Sync, G: Gate>(
     rt: &R,
     alloc: Global,
     line: &str,
     gate: &G,
 ) {
     let mut store = stages_store(rt, alloc, KANBAN, THREE_DEMANDS, ONE_CARD);
-    got(rt, store.write("one.ckpt", FINISHED.as_bytes()));
-    let report = written(rt, alloc, line, &mut store, gate);
+    expect_ok(rt, store.write("one.ckpt", FINISHED.as_bytes()));
+    let report = output_of(rt, alloc, line, &mut store, gate);
     drop(store);
-    same(rt, report.as_slice(), REPORT.as_bytes());
+    assert_same(rt, report.as_slice(), REPORT.as_bytes());
 }
 
 #[test]
 fn a_finished_run_is_resumed_without_a_step(rt: HostRuntime) {
     let gate = CountingGate::new();
-    writes_report(&rt, rt.alloc(), "resume a.toml one.ckpt", &gate);
-    same(&rt, gate.steps(), 0);
+    assert_writes_report(&rt, rt.alloc(), "resume a.toml one.ckpt", &gate);
+    assert_same(&rt, gate.steps(), 0);
 }
 
 // Where one thread ran both workers, the first at the gate would look in vain for the other.
 #[test]
 fn two_workers_are_at_work_at_once(rt: HostRuntime) {
     let gate = PairGate::new();
-    writes_report(&rt, rt.alloc(), "run a.toml --workers 2", &gate);
+    assert_writes_report(&rt, rt.alloc(), "run a.toml --workers 2", &gate);
     assert!(rt; gate.has_come(0) && gate.has_come(1));
-    same(&rt, gate.has_missed(), false);
+    assert_same(&rt, gate.has_missed(), false);
 }
 
 // In a run of bursts worker 1 would pass 48 times, and worker 0 look in vain.
 #[test]
 fn a_worker_stays_in_its_thread_between_sweeps(rt: HostRuntime) {
-    let gate = HeldGate::new(0, PASSES + 1);
-    writes_report(&rt, rt.alloc(), "run a.toml --stand --workers 2", &gate);
+    let gate = HoldingGate::new(0, PASSES + 1);
+    assert_writes_report(&rt, rt.alloc(), "run a.toml --stand --workers 2", &gate);
     assert!(rt; gate.is_open());
-    same(&rt, gate.has_missed(), false);
+    assert_same(&rt, gate.has_missed(), false);
 }

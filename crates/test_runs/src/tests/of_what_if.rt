@@ -1,6 +1,6 @@
 ghost use Rattle.std.specs.Prelude.{◌≡◌, IfOk};
 
-use crate::tests::same::same;
+use crate::tests::assert_same::assert_same;
 use crate::tests::samples::live_stages;
 use line_core::run;
 use live_check::Live;
@@ -33,12 +33,13 @@ fn evaluations_after(alloc: Global, edits: &[u8]) -> Result<u64, Fail> {
     Ok(evaluations)
 }
 
-// Where job 2 takes 3 longer at the torch, the torch is late, and with its card all of job 3: six dates of eighteen move.
+// Where job 2 takes 3 longer at the torch, the torch is late, and with its card all of job 3: six dates of eighteen
+// move.
 #[test]
 fn few_dates_are_evaluated(rt: HostRuntime) -> Result<(), Fail> {
     let alloc = rt.alloc();
     assert!(rt; evaluations_after(alloc, b"time weld.torch 2 8\r\n")? <= 14);
-    same(&rt, evaluations_after(alloc, b"time cut.saw 1 3")?, 1);
-    same(&rt, evaluations_after(alloc, b"")?, 0);
+    assert_same(&rt, evaluations_after(alloc, b"time cut.saw 1 3")?, 1);
+    assert_same(&rt, evaluations_after(alloc, b"")?, 0);
     Ok(())
 }

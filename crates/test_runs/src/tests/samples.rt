@@ -5,6 +5,7 @@ ghost use Rattle.line_base.specs.declared.limits.TheConstants.{MAX_ARCS, MAX_CAR
 ghost use Rattle.plant_model.specs.Graph.{graph};
 ghost use Rattle.plant_model.specs.Sound.{IsSound};
 
+use crate::tests::leak::leak;
 use event_graph::{Arc, Graph, GraphError, Parts};
 use line_base::{Items, Label, MAX_ARCS, MAX_CARDS, MAX_TIME, Times};
 use line_graph::graph_of;
@@ -51,8 +52,8 @@ fn plant_of(alloc: Global, file: &str) -> Result<Plant, Fail>
     Ok(plant)
 }
 
-/// The file of a plant of two stages, `cut` with the machine `saw`, and `weld` with the machine `torch`, by the lines of its
-/// policy, the dates of its demands, and what else is said of each stage.
+/// The file of a plant of two stages, `cut` with the machine `saw`, and `weld` with the machine `torch`, by the lines
+/// of its policy, the dates of its demands, and what else is said of each stage.
 pub fn stages_file(
     alloc: Global,
     policy: &str,
@@ -89,12 +90,7 @@ pub fn live_of(alloc: Global, plant: &Plant) -> Result<Live, Fail>
 }
 
 // The graphs below are leaked: no test lets one go, since each place at which a value of many lists is let go is slow
-// to prove. What is known of them is let go here.
-
-/// A graph that is never let go.
-fn leaked(alloc: Global, live: Live) -> Result<&'static Live, AllocError> {
-    Ok(Box::leak(Box::new(alloc, live)?))
-}
+// to prove.
 
 /// The live graph of the two stages under kanban with a card each and these demands.
 fn live_of_stages(alloc: Global, demands: &str) -> Result<&'static Live, Fail> {
@@ -102,7 +98,7 @@ fn live_of_stages(alloc: Global, demands: &str) -> Result<&'static Live, Fail> {
     let plant = plant_of(alloc, file.as_str())?;
     let live = live_of(alloc, &plant);
     drop(plant);
-    Ok(leaked(alloc, live?)?)
+    Ok(leak(alloc, live?)?)
 }
 
 /// The live graph of the two stages.
@@ -124,7 +120,7 @@ pub fn live_pair(alloc: Global, delay: u64) -> Result<&'static Live, Fail> {
     };
     let graph = two_stations(alloc, &[plain(0, 1, 0), own], &[4, delay])??;
     let live = rank(alloc, graph).ok().ok_or("the graph isn't live")?;
-    Ok(leaked(alloc, live)?)
+    Ok(leak(alloc, live)?)
 }
 
 /// An arc that isn't worked.

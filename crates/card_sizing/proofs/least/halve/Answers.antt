@@ -10,7 +10,7 @@ loop-low-init c =
         ordered = omega (arith, lowest_highest c.args.plant.now c.requires.sound, c.requires.start, c.requires.end);
         enough = omega (arith, c.requires.start);
         none = λ d low serves. absurd (omega (arith, serves.enough, low, c.requires.start));
-        why = c.requires.start;
+        reason = c.requires.start;
         serves = c.requires.serves;
       };
       tries = λ k small. record { left = k; all = omega (arith, c.requires.tries); halved = small };
@@ -27,7 +27,7 @@ loop-low-preserved-in-None c =
         ordered = omega arith;
         enough = search.enough;
         none = search.none;
-        why = search.why;
+        reason = search.reason;
         serves = record {
           enough = omega (arith, search.enough);
           within = omega (arith, search.serves.within);

@@ -1,6 +1,6 @@
 use Rattle.std.proofs.Common.{ℕ, sym, ◌∙◌, subst, arith}
 use Rattle.std.proofs.lemmas.Result.{err_from_is_err_and}
-use Rattle.card_sizing.specs.Sized.{sized, highest}
+use Rattle.card_sizing.specs.Sized.{sized_plant, highest}
 use Rattle.card_sizing.specs.Serving.{IsLate}
 use Rattle.line_base.specs.declared.limits.TheConstants.{MAX_CARDS}
 use Rattle.card_sizing.proofs.EnoughCards.{most_live, serves_more}
@@ -29,7 +29,7 @@ unreachable-requires c =
     let single = sym c.has_single_count.ensures ∙ c.if-not-has_single_count.false in
     let fails = rw c.in-Some.is at c.in_ok-try_count.ensures.tells in
     let live = highest_live p c.requires.sound single (most_live p c.requires.sound single c.requires.live) in
-    let late = fails_by_job (sized p (highest p)) c.args.wait c.in-Some.below (rw c.highest_count-highest.ensures at fails) live in
+    let late = fails_by_job (sized_plant p (highest p)) c.args.wait c.in-Some.below (rw c.highest_count-highest.ensures at fails) live in
     c.in_default.not-Job late.0 late.1 late.2
 
 pub try_count-requires-clause-single : goal.try_count-requires-clause-single
@@ -75,6 +75,6 @@ returns-in-Job c =
     let single = sym c.has_single_count.ensures ∙ c.if-not-has_single_count.false in
     let fails = rw c.in-Some.is at c.in_ok-try_count.ensures.tells in
     let late = rw c.in-Job.is at fails in
-    let at_highest = subst (λ (h : ℕ). IsLate (sized p h) c.args.wait c.in-Job.job c.in-Job.wait) c.highest_count-highest.ensures late in
+    let at_highest = subst (λ (h : ℕ). IsLate (sized_plant p h) c.args.wait c.in-Job.job c.in-Job.wait) c.highest_count-highest.ensures late in
     let refused = highest_late p c.requires.sound single c.args.wait c.in-Job.job c.in-Job.wait at_highest in
     record { serves = tt; least = tt; below = tt; few_tries = tt; halved = tt; refused = (single, refused); no_single_count = told_late c.in-Job.job c.in-Job.wait _ single; most_serve = tt }

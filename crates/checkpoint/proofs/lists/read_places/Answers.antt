@@ -30,7 +30,7 @@ returns-in-Err-clause-refused c =
     let there : a < arc_count g = omega (arith, ap length c.arcs.ensures.arcs, c.loop-a-test.true) in
     let so_far = c.loop-a.invariant.read in
     dated_stop format g n (c.requires.read.0 ++ so_far.places) c.loop-a.reader c.args.reader.now.text (place_words a) c.in-Err.stop _ c.at_line.result
-    (so_far.read c.requires.read.0 c.requires.read.1) c.requires.readable (omega (arith, some_head format)) (omega (arith, there, length-lines format g)) c.requires.short c.loop-a.invariant.text (line_at-place format g a n (omega arith) there) c.in-Err.ensures.tells (omega (arith, c.head_lines.ensures, c.from.ensures, c.from-in-Err.ensures, c.stations.ensures.count)) c.at_line.ensures
+    (so_far.read c.requires.read.0 c.requires.read.1) c.requires.readable (omega (arith, some_head format)) (omega (arith, there, length-lines format g)) c.requires.short c.loop-a.invariant.text (line_at-place format g a n (omega arith) there) c.in-Err.ensures.tells (omega (arith, c.head_count.ensures, c.from.ensures, c.from-in-Err.ensures, c.stations.ensures.count)) c.at_line.ensures
 
 pub loop-a-preserved : goal.loop-a-preserved
 loop-a-preserved c =

@@ -32,7 +32,7 @@ returns-in-Err-clause-refused c =
     let there : t < stations g = omega (arith, c.stations-stations.ensures.count, c.loop-t-test.true) in
     let so_far = c.loop-t.invariant.read in
     dated_stop format g n so_far.lists c.loop-t.reader c.args.reader.now.text (station_words g t) c.in-Err.stop _ c.at_line.result
-    so_far.read c.requires.readable (omega (arith, some_head format)) (omega (arith, there, length-lines format g)) c.requires.short c.loop-t.invariant.text (line_at-station format g t n (omega arith) there) c.in-Err.ensures.tells (omega (arith, c.head_lines.ensures, c.from.ensures)) c.at_line.ensures
+    so_far.read c.requires.readable (omega (arith, some_head format)) (omega (arith, there, length-lines format g)) c.requires.short c.loop-t.invariant.text (line_at-station format g t n (omega arith) there) c.in-Err.ensures.tells (omega (arith, c.head_count.ensures, c.from.ensures)) c.at_line.ensures
 
 pub loop-t-preserved : goal.loop-t-preserved
 loop-t-preserved c =

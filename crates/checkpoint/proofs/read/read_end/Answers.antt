@@ -12,7 +12,7 @@ returns-then-not-pass-clause-refused c =
     let format = c.args.format in
     let g = c.args.graph.now in
     let n = head_count format + stations g + arc_count g in
-    let number : n + 1 ≡ c.head_lines.result + c.from.result + length c.arcs.result.now + 1 = omega (arith, c.head_lines.ensures, c.from.ensures, c.stations.ensures.count, ap length c.arcs.ensures.arcs) in
+    let number : n + 1 ≡ c.head_count.result + c.from.result + length c.arcs.result.now + 1 = omega (arith, c.head_count.ensures, c.from.ensures, c.stations.ensures.count, ap length c.arcs.ensures.arcs) in
     subst (IsFirstBadLine g c.args.reader.now.text) number
     (end_bad format g n c.requires.read.0 c.args.reader.now c.args.reader.now.text c.requires.read.1 c.requires.short refl refl c.requires.readable
     (λ after is.
@@ -25,7 +25,7 @@ returns-then-not-is_empty-clause-refused c =
     let format = c.args.format in
     let g = c.args.graph.now in
     let n = head_count format + stations g + arc_count g in
-    let number : n + 1 + 1 ≡ c.head_lines.result + c.from.result + length c.arcs.result.now + 2 = omega (arith, c.head_lines.ensures, c.from.ensures, c.stations.ensures.count, ap length c.arcs.ensures.arcs) in
+    let number : n + 1 + 1 ≡ c.head_count.result + c.from.result + length c.arcs.result.now + 2 = omega (arith, c.head_count.ensures, c.from.ensures, c.stations.ensures.count, ap length c.arcs.ensures.arcs) in
     let ended = end_read format g n c.requires.read.0 c.args.reader.now c.args.reader.now.text c.requires.read.1 c.requires.short refl refl c.pass.new.self (c.if-not-pass.ensures.passed refl) c.pass.ensures.text in
     subst (IsFirstBadLine g c.args.reader.now.text) number
     (rest_bad format g (n + 1) c.requires.read.0 c.pass.new.self c.args.reader.now.text ended c.requires.readable (sym (length-lines format g)) c.requires.short c.pass.ensures.text

@@ -4,8 +4,8 @@ use Rattle.event_graph.proofs.Sizes.{delay-small}
 use Rattle.checkpoint.proofs.ReadTokens.{left_within, left_is}
 use Rattle.checkpoint.proofs.tokens.tokens_left.Goals as goal
 
-pub left-requires-clause-within : goal.left-requires-clause-within
-left-requires-clause-within c =
+pub after_takes-requires-clause-within : goal.after_takes-requires-clause-within
+after_takes-requires-clause-within c =
     let g = c.args.graph.now in
     let a = c.args.a in
     let read = c.arc-arc.ensures.arc in
@@ -16,7 +16,7 @@ returns c =
     let g = c.args.graph.now in
     let a = c.args.a in
     let read = c.arc-arc.ensures.arc in
-    left_is g c.args.logs.now a _ _ _ c.min.result c.dates-made.result.now c.left.result c.delay.result read
+    left_is g c.args.logs.now a _ _ _ c.min.result c.dates-made.result.now c.after_takes.result c.delay.result read
     (ap length (c.dates-taken.ensures ∙ ap (λ (l : RoomyLog). l.dates) c.get.ensures))
     (c.dates-made.ensures ∙ ap (λ (l : RoomyLog). l.dates) c.get-2.ensures)
-    c.delay.ensures.delay refl c.min.ensures c.left.ensures
+    c.delay.ensures.delay refl c.min.ensures c.after_takes.ensures

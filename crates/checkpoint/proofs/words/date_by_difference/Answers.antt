@@ -15,7 +15,7 @@ returns-in-Some-clause-tells c date given is =
     (λ less.
     let word = is ∙ ap (λ b. cond b (45 ∷ decimal (before - date)) (decimal (date - before))) (lt-ltb date before less) in
     let size : text ≡ decimal (before - date) = cc (sym whole ∙ word) in
-    c.earlier.ensures.tells date less size)
+    c.earlier_date.ensures.tells date less size)
     (λ more.
     let word = is ∙ ap (λ b. cond b (45 ∷ decimal (before - date)) (decimal (date - before))) (le-ltb date before more) in
     absurd (no_minus (date - before) text (omega arith) (sym word ∙ whole)))

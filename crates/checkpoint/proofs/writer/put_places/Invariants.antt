@@ -1,8 +1,8 @@
 use Rattle.std.proofs.Common.{◌≡◌, ◌++◌, drop}
 use Rattle.checkpoint.specs.declared.format.Format.TheVariants.{Differences}
-use Rattle.checkpoint.specs.Text.{place_lines, filled}
+use Rattle.checkpoint.specs.Text.{place_lines, lines_text}
 use Rattle.checkpoint.proofs.writer.put_places.Given as goal
 
 abbrev pub invariant-loop-a : goal.invariant-loop-a
 invariant-loop-a l =
-    l.text.items ++ filled Differences (drop l.a (place_lines l.live.graph)) (drop l.a l.state.state.places) ≡ l.initial.text.items ++ filled Differences (place_lines l.live.graph) l.state.state.places
+    l.text.items ++ lines_text Differences (drop l.a (place_lines l.live.graph)) (drop l.a l.state.state.places) ≡ l.initial.text.items ++ lines_text Differences (place_lines l.live.graph) l.state.state.places

@@ -5,8 +5,8 @@ use Rattle.circuit_sums.specs.Circuits.{loop_circuit}
 use Rattle.circuit_sums.proofs.Listings.{added-more, loop_circuit-made}
 use Rattle.circuit_sums.proofs.listing.add_loop_circuits.Goals as goal
 
-pub around-requires-clause-exists : goal.around-requires-clause-exists
-around-requires-clause-exists c =
+pub circuit_arcs-requires-clause-exists : goal.circuit_arcs-requires-clause-exists
+circuit_arcs-requires-clause-exists c =
     let p = c.args.layout.now in
     let loops = c.loops-card_loop-items.ensures in
     let below : c.loop-number.number < length p.loops = omega (arith, ap length loops) in
@@ -16,5 +16,5 @@ pub loop-number-preserved : goal.loop-number-preserved
 loop-number-preserved c =
     let p = c.args.layout.now in
     let k = c.loop-number.number in
-    let made = loop_circuit-made p k c.args.first_arc _ _ c.loops-card_loop-items.ensures c.in_ok-around.ensures in
+    let made = loop_circuit-made p k c.args.first_arc _ _ c.loops-card_loop-items.ensures c.in_ok-circuit_arcs.ensures in
     c.in_ok-push.ensures.items ∙ added-more (loop_circuit p c.args.first_arc) k c.args.list.now.items c.loop-number.list.items _ c.loop-number.invariant made

@@ -1,10 +1,10 @@
 use Rattle.std.proofs.Common.{◌∙◌}
 use Rattle.commands.proofs.DateAnswers.{chains}
-use Rattle.commands.proofs.DatedPlants.{caused_of}
+use Rattle.commands.proofs.DatedPlants.{dated_of}
 use Rattle.commands.proofs.causes.causes_of.Goals as goal
 
 pub new-requires-clause-of_plant : goal.new-requires-clause-of_plant
-new-requires-clause-of_plant c = caused_of c.args.line c.in_ok-plant.field-0 c.requires.plant c.in_ok-plant.ensures
+new-requires-clause-of_plant c = dated_of c.args.line c.in_ok-plant.field-0 c.requires.plant c.in_ok-plant.ensures
 
 pub new-requires-clause-station : goal.new-requires-clause-station
 new-requires-clause-station c = rw c.in_ok-plant.ensures.plant c.requires.station

@@ -1,6 +1,6 @@
 use Rattle.std.proofs.Common.{◌≡◌, ◌∙◌, sym, subst}
 use Rattle.line_base.specs.declared.event.Parts.{Parts}
-use Rattle.line_core.specs.Consistent.{fired}
+use Rattle.line_core.specs.Consistent.{firing_count}
 use Rattle.line_runs.specs.Headline.{EndsWell, MayBeResumed}
 use Rattle.line_runs.specs.Stop.{CountsWell, IsStopAt}
 use Rattle.live_plant.specs.Outside.{store_over}
@@ -39,7 +39,7 @@ returns-in-Stopped g c =
     let of_plant = c.requires.plant.graph in
     let well : (state.graph ≡ line.live.graph) × MayBeResumed line.live.graph state.state =
     subst (EndsWell line.live.graph) c.in-Stopped.is c.requires.outcome.well in
-    let count : IsStopAt line.live.graph c.args.stop.after 0 (fired state.state) =
+    let count : IsStopAt line.live.graph c.args.stop.after 0 (firing_count state.state) =
     subst (CountsWell line.live.graph c.args.stop.after 0) c.in-Stopped.is c.requires.outcome.count in
     let first : IsFirstEnd line.live.graph c.args.stop.after c.args.workers state.state =
     subst (EndsAtFirst line.live.graph c.args.stop.after c.args.workers) c.in-Stopped.is c.requires.outcome.first in
@@ -47,6 +47,6 @@ returns-in-Stopped g c =
     line.plant c.args.workers c.args.stop.after c.args.stop.save state c.save.result
     (fits_limit line c.requires.plant) (well.0 ∙ of_plant)
     (subst (λ (h : Parts). MayBeResumed h state.state) of_plant well.1)
-    (subst (λ (h : Parts). IsStopAt h c.args.stop.after 0 (fired state.state)) of_plant count)
+    (subst (λ (h : Parts). IsStopAt h c.args.stop.after 0 (firing_count state.state)) of_plant count)
     (subst (λ (h : Parts). IsFirstEnd h c.args.stop.after c.args.workers state.state) of_plant first)
     c.save.ensures

@@ -1,6 +1,6 @@
 use Rattle.std.proofs.Common.{subst}
 use Rattle.std.specs.Prelude.{ℕ, List}
-use Rattle.line_core.specs.Consistent.{fired}
+use Rattle.line_core.specs.Consistent.{firing_count}
 use Rattle.line_runs.specs.Store.{text_of}
 use Rattle.commands.specs.Saving.{AnswersWrite}
 use Rattle.commands.proofs.Actions.{Saved, state_saved, saves_text}
@@ -18,7 +18,7 @@ returns g c =
     let saved =
     state_saved g.S.Store.tells old new name (text_of state) given e.tells e.written e.others_stay e.torn e.no_memory
     e.never_too_long e.cause e.read_faults_stay_or_rise e.write_faults_stay_or_rise in
-    saves_text g.S.Store.tells old new file (text_of state) (fired state.state) given c.saved_answer.result
+    saves_text g.S.Store.tells old new file (text_of state) (firing_count state.state) given c.saved_answer.result
     (subst (λ (name : List ℕ). Saved g.S.Store.tells old new name (text_of state) given) c.as_str.ensures saved)
     (subst (λ (n : ℕ). AnswersWrite file n given c.saved_answer.result) c.fired-fired.ensures.fired
     c.saved_answer.ensures)

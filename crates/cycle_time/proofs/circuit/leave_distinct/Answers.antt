@@ -10,16 +10,16 @@ pub returns-then-leave : goal.returns-then-leave
 returns-then-leave c =
     let found = rw c.arcs-all.ensures.arcs at (c.leave.ensures.0 c.if-leave.true) in (
       λ no. absurd (false≢true no),
-      λ distinct. absurd (left_twice c.args.graph.now c.args.arcs.now c.loop-place.place c.loop-place-test.true found distinct),
+      λ distinct. absurd (left_twice c.args.graph.now c.args.arcs.now c.loop-index.index c.loop-index-test.true found distinct),
     )
 
-pub loop-place-preserved : goal.loop-place-preserved
-loop-place-preserved c =
+pub loop-index-preserved : goal.loop-index-preserved
+loop-index-preserved c =
     let fresh = rw c.arcs-all.ensures.arcs at (iff_false c.leave.ensures c.if-leave.false) in
-    distinct_more c.args.graph.now c.args.arcs.now c.loop-place.place c.loop-place-test.true c.loop-place.invariant fresh
+    distinct_more c.args.graph.now c.args.arcs.now c.loop-index.index c.loop-index-test.true c.loop-index.invariant fresh
 
 pub returns : goal.returns
 returns c =
     let Distinct = AllPairs {X = ℕ} (λ t u. t ≢ u) in
-    let whole = take_all c.loop-place.place c.args.arcs.now c.loop-place-test.false in
-    (λ yes. subst (λ arcs. Distinct (starting_stations c.args.graph.now arcs)) whole c.loop-place.invariant, λ distinct. refl)
+    let whole = take_all c.loop-index.index c.args.arcs.now c.loop-index-test.false in
+    (λ yes. subst (λ arcs. Distinct (starting_stations c.args.graph.now arcs)) whole c.loop-index.invariant, λ distinct. refl)

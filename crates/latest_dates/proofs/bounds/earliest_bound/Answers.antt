@@ -2,7 +2,7 @@ use Rattle.std.proofs.Common.{◌+◌, List, ℕ, drop, sym, ap, ◌∙◌, arit
 use Rattle.line_base.specs.declared.event.Parts.{Parts}
 use Rattle.event_graph.specs.Network.{outs}
 use Rattle.latest_dates.specs.Found.{latest_in}
-use Rattle.latest_dates.specs.Latest.{earlier, earliest, promised, bound, earliest_bound}
+use Rattle.latest_dates.specs.Latest.{earlier, earliest, promised_date, bound, earliest_bound}
 use Rattle.latest_dates.proofs.Earliest.{earliest-next, earliest-past}
 use Rattle.latest_dates.proofs.bounds.earliest_bound.Goals as goal
 
@@ -24,5 +24,5 @@ returns c =
     let is = c.graph-graph.ensures.graph in
     sym (earliest-past bounds items c.loop-a.a-index c.loop-a.earliest (omega arith))
     ∙ c.loop-a.invariant
-    ∙ ap (λ o. earlier o (earliest bounds items)) (c.promised-earliest.ensures ∙ ap (λ (h : Parts). promised h c.args.wait c.args.t c.args.n) is)
-    ∙ ap (λ (l : List ℕ). earlier (promised graph c.args.wait c.args.t c.args.n) (earliest bounds l)) (c.outs-outs.ensures.arcs ∙ ap (λ (h : Parts). outs h c.args.t) is)
+    ∙ ap (λ o. earlier o (earliest bounds items)) (c.promised_date-earliest.ensures ∙ ap (λ (h : Parts). promised_date h c.args.wait c.args.t c.args.n) is)
+    ∙ ap (λ (l : List ℕ). earlier (promised_date graph c.args.wait c.args.t c.args.n) (earliest bounds l)) (c.outs-outs.ensures.arcs ∙ ap (λ (h : Parts). outs h c.args.t) is)

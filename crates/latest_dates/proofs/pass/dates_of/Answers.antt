@@ -11,7 +11,7 @@ returns-clause-found c =
     record {
       least = subst (λ (h : Parts). IsLeastTable (record { graph = h; rows = c.args.table.now.rows })) c.requires.of_graph c.stations-least.ensures.least;
       in_time = subst (λ (h : Parts). IsInTime h (date_in c.args.table.now.rows) c.args.wait) is c.in_ok-check_waits.ensures;
-      places = c.in_ok-dates.ensures.places;
+      one_for_each = c.in_ok-dates.ensures.one_for_each;
       latest = c.in_ok-dates.ensures.latest;
       not_before = c.in_ok-dates.ensures.not_before;
     }

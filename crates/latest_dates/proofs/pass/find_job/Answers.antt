@@ -2,9 +2,9 @@ use Rattle.std.proofs.Common.{◌≡◌, ◌+◌, ◌-◌, ◌*◌, set, ap, ◌
 use Rattle.std.proofs.lemmas.List.{length-set}
 use Rattle.event_graph.specs.Network.{stations}
 use Rattle.what_if.specs.Page.{IsDate, slot}
-use Rattle.latest_dates.specs.Found.{place, latest_in}
+use Rattle.latest_dates.specs.Found.{date_index, latest_in}
 use Rattle.latest_dates.specs.Pass.{AreLatestFrom}
-use Rattle.latest_dates.proofs.Places.{place-below}
+use Rattle.latest_dates.proofs.DateIndices.{date_index-below}
 use Rattle.latest_dates.proofs.BackwardSteps.{leaves_time, one_earlier, job_start, slot_above}
 use Rattle.latest_dates.proofs.pass.find_job.Goals as goal
 use Rattle.latest_dates.proofs.pass.find_job.Goals.{After-station_at-t}
@@ -36,7 +36,7 @@ pub loop-above-init : goal.loop-above-init
 loop-above-init c =
     let live = c.args.live.now in
     record {
-      places = c.requires.places;
+      one_for_each = c.requires.one_for_each;
       latest = subst (AreLatestFrom live c.args.wait (latest_in live c.args.dates.now)) (job_start c.args.n (stations live.graph) c.requires.from_one) c.requires.later;
     }
 
@@ -61,12 +61,12 @@ loop-above-preserved c =
     let dates = c.loop-above.dates in
     let v = c.earliest_bound-latest.result in
     let held = c.loop-above.invariant in
-    let to : c.place.result ≡ place live.graph t n = c.place.ensures.place ∙ ap (λ h. place h t n) c.graph-graph.ensures.graph in
+    let to : c.date_index.result ≡ date_index live.graph t n = c.date_index.ensures.date_index ∙ ap (λ h. date_index h t n) c.graph-graph.ensures.graph in
     let next : slot live t n ≡ (n - 1) * stations live.graph + (stations live.graph - (c.loop-above.above + 1)) = omega (arith, at before) in
     record {
-      places = length-set dates c.place.result v ∙ held.places;
-      latest = subst (AreLatestFrom live c.args.wait (latest_in live (set dates c.place.result v))) next
-          (rw to (one_earlier live ranked.upward ranked.sound c.args.wait dates t n (here before) v (omega (arith, held.places, place-below live.graph t n (here before))) (behind before) c.earliest_bound-latest.ensures));
+      one_for_each = length-set dates c.date_index.result v ∙ held.one_for_each;
+      latest = subst (AreLatestFrom live c.args.wait (latest_in live (set dates c.date_index.result v))) next
+          (rw to (one_earlier live ranked.upward ranked.sound c.args.wait dates t n (here before) v (omega (arith, held.one_for_each, date_index-below live.graph t n (here before))) (behind before) c.earliest_bound-latest.ensures));
     }
 
 pub returns-clause-latest : goal.returns-clause-latest

@@ -24,7 +24,7 @@ loop-behind-init c =
     let stations_are = c.stations.ensures.count ∙ ap stations c.graph-graph.ensures.graph in
     let many : c.stations.result * c.jobs-jobs.result ≡ date_count live.graph = ap (λ k. k * c.jobs-jobs.result) stations_are ∙ ap (λ k. stations live.graph * k) all in
     record {
-      places = omega (arith, c.in_ok-dates.ensures.len, many);
+      one_for_each = omega (arith, c.in_ok-dates.ensures.len, many);
       latest = λ t n date from. absurd (omega (arith, slot-below live ranked.upward t n date, no_slot_left c.jobs-jobs.result (stations live.graph), mul_comm (stations live.graph) c.jobs-jobs.result, ap (λ k. stations live.graph * k) all));
     }
 
@@ -43,11 +43,11 @@ loop-behind-preserved c =
     let live = c.args.live.now in
     let next : c.jobs-jobs.result - c.loop-behind.behind - 1 ≡ c.jobs-jobs.result - (c.loop-behind.behind + 1) = omega arith in
     let all : c.loop-behind.dates.len ≡ length c.loop-behind.dates.items = omega arith in
-    let same : length c.find_job.new.dates ≡ length c.loop-behind.dates.items = omega (arith, c.find_job.ensures.places, c.loop-behind.invariant.places) in
+    let same : length c.find_job.new.dates ≡ length c.loop-behind.dates.items = omega (arith, c.find_job.ensures.one_for_each, c.loop-behind.invariant.one_for_each) in
     let items = take c.loop-behind.dates.len (c.find_job.new.dates ++ drop (length c.find_job.new.dates) c.loop-behind.dates.items) in
     let back = sym (lent_back c.find_job.new.dates c.loop-behind.dates.items c.loop-behind.dates.len all same) in
     record {
-      places = subst (HasDates live) back c.find_job.ensures.places;
+      one_for_each = subst (HasDates live) back c.find_job.ensures.one_for_each;
       latest = subst (λ k. AreLatestFrom live c.args.wait (latest_in live items) (k * stations live.graph)) next
           (subst (λ ds. AreLatestFrom live c.args.wait (latest_in live ds) ((c.jobs-jobs.result - c.loop-behind.behind - 1) * stations live.graph)) back c.find_job.ensures.latest);
     }
@@ -75,14 +75,14 @@ find_job-requires-clause-bounds c =
     subst (AreBoundsOf c.args.live.now.graph) (sym c.deref.ensures.value)
     (subst (λ (h : Parts). AreBoundsOf h c.in_ok-bounds.bounds.items) c.graph-graph.ensures.graph c.in_ok-bounds.ensures)
 
-pub find_job-requires-clause-places : goal.find_job-requires-clause-places
-find_job-requires-clause-places c =
-    subst (HasDates c.args.live.now) (sym c.deref_mut.ensures.value) c.loop-behind.invariant.places
+pub find_job-requires-clause-one_for_each : goal.find_job-requires-clause-one_for_each
+find_job-requires-clause-one_for_each c =
+    subst (HasDates c.args.live.now) (sym c.deref_mut.ensures.value) c.loop-behind.invariant.one_for_each
 
 pub find_job-requires-clause-later : goal.find_job-requires-clause-later
 find_job-requires-clause-later c =
     let live = c.args.live.now in
     subst (λ ds. AreLatestFrom live c.args.wait (latest_in live ds) ((c.jobs-jobs.result - c.loop-behind.behind) * stations live.graph)) (sym c.deref_mut.ensures.value) c.loop-behind.invariant.latest
 
-pub returns-clause-places : goal.returns-clause-places
-returns-clause-places c = c.loop-behind.invariant.places
+pub returns-clause-one_for_each : goal.returns-clause-one_for_each
+returns-clause-one_for_each c = c.loop-behind.invariant.one_for_each

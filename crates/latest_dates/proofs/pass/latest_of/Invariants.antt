@@ -7,6 +7,6 @@ use Rattle.latest_dates.proofs.pass.latest_of.Given as goal
 -- the dates of the jobs behind are the latest ones
 abbrev pub invariant-loop-behind : goal.invariant-loop-behind
 invariant-loop-behind l = record {
-  places : HasDates l.live l.dates.items;
+  one_for_each : HasDates l.live l.dates.items;
   latest : AreLatestFrom l.live l.wait (latest_in l.live l.dates.items) ((l.jobs - l.behind) * stations l.live.graph);
 }

@@ -71,9 +71,9 @@ latest_at-requires-clause-date c = record {
   job = omega (arith, c.loop-done-test.true, c.requires.jobs);
 }
 
-pub latest_at-requires-clause-places : goal.latest_at-requires-clause-places
-latest_at-requires-clause-places c =
-    subst (HasDates c.args.run.now.live) (sym c.as_slice.ensures.value) c.requires.run.found.places
+pub latest_at-requires-clause-one_for_each : goal.latest_at-requires-clause-one_for_each
+latest_at-requires-clause-one_for_each c =
+    subst (HasDates c.args.run.now.live) (sym c.as_slice.ensures.value) c.requires.run.found.one_for_each
 
 pub date-date-requires-clause-station : goal.date-date-requires-clause-station
 date-date-requires-clause-station c = omega (arith, c.requires.station, ap stations c.requires.run.of_graph)

@@ -3,4 +3,4 @@ use Rattle.line_chart.proofs.axis.write_line.Goals as goal
 
 pub returns : goal.returns
 unfolding axis_line
-returns g c = rw c.axis_place-place.ensures at c.write_interleaved.ensures
+returns g c = rw c.axis_x-x.ensures at c.write_interleaved.ensures

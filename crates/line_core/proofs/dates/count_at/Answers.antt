@@ -4,7 +4,7 @@ use Rattle.line_core.proofs.Runs.{many_logs, log-state_in, consistent}
 use Rattle.line_core.proofs.dates.count_at.Goals as goal
 
 pub get-requires : goal.get-requires
-get-requires c = omega (arith, many_logs c.args.graph.now c.args.logs.now c.requires.held, c.requires.station)
+get-requires c = omega (arith, many_logs c.args.graph.now c.args.logs.now c.requires.has_room, c.requires.station)
 
 pub returns-clause-count : goal.returns-clause-count
 returns-clause-count c =
@@ -14,4 +14,4 @@ returns-clause-count c =
 
 pub returns-clause-within : goal.returns-clause-within
 returns-clause-within c =
-    omega (arith, returns-clause-count c, (consistent c.args.graph.now c.args.logs.now c.requires.held).few_dates c.args.t c.requires.station)
+    omega (arith, returns-clause-count c, (consistent c.args.graph.now c.args.logs.now c.requires.has_room).few_dates c.args.t c.requires.station)

@@ -9,12 +9,12 @@ pub returns-then-t-eq0 : goal.returns-then-t-eq0
 returns-then-t-eq0 c =
     c.demand.ensures.date
     ∙ ap (λ n. demand c.args.graph.now (n + 1)) c.count_at-done.ensures.count
-    ∙ sym (new_date-feed c.args.graph.now c.args.logs.now c.requires.held c.args.t c.requires.can c.if-t-eq0.true)
+    ∙ sym (new_date-feed c.args.graph.now c.args.logs.now c.requires.has_room c.args.t c.requires.can c.if-t-eq0.true)
 
 pub asked_date-date-requires-clause-token : goal.asked_date-date-requires-clause-token
 asked_date-date-requires-clause-token c =
     let at = c.ins-ins.ensures.each c.loop-a.a-index 0 c.loop-a-test.true in
-    omega (arith, c.count_at-done.ensures.count, has_held c.args.graph.now c.args.logs.now c.requires.held c.args.t c.requires.can _ at.0 at.1)
+    omega (arith, c.count_at-done.ensures.count, has_held c.args.graph.now c.args.logs.now c.requires.has_room c.args.t c.requires.can _ at.0 at.1)
 
 pub loop-a-preserved : goal.loop-a-preserved
 loop-a-preserved c =
@@ -33,4 +33,4 @@ returns c =
     ∙ c.loop-a.invariant
     ∙ ap (greatest asked) c.ins-ins.ensures.arcs
     ∙ ap (λ k. greatest (asks g logs k) (ins g c.args.t)) c.count_at-done.ensures.count
-    ∙ sym (new_date-other g logs c.requires.held c.args.t c.requires.can c.if-t-eq0.false)
+    ∙ sym (new_date-other g logs c.requires.has_room c.args.t c.requires.can c.if-t-eq0.false)

@@ -13,7 +13,7 @@ returns-then-k-initial-clause-date c =
 
 pub get-requires : goal.get-requires
 get-requires c =
-    omega (arith, ap (λ (x : Arc). x.from) c.arc-arc.ensures.arc, many_logs c.args.graph.now c.args.logs.now c.requires.held, c.requires.held.run.sound.starts_exist c.args.a c.requires.arc)
+    omega (arith, ap (λ (x : Arc). x.from) c.arc-arc.ensures.arc, many_logs c.args.graph.now c.args.logs.now c.requires.has_room, c.requires.has_room.run.sound.starts_exist c.args.a c.requires.arc)
 
 pub bounds-dates-k : goal.bounds-dates-k
 bounds-dates-k c =
@@ -26,8 +26,8 @@ pub offset_bounds-dates-k : goal.offset_bounds-dates-k
 offset_bounds-dates-k c =
     let g = c.args.graph.now in
     let logs = c.args.logs.now in
-    let few = few_dates g logs c.requires.held (arc g c.args.a).from (c.requires.held.run.sound.starts_exist c.args.a c.requires.arc) in
-    omega (arith, few, c.requires.held.run.limits.few_jobs, ap (λ (x : Arc). x.tokens) c.arc-arc.ensures.arc, length-tokens g (dates_of logs) c.args.a, c.requires.token)
+    let few = few_dates g logs c.requires.has_room (arc g c.args.a).from (c.requires.has_room.run.sound.starts_exist c.args.a c.requires.arc) in
+    omega (arith, few, c.requires.has_room.run.limits.few_jobs, ap (λ (x : Arc). x.tokens) c.arc-arc.ensures.arc, length-tokens g (dates_of logs) c.args.a, c.requires.token)
 
 -- the date of the log of which the token was made
 log_date : (c : After-delay) → get_or c.dates.result.now (c.args.k - c.arc-arc.result.tokens) 0 ≡ get_or (get_or (dates_of c.args.logs.now) (arc c.args.graph.now c.args.a).from []) (c.args.k - (arc c.args.graph.now c.args.a).tokens) 0
@@ -45,7 +45,7 @@ returns-clause-small c =
     let a = c.args.a in
     let tokens = ap (λ (x : Arc). x.tokens) c.arc-arc.ensures.arc in
     let low : c.args.k - (arc g a).tokens < length (get_or (dates_of logs) (arc g a).from []) = omega (arith, length-tokens g (dates_of logs) a, c.requires.token, c.if-k-initial.false, tokens) in
-    omega (arith, log_date (goal.at.returns-clause-small c).After-delay, early_date g logs c.requires.held (arc g a).from (c.args.k - (arc g a).tokens) (c.requires.held.run.sound.starts_exist a c.requires.arc) low, c.delay.ensures.delay, delay-small g a c.requires.held.run.limits)
+    omega (arith, log_date (goal.at.returns-clause-small c).After-delay, early_date g logs c.requires.has_room (arc g a).from (c.args.k - (arc g a).tokens) (c.requires.has_room.run.sound.starts_exist a c.requires.arc) low, c.delay.ensures.delay, delay-small g a c.requires.has_room.run.limits)
 
 pub overflow_add-result : goal.overflow_add-result
 overflow_add-result c = omega (arith, returns-clause-small c)

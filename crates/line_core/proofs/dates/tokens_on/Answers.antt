@@ -8,10 +8,10 @@ pub overflow_sub-result : goal.overflow_sub-result
 overflow_sub-result c =
     let g = c.args.graph.now in
     let s = state_in g c.args.logs.now in
-    omega (arith, ap (λ (x : Arc). x.tokens) c.arc-arc.ensures.arc, ap (λ (x : Arc). length (log s x.from)) c.arc-arc.ensures.arc, ap (λ (x : Arc). length (log s x.to)) c.arc-arc.ensures.arc, length-place g c.args.logs.now c.requires.held c.args.a c.requires.arc)
+    omega (arith, ap (λ (x : Arc). x.tokens) c.arc-arc.ensures.arc, ap (λ (x : Arc). length (log s x.from)) c.arc-arc.ensures.arc, ap (λ (x : Arc). length (log s x.to)) c.arc-arc.ensures.arc, length-place g c.args.logs.now c.requires.has_room c.args.a c.requires.arc)
 
 pub returns : goal.returns
 returns c =
     let g = c.args.graph.now in
     let s = state_in g c.args.logs.now in
-    omega (arith, ap (λ (x : Arc). x.tokens) c.arc-arc.ensures.arc, ap (λ (x : Arc). length (log s x.from)) c.arc-arc.ensures.arc, ap (λ (x : Arc). length (log s x.to)) c.arc-arc.ensures.arc, length-place g c.args.logs.now c.requires.held c.args.a c.requires.arc)
+    omega (arith, ap (λ (x : Arc). x.tokens) c.arc-arc.ensures.arc, ap (λ (x : Arc). length (log s x.from)) c.arc-arc.ensures.arc, ap (λ (x : Arc). length (log s x.to)) c.arc-arc.ensures.arc, length-place g c.args.logs.now c.requires.has_room c.args.a c.requires.arc)

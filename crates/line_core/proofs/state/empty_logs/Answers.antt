@@ -14,8 +14,8 @@ loop-preserved c =
     ∙ ap (λ log. with_logs (replicate c.loop.counter empty ++ log ∷ [])) c.in_ok-new.ensures
     ∙ ap with_logs (replicate_more c.loop.counter empty)
 
-pub returns-clause-held : goal.returns-clause-held
-returns-clause-held c =
+pub returns-clause-has_room : goal.returns-clause-has_room
+returns-clause-has_room c =
     let all : c.loop.counter ≡ stations c.args.graph.now = omega (arith, c.loop-test.false, c.loop.auto.counter-end, c.stations-stations.ensures.count) in
     held-start c.args.graph.now c.loop.logs c.jobs-jobs.ensures.graph c.jobs-jobs.ensures.limits (c.loop.invariant ∙ ap (λ n. empty_ones n c.jobs-jobs.result c.stations-stations.result) all ∙ ap (λ n. empty_ones (stations c.args.graph.now) n c.stations-stations.result) c.jobs-jobs.ensures.count ∙ ap (empty_ones (stations c.args.graph.now) (jobs c.args.graph.now)) c.stations-stations.ensures.count)
 

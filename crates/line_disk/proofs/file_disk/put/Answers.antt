@@ -1,6 +1,6 @@
 use Rattle.std.proofs.Common.{◌+◌, ◌<◌, [], take, drop, sym, ap, ◌∙◌, append-nil, arith}
 use Rattle.std.proofs.lemmas.List.{take_all}
-use Rattle.line_disk.specs.DiskView.{Held, written}
+use Rattle.line_disk.specs.DiskView.{Held, after_write}
 use Rattle.line_disk.specs.RawFile.{raw_now, disk_of}
 use Rattle.line_disk.proofs.RawModel.{written-none, written_more, torn_more, passes_here, passes_written, passes_torn}
 use Rattle.line_disk.proofs.RawRuns.{writes_none, writes_all, puts_more, puts_refused}
@@ -26,7 +26,7 @@ loop-taken-preserved g c =
       is_open = once.open_stays;
       calls = puts_more c.args.at c.args.bytes.now c.loop-taken.taken count _ _ _ c.loop-taken.invariant.calls once.recorded c.loop-taken-test.true some;
       written = λ known. once.written some known
-          ∙ ap (λ (h : Held). written h (c.args.at + c.loop-taken.taken) (take count (drop c.loop-taken.taken c.args.bytes.now))) (c.loop-taken.invariant.written known)
+          ∙ ap (λ (h : Held). after_write h (c.args.at + c.loop-taken.taken) (take count (drop c.loop-taken.taken c.args.bytes.now))) (c.loop-taken.invariant.written known)
           ∙ written_more held c.args.at c.args.bytes.now c.loop-taken.taken count c.loop-taken.invariant.within;
       time = λ known. passes_written (disk_of (g.F.RawFile.shown c.args.file.now)) (disk_of (g.F.RawFile.shown c.loop-taken.file)) (disk_of (g.F.RawFile.shown c.write_once-count.new.file)) _ _ (c.loop-taken.invariant.time known) (once.time known) (once.written some known);
     }
@@ -51,4 +51,4 @@ returns-clause-asks g c =
 pub returns-clause-written : goal.returns-clause-written
 returns-clause-written g c = λ known.
     c.loop-taken.invariant.written known
-    ∙ ap (λ xs. written (raw_now (g.F.RawFile.shown c.args.file.now)) c.args.at xs) (take_all c.loop-taken.taken c.args.bytes.now (omega (arith, c.loop-taken-test.false)))
+    ∙ ap (λ xs. after_write (raw_now (g.F.RawFile.shown c.args.file.now)) c.args.at xs) (take_all c.loop-taken.taken c.args.bytes.now (omega (arith, c.loop-taken-test.false)))

@@ -1,5 +1,5 @@
 use Rattle.std.proofs.Common.{◌≡◌, ◌≤◌, ◌-◌, ◌++◌, true, List, length, take, IsTrue}
-use Rattle.line_disk.specs.DiskView.{Passes, written}
+use Rattle.line_disk.specs.DiskView.{Passes, after_write}
 use Rattle.line_disk.specs.RawFile.{RawCall, raw_now, disk_of}
 use Rattle.line_disk.proofs.RawRuns.{WritesSoFar}
 use Rattle.line_disk.proofs.file_disk.put.Given as goal
@@ -10,7 +10,7 @@ invariant-loop-taken g l = record {
   within : l.taken ≤ length l.bytes;
   is_open : (g.F.RawFile.shown l.file).is_open ≡ true;
   calls : (calls : List RawCall) × ((g.F.RawFile.shown l.file).asked ≡ (g.F.RawFile.shown l.initial.file).asked ++ calls) × WritesSoFar l.at l.bytes l.taken calls;
-  written : IsTrue g.F.RawFile.tells → raw_now (g.F.RawFile.shown l.file) ≡ written (raw_now (g.F.RawFile.shown l.initial.file)) l.at (take l.taken l.bytes);
+  written : IsTrue g.F.RawFile.tells → raw_now (g.F.RawFile.shown l.file) ≡ after_write (raw_now (g.F.RawFile.shown l.initial.file)) l.at (take l.taken l.bytes);
   time : IsTrue g.F.RawFile.tells → Passes (disk_of (g.F.RawFile.shown l.initial.file)) (disk_of (g.F.RawFile.shown l.file));
 }
 

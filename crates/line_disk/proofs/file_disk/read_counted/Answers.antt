@@ -41,12 +41,12 @@ returns-in_err-bytes g c =
       faults = counts_none _ result is;
     }
 
-pub returns-in_err-counted : goal.returns-in_err-counted
-returns-in_err-counted g c =
-    let result = c.from_residual-in_err-counted.result in
-    let error = c.in_err-counted.field-0.0 in
-    let counted = c.in_err-counted.ensures in
-    let given = error_is result error c.from_residual-in_err-counted.ensures.1 in
+pub returns-in_err-count_fault : goal.returns-in_err-count_fault
+returns-in_err-count_fault g c =
+    let result = c.from_residual-in_err-count_fault.result in
+    let error = c.in_err-count_fault.field-0.0 in
+    let counted = c.in_err-count_fault.ensures in
+    let given = error_is result error c.from_residual-in_err-count_fault.ensures.1 in
     let is = given ∙ ap (λ (e : DiskError). Err e) counted.failed in
     let read = c.read_file.ensures in
     record {
@@ -72,7 +72,7 @@ returns-in_err-counted g c =
 pub returns : goal.returns
 returns g c =
     let bytes = c.read_file.new.bytes in
-    let counted = c.in_ok-counted.ensures in
+    let counted = c.in_ok-count_fault.ensures in
     let read = c.read_file.ensures in
     let items = with_items_is c.in_ok-bytes.bytes bytes (omega (arith, read.size, c.deref_mut.ensures.len)) in
     record {

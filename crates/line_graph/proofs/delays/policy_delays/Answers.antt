@@ -11,11 +11,11 @@ returns-in-Kanban c =
 
 pub returns-in-Conwip : goal.returns-in-Conwip
 returns-in-Conwip c =
-    IfOk-weaker c.repeated.result _ _ (λ times h. delays-conwip c.args.plant.now times.items c.in-Conwip.field-0 c.args.arcs c.in-Conwip.is c.requires h) c.repeated.ensures
+    IfOk-weaker c.repeat_delay.result _ _ (λ times h. delays-conwip c.args.plant.now times.items c.in-Conwip.field-0 c.args.arcs c.in-Conwip.is c.requires h) c.repeat_delay.ensures
 
 pub returns-in-BaseStock : goal.returns-in-BaseStock
 returns-in-BaseStock c =
-    IfOk-weaker c.repeated-in-BaseStock.result _ _ (λ times h. delays-base_stock c.args.plant.now times.items c.args.arcs c.in-BaseStock.is c.requires h) c.repeated-in-BaseStock.ensures
+    IfOk-weaker c.repeat_delay-in-BaseStock.result _ _ (λ times h. delays-base_stock c.args.plant.now times.items c.args.arcs c.in-BaseStock.is c.requires h) c.repeat_delay-in-BaseStock.ensures
 
 pub returns-in-Extended : goal.returns-in-Extended
 returns-in-Extended c =

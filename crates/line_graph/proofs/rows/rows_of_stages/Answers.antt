@@ -18,8 +18,8 @@ returns c =
     let p = c.args.layout.now in
     let all : c.loop-number.number ≡ length p.stages = omega arith in
     let so_far = c.loop-number.invariant in
-    let feed = rw c.deliver.ensures at c.plain.ensures in
+    let feed = rw c.deliver.ensures at c.plain_arc.ensures in
     record {
-      arcs = rw (← all, ← feed) (c.in_ok-push.ensures.arcs ∙ ap (λ arcs. arcs ++ c.plain.result ∷ []) so_far.arcs);
+      arcs = rw (← all, ← feed) (c.in_ok-push.ensures.arcs ∙ ap (λ arcs. arcs ++ c.plain_arc.result ∷ []) so_far.arcs);
       delays = rw (← all) (c.in_ok-push.ensures.delays ∙ ap (λ delays. delays ++ 0 ∷ []) so_far.delays);
     }

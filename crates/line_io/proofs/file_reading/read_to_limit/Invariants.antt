@@ -3,7 +3,8 @@ use Rattle.line_io.specs.RawFiles.{FilesCall, RawName, given_by}
 use Rattle.line_io.proofs.RawFilesRuns.{ReadsSoFar}
 use Rattle.line_io.proofs.file_reading.read_to_limit.Given as goal
 
--- the calls so far gave the bytes, and whatever reads on behind them reads all; no more than the limit, and none has failed
+-- the calls so far gave the bytes, and whatever reads on behind them reads all; no more than the limit, and none has
+-- failed
 abbrev pub invariant-loop-bytes : goal.invariant-loop-bytes
 invariant-loop-bytes g l = record {
   is_open : (g.F.RawFiles.shown l.files).is_open ≡ true;

@@ -1,6 +1,6 @@
 use Rattle.std.proofs.Common.{◌<◌, sym, ap, ◌∙◌, subst, rules}
 use Rattle.live_check.specs.Order.{LiveGraph}
-use Rattle.line_core.specs.Consistent.{fired}
+use Rattle.line_core.specs.Consistent.{firing_count}
 use Rattle.line_runs.specs.AllFirings.{all_firings}
 use Rattle.line_runs.specs.Bursts.{IsDone, none}
 use Rattle.line_runs.proofs.Firings.{burst_leaves_less, undone_is_below}
@@ -18,8 +18,8 @@ loop-line-preserved g c =
     let line = c.loop-line.line in
     let inv = c.loop-line.invariant in
     let undone : ¬ IsDone c.loop-line.line = search rules in
-    let left : fired line.state < all_firings c.args.live.now.graph =
-    subst (λ (v : LiveGraph). fired line.state < all_firings v.graph) (sym inv.made_for) (undone_is_below line c.finished.ensures.line undone) in
+    let left : firing_count line.state < all_firings c.args.live.now.graph =
+    subst (λ (v : LiveGraph). firing_count line.state < all_firings v.graph) (sym inv.made_for) (undone_is_below line c.finished.ensures.line undone) in
     record {
       made_for = inv.made_for ∙ sym (burst_live line c.burst_on.new.line c.burst_on.ensures);
       led = led_more (all_firings c.args.live.now.graph) c.args.line line c.burst_on.new.line inv.led left c.burst_on.ensures;

@@ -1,7 +1,7 @@
 use Rattle.std.proofs.Common.{◌≡◌, ◌<◌, sym, ap, ◌∙◌, subst, arith, rules}
 use Rattle.line_base.specs.declared.event.Parts.{Parts}
 use Rattle.live_check.specs.Order.{LiveGraph}
-use Rattle.line_core.specs.Consistent.{fired}
+use Rattle.line_core.specs.Consistent.{firing_count}
 use Rattle.line_core.specs.Run.{Run}
 use Rattle.line_runs.specs.Bursts.{IsDone, none}
 use Rattle.line_runs.specs.AllFirings.{all_firings}
@@ -30,8 +30,8 @@ returns-then-fired-firings-clause-headline g c =
     let undone : ¬ IsDone c.loop-line.line = search rules in
     let graph_is : c.close.result.graph ≡ c.args.live.now.graph =
     ap (λ (r : Run). r.graph) c.close.ensures.state ∙ ap (λ (v : LiveGraph). v.graph) (sym c.loop-line.invariant.made_for) in
-    let left : fired c.close.result.state < all_firings c.close.result.graph =
-    subst (λ (r : Run). fired r.state < all_firings r.graph) (sym c.close.ensures.state) (undone_is_below line c.finished.ensures.line undone) in
+    let left : firing_count c.close.result.state < all_firings c.close.result.graph =
+    subst (λ (r : Run). firing_count r.state < all_firings r.graph) (sym c.close.ensures.state) (undone_is_below line c.finished.ensures.line undone) in
     (graph_is, subst (λ (g : Parts). MayBeResumed g c.close.result.state) graph_is (may_be_resumed c.close.result c.close.ensures.reached left))
 
 pub returns-then-fired-firings-clause-stop : goal.returns-then-fired-firings-clause-stop
@@ -53,8 +53,8 @@ returns-then-fired-firings-clause-count g c =
     let line = c.loop-line.line in
     let undone : ¬ IsDone c.loop-line.line = search rules in
     let counts = stop_counts c.args.firings c.args.line c.loop-line.invariant.led.count line c.loop-line.invariant.led.bursts c.finished.ensures.line (omega (arith, c.fired.ensures.fired, c.if-fired-firings.true)) undone in
-    subst (λ (r : Run). IsStopAt c.args.live.now.graph c.args.firings (fired c.args.line.state) (fired r.state)) (sym c.close.ensures.state) (
-    subst (λ (v : LiveGraph). IsStopAt v.graph c.args.firings (fired c.args.line.state) (fired line.state)) (sym c.requires) counts)
+    subst (λ (r : Run). IsStopAt c.args.live.now.graph c.args.firings (firing_count c.args.line.state) (firing_count r.state)) (sym c.close.ensures.state) (
+    subst (λ (v : LiveGraph). IsStopAt v.graph c.args.firings (firing_count c.args.line.state) (firing_count line.state)) (sym c.requires) counts)
 
 pub returns-clause-stop : goal.returns-clause-stop
 returns-clause-stop g c =
@@ -65,9 +65,9 @@ pub returns-clause-count : goal.returns-clause-count
 returns-clause-count g c = λ left.
     let line = c.loop-line.line in
     let done : IsDone c.loop-line.line = search rules in
-    let first : fired c.args.line.state < all_firings c.args.line.live.graph =
-    subst (λ (v : LiveGraph). fired c.args.line.state < all_firings v.graph) c.requires left in
-    subst (λ (v : LiveGraph). IsShort v.graph c.args.firings (fired c.args.line.state)) (sym c.requires) (
+    let first : firing_count c.args.line.state < all_firings c.args.line.live.graph =
+    subst (λ (v : LiveGraph). firing_count c.args.line.state < all_firings v.graph) c.requires left in
+    subst (λ (v : LiveGraph). IsShort v.graph c.args.firings (firing_count c.args.line.state)) (sym c.requires) (
     finish_counts c.args.firings c.args.line c.loop-line.invariant.led.count line c.loop-line.invariant.led.bursts c.finished.ensures.line done first)
 
 pub burst_on-requires-clause-made_for : goal.burst_on-requires-clause-made_for

@@ -9,7 +9,7 @@ returns-clause-tells g c =
     let given : c.as_slice.result.now ≡ text_of c.args.state.now = c.as_slice.ensures.value ∙ c.in_ok-text.ensures.text in
     let old = g.S.Store.shown c.args.store.now in
     let new = g.S.Store.shown c.write.new.self in
-    inl (subst (λ (text : List ℕ). new.asked ≡ after_write old.asked c.args.file.now text c.write.result) given c.write.ensures.tells)
+    inl (subst (λ (text : List ℕ). new.asked ≡ after_write old.asked c.args.file.now text c.write.result) given c.write.ensures.recorded)
 
 pub returns-clause-written : goal.returns-clause-written
 returns-clause-written g c =

@@ -1,5 +1,5 @@
 use Rattle.std.proofs.Common.{◌≡◌, false}
-use Rattle.line_io.specs.Outgoing.{emptied}
+use Rattle.line_io.specs.Outgoing.{nothing_waiting}
 use Rattle.line_summary.specs.Curve.{PutsRows}
 use Rattle.line_summary.proofs.curve.write_block.Given as goal
 
@@ -7,5 +7,5 @@ use Rattle.line_summary.proofs.curve.write_block.Given as goal
 abbrev pub invariant-loop-i : goal.invariant-loop-i
 invariant-loop-i g l = record {
   rows : PutsRows l.plant l.first l.i (g.K.Sink.shown l.initial.sink) (g.K.Sink.shown l.sink);
-  as_new : l.out ≡ emptied false;
+  as_new : l.out ≡ nothing_waiting false;
 }

@@ -8,9 +8,9 @@ pub returns-then-has_stand : goal.returns-then-has_stand
 returns-then-has_stand g c =
     let all =
     ended {words = texts c.args.words.now} {store = store_over g.S.Store.tells (g.S.Store.shown c.args.store.now)
-    (g.S.Store.shown c.done_or_stood-outcome.new.store)}
-    {disk = disk_over g.D.Disk.tells (g.D.Disk.shown c.args.disk.now) (g.D.Disk.shown c.done_or_stood-outcome.new.disk)}
-    {answer = c.done_or_stood-outcome.result} {status = c.write_outcome.result}
+    (g.S.Store.shown c.do_words-outcome.new.store)}
+    {disk = disk_over g.D.Disk.tells (g.D.Disk.shown c.args.disk.now) (g.D.Disk.shown c.do_words-outcome.new.disk)}
+    {answer = c.do_words-outcome.result} {status = c.write_outcome.result}
     (sink_over (g.K.Sink.shown c.args.sink.now) (g.K.Sink.shown c.write_outcome.new.sink))
-    c.done_or_stood-outcome.ensures c.write_outcome.ensures in
+    c.do_words-outcome.ensures c.write_outcome.ensures in
     record { ends = all.ends; reports = all.reports; stops = all.stops; files = all.files }

@@ -8,9 +8,9 @@ pub returns : goal.returns
 returns g c =
     let all =
     ended {words = texts c.args.words.now} {store = store_over g.S.Store.tells (g.S.Store.shown c.args.store.now)
-    (g.S.Store.shown c.result_of-outcome.new.store)}
-    {disk = disk_over g.D.Disk.tells (g.D.Disk.shown c.args.disk.now) (g.D.Disk.shown c.result_of-outcome.new.disk)}
-    {answer = c.result_of-outcome.result} {status = c.write_outcome.result}
-    (sink_over (g.K.Sink.shown c.args.sink.now) (g.K.Sink.shown c.write_outcome.new.sink)) c.result_of-outcome.ensures
+    (g.S.Store.shown c.do_words_still-outcome.new.store)}
+    {disk = disk_over g.D.Disk.tells (g.D.Disk.shown c.args.disk.now) (g.D.Disk.shown c.do_words_still-outcome.new.disk)}
+    {answer = c.do_words_still-outcome.result} {status = c.write_outcome.result}
+    (sink_over (g.K.Sink.shown c.args.sink.now) (g.K.Sink.shown c.write_outcome.new.sink)) c.do_words_still-outcome.ensures
     c.write_outcome.ensures in
     record { ends = all.ends; reports = all.reports; stops = all.stops; files = all.files }

@@ -1,8 +1,8 @@
 use Rattle.std.proofs.Common.{◌≡◌, ◌++◌, take}
 use Rattle.std.specs.Prelude.{codes}
 use Rattle.std.specs.List.{flat_map}
-use Rattle.refusals.specs.DeadLine.{spaced}
+use Rattle.command_line.specs.Lines.{after_space}
 use Rattle.refusals.proofs.dead.dead_line.Given as goal
 
 abbrev pub invariant-loop-label : goal.invariant-loop-label
-invariant-loop-label l = l.text.items ≡ codes "dead:" ++ flat_map spaced (take l.label-index l.labels)
+invariant-loop-label l = l.text.items ≡ codes "dead:" ++ flat_map after_space (take l.label-index l.labels)

@@ -4,8 +4,8 @@ use Rattle.line_worker.specs.Work.{AllDone}
 use Rattle.standing_line.proofs.Sweeps.{turns_below, most_below}
 use Rattle.standing_line.proofs.sweeping.may_sweep.Goals as goal
 
-pub returns-then-not-done-clause-may : goal.returns-then-not-done-clause-may
-returns-then-not-done-clause-may c =
+pub returns-then-not-is_done-clause-may : goal.returns-then-not-is_done-clause-may
+returns-then-not-is_done-clause-may c =
     let worker = c.args.worker.now in
     let most : 0 < 2 ^ 39 = omega arith in
     let undone : ¬ AllDone worker.target worker.team = search rules in (
@@ -16,16 +16,16 @@ returns-then-not-done-clause-may c =
       λ may. lt-ltb c.args.turns (2 ^ 39) (most_below worker.team c.args.turns (2 ^ 39) most c.requires.turns may.turns),
     )
 
-pub returns-else-not-done-clause-may : goal.returns-else-not-done-clause-may
-returns-else-not-done-clause-may c =
+pub returns-else-not-is_done-clause-may : goal.returns-else-not-is_done-clause-may
+returns-else-not-is_done-clause-may c =
     let worker = c.args.worker.now in
     let done : AllDone worker.target worker.team = search rules in (
       λ yes. absurd (cc),
       λ may. absurd (may.undone done),
     )
 
-pub returns-then-not-done-clause-worker : goal.returns-then-not-done-clause-worker
-returns-then-not-done-clause-worker c = c.done.ensures.worker
+pub returns-then-not-is_done-clause-worker : goal.returns-then-not-is_done-clause-worker
+returns-then-not-is_done-clause-worker c = c.is_done.ensures.worker
 
-pub returns-else-not-done-clause-worker : goal.returns-else-not-done-clause-worker
-returns-else-not-done-clause-worker c = c.done.ensures.worker
+pub returns-else-not-is_done-clause-worker : goal.returns-else-not-is_done-clause-worker
+returns-else-not-is_done-clause-worker c = c.is_done.ensures.worker

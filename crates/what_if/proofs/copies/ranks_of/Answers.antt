@@ -15,12 +15,12 @@ push_reserved-requires c =
 pub loop-t-preserved : goal.loop-t-preserved
 loop-t-preserved c =
     let ranks = c.args.live.now.ranks in
-    let there : c.loop-t.t < length ranks = omega (arith, c.loop-t-test.true, c.stations-stations.ensures.count, ap stations c.graph.ensures.graph, c.graph.ensures.ranked.upward.place_for_each) in
+    let there : c.loop-t.t < length ranks = omega (arith, c.loop-t-test.true, c.stations-stations.ensures.count, ap stations c.graph.ensures.graph, c.graph.ensures.ranked.upward.rank_for_each) in
     let pushed = c.push_reserved.ensures in
     copied_more ranks c.stations-stations.result c.loop-t.t 0 _ _ _ there c.place_of.ensures.rank c.loop-t.invariant pushed.items pushed.len pushed.capacity
 
 pub returns : goal.returns
 returns c =
     let ranks = c.args.live.now.ranks in
-    let over : length ranks ≤ c.loop-t.t = omega (arith, c.loop-t-test.false, c.stations-stations.ensures.count, ap stations c.graph.ensures.graph, c.graph.ensures.ranked.upward.place_for_each) in
+    let over : length ranks ≤ c.loop-t.t = omega (arith, c.loop-t-test.false, c.stations-stations.ensures.count, ap stations c.graph.ensures.graph, c.graph.ensures.ranked.upward.rank_for_each) in
     copied_all ranks c.stations-stations.result c.loop-t.t _ over c.loop-t.invariant

@@ -2,7 +2,7 @@ use Rattle.std.proofs.Common.{◌≡◌, ap, subst, ◌∙◌, arith}
 use Rattle.std.specs.Prelude.{Some, decimal, codes}
 use Rattle.what_if.specs.declared.edit.Edit.{Edit}
 use Rattle.what_if.specs.declared.edit.Edit.TheVariants.{Demand}
-use Rattle.what_if.specs.Edits.{HasNoSpace, spaced}
+use Rattle.what_if.specs.Edits.{HasNoSpace, before_space}
 use Rattle.what_if.proofs.WordsOfEdits.{has_space, none-holds, demand-writes, demand-parts, nothing-is, some-is}
 use Rattle.what_if.proofs.reader.read_demand.Goals as goal
 
@@ -46,8 +46,8 @@ pub returns-clause-read : goal.returns-clause-read
 returns-clause-read c =
     let job = c.in_ok-job-2.ensures in
     let date = c.in_ok-date.ensures in
-    let rest = ap (λ w. spaced w c.in_ok-job.date.now) job.read ∙ ap (spaced (decimal c.in_ok-job-2.job)) date.read in
+    let rest = ap (λ w. before_space w c.in_ok-job.date.now) job.read ∙ ap (before_space (decimal c.in_ok-job-2.job)) date.read in
     record {
       valid = record { from_one = job.from_one; job = job.job; early = date.small };
-      text_is = ap (spaced (codes "demand")) (c.in_ok-job.ensures.whole ∙ rest);
+      text_is = ap (before_space (codes "demand")) (c.in_ok-job.ensures.whole ∙ rest);
     }

@@ -3,7 +3,7 @@ use Rattle.std.specs.Prelude.{Some, decimal}
 use Rattle.event_graph.specs.Network.{label}
 use Rattle.what_if.specs.declared.edit.Edit.{Edit}
 use Rattle.what_if.specs.declared.edit.Edit.TheVariants.{Time}
-use Rattle.what_if.specs.Edits.{spaced, machine_with, HasNoSpace}
+use Rattle.what_if.specs.Edits.{before_space, machine_with, HasNoSpace}
 use Rattle.what_if.proofs.WordsOfEdits.{has_space, time-writes, time-split, time-parts, none-some, nothing-is, some-is}
 use Rattle.what_if.proofs.reader.read_time.Goals as goal
 
@@ -11,7 +11,7 @@ pub returns-in_err-label-clause-tells : goal.returns-in_err-label-clause-tells
 returns-in_err-label-clause-tells c edit writes =
     let g = c.args.graph.now in
     time-writes g c.args.text.now edit (λ e. c.from_residual.result ≡ Some e) writes (λ t n time valid is.
-    absurd (has_space (label g t) (spaced (decimal n) (decimal time)) (subst HasNoSpace is c.in_err-label.ensures)))
+    absurd (has_space (label g t) (before_space (decimal n) (decimal time)) (subst HasNoSpace is c.in_err-label.ensures)))
 
 pub returns-in_err-job-clause-tells : goal.returns-in_err-job-clause-tells
 returns-in_err-job-clause-tells c edit writes =

@@ -2,7 +2,7 @@ use Rattle.std.proofs.Common.{◌+◌, ◌*◌, ◌<◌, ◌≤◌, sym, subst, 
 use Rattle.std.proofs.lemmas.Bool.{MatchBool-at_true, MatchBool-at_false}
 use Rattle.std.proofs.lemmas.List.Elements.{All-weaker}
 use Rattle.event_graph.specs.Network.{arc, stations}
-use Rattle.cycle_time.specs.Search.{most_gain, IsRaisedAt, IsRest}
+use Rattle.cycle_time.specs.Search.{most_gain, IsRaisedAt, IsKeptAt}
 use Rattle.cycle_time.proofs.Passes.{IsPassed, passed_none, passed_raised, passed_rest, step_within}
 use Rattle.cycle_time.proofs.tree.Tree.pass.Goals as goal
 use Rattle.cycle_time.proofs.tree.Tree.pass.Goals.{then-raise, else-raise}
@@ -31,10 +31,10 @@ loop-step-preserved c =
     let Passed = IsPassed g w c.args.sweep old p' (step + 1) in
     elim c.if-raise.branch [
       | then-raise b ↦
-          (let at = MatchBool-at_true (IsRaisedAt g w p p' t) (IsRest g w p p' t) b.if-raise.true c.raise.ensures in
+          (let at = MatchBool-at_true (IsRaisedAt g w p p' t) (IsKeptAt g w p p' t) b.if-raise.true c.raise.ensures in
           subst Passed (sym b.last-is) (passed_raised g w c.args.sweep old p p' step t c.loop-step.last all.graph c.requires.weights.gains_small c.loop-step.invariant there here at))
       | else-raise b ↦
-          (let at = MatchBool-at_false (IsRaisedAt g w p p' t) (IsRest g w p p' t) b.if-raise.false c.raise.ensures in
+          (let at = MatchBool-at_false (IsRaisedAt g w p p' t) (IsKeptAt g w p p' t) b.if-raise.false c.raise.ensures in
           subst Passed (sym b.last-is) (passed_rest g w c.args.sweep old p p' step t c.loop-step.last all.graph c.loop-step.invariant there here at))
     ]
 

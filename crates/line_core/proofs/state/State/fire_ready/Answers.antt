@@ -6,8 +6,8 @@ use Rattle.line_core.specs.Run.{Run, fired_at, IsRunWithRoom}
 use Rattle.line_core.proofs.Runs.{state_in, many_logs, log-state_in, held-fired, run_of-fired}
 use Rattle.line_core.proofs.state.State.fire_ready.Goals as goal
 
-pub next_date-date-requires-clause-held : goal.next_date-date-requires-clause-held
-next_date-date-requires-clause-held c =
+pub next_date-date-requires-clause-has_room : goal.next_date-date-requires-clause-has_room
+next_date-date-requires-clause-has_room c =
     let at = c.graph.ensures.graph ∙ c.requires.made_for ∙ sym (ap (λ (r : Run). r.graph) c.self.view_is) in
     subst (λ (h : Parts). IsRunWithRoom h c.self.inside.logs) (sym at) c.self.invariant
 

@@ -9,7 +9,7 @@ use Rattle.line_core.proofs.state.State.first_unfinished.Goals as goal
 pub first_unfinished-requires : goal.first_unfinished-requires
 first_unfinished-requires c =
     let same = c.graph.ensures.graph ∙ c.requires.made_for ∙ sym (ap (λ (r : Run). r.graph) c.self.view_is) in
-    record { held = subst (λ (g : Parts). IsRunWithRoom g c.self.inside.logs) (sym same) c.self.invariant }
+    record { has_room = subst (λ (g : Parts). IsRunWithRoom g c.self.inside.logs) (sym same) c.self.invariant }
 
 pub returns : goal.returns
 returns c =

@@ -34,24 +34,24 @@ get-requires c =
     let g = c.self.inside.graph.value in
     omega (arith, ap (λ (x : Arc). x.from) (arc_is before), many_logs g c.self.inside.logs c.self.invariant, c.self.invariant.run.sound.starts_exist c.args.a (there before))
 
-pub left-requires-clause-few : goal.left-requires-clause-few
-left-requires-clause-few c =
-    let before = (goal.at.left-requires-clause-few c).After-count_at-taken in
+pub after_takes-requires-clause-few : goal.after_takes-requires-clause-few
+after_takes-requires-clause-few c =
+    let before = (goal.at.after_takes-requires-clause-few c).After-count_at-taken in
     let g = c.self.inside.graph.value in
     let logs = c.self.inside.logs in
     let a = c.args.a in
     let is = arc_is before in
     let made = λ (t : ℕ). ap (λ l. length (get_or l t [])) (logs-state_of g (dates_of logs)) in
     let taken = c.count_at-taken.ensures.count ∙ ap (λ (h : Parts). length (log (state_in h logs) c.arc-arc.result.to)) (same_graph before) ∙ ap (λ (x : Arc). length (log (state_in g logs) x.to)) is in
-    omega (arith, taken, ap length (dates_are (goal.at.left-requires-clause-few c).After-dates-dates), made (arc g a).from, ap (λ (x : Arc). x.tokens) is, length-place g logs c.self.invariant a (there before))
+    omega (arith, taken, ap length (dates_are (goal.at.after_takes-requires-clause-few c).After-dates-dates), made (arc g a).from, ap (λ (x : Arc). x.tokens) is, length-place g logs c.self.invariant a (there before))
 
-pub left-requires-clause-within : goal.left-requires-clause-within
-left-requires-clause-within c k d low =
-    let before = (goal.at.left-requires-clause-within c).After-count_at-taken in
+pub after_takes-requires-clause-within : goal.after_takes-requires-clause-within
+after_takes-requires-clause-within c k d low =
+    let before = (goal.at.after_takes-requires-clause-within c).After-count_at-taken in
     let g = c.self.inside.graph.value in
     let logs = c.self.inside.logs in
     let a = c.args.a in
-    let read = dates_are (goal.at.left-requires-clause-within c).After-dates-dates in
+    let read = dates_are (goal.at.after_takes-requires-clause-within c).After-dates-dates in
     let date = get_or_default c.dates-dates.result.now k d 0 low ∙ ap (λ l. get_or l k 0) read in
     omega (arith, date, c.delay.ensures.delay, ap (λ (h : Parts). delay h a) (same_graph before), delay-small g a c.self.invariant.run.limits, early_date g logs c.self.invariant (arc g a).from k (c.self.invariant.run.sound.starts_exist a (there before)) (subst (λ l. k < length l) read low))
 
@@ -63,7 +63,7 @@ returns-clause-tokens c =
     let a = c.args.a in
     let is = arc_is before in
     let taken = c.count_at-taken.ensures.count ∙ ap (λ l. length (get_or l c.arc-arc.result.to [])) (logs-state_of c.graph-graph.result.now (dates_of logs)) ∙ ap (λ (x : Arc). length (get_or (dates_of logs) x.to [])) is in
-    c.left.ensures
+    c.after_takes.ensures
     ∙ ap (λ n. drop n (tokens_of c.arc-arc.result.tokens c.dates-dates.result.now c.delay.result)) taken
     ∙ ap (λ n. drop (length (get_or (dates_of logs) (arc g a).to [])) (tokens_of n c.dates-dates.result.now c.delay.result)) (ap (λ (x : Arc). x.tokens) is)
     ∙ ap (λ l. drop (length (get_or (dates_of logs) (arc g a).to [])) (tokens_of (arc g a).tokens l c.delay.result)) (dates_are (goal.at.returns-clause-tokens c).After-dates-dates)

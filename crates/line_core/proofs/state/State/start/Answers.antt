@@ -19,4 +19,4 @@ returns-in_err-logs c =
 pub returns-clause-reached : goal.returns-clause-reached
 returns-clause-reached c =
     let same = c.graph.ensures.graph ∙ sym (c.of.ensures ∙ c.graph-2.ensures.graph) in
-    subst (λ (g : Parts). IsReached (run_of g c.in_ok-logs.logs)) same c.in_ok-logs.ensures.held.run
+    subst (λ (g : Parts). IsReached (run_of g c.in_ok-logs.logs)) same c.in_ok-logs.ensures.has_room.run

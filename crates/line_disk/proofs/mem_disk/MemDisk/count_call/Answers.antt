@@ -3,11 +3,11 @@ use Rattle.std.specs.Prelude.{Err}
 use Rattle.std.proofs.lemmas.Result.{err_from_is_err_and}
 use Rattle.line_disk.specs.declared.disk.DiskError.{DiskError}
 use Rattle.line_disk.specs.Memory.{first_held}
-use Rattle.line_disk.proofs.Push.{held_push, passes_push, was_told, counts_none}
+use Rattle.line_disk.proofs.Push.{held_push, passes_push, done_unless_failed, counts_none}
 use Rattle.line_disk.proofs.mem_disk.MemDisk.count_call.Goals as goal
 
-pub returns-clause-tells : goal.returns-clause-tells
-returns-clause-tells c = was_told c.args.failed c.answer.result c.answer.ensures.failed
+pub returns-clause-done_unless_failed : goal.returns-clause-done_unless_failed
+returns-clause-done_unless_failed c = done_unless_failed c.args.failed c.answer.result c.answer.ensures.failed
 
 pub returns-clause-held : goal.returns-clause-held
 returns-clause-held c = λ memory. held_push (first_held c.args.self.now.first.items) c.args.self.now.calls.items c.push.new.self.items c.args.call c.in_ok-push.ensures.items

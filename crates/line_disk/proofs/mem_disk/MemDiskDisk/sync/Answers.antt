@@ -12,12 +12,12 @@ abbrev Leaves : MemDisk → MemDisk → Bool → Type 0
 Leaves old new done = held_now (mem_view new) ≡ after_call (held_now (mem_view old)) (call.Sync done)
 
 pub returns-clause-synced : goal.returns-clause-synced
-returns-clause-synced c = on_done (Leaves c.args.self.now c.count_call.new.self) (not c.is_due-failed.result) c.count_call.result c.count_call.ensures.tells c.count_call.ensures.held
+returns-clause-synced c = on_done (Leaves c.args.self.now c.count_call.new.self) (not c.is_due-failed.result) c.count_call.result c.count_call.ensures.done_unless_failed c.count_call.ensures.held
 
 pub returns-clause-stays : goal.returns-clause-stays
-returns-clause-stays c = on_failed (Leaves c.args.self.now c.count_call.new.self) (not c.is_due-failed.result) c.count_call.result c.count_call.ensures.tells c.count_call.ensures.held c.count_call.ensures.no_memory
+returns-clause-stays c = on_failed (Leaves c.args.self.now c.count_call.new.self) (not c.is_due-failed.result) c.count_call.result c.count_call.ensures.done_unless_failed c.count_call.ensures.held c.count_call.ensures.no_memory
 
 pub returns-clause-counted : goal.returns-clause-counted
 returns-clause-counted c = λ memory.
     c.count_call.ensures.counted memory
-    ∙ ap (λ done. c.args.self.now.calls.items ++ call.Sync done ∷ []) (c.count_call.ensures.tells memory)
+    ∙ ap (λ done. c.args.self.now.calls.items ++ call.Sync done ∷ []) (c.count_call.ensures.done_unless_failed memory)

@@ -1,5 +1,5 @@
 use Rattle.std.proofs.Common.{◌≡◌, not, refl, ap, ◌∙◌, subst, length, List, ◌++◌, ◌∷◌, [], Bool, false, is_ok, ℕ, rules}
-use Rattle.line_disk.specs.DiskView.{held_now, written, Torn}
+use Rattle.line_disk.specs.DiskView.{held_now, after_write, Torn}
 use Rattle.line_disk.specs.Memory.{after_call}
 use Rattle.line_disk.specs.MemDisk.{mem_view}
 use Rattle.line_disk.specs.declared.mem_disk.MemDisk.{MemDisk}
@@ -28,14 +28,14 @@ returns c =
         patch = patch;
         at = refl;
         bytes = same;
-        counted = counts.counted memory ∙ ap (λ done. c.args.self.now.calls.items ++ call.Write patch done ∷ []) (counts.tells memory);
+        counted = counts.counted memory ∙ ap (λ done. c.args.self.now.calls.items ++ call.Write patch done ∷ []) (counts.done_unless_failed memory);
       };
       not_counted = counts.not_counted;
-      written = on_ok c.count_call.result (on_done left (not c.is_due-failed.result) c.count_call.result counts.tells counts.held)
-          (λ done. done ∙ ap (λ bytes. written held c.args.at bytes) same);
+      written = on_ok c.count_call.result (on_done left (not c.is_due-failed.result) c.count_call.result counts.done_unless_failed counts.held)
+          (λ done. done ∙ ap (λ bytes. after_write held c.args.at bytes) same);
       torn = λ err.
           let found = failed_found c.count_call.result err in
-          let failed : left false = subst left (counts.tells found ∙ ap is_ok err) (counts.held found) in
+          let failed : left false = subst left (counts.done_unless_failed found ∙ ap is_ok err) (counts.held found) in
           subst (λ (bytes : List ℕ). Torn held (held_now (mem_view c.count_call.new.self)) c.args.at (length bytes)) same (torn_by held _ c.args.at c.in_ok-to_vec.field-0.items failed);
       no_memory = counts.no_memory;
       time = counts.time;

@@ -22,7 +22,7 @@ returns g c =
         (subst (λ r. AsksToRead name limit read.asks.0 (bytes_of r)) same read.asks.2.0, read.asks.2.1),
       );
       closed = c.close.ensures.closed;
-      tells = c.note_read.ensures.noted;
+      recorded = c.note_read.ensures.noted;
       bytes = subst (λ r. IfOk r (λ v. IsTrue g.F.RawFiles.tells → named_files old name ≡ Some v.items)) same read.bytes;
       within_limit = takes.within_limit;
       took_them = takes.took_them;

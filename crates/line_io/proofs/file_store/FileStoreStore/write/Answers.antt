@@ -23,7 +23,7 @@ returns g c =
       );
       asks_nothing = λ memory. close.asks_nothing ∙ ap (λ (v : FilesView). v.asked) (wrote.untouched memory);
       closed = close.closed;
-      tells = c.note_write.ensures.noted;
+      recorded = c.note_write.ensures.noted;
       written = written_closed tells mid new name bytes c.note_write.result close.stays wrote.written;
       others_stay = λ known q apart. close.stays known (Named q) ∙ wrote.others_stay known q apart;
       torn = λ failed known. subst (λ held. IsTorn (named_files old name) held bytes) (sym (close.stays known (Named name))) (wrote.torn known);

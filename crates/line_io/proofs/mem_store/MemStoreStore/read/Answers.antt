@@ -13,7 +13,7 @@ returns-in-Some c =
     let same = sym c.note_read.ensures.same in
     let well = not_due c.next-is_due.result c.readable.result _ c.readable.ensures.due c.in-Some.is in
     let held : known ≡ Some c.deref.result.now =
-    found_held c.next-is_due.result c.readable.result _ (λ v. v.now.items) _ c.readable.ensures.else_told well c.in-Some.is
+    found_held c.next-is_due.result c.readable.result _ (λ v. v.now.items) _ c.readable.ensures.else_found well c.in-Some.is
     ∙ ap (λ (xs : List ℕ). Some xs) (sym c.deref.ensures.value) in
     record {
       due = λ due. absurd (true≢false (sym (c.next-is_due.ensures.due.1 due) ∙ well));
@@ -21,7 +21,7 @@ returns-in-Some c =
       refused = λ failed. absurd (copy.never_failed (same ∙ failed));
       counted = c.next-is_due.ensures.counted;
       keep_stays = refl;
-      tells = c.note_read.ensures.noted;
+      recorded = c.note_read.ensures.noted;
       bytes = subst (λ r. IfOk r (λ v. known ≡ Some v.items)) same (bytes_held _ _ c.copy_to_limit-answer.result held copy.bytes);
       within_limit = subst (λ r. IfOk r (λ v. length v.items ≤ c.args.limit)) same copy.within_limit;
       took_them = subst (λ r. IfOk r (λ v. c.copy_to_limit-answer.new.taken ≡ length v.items)) same copy.took_them;
@@ -47,10 +47,10 @@ returns-in-None c =
     record {
       due = λ due. failed_as;
       due_as_failed = λ due long. refuse.never_too_long (same ∙ long);
-      refused = λ failed. due_or_absent c.next-is_due.result c.readable.result (λ v. v.now.items) _ c.next-is_due.ensures.due.0 c.readable.ensures.else_told c.in-None.is;
+      refused = λ failed. due_or_absent c.next-is_due.result c.readable.result (λ v. v.now.items) _ c.next-is_due.ensures.due.0 c.readable.ensures.else_found c.in-None.is;
       counted = c.next-is_due.ensures.counted;
       keep_stays = refl;
-      tells = c.note_read-in-None.ensures.noted;
+      recorded = c.note_read-in-None.ensures.noted;
       bytes = no_answer answer _ failed_as;
       within_limit = no_answer answer _ failed_as;
       took_them = no_answer answer _ failed_as;

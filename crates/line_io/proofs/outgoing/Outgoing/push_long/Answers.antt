@@ -15,14 +15,14 @@ front_moves bytes done rest later n split back =
 pub loop-rest-preserved : goal.loop-rest-preserved
 loop-rest-preserved g c =
     let old = c.loop-rest.invariant in
-    let n = c.push_front-count.result in
-    (old.0 ++ take n c.loop-rest.rest.now, front_moves c.args.bytes.now old.0 c.loop-rest.rest.now _ n old.1 c.split_at.ensures.back, pushed_after old.2 c.push_front-count.ensures.pushed)
+    let n = c.push_prefix-count.result in
+    (old.0 ++ take n c.loop-rest.rest.now, front_moves c.args.bytes.now old.0 c.loop-rest.rest.now _ n old.1 c.split_at.ensures.back, pushed_after old.2 c.push_prefix-count.ensures.pushed)
 
 pub loop-rest-smaller : goal.loop-rest-smaller
 loop-rest-smaller g c =
-    let n = c.push_front-count.result in
+    let n = c.push_prefix-count.result in
     let rest = c.loop-rest.rest.now in
-    let pushed = c.push_front-count.ensures in
+    let pushed = c.push_prefix-count.ensures in
     let later : length c.split_at.result.1.now ≡ length (drop n rest) = ap (λ (xs : List ℕ). length xs) c.split_at.ensures.back in
     let less : length c.split_at.result.1.now < length rest = omega (arith, later, length-drop n rest, pushed.some, pushed.few) in
     less

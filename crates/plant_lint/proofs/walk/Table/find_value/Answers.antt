@@ -9,5 +9,5 @@ returns-then-passes c =
 pub returns : goal.returns
 returns c =
     rw
-    (refused_value _ _ _ _ (sym c.passes.ensures ∙ c.if-passes.false), ← c.wanted-wants.ensures, ← c.in_ok-place.ensures, ← c.refusal.ensures)
+    (refused_value _ _ _ _ (sym c.passes.ensures ∙ c.if-passes.false), ← c.wants_of-wants.ensures, ← c.in_ok-place.ensures, ← c.refusal.ensures)
     c.add.ensures

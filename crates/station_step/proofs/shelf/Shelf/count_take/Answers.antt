@@ -2,7 +2,7 @@ use Rattle.std.proofs.Common.{◌≡◌, ℕ, ◌∷◌, [], map, set, take, sym
 use Rattle.std.specs.Prelude.{slice_index}
 use Rattle.card_queue.specs.Plain.{PlainQueue, plain_waiting}
 use Rattle.station_step.specs.declared.tally.Tally.{Tally}
-use Rattle.station_step.specs.Shelf.{WorkShelf, queue_at, counted}
+use Rattle.station_step.specs.Shelf.{WorkShelf, queue_at, with_take}
 use Rattle.station_step.specs.Counts.{tally_at, seen_queue, AreTallies, one_taken}
 use Rattle.station_step.proofs.Queues.{IsLent, tally-lent, seen_queues, tally_there, queue-seen, front-some, one-fits, take-counted, take-sound, take-sources}
 use Rattle.station_step.proofs.shelf.Shelf.count_take.Goals as goal
@@ -54,7 +54,7 @@ returns c =
     record {
       counted = ap (λ (t : Tally). seen_queues s.firsts.items s.room.value s.logs.items (set s.queues.items k t)) (noted from c.note_take.new.self c.note_take.ensures)
           ∙ take-counted s.firsts.items s.room.value s.logs.items s.queues.items k (token from) c.self.invariant (lent from).there (front from)
-          ∙ ap (λ (w : WorkShelf). set w.queues k (counted (queue_at w.queues k))) c.self.view_is;
+          ∙ ap (λ (w : WorkShelf). set w.queues k (with_take (queue_at w.queues k))) c.self.view_is;
       logs = ap (λ (w : WorkShelf). w.logs) c.self.view_is;
       sources = ap (λ (t : Tally). map (λ (u : Tally). u.source) (set s.queues.items k t)) (noted from c.note_take.new.self c.note_take.ensures)
           ∙ take-sources s.firsts.items s.room.value s.logs.items s.queues.items k (token from) c.self.invariant (lent from).there (front from)

@@ -16,7 +16,7 @@ use Rattle.station_step.specs.Fronts.{IsReadied}
 use Rattle.station_step.specs.declared.ends.Inlet.{Inlet}
 use Rattle.station_step.specs.Station.{WorkStation, IsStation, new_station}
 use Rattle.station_step.specs.Kept.{IsKept, IsFresh}
-use Rattle.station_step.specs.Noted.{IsNoted, inputs_of, outlets_of, unnoted}
+use Rattle.station_step.specs.Noted.{IsNoted, inputs_of, outlets_of, unnoted_input}
 use Rattle.station_step.proofs.Dates.{time-fixed}
 use Rattle.station_step.proofs.KeptStations.{kept-fresh, station-new}
 use Rattle.station_step.proofs.NotedExtras.{inputs-count, inputs-unnoted, extras-into}
@@ -45,7 +45,7 @@ note_time-requires c =
     ∙ length-map (ins g t) (λ a. (arc g a).worked)
     ∙ ap (λ (h : Parts). length (ins h t)) c.graph-graph.ensures.graph
     ∙ sym c.requires.an_inlet_each
-    ∙ sym (length-map c.args.inlets.items unnoted)
+    ∙ sym (length-map c.args.inlets.items unnoted_input)
     ∙ sym (ap length c.in_ok-inputs.ensures)
 
 pub varies-fixed-requires : goal.varies-fixed-requires

@@ -3,7 +3,7 @@ use Rattle.std.specs.Prelude.{IsTrue, ◌↔◌}
 use Rattle.std.proofs.lemmas.List.{get_or_read}
 use Rattle.event_graph.specs.Network.{stations}
 use Rattle.what_if.specs.Page.{Page, date_at, greatest_term}
-use Rattle.what_if.specs.Evaluation.{evaluated}
+use Rattle.what_if.specs.Evaluation.{after_evaluation}
 use Rattle.what_if.specs.Sheet.{IsSheet, page_of}
 use Rattle.what_if.proofs.KeptSheets.{marks_after-code, evaluated-code, test-differs, date_at-evaluated, evaluated-is_sheet}
 use Rattle.what_if.proofs.sheet.Sheet.evaluate.Goals as goal
@@ -23,7 +23,7 @@ returns-clause-evaluated c =
     evaluated-code p t n (set i.dates.items t c.set.new.self) c.renew_marks.new.marks
     (ap (set i.dates.items t) row)
     (c.renew_marks.ensures ∙ marks_after-code p t n c.args.live.now c.date.result c.greatest_term-date.result live date greatest)
-    ∙ ap (λ (q : Page). evaluated q t n) is
+    ∙ ap (λ (q : Page). after_evaluation q t n) is
 
 pub returns-clause-kept : goal.returns-clause-kept
 returns-clause-kept c =

@@ -12,7 +12,7 @@ pub index-requires : goal.index-requires
 index-requires c =
     let ranks = c.self.inside.ranks in
     let up = c.self.invariant.sheet.ranked.upward in
-    omega (arith, c.requires.station, ap (λ (p : Page). stations p.live.graph) c.self.view_is, up.place_for_each, ap length c.self.invariant.same_ranks, ranks.ok.0)
+    omega (arith, c.requires.station, ap (λ (p : Page). stations p.live.graph) c.self.view_is, up.rank_for_each, ap length c.self.invariant.same_ranks, ranks.ok.0)
 
 -- the slot of the date, by the ranks that the sheet has beside its page
 slot_is : (c : After-len) → (c.args.n - 1) * c.len.result + c.index.result.now ≡ slot c.self.inside.live.value c.args.t c.args.n
@@ -21,7 +21,7 @@ slot_is c =
     let ranks = c.self.inside.ranks.items in
     let many : c.len.result ≡ length ranks = omega (arith, c.len.ensures) in
     let up = c.self.invariant.sheet.ranked.upward in
-    let there : c.args.t < length ranks = omega (arith, c.requires.station, ap (λ (p : Page). stations p.live.graph) c.self.view_is, up.place_for_each, ap length c.self.invariant.same_ranks) in
+    let there : c.args.t < length ranks = omega (arith, c.requires.station, ap (λ (p : Page). stations p.live.graph) c.self.view_is, up.rank_for_each, ap length c.self.invariant.same_ranks) in
     ap (λ w. before * w + c.index.result.now) many
     ∙ ap (λ rank. before * length ranks + rank) (get_or_read ranks c.args.t c.index.result.now there c.index.ensures 0)
     ∙ slot-by_ranks c.self.inside.live.value ranks c.args.t c.args.n up c.self.invariant.same_ranks
