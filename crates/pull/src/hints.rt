@@ -70,7 +70,7 @@ const HINTS: [(u8, &str, &str); 18] = [
     (
         14,
         "nothing is saved in the slots",
-        "'pull run {} --every 1000 --slots' saves",
+        "'pull run {} --every N --slots' saves each N firings, where the run makes as many",
     ),
     (
         16,
