@@ -120,10 +120,10 @@ module _ (p : Plant) (name : List ℕ) (stop : Stop) (first : Call) (saves : Sav
     state = saves.saved.state;
     stopped = saves.saved.stopped;
     workers = saves.saved.workers;
+    saved = λ known. with_file-named files stop.save bytes;
     first_end = saves.saved.first_end;
     fits = saves.saved.fits;
     asked = saves.saved.asked;
-    saved = λ known. with_file-named files stop.save bytes;
     written = saves.saved.written;
     resumes = saves.saved.resumes;
   }
