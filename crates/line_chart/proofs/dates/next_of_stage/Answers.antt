@@ -1,4 +1,4 @@
-use Rattle.std.proofs.Common.{◌<◌, get_or, ap, ◌∙◌, subst}
+use Rattle.std.proofs.Common.{◌<◌, get_or, sym, ap, ◌∙◌, subst}
 use Rattle.plant_model.specs.declared.plant.Plant.{Plant}
 use Rattle.plant_model.specs.Line.{release, last_machine, receiver, station_count}
 use Rattle.line_stats.proofs.PlantTables.{travel-read}
@@ -37,3 +37,6 @@ returns-clause-parts c =
 pub returns-clause-under_way : goal.returns-clause-under_way
 returns-clause-under_way c =
     under_way-still c.args.run.now.plant c.args.run.now.table c.args.stage c.args.at c.next_at.result (nothing c)
+
+pub receiver-requires-clause-plant : goal.receiver-requires-clause-plant
+receiver-requires-clause-plant c = sym c.requires.run.numbers

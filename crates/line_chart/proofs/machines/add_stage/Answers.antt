@@ -1,7 +1,8 @@
-use Rattle.std.proofs.Common.{◌≡◌, ◌+◌, length, sym, ap, ◌∙◌, arith}
+use Rattle.std.proofs.Common.{◌≡◌, ◌+◌, length, append-nil, sym, ap, ◌∙◌, arith}
 use Rattle.plant_model.specs.Stages.{Machine}
 use Rattle.plant_model.specs.Line.{release, stage_at}
 use Rattle.plant_model.proofs.LayoutFacts.{small_last_machine}
+use Rattle.plant_model.proofs.LayoutStations.{release-next}
 use Rattle.plant_model.proofs.SoundPlants.{HasSoundSizes-sound}
 use Rattle.line_chart.specs.Bars.{lanes, lanes_before}
 use Rattle.line_chart.proofs.LaneFacts.{machine-read, machines-count, lanes-more, few_lanes, lanes_before-next, stage_lanes-read}
@@ -36,6 +37,11 @@ overflow_add-next c =
     let many = ap length (machines-count p c.args.stage c.as_slice.result.now c.index-as_slice-stage.result c.as_slice-machines.result.now c.as_slice.ensures c.requires.exists c.as_slice-machines.ensures) in
     omega (arith, at, many, c.loop-before-test.true, c.loop-before.invariant.2, small_last_machine p c.args.stage c.requires.sound c.requires.exists)
 
+pub loop-before-init : goal.loop-before-init
+loop-before-init c =
+    let at = c.release-release.ensures.station ∙ ap (λ p. release p c.args.stage) c.requires.numbers in
+    (sym (append-nil c.args.list.now.items), omega arith, omega (arith, at, c.requires.few))
+
 pub loop-before-preserved : goal.loop-before-preserved
 loop-before-preserved c =
     let p = c.args.plant.now in
@@ -63,3 +69,18 @@ returns-clause-next c =
     let many = ap length (machines-count p i c.as_slice.result.now c.index-as_slice-stage.result c.as_slice-machines.result.now c.as_slice.ensures c.requires.exists c.as_slice-machines.ensures) in
     let all : c.loop-before.before ≡ length (stage_at p i).machines = omega (arith, many) in
     c.loop-before.invariant.1 ∙ ap (λ k. k + lanes_before p i c.loop-before.before) c.requires.first ∙ stage_lanes-read p i c.loop-before.before all
+
+pub returns-clause-few : goal.returns-clause-few
+returns-clause-few c =
+    let p = c.args.plant.now in
+    let at = c.release-release.ensures.station ∙ ap (λ q. release q c.args.stage) c.requires.numbers in
+    let many = ap length (machines-count p c.args.stage c.as_slice.result.now c.index-as_slice-stage.result c.as_slice-machines.result.now c.as_slice.ensures c.requires.exists c.as_slice-machines.ensures) in
+    omega (arith, at, many, c.loop-before.invariant.2, release-next p c.args.stage c.requires.exists)
+
+pub returns-clause-added : goal.returns-clause-added
+returns-clause-added c =
+    let p = c.args.plant.now in
+    let i = c.args.stage in
+    let many = ap length (machines-count p i c.as_slice.result.now c.index-as_slice-stage.result c.as_slice-machines.result.now c.as_slice.ensures c.requires.exists c.as_slice-machines.ensures) in
+    let all : c.loop-before.before ≡ length (stage_at p i).machines = omega (arith, many) in
+    rw all at c.loop-before.invariant.0
