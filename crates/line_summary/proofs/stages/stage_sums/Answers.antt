@@ -1,4 +1,4 @@
-use Rattle.std.proofs.Common.{◌≡◌, ◌*◌, ◌+◌, ◌^◌, ◌≤◌, get_or, ap, ◌∙◌, arith}
+use Rattle.std.proofs.Common.{◌≡◌, ◌*◌, ◌+◌, ◌^◌, ◌≤◌, get_or, sym, ap, ◌∙◌, arith}
 use Rattle.std.proofs.Math.Nat.{mul-le-mul}
 use Rattle.line_base.specs.declared.event.Parts.{Parts}
 use Rattle.plant_model.specs.Line.{release, last_machine, receiver, starting, stage_at}
@@ -24,6 +24,9 @@ pub arrived_sum-arrived-requires : goal.arrived_sum-arrived-requires
 arrived_sum-arrived-requires c =
     let at = numbered_in c.args.plant.now _ c.last_machine-machine.result (λ q. last_machine q c.args.stage) c.requires.stage.numbers c.last_machine-machine.ensures.station c.last_machine-machine.ensures.exists in
     exists_in c.args.plant.now c.args.table.now.graph c.last_machine-machine.result c.requires.stage.of_plant at.1
+
+pub receiver-requires-clause-plant : goal.receiver-requires-clause-plant
+receiver-requires-clause-plant c = sym c.requires.stage.numbers
 
 pub done_sum-taken-requires : goal.done_sum-taken-requires
 done_sum-taken-requires c =
@@ -62,6 +65,9 @@ module _ (c : After-from-2) where
       let few : c.from.result ≤ 10_000 = omega (arith, c.from.ensures, c.starting.ensures, starting-small c.args.plant.now c.args.stage c.requires.stage.sound c.requires.stage.exists) in
       let early : c.from-2.result ≤ 2 ^ 64 = omega (arith, c.from-2.ensures, c.ranges.last.fits) in
       mul-le-mul few early
+
+pub overflow_mul-stocked : goal.overflow_mul-stocked
+overflow_mul-stocked c = omega (arith, stock-small c)
 
 pub overflow_sub-result : goal.overflow_sub-result
 overflow_sub-result c = let h = sums (goal.at.overflow_sub-result c).After-from-2 in omega (arith, h.process)
