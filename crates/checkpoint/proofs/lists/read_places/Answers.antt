@@ -21,6 +21,12 @@ read_place-requires-clause-short c =
     let so_far = c.loop-a.invariant.read in
     rest_short c.args.format c.args.graph.now _ (c.requires.read.0 ++ so_far.places) c.loop-a.reader (2 ^ 32) (so_far.read c.requires.read.0 c.requires.read.1) (omega (arith, c.requires.short, ap length c.loop-a.invariant.text))
 
+pub read_place-requires-clause-arc : goal.read_place-requires-clause-arc
+read_place-requires-clause-arc c = omega (arith, ap length c.arcs.ensures.arcs, c.loop-a-test.true)
+
+pub returns-in-Err-clause-text : goal.returns-in-Err-clause-text
+returns-in-Err-clause-text c = c.in-Err.ensures.text ∙ c.loop-a.invariant.text
+
 pub returns-in-Err-clause-refused : goal.returns-in-Err-clause-refused
 returns-in-Err-clause-refused c =
     let format = c.args.format in

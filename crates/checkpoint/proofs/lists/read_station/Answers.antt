@@ -20,3 +20,6 @@ returns-clause-read c =
       kept_is = k.kept_is ∙ ap (λ n. take n k.dates) c.jobs.ensures.count;
     })
     c.read_log.ensures.read
+
+pub returns-clause-text : goal.returns-clause-text
+returns-clause-text c = c.read_log.ensures.text ∙ c.if-not-pass_station.ensures.text

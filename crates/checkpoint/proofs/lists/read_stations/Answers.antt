@@ -23,6 +23,9 @@ read_station-requires-clause-short c =
     let so_far = c.loop-t.invariant.read in
     rest_short c.args.format c.args.graph.now _ so_far.lists c.loop-t.reader (2 ^ 32) so_far.read (omega (arith, c.requires.short, ap length c.loop-t.invariant.text))
 
+pub returns-in-Err-clause-text : goal.returns-in-Err-clause-text
+returns-in-Err-clause-text c = c.in-Err.ensures.text ∙ c.loop-t.invariant.text
+
 pub returns-in-Err-clause-refused : goal.returns-in-Err-clause-refused
 returns-in-Err-clause-refused c =
     let format = c.args.format in
@@ -50,3 +53,8 @@ loop-t-preserved c =
       list_room = ap (λ (l : RoomyLogs). l.room) c.add.ensures ∙ c.loop-t.invariant.list_room;
       room = rw c.add.ensures (All-push (λ (l : RoomyLog). jobs g ≤ l.room) logs.logs line.log c.loop-t.invariant.room (omega (arith, c.in-Ok-read_station.ensures.room)));
     }
+
+pub returns-clause-a_log_each : goal.returns-clause-a_log_each
+returns-clause-a_log_each c =
+    let all = c.loop-t.auto.t-end in
+    omega (arith, c.loop-t.invariant.counted, c.loop-t-test.false, all, c.stations-stations.ensures.count)

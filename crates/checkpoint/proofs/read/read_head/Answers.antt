@@ -31,3 +31,9 @@ returns-then-not-pass-clause-refused c =
 pub returns-clause-read : goal.returns-clause-read
 returns-clause-read c =
     head_read Dates c.args.graph.now c.args.reader.now c.pass-2.new.self c.requires.fresh (sym (c.if-pass.ensures.kept refl) ∙ c.if-not-pass.ensures.passed refl) (c.pass-2.ensures.text ∙ c.pass.ensures.text)
+
+pub returns-then-not-pass-clause-text : goal.returns-then-not-pass-clause-text
+returns-then-not-pass-clause-text c = c.if-not-pass.ensures.text ∙ c.if-pass.ensures.text
+
+pub returns-clause-text : goal.returns-clause-text
+returns-clause-text c = c.if-not-pass.ensures.text ∙ c.if-pass.ensures.text

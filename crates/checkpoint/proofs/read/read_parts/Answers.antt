@@ -1,4 +1,4 @@
-use Rattle.std.proofs.Common.{◌≡◌, ℕ, List, ◌++◌, ◌∙◌, sym, subst}
+use Rattle.std.proofs.Common.{◌≡◌, ℕ, List, ◌++◌, length, ap, ◌∙◌, sym, subst, arith}
 use Rattle.std.proofs.lemmas.Result.{err_from_is_err_and}
 use Rattle.line_base.specs.declared.event.Parts.{Parts}
 use Rattle.checkpoint.specs.declared.error.CheckpointError.{CheckpointError}
@@ -10,6 +10,14 @@ use Rattle.checkpoint.proofs.read.read_parts.Goals as goal
 -- what an error says of a text that is the same
 tells_of : (g : Parts) (bytes same : List ℕ) (error : CheckpointError) → bytes ≡ same → Tells g bytes error → Tells g same error
 tells_of g bytes same error is known = subst (λ t. Tells g t error) is known
+
+pub returns-in_err-format-clause-refused : goal.returns-in_err-format-clause-refused
+returns-in_err-format-clause-refused c =
+    let p = err_from_is_err_and c.from_residual.result c.from_residual.ensures.1 in
+    rw (p.1, p.2) c.in_err-format.ensures.refused
+
+pub read_stations-requires-clause-short : goal.read_stations-requires-clause-short
+read_stations-requires-clause-short c = omega (arith, c.requires.short, ap length c.in_ok-format.ensures.text)
 
 pub returns-in_err-stations-clause-refused : goal.returns-in_err-stations-clause-refused
 returns-in_err-stations-clause-refused c =
@@ -24,6 +32,10 @@ pub returns-in-Err-read_end-clause-refused : goal.returns-in-Err-read_end-clause
 returns-in-Err-read_end-clause-refused c =
     tells_of c.args.graph.now _ _ _ (c.in-Ok.ensures.text ∙ c.in_ok-stations.ensures.text ∙ c.in_ok-format.ensures.text) c.in-Err-read_end.ensures.refused
 
+pub read_places-requires-clause-short : goal.read_places-requires-clause-short
+read_places-requires-clause-short c =
+    omega (arith, c.requires.short, ap length (c.in_ok-stations.ensures.text ∙ c.in_ok-format.ensures.text))
+
 pub read_places-requires-clause-given : goal.read_places-requires-clause-given
 read_places-requires-clause-given c =
     let h = c.in_ok-stations.ensures.read in
@@ -33,6 +45,11 @@ pub read_places-requires-clause-read : goal.read_places-requires-clause-read
 read_places-requires-clause-read c =
     let h = c.in_ok-stations.ensures.read in
     (h.lists, h.read)
+
+pub read_end-requires-clause-short : goal.read_end-requires-clause-short
+read_end-requires-clause-short c =
+    let same = c.in-Ok.ensures.text ∙ c.in_ok-stations.ensures.text ∙ c.in_ok-format.ensures.text in
+    omega (arith, c.requires.short, ap length same)
 
 pub read_end-requires-clause-read : goal.read_end-requires-clause-read
 read_end-requires-clause-read c =

@@ -38,3 +38,20 @@ returns-clause-read c =
           (dates_read c.args.format c.pass_place.new.reader.rest c.read_count.new.reader.rest c.compare_dates.new.reader.rest c.pass.new.self.rest k.dates c.in-Some.count c.in-Some.ensures.read k.is k.counted (c.if-not-pass.ensures.passed refl));
       noted_is = k.noted_is ∙ ap (λ (l : List ℕ). or_first c.args.noted.now (unlike_tokens c.args.a k.dates l)) c.tokens_left.ensures;
     }
+
+pub returns-in_default-clause-text : goal.returns-in_default-clause-text
+returns-in_default-clause-text c = c.in_default.ensures.text ∙ c.if-not-pass_place.ensures.text
+
+pub returns-then-not-compare_dates-clause-text : goal.returns-then-not-compare_dates-clause-text
+returns-then-not-compare_dates-clause-text c =
+    c.if-not-compare_dates.ensures.text ∙ c.in-Some.ensures.text ∙ c.if-not-pass_place.ensures.text
+
+pub returns-then-not-pass-clause-text : goal.returns-then-not-pass-clause-text
+returns-then-not-pass-clause-text c =
+    c.if-not-pass.ensures.text
+    ∙ c.if-not-compare_dates.ensures.text ∙ c.in-Some.ensures.text ∙ c.if-not-pass_place.ensures.text
+
+pub returns-clause-text : goal.returns-clause-text
+returns-clause-text c =
+    c.if-not-pass.ensures.text
+    ∙ c.if-not-compare_dates.ensures.text ∙ c.in-Some.ensures.text ∙ c.if-not-pass_place.ensures.text
