@@ -4,9 +4,20 @@ use Rattle.plant_model.specs.Graph.{graph}
 use Rattle.event_graph.specs.Table.{date_in}
 use Rattle.line_stats.specs.Counts.{jobs_done, backlog}
 use Rattle.line_stats.proofs.Flows.{delivery-flow}
-use Rattle.line_stats.proofs.PlantTables.{AreCounted, counted_in}
+use Rattle.line_stats.proofs.PlantTables.{AreCounted, counted_in, exists_in}
+use Rattle.line_stats.proofs.RisingDates.{lists_keep_order}
 use Rattle.line_stats.proofs.counts.backlog.Goals.{After-jobs_done-2}
 use Rattle.line_stats.proofs.counts.backlog.Goals as goal
+
+pub jobs_done-requires-clause-order : goal.jobs_done-requires-clause-order
+jobs_done-requires-clause-order c = lists_keep_order c.args.numbers.now c.args.table.now.graph c.requires.of_plant
+
+pub jobs_done-requires-2-clause-station : goal.jobs_done-requires-2-clause-station
+jobs_done-requires-2-clause-station c =
+    exists_in c.args.numbers.now c.args.table.now.graph c.deliver.result c.requires.of_plant c.deliver.ensures.exists
+
+pub jobs_done-requires-2-clause-order : goal.jobs_done-requires-2-clause-order
+jobs_done-requires-2-clause-order c = lists_keep_order c.args.numbers.now c.args.table.now.graph c.requires.of_plant
 
 -- what was counted at the feed and at the delivery
 counted : (c : After-jobs_done-2) → (let at = λ (t : ℕ). jobs_done (graph c.args.numbers.now) (date_in c.args.table.now.rows) t c.args.at in AreCounted c.jobs_done.result c.jobs_done-2.result (at 0) (at (deliver c.args.numbers.now)))

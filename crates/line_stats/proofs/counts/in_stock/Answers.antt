@@ -1,12 +1,24 @@
-use Rattle.std.proofs.Common.{◌+◌, arith}
+use Rattle.std.proofs.Common.{◌+◌, sym, arith}
 use Rattle.plant_model.specs.Line.{receiver, starting}
 use Rattle.plant_model.specs.Graph.{graph}
 use Rattle.event_graph.specs.Table.{date_in}
 use Rattle.line_stats.specs.Counts.{jobs_done, parts_arrived, in_stock}
 use Rattle.line_stats.proofs.Flows.{stock-flow}
-use Rattle.line_stats.proofs.PlantTables.{AreCounted, done_in, numbered_in, solves_in, arrived-small, starting-small}
+use Rattle.line_stats.proofs.PlantTables.{AreCounted, done_in, numbered_in, exists_in, solves_in, arrived-small, starting-small}
+use Rattle.line_stats.proofs.RisingDates.{lists_keep_order}
 use Rattle.line_stats.proofs.counts.in_stock.Goals.{After-parts_arrived}
 use Rattle.line_stats.proofs.counts.in_stock.Goals as goal
+
+pub receiver-requires-clause-plant : goal.receiver-requires-clause-plant
+receiver-requires-clause-plant c = sym c.requires.numbers
+
+pub jobs_done-taken-requires-clause-station : goal.jobs_done-taken-requires-clause-station
+jobs_done-taken-requires-clause-station c =
+    let takes = numbered_in c.args.plant.now _ c.receiver.result (λ q. receiver q c.args.stage) c.requires.numbers c.receiver.ensures.station c.receiver.ensures.exists in
+    exists_in c.args.plant.now c.args.table.now.graph c.receiver.result c.requires.of_plant takes.1
+
+pub jobs_done-taken-requires-clause-order : goal.jobs_done-taken-requires-clause-order
+jobs_done-taken-requires-clause-order c = lists_keep_order c.args.plant.now c.args.table.now.graph c.requires.of_plant
 
 -- what was counted of the stock at the start and of what has arrived, and at the station that takes the parts
 counted : (c : After-parts_arrived) → (let p = c.args.plant.now in let x = date_in c.args.table.now.rows in AreCounted (c.starting.result + c.parts_arrived.result) c.jobs_done-taken.result (starting p c.args.stage + parts_arrived p x c.args.stage c.args.at) (jobs_done (graph p) x (receiver p c.args.stage) c.args.at))

@@ -1,8 +1,17 @@
 use Rattle.std.proofs.Common.{arith}
 use Rattle.plant_model.specs.Line.{last_machine}
 use Rattle.event_graph.specs.Table.{date_in}
-use Rattle.line_stats.proofs.PlantTables.{done_in, numbered_in, travel-read, arrived-after, arrived-before}
+use Rattle.line_stats.proofs.PlantTables.{done_in, exists_in, numbered_in, travel-read, arrived-after, arrived-before}
+use Rattle.line_stats.proofs.RisingDates.{lists_keep_order}
 use Rattle.line_stats.proofs.counts.parts_arrived.Goals as goal
+
+pub jobs_done-requires-clause-station : goal.jobs_done-requires-clause-station
+jobs_done-requires-clause-station c =
+    let last = numbered_in c.args.plant.now _ c.last_machine.result (λ q. last_machine q c.args.stage) c.requires.numbers c.last_machine.ensures.station c.last_machine.ensures.exists in
+    exists_in c.args.plant.now c.args.table.now.graph c.last_machine.result c.requires.of_plant last.1
+
+pub jobs_done-requires-clause-order : goal.jobs_done-requires-clause-order
+jobs_done-requires-clause-order c = lists_keep_order c.args.plant.now c.args.table.now.graph c.requires.of_plant
 
 pub returns-in-Some : goal.returns-in-Some
 returns-in-Some c =

@@ -1,4 +1,4 @@
-use Rattle.std.proofs.Common.{◌≡◌, ℕ, ◌<◌, ◌≤◌, arith}
+use Rattle.std.proofs.Common.{◌≡◌, ℕ, ◌<◌, ◌≤◌, sym, arith}
 use Rattle.plant_model.specs.Line.{release, receiver, station_count}
 use Rattle.plant_model.specs.Graph.{graph}
 use Rattle.event_graph.specs.Table.{date_in}
@@ -19,6 +19,9 @@ released c =
 takes : (c : After-receiver) → (c.receiver.result ≡ receiver c.args.plant.now c.args.stage) × (c.receiver.result < station_count c.args.plant.now)
 takes c =
     numbered_in c.args.plant.now _ c.receiver.result (λ q. receiver q c.args.stage) c.requires.numbers c.receiver.ensures.station c.receiver.ensures.exists
+
+pub receiver-requires-clause-plant : goal.receiver-requires-clause-plant
+receiver-requires-clause-plant c = sym c.requires.numbers
 
 pub dates-released-requires : goal.dates-released-requires
 dates-released-requires c =
