@@ -28,3 +28,9 @@ unreachable-requires c =
     let found = listed_input g c.args.t c.ins-ins.result.now c.ins-ins.ensures.arcs greatest.last greatest.enters in
     let before : found.0 < c.loop-a.a-index = omega (arith, found.1, c.loop-a-test.false) in
     c.loop-a.invariant found.0 before (ap (λ k. term g x k c.args.n) found.2 ∙ sym greatest.equal ∙ sym c.date-date.ensures.date)
+
+pub date-date-requires-clause-station : goal.date-date-requires-clause-station
+date-date-requires-clause-station c = rw c.requires.of_graph c.requires.station
+
+pub date-date-requires-clause-job : goal.date-date-requires-clause-job
+date-date-requires-clause-job c = rw c.requires.of_graph c.requires.job
