@@ -1,10 +1,11 @@
 -- The text of a certificate: a list that is turned round to its least number, and the parts one after the other.
 use Rattle.std.proofs.Common.{◌≡◌, ℕ, ◌<◌, ◌≤◌, List, [], ◌∷◌, ◌++◌, length, get_or, take, drop, refl, ap, sym, ◌∙◌, subst, arith, add-zero, append_assoc}
-use Rattle.std.specs.Prelude.{All, codes}
+use Rattle.std.specs.Prelude.{All, OnOk, Result, Ok, Err, codes}
 use Rattle.std.specs.List.{flat_map}
 use Rattle.std.proofs.lemmas.List.Concat.{flat_map-append}
 use Rattle.line_base.specs.declared.event.Parts.{Parts}
 use Rattle.event_graph.specs.Circuit.{starting_stations, tokens_on, time_along}
+use Rattle.line_graph.specs.Turned.{IsTurned}
 use Rattle.cycle_time.specs.declared.certificate.Certificate.{Certificate}
 use Rattle.std.proofs.lemmas.List.{get_or_append_left, get_or-drop, length-drop}
 use Rattle.std.proofs.lemmas.List.Elements.{All-nil, All-append, All-drop, All-take}
@@ -43,3 +44,8 @@ cycle_added g c ratio circled end ratio_is circuit potentials =
           ∙ append_assoc ratio line rest
           ∙ ap (λ v. v ++ (line ++ rest)) ratio_is;
     }
+
+-- stations that were added, where that went well
+pub stations_added : {E : Type 0} (g : Parts) (arcs stations before after : List ℕ) (r : Result (Unit {0}) E) → IsTurned (starting_stations g arcs) stations → OnOk r (after ≡ before ++ flat_map (spaced_label g) stations) → OnOk r (AreStationsAdded g arcs before after)
+stations_added g arcs stations before after (Ok done) turned added = record { stations = stations; turned = turned; text = added }
+stations_added g arcs stations before after (Err error) turned added = tt

@@ -1,8 +1,8 @@
 -- Lines that are given to a sink one after another, and counted.
-use Rattle.std.proofs.Common.{◌≡◌, ◌≢◌, ℕ, ◌+◌, List, [], ◌∷◌, ◌++◌, refl, sym, ap, ◌∙◌, append-nil, append_assoc, map-id, zero-add}
+use Rattle.std.proofs.Common.{◌≡◌, ◌≢◌, ℕ, ◌+◌, ◌<◌, List, [], ◌∷◌, ◌++◌, length, get_or, take, refl, sym, ap, ◌∙◌, append-nil, append_assoc, map-id, zero-add}
 use Rattle.std.specs.List.{flat_map, range_with_len}
 use Rattle.std.proofs.lemmas.Bool.{eq-eqb, ne_eqb}
-use Rattle.std.proofs.lemmas.List.{length-append}
+use Rattle.std.proofs.lemmas.List.{length-append, take_more}
 use Rattle.std.proofs.lemmas.List.Concat.{flat_map-append}
 use Rattle.std.proofs.lemmas.List.FromFn.{map-range_with_len_more}
 use Rattle.line_io.specs.Outgoing.{Stream, Pushed}
@@ -22,6 +22,21 @@ lines_more f a n j at =
 pub text_more : (f : ℕ → List ℕ) (start before after : List ℕ) (n : ℕ) → before ≡ start ++ flat_map f (range_with_len 0 n) → after ≡ before ++ f n → after ≡ start ++ flat_map f (range_with_len 0 (n + 1))
 text_more f start before after n is added =
     added ∙ ap (λ l. l ++ f n) is ∙ append_assoc start (flat_map f (range_with_len 0 n)) (f n) ∙ ap (λ l. start ++ l) (sym (lines_more f 0 n n (zero-add n)))
+
+-- the texts of some first items, and that of the next one
+next_text : {A : Type 0} (f : A → List ℕ) (items : List A) (n : ℕ) (d item : A) → n < length items → item ≡ get_or items n d → flat_map f (take (n + 1) items) ≡ flat_map f (take n items) ++ f item
+next_text f items n d item low is =
+    ap (flat_map f) (take_more items n d low)
+    ∙ flat_map-append f (take n items) (get_or items n d ∷ [])
+    ∙ ap (λ l. flat_map f (take n items) ++ l) (append-nil (f (get_or items n d)) ∙ ap f (sym is))
+
+-- a text that begins with what was there, and the text of the next item
+pub item_more : {A : Type 0} (f : A → List ℕ) (items : List A) (n : ℕ) (d item : A) (start before after : List ℕ) → n < length items → item ≡ get_or items n d → before ≡ start ++ flat_map f (take n items) → after ≡ before ++ f item → after ≡ start ++ flat_map f (take (n + 1) items)
+item_more f items n d item start before after low at is added =
+    added
+    ∙ ap (λ l. l ++ f item) is
+    ∙ append_assoc start (flat_map f (take n items)) (f item)
+    ∙ ap (λ l. start ++ l) (sym (next_text f items n d item low at))
 
 -- no line
 pub written_none : (a : Stream) → IsWritten a a [] 0
