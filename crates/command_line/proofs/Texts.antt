@@ -14,3 +14,14 @@ pub one_text : (words : List (String Global)) (word : String Global) → 1 ≤ l
 one_text [] word some few is = absurd (omega arith)
 one_text (first ∷ []) word some few is = ap (λ w. string_bytes w ∷ []) (sym is)
 one_text (first ∷ (other ∷ rest)) word some few is = absurd (omega arith)
+
+-- no word, and two words
+pub no_text : (words : List (String Global)) → length words < 1 → texts words ≡ []
+no_text [] none = refl
+no_text (word ∷ words) none = absurd (omega arith)
+
+pub two_texts : (words : List (String Global)) (one other : String Global) → 2 ≤ length words → length words < 3 → one ≡ get_or words 0 one → other ≡ get_or words 1 other → texts words ≡ string_bytes one ∷ (string_bytes other ∷ [])
+two_texts [] one other some few is_one is_other = absurd (omega arith)
+two_texts (a ∷ []) one other some few is_one is_other = absurd (omega arith)
+two_texts (a ∷ (b ∷ [])) one other some few is_one is_other = cc
+two_texts (a ∷ (b ∷ (c ∷ rest))) one other some few is_one is_other = absurd (omega arith)
