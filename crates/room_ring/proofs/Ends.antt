@@ -17,3 +17,8 @@ same_cell word size room token count is key same = is ∙ λ i. cell_of (sym key
 
 pub cell_within : (word room token words : ℕ) → word ≡ cell_of room token → 1 ≤ room → words ≡ room + first_cell → word < words
 cell_within word room token words is some_room e = let less = mod-lt token {m = room} some_room in omega arith
+
+-- the space as it is computed is that of the end's contract
+pub space_is : (initial room count seen : ℕ) (tokens : List ℕ) → count ≡ length tokens → seen ≤ length tokens → length tokens ≤ seen + room
+    → room - (count - seen) ≡ room + seen - length (take initial tokens ++ drop initial tokens)
+space_is initial room count seen tokens is taken within = let e = ap length (take-append-drop initial tokens) in omega arith

@@ -1,5 +1,6 @@
-use Rattle.std.proofs.Common.{◌<◌, rules, arith, subst, sym, ap, [], ◌∷◌, length-append, ◌∙◌, length}
-use Rattle.room_ring.specs.Take.{room_known}
+use Rattle.std.proofs.Common.{◌≡◌, ◌<◌, rules, arith, subst, sym, ap, [], ◌∷◌, ◌++◌, length-append, ◌∙◌, length}
+use Rattle.room_ring.specs.Take.{RoomTakeEnd, room_known}
+use Rattle.room_ring.specs.View.{cell_loaded, head_stored}
 use Rattle.room_ring.proofs.Moves.{may_load_cell, may_store_head}
 use Rattle.room_ring.proofs.Ends.{known_within, same_cell, cell_within}
 use Rattle.room_ring.proofs.take.RoomTake.take_known.Goals as goal
@@ -27,3 +28,18 @@ store-requires c =
       omega arith,
       may_store_head _ _ _ _ _ (ap (λ v. v.role) taken ∙ i.taker.role) (ap (λ v. v.is_loaded) taken) (omega arith),
     )
+
+pub returns : goal.returns
+returns c =
+    let end = c.self.inside.end in
+    let date = c.load-date.result in
+    let table = c.store.ensures.0 ∙ c.load-date.ensures.0 in
+    let view : c.store.new.seat.me.0 ≡ head_stored (cell_loaded date end.seat.me.0) =
+    ap (λ m. m.0) c.store.ensures.2 ∙ ap (λ m. head_stored m.0) c.load-date.ensures.2 in
+    (λ i. record {
+      taken = (view i).list;
+      tail = (view i).seen;
+      loads = (view i).loads;
+      ring = record { table = table i; room = end.room };
+    })
+    ∙ ap (λ (t : RoomTakeEnd). record t { taken = t.taken ++ date ∷ [] }) c.self.view_is
