@@ -32,6 +32,9 @@ pub as_they_are : (live : LiveGraph) (workers : List LineWorker) → All (IsWork
 as_they_are live workers are = record { count = refl; each = λ w there. as_it_is (worker_at workers w) (are w no_worker there).worker }
 
 -- the last worker of a list, and those before it
+pub one_fewer : (workers rest : List LineWorker) (c : LineWorker) → workers ≡ rest ++ c ∷ [] → length rest < length workers
+one_fewer workers rest c is = omega (arith, ap length is, length_push rest c)
+
 pub last_is_for : (live : LiveGraph) (workers rest : List LineWorker) (c : LineWorker) → All (IsWorkerFor live) workers → workers ≡ rest ++ c ∷ [] → IsWorkerFor live c
 last_is_for live workers rest c are is =
     let low : length rest < length workers = omega (arith, ap length is, length_push rest c) in

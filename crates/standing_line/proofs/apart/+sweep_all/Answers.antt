@@ -1,4 +1,4 @@
-use Rattle.std.proofs.Common.{rules, List, [], ◌∷◌, ◌++◌, sym, subst}
+use Rattle.std.proofs.Common.{rules, arith, List, [], ◌∷◌, ◌++◌, sym, subst, ◌∙◌}
 use denote.Param.{param}
 use denote.Exit.{yes}
 use denote.Param.Send.{sendable, param_send, arg_send}
@@ -7,7 +7,7 @@ use Rattle.line_workers.specs.Gather.{IsWorkerAfter, AreWorkersAfter}
 use Rattle.line_worker.proofs.WorkerSend.{worker_send}
 use Rattle.standing_line.specs.Sweeping.{IsWorkerFor}
 use Rattle.standing_line.proofs.SweepSend.{sweeps_send}
-use Rattle.standing_line.proofs.Sweeps.{as_they_are, last_is_for, rest_are_for, one_more}
+use Rattle.standing_line.proofs.Sweeps.{as_they_are, last_is_for, rest_are_for, one_fewer, one_more}
 use Rattle.standing_line.proofs.apart.+sweep_all.Goals as goal
 
 pub spawn_with-requires-send-F : goal.spawn_with-requires-send-F
@@ -63,3 +63,32 @@ returns-then-is_empty-clause-after g t c =
     let are = one_more rest rest worker back (as_they_are c.args.live.now rest are_for) c.sweep_on.ensures in
     subst (λ (l : List LineWorker). AreWorkersAfter l c.push_reserved.new.self.items) (sym {A = List LineWorker} c.in-Some.ensures.items) (
     subst (AreWorkersAfter (rest ++ worker ∷ [])) (sym {A = List LineWorker} c.push_reserved.ensures.items) are)
+
+pub returns-in-Ok-clause-room : goal.returns-in-Ok-clause-room
+returns-in-Ok-clause-room g t c =
+    c.push_reserved-in-Ok.ensures.capacity ∙ c.sweep_all-workers.ensures.room ∙ c.pop.ensures.capacity
+
+pub returns-in-Err-clause-room : goal.returns-in-Err-clause-room
+returns-in-Err-clause-room g t c = c.push_reserved-in-Err.ensures.capacity ∙ c.pop.ensures.capacity
+
+pub returns-then-is_empty-clause-room : goal.returns-then-is_empty-clause-room
+returns-then-is_empty-clause-room g t c = c.push_reserved.ensures.capacity ∙ c.pop.ensures.capacity
+
+pub push_reserved-requires : goal.push_reserved-requires
+push_reserved-requires g t c =
+    let rest : List LineWorker = c.pop.new.self.items in
+    let fewer = one_fewer c.args.workers.items rest c.in-Some.worker c.in-Some.ensures.items in
+    omega (arith, fewer, c.pop.new.self.ok.0, c.args.workers.ok.0, c.pop.ensures.capacity)
+
+pub push_reserved-requires-in-Ok : goal.push_reserved-requires-in-Ok
+push_reserved-requires-in-Ok g t c =
+    let rest : List LineWorker = c.pop.new.self.items in
+    let fewer = one_fewer c.args.workers.items rest c.in-Some.worker c.in-Some.ensures.items in
+    let swept = c.sweep_all-workers in
+    omega (arith, fewer, swept.ensures.after.count, swept.result.ok.0, c.args.workers.ok.0, swept.ensures.room ∙ c.pop.ensures.capacity)
+
+pub push_reserved-requires-in-Err : goal.push_reserved-requires-in-Err
+push_reserved-requires-in-Err g t c =
+    let rest : List LineWorker = c.pop.new.self.items in
+    let fewer = one_fewer c.args.workers.items rest c.in-Some.worker c.in-Some.ensures.items in
+    omega (arith, fewer, c.pop.new.self.ok.0, c.args.workers.ok.0, c.pop.ensures.capacity)
