@@ -1,6 +1,6 @@
 use Rattle.std.proofs.Common.{ℕ, List, [], ◌∷◌, ◌++◌, map, ap, ◌∙◌, sym, ◌≡◌, ◌<◌, ◌≤◌, arith, length, take, subst}
 use Rattle.std.specs.List.{All}
-use Rattle.std.proofs.lemmas.List.{take_all, length-map, map_more}
+use Rattle.std.proofs.lemmas.List.{take_all, length-map, map_more, length-take}
 use Rattle.std.proofs.lemmas.Result.{err_from_is_err_and}
 use Rattle.line_base.specs.Roomy.{RoomyLog, RoomyLogs, dates_of}
 use Rattle.line_core.proofs.Runs.{log_of, dates-log_of, room-log_of}
@@ -52,3 +52,11 @@ loop-k-preserved c =
     ∙ ap (λ (l : RoomyLogs). record l { logs = l.logs ++ c.in_ok-log_with.field-0 ∷ [] }) c.loop-k.invariant
     ∙ ap (λ (log : RoomyLog). with_logs (map (log_of room) (take k lists) ++ log ∷ [])) (c.in_ok-log_with.ensures ∙ ap (log_of room) c.dates_at.ensures)
     ∙ ap with_logs (sym (map_more (log_of room) lists k [] below))
+
+pub add-requires : goal.add-requires
+add-requires c =
+    let lists = dates_of c.args.logs.now in
+    let k = c.loop-k.k in
+    let many = ap (λ (l : RoomyLogs). length l.logs) c.loop-k.invariant in
+    let room = ap (λ (l : RoomyLogs). l.room) c.loop-k.invariant in
+    omega (arith, many, room, length-map (take k lists) (log_of c.args.room), length-take k lists, c.loop-k-test.true)

@@ -44,3 +44,18 @@ loop-rest-preserved c =
           ∙ ap (λ l. follow_lines g (lines_of l) (c.loop-rest.line + 1) next) (sym c.behind-rest.ensures);
       counted = omega (arith, c.loop-rest.invariant.counted, ap length c.behind-rest.ensures, length-drop (c.end_before-end.result + 1) rest, more);
     }
+
+pub behind-rest-requires : goal.behind-rest-requires
+behind-rest-requires c = omega (arith, c.if-end-rest.false, c.end_before-end.ensures, prefix_len-le-length)
+
+pub loop-rest-smaller : goal.loop-rest-smaller
+loop-rest-smaller c =
+    let more : c.end_before-end.result < length c.loop-rest.rest.now = omega (arith, c.if-end-rest.false, c.end_before-end.ensures, prefix_len-le-length) in
+    omega (arith, more, ap length c.behind-rest.ensures, length-drop (c.end_before-end.result + 1) c.loop-rest.rest.now)
+
+pub returns-in_err-follow_line-clause-followed : goal.returns-in_err-follow_line-clause-followed
+returns-in_err-follow_line-clause-followed c =
+    rw (err_from_is_err_and c.from_residual.result c.from_residual.ensures.1).1 tt
+
+pub returns-in_err-follow_line-clause-graph : goal.returns-in_err-follow_line-clause-graph
+returns-in_err-follow_line-clause-graph c = c.follow_line.ensures.graph ∙ c.loop-rest.invariant.graph

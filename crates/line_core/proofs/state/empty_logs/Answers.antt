@@ -1,8 +1,9 @@
-use Rattle.std.proofs.Common.{◌≡◌, ◌++◌, ◌∷◌, [], replicate, List, ap, ◌∙◌, arith}
-use Rattle.std.proofs.lemmas.List.{replicate_more}
+use Rattle.std.proofs.Common.{◌≡◌, ◌++◌, ◌∷◌, [], replicate, List, ap, ◌∙◌, arith, length}
+use Rattle.std.proofs.lemmas.List.{replicate_more, length-replicate}
 use Rattle.line_base.specs.Roomy.{RoomyLog, RoomyLogs, dates_of}
 use Rattle.event_graph.specs.Network.{stations, jobs}
 use Rattle.line_core.proofs.Runs.{empty_ones, held-start, dates-empty_ones}
+use Rattle.std.proofs.lemmas.Result.{err_from_is_err_and}
 use Rattle.line_core.proofs.state.empty_logs.Goals as goal
 
 pub loop-preserved : goal.loop-preserved
@@ -24,3 +25,20 @@ returns-clause-start c =
     let all : c.loop.counter ≡ stations c.args.graph.now = omega (arith, c.loop-test.false, c.loop.auto.counter-end, c.stations-stations.ensures.count) in
     ap dates_of (c.loop.invariant ∙ ap (λ n. empty_ones n c.jobs-jobs.result c.stations-stations.result) all)
     ∙ dates-empty_ones (stations c.args.graph.now) c.jobs-jobs.result c.stations-stations.result
+
+pub returns-in_err-logs : goal.returns-in_err-logs
+returns-in_err-logs c =
+    let p = err_from_is_err_and c.from_residual.result c.from_residual.ensures.1 in
+    rw p.1 (record { has_room = tt; start = tt })
+
+pub returns-in_err-new : goal.returns-in_err-new
+returns-in_err-new c =
+    let p = err_from_is_err_and c.from_residual-in_err-new.result c.from_residual-in_err-new.ensures.1 in
+    rw p.1 (record { has_room = tt; start = tt })
+
+pub add-requires : goal.add-requires
+add-requires c =
+    let empty : RoomyLog = record { dates = []; room = c.jobs-jobs.result } in
+    let many = ap (λ (l : RoomyLogs). length l.logs) c.loop.invariant in
+    let room = ap (λ (l : RoomyLogs). l.room) c.loop.invariant in
+    omega (arith, many, room, length-replicate c.loop.counter empty, c.loop-test.true)

@@ -55,3 +55,19 @@ returns-in-Some-clause-refused c =
 
 pub returns-in-Some-clause-reached : goal.returns-in-Some-clause-reached
 returns-in-Some-clause-reached c = subst IsReached c.self.view_is c.self.invariant.run
+
+pub count_at-requires-clause-has_room : goal.count_at-requires-clause-has_room
+count_at-requires-clause-has_room c =
+    let same = c.graph-graph.ensures.graph ∙ c.requires.made_for ∙ sym (ap (λ (r : Run). r.graph) c.self.view_is) in
+    subst (λ (g : Parts). IsRunWithRoom g c.self.inside.logs) (sym same) c.self.invariant
+
+pub first_empty-requires-clause-has_room : goal.first_empty-requires-clause-has_room
+first_empty-requires-clause-has_room c =
+    let same = c.graph-graph.ensures.graph ∙ c.requires.made_for ∙ sym (ap (λ (r : Run). r.graph) c.self.view_is) in
+    subst (λ (g : Parts). IsRunWithRoom g c.self.inside.logs) (sym same) c.self.invariant
+
+pub returns-in-None-clause-fired : goal.returns-in-None-clause-fired
+returns-in-None-clause-fired c = c.fire_ready.ensures.fired
+
+pub returns-in-None-clause-reached : goal.returns-in-None-clause-reached
+returns-in-None-clause-reached c = c.fire_ready.ensures.reached

@@ -7,7 +7,7 @@ use Rattle.event_graph.specs.Reached.{Reached}
 use Rattle.line_core.specs.Consistent.{state_of}
 use Rattle.line_core.specs.declared.error.StateError.{StateError}
 use Rattle.line_core.specs.declared.error.StateError.TheVariants.{Count, Marking, Date, PlaceDate, NoMemory}
-use Rattle.line_core.specs.Parts.{state_refusals, state_refusal, IsStateRefusal}
+use Rattle.line_core.specs.Parts.{state_refusals, state_refusal, IsStateRefusal, AreParts}
 use Rattle.line_core.proofs.PartsLemmas.{all_few, reached_logs, reached_exactly, run-with}
 use Rattle.line_core.proofs.state.State.of_parts.Goals as goal
 
@@ -58,3 +58,31 @@ returns-in_err-check_parts-clause-refused c =
     let p = err_from_is_err_and c.from_residual.result c.from_residual.ensures.1 in
     let found = ap (λ (g : Parts). state_refusal g (dates_of c.args.logs) (dates_of c.args.places)) (sym c.graph.ensures.graph) ∙ c.in_err-check_parts.ensures in
     rw (p.1, p.2) (is_state_refusal c.args.live.now.graph (dates_of c.args.logs) (dates_of c.args.places) _ found)
+
+pub check_parts-requires : goal.check_parts-requires
+check_parts-requires c =
+    subst (λ (g : Parts). AreParts g c.args.logs c.args.places) (sym c.graph.ensures.graph) c.requires.parts
+
+pub returns-in_err-check_parts-clause-state : goal.returns-in_err-check_parts-clause-state
+returns-in_err-check_parts-clause-state c =
+    rw (err_from_is_err_and c.from_residual.result c.from_residual.ensures.1).1 tt
+
+pub returns-in_err-check_parts-clause-reached : goal.returns-in_err-check_parts-clause-reached
+returns-in_err-check_parts-clause-reached c =
+    rw (err_from_is_err_and c.from_residual.result c.from_residual.ensures.1).1 tt
+
+pub returns-in_err-logs-clause-state : goal.returns-in_err-logs-clause-state
+returns-in_err-logs-clause-state c =
+    rw (err_from_is_err_and c.from_residual-in_err-logs.result c.from_residual-in_err-logs.ensures.1).1 tt
+
+pub returns-in_err-logs-clause-reached : goal.returns-in_err-logs-clause-reached
+returns-in_err-logs-clause-reached c =
+    rw (err_from_is_err_and c.from_residual-in_err-logs.result c.from_residual-in_err-logs.ensures.1).1 tt
+
+pub returns-in_err-logs-clause-refused : goal.returns-in_err-logs-clause-refused
+returns-in_err-logs-clause-refused c =
+    let p = err_from_is_err_and c.from_residual-in_err-logs.result c.from_residual-in_err-logs.ensures.1 in
+    rw (p.1, p.2) tt
+
+pub returns-clause-reached : goal.returns-clause-reached
+returns-clause-reached c = c.of_reached.ensures.reached

@@ -2,7 +2,7 @@ use Rattle.std.proofs.Common.{ℕ, List, [], replicate, sym, ap, ◌∙◌, subs
 use Rattle.std.proofs.lemmas.Result.{err_from_is_err_and}
 use Rattle.line_base.specs.declared.event.Parts.{Parts}
 use Rattle.event_graph.specs.Network.{stations}
-use Rattle.line_core.specs.Run.{IsReached, run_of}
+use Rattle.line_core.specs.Run.{IsReached, run_of, IsRunWithRoom}
 use Rattle.line_core.proofs.Runs.{run_of-start}
 use Rattle.line_core.proofs.state.State.start.Goals as goal
 
@@ -20,3 +20,8 @@ pub returns-clause-reached : goal.returns-clause-reached
 returns-clause-reached c =
     let same = c.graph.ensures.graph ∙ sym (c.of.ensures ∙ c.graph-2.ensures.graph) in
     subst (λ (g : Parts). IsReached (run_of g c.in_ok-logs.logs)) same c.in_ok-logs.ensures.has_room.run
+
+pub invariant_of-result : goal.invariant_of-result
+invariant_of-result c =
+    let same = c.graph.ensures.graph ∙ sym (c.of.ensures ∙ c.graph-2.ensures.graph) in
+    subst (λ (g : Parts). IsRunWithRoom g c.in_ok-logs.logs) same c.in_ok-logs.ensures.has_room
