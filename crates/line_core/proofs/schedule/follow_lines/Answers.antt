@@ -50,7 +50,8 @@ behind-rest-requires c = omega (arith, c.if-end-rest.false, c.end_before-end.ens
 
 pub loop-rest-smaller : goal.loop-rest-smaller
 loop-rest-smaller c =
-    let more : c.end_before-end.result < length c.loop-rest.rest.now = omega (arith, c.if-end-rest.false, c.end_before-end.ensures, prefix_len-le-length) in
+    let more : c.end_before-end.result < length c.loop-rest.rest.now =
+    omega (arith, c.if-end-rest.false, c.end_before-end.ensures, prefix_len-le-length) in
     omega (arith, more, ap length c.behind-rest.ensures, length-drop (c.end_before-end.result + 1) c.loop-rest.rest.now)
 
 pub returns-in_err-follow_line-clause-followed : goal.returns-in_err-follow_line-clause-followed

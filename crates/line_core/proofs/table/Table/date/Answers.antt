@@ -17,7 +17,9 @@ returns-clause-least c = subst IsLeastTable c.self.view_is c.self.invariant
 
 pub get-requires : goal.get-requires
 get-requires c =
-    omega (arith, c.self.invariant.a_row_each, length-map c.self.inside.rows.logs (λ (l : RoomyLog). l.dates), ap (λ (d : Dates). stations d.graph) c.self.view_is, c.requires.station)
+    let many = length-map c.self.inside.rows.logs (λ (l : RoomyLog). l.dates) in
+    let same = ap (λ (d : Dates). stations d.graph) c.self.view_is in
+    omega (arith, many, c.self.invariant.a_row_each, same, c.requires.station)
 
 pub offset_bounds-dates-n : goal.offset_bounds-dates-n
 offset_bounds-dates-n c = omega (arith, c.ranges.n)
@@ -29,7 +31,8 @@ date_at rows t (suc n) early = let same : suc n - 1 ≡ n = omega arith in ap (�
 
 pub returns-clause-date : goal.returns-clause-date
 returns-clause-date c =
-    let read = c.dates.ensures ∙ ap (λ (l : RoomyLog). l.dates) c.get.ensures ∙ sym (get_or-dates_of c.self.inside.rows c.args.t) in
-    ap (λ l. get_or l (c.args.n - 1) 0) read
-    ∙ date_at (dates_of c.self.inside.rows) c.args.t c.args.n c.requires.from_one
+    let rows = c.self.inside.rows in
+    let log = ap (λ (l : RoomyLog). l.dates) c.get.ensures ∙ sym (get_or-dates_of rows c.args.t) in
+    ap (λ l. get_or l (c.args.n - 1) 0) (c.dates.ensures ∙ log)
+    ∙ date_at (dates_of rows) c.args.t c.args.n c.requires.from_one
     ∙ ap (λ (d : Dates). date_in d.rows c.args.t c.args.n) c.self.view_is
