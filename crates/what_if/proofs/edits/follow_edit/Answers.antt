@@ -48,3 +48,15 @@ pub returns-then-fits-clause-marks : goal.returns-then-fits-clause-marks
 returns-then-fits-clause-marks c =
     let p = c.args.sheet.now in
     omega (arith, ap (λ (q : Page). mark_count q) c.set_demand.ensures.redemanded, count_of-set p.marks (slot p.live 0 c.in-Demand.job))
+
+pub returns-in-Time-clause-may : goal.returns-in-Time-clause-may
+returns-in-Time-clause-may c = (λ _. rw c.in-Time.is tt, λ _. refl)
+
+pub set_demand-requires-clause-in_order : goal.set_demand-requires-clause-in_order
+set_demand-requires-clause-in_order c = c.fits_between-fits.ensures.0 c.if-fits.true
+
+pub returns-then-fits-clause-may : goal.returns-then-fits-clause-may
+returns-then-fits-clause-may c = rw c.in-Demand.is c.fits_between-fits.ensures
+
+pub returns-else-fits-clause-may : goal.returns-else-fits-clause-may
+returns-else-fits-clause-may c = rw c.in-Demand.is c.fits_between-fits.ensures

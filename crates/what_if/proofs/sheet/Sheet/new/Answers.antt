@@ -4,6 +4,7 @@ use Rattle.live_check.specs.Order.{LiveGraph}
 use Rattle.what_if.specs.Sheet.{IsSheet, IsBegun, date_count}
 use Rattle.what_if.proofs.Bits.{count_of-none}
 use Rattle.what_if.proofs.NewSheets.{begun-code, begun-is_sheet}
+use Rattle.std.proofs.lemmas.Result.{err_from_is_err_and}
 use Rattle.what_if.proofs.sheet.Sheet.new.Goals as goal
 
 pub returns-clause-kept : goal.returns-clause-kept
@@ -37,3 +38,27 @@ returns-clause-begun c =
       no_mark = count_of-none c.in_ok-marks.marks c.in_ok-marks.ensures.none;
       none_evaluated = refl;
     })
+
+pub returns-in_err-ranks : goal.returns-in_err-ranks
+returns-in_err-ranks c =
+    rw (err_from_is_err_and c.from_residual.result c.from_residual.ensures.1).1 (record { begun = tt; kept = tt })
+
+pub returns-in_err-times : goal.returns-in_err-times
+returns-in_err-times c =
+    rw (err_from_is_err_and c.from_residual-in_err-times.result c.from_residual-in_err-times.ensures.1).1 (record { begun = tt; kept = tt })
+
+pub returns-in_err-demands : goal.returns-in_err-demands
+returns-in_err-demands c =
+    rw (err_from_is_err_and c.from_residual-in_err-demands.result c.from_residual-in_err-demands.ensures.1).1 (record { begun = tt; kept = tt })
+
+pub returns-in_err-first : goal.returns-in_err-first
+returns-in_err-first c =
+    rw (err_from_is_err_and c.from_residual-in_err-first.result c.from_residual-in_err-first.ensures.1).1 (record { begun = tt; kept = tt })
+
+pub returns-in_err-dates : goal.returns-in_err-dates
+returns-in_err-dates c =
+    rw (err_from_is_err_and c.from_residual-in_err-dates.result c.from_residual-in_err-dates.ensures.1).1 (record { begun = tt; kept = tt })
+
+pub returns-in_err-marks : goal.returns-in_err-marks
+returns-in_err-marks c =
+    rw (err_from_is_err_and c.from_residual-in_err-marks.result c.from_residual-in_err-marks.ensures.1).1 (record { begun = tt; kept = tt })
