@@ -1,6 +1,7 @@
-use Rattle.std.proofs.Common.{◌≡◌, ◌+◌, ◌-◌, ◌/◌, ◌^◌, refl, arith}
+use Rattle.std.proofs.Common.{◌≡◌, ◌+◌, ◌-◌, ◌/◌, ◌^◌, refl, arith, subst}
 use Rattle.card_sizing.proofs.Searches.{search_past, try_counted}
 use Rattle.card_sizing.proofs.HighestCounts.{highest_within, lowest_highest}
+use Rattle.card_sizing.specs.Sizing.{IsBelow}
 use Rattle.card_sizing.proofs.least.halve.Goals as goal
 
 pub loop-low-init : goal.loop-low-init
@@ -73,3 +74,11 @@ try_count-requires-clause-few_tries c =
     let all : 2 ^ 14 ≡ 16384 = refl in
     let tries = c.loop-low.invariant.tries 14 (omega (arith, all, highest_within c.args.plant.now, c.requires.end)) in
     omega (arith, tries.all)
+
+pub returns-clause-serves : goal.returns-clause-serves
+returns-clause-serves c = c.loop-low.invariant.search.serves
+
+pub returns-clause-below : goal.returns-clause-below
+returns-clause-below c =
+    let met : c.loop-low.low ≡ c.loop-low.high = omega (arith, c.loop-low.invariant.search.ordered) in
+    subst (λ n. IsBelow c.args.plant.now c.args.may n c.loop-low.below) met c.loop-low.invariant.search.reason

@@ -45,20 +45,25 @@ returns-in_err-ranks c =
 
 pub returns-in_err-times : goal.returns-in_err-times
 returns-in_err-times c =
-    rw (err_from_is_err_and c.from_residual-in_err-times.result c.from_residual-in_err-times.ensures.1).1 (record { begun = tt; kept = tt })
+    let p = err_from_is_err_and c.from_residual-in_err-times.result c.from_residual-in_err-times.ensures.1 in
+    rw p.1 (record { begun = tt; kept = tt })
 
 pub returns-in_err-demands : goal.returns-in_err-demands
 returns-in_err-demands c =
-    rw (err_from_is_err_and c.from_residual-in_err-demands.result c.from_residual-in_err-demands.ensures.1).1 (record { begun = tt; kept = tt })
+    let p = err_from_is_err_and c.from_residual-in_err-demands.result c.from_residual-in_err-demands.ensures.1 in
+    rw p.1 (record { begun = tt; kept = tt })
 
 pub returns-in_err-first : goal.returns-in_err-first
 returns-in_err-first c =
-    rw (err_from_is_err_and c.from_residual-in_err-first.result c.from_residual-in_err-first.ensures.1).1 (record { begun = tt; kept = tt })
+    let p = err_from_is_err_and c.from_residual-in_err-first.result c.from_residual-in_err-first.ensures.1 in
+    rw p.1 (record { begun = tt; kept = tt })
 
 pub returns-in_err-dates : goal.returns-in_err-dates
 returns-in_err-dates c =
-    rw (err_from_is_err_and c.from_residual-in_err-dates.result c.from_residual-in_err-dates.ensures.1).1 (record { begun = tt; kept = tt })
+    let p = err_from_is_err_and c.from_residual-in_err-dates.result c.from_residual-in_err-dates.ensures.1 in
+    rw p.1 (record { begun = tt; kept = tt })
 
 pub returns-in_err-marks : goal.returns-in_err-marks
 returns-in_err-marks c =
-    rw (err_from_is_err_and c.from_residual-in_err-marks.result c.from_residual-in_err-marks.ensures.1).1 (record { begun = tt; kept = tt })
+    let p = err_from_is_err_and c.from_residual-in_err-marks.result c.from_residual-in_err-marks.ensures.1 in
+    rw p.1 (record { begun = tt; kept = tt })
