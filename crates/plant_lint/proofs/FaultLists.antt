@@ -1,5 +1,5 @@
 -- Lists of faults: of keys and values of the code beside those that they stand for, and one list after the other.
-use Rattle.std.proofs.Common.{◌≡◌, ℕ, ◌+◌, List, [], ◌∷◌, ◌++◌, map, take, length, Result, Ok, Err, OnOk, refl, ap, ◌∙◌, append_assoc}
+use Rattle.std.proofs.Common.{◌≡◌, ℕ, ◌+◌, List, [], ◌∷◌, ◌++◌, map, take, length, Result, Ok, Err, OnOk, refl, sym, ap, ◌∙◌, append_assoc}
 use Rattle.std.specs.Prelude.{⊤, codes}
 use Rattle.std.proofs.lemmas.List.{length-map}
 use Rattle.plant_model.specs.declared.error.PlantError.{PlantError}
@@ -16,6 +16,7 @@ use Rattle.plant_keys.specs.Readers.{name_in, stage_names, tables_at}
 use Rattle.plant_keys.specs.Walk.{name_twice, machine_name_twice, stage_name_twice, names_twice}
 use Rattle.plant_lint.specs.declared.fault.Wants.{Wants}
 use Rattle.plant_lint.specs.declared.fault.Wants.TheVariants.{Nothing}
+use Rattle.plant_lint.specs.declared.fault.Fault.{Fault}
 use Rattle.plant_lint.specs.Faults.{wanting, plain, all_from, all_of}
 use Rattle.plant_lint.specs.Trees.{key_faults, keys_faults, feeds_faults, final_faults}
 
@@ -36,6 +37,14 @@ all_of_views f vs = all_of_map f view vs
 pub wanting-append : (what : Wants) (xs ys : List PlantError) → wanting what (xs ++ ys) ≡ wanting what xs ++ wanting what ys
 wanting-append what [] ys = refl
 wanting-append what (x ∷ xs) ys = ap (λ rest. record { error = x; wants = what } ∷ rest) (wanting-append what xs ys)
+
+-- what is left of refusals that say all, once the first are added
+pub plain_more : (mid new : List Fault) (here rest : List PlantError)
+    → new ≡ mid ++ plain here → mid ++ plain (here ++ rest) ≡ new ++ plain rest
+plain_more mid new here rest added =
+    ap (λ all. mid ++ all) (wanting-append Nothing here rest)
+    ∙ sym (append_assoc mid (plain here) (plain rest))
+    ∙ ap (λ start. start ++ plain rest) (sym added)
 
 -- what is wanted at each refusal of a list of lists of them
 wanting-each_from : {X : Type 0} (what : Wants) (f : ℕ → X → List PlantError) (k : ℕ) (xs : List X) → wanting what (each_from f k xs) ≡ all_from (λ i x. wanting what (f i x)) k xs
