@@ -40,6 +40,9 @@ returns-in-Err-check_whole-clause-plant c =
     refl
     (λ ne. ap first (sym whole) ∙ c.in-Err-check_whole.ensures.first ne))
 
+pub returns-in-Err-check_whole-clause-sound : goal.returns-in-Err-check_whole-clause-sound
+returns-in-Err-check_whole-clause-sound c = tt
+
 pub returns-in-Ok-check_whole-clause-plant : goal.returns-in-Ok-check_whole-clause-plant
 returns-in-Ok-check_whole-clause-plant c =
     let d = c.into_plant-draft.result in
