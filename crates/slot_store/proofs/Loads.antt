@@ -125,3 +125,13 @@ gave_up result error before mid now is later cause = record {
       let rose = cause (ap (λ (e : DiskError). Err e) (is_fault error (fails_as result (error_of error) DiskFault is failed))) in
       omega (arith, rose, later);
 }
+
+-- what was answered has no error, and what was never saved has no other
+pub no_error : {T E : Type 0} (value : T) (error : E) → ¬ (IsErrOf (Ok value) error)
+no_error value error is = cc
+
+pub none_no_fault : {T : Type 0} → ¬ (IsErrOf {T = T} (Err NoneSaved) DiskFault)
+none_no_fault failed = cc
+
+pub none_no_length : {T : Type 0} (have : ℕ) → ¬ (IsErrOf {T = T} (Err NoneSaved) (TooLong have))
+none_no_length have long = cc

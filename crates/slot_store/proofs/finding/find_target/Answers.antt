@@ -6,6 +6,7 @@ use Rattle.slot_store.specs.declared.header.Slot.TheVariants.{Zero, One}
 use Rattle.line_disk.proofs.Moments.{leaves_stay}
 use Rattle.line_disk.proofs.Push.{error_is, error_alone, same_error}
 use Rattle.slot_store.proofs.Chosen.{chosen, gate_told}
+use Rattle.slot_store.proofs.Loads.{no_error}
 use Rattle.slot_store.proofs.finding.find_target.Goals as goal
 
 pub returns-in_err-settle : goal.returns-in_err-settle
@@ -64,6 +65,6 @@ returns g c =
       gate = λ known.
           let told_of : TellsGate (bytes_now settled) room c.target_of.result = subst (λ t. TellsGate (bytes_now settled) room t) (sym (target known)) (gate_told (bytes_now settled) room (newer_header room zero one)) in
           subst (λ (h : Held). TellsGate h.bytes room c.target_of.result) (sym (read.stays known).held) told_of;
-      cause = λ failed. cc;
+      cause = λ failed. absurd (no_error _ _ failed);
       faults_stay_or_rise = omega (arith, settle.faults_stay_or_rise, read.faults_stay_or_rise);
     }

@@ -1,7 +1,13 @@
 use Rattle.line_disk.specs.DiskView.{held_now}
+use Rattle.line_disk.proofs.Push.{on_ok}
+use Rattle.slot_store.proofs.Calls.{settled_by}
 use Rattle.slot_store.proofs.Outside.{synced_bytes}
 use Rattle.slot_store.proofs.finding.settle.Goals as goal
 
 pub returns-clause-bytes_stay : goal.returns-clause-bytes_stay
 returns-clause-bytes_stay g c =
     synced_bytes c.sync.result g.D.Disk.tells (held_now (g.D.Disk.shown c.args.disk.now)) (held_now (g.D.Disk.shown c.sync.new.self)) c.sync.ensures.synced c.sync.ensures.stays
+
+pub returns-clause-settled : goal.returns-clause-settled
+returns-clause-settled g c = on_ok c.sync.result c.sync.ensures.synced (λ synced known.
+    settled_by (held_now (g.D.Disk.shown c.args.disk.now)) (held_now (g.D.Disk.shown c.sync.new.self)) (synced known))

@@ -1,11 +1,11 @@
-use Rattle.std.proofs.Common.{◌≡◌, ℕ, Bool, ◌+◌, length, arith, sym, ap, subst}
+use Rattle.std.proofs.Common.{◌≡◌, ℕ, Bool, ◌+◌, length, arith, sym, ap, ◌∙◌, subst}
 use Rattle.std.specs.Prelude.{IsTrue}
 use Rattle.line_disk.specs.DiskView.{DiskView, held_now}
 use Rattle.slot_store.specs.Layout.{start_of}
 use Rattle.slot_store.specs.Crash.{IsReady, IsClosed, IsStaged, bytes_now}
 use Rattle.slot_store.specs.Saving.{IsHarmless}
 use Rattle.slot_store.specs.declared.target.Target.{Target}
-use Rattle.line_disk.proofs.Push.{on_ok}
+use Rattle.line_disk.proofs.Push.{on_ok, error_is, same_error}
 use Rattle.slot_store.specs.Within.{WritesWithin}
 use Rattle.slot_store.proofs.Calls.{went_nowhere, went_write, went_sync, settled_by}
 use Rattle.slot_store.proofs.Phases.{staging, staged_ready}
@@ -80,3 +80,32 @@ returns-clause-staged g c = on_ok c.sync.result c.sync.ensures.synced (λ synced
     (c.in_ok-write_at.ensures.written known) (c.in_ok-write_at-2.ensures.written known) (synced known)
     (ap (λ i. i + 1) c.start-start.ensures) c.number_and_length.ensures (ap (λ i. i + 16) c.start-start.ensures) in
     subst (λ i. IsStaged i c.args.room c.args.target bytes) (sym is) (is_staged (bytes_now start) c.args.room c.args.target bytes (omega arith)))
+
+pub write_at-requires : goal.write_at-requires
+write_at-requires g c =
+    let low = start_low c.args.room c.args.target.slot in
+    let nine : length c.number_and_length.result ≡ 9 = ap length c.number_and_length.ensures in
+    record { inside = omega (arith, low, nine, c.start-start.ensures, c.requires.room) }
+
+pub write_at-requires-2 : goal.write_at-requires-2
+write_at-requires-2 g c =
+    let low = start_low c.args.room c.args.target.slot in
+    record { inside = omega (arith, low, c.start-start.ensures, c.requires.room, c.requires.fits) }
+
+pub returns-in_err-write_at-clause-cause : goal.returns-in_err-write_at-clause-cause
+returns-in_err-write_at-clause-cause g c = λ failed.
+    let error = c.in_err-write_at.field-0.0 in
+    let is = error_is c.from_residual.result error c.from_residual.ensures.1 in
+    c.in_err-write_at.ensures.cause (same_error error _ (sym is ∙ failed))
+
+pub returns-in_err-write_at-2-clause-cause : goal.returns-in_err-write_at-2-clause-cause
+returns-in_err-write_at-2-clause-cause g c = λ failed.
+    let error = c.in_err-write_at-2.field-0.0 in
+    let is = error_is c.from_residual-in_err-write_at-2.result error c.from_residual-in_err-write_at-2.ensures.1 in
+    let rose = c.in_err-write_at-2.ensures.cause (same_error error _ (sym is ∙ failed)) in
+    omega (arith, rose, c.write_at.ensures.faults_stay_or_rise)
+
+pub returns-clause-cause : goal.returns-clause-cause
+returns-clause-cause g c = λ failed.
+    let rose = c.sync.ensures.cause failed in
+    omega (arith, rose, c.write_at.ensures.faults_stay_or_rise, c.write_at-2.ensures.faults_stay_or_rise)

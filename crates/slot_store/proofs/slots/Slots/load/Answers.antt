@@ -9,7 +9,8 @@ use Rattle.slot_store.specs.declared.header.Slot.TheVariants.{Zero, One}
 use Rattle.line_disk.proofs.Moments.{stays_on, stays_by}
 use Rattle.line_disk.proofs.Push.{error_is, error_alone}
 use Rattle.slot_store.proofs.Chosen.{newest, none_newest, open_fits}
-use Rattle.slot_store.proofs.Loads.{load_unread, load_none, load_content, gave_up}
+use Rattle.slot_store.proofs.Loads.{load_unread, load_none, load_content, gave_up, no_error, none_no_fault, none_no_length}
+use Rattle.slot_store.proofs.Outside.{start_low}
 use Rattle.slot_store.proofs.slots.Slots.load.Goals as goal
 
 pub returns-in_err-zero : goal.returns-in_err-zero
@@ -32,6 +33,22 @@ returns-in_err-zero g c =
       faults_stay_or_rise = c.read_headers.ensures.faults_stay_or_rise;
     }
 
+pub read_headers-requires : goal.read_headers-requires
+read_headers-requires g c = c.args.self.now.at_most
+
+pub overflow_add-start : goal.overflow_add-start
+overflow_add-start g c =
+    let low = start_low c.args.self.now.room c.in-Some.slot in
+    omega (arith, low, c.start-start.ensures, c.args.self.now.at_most)
+
+pub read-requires : goal.read-requires
+read-requires g c =
+    let room = c.args.self.now.room in
+    let is_opened = subst (λ f. IfSome f (λ found. IsTrue (is_open room found.1))) c.in-Some.is c.newer.ensures.is_open in
+    let fits = open_fits room c.in-Some.header is_opened in
+    let low = start_low room c.in-Some.slot in
+    record { inside = omega (arith, fits, low, c.start-start.ensures, c.args.self.now.at_most) }
+
 pub returns-in_default : goal.returns-in_default
 returns-in_default g c =
     let old = g.D.Disk.shown c.args.self.now.disk.now in
@@ -50,8 +67,8 @@ returns-in_default g c =
           );
       read = load_none room old (g.D.Disk.shown c.read_headers.new.disk) c.in_ok-zero.zero c.in_ok-zero.one c.in_ok-zero.ensures.read none;
       stays = c.read_headers.ensures.stays;
-      disk_fault = λ failed. cc;
-      never_too_long = λ have long. cc;
+      disk_fault = λ failed. absurd (none_no_fault failed);
+      never_too_long = none_no_length;
       faults_stay_or_rise = c.read_headers.ensures.faults_stay_or_rise;
     }
 
@@ -103,10 +120,10 @@ returns g c =
           ∙ ap (λ (h : Held). let v : Option (List ℕ) = Some (bytes_at h.bytes (start_of room slot + 16) header.length) in v) (sym (c.read_headers.ensures.stays known).held)
           ∙ ap (λ i. let v : Option (List ℕ) = Some (bytes_at (bytes_now mid) (i + 16) header.length) in v) (sym c.start-start.ensures)
           ∙ ap (λ (xs : List ℕ). Some xs) (sym (c.in_ok-read.ensures.bytes known));
-      none_saved = λ none. cc;
+      none_saved = λ none. absurd (no_error _ _ none);
       read = load_content room old mid new c.in_ok-zero.zero c.in_ok-zero.one slot header (Ok bytes) c.in_ok-zero.ensures.read found last;
       stays = λ known. stays_on old mid new (c.read_headers.ensures.stays known) (stays_by mid new (c.read.ensures.stays known) (c.read.ensures.time known));
-      disk_fault = λ failed. cc;
-      never_too_long = λ have long. cc;
+      disk_fault = λ failed. absurd (no_error _ _ failed);
+      never_too_long = λ have. no_error _ _;
       faults_stay_or_rise = omega (arith, c.read_headers.ensures.faults_stay_or_rise, c.read.ensures.faults_stay_or_rise);
     }

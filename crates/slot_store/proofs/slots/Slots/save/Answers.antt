@@ -1,7 +1,7 @@
 use Rattle.std.proofs.Common.{refl, arith}
 use Rattle.line_disk.proofs.Push.{error_is, error_alone}
 use Rattle.slot_store.specs.Errors.{error_of}
-use Rattle.slot_store.proofs.Loads.{gave_up}
+use Rattle.slot_store.proofs.Loads.{gave_up, no_error}
 use Rattle.slot_store.proofs.slots.Slots.save.Goals as goal
 
 pub returns-in_err-save_content : goal.returns-in_err-save_content
@@ -36,10 +36,10 @@ returns g c =
       any_moment = saves.any_moment;
       saved = saves.saved;
       outside_stays = saves.outside_stays;
-      too_long = ((λ long. cc), λ more. absurd (omega arith));
-      have = λ have long. cc;
+      too_long = ((λ long. absurd (no_error _ _ long)), λ more. absurd (omega arith));
+      have = λ have long. absurd (no_error _ _ long);
       untouched = λ more. absurd (omega arith);
-      disk_fault = λ failed. cc;
-      never_none_saved = λ none. cc;
+      disk_fault = λ failed. absurd (no_error _ _ failed);
+      never_none_saved = no_error _ _;
       faults_stay_or_rise = saves.faults_stay_or_rise;
     }
