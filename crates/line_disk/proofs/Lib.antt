@@ -1,3 +1,4 @@
+pub mod CountFault
 pub mod Moments
 pub mod Push
 pub mod RawModel

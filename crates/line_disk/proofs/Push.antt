@@ -83,6 +83,13 @@ ok_found x memory = cc
 pub failed_found : (r : Result (Unit {0}) DiskError) → IsErrOf r Failed → ¬ (IsErrOf r NoMemory)
 failed_found r failed memory = let e : IsErrOf {T = Unit {0}} {E = DiskError} (Err Failed) NoMemory = sym failed ∙ memory in cc
 
+pub failed_found_memory : {T : Type 0} → ¬ (IsErrOf {T = T} (Err Failed) NoMemory)
+failed_found_memory memory = cc
+
+-- what was answered has no error
+pub no_error : {T : Type 0} (value : T) (error : DiskError) → ¬ (IsErrOf (Ok value) error)
+no_error value error is = cc
+
 -- what holds where memory was found and where it was not
 pub found_or_not : {A : Type 0} (r : Result (Unit {0}) DiskError) → (¬ (IsErrOf r NoMemory) → A) → (IsErrOf r NoMemory → A) → A
 found_or_not (Ok x) found none = found (ok_found x)

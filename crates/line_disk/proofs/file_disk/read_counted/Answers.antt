@@ -7,7 +7,7 @@ use Rattle.line_disk.specs.RawFile.{RawCall, AsksToRead, zeros_behind, given_by,
 use Rattle.line_disk.specs.declared.disk.DiskError.{DiskError}
 use Rattle.line_disk.specs.declared.disk.DiskError.TheVariants as disk_error
 use Rattle.line_disk.proofs.RawModel.{passes_here}
-use Rattle.line_disk.proofs.Push.{error_is, counts_none, error_alone}
+use Rattle.line_disk.proofs.Push.{error_is, counts_none, error_alone, no_error, failed_found_memory}
 use Rattle.line_disk.proofs.file_disk.read_counted.Goals as goal
 
 -- what is asked of a file, for as many bytes as there is room for, and as it answered
@@ -55,7 +55,7 @@ returns-in_err-count_fault g c =
         read.asks.1,
         (asked _ _ _ _ c.args.len read.asks.0 _ _ read.asks.2.0 (omega (arith, c.in_ok-bytes.ensures.len, c.deref_mut.ensures.len)) (sym counted.same ∙ sym (ap is_ok given)), error_alone result _ given),
       );
-      asks_nothing = λ memory. cc (sym is ∙ memory);
+      asks_nothing = λ memory. absurd (failed_found_memory (sym is ∙ memory));
       count = error_alone result _ is;
       bytes = error_alone result _ is;
       stays = read.stays;
@@ -63,7 +63,7 @@ returns-in_err-count_fault g c =
       faults = record {
         cause = λ failed. counted.cause;
         once = λ failed. counted.once;
-        memory_is_no_fault = λ memory. cc (sym is ∙ memory);
+        memory_is_no_fault = λ memory. absurd (failed_found_memory (sym is ∙ memory));
         faults_stay = error_alone result _ is;
         stays_or_rises = counted.stays_or_rises;
       };
@@ -84,16 +84,16 @@ returns g c =
           items ∙ given_whole _ c.args.len bytes (given_by read.asks.0) (holds c.read_file.result counted.same read.asks.2.1) (omega (arith, c.in_ok-bytes.ensures.len, c.deref_mut.ensures.len)),
         ),
       );
-      asks_nothing = λ memory. cc;
+      asks_nothing = λ memory. absurd (no_error _ _ memory);
       count = (let size = ap (λ (xs : List ℕ). length xs) items in omega (arith, size, read.size, c.in_ok-bytes.ensures.len, c.deref_mut.ensures.len));
       bytes = λ known.
           items ∙ read_whole (raw_now (g.F.RawFile.shown c.args.file.now)).bytes c.args.at _ c.args.len bytes (holds c.read_file.result counted.same read.bytes known) (omega (arith, c.in_ok-bytes.ensures.len, c.deref_mut.ensures.len));
       stays = read.stays;
       time = read.time;
       faults = record {
-        cause = λ failed. cc;
-        once = λ failed. cc;
-        memory_is_no_fault = λ memory. cc;
+        cause = λ failed. absurd (no_error _ _ failed);
+        once = λ failed. absurd (no_error _ _ failed);
+        memory_is_no_fault = λ memory. absurd (no_error _ _ memory);
         faults_stay = counted.stays;
         stays_or_rises = counted.stays_or_rises;
       };

@@ -4,7 +4,7 @@ use Rattle.line_disk.specs.declared.disk.DiskError.TheVariants as disk_error
 use Rattle.line_disk.specs.DiskView.{held_now}
 use Rattle.line_disk.specs.MemDisk.{mem_view}
 use Rattle.line_disk.proofs.RawModel.{passes_here}
-use Rattle.line_disk.proofs.Push.{error_is, ok_found, counts_none, same_error, counts_as, found_or_not, length-bytes_at, error_alone}
+use Rattle.line_disk.proofs.Push.{error_is, ok_found, counts_none, same_error, counts_as, found_or_not, length-bytes_at, error_alone, no_error}
 use Rattle.line_disk.proofs.mem_disk.MemDisk.answer_read.Goals as goal
 
 pub returns-in_err-bytes : goal.returns-in_err-bytes
@@ -51,18 +51,18 @@ returns c =
     record {
       reads_stay = call.reads_stay;
       due = λ due. call.due (c.is_due-failed.ensures.1 due);
-      refused = λ failed. cc;
+      refused = λ failed. absurd (no_error _ _ failed);
       failing_stays = call.failing_stays;
       counted = λ found. call.counted (ok_found tt);
-      not_counted = λ memory. cc;
+      not_counted = λ memory. absurd (no_error _ _ memory);
       count = ap length c.in_ok-bytes.ensures ∙ length-bytes_at (held_now (mem_view c.args.self.now)).bytes c.args.at c.args.len;
       bytes = c.in_ok-bytes.ensures;
       stays = found_or_not c.count_call.result c.count_call.ensures.held c.count_call.ensures.no_memory;
       time = call.time;
       faults = record {
-        cause = λ failed. cc;
-        once = λ failed. cc;
-        memory_is_no_fault = λ memory. cc;
+        cause = λ failed. absurd (no_error _ _ failed);
+        once = λ failed. absurd (no_error _ _ failed);
+        memory_is_no_fault = λ memory. absurd (no_error _ _ memory);
         faults_stay = call.faults.faults_stay;
         stays_or_rises = call.faults.stays_or_rises;
       };
