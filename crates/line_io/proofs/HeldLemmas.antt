@@ -1,6 +1,6 @@
 -- What a store in memory keeps, after one more name or one more file.
 use Rattle.std.proofs.Common.{◌≡◌, ◌≢◌, ◌⊎◌, inl, inr, ℕ, ◌+◌, ◌≤◌, List, [], ◌∷◌, ◌++◌, take, drop, Bool, true, false, cond, Vec, String, string_bytes, refl, sym, ap, ◌∙◌, subst, arith}
-use Rattle.std.specs.Prelude.{Option, Some, None, Result, Ok, Err, IsTrue, IfOk, OnOk, IsErr, option_map}
+use Rattle.std.specs.Prelude.{Option, Some, None, Result, Ok, Err, IsTrue, IfOk, OnOk, IsErr, IsErrOf, option_map}
 use Rattle.std.specs.Bool.{OnTrue, OnFalse}
 use Rattle.std.specs.declared.alloc.Global.{Global}
 use Rattle.std.specs.Str.{bytes_eq}
@@ -103,3 +103,18 @@ ok_anyway (Err error) holds = tt
 pub no_answer : {T E : Type 0} (result : Result T E) (P : T → Type 0) → IsErr result → IfOk result P
 no_answer (Ok v) P err = absurd (false≢true err)
 no_answer (Err error) P err = tt
+
+-- what found no memory was not refused, nor longer than the limit
+pub not_failed : {T : Type 0} (result : Result T StoreError) → result ≡ Err store_error.NoMemory → ¬ (IsErrOf result store_error.Failed)
+not_failed result is failed = cc
+
+pub not_too_long : {T : Type 0} (result : Result T StoreError) → result ≡ Err store_error.NoMemory → ¬ (IsErrOf result store_error.TooLong)
+not_too_long result is long = cc
+
+-- what was refused found memory
+pub found_memory : {T : Type 0} → ¬ (IsErrOf {T = T} (Err store_error.Failed) store_error.NoMemory)
+found_memory memory = cc
+
+-- what was done has no error
+pub no_error : {T : Type 0} (value : T) (error : StoreError) → ¬ (IsErrOf (Ok value) error)
+no_error value error is = cc

@@ -3,7 +3,9 @@ use Rattle.std.proofs.Common.{◌≡◌, ◌≢◌, inl, inr, ℕ, List, [], ◌
 use Rattle.std.specs.Prelude.{Result, Ok, Err, Some, is_ok, OnOk, OnErr, IsTrue}
 use Rattle.std.proofs.lemmas.Bool.{true≢false}
 use Rattle.line_io.specs.Contents.{IsTorn}
-use Rattle.line_io.specs.RawFiles.{RawName, Named, Spare, FilesCall, Opens, Reads, Looks, Creates, CreatesSpare, Writes, Syncs, Renames, Removes, FilesView, Asks, SameHeld, SameNamed, OthersHeld, WritesInPlace, WritesBeside, WritesFile, WithoutSpare, AfterMaking, Replaces, AfterLook, AfterLookRefused, AsksToWrite, bars_new_files, is_absent, empties}
+use Rattle.line_io.specs.RawFiles.{RawName, Named, Spare, FilesCall, Opens, Reads, Looks, Creates, CreatesSpare, Writes, Syncs, Renames, Removes, FilesView, Asks, SameHeld, SameNamed, OthersHeld, WritesInPlace, WritesBeside, WritesFile, WithoutSpare, AfterMaking, Replaces, AfterLook, AfterLookRefused, AsksToWrite, bars_new_files, is_absent, empties, by_kind}
+use Rattle.std.specs.IoError.{error_kind}
+use Rattle.std.specs.declared.io.Error.{Error}
 use Rattle.std.specs.declared.io.ErrorKind.{ErrorKind}
 use Rattle.line_io.proofs.RawFilesModel.{named_not_spare}
 
@@ -90,3 +92,8 @@ looks_behind tells old mid new spare name bytes answer Next result asked stays a
 pub after_look : (spare name bytes : List ℕ) (kind : ErrorKind) (absent : Bool) → absent ≡ is_absent kind → (calls : List FilesCall) (whole : Bool) → AfterLookRefused absent spare name bytes calls whole → AfterLook (Err kind) spare name bytes calls whole
 after_look spare name bytes kind absent is calls whole writes =
     subst (λ b. AfterLookRefused b spare name bytes calls whole) is writes
+
+-- the kind of a refusal, which was asked for
+pub kind_is : {A : Type 0} (answer : Result A Error) (error : Error) (kind : ErrorKind) → answer ≡ Err error → kind ≡ error_kind error → by_kind answer ≡ Err kind
+kind_is answer error kind refused asked =
+    ap (λ r. by_kind r) refused ∙ ap (λ (k : ErrorKind). Err k) (sym asked)

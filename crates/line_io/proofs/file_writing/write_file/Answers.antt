@@ -1,7 +1,7 @@
 use Rattle.std.proofs.Common.{◌∷◌, [], Bool, refl, ap, ◌∙◌, true, false}
 use Rattle.std.specs.Prelude.{Ok, Err}
 use Rattle.line_io.specs.RawFiles.{Looks, WritesInPlace, Replaces, AsksToWrite, by_kind}
-use Rattle.line_io.proofs.WritesFileLemmas.{looks_behind, writes_none, writes_in_place, after_answer, after_look}
+use Rattle.line_io.proofs.WritesFileLemmas.{looks_behind, writes_none, writes_in_place, after_answer, after_look, kind_is}
 use Rattle.line_io.proofs.file_writing.write_file.Goals as goal
 
 pub returns-in-Ok-true : goal.returns-in-Ok-true
@@ -20,7 +20,7 @@ returns-in-Ok-false g c =
 pub returns-in-Err : goal.returns-in-Err
 returns-in-Err g c =
     looks_behind g.F.RawFiles.tells (g.F.RawFiles.shown c.args.files.now) (g.F.RawFiles.shown c.is_file.new.self) (g.F.RawFiles.shown c.replace-in-Err.new.files) c.args.spare.now c.args.name.now c.args.bytes.now (by_kind c.is_file.result) (Replaces c.args.spare.now c.args.name.now c.args.bytes.now) c.replace-in-Err.result c.is_file.ensures.recorded c.is_file.ensures.stays
-    (λ calls whole is. after_answer c.args.spare.now c.args.name.now c.args.bytes.now (by_kind c.is_file.result) (Err c.kind.result) (cc (ap (λ r. by_kind r) c.in-Err.is, c.kind.ensures)) calls whole (after_look c.args.spare.now c.args.name.now c.args.bytes.now c.kind.result true c.if-is_absent.ensures calls whole is))
+    (λ calls whole is. after_answer c.args.spare.now c.args.name.now c.args.bytes.now (by_kind c.is_file.result) (Err c.kind.result) (kind_is _ _ c.kind.result c.in-Err.is c.kind.ensures) calls whole (after_look c.args.spare.now c.args.name.now c.args.bytes.now c.kind.result true c.if-is_absent.ensures calls whole is))
     c.replace-in-Err.ensures
 
 pub returns-in-Err-2 : goal.returns-in-Err-2
@@ -28,4 +28,4 @@ returns-in-Err-2 g c =
     let spare = c.args.spare.now in
     let bytes = c.args.bytes.now in
     let answer = by_kind c.is_file.result in
-    writes_none g.F.RawFiles.tells (g.F.RawFiles.shown c.args.files.now) (g.F.RawFiles.shown c.is_file.new.self) spare c.args.name.now bytes (Looks c.args.name.now answer ∷ []) (AsksToWrite spare c.args.name.now bytes) _ c.is_file.ensures.recorded (refl, after_answer spare c.args.name.now bytes answer (Err c.kind.result) (cc (ap (λ r. by_kind r) c.in-Err.is, c.kind.ensures)) [] false (after_look spare c.args.name.now bytes c.kind.result false c.if-is_absent.ensures [] false (refl, refl))) (λ known q other. c.is_file.ensures.stays known q)
+    writes_none g.F.RawFiles.tells (g.F.RawFiles.shown c.args.files.now) (g.F.RawFiles.shown c.is_file.new.self) spare c.args.name.now bytes (Looks c.args.name.now answer ∷ []) (AsksToWrite spare c.args.name.now bytes) _ c.is_file.ensures.recorded (refl, after_answer spare c.args.name.now bytes answer (Err c.kind.result) (kind_is _ _ c.kind.result c.in-Err.is c.kind.ensures) [] false (after_look spare c.args.name.now bytes c.kind.result false c.if-is_absent.ensures [] false (refl, refl))) (λ known q other. c.is_file.ensures.stays known q)
