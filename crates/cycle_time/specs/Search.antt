@@ -122,7 +122,8 @@ step_of Down stations t = stations - 1 - t
 
 -- station t with this potential, which arc a gave
 abbrev pub with_potential : Potentials → ℕ → ℕ → ℕ → Potentials
-with_potential p t a potential = record { potentials = slice_set p.potentials t potential; entries = slice_set p.entries t a }
+with_potential p t a potential =
+    record { potentials = slice_set p.potentials t potential; entries = slice_set p.entries t a }
 
 -- station t got the best that an arc gives it
 pub record IsRaisedAt (g : Parts) (w : Weighing) (old new : Potentials) (t : ℕ) : Type 0 where

@@ -25,7 +25,8 @@ cause_word p (Along a) = kind_word (kind_at p a)
 -- the line of a link at the station with this label, whose cause has this word
 abbrev pub link_words : List ℕ → ℕ → ℕ → List ℕ → ℕ → List ℕ
 link_words label job date cause added =
-    before_space label (before_space (decimal job) (before_space (decimal date) (before_space cause (decimal added ++ codes "\n"))))
+    before_space label
+    (before_space (decimal job) (before_space (decimal date) (before_space cause (decimal added ++ codes "\n"))))
 
 unfoldable pub link_line : Plant → Link → List ℕ
 link_line p l = link_words (label (graph p) l.station) l.job l.date (cause_word p l.cause) l.added

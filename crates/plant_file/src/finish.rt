@@ -69,7 +69,8 @@ pub fn complete_draft(
     times: Option<&[u8]>,
 ) -> Result<Plant, PlantError>
     requires { AreFilesOf draft demands times }
-    ensures plant { AnswersPlant result (completed_plant draft (option_copied demands.entry) (option_copied times.entry)) }
+    ensures plant { AnswersPlant result
+        (completed_plant draft (option_copied demands.entry) (option_copied times.entry)) }
     ensures sound { IfOk result IsSound }
 
     // where the draft and the bytes are those of files, the answer is the plant of the files
