@@ -1,14 +1,11 @@
 -- The text of a certificate: a list that is turned round to its least number, and the parts one after the other.
-use Rattle.std.proofs.Common.{◌≡◌, ℕ, ◌<◌, ◌≤◌, List, [], ◌∷◌, ◌++◌, length, get_or, take, drop, refl, ap, sym, ◌∙◌, subst, arith, add-zero, append_assoc}
-use Rattle.std.specs.Prelude.{All, OnOk, Result, Ok, Err, codes}
+use Rattle.std.proofs.Common.{◌≡◌, ℕ, List, ◌++◌, refl, ap, ◌∙◌, append_assoc}
+use Rattle.std.specs.Prelude.{OnOk, Result, Ok, Err, codes}
 use Rattle.std.specs.List.{flat_map}
-use Rattle.std.proofs.lemmas.List.Concat.{flat_map-append}
 use Rattle.line_base.specs.declared.event.Parts.{Parts}
 use Rattle.event_graph.specs.Circuit.{starting_stations, tokens_on, time_along}
 use Rattle.line_graph.specs.Turned.{IsTurned}
 use Rattle.cycle_time.specs.declared.certificate.Certificate.{Certificate}
-use Rattle.std.proofs.lemmas.List.{get_or_append_left, get_or-drop, length-drop}
-use Rattle.std.proofs.lemmas.List.Elements.{All-nil, All-append, All-drop, All-take}
 use Rattle.answers.specs.CycleText.{spaced_label, AreStationsAdded, IsCircuitText, IsCycleText, ratio_line, sums_words, circuit_line, potential_lines}
 
 -- a text after which three others were added, one after the other
