@@ -1,15 +1,15 @@
 //! What the two slots of a disk hold, from one command of a case to the next.
 use crate::reason::{Reason, both_if_ok, value_if_ok};
 use line_base::digits;
+use line_disk::slots::MAX_ROOM;
 use line_disk::{Disk, DiskError, MemDisk};
-use slot_store::MAX_ROOM;
 use std::alloc::Global;
 
 /// The bytes of a slot before its content.
-const HEADER: u32 = 16;
+const HEAD_BYTES: u32 = 16;
 
 /// The address of slot 1.
-const START_OF_ONE: u64 = MAX_ROOM + HEADER as u64;
+const START_OF_ONE: u64 = MAX_ROOM + HEAD_BYTES as u64;
 
 /// The most bytes of a slot that are kept.
 const MAX_KEPT: u32 = 67_108_864;
@@ -127,8 +127,8 @@ fn read_slot(alloc: Global, disk: &mut MemDisk, start: u64) -> Result<Vec<u8>, R
     if start > START_OF_ONE {
         return Err(Reason::NoSuchCall);
     }
-    let head = disk.read(alloc, start, HEADER)?;
-    let count = HEADER.saturating_add(content_length(&head));
+    let head = disk.read(alloc, start, HEAD_BYTES)?;
+    let count = HEAD_BYTES.saturating_add(content_length(&head));
     Ok(disk.read(alloc, start, count)?)
 }
 
@@ -137,7 +137,7 @@ fn content_length(head: &[u8]) -> u32 {
     match head {
         &[_, _, 0, 0, 0, 0, a, b, c, d, ..] => {
             let length = u32::from_be_bytes([a, b, c, d]);
-            if length < MAX_KEPT - HEADER {
+            if length < MAX_KEPT - HEAD_BYTES {
                 length
             } else {
                 0
@@ -182,7 +182,7 @@ pub fn add_number(text: &mut Vec<u8>, label: &str, number: u32) -> Result<(), Re
 /// The content of a slot whose gate is open; nothing of any other.
 fn open_content(bytes: &[u8]) -> &[u8] {
     match bytes {
-        [1, _, ..] => bytes.get(HEADER as usize..).unwrap_or(&[]),
+        [1, _, ..] => bytes.get(HEAD_BYTES as usize..).unwrap_or(&[]),
         _ => &[],
     }
 }

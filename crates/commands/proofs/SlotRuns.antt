@@ -26,8 +26,8 @@ use Rattle.commands.proofs.Stops.{fired_at_start, reported_caused}
 use Rattle.commands.specs.Reports.{IsReport}
 use Rattle.commands.specs.Saving.{SavesOnTheWay, Saves, RunsWithSlots, AnswersSave}
 use Rattle.answers.specs.declared.answer.Answer.{Answer}
-use Rattle.slot_store.specs.declared.error.SlotError.{SlotError}
-use Rattle.slot_store.specs.declared.error.SlotError.TheVariants as slot_error
+use Rattle.line_disk.specs.declared.slots.error.SlotError.{SlotError}
+use Rattle.line_disk.specs.declared.slots.error.SlotError.TheVariants as slot_error
 use Rattle.line_worker.specs.Sweeps.{most_sweeps}
 
 -- what a run with slots leaves of the disk, whatever it answers

@@ -26,11 +26,11 @@ use Rattle.plant_model.specs.Graph.{graph}
 use Rattle.refusals.specs.Checkpoints.{checkpoint_refusal, NamesStation}
 use Rattle.refusals.specs.declared.refusal.Refusal.{Refusal}
 use Rattle.refusals.specs.declared.refusal.Refusal.TheVariants.{Disk, NoMemory, NothingSaved, StoreFault}
-use Rattle.slot_store.specs.Crash.{bytes_now}
-use Rattle.slot_store.specs.declared.error.SlotError.{SlotError}
-use Rattle.slot_store.specs.declared.error.SlotError.TheVariants as slot_error
-use Rattle.slot_store.specs.Layout.{content}
-use Rattle.slot_store.specs.Loads.{HasLoaded, answer_finding}
+use Rattle.line_disk.specs.Crash.{bytes_now}
+use Rattle.line_disk.specs.declared.slots.error.SlotError.{SlotError}
+use Rattle.line_disk.specs.declared.slots.error.SlotError.TheVariants as slot_error
+use Rattle.line_disk.specs.Layout.{content}
+use Rattle.line_disk.specs.Loads.{HasLoaded, answer_finding}
 use Rattle.live_plant.specs.Actions.{DiskOver, Action}
 use Rattle.commands.specs.FirstEnd.{IsDoneFirst, IsFirstEnd}
 use Rattle.commands.specs.Reports.{IsReport, IsResumed}

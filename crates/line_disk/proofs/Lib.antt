@@ -1,6 +1,16 @@
+pub mod Bytes
+pub mod Calls
+pub mod Chosen
+pub mod Contents
 pub mod CountFault
+pub mod Loads
 pub mod Moments
+pub mod Near
+pub mod Outside
+pub mod Phases
 pub mod Push
 pub mod RawModel
 pub mod RawRuns
 pub mod Replay
+pub mod Save
+pub mod Staged

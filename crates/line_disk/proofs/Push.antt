@@ -87,7 +87,7 @@ pub failed_found_memory : {T : Type 0} → ¬ (IsErrOf {T = T} (Err Failed) NoMe
 failed_found_memory memory = cc
 
 -- what was answered has no error
-pub no_error : {T : Type 0} (value : T) (error : DiskError) → ¬ (IsErrOf (Ok value) error)
+pub no_error : {T E : Type 0} (value : T) (error : E) → ¬ (IsErrOf (Ok value) error)
 no_error value error is = cc
 
 -- what holds where memory was found and where it was not

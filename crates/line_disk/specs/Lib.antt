@@ -6,3 +6,9 @@ pub mod HostFile
 pub mod Reads
 pub mod Counted
 pub mod Limits
+pub mod Layout
+pub mod Crash
+pub mod Within
+pub mod Saving
+pub mod Errors
+pub mod Loads

@@ -1,4 +1,4 @@
-//! A disk as the program sees it: bytes by their addresses, and what a crash may leave of them.
+//! A disk as the program sees it: bytes by their addresses, and what a crash may leave of them; and two slots of one.
 #![tactic(auto)]
 
 mod disk;
@@ -10,10 +10,11 @@ mod patch;
 mod raw_calls;
 mod raw_file;
 mod reads;
+pub mod slots;
 
 pub use disk::{DISK_END, Disk, DiskError};
 pub use file_disk::FileDisk;
-pub use limits::disk_ends_as_defined;
+pub use limits::{disk_ends_as_defined, slots_have_room_as_defined};
 pub use mem_disk::MemDisk;
 pub use opening::Opening;
 pub use raw_calls::RawCalls;

@@ -11,8 +11,8 @@ use Rattle.line_workers.specs.Line.{WorkLine}
 use Rattle.checkpoint.specs.declared.format.Format.TheVariants.{Differences}
 use Rattle.checkpoint.specs.Text.{text}
 use Rattle.line_disk.specs.DiskView.{Image, DiskView, Held, held_now}
-use Rattle.slot_store.specs.Layout.{content}
-use Rattle.slot_store.specs.Crash.{CouldLeave, IsSaved}
+use Rattle.line_disk.specs.Layout.{content}
+use Rattle.line_disk.specs.Crash.{CouldLeave, IsSaved}
 use Rattle.line_runs.specs.Bursts.{IsBurst, BurstsBelow, HasMade, IsDone}
 use Rattle.line_runs.specs.AllFirings.{all_firings}
 use Rattle.line_runs.specs.Headline.{MayBeResumed}

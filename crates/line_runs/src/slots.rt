@@ -10,16 +10,16 @@ ghost use Rattle.line_runs.specs.Store.{text_of, IsOver};
 ghost use Rattle.line_runs.specs.Table.{IsLeastOf};
 ghost use Rattle.line_worker.specs.Sweeps.{most_sweeps};
 ghost use Rattle.line_workers.specs.Line.{IsLine, run_in};
-ghost use Rattle.slot_store.specs.Crash.{IsOldOrNew, IsSaved};
-ghost use Rattle.slot_store.specs.declared.error.SlotError.TheVariants.{TooLong};
+ghost use Rattle.line_disk.specs.Crash.{IsOldOrNew, IsSaved};
+ghost use Rattle.line_disk.specs.declared.slots.error.SlotError.TheVariants.{TooLong};
 
 use crate::run::{burst_on, table_of};
 use checkpoint::write_state;
 use line_core::Table;
 use line_disk::Disk;
+use line_disk::slots::{MAX_ROOM, SlotError, Slots};
 use line_workers::{Gate, Line};
 use live_check::Live;
-use slot_store::{MAX_ROOM, SlotError, Slots};
 use std::alloc::{AllocError, Global};
 use std::thread::Threads;
 

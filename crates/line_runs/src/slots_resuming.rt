@@ -3,15 +3,15 @@ ghost use Rattle.line_base.specs.Limits.{most_workers};
 ghost use Rattle.line_disk.specs.DiskView.{Stays};
 ghost use Rattle.line_io.specs.Faults.{Rose};
 ghost use Rattle.line_runs.specs.ResumeSlots.{AnswersLoad, ResumesSlots};
-ghost use Rattle.slot_store.specs.declared.error.SlotError.TheVariants.{TooLong};
+ghost use Rattle.line_disk.specs.declared.slots.error.SlotError.TheVariants.{TooLong};
 
 use crate::error::ResumeError;
 use crate::resuming::resume;
 use line_core::Table;
 use line_disk::Disk;
+use line_disk::slots::{MAX_ROOM, SlotError, Slots};
 use line_workers::Gate;
 use live_check::Live;
-use slot_store::{MAX_ROOM, SlotError, Slots};
 use std::alloc::Global;
 use std::thread::Threads;
 

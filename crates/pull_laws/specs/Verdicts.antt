@@ -18,8 +18,8 @@ use Rattle.live_plant.specs.Outside.{Fits}
 use Rattle.refusals.specs.Refusal.{status_of}
 use Rattle.refusals.specs.declared.refusal.Refusal.{Refusal}
 use Rattle.refusals.specs.declared.refusal.Refusal.TheVariants.{Disk, NoMemory, StoreFault}
-use Rattle.slot_store.specs.Crash.{bytes_now}
-use Rattle.slot_store.specs.Layout.{content}
+use Rattle.line_disk.specs.Crash.{bytes_now}
+use Rattle.line_disk.specs.Layout.{content}
 use Rattle.pull_cli.specs.Ends.{Ends}
 use Rattle.pull_cli.specs.Verdict.{OfWords}
 use Rattle.pull_laws.specs.Resuming.{Call, files_before, HasFailedRead}

@@ -8,7 +8,7 @@ mod of_file_store;
 mod of_line_disk;
 mod of_line_io;
 mod of_room_ring;
-mod of_slot_store;
+mod of_slots;
 mod parts;
 mod short_file;
 mod texts;

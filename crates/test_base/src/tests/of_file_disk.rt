@@ -1,6 +1,6 @@
 use crate::tests::assert_same::assert_same;
 use crate::tests::leak::leak;
-use crate::tests::of_slot_store::{load, rank_after, save};
+use crate::tests::of_slots::{load, rank_after, save};
 use crate::tests::short_file::ShortFile;
 use crate::tests::texts::TEXTS;
 use line_disk::{Disk, DiskError, FileDisk, MemDisk};

@@ -1,6 +1,6 @@
 use crate::tests::assert_same::assert_same;
+use line_disk::slots::{SlotError, Slots};
 use line_disk::{Disk, FileDisk};
-use slot_store::{SlotError, Slots};
 use std::alloc::Global;
 use std::fs;
 use std::test::Fail;

@@ -1,11 +1,11 @@
 use Rattle.std.proofs.Common.{◌≡◌, ℕ, IsTrue, List, None, Ok, Err, ap, subst, arith, rules}
 use Rattle.std.proofs.lemmas.Result.{err_from_is_err_and}
-use Rattle.slot_store.specs.declared.error.SlotError.{SlotError}
-use Rattle.slot_store.specs.declared.error.SlotError.TheVariants.{NoneSaved}
-use Rattle.slot_store.specs.declared.header.TheConstants.{MAX_ROOM}
-use Rattle.slot_store.specs.Crash.{bytes_now}
-use Rattle.slot_store.specs.Layout.{content}
-use Rattle.slot_store.specs.Loads.{HasLoaded}
+use Rattle.line_disk.specs.declared.slots.error.SlotError.{SlotError}
+use Rattle.line_disk.specs.declared.slots.error.SlotError.TheVariants.{NoneSaved}
+use Rattle.line_disk.specs.declared.slots.head.TheConstants.{MAX_ROOM}
+use Rattle.line_disk.specs.Crash.{bytes_now}
+use Rattle.line_disk.specs.Layout.{content}
+use Rattle.line_disk.specs.Loads.{HasLoaded}
 use Rattle.line_runs.specs.Resume.{Resumes}
 use Rattle.line_runs.proofs.SlotsResumed.{Found, not_loaded, load_fault, not_resumed, resumed}
 use Rattle.line_runs.proofs.slots_resuming.resume_slots.Given.{Over}
