@@ -3,3 +3,6 @@ pub mod FirstBursts
 pub mod Resumed
 pub mod RunSaves
 pub mod SlotsResumed
+pub mod LinesOn
+pub mod Sweeps
+pub mod SweepSend

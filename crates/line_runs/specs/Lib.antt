@@ -8,3 +8,5 @@ pub mod Store
 pub mod Saves
 pub mod ResumeSlots
 pub mod StandsFor
+pub mod Standing
+pub mod Sweeping

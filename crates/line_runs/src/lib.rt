@@ -1,13 +1,18 @@
-//! Runs of a line: to the end, as far as a stop, and on from what was saved.
+//! Runs of a line: to the end, by bursts or by workers that stay in their threads, as far as a stop, and on from what
+//! was saved.
 #![tactic(auto)]
 
+mod apart;
 mod error;
+mod finishing;
 mod resuming;
 mod run;
 mod slots;
 mod slots_resuming;
+mod standing;
 mod stop;
 mod store;
+mod sweeping;
 
 pub use error::ResumeError;
 pub use resuming::{line_of_text, resume};

@@ -4,10 +4,10 @@ ghost use Rattle.line_runs.specs.AllFirings.{all_firings};
 ghost use Rattle.line_runs.specs.Stop.{FinishesBefore};
 ghost use Rattle.line_runs.specs.Table.{IsLeastOf};
 
+use crate::standing::stand;
 use line_core::Table;
 use line_workers::{Gate, Line};
 use live_check::Live;
-use standing_line::stand;
 use std::sync::Wait;
 use std::thread::Threads;
 

@@ -1,7 +1,7 @@
 use Rattle.std.proofs.Common.{◌^◌, IsTrue, sym, ap, ◌∙◌, arith, rules}
 use Rattle.line_worker.specs.Worker.{LineWorker}
-use Rattle.standing_line.proofs.Sweeps.{as_it_is, sweep_more, one_turn_more, most_below}
-use Rattle.standing_line.proofs.sweeping.sweep_on.Goals as goal
+use Rattle.line_runs.proofs.Sweeps.{as_it_is, sweep_more, one_turn_more, most_below}
+use Rattle.line_runs.proofs.sweeping.sweep_on.Goals as goal
 
 pub loop-worker-init : goal.loop-worker-init
 loop-worker-init g c = record {

@@ -5,10 +5,10 @@ use denote.Param.Send.{sendable, param_send, arg_send}
 use Rattle.line_worker.specs.Worker.{LineWorker}
 use Rattle.line_workers.specs.Gather.{IsWorkerAfter, AreWorkersAfter}
 use Rattle.line_worker.proofs.WorkerSend.{worker_send}
-use Rattle.standing_line.specs.Sweeping.{IsWorkerFor}
-use Rattle.standing_line.proofs.SweepSend.{sweeps_send}
-use Rattle.standing_line.proofs.Sweeps.{as_they_are, last_is_for, rest_are_for, one_fewer, one_more}
-use Rattle.standing_line.proofs.apart.+sweep_all.Goals as goal
+use Rattle.line_runs.specs.Sweeping.{IsWorkerFor}
+use Rattle.line_runs.proofs.SweepSend.{sweeps_send}
+use Rattle.line_runs.proofs.Sweeps.{as_they_are, last_is_for, rest_are_for, one_fewer, one_more}
+use Rattle.line_runs.proofs.apart.+sweep_all.Goals as goal
 
 pub spawn_with-requires-send-F : goal.spawn_with-requires-send-F
 spawn_with-requires-send-F g t c κs within = param_send 2 _ (arg_send _ yes _ (sweeps_send _ (param 2 g.row.G) (search sendable) _ _ _ _ _ _))

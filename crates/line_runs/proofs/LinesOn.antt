@@ -1,14 +1,12 @@
--- A line that goes on, and how many firings are left of it.
-use Rattle.std.proofs.Common.{◌≡◌, ℕ, ◌-◌, ◌*◌, ◌<◌, ◌≤◌, List, take, length, refl, sym, ap, ◌∙◌, arith}
+-- A line that goes on: its dates stay.
+use Rattle.std.proofs.Common.{◌≡◌, ℕ, ◌≤◌, List, take, length, refl, sym, ap, ◌∙◌, arith}
 use Rattle.std.proofs.lemmas.List.{take_all, take-take, length-take}
-use Rattle.event_graph.specs.Network.{stations, jobs}
+use Rattle.event_graph.specs.Network.{stations}
 use Rattle.event_graph.specs.State.{log}
 use Rattle.live_check.specs.Order.{LiveGraph}
-use Rattle.line_core.specs.Consistent.{firing_count}
-use Rattle.line_core.proofs.Bounds.{fired-le}
-use Rattle.line_core.proofs.Consistency.{reached_is_consistent}
 use Rattle.line_workers.specs.Line.{WorkLine, IsLine}
-use Rattle.standing_line.specs.Standing.{GoesOn}
+use Rattle.line_runs.specs.Bursts.{IsBurst}
+use Rattle.line_runs.specs.Standing.{GoesOn}
 
 pub stays : (l : WorkLine) → IsLine l → GoesOn l l
 stays l is = record {
@@ -17,6 +15,15 @@ stays l is = record {
   worker_count = refl;
   room = refl;
   logs = λ t there. take_all (length (log l.state t)) (log l.state t) (omega arith);
+}
+
+pub burst_goes_on : (old new : WorkLine) → IsBurst old new → GoesOn old new
+burst_goes_on old new burst = record {
+  line = burst.line;
+  live = ap (λ (l : WorkLine). l.live) burst.frame;
+  worker_count = ap (λ (l : WorkLine). l.worker_count) burst.frame;
+  room = ap (λ (l : WorkLine). l.room) burst.frame;
+  logs = burst.logs;
 }
 
 -- dates that stay in a list, and stay in the next
@@ -35,14 +42,3 @@ goes_on_more first now next before after = record {
       let same : stations now.live.graph ≡ stations first.live.graph = ap (λ (v : LiveGraph). stations v.graph) before.live in
       kept-more (log first.state t) (log now.state t) (log next.state t) (before.logs t there) (after.logs t (omega (arith, there, same)));
 }
-
--- how many firings are left of a line
-abbrev pub left_of : WorkLine → ℕ
-left_of l = stations l.live.graph * jobs l.live.graph - firing_count l.state
-
-pub fewer_left : (old new : WorkLine) → GoesOn old new → firing_count old.state < firing_count new.state → left_of new < left_of old
-fewer_left old new goes more =
-    let all : stations new.live.graph * jobs new.live.graph ≡ stations old.live.graph * jobs old.live.graph =
-    ap (λ (v : LiveGraph). stations v.graph * jobs v.graph) goes.live in
-    let most = fired-le new.live.graph new.state (reached_is_consistent new.live.graph new.state goes.line.reached.reached) in
-    omega (arith, all, most, more)

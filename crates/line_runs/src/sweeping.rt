@@ -1,6 +1,6 @@
 ghost use Rattle.std.specs.Prelude.{◌↔◌, IsTrue};
 ghost use Rattle.line_workers.specs.Gather.{IsWorkerAfter};
-ghost use Rattle.standing_line.specs.Sweeping.{IsWorkerFor, IsMostTurns, MaySweep};
+ghost use Rattle.line_runs.specs.Sweeping.{IsWorkerFor, IsMostTurns, MaySweep};
 ghost use Rattle.line_worker.specs.Worker.{IsWorker};
 
 use line_workers::{Gate, Worker};

@@ -1,6 +1,6 @@
-use Rattle.standing_line.specs.Standing.{GoesOn}
-use Rattle.standing_line.proofs.LeftFirings.{left_of}
-use Rattle.standing_line.proofs.finishing.finish.Given as goal
+use Rattle.line_runs.specs.Standing.{GoesOn}
+use Rattle.line_runs.proofs.Firings.{left_of}
+use Rattle.line_runs.proofs.finishing.finish.Given as goal
 
 abbrev pub invariant-loop-line : goal.invariant-loop-line
 invariant-loop-line g l = GoesOn l.fn.line l.line

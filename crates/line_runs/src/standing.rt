@@ -1,6 +1,6 @@
 ghost use Rattle.std.specs.Prelude.{◌≡◌};
 ghost use Rattle.line_core.specs.Consistent.{IsFinished};
-ghost use Rattle.standing_line.specs.Standing.{GoesOn};
+ghost use Rattle.line_runs.specs.Standing.{GoesOn};
 
 use crate::apart::sweep_apart;
 use crate::finishing::finish;
@@ -24,7 +24,12 @@ fn sweep_and_gather<R: Threads + Wait, G: Gate>(rt: &R, line: Line, live: &Live,
 /// are left, so there is no answer for a thread.
 ///
 /// It takes no memory. It waits for its threads, and owes no return.
-pub fn stand<R: Threads + Wait + Sync, G: Gate>(rt: &R, line: Line, live: &Live, gate: &G) -> Line
+pub(crate) fn stand<R: Threads + Wait + Sync, G: Gate>(
+    rt: &R,
+    line: Line,
+    live: &Live,
+    gate: &G,
+) -> Line
     requires made_for { live.now ≡ line.live }
     ensures goes_on { GoesOn line result }
     ensures finished { IsFinished result.live.graph result.state }

@@ -1,7 +1,7 @@
 use Rattle.std.proofs.Common.{◌-◌, ◌^◌}
 use Rattle.line_workers.specs.Gather.{IsWorkerAfter}
-use Rattle.standing_line.specs.Sweeping.{IsMostTurns}
-use Rattle.standing_line.proofs.sweeping.sweep_on.Given as goal
+use Rattle.line_runs.specs.Sweeping.{IsMostTurns}
+use Rattle.line_runs.proofs.sweeping.sweep_on.Given as goal
 
 abbrev pub invariant-loop-worker : goal.invariant-loop-worker
 invariant-loop-worker g l = record {

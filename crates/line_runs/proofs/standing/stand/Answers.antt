@@ -1,6 +1,6 @@
 use Rattle.std.proofs.Common.{sym, ◌∙◌}
-use Rattle.standing_line.proofs.LeftFirings.{goes_on_more}
-use Rattle.standing_line.proofs.standing.stand.Goals as goal
+use Rattle.line_runs.proofs.LinesOn.{goes_on_more}
+use Rattle.line_runs.proofs.standing.stand.Goals as goal
 
 pub finish-requires-clause-line : goal.finish-requires-clause-line
 finish-requires-clause-line g c = λ κs within. c.sweep_and_gather-line.ensures.line

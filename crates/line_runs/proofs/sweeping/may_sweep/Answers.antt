@@ -1,8 +1,8 @@
 use Rattle.std.proofs.Common.{◌^◌, ◌<◌, arith, rules}
 use Rattle.std.proofs.lemmas.Bool.{ltb-true, lt-ltb}
 use Rattle.line_worker.specs.Work.{AllDone}
-use Rattle.standing_line.proofs.Sweeps.{turns_below, most_below}
-use Rattle.standing_line.proofs.sweeping.may_sweep.Goals as goal
+use Rattle.line_runs.proofs.Sweeps.{turns_below, most_below}
+use Rattle.line_runs.proofs.sweeping.may_sweep.Goals as goal
 
 pub returns-then-not-is_done-clause-may : goal.returns-then-not-is_done-clause-may
 returns-then-not-is_done-clause-may c =

@@ -16,8 +16,8 @@ use Rattle.line_workers.specs.Line.{WorkLine, IsLine, LogsGrow, StandsIn}
 use Rattle.line_workers.specs.OfWorkers.{line_of}
 use Rattle.line_worker.proofs.WorkedTeams.{idle_team}
 use Rattle.line_workers.proofs.AfterSweeps.{after_more, logs_grow}
-use Rattle.standing_line.specs.Standing.{GoesOn}
-use Rattle.standing_line.specs.Sweeping.{IsWorkerFor, IsMostTurns}
+use Rattle.line_runs.specs.Standing.{GoesOn}
+use Rattle.line_runs.specs.Sweeping.{IsWorkerFor, IsMostTurns}
 
 -- ---- workers after sweeps
 

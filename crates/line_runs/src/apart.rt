@@ -1,6 +1,6 @@
 ghost use Rattle.std.specs.Prelude.{◌≡◌, All, vec_capacity};
 ghost use Rattle.line_workers.specs.Gather.{IsWorkerAfter, AreWorkersAfter};
-ghost use Rattle.standing_line.specs.Sweeping.{IsWorkerFor};
+ghost use Rattle.line_runs.specs.Sweeping.{IsWorkerFor};
 
 use crate::sweeping::{AfterSweeps, sweep_on};
 use line_workers::{Gate, Worker};

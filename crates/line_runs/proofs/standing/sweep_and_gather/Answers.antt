@@ -1,8 +1,8 @@
 use Rattle.std.proofs.Common.{ap, sym, ◌∙◌}
 use Rattle.line_workers.specs.Line.{WorkLine}
 use Rattle.line_workers.proofs.AfterSweeps.{workers_after}
-use Rattle.standing_line.proofs.Sweeps.{workers_are_for, gathered_goes_on}
-use Rattle.standing_line.proofs.standing.sweep_and_gather.Goals as goal
+use Rattle.line_runs.proofs.Sweeps.{workers_are_for, gathered_goes_on}
+use Rattle.line_runs.proofs.standing.sweep_and_gather.Goals as goal
 
 pub sweep_apart-workers-requires-after_bounds : goal.sweep_apart-workers-requires-after_bounds
 sweep_apart-workers-requires-after_bounds g c =

@@ -1,3 +1,0 @@
-pub mod LeftFirings
-pub mod Sweeps
-pub mod SweepSend
