@@ -38,7 +38,7 @@ abbrev pub left_of : WorkLine → ℕ
 left_of l = all_firings l.live.graph - firing_count l.state
 
 -- a burst leaves fewer
-pub burst_leaves_less : (old new : WorkLine) → IsLine old → ¬ IsDone old → IsBurst old new → left_of new < left_of old
-burst_leaves_less old new is undone burst =
+pub burst_leaves_less : (old new : WorkLine) → IsBurst old new → left_of new < left_of old
+burst_leaves_less old new burst =
     let same : all_firings new.live.graph ≡ all_firings old.live.graph = ap (λ (l : WorkLine). all_firings l.live.graph) burst.frame in
-    omega (arith, undone_is_below old is undone, line_is_within new burst.line, burst.some, same)
+    omega (arith, line_is_within new burst.line, burst.some, same)

@@ -12,9 +12,7 @@ loop-line-preserved g c =
     goes_on_more c.args.line c.loop-line.line c.burst_on.new.line c.loop-line.invariant (burst_goes_on c.loop-line.line c.burst_on.new.line c.burst_on.ensures)
 
 pub loop-line-smaller : goal.loop-line-smaller
-loop-line-smaller g c =
-    let undone : ¬ IsDone c.loop-line.line = search rules in
-    burst_leaves_less c.loop-line.line c.burst_on.new.line c.loop-line.invariant.line undone c.burst_on.ensures
+loop-line-smaller g c = burst_leaves_less c.loop-line.line c.burst_on.new.line c.burst_on.ensures
 
 pub burst_on-requires-clause-made_for : goal.burst_on-requires-clause-made_for
 burst_on-requires-clause-made_for g c = λ κs within. c.requires.made_for ∙ sym c.loop-line.invariant.live

@@ -29,9 +29,7 @@ returns-in-Err-clause-any_moment g c = λ known.
     subst (λ (v : LiveGraph). LeavesOnly old new (IsOldOrState (held_now old) MAX_ROOM v.graph)) (sym c.requires.made_for) leaves
 
 pub loop-alloc-smaller : goal.loop-alloc-smaller
-loop-alloc-smaller g c =
-    let undone : ¬ IsDone c.loop-alloc.line = search rules in
-    burst_leaves_less c.loop-alloc.line c.burst_on.new.line c.finished.ensures.line undone c.burst_on.ensures
+loop-alloc-smaller g c = burst_leaves_less c.loop-alloc.line c.burst_on.new.line c.burst_on.ensures
 
 pub loop-alloc-preserved : goal.loop-alloc-preserved
 loop-alloc-preserved g c =

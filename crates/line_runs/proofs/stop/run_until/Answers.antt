@@ -16,7 +16,7 @@ pub loop-line-init : goal.loop-line-init
 loop-line-init g c = record { made_for = c.requires; led = record { count = 0; bursts = none } }
 
 pub loop-line-smaller : goal.loop-line-smaller
-loop-line-smaller g c = burst_leaves_less c.loop-line.line c.burst_on.new.line c.finished.ensures.line (search rules) c.burst_on.ensures
+loop-line-smaller g c = burst_leaves_less c.loop-line.line c.burst_on.new.line c.burst_on.ensures
 
 pub loop-line-preserved : goal.loop-line-preserved
 loop-line-preserved g c = record {
