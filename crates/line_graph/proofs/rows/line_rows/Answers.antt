@@ -1,6 +1,7 @@
 use Rattle.std.proofs.Common.{◌∷◌, [], ◌++◌, length, map, refl, ap, ◌∙◌, arith}
 use Rattle.std.specs.List.{flat_map}
 use Rattle.std.proofs.lemmas.List.{length-map}
+use Rattle.std.proofs.lemmas.Result.{err_from_is_err_and}
 use Rattle.plant_model.specs.declared.plant.CardLoop.{CardLoop}
 use Rattle.plant_model.specs.declared.plant.Plant.{Plant}
 use Rattle.plant_model.specs.Line.{stage_numbers}
@@ -29,3 +30,43 @@ returns-clause-delays c =
     let times = c.in_ok-loop_times.ensures ∙ ap (map (λ (l : CardLoop). l.card_time)) c.as_slice-3.ensures in
     let loops = delays-loops p c.as_slice-5.result.now (c.as_slice-5.ensures.value ∙ times) in
     c.in_ok-append-2.ensures.delays ∙ ap (λ delays. delays ++ c.as_slice-5.result.now) c.in_ok-append.ensures.delays ∙ rows-joined (λ r. r.delay) p _ _ _ _ stages refl policy loops
+
+pub returns-in_err-layout : goal.returns-in_err-layout
+returns-in_err-layout c =
+    let p = err_from_is_err_and c.from_residual.result c.from_residual.ensures.1 in
+    record { arcs = rw p.1 tt; delays = rw p.1 tt }
+
+pub returns-in_err-all : goal.returns-in_err-all
+returns-in_err-all c =
+    let p = err_from_is_err_and c.from_residual-in_err-all.result c.from_residual-in_err-all.ensures.1 in
+    record { arcs = rw p.1 tt; delays = rw p.1 tt }
+
+pub returns-in_err-arcs : goal.returns-in_err-arcs
+returns-in_err-arcs c =
+    let p = err_from_is_err_and c.from_residual-in_err-arcs.result c.from_residual-in_err-arcs.ensures.1 in
+    record { arcs = rw p.1 tt; delays = rw p.1 tt }
+
+pub returns-in_err-delays : goal.returns-in_err-delays
+returns-in_err-delays c =
+    let p = err_from_is_err_and c.from_residual-in_err-delays.result c.from_residual-in_err-delays.ensures.1 in
+    record { arcs = rw p.1 tt; delays = rw p.1 tt }
+
+pub returns-in_err-append : goal.returns-in_err-append
+returns-in_err-append c =
+    let p = err_from_is_err_and c.from_residual-in_err-append.result c.from_residual-in_err-append.ensures.1 in
+    record { arcs = rw p.1 tt; delays = rw p.1 tt }
+
+pub returns-in_err-loop_arcs : goal.returns-in_err-loop_arcs
+returns-in_err-loop_arcs c =
+    let p = err_from_is_err_and c.from_residual-in_err-loop_arcs.result c.from_residual-in_err-loop_arcs.ensures.1 in
+    record { arcs = rw p.1 tt; delays = rw p.1 tt }
+
+pub returns-in_err-loop_times : goal.returns-in_err-loop_times
+returns-in_err-loop_times c =
+    let p = err_from_is_err_and c.from_residual-in_err-loop_times.result c.from_residual-in_err-loop_times.ensures.1 in
+    record { arcs = rw p.1 tt; delays = rw p.1 tt }
+
+pub returns-in_err-append-2 : goal.returns-in_err-append-2
+returns-in_err-append-2 c =
+    let p = err_from_is_err_and c.from_residual-in_err-append-2.result c.from_residual-in_err-append-2.ensures.1 in
+    record { arcs = rw p.1 tt; delays = rw p.1 tt }
