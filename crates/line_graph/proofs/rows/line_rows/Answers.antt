@@ -1,4 +1,4 @@
-use Rattle.std.proofs.Common.{◌∷◌, [], ◌++◌, length, map, refl, ap, ◌∙◌, arith}
+use Rattle.std.proofs.Common.{◌≡◌, ◌∷◌, [], ◌++◌, length, map, refl, ap, ◌∙◌, arith}
 use Rattle.std.specs.List.{flat_map}
 use Rattle.std.proofs.lemmas.List.{length-map}
 use Rattle.std.proofs.lemmas.Result.{err_from_is_err_and}
@@ -20,7 +20,9 @@ returns-clause-arcs c =
     let stages = c.in_ok-all.ensures.arcs ∙ ap (λ (q : Plant). arcs_of (flat_map (stage_rows q) (stage_numbers q)) ++ (feed_row q).arc ∷ []) c.in_ok-layout.ensures in
     let policy = c.as_slice.ensures.value ∙ c.in_ok-arcs.ensures in
     let loops = c.as_slice-4.ensures.value ∙ c.in_ok-loop_arcs.ensures in
-    c.in_ok-append-2.ensures.arcs ∙ ap (λ arcs. arcs ++ c.as_slice-4.result.now) c.in_ok-append.ensures.arcs ∙ rows-joined (λ r. r.arc) p _ _ _ _ stages refl policy loops
+    let first : c.append.new.self.arcs.items ≡ c.in_ok-all.all.arcs.items ++ c.as_slice.result.now = c.in_ok-append.ensures.arcs in
+    let second : c.append-2.new.self.arcs.items ≡ c.append.new.self.arcs.items ++ c.as_slice-4.result.now = c.in_ok-append-2.ensures.arcs in
+    second ∙ ap (λ arcs. arcs ++ c.as_slice-4.result.now) first ∙ rows-joined (λ r. r.arc) p c.in_ok-all.all.arcs.items c.as_slice.result.now c.as_slice-4.result.now _ stages refl policy loops
 
 pub returns-clause-delays : goal.returns-clause-delays
 returns-clause-delays c =
@@ -29,7 +31,9 @@ returns-clause-delays c =
     let policy = c.as_slice-2.ensures.value ∙ c.in_ok-delays.ensures in
     let times = c.in_ok-loop_times.ensures ∙ ap (map (λ (l : CardLoop). l.card_time)) c.as_slice-3.ensures in
     let loops = delays-loops p c.as_slice-5.result.now (c.as_slice-5.ensures.value ∙ times) in
-    c.in_ok-append-2.ensures.delays ∙ ap (λ delays. delays ++ c.as_slice-5.result.now) c.in_ok-append.ensures.delays ∙ rows-joined (λ r. r.delay) p _ _ _ _ stages refl policy loops
+    let first : c.append.new.self.delays.items ≡ c.in_ok-all.all.delays.items ++ c.as_slice-2.result.now = c.in_ok-append.ensures.delays in
+    let second : c.append-2.new.self.delays.items ≡ c.append.new.self.delays.items ++ c.as_slice-5.result.now = c.in_ok-append-2.ensures.delays in
+    second ∙ ap (λ delays. delays ++ c.as_slice-5.result.now) first ∙ rows-joined (λ r. r.delay) p c.in_ok-all.all.delays.items c.as_slice-2.result.now c.as_slice-5.result.now _ stages refl policy loops
 
 pub returns-in_err-layout : goal.returns-in_err-layout
 returns-in_err-layout c =
