@@ -24,6 +24,9 @@ records-preserved-then-is_header c =
     let next = rw c.if-branch.true at c.in_ok-read_next.ensures.next in
     HasRead-header _ _ _ _ _ _ _ _ _ c.records.invariant next (sym c.if-is_header.ensures)
 
+pub returns-then-not-branch-clause-rows : goal.returns-then-not-branch-clause-rows
+returns-then-not-branch-clause-rows c = tt
+
 pub returns-then-not-branch-clause-bad_record : goal.returns-then-not-branch-clause-bad_record
 returns-then-not-branch-clause-bad_record c =
     let next = rw c.if-branch.true at c.in_ok-read_next.ensures.next in
