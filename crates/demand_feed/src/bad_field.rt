@@ -65,9 +65,14 @@ fn find_bad_field(
             continue;
         }
         if let Some(column) = lacking_column(&row, used, most) {
-            return Ok(Some(field_at(alloc, &row, column)?));
+            let found = field_at(alloc, &row, column);
+            drop(row);
+            drop(reader);
+            return Ok(Some(found?));
         }
     }
+    drop(row);
+    drop(reader);
     Ok(None)
 }
 

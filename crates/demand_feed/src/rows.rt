@@ -50,9 +50,13 @@ pub(crate) fn read_rows(
             continue;
         }
         if !add_numbers(&mut numbers, &row, used, most)? {
+            drop(row);
+            drop(reader);
             return Err(FeedError::BadRecord { number });
         }
         jobs += 1;
     }
+    drop(row);
+    drop(reader);
     Ok(Rows { numbers, jobs })
 }

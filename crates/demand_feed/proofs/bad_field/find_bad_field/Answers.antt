@@ -38,7 +38,7 @@ pub returns-in-Some : goal.returns-in-Some
 returns-in-Some c =
     let next = rw c.if-branch.true at c.in_ok-read_next.ensures.next in
     let lacks = sym c.lacking_column.ensures.column ∙ c.in-Some.is in
-    ap Some c.in_ok-field_at.ensures ∙ sym (bad_field-found _ _ _ _ _ _ _ _ c.records.invariant next (sym c.if-is_header.ensures) lacks)
+    ap Some c.in_ok-found.ensures ∙ sym (bad_field-found _ _ _ _ _ _ _ _ c.records.invariant next (sym c.if-is_header.ensures) lacks)
 
 pub returns : goal.returns
 returns c =
