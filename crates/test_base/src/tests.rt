@@ -5,8 +5,6 @@ mod mem_files;
 mod of_card_queue;
 mod of_file_disk;
 mod of_file_store;
-mod of_line_disk;
-mod of_line_io;
 mod of_room_ring;
 mod of_slots;
 mod parts;

@@ -1,4 +1,4 @@
-ghost use Rattle.std.specs.Prelude.{◌≡◌, ◌≤◌, length, true, IfOk, OnOk, IsErr};
+ghost use Rattle.std.specs.Prelude.{◌≡◌, ◌≤◌, length, true, IfOk, IsErr};
 
 use crate::tests::parts::{copy_first, first};
 use line_io::{FilesCalls, RawFiles};
@@ -8,7 +8,7 @@ use std::io::ErrorKind;
 
 /// A file in memory: what reads give of it, and what of it was synced.
 #[derive(Drop)]
-pub struct MemFile {
+struct MemFile {
     bytes: Vec<u8>,
     synced: Vec<u8>,
 }
@@ -22,39 +22,40 @@ impl MemFile {
         }
     }
 
-    /// A file that was synced.
-    pub fn of(alloc: Global, bytes: &[u8]) -> Result<MemFile, AllocError> {
-        Ok(MemFile {
-            bytes: bytes.to_vec(alloc)?,
-            synced: bytes.to_vec(alloc)?,
-        })
+    /// Puts bytes behind those that it has.
+    fn append(&mut self, bytes: &[u8]) -> Result<(), AllocError> {
+        self.bytes.extend_from_slice(bytes)
+    }
+
+    /// Makes what was written durable.
+    fn settle(&mut self) -> Result<(), AllocError> {
+        self.synced.clear();
+        self.synced.extend_from_slice(&self.bytes)
     }
 }
 
-/// Which calls of files in memory fail, by their numbers from 1.
+/// How a machine fails, and what it takes and gives.
 #[derive(Clone, Copy)]
-pub enum Failing {
-    None,
-    /// The one of this number.
-    One(u32),
-    /// That one and all behind it, as when the machine stops.
-    From(u32),
+pub struct Faults {
+    /// The first call that fails, and the last one, by their numbers from 1; all from the first on where the machine
+    /// stops.
+    pub calls: (u32, u32),
+    /// How many bytes a call takes and gives at most.
+    pub most: usize,
+    /// Whether no spare file can be made.
+    pub bars_spare: bool,
 }
 
-/// One file and the spare one beside it, in memory, as a machine has them. A call takes and gives at most `most` bytes.
+/// A file that is there, and the spare one beside it, as a machine has them. No contract speaks of it.
 #[derive(Drop)]
-pub struct MemFiles {
+struct Machine {
     alloc: Global,
-    named: Option<MemFile>,
+    faults: Faults,
+    named: MemFile,
     spare: Option<MemFile>,
-    is_open: bool,
     writes_spare: bool,
     read: usize,
-    most: usize,
-    failing: Failing,
-    bars_spare: bool,
     count: u32,
-    calls: FilesCalls,
 }
 
 /// The answer of a machine that refuses.
@@ -64,223 +65,193 @@ fn refused<T>() -> io::Result<T>
     Err(ErrorKind::StorageFull.into())
 }
 
-impl MemFiles {
-    /// A file that is there or not. Where spare ones are barred none can be made in its folder.
-    pub fn new(
-        alloc: Global,
-        named: Option<MemFile>,
-        most: usize,
-        failing: Failing,
-        bars_spare: bool,
-    ) -> MemFiles {
-        MemFiles {
-            alloc,
-            named,
-            spare: None,
-            is_open: false,
-            writes_spare: false,
-            read: 0,
-            most,
-            failing,
-            bars_spare,
-            count: 0,
-            calls: FilesCalls::new(),
-        }
-    }
-
-    /// What the file holds, if it is there; or what a crash leaves of it, where that is asked for.
-    pub fn content(&self, after_crash: bool) -> Option<&[u8]> {
-        match &self.named {
-            None => None,
-            Some(file) if after_crash => Some(file.synced.as_slice()),
-            Some(file) => Some(file.bytes.as_slice()),
-        }
-    }
-
-    /// Whether a spare file is there.
-    pub fn has_spare(&self) -> bool {
-        self.spare.is_some()
-    }
-
+impl Machine {
     /// Counts a call, and says whether it is to fail.
-    fn is_due(&mut self) -> bool
-        ensures calls { self.new.calls ≡ self.old.calls }
-        ensures open { self.new.is_open ≡ self.old.is_open }
-    {
+    fn is_due(&mut self) -> bool {
         self.count = self.count.saturating_add(1);
-        match self.failing {
-            Failing::None => false,
-            Failing::One(number) => self.count == number,
-            Failing::From(number) => self.count >= number,
-        }
+        let (first, last) = self.faults.calls;
+        first <= self.count && self.count <= last
     }
 
-    /// What opening the file to be read answers.
-    fn answer_open(&mut self) -> io::Result<()>
-        ensures calls { self.new.calls ≡ self.old.calls }
-        ensures opened { OnOk result (self.new.is_open ≡ true) }
-    {
+    /// What a call answers that does nothing.
+    fn answer(&mut self) -> io::Result<()> {
         if self.is_due() {
             return refused();
         }
-        if self.named.is_none() {
-            return Err(ErrorKind::NotFound.into());
-        }
-        self.is_open = true;
-        self.read = 0;
         Ok(())
     }
 
-    /// What a read answers.
-    fn answer_read(&mut self, bytes: &mut [u8]) -> io::Result<usize>
-        ensures calls { self.new.calls ≡ self.old.calls }
-        ensures open { self.new.is_open ≡ self.old.is_open }
-        ensures bound { IfOk result (λ n. n ≤ length bytes.new) }
-    {
-        if self.is_due() {
-            return refused();
-        }
-        let Some(file) = &self.named else {
-            return refused();
-        };
-        let left = file.bytes.get(self.read..).unwrap_or(&[]);
-        let count = copy_first(left, bytes, self.most);
-        self.read = self.read.saturating_add(count);
-        Ok(count)
-    }
-
     /// What looking at the name answers.
-    fn answer_look(&mut self) -> io::Result<bool>
-        ensures calls { self.new.calls ≡ self.old.calls }
-    {
+    fn look(&mut self) -> io::Result<bool> {
         if self.is_due() {
             return refused();
-        }
-        if self.named.is_none() {
-            return Err(ErrorKind::NotFound.into());
         }
         Ok(true)
     }
 
-    /// What making or emptying the file answers.
-    fn answer_create(&mut self) -> io::Result<()>
-        ensures calls { self.new.calls ≡ self.old.calls }
-        ensures opened { OnOk result (self.new.is_open ≡ true) }
+    /// What opening the file to be read answers.
+    fn open(&mut self) -> io::Result<()> {
+        self.read = 0;
+        self.answer()
+    }
+
+    /// What a read answers.
+    fn read(&mut self, bytes: &mut [u8]) -> io::Result<usize>
+        ensures { IfOk result (λ n. n ≤ length bytes.new) }
     {
         if self.is_due() {
             return refused();
         }
-        put_in(&mut self.named, Some(MemFile::empty(self.alloc)));
-        self.is_open = true;
+        let file = &self.named;
+        let left = file.bytes.get(self.read..).unwrap_or(&[]);
+        let count = copy_first(left, bytes, self.faults.most);
+        self.read = self.read.saturating_add(count);
+        Ok(count)
+    }
+
+    /// What making or emptying the file answers.
+    fn create(&mut self) -> io::Result<()> {
+        if self.is_due() {
+            return refused();
+        }
+        replace(&mut self.named, MemFile::empty(self.alloc));
         self.writes_spare = false;
         Ok(())
     }
 
     /// What making the spare file answers.
-    fn answer_create_spare(&mut self) -> io::Result<()>
-        ensures calls { self.new.calls ≡ self.old.calls }
-        ensures opened { OnOk result (self.new.is_open ≡ true) }
-    {
+    fn create_spare(&mut self) -> io::Result<()> {
         if self.is_due() {
             return refused();
         }
-        if self.bars_spare {
+        if self.faults.bars_spare {
             return Err(ErrorKind::PermissionDenied.into());
         }
         if self.spare.is_some() {
             return Err(ErrorKind::AlreadyExists.into());
         }
-        put_in(&mut self.spare, Some(MemFile::empty(self.alloc)));
-        self.is_open = true;
+        replace(&mut self.spare, Some(MemFile::empty(self.alloc)));
         self.writes_spare = true;
         Ok(())
     }
 
+    /// The file that is written to.
+    fn written(&mut self) -> &mut MemFile {
+        match &mut self.spare {
+            Some(spare) if self.writes_spare => spare,
+            _ => &mut self.named,
+        }
+    }
+
     /// What a write answers.
-    fn answer_write(&mut self, bytes: &[u8]) -> io::Result<usize>
-        ensures calls { self.new.calls ≡ self.old.calls }
-        ensures open { self.new.is_open ≡ self.old.is_open }
-        ensures bound { IfOk result (λ n. n ≤ length bytes.now) }
+    fn write(&mut self, bytes: &[u8]) -> io::Result<usize>
+        ensures { IfOk result (λ n. n ≤ length bytes.now) }
     {
         if self.is_due() {
             return refused();
         }
-        let taken = first(bytes, self.most);
-        let written = if self.writes_spare {
-            append(&mut self.spare, taken)
-        } else {
-            append(&mut self.named, taken)
-        };
-        match written {
+        let taken = first(bytes, self.faults.most);
+        match self.written().append(taken) {
             Ok(()) => Ok(taken.len()),
             Err(_) => refused(),
         }
     }
 
     /// What a sync answers.
-    fn answer_sync(&mut self) -> io::Result<()>
-        ensures calls { self.new.calls ≡ self.old.calls }
-    {
+    fn sync(&mut self) -> io::Result<()> {
         if self.is_due() {
             return refused();
         }
-        let settled = if self.writes_spare {
-            settle(&mut self.spare)
-        } else {
-            settle(&mut self.named)
-        };
-        match settled {
+        match self.written().settle() {
             Ok(()) => Ok(()),
             Err(_) => refused(),
         }
     }
 
     /// What renaming the spare file answers.
-    fn answer_rename(&mut self) -> io::Result<()>
-        ensures calls { self.new.calls ≡ self.old.calls }
-    {
-        if self.is_due() || self.spare.is_none() {
+    fn rename(&mut self) -> io::Result<()> {
+        if self.is_due() {
             return refused();
         }
-        let spare = self.spare.take();
-        put_in(&mut self.named, spare);
-        Ok(())
+        match self.spare.take() {
+            Some(spare) => {
+                replace(&mut self.named, spare);
+                Ok(())
+            }
+            None => refused(),
+        }
     }
 
     /// What removing the spare file answers.
-    fn answer_remove(&mut self) -> io::Result<()>
-        ensures calls { self.new.calls ≡ self.old.calls }
-    {
+    fn remove(&mut self) -> io::Result<()> {
         if self.is_due() || self.spare.is_none() {
             return refused();
         }
-        put_in(&mut self.spare, None);
+        replace(&mut self.spare, None);
         Ok(())
     }
 }
 
-/// Puts a file, or none, in the place of another, which is let go here.
-fn put_in(place: &mut Option<MemFile>, file: Option<MemFile>) {
-    *place = file;
+/// Puts a value in the place of another, which is let go here.
+fn replace<T: Drop>(place: &mut T, value: T) {
+    *place = value;
 }
 
-/// Puts bytes behind those of a file.
-fn append(file: &mut Option<MemFile>, bytes: &[u8]) -> Result<(), AllocError> {
-    match file {
-        Some(file) => file.bytes.extend_from_slice(bytes),
-        None => Ok(()),
+/// The files of a machine in memory, which counts its calls.
+#[derive(Drop)]
+pub struct MemFiles {
+    machine: Machine,
+    is_open: bool,
+    calls: FilesCalls,
+}
+
+impl MemFiles {
+    /// A file that holds these bytes, which were synced.
+    pub fn new(alloc: Global, bytes: &[u8], faults: Faults) -> Result<MemFiles, AllocError> {
+        let named = MemFile {
+            bytes: bytes.to_vec(alloc)?,
+            synced: bytes.to_vec(alloc)?,
+        };
+        let machine = Machine {
+            alloc,
+            faults,
+            named,
+            spare: None,
+            writes_spare: false,
+            read: 0,
+            count: 0,
+        };
+        Ok(MemFiles {
+            machine,
+            is_open: false,
+            calls: FilesCalls::new(),
+        })
     }
-}
 
-/// Makes what was written to a file durable.
-fn settle(file: &mut Option<MemFile>) -> Result<(), AllocError> {
-    match file {
-        Some(file) => {
-            file.synced.clear();
-            file.synced.extend_from_slice(&file.bytes)
+    /// What the file holds, or what a crash leaves of it, where that is asked for.
+    pub fn content(&self, after_crash: bool) -> &[u8] {
+        if after_crash {
+            &self.machine.named.synced
+        } else {
+            &self.machine.named.bytes
         }
-        None => Ok(()),
     }
+
+    /// Whether a spare file is there.
+    pub fn has_spare(&self) -> bool {
+        self.machine.spare.is_some()
+    }
+}
+
+/// The answer of a call that opens a file, where it goes well.
+fn opened(is_open: &mut bool, answer: io::Result<()>) -> io::Result<()>
+    ensures same { result ≡ answer }
+    ensures opened { IfOk result (λ _. is_open.new ≡ true) }
+{
+    if answer.is_ok() {
+        *is_open = true;
+    }
+    answer
 }
 
 impl RawFiles for MemFiles {
@@ -299,47 +270,47 @@ impl RawFiles for MemFiles {
     } };
 
     fn open(&mut self, name: &str) -> io::Result<()> {
-        let answer = self.answer_open();
+        let answer = opened(&mut self.is_open, self.machine.open());
         self.calls.note_open(name, answer)
     }
 
     fn read(&mut self, bytes: &mut [u8]) -> io::Result<usize> {
-        let answer = self.answer_read(bytes);
+        let answer = self.machine.read(bytes);
         self.calls.note_read(bytes, answer)
     }
 
     fn is_file(&mut self, name: &str) -> io::Result<bool> {
-        let answer = self.answer_look();
+        let answer = self.machine.look();
         self.calls.note_look(name, answer)
     }
 
     fn create(&mut self, name: &str) -> io::Result<()> {
-        let answer = self.answer_create();
+        let answer = opened(&mut self.is_open, self.machine.create());
         self.calls.note_create(name, answer)
     }
 
     fn create_spare(&mut self, spare: &str) -> io::Result<()> {
-        let answer = self.answer_create_spare();
+        let answer = opened(&mut self.is_open, self.machine.create_spare());
         self.calls.note_create_spare(spare, answer)
     }
 
     fn write(&mut self, bytes: &[u8]) -> io::Result<usize> {
-        let answer = self.answer_write(bytes);
+        let answer = self.machine.write(bytes);
         self.calls.note_write(bytes, answer)
     }
 
     fn sync(&mut self) -> io::Result<()> {
-        let answer = self.answer_sync();
+        let answer = self.machine.sync();
         self.calls.note_sync(answer)
     }
 
     fn rename(&mut self, spare: &str, name: &str) -> io::Result<()> {
-        let answer = self.answer_rename();
+        let answer = self.machine.rename();
         self.calls.note_rename(spare, name, answer)
     }
 
     fn remove(&mut self, spare: &str) -> io::Result<()> {
-        let answer = self.answer_remove();
+        let answer = self.machine.remove();
         self.calls.note_remove(spare, answer)
     }
 

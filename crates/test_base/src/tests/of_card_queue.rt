@@ -7,24 +7,15 @@ use std::test::Fail;
 use std::thread;
 
 #[test]
-fn a_take_looks_past_what_a_meeting_told(rt: HostRuntime) -> Result<(), Fail> {
-    let (mut put, mut take) = queue(rt.alloc(), &[], 1)?;
-    put.put(7);
-    assert_same(&rt, take.take(), Some(7));
-    drop(put);
-    drop(take);
-    Ok(())
-}
-
-#[test]
 fn a_plain_queue_gives_its_front_token(rt: HostRuntime) -> Result<(), Fail> {
     let mut plain = Plain::new(rt.alloc(), &[0], 2)?;
-    assert_same(&rt, plain.len(), 1);
-    assert_same(&rt, plain.take(), Some(0));
-    assert_same(&rt, plain.take(), None);
+    let waiting = plain.len();
+    let first = plain.take();
+    let none = plain.take();
     plain.put(7);
-    assert_same(&rt, plain.take(), Some(7));
+    let given = [Some(Date::from(waiting)), first, none, plain.take()];
     drop(plain);
+    assert_same(&rt, given, [Some(1), Some(0), None, Some(7)]);
     Ok(())
 }
 
@@ -52,6 +43,7 @@ fn take_some(mut take: Take, before: u32) -> (Take, u32) {
     (take, taken)
 }
 
+// What the take finds behind the join no meeting told.
 #[test]
 fn two_threads_move_every_date_in_order(rt: HostRuntime) -> Result<(), Fail> {
     let (put, take) = queue(rt.alloc(), &[], DATES)?;

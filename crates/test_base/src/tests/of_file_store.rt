@@ -1,144 +1,140 @@
 use crate::tests::assert_same::assert_same;
 use crate::tests::expect_ok::expect_ok;
 use crate::tests::leak::leak;
-use crate::tests::mem_files::{Failing, MemFile, MemFiles};
-use crate::tests::texts::{NO_TEXT, TEXTS, rank_among};
+use crate::tests::mem_files::{Faults, MemFiles};
+use crate::tests::texts::{NO_TEXT, OLD, TEXTS, rank_among};
 use line_io::{FileStore, Store, StoreError};
 use std::alloc::Global;
 use std::process::Abort;
 
-/// A store over one file, which holds `old`. It is leaked.
-fn store_of(
-    rt: &impl Abort,
-    alloc: Global,
-    most: usize,
-    failing: Failing,
-    bars_spare: bool,
-) -> &'static mut FileStore<MemFiles> {
-    let old = expect_ok(rt, MemFile::of(alloc, b"old"));
-    let files = MemFiles::new(alloc, Some(old), most, failing, bars_spare);
+/// A store over one file, which holds `OLD`, of a machine with these faults. It is leaked.
+fn store_of(rt: &impl Abort, alloc: Global, faults: Faults) -> &'static mut FileStore<MemFiles> {
+    let files = expect_ok(rt, MemFiles::new(alloc, OLD, faults));
     expect_ok(rt, leak(alloc, FileStore::over(alloc, files)))
 }
 
-/// What a read of the file answers.
-fn read(store: &mut FileStore<MemFiles>, alloc: Global, limit: u64) -> Result<Vec<u8>, StoreError> {
-    store.read(alloc, "a", limit)
+/// The rank of what a read of the file answers.
+fn rank_read(
+    store: &mut FileStore<MemFiles>,
+    alloc: Global,
+    limit: u64,
+) -> Result<usize, StoreError> {
+    match store.read(alloc, "a", limit) {
+        Ok(bytes) => {
+            let rank = rank_among(&bytes);
+            drop(bytes);
+            Ok(rank)
+        }
+        Err(error) => Err(error),
+    }
 }
 
 /// Writes the three texts, and answers how many writes were done, and the rank of the last one that was, or 3.
-fn write_all(store: &mut FileStore<MemFiles>) -> (u32, usize) {
-    let mut count = 0u32;
-    let mut last = 3;
+fn write_all(store: &mut FileStore<MemFiles>) -> (usize, usize) {
+    let mut done = (0usize, 3);
     for (rank, text) in TEXTS.iter().enumerate() {
         if store.write("a", text).is_ok() {
-            count = count.saturating_add(1);
-            last = rank;
+            done = (done.0.saturating_add(1), rank);
         }
     }
-    (count, last)
-}
-
-/// The rank of what the file holds among the texts, 3 for `old`, or `NO_TEXT` for anything else.
-fn rank_of(store: &FileStore<MemFiles>, after_crash: bool) -> usize {
-    match store.files().content(after_crash) {
-        Some(b"old") => 3,
-        Some(bytes) => rank_among(bytes),
-        None => NO_TEXT,
-    }
+    done
 }
 
 #[test]
 fn writes_and_reads_go_on_after_short_calls(rt: HostRuntime) {
     let alloc = rt.alloc();
     for most in [1, 3, 64] {
-        let store = store_of(&rt, alloc, most, Failing::None, false);
+        let faults = Faults {
+            calls: (1, 0),
+            most,
+            bars_spare: false,
+        };
+        let store = store_of(&rt, alloc, faults);
         assert_same(&rt, write_all(store), (3, 2));
-        let bytes = expect_ok(&rt, read(store, alloc, 5));
-        assert!(rt; bytes.as_slice() == TEXTS[2]);
-        drop(bytes);
-        assert_same(&rt, read(store, alloc, 4).err(), Some(StoreError::TooLong));
+        assert_same(&rt, rank_read(store, alloc, 5), Ok(2));
+        assert_same(&rt, rank_read(store, alloc, 4), Err(StoreError::TooLong));
     }
 }
 
-/// Whether three writes end as they should, where this one of their calls fails. Each asks for six calls: to look at
-/// the name, to remove a spare file, to make one, to write it, to sync it, and to rename it. Where the second fails,
-/// all goes well.
-fn ends_well_where_one_fails(rt: &impl Abort, alloc: Global, number: u32) -> bool {
-    let store = store_of(rt, alloc, 64, Failing::One(number), false);
+/// How three writes end of which these calls fail: how many were done, the rank of the last one that was, of what the
+/// file holds then, and of what a crash leaves of it, and whether a spare file is left.
+fn ends_of(rt: &impl Abort, alloc: Global, calls: (u32, u32), bars_spare: bool) -> [usize; 5] {
+    let faults = Faults {
+        calls,
+        most: 64,
+        bars_spare,
+    };
+    let store = store_of(rt, alloc, faults);
     let (count, last) = write_all(store);
-    let goes_well = number % 6 == 2;
-    let is_last = number > 12 && !goes_well;
-    count == if goes_well { 3 } else { 2 }
-        && last == if is_last { 1 } else { 2 }
-        && rank_of(store, false) == last
-        && rank_of(store, true) == last
-        && !store.files().has_spare()
+    let files = store.files();
+    let now = rank_among(files.content(false));
+    let left = rank_among(files.content(true));
+    [count, last, now, left, usize::from(files.has_spare())]
 }
 
+// Each write asks for six calls: to look at the name, to remove a spare file, to make one, to write it, to sync it, and
+// to rename it. Where the second fails, all goes well.
 #[test]
 fn each_call_that_fails_is_a_fault_of_its_write_alone_and_leaves_the_file_as_it_was(
     rt: HostRuntime,
 ) {
-    let alloc = rt.alloc();
     for number in 1..=18 {
-        assert!(rt; ends_well_where_one_fails(&rt, alloc, number));
+        let goes_well = number % 6 == 2;
+        let count = if goes_well { 3 } else { 2 };
+        let last = if number > 12 && !goes_well { 1 } else { 2 };
+        let ends = ends_of(&rt, rt.alloc(), (number, number), false);
+        assert_same(&rt, ends, [count, last, last, last, 0]);
     }
 }
 
-/// Whether a machine that stops at this one of the calls of three writes leaves the last text that was acknowledged.
-fn stands_where_it_stops(rt: &impl Abort, alloc: Global, number: u32) -> bool {
-    let store = store_of(rt, alloc, 64, Failing::From(number), false);
-    let (count, last) = write_all(store);
-    count == number.saturating_sub(1) / 6
-        && last == [3, 0, 1, 2][count.min(3) as usize]
-        && rank_of(store, true) == last
-}
-
+// A machine that stops behind so many calls. Behind the third of a write it leaves the spare file.
 #[test]
 fn a_stop_at_any_call_leaves_what_was_acknowledged(rt: HostRuntime) {
-    let alloc = rt.alloc();
-    for number in 1..=19 {
-        assert!(rt; stands_where_it_stops(&rt, alloc, number));
+    for calls in 0..=18u32 {
+        let count = calls as usize / 6;
+        let last = [3, 0, 1, 2][count];
+        let spare = usize::from(calls % 6 >= 3);
+        let ends = ends_of(&rt, rt.alloc(), (calls + 1, u32::MAX), false);
+        assert_same(&rt, ends, [count, last, last, last, spare]);
     }
 }
 
-/// What is left of three writes in place, where one of their calls fails, and after a crash. Each asks for six calls:
-/// to look at the name, to remove and to make a spare file, to empty the file, to write it, and to sync it.
-fn left_in_place(rt: &impl Abort, alloc: Global, failing: Failing) -> (u32, usize, usize) {
-    let store = store_of(rt, alloc, 64, failing, true);
-    let (count, _) = write_all(store);
-    (count, rank_of(store, false), rank_of(store, true))
-}
+/// Which call of three writes in place fails, and how they end. Each asks for six calls: to look at the name, to remove
+/// and to make a spare file, to empty the file, to write it, and to sync it.
+const IN_PLACE: [(u32, [usize; 5]); 4] = [
+    (19, [3, 2, 2, 2, 0]),
+    (16, [2, 1, 1, 1, 0]),
+    (17, [2, 1, NO_TEXT, NO_TEXT, 0]),
+    (18, [2, 1, 2, NO_TEXT, 0]),
+];
 
 #[test]
 fn a_file_is_written_in_its_place_where_no_other_can_be_made(rt: HostRuntime) {
-    let alloc = rt.alloc();
-    assert_same(&rt, left_in_place(&rt, alloc, Failing::None), (3, 2, 2));
-    assert_same(&rt, left_in_place(&rt, alloc, Failing::One(16)), (2, 1, 1));
-    assert_same(
-        &rt,
-        left_in_place(&rt, alloc, Failing::One(17)),
-        (2, NO_TEXT, NO_TEXT),
-    );
-    assert_same(
-        &rt,
-        left_in_place(&rt, alloc, Failing::One(18)),
-        (2, 2, NO_TEXT),
-    );
+    for (number, ends) in &IN_PLACE {
+        let have = ends_of(&rt, rt.alloc(), (*number, *number), true);
+        assert_same(&rt, have, *ends);
+    }
 }
 
-/// What a read answers of which this call fails: to open, to read, and to find the end.
-fn read_where_one_fails(rt: &impl Abort, alloc: Global, number: u32) -> Option<StoreError> {
-    let store = store_of(rt, alloc, 64, Failing::One(number), false);
-    read(store, alloc, 64).err()
+/// The rank of what a read answers of which this call fails: to open, to read, and to find the end.
+fn read_where_one_fails(rt: &impl Abort, alloc: Global, number: u32) -> Result<usize, StoreError> {
+    let faults = Faults {
+        calls: (number, number),
+        most: 64,
+        bars_spare: false,
+    };
+    rank_read(store_of(rt, alloc, faults), alloc, 64)
 }
 
 #[test]
 fn a_read_of_which_a_call_fails_answers_no_bytes(rt: HostRuntime) {
-    let alloc = rt.alloc();
-    for number in 1..=3 {
-        let answer = read_where_one_fails(&rt, alloc, number);
-        assert_same(&rt, answer, Some(StoreError::Failed));
+    for number in 1..=4 {
+        let wanted = if number < 4 {
+            Err(StoreError::Failed)
+        } else {
+            Ok(3)
+        };
+        let answer = read_where_one_fails(&rt, rt.alloc(), number);
+        assert_same(&rt, answer, wanted);
     }
-    assert_same(&rt, read_where_one_fails(&rt, alloc, 4), None);
 }

@@ -3,31 +3,23 @@ ghost use Rattle.std.specs.Prelude.{◌≡◌, []};
 use crate::tests::assert_same::assert_same;
 use line_base::Date;
 use room_ring::{Full, RoomPut, RoomTake, room_ring};
-use std::process::Abort;
 use std::test::Fail;
 use std::thread;
-
-/// Asserts that a ring gives these tokens in order, and then none.
-fn assert_gives(rt: &impl Abort, take: &mut RoomTake, dates: &[Date]) {
-    for date in dates {
-        assert_same(rt, take.take(), Some(*date));
-    }
-    assert_same(rt, take.take(), None);
-}
 
 #[test]
 fn a_full_ring_refuses_until_a_token_is_taken(rt: HostRuntime) -> Result<(), Fail> {
     let (mut put, mut take) = room_ring(rt.alloc(), &[0], 2)?;
-    assert_same(&rt, put.space(), 1);
-    assert_same(&rt, put.put(5), Ok(()));
-    assert_same(&rt, put.put(7), Err(Full));
-    assert_same(&rt, take.take(), Some(0));
-    assert_same(&rt, put.put(7), Ok(()));
-    assert_gives(&rt, &mut take, &[5, 7]);
-    assert_same(&rt, put.space(), 0);
-    assert_same(&rt, put.look(), 2);
+    let space = put.space();
+    let (some, full) = (put.put(5), put.put(7));
+    let first = take.take();
+    let puts = [some, full, put.put(7)];
+    let takes = [first, take.take(), take.take(), take.take()];
+    let spaces = [space, put.space(), put.look()];
     drop(put);
     drop(take);
+    assert_same(&rt, puts, [Ok(()), Err(Full), Ok(())]);
+    assert_same(&rt, takes, [Some(0), Some(5), Some(7), None]);
+    assert_same(&rt, spaces, [1, 0, 2]);
     Ok(())
 }
 
@@ -75,7 +67,6 @@ fn take_all(mut take: RoomTake) -> u32 {
 fn two_threads_move_every_date_in_order_through_a_small_ring(rt: HostRuntime) -> Result<(), Fail> {
     let (put, take) = room_ring(rt.alloc(), &[], 3)?;
     let (given, taken) = thread::join(&rt, move || put_all(put), move || take_all(take));
-    assert_same(&rt, given, DATES);
-    assert_same(&rt, taken, DATES);
+    assert_same(&rt, [given, taken], [DATES; 2]);
     Ok(())
 }
