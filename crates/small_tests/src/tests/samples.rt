@@ -2,16 +2,9 @@
 ghost use Rattle.std.specs.Prelude.{◌≡◌, ◌≤◌, length, All, IfOk};
 ghost use Rattle.event_graph.specs.Limits.{IsWithinLimits};
 ghost use Rattle.line_base.specs.declared.limits.TheConstants.{MAX_ARCS, MAX_CARDS, MAX_TIME};
-ghost use Rattle.plant_model.specs.Graph.{graph};
-ghost use Rattle.plant_model.specs.Sound.{IsSound};
 
-use crate::tests::leak::leak;
 use event_graph::{Arc, Graph, GraphError, Parts};
 use line_base::{Items, Label, MAX_ARCS, MAX_CARDS, MAX_TIME, Times};
-use line_graph::graph_of;
-use live_check::{Live, rank};
-use plant_file::{complete_draft, read_plant};
-use plant_model::Plant;
 use std::alloc::{AllocError, Global};
 use std::test::Fail;
 
@@ -35,23 +28,6 @@ pub const ONE_CARD: &str = "cards = 1";
 /// What is said of a stage with one part in stock.
 pub const ONE_PART: &str = "stock = 1";
 
-/// What ends a test whose plant is refused.
-const REFUSED: &str = "the plant is refused";
-
-/// The plant of a plant file that names no other file.
-fn plant_of(alloc: Global, file: &str) -> Result<Plant, Fail>
-    ensures { IfOk result IsSound }
-{
-    let draft = read_plant(alloc, file.as_bytes()).ok().ok_or(REFUSED)?;
-    if draft.demands_file().is_some() || draft.times_file().is_some() {
-        return Err("the plant names a file".into());
-    }
-    let plant = complete_draft(alloc, draft, None, None)
-        .ok()
-        .ok_or(REFUSED)?;
-    Ok(plant)
-}
-
 /// The file of a plant of two stages, `cut` with the machine `saw`, and `weld` with the machine `torch`, by the lines
 /// of its policy, the dates of its demands, and what else is said of each stage.
 pub fn stages_file(
@@ -70,57 +46,6 @@ pub fn stages_file(
     )?;
     write!(file, "[[stage]]\nname = \"weld\"\n{weld}\n{torch}")?;
     Ok(file)
-}
-
-/// The plant of the two stages under kanban, with a card each and three demands.
-pub fn two_stages(alloc: Global) -> Result<Plant, Fail>
-    ensures { IfOk result IsSound }
-{
-    let file = stages_file(alloc, KANBAN, THREE_DEMANDS, ONE_CARD, ONE_CARD)?;
-    plant_of(alloc, file.as_str())
-}
-
-/// The live graph of a plant.
-pub fn live_of(alloc: Global, plant: &Plant) -> Result<Live, Fail>
-    requires { IsSound plant.now }
-    ensures { IfOk result (λ live. live.graph ≡ graph plant.now) }
-{
-    let graph = graph_of(alloc, plant)?;
-    Ok(rank(alloc, graph).ok().ok_or("the graph isn't live")?)
-}
-
-// The graphs below are leaked: no test lets one go, since each place at which a value of many lists is let go is slow
-// to prove.
-
-/// The live graph of the two stages under kanban with a card each and these demands.
-fn live_of_stages(alloc: Global, demands: &str) -> Result<&'static Live, Fail> {
-    let file = stages_file(alloc, KANBAN, demands, ONE_CARD, ONE_CARD)?;
-    let plant = plant_of(alloc, file.as_str())?;
-    let live = live_of(alloc, &plant);
-    drop(plant);
-    Ok(leak(alloc, live?)?)
-}
-
-/// The live graph of the two stages.
-pub fn live_stages(alloc: Global) -> Result<&'static Live, Fail> {
-    live_of_stages(alloc, THREE_DEMANDS)
-}
-
-/// The live graph of the two stages with forty demands.
-pub fn live_forty_jobs(alloc: Global) -> Result<&'static Live, Fail> {
-    live_of_stages(alloc, FORTY_DEMANDS)
-}
-
-/// The live graph of two stations, a feed whose tokens come 4 later, and a station that gives its token back to itself
-/// this much later.
-pub fn live_pair(alloc: Global, delay: u64) -> Result<&'static Live, Fail> {
-    let own = Arc {
-        worked: true,
-        ..plain(1, 1, 1)
-    };
-    let graph = two_stations(alloc, &[plain(0, 1, 0), own], &[4, delay])??;
-    let live = rank(alloc, graph).ok().ok_or("the graph isn't live")?;
-    Ok(leak(alloc, live)?)
 }
 
 /// An arc that isn't worked.

@@ -1,5 +1,5 @@
 use Rattle.std.proofs.Common.{◌≡◌, ◌+◌, length}
-use Rattle.test_base.proofs.tests.of_card_queue.put_all.Given as goal
+use Rattle.small_tests.proofs.tests.of_card_queue.put_all.Given as goal
 
 abbrev pub invariant-loop-n : goal.invariant-loop-n
 invariant-loop-n l = record {

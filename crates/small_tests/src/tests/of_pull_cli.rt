@@ -120,14 +120,27 @@ fn output_over<R: Abort + Threads + Wait + Sync, G: Gate>(
     gate: &G,
     disk: &mut MemDisk,
 ) -> Vec<u8> {
+    let (status, report) = answer_over(rt, alloc, line, store, gate, disk);
+    assert_same(rt, status, 0);
+    report
+}
+
+/// The status and the output of what the words of a line ask for over a store and a disk, through a gate.
+fn answer_over<R: Abort + Threads + Wait + Sync, G: Gate>(
+    rt: &R,
+    alloc: Global,
+    line: &str,
+    store: &mut MemStore,
+    gate: &G,
+    disk: &mut MemDisk,
+) -> (u8, Vec<u8>) {
     let words = expect_ok(rt, words_of(alloc, line));
     let mut sink = expect_ok(rt, MemSink::new(alloc, 100_000, Vec::new(alloc), 0));
     let status = status_of(rt, alloc, &words, store, &mut sink, gate, disk);
     drop(words);
-    assert_same(rt, status, 0);
     let report = expect_ok(rt, Vec::from_slice(alloc, sink.written()));
     drop(sink);
-    report
+    (status, report)
 }
 
 /// How often the feed steps at the least and at the most in a run of two workers, of which the second begins when the
@@ -258,4 +271,47 @@ fn a_worker_stays_in_its_thread_between_sweeps(rt: HostRuntime) {
     assert_writes_report(&rt, rt.alloc(), "run a.toml --stand --workers 2", &gate);
     assert!(rt; gate.is_open());
     assert_same(&rt, gate.has_missed(), false);
+}
+
+/// Whether a run that goes on from what this crash leaves of a disk finds nothing saved. Else it is to write this report.
+fn finds_nothing<R: Abort + Threads + Wait + Sync>(
+    rt: &R,
+    alloc: Global,
+    store: &mut MemStore,
+    disk: &MemDisk,
+    (call, pick): (u32, u8),
+    whole: &[u8],
+) -> bool {
+    assert!(rt; call <= disk.calls() && pick <= 2);
+    let left = expect_ok(rt, disk.crash(call, pick));
+    let left = expect_ok(rt, leak(alloc, left));
+    let (status, report) = answer_over(rt, alloc, "resume a.toml --slots", store, &FreeGate, left);
+    let is_blank = status == 14;
+    let wanted = if is_blank { b"nothing saved\n" } else { whole };
+    assert_same(
+        rt,
+        (is_blank || status == 0) && report.as_slice() == wanted,
+        true,
+    );
+    drop(report);
+    is_blank
+}
+
+#[test]
+fn a_run_that_crashed_is_resumed(rt: HostRuntime) {
+    let alloc = rt.alloc();
+    let mut store = stages_store(&rt, alloc, KANBAN, FORTY_DEMANDS, ONE_CARD);
+    let disk = expect_ok(&rt, leak(alloc, MemDisk::new(alloc, Vec::new(alloc))));
+    let line = "run a.toml --every 50 --slots";
+    let whole = output_over(&rt, alloc, line, &mut store, &FreeGate, disk);
+    assert_delivers_forty(&rt, alloc, &whole);
+    let mut was_blank = false;
+    for call in 0..disk.calls() {
+        for pick in 0..3 {
+            was_blank |= finds_nothing(&rt, alloc, &mut store, disk, (call, pick), &whole);
+        }
+    }
+    drop(whole);
+    drop(store);
+    assert_same(&rt, was_blank, true);
 }

@@ -1,5 +1,5 @@
 use Rattle.std.proofs.Common.{◌≤◌}
-use Rattle.test_base.proofs.tests.of_room_ring.take_all.Given as goal
+use Rattle.small_tests.proofs.tests.of_room_ring.take_all.Given as goal
 
 abbrev pub invariant-loop : goal.invariant-loop
 invariant-loop l = l.taken ≤ 10000

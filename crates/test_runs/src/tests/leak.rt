@@ -1,7 +1,0 @@
-use std::alloc::{AllocError, Global};
-
-/// A value that is leaked, as the graphs of `samples` are: no test lets it go. What is known of it is let go
-/// here.
-pub fn leak<'a, T: Drop + 'a>(alloc: Global, value: T) -> Result<&'a mut T, AllocError> {
-    Ok(Box::leak(Box::new(alloc, value)?))
-}
