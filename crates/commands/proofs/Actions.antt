@@ -10,8 +10,8 @@ use Rattle.line_io.specs.StoreView.{StoreView}
 use Rattle.line_io.specs.declared.store.StoreError.{StoreError}
 use Rattle.line_io.specs.declared.store.StoreError.TheVariants as store_error
 use Rattle.line_runs.specs.Store.{AsksToWrite}
-use Rattle.refusals.specs.declared.refusal.Refusal.{Refusal}
-use Rattle.refusals.specs.declared.refusal.Refusal.TheVariants.{NoMemory}
+use Rattle.live_plant.specs.declared.refusals.refusal.Refusal.{Refusal}
+use Rattle.live_plant.specs.declared.refusals.refusal.Refusal.TheVariants.{NoMemory}
 use Rattle.live_plant.specs.Actions.{DiskOver, Action, with_asked, LeavesFile, RaisesCount, IsFailedWrite, HasCause}
 use Rattle.live_plant.specs.Actions.{Does, DoesOnStore, DoesOnDisk}
 use Rattle.live_plant.specs.Outside.{StoreOver, store_over, IsOfFile}

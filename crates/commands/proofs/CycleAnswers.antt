@@ -6,9 +6,9 @@ use Rattle.cycle_time.specs.Certificate.{IsCycleRefusal}
 use Rattle.cycle_time.specs.declared.certificate.CycleError.{CycleError}
 use Rattle.plant_model.specs.Graph.{graph}
 use Rattle.plant_model.specs.declared.plant.Plant.{Plant}
-use Rattle.refusals.specs.Refusals.{cycle_refusal}
-use Rattle.refusals.specs.declared.refusal.Refusal.{Refusal}
-use Rattle.refusals.specs.declared.refusal.Refusal.TheVariants.{NoMemory}
+use Rattle.live_plant.specs.Refusals.{cycle_refusal}
+use Rattle.live_plant.specs.declared.refusals.refusal.Refusal.{Refusal}
+use Rattle.live_plant.specs.declared.refusals.refusal.Refusal.TheVariants.{NoMemory}
 
 pub cycle_refused : (p : Plant) (error : CycleError) (refusal : Refusal) → IsCycleRefusal (graph p) error →
     (refusal ≡ NoMemory) ⊎ (refusal ≡ cycle_refusal (graph p) error) → OrNoMemory (IsCycled p) (said refusal)

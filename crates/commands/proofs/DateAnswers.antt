@@ -20,9 +20,9 @@ use Rattle.line_chart.specs.Picture.{Picture, IsDrawn, MayBeAskedFor, bars_and_l
 use Rattle.line_core.specs.Schedule.{station_with}
 use Rattle.plant_model.specs.Graph.{graph}
 use Rattle.plant_model.specs.declared.plant.Plant.{Plant}
-use Rattle.refusals.specs.Refusals.{latest_refusal}
-use Rattle.refusals.specs.declared.refusal.Refusal.{Refusal}
-use Rattle.refusals.specs.declared.refusal.Refusal.TheVariants.{NoDate, TooLarge}
+use Rattle.live_plant.specs.Refusals.{latest_refusal}
+use Rattle.live_plant.specs.declared.refusals.refusal.Refusal.{Refusal}
+use Rattle.live_plant.specs.declared.refusals.refusal.Refusal.TheVariants.{NoDate, TooLarge}
 
 -- the chain of causes of a date
 pub chains : (p : Plant) (station job : ℕ) (rows : List (List ℕ)) (c : Caused) → c.plant ≡ p →

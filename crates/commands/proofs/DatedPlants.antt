@@ -15,7 +15,7 @@ use Rattle.live_plant.specs.declared.live_plant.LivePlant.{LivePlant}
 use Rattle.plant_model.specs.Graph.{graph}
 use Rattle.plant_model.specs.Sound.{IsSound}
 use Rattle.plant_model.specs.declared.plant.Plant.{Plant}
-use Rattle.refusals.specs.declared.refusal.Refusal.{Refusal}
+use Rattle.live_plant.specs.declared.refusals.refusal.Refusal.{Refusal}
 
 module _ (line : LivePlant) (dated : DatedPlant) (is : IsLivePlant line) (of : IsDatedOf line dated) where
   sound : IsSound dated.plant

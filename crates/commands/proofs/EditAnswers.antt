@@ -13,9 +13,9 @@ use Rattle.line_core.specs.Schedule.{lines_of}
 use Rattle.live_check.specs.Order.{LiveGraph}
 use Rattle.plant_model.specs.Graph.{graph}
 use Rattle.plant_model.specs.declared.plant.Plant.{Plant}
-use Rattle.refusals.specs.Refusals.{edits_refusal}
-use Rattle.refusals.specs.declared.refusal.Refusal.{Refusal}
-use Rattle.refusals.specs.declared.refusal.Refusal.TheVariants.{NoMemory}
+use Rattle.live_plant.specs.Refusals.{edits_refusal}
+use Rattle.live_plant.specs.declared.refusals.refusal.Refusal.{Refusal}
+use Rattle.live_plant.specs.declared.refusals.refusal.Refusal.TheVariants.{NoMemory}
 use Rattle.what_if.specs.Edited.{Inputs, inputs_of}
 use Rattle.what_if.specs.Edits.{Stopped, EditsGive}
 use Rattle.what_if.specs.Page.{Page}

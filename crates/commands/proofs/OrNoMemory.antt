@@ -3,8 +3,8 @@ use Rattle.std.proofs.Common.{◌≡◌, ◌⊎◌, ap}
 use Rattle.std.specs.Prelude.{Result, Err}
 use Rattle.answers.specs.declared.answer.Answer.{Answer}
 use Rattle.commands.specs.Answers.{IsRefusedFor}
-use Rattle.refusals.specs.declared.refusal.Refusal.{Refusal}
-use Rattle.refusals.specs.declared.refusal.Refusal.TheVariants.{NoMemory}
+use Rattle.live_plant.specs.declared.refusals.refusal.Refusal.{Refusal}
+use Rattle.live_plant.specs.declared.refusals.refusal.Refusal.TheVariants.{NoMemory}
 
 -- a refusal as an answer
 abbrev pub said : Refusal → Result Answer Refusal

@@ -17,10 +17,10 @@ use Rattle.line_runs.specs.declared.error.ResumeError.TheVariants.{Checkpoint}
 use Rattle.line_runs.specs.declared.error.ResumeError.TheVariants as resume_error
 use Rattle.plant_model.specs.declared.plant.Plant.{Plant}
 use Rattle.plant_model.specs.Graph.{graph}
-use Rattle.refusals.proofs.CheckpointErrors.{names_station}
-use Rattle.refusals.specs.Checkpoints.{checkpoint_refusal, NamesStation}
-use Rattle.refusals.specs.declared.refusal.Refusal.{Refusal}
-use Rattle.refusals.specs.declared.refusal.Refusal.TheVariants.{Disk, NoMemory, NothingSaved}
+use Rattle.live_plant.proofs.CheckpointErrors.{names_station}
+use Rattle.live_plant.specs.Checkpoints.{checkpoint_refusal, NamesStation}
+use Rattle.live_plant.specs.declared.refusals.refusal.Refusal.{Refusal}
+use Rattle.live_plant.specs.declared.refusals.refusal.Refusal.TheVariants.{Disk, NoMemory, NothingSaved}
 use Rattle.live_plant.specs.Actions.{DiskOver, disk_over, HasCause, DoesOnDisk}
 use Rattle.live_plant.specs.Outside.{StoreOver}
 use Rattle.commands.proofs.Actions.{uses_disk}

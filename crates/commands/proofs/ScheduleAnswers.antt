@@ -12,9 +12,9 @@ use Rattle.line_core.specs.declared.error.ReplayError.{ReplayError}
 use Rattle.line_core.specs.declared.error.ReplayError.TheVariants as replay
 use Rattle.plant_model.specs.Graph.{graph}
 use Rattle.plant_model.specs.declared.plant.Plant.{Plant}
-use Rattle.refusals.specs.Schedules.{schedule_refusal}
-use Rattle.refusals.specs.declared.refusal.Refusal.{Refusal}
-use Rattle.refusals.specs.declared.refusal.Refusal.TheVariants.{NoMemory}
+use Rattle.live_plant.specs.Schedules.{schedule_refusal}
+use Rattle.live_plant.specs.declared.refusals.refusal.Refusal.{Refusal}
+use Rattle.live_plant.specs.declared.refusals.refusal.Refusal.TheVariants.{NoMemory}
 
 -- a schedule that was followed to its end
 pub end_reported : (p : Plant) (schedule : List ℕ) (end : State) (answer : Result Answer Refusal) →

@@ -17,8 +17,8 @@ use Rattle.line_workers.specs.Line.{WorkLine}
 use Rattle.live_check.specs.Order.{LiveGraph}
 use Rattle.plant_model.specs.declared.plant.Plant.{Plant}
 use Rattle.plant_model.specs.Graph.{graph}
-use Rattle.refusals.specs.declared.refusal.Refusal.{Refusal}
-use Rattle.refusals.specs.declared.refusal.Refusal.TheVariants.{Disk, NoMemory}
+use Rattle.live_plant.specs.declared.refusals.refusal.Refusal.{Refusal}
+use Rattle.live_plant.specs.declared.refusals.refusal.Refusal.TheVariants.{Disk, NoMemory}
 use Rattle.live_plant.specs.Actions.{DiskOver, disk_over, HasCause, DoesOnDisk}
 use Rattle.live_plant.specs.Outside.{StoreOver}
 use Rattle.commands.proofs.Actions.{no_memory_caused, uses_disk}

@@ -26,8 +26,8 @@ use Rattle.plant_model.proofs.SoundPlants.{HasSoundSizes-sound}
 use Rattle.plant_model.specs.declared.plant.Plant.{Plant}
 use Rattle.plant_model.specs.Graph.{graph, labels}
 use Rattle.plant_model.specs.Sound.{IsSound}
-use Rattle.refusals.specs.declared.refusal.Refusal.{Refusal}
-use Rattle.refusals.specs.declared.refusal.Refusal.TheVariants.{NoMemory}
+use Rattle.live_plant.specs.declared.refusals.refusal.Refusal.{Refusal}
+use Rattle.live_plant.specs.declared.refusals.refusal.Refusal.TheVariants.{NoMemory}
 use Rattle.live_plant.specs.Actions.{DiskOver, HasCause, DoesOnStore}
 use Rattle.live_plant.specs.Outside.{StoreOver, store_over}
 use Rattle.commands.proofs.Actions.{no_memory_caused, does_also, leaves_store}

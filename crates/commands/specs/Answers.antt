@@ -42,10 +42,11 @@ use Rattle.line_report.specs.SummaryText.{summary}
 use Rattle.plant_model.specs.declared.plant.Plant.{Plant}
 use Rattle.plant_model.specs.Graph.{graph}
 use Rattle.answers.specs.CheckText.{check_text}
-use Rattle.refusals.specs.Refusals.{cycle_refusal, sizing_refusal}
-use Rattle.refusals.specs.Schedules.{schedule_refusal}
-use Rattle.refusals.specs.declared.refusal.Refusal.{Refusal}
-use Rattle.refusals.specs.declared.refusal.Refusal.TheVariants.{NoSingleCount, NotEdited, NoDate, Late, TooLarge}
+use Rattle.live_plant.specs.Refusals.{cycle_refusal, sizing_refusal}
+use Rattle.live_plant.specs.Schedules.{schedule_refusal}
+use Rattle.live_plant.specs.declared.refusals.refusal.Refusal.{Refusal}
+use Rattle.live_plant.specs.declared.refusals.refusal.Refusal.TheVariants.{NoSingleCount, NotEdited, NoDate, Late}
+use Rattle.live_plant.specs.declared.refusals.refusal.Refusal.TheVariants.{TooLarge}
 use Rattle.what_if.specs.Edited.{Inputs, inputs_of}
 use Rattle.what_if.specs.Edits.{EditsGive}
 use Rattle.what_if.specs.Page.{Page}

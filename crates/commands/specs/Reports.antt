@@ -10,8 +10,8 @@ use Rattle.line_report.specs.ReportText.{report}
 use Rattle.line_runs.specs.Resume.{IsCheckpoint}
 use Rattle.plant_model.specs.declared.plant.Plant.{Plant}
 use Rattle.plant_model.specs.Graph.{graph}
-use Rattle.refusals.specs.Checkpoints.{checkpoint_refusal}
-use Rattle.refusals.specs.declared.refusal.Refusal.{Refusal}
+use Rattle.live_plant.specs.Checkpoints.{checkpoint_refusal}
+use Rattle.live_plant.specs.declared.refusals.refusal.Refusal.{Refusal}
 use Rattle.answers.specs.declared.answer.Answer.{Answer}
 use Rattle.answers.specs.declared.answer.Answer.TheVariants.{Curved}
 

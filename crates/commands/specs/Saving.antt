@@ -23,9 +23,9 @@ use Rattle.line_runs.specs.Stop.{IsShort, IsStopAt}
 use Rattle.line_workers.specs.Line.{WorkLine}
 use Rattle.plant_model.specs.declared.plant.Plant.{Plant}
 use Rattle.plant_model.specs.Graph.{graph}
-use Rattle.refusals.specs.Checkpoints.{checkpoint_refusal, NamesStation}
-use Rattle.refusals.specs.declared.refusal.Refusal.{Refusal}
-use Rattle.refusals.specs.declared.refusal.Refusal.TheVariants.{Disk, NoMemory, NothingSaved, StoreFault}
+use Rattle.live_plant.specs.Checkpoints.{checkpoint_refusal, NamesStation}
+use Rattle.live_plant.specs.declared.refusals.refusal.Refusal.{Refusal}
+use Rattle.live_plant.specs.declared.refusals.refusal.Refusal.TheVariants.{Disk, NoMemory, NothingSaved, StoreFault}
 use Rattle.line_disk.specs.Crash.{bytes_now}
 use Rattle.line_disk.specs.declared.slots.error.SlotError.{SlotError}
 use Rattle.line_disk.specs.declared.slots.error.SlotError.TheVariants as slot_error

@@ -21,8 +21,7 @@ use crate::task::{AloneQuestion, DiskQuestion, FileQuestion, PlantQuestion};
 use answers::Answer;
 use line_disk::Disk;
 use line_workers::Gate;
-use live_plant::LivePlant;
-use refusals::Refusal;
+use live_plant::{LivePlant, Refusal};
 use std::alloc::Global;
 use std::thread::Threads;
 

@@ -10,8 +10,7 @@ use crate::runs::table_of;
 use answers::Answer;
 use line_report::Report;
 use line_workers::Gate;
-use live_plant::{LivePlant, big_plant, live_plant_of};
-use refusals::Refusal;
+use live_plant::{LivePlant, Refusal, big_plant, live_plant_of};
 use std::alloc::Global;
 use std::thread::Threads;
 

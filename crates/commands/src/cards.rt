@@ -6,8 +6,7 @@ ghost use Rattle.live_plant.specs.LivePlant.{IsLivePlant};
 
 use answers::{Answer, Curve, cards_text, each_cards_text};
 use card_sizing::{has_single_count, least_cards, least_each};
-use live_plant::LivePlant;
-use refusals::Refusal;
+use live_plant::{LivePlant, Refusal};
 use std::alloc::Global;
 
 /// The least count of cards with which no job of a live plant waits longer.

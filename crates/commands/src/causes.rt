@@ -10,8 +10,7 @@ use crate::dates::{DatedPlant, find_dates};
 use answers::Answer;
 use date_causes::{Causes, NoDate, station_of};
 use line_base::Text;
-use live_plant::LivePlant;
-use refusals::Refusal;
+use live_plant::{LivePlant, Refusal};
 use std::alloc::Global;
 
 /// The chain of causes of the date of a job at the station of a live plant with this label.

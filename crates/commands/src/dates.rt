@@ -11,9 +11,8 @@ use line_chart::{Chart, ChartError, DateTable};
 use line_core::{Table, run};
 use line_summary::Summary;
 use live_check::Live;
-use live_plant::LivePlant;
+use live_plant::{LivePlant, Refusal};
 use plant_model::Plant;
-use refusals::Refusal;
 use std::alloc::{AllocError, Global};
 
 /// A live plant with its dates.

@@ -7,8 +7,7 @@ ghost use Rattle.live_plant.specs.LivePlant.{IsLivePlant};
 use crate::dates::least_table;
 use answers::{Answer, Changes};
 use live_check::Live;
-use live_plant::LivePlant;
-use refusals::Refusal;
+use live_plant::{LivePlant, Refusal};
 use std::alloc::{AllocError, Global};
 use what_if::{Sheet, follow_edits};
 

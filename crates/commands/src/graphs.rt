@@ -5,8 +5,7 @@ ghost use Rattle.live_plant.specs.LivePlant.{IsLivePlant};
 
 use answers::{Answer, check_text, cycle_text};
 use cycle_time::cycle;
-use live_plant::LivePlant;
-use refusals::{Refusal, cycle_refusal};
+use live_plant::{LivePlant, Refusal, cycle_refusal};
 use std::alloc::Global;
 
 /// How large the graph of a live plant is, and its card circuits.

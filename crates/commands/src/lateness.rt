@@ -8,8 +8,7 @@ ghost use Rattle.plant_model.specs.Graph.{graph};
 use crate::dates::{DatedPlant, find_dates};
 use answers::Answer;
 use latest_dates::latest_dates;
-use live_plant::LivePlant;
-use refusals::Refusal;
+use live_plant::{LivePlant, Refusal};
 use std::alloc::Global;
 
 /// How late each job of a live plant may be for no job to wait longer.

@@ -7,8 +7,7 @@ ghost use Rattle.plant_model.specs.Graph.{graph};
 
 use crate::reports::report_of;
 use answers::Answer;
-use live_plant::LivePlant;
-use refusals::{Refusal, schedule_refusal};
+use live_plant::{LivePlant, Refusal, schedule_refusal};
 use std::alloc::Global;
 
 /// The report of a live plant whose stations fire by a schedule, or why it can't be followed.

@@ -8,8 +8,7 @@ use crate::dates::{DatedPlant, with_dates};
 use answers::Answer;
 use line_core::Table;
 use line_report::Report;
-use live_plant::LivePlant;
-use refusals::Refusal;
+use live_plant::{LivePlant, Refusal};
 use std::alloc::{AllocError, Global};
 
 /// The report of a live plant, over the table that a run of it answered, to be written by this many workers.

@@ -15,8 +15,7 @@ use line_disk::Disk;
 use line_disk::slots::SlotError;
 use line_runs::ResumeError;
 use line_workers::{Gate, Line};
-use live_plant::LivePlant;
-use refusals::{Refusal, checkpoint_refusal};
+use live_plant::{LivePlant, Refusal, checkpoint_refusal};
 use std::alloc::Global;
 use std::thread::Threads;
 

@@ -17,8 +17,7 @@ use line_io::{Store, StoreError};
 use line_runs::{Outcome, save_state};
 use line_workers::{Gate, Line};
 use live_check::Live;
-use live_plant::LivePlant;
-use refusals::{FileName, Refusal};
+use live_plant::{FileName, LivePlant, Refusal};
 use std::alloc::{AllocError, Global};
 use std::thread::Threads;
 

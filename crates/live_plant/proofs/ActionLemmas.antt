@@ -10,8 +10,8 @@ use Rattle.line_io.specs.Faults.{NeverFall}
 use Rattle.line_io.specs.StoreView.{StoreView}
 use Rattle.line_io.specs.declared.store.StoreError.{StoreError}
 use Rattle.line_io.specs.declared.store.StoreError.TheVariants as store_error
-use Rattle.refusals.specs.declared.refusal.Refusal.{Refusal}
-use Rattle.refusals.specs.declared.refusal.Refusal.TheVariants.{NoMemory, StoreFault, TooLong, Disk}
+use Rattle.live_plant.specs.declared.refusals.refusal.Refusal.{Refusal}
+use Rattle.live_plant.specs.declared.refusals.refusal.Refusal.TheVariants.{NoMemory, StoreFault, TooLong, Disk}
 use Rattle.live_plant.specs.Actions.{DiskOver, Action, Plainly, ThenDoes, with_asked, LeavesFile, RaisesCount, Changes, HasCause, Does, DoesOnStore, DoesOnDisk}
 use Rattle.live_plant.specs.Outside.{StoreOver, store_over, with_reads, IsOfFile, IsCaused}
 use Rattle.live_plant.specs.Steps.{Step, Settles, Then, Makes}

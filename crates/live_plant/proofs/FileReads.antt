@@ -11,10 +11,10 @@ use Rattle.line_io.specs.declared.store.StoreError.{StoreError}
 use Rattle.line_io.specs.declared.store.StoreError.TheVariants as store_error
 use Rattle.plant_model.specs.declared.error.PlantError.{PlantError}
 use Rattle.plant_model.specs.declared.error.PlantError.TheVariants as plant_error
-use Rattle.refusals.specs.declared.refusal.Refusal.{Refusal}
+use Rattle.live_plant.specs.declared.refusals.refusal.Refusal.{Refusal}
 use Rattle.plant_model.specs.declared.plant.Plant.{Plant}
 use Rattle.plant_model.specs.Graph.{graph}
-use Rattle.refusals.specs.declared.refusal.Refusal.TheVariants.{NoMemory, Dead, StoreFault, TooLong}
+use Rattle.live_plant.specs.declared.refusals.refusal.Refusal.TheVariants.{NoMemory, Dead, StoreFault, TooLong}
 use Rattle.live_plant.specs.Outside.{StoreOver, store_over, limit_of, with_reads, IsOfFile, IsCaused}
 use Rattle.live_plant.specs.Refused.{IsFaultOf, refusal_of}
 use Rattle.live_plant.specs.Steps.{LooksAt, Makes}

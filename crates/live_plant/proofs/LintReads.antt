@@ -10,8 +10,8 @@ use Rattle.plant_lint.specs.declared.file.FileLint.{FileLint}
 use Rattle.plant_lint.specs.declared.file.FileLint.TheVariants as lint
 use Rattle.plant_model.specs.declared.plant.Plant.{Plant}
 use Rattle.plant_model.specs.Graph.{graph}
-use Rattle.refusals.specs.declared.refusal.Refusal.{Refusal}
-use Rattle.refusals.specs.declared.refusal.Refusal.TheVariants.{Faults, Dead, NoMemory}
+use Rattle.live_plant.specs.declared.refusals.refusal.Refusal.{Refusal}
+use Rattle.live_plant.specs.declared.refusals.refusal.Refusal.TheVariants.{Faults, Dead, NoMemory}
 use Rattle.live_plant.proofs.StepLemmas.{NeedsNoCause}
 use Rattle.live_plant.specs.LintSteps.{IsRefusedWith, IsFileLint, IsCleanOrDead, IsSaid, IsDraftLint}
 use Rattle.live_plant.specs.PlantSteps.{IsDeadRefusal}

@@ -17,8 +17,8 @@ use Rattle.plant_file.specs.Draft.{demands_file}
 use Rattle.plant_file.specs.Finish.{completed_plant}
 use Rattle.plant_file.specs.PlantOfFiles.{bytes_of, plant_of_reading, plant_of}
 use Rattle.plant_file.specs.Reading.{reading}
-use Rattle.refusals.specs.declared.refusal.Refusal.{Refusal}
-use Rattle.refusals.specs.declared.refusal.Refusal.TheVariants.{Refused, Dead, StoreFault, NoMemory, TooLong}
+use Rattle.live_plant.specs.declared.refusals.refusal.Refusal.{Refusal}
+use Rattle.live_plant.specs.declared.refusals.refusal.Refusal.TheVariants.{Refused, Dead, StoreFault, NoMemory, TooLong}
 use Rattle.live_plant.specs.LivePlant.{plant_in}
 use Rattle.live_plant.specs.Outside.{StoreOver, store_over, Fits, IsOfFile, IsCaused}
 use Rattle.live_plant.specs.Steps.{Step, Settles, Gives, AnswersRead, LooksAt, LooksAtNamed, GoesOn, Then, Makes}

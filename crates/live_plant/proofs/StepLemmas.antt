@@ -9,8 +9,8 @@ use Rattle.line_io.specs.Faults.{NeverFall}
 use Rattle.line_io.specs.StoreView.{StoreView}
 use Rattle.line_io.specs.declared.store.StoreError.{StoreError}
 use Rattle.line_io.specs.declared.store.StoreError.TheVariants as store_error
-use Rattle.refusals.specs.declared.refusal.Refusal.{Refusal}
-use Rattle.refusals.specs.declared.refusal.Refusal.TheVariants.{Disk, NoMemory, StoreFault, TooLong}
+use Rattle.live_plant.specs.declared.refusals.refusal.Refusal.{Refusal}
+use Rattle.live_plant.specs.declared.refusals.refusal.Refusal.TheVariants.{Disk, NoMemory, StoreFault, TooLong}
 use Rattle.live_plant.specs.Outside.{StoreOver, store_over, limit_of, with_reads, Fits, IsOfFile, IsCaused}
 use Rattle.live_plant.specs.Steps.{Step, Settles, Then, Makes}
 

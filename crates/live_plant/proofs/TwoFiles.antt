@@ -3,8 +3,8 @@
 use Rattle.std.proofs.Common.{◌≡◌, ◌⊎◌, Bool, Option, ℕ, List, Result, subst}
 use Rattle.std.specs.Prelude.{Ok, Err, IfErr, IsErrAnd}
 use Rattle.line_io.specs.StoreView.{StoreView}
-use Rattle.refusals.specs.declared.refusal.Refusal.{Refusal}
-use Rattle.refusals.specs.declared.refusal.Refusal.TheVariants.{NoMemory}
+use Rattle.live_plant.specs.declared.refusals.refusal.Refusal.{Refusal}
+use Rattle.live_plant.specs.declared.refusals.refusal.Refusal.TheVariants.{NoMemory}
 use Rattle.live_plant.specs.Outside.{store_over, IsCaused}
 use Rattle.live_plant.specs.Steps.{Step, Settles, LooksAtNamed, Then, Makes}
 use Rattle.live_plant.proofs.StepLemmas.{then_makes, then_settles, then_hands_on}

@@ -7,8 +7,8 @@ use Rattle.line_io.specs.Faults.{Rose, NeverFall}
 use Rattle.line_io.specs.StoreView.{StoreView}
 use Rattle.line_io.specs.declared.store.StoreError.{StoreError}
 use Rattle.line_io.specs.declared.store.StoreError.TheVariants as store_error
-use Rattle.refusals.specs.declared.refusal.Refusal.{Refusal}
-use Rattle.refusals.specs.declared.refusal.Refusal.TheVariants.{Disk, StoreFault, TooLong}
+use Rattle.live_plant.specs.declared.refusals.refusal.Refusal.{Refusal}
+use Rattle.live_plant.specs.declared.refusals.refusal.Refusal.TheVariants.{Disk, StoreFault, TooLong}
 use Rattle.live_plant.specs.Outside.{StoreOver, store_over, limit_of, IsOfFile}
 
 -- a disk over a call: whether it is known what it holds, and what it shows before the call and after it

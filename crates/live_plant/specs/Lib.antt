@@ -1,9 +1,14 @@
 pub mod Actions
 pub mod Big
+pub mod Checkpoints
+pub mod DeadLine
 pub mod Generator
 pub mod LintSteps
 pub mod LivePlant
 pub mod Outside
 pub mod PlantSteps
+pub mod Refusal
+pub mod Refusals
 pub mod Refused
+pub mod Schedules
 pub mod Steps

@@ -12,8 +12,8 @@ use Rattle.plant_lint.specs.declared.file.FileLint.{FileLint}
 use Rattle.plant_lint.specs.declared.file.FileLint.TheVariants as lint
 use Rattle.plant_model.specs.declared.plant.Plant.{Plant}
 use Rattle.plant_model.specs.Graph.{graph}
-use Rattle.refusals.specs.declared.refusal.Refusal.{Refusal}
-use Rattle.refusals.specs.declared.refusal.Refusal.TheVariants.{Faults}
+use Rattle.live_plant.specs.declared.refusals.refusal.Refusal.{Refusal}
+use Rattle.live_plant.specs.declared.refusals.refusal.Refusal.TheVariants.{Faults}
 use Rattle.live_plant.specs.PlantSteps.{IsDeadRefusal}
 use Rattle.live_plant.specs.Steps.{Step, Settles, LooksAt, LooksAtNamed, Then}
 use Rattle.live_plant.specs.declared.sound_file.SoundFile.{SoundFile}

@@ -5,7 +5,7 @@ use Rattle.plant_model.specs.declared.plant.Plant.{Plant}
 use Rattle.plant_model.specs.Graph.{graph}
 use Rattle.plant_model.specs.Sound.{IsSound}
 use Rattle.live_plant.specs.declared.live_plant.LivePlant.{LivePlant}
-use Rattle.refusals.specs.declared.refusal.Refusal.{Refusal}
+use Rattle.live_plant.specs.declared.refusals.refusal.Refusal.{Refusal}
 
 -- the plant, or the refusal where there is none
 abbrev pub plant_in : Result LivePlant Refusal → Result Plant Refusal

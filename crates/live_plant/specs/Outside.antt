@@ -9,8 +9,8 @@ use Rattle.line_io.specs.SinkView.{SinkView}
 use Rattle.line_io.specs.StoreView.{StoreView}
 use Rattle.line_io.specs.declared.store.StoreError.{StoreError}
 use Rattle.line_io.specs.declared.store.StoreError.TheVariants as store_error
-use Rattle.refusals.specs.declared.refusal.Refusal.{Refusal}
-use Rattle.refusals.specs.declared.refusal.Refusal.TheVariants.{Disk, StoreFault, TooLong}
+use Rattle.live_plant.specs.declared.refusals.refusal.Refusal.{Refusal}
+use Rattle.live_plant.specs.declared.refusals.refusal.Refusal.TheVariants.{Disk, StoreFault, TooLong}
 
 -- a store over a call: whether it is known what its files hold, and what it shows before the call and after it
 pub record StoreOver : Type 0 where

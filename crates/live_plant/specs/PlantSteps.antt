@@ -14,8 +14,8 @@ use Rattle.plant_file.specs.Reading.{reading}
 use Rattle.event_graph.specs.Live.{IsLive}
 use Rattle.line_graph.specs.DeadLabels.{AreDead}
 use Rattle.plant_file.specs.PlantOfFiles.{plant_of}
-use Rattle.refusals.specs.declared.refusal.Refusal.{Refusal}
-use Rattle.refusals.specs.declared.refusal.Refusal.TheVariants.{Refused, Dead}
+use Rattle.live_plant.specs.declared.refusals.refusal.Refusal.{Refusal}
+use Rattle.live_plant.specs.declared.refusals.refusal.Refusal.TheVariants.{Refused, Dead}
 use Rattle.live_plant.specs.Steps.{Step, Settles, Gives, LooksAt, Then, LooksAtNamed}
 
 -- a refusal of a plant ends the command

@@ -7,8 +7,8 @@ use Rattle.line_io.specs.Faults.{NeverFall}
 use Rattle.line_io.specs.declared.store.StoreError.{StoreError}
 use Rattle.line_io.specs.declared.store.StoreError.TheVariants as store_error
 use Rattle.live_plant.specs.Outside.{StoreOver, with_reads, IsOfFile, IsCaused}
-use Rattle.refusals.specs.declared.refusal.Refusal.{Refusal}
-use Rattle.refusals.specs.declared.refusal.Refusal.TheVariants.{NoMemory, StoreFault, TooLong}
+use Rattle.live_plant.specs.declared.refusals.refusal.Refusal.{Refusal}
+use Rattle.live_plant.specs.declared.refusals.refusal.Refusal.TheVariants.{NoMemory, StoreFault, TooLong}
 
 -- the reads that a step makes, in order, and what it answers
 abbrev pub Step : Type 0 → Type 1

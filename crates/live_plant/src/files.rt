@@ -6,11 +6,12 @@ ghost use Rattle.live_plant.specs.PlantSteps.{OfDraft, OfPlantFile};
 ghost use Rattle.live_plant.specs.Refused.{IsFaultOf, refusal_of};
 ghost use Rattle.live_plant.specs.Steps.{Makes, LooksAt, LooksAtNamed};
 
+use crate::refusals::Refusal;
+use command_line::FileName;
 use line_base::{Items, MAX_CHECKPOINT_BYTES, MAX_FILE_BYTES, is_checkpoint_name};
 use line_io::{Store, StoreError};
 use plant_file::{Draft, complete_draft, read_plant};
 use plant_model::{Plant, PlantError};
-use refusals::{FileName, Refusal};
 use std::alloc::Global;
 
 /// The bytes of a file: at most 167,772,160 of a checkpoint, whose name ends in `.ckpt`, and at

@@ -5,20 +5,20 @@ ghost use Rattle.plant_lint.specs.FileLints.{LintsFile};
 ghost use Rattle.plant_lint.specs.PlantLints.{clean_text};
 ghost use Rattle.plant_lint.specs.declared.file.FileLint.TheVariants as lint;
 ghost use Rattle.plant_model.specs.Sound.{IsSound};
-ghost use Rattle.refusals.specs.declared.refusal.Refusal.TheVariants.{NoMemory};
+ghost use Rattle.live_plant.specs.declared.refusals.refusal.Refusal.TheVariants.{NoMemory};
 ghost use Rattle.live_plant.specs.LintSteps.{IsCleanOrDead, IsDraftLint, IsFileLint, LintsDraft, LintsPlant};
 ghost use Rattle.live_plant.specs.Outside.{store_over};
 ghost use Rattle.live_plant.specs.Steps.{Makes};
 
 use crate::files::{read_file, read_named, slice_of};
 use crate::live_plant::live_graph;
+use crate::refusals::Refusal;
 use crate::sound_file::SoundFile;
 use line_base::{Items, Text};
 use line_io::Store;
 use plant_file::{Draft, read_plant};
 use plant_lint::{DraftLint, FileLint, clean_text, lint_draft, lint_file};
 use plant_model::Plant;
-use refusals::Refusal;
 use std::alloc::Global;
 
 /// What lint says of a plant file and of the files that it names: that there is no fault, with notes of what may not be

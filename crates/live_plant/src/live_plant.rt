@@ -10,12 +10,12 @@ ghost use Rattle.live_plant.specs.PlantSteps.{OfPlantNamed, IsDeadRefusal};
 ghost use Rattle.live_plant.specs.Steps.{Makes};
 
 use crate::files::read_plant_files;
+use crate::refusals::Refusal;
 use event_graph::Graph;
-use line_graph::graph_of;
+use line_graph::{dead_labels, graph_of};
 use line_io::Store;
 use live_check::{Live, NotLive, rank};
 use plant_model::Plant;
-use refusals::{Refusal, dead_labels};
 use std::alloc::Global;
 
 /// A plant that can be run: it is sound, and its graph is live.

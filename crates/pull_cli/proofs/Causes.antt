@@ -40,11 +40,12 @@ use Rattle.line_chart.specs.TableText.{table_text}
 use Rattle.live_plant.proofs.StepLemmas.{NeedsNoCause}
 use Rattle.plant_model.specs.declared.plant.Plant.{Plant}
 use Rattle.plant_model.specs.Graph.{graph}
-use Rattle.refusals.specs.Checkpoints.{checkpoint_refusal}
-use Rattle.refusals.specs.Refusals.{cycle_refusal, sizing_refusal}
-use Rattle.refusals.specs.Schedules.{schedule_refusal}
-use Rattle.refusals.specs.declared.refusal.Refusal.{Refusal}
-use Rattle.refusals.specs.declared.refusal.Refusal.TheVariants.{NoSingleCount, NotEdited, NoDate, Late, TooLarge}
+use Rattle.live_plant.specs.Checkpoints.{checkpoint_refusal}
+use Rattle.live_plant.specs.Refusals.{cycle_refusal, sizing_refusal}
+use Rattle.live_plant.specs.Schedules.{schedule_refusal}
+use Rattle.live_plant.specs.declared.refusals.refusal.Refusal.{Refusal}
+use Rattle.live_plant.specs.declared.refusals.refusal.Refusal.TheVariants.{NoSingleCount, NotEdited, NoDate, Late}
+use Rattle.live_plant.specs.declared.refusals.refusal.Refusal.TheVariants.{TooLarge}
 
 -- what holds of an answer that need not have a cause
 abbrev pub NeedsNone : Result Answer Refusal → Type 0

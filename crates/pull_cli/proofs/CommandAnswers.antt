@@ -8,8 +8,8 @@ use Rattle.command_line.specs.declared.command.WordsError.TheVariants as words_e
 use Rattle.line_io.specs.Calls.{none_asked}
 use Rattle.line_disk.specs.DiskView.{DiskView}
 use Rattle.line_io.specs.StoreView.{StoreView}
-use Rattle.refusals.specs.declared.refusal.Refusal.{Refusal}
-use Rattle.refusals.specs.declared.refusal.Refusal.TheVariants.{NoMemory}
+use Rattle.live_plant.specs.declared.refusals.refusal.Refusal.{Refusal}
+use Rattle.live_plant.specs.declared.refusals.refusal.Refusal.TheVariants.{NoMemory}
 use Rattle.live_plant.specs.Actions.{DiskOver, disk_over, HasCause, Does}
 use Rattle.live_plant.specs.Outside.{store_over}
 use Rattle.answers.specs.declared.answer.Answer.{Answer}

@@ -2,7 +2,7 @@
 use Rattle.std.proofs.Common.{ℕ, List}
 use Rattle.std.specs.Prelude.{Result}
 use Rattle.command_line.specs.Words.{command_of}
-use Rattle.refusals.specs.declared.refusal.Refusal.{Refusal}
+use Rattle.live_plant.specs.declared.refusals.refusal.Refusal.{Refusal}
 use Rattle.live_plant.specs.Actions.{DiskOver, Does}
 use Rattle.live_plant.specs.Outside.{StoreOver, SinkOver}
 use Rattle.answers.specs.declared.answer.Answer.{Answer}

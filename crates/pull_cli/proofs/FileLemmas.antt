@@ -17,8 +17,8 @@ use Rattle.line_io.specs.declared.store.StoreError.TheVariants as store_error
 use Rattle.plant_model.specs.declared.plant.Plant.{Plant}
 use Rattle.plant_model.specs.Graph.{graph}
 use Rattle.answers.specs.Answer.{answer_bytes}
-use Rattle.refusals.specs.declared.refusal.Refusal.{Refusal}
-use Rattle.refusals.specs.declared.refusal.Refusal.TheVariants.{StoreFault}
+use Rattle.live_plant.specs.declared.refusals.refusal.Refusal.{Refusal}
+use Rattle.live_plant.specs.declared.refusals.refusal.Refusal.TheVariants.{StoreFault}
 use Rattle.live_plant.specs.Actions.{Action, DiskOver, DoesOn, with_asked, LeavesFile, WritesOne, Changes}
 use Rattle.live_plant.specs.Outside.{StoreOver, SinkOver}
 use Rattle.live_plant.specs.PlantSteps.{OfPlantNamed}

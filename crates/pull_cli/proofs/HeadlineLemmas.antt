@@ -17,13 +17,14 @@ use Rattle.line_runs.specs.Headline.{MayBeResumed}
 use Rattle.line_runs.specs.Resume.{IsCheckpoint}
 use Rattle.plant_model.specs.declared.plant.Plant.{Plant}
 use Rattle.plant_model.specs.Graph.{graph}
-use Rattle.refusals.specs.Checkpoints.{checkpoint_refusal}
-use Rattle.refusals.specs.Refusal.{status_of, text_of}
-use Rattle.refusals.specs.declared.refusal.Refusal.{Refusal}
-use Rattle.refusals.specs.declared.refusal.Refusal.TheVariants.{Usage, Refused, Faults, Dead, StoreFault, NotReached}
-use Rattle.refusals.specs.declared.refusal.Refusal.TheVariants.{Varying, NoMemory, TooLong, NotFollowed, Disk, NoCount}
-use Rattle.refusals.specs.declared.refusal.Refusal.TheVariants.{NothingSaved, NotEdited, NoSingleCount, NoDate, Late}
-use Rattle.refusals.specs.declared.refusal.Refusal.TheVariants.{TooLarge}
+use Rattle.live_plant.specs.Checkpoints.{checkpoint_refusal}
+use Rattle.live_plant.specs.Refusal.{status_of, text_of}
+use Rattle.live_plant.specs.declared.refusals.refusal.Refusal.{Refusal}
+use Rattle.live_plant.specs.declared.refusals.refusal.Refusal.TheVariants.{Usage, Refused, Faults, Dead, StoreFault}
+use Rattle.live_plant.specs.declared.refusals.refusal.Refusal.TheVariants.{NotReached, Varying, NoMemory, TooLong}
+use Rattle.live_plant.specs.declared.refusals.refusal.Refusal.TheVariants.{NotFollowed, Disk, NoCount, NothingSaved}
+use Rattle.live_plant.specs.declared.refusals.refusal.Refusal.TheVariants.{NotEdited, NoSingleCount, NoDate, Late}
+use Rattle.live_plant.specs.declared.refusals.refusal.Refusal.TheVariants.{TooLarge}
 use Rattle.live_plant.specs.Actions.{Action, DiskOver, Plainly, DoesOn, ThenDoes, with_asked, Changes}
 use Rattle.live_plant.specs.Outside.{StoreOver, SinkOver}
 use Rattle.live_plant.specs.PlantSteps.{OfPlantNamed}

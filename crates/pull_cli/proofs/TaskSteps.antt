@@ -25,8 +25,8 @@ use Rattle.live_plant.specs.Steps.{LooksAt, Makes, Settles, Then}
 use Rattle.plant_model.specs.declared.plant.Plant.{Plant}
 use Rattle.pull_cli.proofs.Causes.{alone_caused, plant_caused, file_caused}
 use Rattle.pull_cli.specs.Verdict.{AsksWith, OfTask}
-use Rattle.refusals.specs.declared.refusal.Refusal.{Refusal}
-use Rattle.refusals.specs.declared.refusal.Refusal.TheVariants.{NoMemory}
+use Rattle.live_plant.specs.declared.refusals.refusal.Refusal.{Refusal}
+use Rattle.live_plant.specs.declared.refusals.refusal.Refusal.TheVariants.{NoMemory}
 
 -- nothing is read
 pub alone_does : (tells : Bool) (view : StoreView) (disk : DiskOver) (q : AloneQuestion)

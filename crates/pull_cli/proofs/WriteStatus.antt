@@ -4,8 +4,8 @@ use Rattle.std.specs.Prelude.{Result, Ok, Err}
 use Rattle.line_io.specs.SinkView.{SinkView, WritesText}
 use Rattle.line_io.specs.declared.sink.Failed.{Failed}
 use Rattle.live_plant.specs.Outside.{SinkOver, sink_over}
-use Rattle.refusals.specs.Refusal.{status_of, text_of}
-use Rattle.refusals.specs.declared.refusal.Refusal.TheVariants.{NoMemory}
+use Rattle.live_plant.specs.Refusal.{status_of, text_of}
+use Rattle.live_plant.specs.declared.refusals.refusal.Refusal.TheVariants.{NoMemory}
 use Rattle.answers.specs.Answer.{answer_bytes}
 use Rattle.answers.specs.Put.{BytesArePut, IsPut}
 use Rattle.answers.specs.declared.answer.Answer.{Answer}

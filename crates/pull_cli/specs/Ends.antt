@@ -5,9 +5,9 @@ use Rattle.line_io.specs.Faults.{Rose}
 use Rattle.line_io.specs.SinkView.{SinkView, PutsAll, PutsPrefix}
 use Rattle.line_io.specs.declared.sink.Failed.{Failed}
 use Rattle.command_line.specs.Words.{command_of}
-use Rattle.refusals.specs.Refusal.{status_of, text_of, IsFixed}
-use Rattle.refusals.specs.declared.refusal.Refusal.{Refusal}
-use Rattle.refusals.specs.declared.refusal.Refusal.TheVariants.{NoMemory, StoreFault}
+use Rattle.live_plant.specs.Refusal.{status_of, text_of, IsFixed}
+use Rattle.live_plant.specs.declared.refusals.refusal.Refusal.{Refusal}
+use Rattle.live_plant.specs.declared.refusals.refusal.Refusal.TheVariants.{NoMemory, StoreFault}
 use Rattle.live_plant.specs.Actions.{DiskOver, Does}
 use Rattle.live_plant.specs.Outside.{StoreOver, SinkOver, sink_over}
 use Rattle.answers.specs.Answer.{answer_bytes}

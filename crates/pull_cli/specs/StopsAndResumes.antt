@@ -22,7 +22,7 @@ use Rattle.line_runs.specs.Headline.{MayBeResumed}
 use Rattle.live_plant.specs.Outside.{StoreOver, SinkOver}
 use Rattle.plant_model.specs.Graph.{graph}
 use Rattle.plant_model.specs.declared.plant.Plant.{Plant}
-use Rattle.refusals.specs.declared.refusal.Refusal.{Refusal}
+use Rattle.live_plant.specs.declared.refusals.refusal.Refusal.{Refusal}
 use Rattle.pull_cli.specs.RunReports.{IsPlantRead, HasReported}
 
 -- "resuming it writes that same report": whatever resuming these bytes answers, but for out of memory, is the report

@@ -17,8 +17,8 @@ use Rattle.live_plant.specs.LintSteps.{LintsPlant}
 use Rattle.live_plant.specs.Outside.{StoreOver}
 use Rattle.live_plant.specs.PlantSteps.{OfPlantNamed}
 use Rattle.live_plant.specs.Steps.{Step, LooksAt, Settles, Then}
-use Rattle.refusals.specs.declared.refusal.Refusal.{Refusal}
-use Rattle.refusals.specs.declared.refusal.Refusal.TheVariants.{NoMemory, Usage}
+use Rattle.live_plant.specs.declared.refusals.refusal.Refusal.{Refusal}
+use Rattle.live_plant.specs.declared.refusals.refusal.Refusal.TheVariants.{NoMemory, Usage}
 
 -- a file is read, and then answered about
 abbrev pub AsksWith : List ℕ → (List ℕ → Result Answer Refusal → Type 0) → Step Answer

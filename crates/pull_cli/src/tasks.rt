@@ -17,8 +17,7 @@ use commands::{
 use line_disk::Disk;
 use line_io::Store;
 use line_workers::Gate;
-use live_plant::{LivePlant, lint_plant_file, read_file, read_live_plant};
-use refusals::Refusal;
+use live_plant::{LivePlant, Refusal, lint_plant_file, read_file, read_live_plant};
 use std::alloc::Global;
 use std::sync::Wait;
 use std::thread::Threads;

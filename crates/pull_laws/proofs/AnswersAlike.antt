@@ -23,12 +23,12 @@ use Rattle.line_report.specs.ReportText.{report}
 use Rattle.live_plant.specs.Actions.{DiskOver}
 use Rattle.plant_model.specs.declared.plant.Plant.{Plant}
 use Rattle.plant_model.specs.Graph.{graph}
-use Rattle.refusals.specs.Checkpoints.{checkpoint_refusal}
-use Rattle.refusals.specs.Refusal.{status_of}
-use Rattle.refusals.specs.Refusals.{cycle_refusal}
-use Rattle.refusals.specs.Schedules.{schedule_refusal}
-use Rattle.refusals.specs.declared.refusal.Refusal.{Refusal}
-use Rattle.refusals.specs.declared.refusal.Refusal.TheVariants.{Disk, NoMemory, NothingSaved, StoreFault}
+use Rattle.live_plant.specs.Checkpoints.{checkpoint_refusal}
+use Rattle.live_plant.specs.Refusal.{status_of}
+use Rattle.live_plant.specs.Refusals.{cycle_refusal}
+use Rattle.live_plant.specs.Schedules.{schedule_refusal}
+use Rattle.live_plant.specs.declared.refusals.refusal.Refusal.{Refusal}
+use Rattle.live_plant.specs.declared.refusals.refusal.Refusal.TheVariants.{Disk, NoMemory, NothingSaved, StoreFault}
 use Rattle.pull_laws.specs.Verdicts.{IsFree, HoldsSaved}
 use Rattle.pull_laws.proofs.Alike.{IsFreeAnswer, AreAlike, memory_free}
 

@@ -24,9 +24,9 @@ use Rattle.commands.specs.Answers.{IsRefusedFor, IsSized, IsCards, IsSizedEach, 
 use Rattle.line_base.specs.Limits.{most_cards}
 use Rattle.plant_model.specs.declared.plant.Plant.{Plant}
 use Rattle.plant_model.specs.Sound.{IsSound}
-use Rattle.refusals.specs.Refusals.{sizing_refusal}
-use Rattle.refusals.specs.declared.refusal.Refusal.{Refusal}
-use Rattle.refusals.specs.declared.refusal.Refusal.TheVariants.{NoSingleCount}
+use Rattle.live_plant.specs.Refusals.{sizing_refusal}
+use Rattle.live_plant.specs.declared.refusals.refusal.Refusal.{Refusal}
+use Rattle.live_plant.specs.declared.refusals.refusal.Refusal.TheVariants.{NoSingleCount}
 use Rattle.pull_laws.specs.Verdicts.{IsFree}
 use Rattle.pull_laws.proofs.AnswersAlike.{Ends, IsDone, text_done, IsOrFree, refused_free, refused_alike, ways_alike}
 

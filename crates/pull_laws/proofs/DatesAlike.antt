@@ -37,8 +37,8 @@ use Rattle.line_chart.specs.Starts.{worked_ins, start}
 use Rattle.plant_model.specs.declared.plant.Plant.{Plant}
 use Rattle.plant_model.specs.Graph.{graph}
 use Rattle.plant_model.specs.Sound.{IsSound}
-use Rattle.refusals.specs.declared.refusal.Refusal.{Refusal}
-use Rattle.refusals.specs.declared.refusal.Refusal.TheVariants.{Late, NoDate, TooLarge}
+use Rattle.live_plant.specs.declared.refusals.refusal.Refusal.{Refusal}
+use Rattle.live_plant.specs.declared.refusals.refusal.Refusal.TheVariants.{Late, NoDate, TooLarge}
 use Rattle.pull_laws.proofs.AnswersAlike.{Ends, text_done, refused_alike, ways_alike}
 
 -- a graph has one least solution

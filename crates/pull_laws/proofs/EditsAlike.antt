@@ -15,8 +15,8 @@ use Rattle.plant_model.specs.declared.plant.Plant.{Plant}
 use Rattle.plant_model.specs.Graph.{graph}
 use Rattle.plant_model.specs.Sound.{IsSound}
 use Rattle.plant_model.proofs.SoundPlants.{HasSoundSizes-sound}
-use Rattle.refusals.specs.declared.refusal.Refusal.{Refusal}
-use Rattle.refusals.specs.declared.refusal.Refusal.TheVariants.{NotEdited}
+use Rattle.live_plant.specs.declared.refusals.refusal.Refusal.{Refusal}
+use Rattle.live_plant.specs.declared.refusals.refusal.Refusal.TheVariants.{NotEdited}
 use Rattle.what_if.specs.declared.edit.Edit.{Edit}
 use Rattle.what_if.specs.declared.edit.Edit.TheVariants.{Time, Demand}
 use Rattle.what_if.specs.Edited.{Inputs, inputs_of}

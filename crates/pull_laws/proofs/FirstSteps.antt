@@ -3,7 +3,7 @@ use Rattle.std.proofs.Common.{List}
 use Rattle.std.specs.Prelude.{Result}
 use Rattle.line_io.specs.Calls.{Read}
 use Rattle.live_plant.specs.Steps.{Step, Then}
-use Rattle.refusals.specs.declared.refusal.Refusal.{Refusal}
+use Rattle.live_plant.specs.declared.refusals.refusal.Refusal.{Refusal}
 
 -- what the first step did is also this other step
 pub also_then : {A B : Type 0} (first other : Step A) (next : A → Step B) (reads : List Read) (answer : Result B Refusal)

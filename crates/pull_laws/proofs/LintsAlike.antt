@@ -18,9 +18,9 @@ use Rattle.plant_lint.specs.declared.file.FileLint.{FileLint}
 use Rattle.plant_lint.specs.declared.file.FileLint.TheVariants as lint
 use Rattle.plant_model.specs.declared.error.PlantError.{PlantError}
 use Rattle.plant_model.specs.declared.plant.Plant.{Plant}
-use Rattle.refusals.specs.Refusal.{status_of}
-use Rattle.refusals.specs.declared.refusal.Refusal.{Refusal}
-use Rattle.refusals.specs.declared.refusal.Refusal.TheVariants.{Faults}
+use Rattle.live_plant.specs.Refusal.{status_of}
+use Rattle.live_plant.specs.declared.refusals.refusal.Refusal.{Refusal}
+use Rattle.live_plant.specs.declared.refusals.refusal.Refusal.TheVariants.{Faults}
 use Rattle.toml.specs.Data.{Data}
 use Rattle.pull_laws.proofs.Alike.{AreAlike, Agrees, dead_status, live_not_dead, then_agrees, settles_agrees}
 use Rattle.pull_laws.proofs.Alike.{gives_alike, look_agrees, named_agrees}

@@ -19,8 +19,8 @@ use Rattle.line_io.specs.Contents.{Contents}
 use Rattle.line_io.specs.declared.store.StoreError.{StoreError}
 use Rattle.line_io.specs.declared.store.StoreError.TheVariants as store_error
 use Rattle.plant_model.specs.declared.plant.Plant.{Plant}
-use Rattle.refusals.specs.declared.refusal.Refusal.{Refusal}
-use Rattle.refusals.specs.declared.refusal.Refusal.TheVariants.{Disk, StoreFault, TooLong}
+use Rattle.live_plant.specs.declared.refusals.refusal.Refusal.{Refusal}
+use Rattle.live_plant.specs.declared.refusals.refusal.Refusal.TheVariants.{Disk, StoreFault, TooLong}
 use Rattle.live_plant.specs.Actions.{Action, DiskOver, Does, Plainly, ThenDoes, Changes, HasCause, with_asked}
 use Rattle.live_plant.specs.Outside.{StoreOver, Fits, IsOfFile}
 use Rattle.live_plant.specs.PlantSteps.{OfPlantNamed}

@@ -19,9 +19,9 @@ use Rattle.plant_file.specs.PlantOfFiles.{plant_of}
 use Rattle.plant_model.specs.declared.error.PlantError.{PlantError}
 use Rattle.plant_model.specs.declared.plant.Plant.{Plant}
 use Rattle.plant_model.specs.Graph.{graph}
-use Rattle.refusals.specs.Refusal.{status_of, text_of}
-use Rattle.refusals.specs.declared.refusal.Refusal.{Refusal}
-use Rattle.refusals.specs.declared.refusal.Refusal.TheVariants.{Dead, NoMemory, Refused, StoreFault}
+use Rattle.live_plant.specs.Refusal.{status_of, text_of}
+use Rattle.live_plant.specs.declared.refusals.refusal.Refusal.{Refusal}
+use Rattle.live_plant.specs.declared.refusals.refusal.Refusal.TheVariants.{Dead, NoMemory, Refused, StoreFault}
 use Rattle.live_plant.specs.Actions.{HasCause, IsFailedWrite}
 use Rattle.live_plant.specs.Outside.{limit_of, IsOfFile}
 use Rattle.live_plant.specs.PlantSteps.{OfLivePlant, OfPlantNamed, IsLiveOrDead, IsOfPlant}

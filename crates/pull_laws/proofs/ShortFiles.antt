@@ -14,8 +14,8 @@ use Rattle.plant_file.specs.Finish.{completed_plant}
 use Rattle.plant_file.specs.PlantOfFiles.{bytes_at}
 use Rattle.plant_model.specs.declared.error.PlantError.{PlantError}
 use Rattle.plant_model.specs.declared.plant.Plant.{Plant}
-use Rattle.refusals.specs.declared.refusal.Refusal.{Refusal}
-use Rattle.refusals.specs.declared.refusal.Refusal.TheVariants.{NoMemory}
+use Rattle.live_plant.specs.declared.refusals.refusal.Refusal.{Refusal}
+use Rattle.live_plant.specs.declared.refusals.refusal.Refusal.TheVariants.{NoMemory}
 use Rattle.live_plant.specs.Outside.{StoreOver, limit_of, Fits, IsOfFile}
 use Rattle.live_plant.specs.PlantSteps.{or_refused, OfDraft, OfBytes, OfPlantFile, IsLiveOrDead, OfLivePlant}
 use Rattle.live_plant.specs.Steps.{Settles, Gives, AnswersRead, LooksAt, LooksAtNamed, Then}

@@ -40,9 +40,9 @@ use Rattle.live_plant.specs.PlantSteps.{OfLivePlant, OfPlantNamed}
 use Rattle.live_plant.specs.Steps.{Step, Settles, LooksAt, Then}
 use Rattle.plant_model.specs.declared.plant.Plant.{Plant}
 use Rattle.plant_model.specs.Graph.{graph}
-use Rattle.refusals.specs.Refusal.{status_of, text_of}
-use Rattle.refusals.specs.declared.refusal.Refusal.{Refusal}
-use Rattle.refusals.specs.declared.refusal.Refusal.TheVariants.{Disk, NoMemory, StoreFault, Usage}
+use Rattle.live_plant.specs.Refusal.{status_of, text_of}
+use Rattle.live_plant.specs.declared.refusals.refusal.Refusal.{Refusal}
+use Rattle.live_plant.specs.declared.refusals.refusal.Refusal.TheVariants.{Disk, NoMemory, StoreFault, Usage}
 use Rattle.pull_cli.specs.Ends.{Finishes, FinishesCurve, Writes, WritesRefusal}
 use Rattle.pull_cli.specs.Verdict.{AsksWith, OfTask, OfWords}
 use Rattle.pull_laws.specs.Resuming.{Call, files_before}

@@ -15,9 +15,9 @@ use Rattle.line_io.specs.Contents.{Contents}
 use Rattle.line_io.specs.Faults.{Rose}
 use Rattle.live_plant.specs.Actions.{DiskOver}
 use Rattle.live_plant.specs.Outside.{Fits}
-use Rattle.refusals.specs.Refusal.{status_of}
-use Rattle.refusals.specs.declared.refusal.Refusal.{Refusal}
-use Rattle.refusals.specs.declared.refusal.Refusal.TheVariants.{Disk, NoMemory, StoreFault}
+use Rattle.live_plant.specs.Refusal.{status_of}
+use Rattle.live_plant.specs.declared.refusals.refusal.Refusal.{Refusal}
+use Rattle.live_plant.specs.declared.refusals.refusal.Refusal.TheVariants.{Disk, NoMemory, StoreFault}
 use Rattle.line_disk.specs.Crash.{bytes_now}
 use Rattle.line_disk.specs.Layout.{content}
 use Rattle.pull_cli.specs.Ends.{Ends}

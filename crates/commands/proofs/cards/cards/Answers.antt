@@ -3,7 +3,7 @@ use Rattle.std.proofs.lemmas.Result.{err_from_is_err_and}
 use Rattle.card_sizing.specs.Sizing.{IsSizingRefusal}
 use Rattle.commands.proofs.CardAnswers.{cards_found, no_error}
 use Rattle.commands.proofs.OrNoMemory.{refused_for}
-use Rattle.refusals.specs.Refusals.{sizing_refusal}
+use Rattle.live_plant.specs.Refusals.{sizing_refusal}
 use Rattle.commands.proofs.cards.cards.Goals as goal
 
 pub least_cards-requires-clause-live : goal.least_cards-requires-clause-live

@@ -5,7 +5,7 @@ use Rattle.card_sizing.specs.Each.{IsEachRefusal}
 use Rattle.card_sizing.specs.Counted.{has_stage_counts}
 use Rattle.commands.proofs.CardAnswers.{no_error}
 use Rattle.commands.proofs.OrNoMemory.{refused_for}
-use Rattle.refusals.specs.Refusals.{sizing_refusal}
+use Rattle.live_plant.specs.Refusals.{sizing_refusal}
 use Rattle.commands.proofs.cards.cards_each.Goals as goal
 
 pub least_each-requires-clause-live : goal.least_each-requires-clause-live

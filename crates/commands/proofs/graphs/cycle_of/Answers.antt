@@ -1,6 +1,6 @@
 use Rattle.std.proofs.Common.{refl, inl}
 use Rattle.commands.proofs.CycleAnswers.{cycle_refused}
-use Rattle.refusals.proofs.CycleRefusals.{names_station}
+use Rattle.live_plant.proofs.CycleRefusals.{names_station}
 use Rattle.commands.proofs.graphs.cycle_of.Goals as goal
 
 pub cycle_refusal-requires : goal.cycle_refusal-requires

@@ -2,7 +2,7 @@ use Rattle.std.proofs.Common.{ap, ◌∙◌}
 use Rattle.commands.proofs.LeastTables.{is_least_table}
 use Rattle.commands.proofs.ScheduleAnswers.{end_reported, end_refused}
 use Rattle.line_core.specs.Run.{Dates}
-use Rattle.refusals.proofs.ScheduleErrors.{names_existing}
+use Rattle.live_plant.proofs.ScheduleErrors.{names_existing}
 use Rattle.commands.proofs.replaying.replay.Goals as goal
 
 pub report_of-requires-clause-table : goal.report_of-requires-clause-table

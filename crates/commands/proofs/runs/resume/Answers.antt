@@ -1,7 +1,7 @@
 use Rattle.std.proofs.Common.{◌≡◌, ◌⊎◌, sym, subst}
 use Rattle.line_base.specs.declared.event.Parts.{Parts}
-use Rattle.refusals.specs.Checkpoints.{checkpoint_refusal, NamesStation}
-use Rattle.refusals.specs.declared.refusal.Refusal.TheVariants.{NoMemory}
+use Rattle.live_plant.specs.Checkpoints.{checkpoint_refusal, NamesStation}
+use Rattle.live_plant.specs.declared.refusals.refusal.Refusal.TheVariants.{NoMemory}
 use Rattle.commands.proofs.Resumings.{refused_names, refuses}
 use Rattle.commands.proofs.runs.resume.Goals as goal
 

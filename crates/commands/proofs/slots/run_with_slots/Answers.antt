@@ -1,7 +1,7 @@
 use Rattle.std.proofs.Common.{refl}
 use Rattle.std.specs.Prelude.{Err}
 use Rattle.plant_model.specs.Graph.{graph}
-use Rattle.refusals.specs.declared.refusal.Refusal.TheVariants.{NoMemory}
+use Rattle.live_plant.specs.declared.refusals.refusal.Refusal.TheVariants.{NoMemory}
 use Rattle.commands.proofs.SlotRuns.{kept_at_first, run_no_memory}
 use Rattle.commands.proofs.slots.run_with_slots.Goals as goal
 

@@ -5,7 +5,7 @@ use Rattle.plant_file.specs.declared.draft.DraftPlant.{DraftPlant}
 use Rattle.plant_file.specs.Finish.{completed_plant}
 use Rattle.plant_model.specs.declared.error.PlantError.TheVariants as plant_error
 use Rattle.plant_model.specs.declared.plant.Plant.{Plant}
-use Rattle.refusals.specs.declared.refusal.Refusal.{Refusal}
+use Rattle.live_plant.specs.declared.refusals.refusal.Refusal.{Refusal}
 use Rattle.live_plant.specs.PlantSteps.{or_refused}
 use Rattle.live_plant.specs.Refused.{refusal_of}
 use Rattle.live_plant.proofs.FileReads.{refusal_answers, refusal_caused}

@@ -7,10 +7,10 @@ use Rattle.line_base.specs.declared.event.Arc.{Arc}
 use Rattle.line_base.specs.declared.event.Parts.{Parts}
 use Rattle.line_core.specs.declared.error.ReplayError.TheVariants as schedule
 use Rattle.checkpoint.specs.declared.error.CheckpointError.TheVariants as checkpoint
-use Rattle.refusals.specs.Checkpoints.{checkpoint_refusal}
-use Rattle.refusals.specs.Schedules.{schedule_refusal}
-use Rattle.refusals.specs.declared.refusal.Refusal.TheVariants.{Usage, Refused, Dead, StoreFault, NoMemory, TooLong, Varying, Disk, NoCount, NothingSaved, NotEdited, NoSingleCount, NoDate, Late, TooLarge}
-use Rattle.refusals.specs.Refusal.{text_of}
+use Rattle.live_plant.specs.Checkpoints.{checkpoint_refusal}
+use Rattle.live_plant.specs.Schedules.{schedule_refusal}
+use Rattle.live_plant.specs.declared.refusals.refusal.Refusal.TheVariants.{Usage, Refused, Dead, StoreFault, NoMemory, TooLong, Varying, Disk, NoCount, NothingSaved, NotEdited, NoSingleCount, NoDate, Late, TooLarge}
+use Rattle.live_plant.specs.Refusal.{text_of}
 
 -- a saw behind the release of its stage, for three jobs
 abbrev saw : Arc

@@ -2,9 +2,9 @@
 use Rattle.std.specs.Prelude.{ℕ, List, ◌++◌, codes, decimal, ⊤}
 use Rattle.plant_model.specs.Reasons.{plant_reason}
 use Rattle.command_line.specs.Lines.{as_line}
-use Rattle.refusals.specs.DeadLine.{dead_line}
-use Rattle.refusals.specs.declared.refusal.Refusal.{Refusal}
-use Rattle.refusals.specs.declared.refusal.Refusal.TheVariants.{Usage, Refused, Faults, Dead, StoreFault, NotReached, Varying, NoMemory, TooLong, NotFollowed, Disk, NoCount, NothingSaved, NotEdited, NoSingleCount, NoDate, Late, TooLarge}
+use Rattle.live_plant.specs.DeadLine.{dead_line}
+use Rattle.live_plant.specs.declared.refusals.refusal.Refusal.{Refusal}
+use Rattle.live_plant.specs.declared.refusals.refusal.Refusal.TheVariants.{Usage, Refused, Faults, Dead, StoreFault, NotReached, Varying, NoMemory, TooLong, NotFollowed, Disk, NoCount, NothingSaved, NotEdited, NoSingleCount, NoDate, Late, TooLarge}
 
 -- the status that the program ends with
 abbrev pub status_of : Refusal → ℕ

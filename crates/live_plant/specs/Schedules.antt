@@ -4,8 +4,8 @@ use Rattle.line_base.specs.declared.event.Parts.{Parts}
 use Rattle.event_graph.specs.Network.{stations, jobs, arc_count, arc, label}
 use Rattle.line_core.specs.declared.error.ReplayError.{ReplayError}
 use Rattle.line_core.specs.declared.error.ReplayError.TheVariants as replay
-use Rattle.refusals.specs.declared.refusal.Refusal.{Refusal}
-use Rattle.refusals.specs.declared.refusal.Refusal.TheVariants.{NotFollowed, NoMemory}
+use Rattle.live_plant.specs.declared.refusals.refusal.Refusal.{Refusal}
+use Rattle.live_plant.specs.declared.refusals.refusal.Refusal.TheVariants.{NotFollowed, NoMemory}
 
 -- why a schedule can't be followed, and at which line of it
 abbrev pub schedule_refusal : Parts → ReplayError → Refusal

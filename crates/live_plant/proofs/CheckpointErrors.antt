@@ -12,7 +12,7 @@ use Rattle.line_core.specs.Parts.{list_at, refuse_if, each_below, long_log, wron
 use Rattle.checkpoint.specs.declared.error.CheckpointError.{CheckpointError}
 use Rattle.checkpoint.specs.declared.error.CheckpointError.TheVariants as error
 use Rattle.checkpoint.specs.Answers.{Tells, IsRefused}
-use Rattle.refusals.specs.Checkpoints.{NamesStation}
+use Rattle.live_plant.specs.Checkpoints.{NamesStation}
 
 -- the station that a refusal of logs and places names is one of the graph
 abbrev Names : Parts → StateError → Type 0

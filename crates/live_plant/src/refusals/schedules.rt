@@ -1,7 +1,7 @@
 ghost use Rattle.std.specs.Prelude.{◌≡◌, ◌⊎◌, ◌++◌, codes, decimal, IfOk};
-ghost use Rattle.refusals.specs.Schedules.{schedule_refusal, NamesExisting};
+ghost use Rattle.live_plant.specs.Schedules.{schedule_refusal, NamesExisting};
 
-use crate::refusal::Refusal;
+use crate::refusals::Refusal;
 use event_graph::Graph;
 use line_base::Items;
 use line_core::ReplayError;

@@ -13,7 +13,7 @@ use Rattle.line_core.specs.declared.error.ReplayError.{ReplayError}
 use Rattle.line_core.specs.declared.error.ReplayError.TheVariants.{NoStation, Done, Empty, Unfinished, NoMemory}
 use Rattle.line_core.specs.Refusals.{is_empty, first_empty, is_behind, first_unfinished}
 use Rattle.line_core.specs.Schedule.{lines_of, is_label_of, station_with, fire_from, fire_named, follow_line, follow_lines, and_then, end_at, follow, IsRefusal}
-use Rattle.refusals.specs.Schedules.{NamesExisting}
+use Rattle.live_plant.specs.Schedules.{NamesExisting}
 
 -- a refusal, if it is one, names what is there
 abbrev Names : Parts → Result State ReplayError → Type 0

@@ -9,8 +9,8 @@ use Rattle.card_sizing.specs.declared.sizing.SizingError.TheVariants as sizing
 use Rattle.latest_dates.specs.declared.error.LatestError.{LatestError}
 use Rattle.latest_dates.specs.declared.error.LatestError.TheVariants as latest
 use Rattle.what_if.specs.declared.edits.RefusedLine.{RefusedLine}
-use Rattle.refusals.specs.declared.refusal.Refusal.{Refusal}
-use Rattle.refusals.specs.declared.refusal.Refusal.TheVariants.{Varying, NoCount, NoSingleCount, Late, NotEdited, NoMemory}
+use Rattle.live_plant.specs.declared.refusals.refusal.Refusal.{Refusal}
+use Rattle.live_plant.specs.declared.refusals.refusal.Refusal.TheVariants.{Varying, NoCount, NoSingleCount, Late, NotEdited, NoMemory}
 
 -- the refusal of a graph without a cycle time, in which the station goes by its label
 abbrev pub cycle_refusal : Parts → CycleError → Refusal

@@ -1,7 +1,7 @@
 ghost use Rattle.std.specs.Prelude.{◌≡◌, ◌⊎◌};
-ghost use Rattle.refusals.specs.Refusals.{cycle_refusal, NamesStation};
+ghost use Rattle.live_plant.specs.Refusals.{cycle_refusal, NamesStation};
 
-use crate::refusal::Refusal;
+use crate::refusals::Refusal;
 use cycle_time::CycleError;
 use event_graph::Graph;
 use line_base::Items;

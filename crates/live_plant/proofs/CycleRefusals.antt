@@ -3,7 +3,7 @@ use Rattle.line_base.specs.declared.event.Parts.{Parts}
 use Rattle.cycle_time.specs.declared.certificate.CycleError.{CycleError}
 use Rattle.cycle_time.specs.declared.certificate.CycleError.TheVariants.{Varying, NoMemory}
 use Rattle.cycle_time.specs.Certificate.{IsCycleRefusal}
-use Rattle.refusals.specs.Refusals.{NamesStation}
+use Rattle.live_plant.specs.Refusals.{NamesStation}
 
 pub names_station : (g : Parts) (error : CycleError) → IsCycleRefusal g error → NamesStation g error
 names_station g (Varying t) why = why.within

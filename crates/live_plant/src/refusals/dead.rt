@@ -1,5 +1,5 @@
 ghost use Rattle.std.specs.Prelude.{◌≡◌, IfOk};
-ghost use Rattle.refusals.specs.DeadLine.{dead_line};
+ghost use Rattle.live_plant.specs.DeadLine.{dead_line};
 
 use line_base::Label;
 use std::alloc::{AllocError, Global};

@@ -1,11 +1,11 @@
 ghost use Rattle.std.specs.Cow.{cow_slice_items};
 ghost use Rattle.std.specs.Prelude.{◌≡◌, ◌++◌, codes, decimal, IfOk, OnErr};
 ghost use Rattle.command_line.specs.Lines.{as_line};
-ghost use Rattle.refusals.specs.Refusal.{status_of, text_of, IsFixed};
-ghost use Rattle.refusals.specs.Refusals.{sizing_refusal, edits_refusal, latest_refusal};
-ghost use Rattle.refusals.specs.declared.refusal.Refusal.TheVariants.{NoMemory};
+ghost use Rattle.live_plant.specs.Refusal.{status_of, text_of, IsFixed};
+ghost use Rattle.live_plant.specs.Refusals.{sizing_refusal, edits_refusal, latest_refusal};
+ghost use Rattle.live_plant.specs.declared.refusals.refusal.Refusal.TheVariants.{NoMemory};
 
-use crate::dead::dead_line;
+use crate::refusals::dead::dead_line;
 use card_sizing::SizingError;
 use command_line::FileName;
 use latest_dates::LatestError;

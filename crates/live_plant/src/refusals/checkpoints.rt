@@ -1,7 +1,7 @@
 ghost use Rattle.std.specs.Prelude.{◌≡◌, ◌⊎◌, ◌++◌, codes, decimal, string_bytes, IfOk};
-ghost use Rattle.refusals.specs.Checkpoints.{checkpoint_refusal, has_date, NamesStation};
+ghost use Rattle.live_plant.specs.Checkpoints.{checkpoint_refusal, has_date, NamesStation};
 
-use crate::refusal::Refusal;
+use crate::refusals::Refusal;
 use checkpoint::CheckpointError;
 use event_graph::Graph;
 use line_base::Items;

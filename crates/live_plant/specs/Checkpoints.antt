@@ -6,8 +6,8 @@ use Rattle.line_base.specs.declared.event.Parts.{Parts}
 use Rattle.event_graph.specs.Network.{stations, label}
 use Rattle.checkpoint.specs.declared.error.CheckpointError.{CheckpointError}
 use Rattle.checkpoint.specs.declared.error.CheckpointError.TheVariants as error
-use Rattle.refusals.specs.declared.refusal.Refusal.{Refusal}
-use Rattle.refusals.specs.declared.refusal.Refusal.TheVariants.{NotReached, NoMemory}
+use Rattle.live_plant.specs.declared.refusals.refusal.Refusal.{Refusal}
+use Rattle.live_plant.specs.declared.refusals.refusal.Refusal.TheVariants.{NotReached, NoMemory}
 
 -- the date that stands there, and the one that is needed
 abbrev pub has_date : ℕ → ℕ → List ℕ

@@ -1,4 +1,0 @@
-pub mod CheckpointErrors
-pub mod CycleRefusals
-mod Examples
-pub mod ScheduleErrors
