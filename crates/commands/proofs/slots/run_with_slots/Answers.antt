@@ -10,3 +10,6 @@ returns-in-Err g c =
     let view = g.D.Disk.shown c.args.disk.now in
     run_no_memory g.D.Disk.tells view view c.args.line.plant c.args.every
     (kept_at_first g.D.Disk.tells view (graph c.args.line.plant)) (Err NoMemory) refl
+
+pub returns-in-Ok : goal.returns-in-Ok
+returns-in-Ok g c = c.run_saving.ensures
