@@ -3,16 +3,18 @@
 ghost use Rattle.command_line.specs.Ranges.{AreWorkers};
 ghost use Rattle.command_line.specs.declared.command.Command.TheVariants as command;
 ghost use Rattle.commands.specs.Answers.{AnswersOfFile};
-ghost use Rattle.commands.specs.Task.{IsFileInRange, IsTaskInRange};
+ghost use Rattle.commands.specs.Task.{IsDiskInRange, IsFileInRange, IsPlantInRange, IsTaskInRange};
 ghost use Rattle.live_plant.specs.Actions.{disk_over, DoesOnStore};
 ghost use Rattle.live_plant.specs.LivePlant.{IsLivePlant};
 ghost use Rattle.live_plant.specs.Outside.{store_over};
 ghost use Rattle.live_plant.specs.Steps.{Makes};
-ghost use Rattle.pull_cli.specs.Verdict.{AsksWith, OfCommand, TaskDoes};
+ghost use Rattle.pull_cli.specs.Verdict.{AsksWith, OfCommand, OfTask, TaskDoes};
 
 use answers::Answer;
+use command_line::Stop;
 use commands::{
-    FileQuestion, Task, ask_alone, ask_disk, ask_file, ask_plant, run_standing, run_until,
+    DiskQuestion, FileQuestion, PlantQuestion, Task, ask_alone, ask_disk, ask_file, ask_plant,
+    run_standing, run_until,
 };
 use line_disk::Disk;
 use line_io::Store;
@@ -37,35 +39,76 @@ pub fn do_task<R: Threads + Sync, S: Store, G: Gate, D: Disk>(
 {
     match task {
         Task::Alone { question } => ask_alone(rt, alloc, question, gate),
-        Task::Linting { plant } => {
-            let text = lint_plant_file(alloc, store, plant.as_str())?;
-            Ok(Answer::Text { text })
-        }
+        Task::Linting { plant } => lint_plant(alloc, store, plant.as_str()),
         Task::OnPlant { plant, question } => {
-            let line = read_live_plant(alloc, store, plant.as_str())?;
-            ask_plant(rt, alloc, line, question, gate)
+            ask_of_plant(rt, alloc, store, plant.as_str(), question, gate)
         }
         Task::OnFile {
             plant,
             file,
             question,
-        } => {
-            let line = read_live_plant(alloc, store, plant.as_str())?;
-            ask_with(rt, alloc, line, file.as_str(), question, store, gate)
-        }
+        } => ask_of_file(
+            rt,
+            alloc,
+            store,
+            plant.as_str(),
+            file.as_str(),
+            question,
+            gate,
+        ),
         Task::Stopping {
             plant,
             workers,
             stop,
-        } => {
-            let line = read_live_plant(alloc, store, plant.as_str())?;
-            run_until(rt, alloc, line, workers, stop, gate, store)
-        }
+        } => stop_plant(rt, alloc, store, plant.as_str(), workers, stop, gate),
         Task::OnDisk { plant, question } => {
-            let line = read_live_plant(alloc, store, plant.as_str())?;
-            ask_disk(rt, alloc, line, question, gate, disk)
+            ask_of_disk(rt, alloc, store, plant.as_str(), question, gate, disk)
         }
     }
+}
+
+/// What lint says of a plant file and of the files that it names.
+fn lint_plant<S: Store>(alloc: Global, store: &mut S, plant: &str) -> Result<Answer, Refusal>
+    ensures { DoesOnStore (store_over S.tells (S.shown store.old) (S.shown store.new))
+        (OfTask S.tells (S.shown store.old).files (Task.Linting plant.now)) result }
+{
+    let text = lint_plant_file(alloc, store, plant)?;
+    Ok(Answer::Text { text })
+}
+
+/// What is answered about the live plant of a plant file.
+fn ask_of_plant<R: Threads + Sync, S: Store, G: Gate>(
+    rt: &R,
+    alloc: Global,
+    store: &mut S,
+    plant: &str,
+    question: PlantQuestion,
+    gate: &G,
+) -> Result<Answer, Refusal>
+    requires range { IsPlantInRange question }
+    ensures { DoesOnStore (store_over S.tells (S.shown store.old) (S.shown store.new))
+        (OfTask S.tells (S.shown store.old).files (Task.OnPlant plant.now question)) result }
+{
+    let line = read_live_plant(alloc, store, plant)?;
+    ask_plant(rt, alloc, line, question, gate)
+}
+
+/// What is answered about the live plant of a plant file and a further file.
+fn ask_of_file<R: Threads + Sync, S: Store, G: Gate>(
+    rt: &R,
+    alloc: Global,
+    store: &mut S,
+    plant: &str,
+    file: &str,
+    question: FileQuestion,
+    gate: &G,
+) -> Result<Answer, Refusal>
+    requires range { IsFileInRange question }
+    ensures { DoesOnStore (store_over S.tells (S.shown store.old) (S.shown store.new))
+        (OfTask S.tells (S.shown store.old).files (Task.OnFile plant.now file.now question)) result }
+{
+    let line = read_live_plant(alloc, store, plant)?;
+    ask_with(rt, alloc, line, file, question, store, gate)
 }
 
 /// What is answered about a live plant and a further file, which is read.
@@ -90,6 +133,42 @@ fn ask_with<R: Threads + Sync, S: Store, G: Gate>(
             Err(refusal)
         }
     }
+}
+
+/// What a run of the live plant of a plant file answers that is asked to stop.
+fn stop_plant<R: Threads + Sync, S: Store, G: Gate>(
+    rt: &R,
+    alloc: Global,
+    store: &mut S,
+    plant: &str,
+    workers: u32,
+    stop: Stop,
+    gate: &G,
+) -> Result<Answer, Refusal>
+    requires workers { AreWorkers workers }
+    ensures { DoesOnStore (store_over S.tells (S.shown store.old) (S.shown store.new))
+        (OfTask S.tells (S.shown store.old).files (Task.Stopping plant.now workers stop)) result }
+{
+    let line = read_live_plant(alloc, store, plant)?;
+    run_until(rt, alloc, line, workers, stop, gate, store)
+}
+
+/// What is answered about the live plant of a plant file and the slots of a disk.
+fn ask_of_disk<R: Threads + Sync, S: Store, G: Gate, D: Disk>(
+    rt: &R,
+    alloc: Global,
+    store: &mut S,
+    plant: &str,
+    question: DiskQuestion,
+    gate: &G,
+    disk: &mut D,
+) -> Result<Answer, Refusal>
+    requires range { IsDiskInRange question }
+    ensures { TaskDoes (store_over S.tells (S.shown store.old) (S.shown store.new))
+        (disk_over D.tells (D.shown disk.old) (D.shown disk.new)) (Task.OnDisk plant.now question) result }
+{
+    let line = read_live_plant(alloc, store, plant)?;
+    ask_disk(rt, alloc, line, question, gate, disk)
 }
 
 /// What `run PLANT --stand [--workers W]` answers. It waits for its threads, and doesn't promise to return.
