@@ -237,6 +237,16 @@ finished-counted d dates t jobs are none nothing =
     ap (λ rs. plant_or_first rs (plant_with d dates t)) whole
     ∙ ap (λ b. Ok (plant_with d dates (table_within b t))) (sym within)
 
+answer-same : (refusals all : List PlantError) (p q : Plant) → all ≡ refusals → (refusals ≡ [] → plant_or_first all q ≡ Ok p) → plant_or_first refusals p ≡ plant_or_first all q
+answer-same [] all p q same none = sym (none refl)
+answer-same (refusal ∷ rest) all p q same none = rw same refl
+
+-- so the answer of that is the plant of the draft, or its first refusal
+pub answer-counted : (d : DraftPlant) (dates : Option (List ℕ)) (t : Option JobTimes) (jobs : ℕ) → jobs ≡ length (plant_with d dates t).demands → each (stage_counts jobs t) d.stages ≡ [] → plant_or_first (whole_refusals (plant_with d dates (table_within (stays_within jobs d.stages) t))) (plant_with d dates (table_within (stays_within jobs d.stages) t)) ≡ finished_plant d dates t
+answer-counted d dates t jobs are none =
+    answer-same (whole_refusals (plant_with d dates (table_within (stays_within jobs d.stages) t))) (whole_refusals (plant_with d dates t)) _ (plant_with d dates t)
+    (sym (whole_refusals-counted d dates t jobs are none)) (finished-counted d dates t jobs are none)
+
 -- the plant that is made, where the columns of one that is too large are left out
 pub plant-left_out : (made : Plant) (d : DraftPlant) (dates : Option (List ℕ)) (jobs : ℕ) (stages : List DraftStage) (table times : Option JobTimes) → made ≡ plant_with d dates table → table ≡ table_within (stays_within jobs stages) times → stages ≡ d.stages → made ≡ plant_with d dates (table_within (stays_within jobs d.stages) times)
 plant-left_out made d dates jobs stages table times is left same =

@@ -5,9 +5,9 @@ ghost use Rattle.demand_feed.specs.Times.{times_of};
 ghost use Rattle.line_base.specs.declared.limits.TheConstants.{MAX_CHECKPOINT_BYTES, MAX_DEMAND_DATE};
 ghost use Rattle.plant_file.specs.Draft.{demands_file, demands_column, columns_of};
 ghost use Rattle.plant_file.specs.Complete.{HoldsDates, HoldsTimes, refusal_of};
-ghost use Rattle.plant_file.specs.Finish.{AnswersPlant, AreFilesOf, HasColumn, HasColumns, IsWithinLimit, bad_record_in, bad_records, plant_of_bytes, completed_plant, dates_with, finished_plant, loop_with, machine_with, plant_with, stage_with, times_with};
+ghost use Rattle.plant_file.specs.Finish.{AnswersPlant, AreFilesOf, HasColumn, HasColumns, IsWithinLimit, bad_record_in, bad_records, plant_of_bytes, completed_plant, dates_with, finished_plant, loop_with, machine_with, plant_or_first, plant_with, stage_with, times_with};
 ghost use Rattle.plant_file.specs.PlantOfFiles.{Contents, IsReadFrom, plant_of};
-ghost use Rattle.plant_model.specs.Refusals.{all_feeds_not_later, first, whole_refusals};
+ghost use Rattle.plant_model.specs.Refusals.{all_feeds_not_later, first, parts_refusals, whole_refusals};
 ghost use Rattle.plant_model.specs.Sound.{IsSound};
 
 use crate::build::push;
@@ -50,6 +50,15 @@ pub fn finish_draft(
     }
     let times = table_within(jobs, draft.stages.as_slice(), times);
     let plant = plant_with(alloc, draft, dates, times)?;
+    whole_plant(alloc, plant)
+}
+
+/// A plant whose parts are right, unless something is wrong with it as a whole.
+fn whole_plant(alloc: Global, plant: Plant) -> Result<Plant, PlantError>
+    requires { parts_refusals plant ≡ [] }
+    ensures plant { AnswersPlant result (plant_or_first (whole_refusals plant) plant) }
+    ensures sound { IfOk result IsSound }
+{
     match check_whole(alloc, &plant) {
         Ok(()) => Ok(plant),
         Err(refusal) => {
