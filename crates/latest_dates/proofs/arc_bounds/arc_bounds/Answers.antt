@@ -16,3 +16,15 @@ loop-a-preserved c =
       count = omega (arith, ap length added, length-append bounds (c.arc_bound.result ∷ []), before.count);
       each = subst (λ (l : List ArcBound). (k : ℕ) (d : ArcBound) → k < length l → IsBoundOf g k (slice_index_or l k d)) (sym added) (bounds-next g bounds c.arc_bound.result before.each this);
     }
+
+pub loop-a-init : goal.loop-a-init
+loop-a-init c =
+    let none = ap length c.new-bounds.ensures.items in
+    record { count = none; each = λ k d below. absurd (omega (arith, below, none)) }
+
+pub returns : goal.returns
+returns c =
+    record {
+      one_for_each = omega (arith, c.loop-a.invariant.count, c.loop-a-test.false, ap length c.arcs.ensures.arcs);
+      each = c.loop-a.invariant.each;
+    }
