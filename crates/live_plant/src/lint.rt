@@ -81,7 +81,11 @@ fn lint_bytes(
 {
     let SoundFile { notes, draft } = file;
     match lint_draft(alloc, draft, demands, times) {
-        Ok(DraftLint::Sound { plant, notes: more }) => lint_live(alloc, &plant, &notes, &more),
+        Ok(DraftLint::Sound { plant, notes: more }) => {
+            let answer = lint_live(alloc, &plant, &notes, &more);
+            drop(plant);
+            answer
+        }
         Ok(DraftLint::Refused { lines }) => Err(Refusal::Faults { lines }),
         Err(_) => Err(Refusal::NoMemory),
     }
@@ -99,7 +103,10 @@ fn lint_live(
     ensures { IsCleanOrDead plant.now (clean_text of_file.now of_plant.now) result ⊎ (result ≡ Err NoMemory) }
 {
     match live_graph(alloc, plant) {
-        Ok(_) => clean(alloc, of_file, of_plant),
+        Ok(live) => {
+            drop(live);
+            clean(alloc, of_file, of_plant)
+        }
         Err(dead) => Err(dead),
     }
 }

@@ -71,8 +71,14 @@ pub fn live_graph(alloc: Global, plant: &Plant) -> Result<Live, Refusal>
     };
     match rank(alloc, graph) {
         Ok(live) => Ok(live),
-        Err(NotLive::Dead { graph, arcs }) => Err(dead_refusal(alloc, &graph, arcs.as_slice())),
-        Err(NotLive::NoMemory { .. }) => Err(Refusal::NoMemory),
+        Err(not_live) => {
+            let refusal = match &not_live {
+                NotLive::Dead { graph, arcs } => dead_refusal(alloc, graph, arcs.as_slice()),
+                NotLive::NoMemory { .. } => Refusal::NoMemory,
+            };
+            drop(not_live);
+            Err(refusal)
+        }
     }
 }
 
