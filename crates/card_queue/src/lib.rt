@@ -1,5 +1,6 @@
-//! Queues of dated tokens, first in, first out. A queue between two workers is one ring, with an end to put and an end
-//! to take, each of which may move to a thread of its own. A plain queue stays with one worker.
+//! Queues of dated tokens, first in, first out. What stands for a token is its date. A queue between two workers is one
+//! ring, with an end to put and an end to take, each of which may move to a thread of its own. A plain queue stays with
+//! one worker.
 #![tactic(auto)]
 
 ghost use Rattle.std.specs.Prelude.{◌≡◌, ◌+◌, ◌<◌, ◌^◌, [], length, IfOk};
@@ -10,7 +11,6 @@ mod plain;
 mod put;
 mod take;
 
-use line_base::Date;
 pub use plain::Plain;
 pub use put::Put;
 use rtrb::RingBuffer;
@@ -19,7 +19,7 @@ pub use take::Take;
 
 /// Makes a queue that has put the initial tokens, taken none and knows all of them. `put` may be called `room` times on
 /// it. Fails only where memory runs out.
-pub fn queue(alloc: Global, initial: &[Date], room: u32) -> Result<(Put, Take), AllocError>
+pub fn queue(alloc: Global, initial: &[u64], room: u32) -> Result<(Put, Take), AllocError>
     requires { length initial.now + room < 2 ^ 32 }
     ensures ends { IfOk result (λ ends. IsQueue ends.0 ends.1) }
     ensures initial { IfOk result (λ ends. ends.0.initial ≡ initial.now) }

@@ -1,7 +1,6 @@
 ghost use Rattle.std.specs.Prelude.{◌≡◌, ◌+◌, ◌<◌, ◌^◌, ◌↔◌, [], ◌∷◌, ◌++◌, length, IfOk, IsNone, option_to_list};
 ghost use Rattle.card_queue.specs.Plain.{plain_tokens, plain_taken, plain_waiting};
 
-use line_base::Date;
 use std::alloc::{AllocError, Global};
 use std::marker::Model;
 
@@ -10,7 +9,7 @@ use std::marker::Model;
 /// moment.
 #[derive(Drop)]
 pub struct Plain {
-    tokens: Vec<Date>,
+    tokens: Vec<u64>,
     // How many tokens the queue began with, and how many may be put. Contracts alone read these two.
     initial: usize,
     room: u32,
@@ -44,7 +43,7 @@ impl Model for Plain {
 impl Plain {
     /// Makes a queue that holds the initial tokens. `put` may be called `room` times on it. Fails only where
     /// memory runs out.
-    pub fn new(alloc: Global, initial: &[Date], room: u32) -> Result<Plain, AllocError>
+    pub fn new(alloc: Global, initial: &[u64], room: u32) -> Result<Plain, AllocError>
         requires { length initial.now + room < 2 ^ 32 }
         ensures initial { IfOk result (λ plain. plain.initial ≡ initial.now) }
         ensures added { IfOk result (λ plain. plain.added ≡ []) }
@@ -64,7 +63,7 @@ impl Plain {
     }
 
     /// Puts a token behind all others. It takes no memory, since `new` took room for it.
-    pub fn put(&mut self, date: Date)
+    pub fn put(&mut self, date: u64)
         requires { length self.old.added < self.old.room }
         ensures added { self.new ≡ record self.old { added = self.old.added ++ date ∷ [] } }
         ensures taken { plain_taken self.new ≡ plain_taken self.old }
@@ -73,7 +72,7 @@ impl Plain {
     }
 
     /// Takes the front token, or gives `None`, exactly where the queue is empty.
-    pub fn take(&mut self) -> Option<Date>
+    pub fn take(&mut self) -> Option<u64>
         ensures front { plain_waiting self.old ≡ option_to_list result ++ plain_waiting self.new }
         ensures none { IsNone result ↔ (plain_waiting self.old ≡ []) }
         ensures taken { plain_taken self.new ≡ plain_taken self.old ++ option_to_list result }

@@ -1,13 +1,12 @@
 ghost use Rattle.std.specs.Prelude.{◌≡◌, ◌<◌, [], ◌∷◌, ◌++◌, length};
 
-use line_base::Date;
 use rtrb::Producer;
 use std::marker::Model;
 
 /// The end of a queue at which tokens are put. It may move to another thread.
 #[derive(Drop)]
 pub struct Put {
-    pub(crate) producer: Producer<Date>,
+    pub(crate) producer: Producer<u64>,
     // How many tokens the queue began with. Contracts alone read it.
     pub(crate) initial: usize,
 }
@@ -32,7 +31,7 @@ impl Model for Put {
 
 impl Put {
     /// Puts a token behind all others. It takes no memory, since room was taken for it when the queue was made.
-    pub fn put(&mut self, date: Date)
+    pub fn put(&mut self, date: u64)
         requires { length self.old.added < self.old.room }
         ensures { self.new ≡ record self.old { added = self.old.added ++ date ∷ [] } }
     {

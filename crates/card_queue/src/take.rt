@@ -1,14 +1,13 @@
 ghost use Rattle.std.specs.Prelude.{◌≡◌, [], ◌++◌, length, IfNone, option_to_list};
 ghost use mathlib.Core.List.{IsPrefix};
 
-use line_base::Date;
 use rtrb::Consumer;
 use std::marker::Model;
 
 /// The end of a queue at which tokens are taken. It may move to another thread.
 #[derive(Drop)]
 pub struct Take {
-    pub(crate) consumer: Consumer<Date>,
+    pub(crate) consumer: Consumer<u64>,
 }
 
 impl Model for Take {
@@ -30,7 +29,7 @@ impl Model for Take {
 
 impl Take {
     /// Takes the next token in order of putting. `None` comes only where no token is known, and then nothing changes.
-    pub fn take(&mut self) -> Option<Date>
+    pub fn take(&mut self) -> Option<u64>
         ensures ring { self.new.ring ≡ self.old.ring }
         ensures taken { self.new.taken ≡ self.old.taken ++ option_to_list result }
         ensures next { IsPrefix self.old.known (option_to_list result ++ self.new.known) }

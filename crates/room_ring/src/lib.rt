@@ -1,5 +1,5 @@
-//! A ring of bounded room between two workers: dated tokens, first in, first out. Each of its two
-//! ends may move to a thread of its own.
+//! A ring of bounded room between two workers: dated tokens, first in, first out. What stands for a token is its date.
+//! Each of its two ends may move to a thread of its own.
 #![tactic(auto)]
 
 ghost use Rattle.std.specs.Prelude.{◌≡◌, ◌+◌, ◌<◌, ◌≤◌, [], length, IfOk};
@@ -17,7 +17,6 @@ mod words;
 
 use atomic_table::Seat;
 use end::End;
-use line_base::Date;
 pub use put::{Full, RoomPut};
 use std::alloc::{AllocError, Global};
 use std::sync::Arc;
@@ -30,7 +29,7 @@ use words::{FIRST_CELL, HEAD, LeaveNote, LoadHead, LoadTail, Open, TAIL, Tell, W
 /// memory runs out. No other call takes any.
 pub fn room_ring(
     alloc: Global,
-    initial: &[Date],
+    initial: &[u64],
     room: u32,
 ) -> Result<(RoomPut, RoomTake), AllocError>
     requires some_room { 1 ≤ room }

@@ -5,7 +5,6 @@ ghost use Rattle.room_ring.specs.View.{IsPutter};
 
 use crate::end::End;
 use crate::words::{HEAD, LoadHead, StoreCell, StoreTail, TAIL, cell};
-use line_base::Date;
 use std::marker::Model;
 
 /// As many tokens wait as there is room for, as far as was seen.
@@ -71,7 +70,7 @@ impl RoomPut {
     }
 
     /// Puts a token behind all others, where there is space. It takes no memory.
-    pub(crate) fn put_within(&mut self, date: Date)
+    pub(crate) fn put_within(&mut self, date: u64)
         requires space { 0 < room_space self.old }
         requires most { length self.old.added < 2 ^ 40 }
         ensures { self.new ≡ record self.old { added = self.old.added ++ date ∷ [] } }
@@ -85,7 +84,7 @@ impl RoomPut {
 
     /// Puts a token behind all others. Where no space is known it looks once, and `Full` comes
     /// only where there is none after that; nothing is put then. It takes no memory.
-    pub fn put(&mut self, date: Date) -> Result<(), Full>
+    pub fn put(&mut self, date: u64) -> Result<(), Full>
         requires { length self.old.added < 2 ^ 40 }
         ensures put { OnOk result (self.new.added ≡ self.old.added ++ date ∷ []) }
         ensures full { OnErr result (room_space self.new ≡ 0) }

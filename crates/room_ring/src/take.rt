@@ -5,7 +5,6 @@ ghost use Rattle.room_ring.specs.View.{IsTaker};
 
 use crate::end::End;
 use crate::words::{HEAD, LoadCell, LoadTail, StoreHead, TAIL, cell};
-use line_base::Date;
 use std::marker::Model;
 
 /// The end of a ring at which tokens are taken. It may move to another thread.
@@ -52,7 +51,7 @@ impl RoomTake {
     }
 
     /// Takes the next token, where one is known.
-    fn take_known(&mut self) -> Date
+    fn take_known(&mut self) -> u64
         requires { 0 < room_known self.old }
         ensures { self.new ≡ record self.old { taken = self.old.taken ++ result ∷ [] } }
     {
@@ -66,7 +65,7 @@ impl RoomTake {
 
     /// Takes the next token in order of putting. Where none is known it looks once, and `None`
     /// comes only where none is known after that; nothing is taken then. It takes no memory.
-    pub fn take(&mut self) -> Option<Date>
+    pub fn take(&mut self) -> Option<u64>
         ensures taken { self.new.taken ≡ self.old.taken ++ option_to_list result }
         ensures none { IfNone result (room_known self.new ≡ 0) }
         ensures looked { IfNone result (self.new.loads ≡ self.old.loads + 1) }

@@ -1,4 +1,3 @@
-use line_base::Date;
 use std::collections::LinkedList;
 
 /// What a seat of a ring's table is.
@@ -19,19 +18,19 @@ pub struct View {
     pub role: Role,
     /// What was put, of the putter; what was taken, of the taker; of a note, the list of the seat
     /// that was split.
-    pub list: LinkedList<Date>,
+    pub list: LinkedList<u64>,
     /// The head that the putter has seen, or the tail that the taker has seen.
     pub seen: u64,
     /// How often the putter loaded the head, or the taker the tail.
     pub loads: u64,
     /// A date that the putter has stored in a cell and not published.
-    pub stored: Option<Date>,
+    pub stored: Option<u64>,
     /// Whether the putter was split.
     pub is_split: bool,
     /// Whether the taker has loaded a cell and not stored the head since.
     pub is_loaded: bool,
     /// The list of the note that was joined last.
-    pub heard: LinkedList<Date>,
+    pub heard: LinkedList<u64>,
     /// How many tokens were taken at least, of a note, or heard from one.
     pub count: u64,
     /// How many tokens the ring may hold.
