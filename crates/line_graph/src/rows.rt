@@ -7,6 +7,7 @@ ghost use Rattle.plant_model.specs.Sound.{IsSound};
 use crate::delays::{loop_delays, policy_delays};
 use line_base::Arc;
 use plant_model::{FEED, Layout, Plant, Policy};
+use policies::{base_stock, conwip, extended, kanban, loops};
 use std::alloc::{AllocError, Global};
 
 /// Arcs in their order, and the delay of each, in the plant's unit.
@@ -52,7 +53,7 @@ pub(crate) fn line_rows(alloc: Global, plant: &Plant) -> Result<Rows, AllocError
     let arcs = policy_arcs(alloc, plant)?;
     let delays = policy_delays(alloc, plant, arcs.len())?;
     all.append(arcs.as_slice(), delays.as_slice())?;
-    let loop_arcs = policy_loops::arcs(alloc, plant)?;
+    let loop_arcs = loops::arcs(alloc, plant)?;
     let loop_times = loop_delays(alloc, plant.loops.as_slice())?;
     all.append(loop_arcs.as_slice(), loop_times.as_slice())?;
     Ok(all)
@@ -64,10 +65,10 @@ fn policy_arcs(alloc: Global, plant: &Plant) -> Result<Vec<Arc>, AllocError>
     ensures { IfOk result (λ arcs. arcs.items ≡ arcs_of (policy_rows plant.now)) }
 {
     match plant.policy {
-        Policy::Kanban => policy_kanban::arcs(alloc, plant),
-        Policy::Conwip(_) => policy_conwip::arcs(alloc, plant),
-        Policy::BaseStock => policy_basestock::arcs(alloc, plant),
-        Policy::Extended => policy_extended::arcs(alloc, plant),
+        Policy::Kanban => kanban::arcs(alloc, plant),
+        Policy::Conwip(_) => conwip::arcs(alloc, plant),
+        Policy::BaseStock => base_stock::arcs(alloc, plant),
+        Policy::Extended => extended::arcs(alloc, plant),
     }
 }
 

@@ -1,8 +1,0 @@
-use Rattle.std.proofs.Common.{◌≡◌}
-use Rattle.std.specs.List.{flat_map, range_with_len}
-use Rattle.plant_model.specs.Graph.{arcs_of}
-use Rattle.policy_extended.proofs.Rows.{stage_rows}
-use Rattle.policy_extended.proofs.arcs.Given as goal
-
-abbrev pub invariant-loop-number : goal.invariant-loop-number
-invariant-loop-number l = l.arcs.items ≡ arcs_of (flat_map (stage_rows l.plant) (range_with_len 0 l.number))
