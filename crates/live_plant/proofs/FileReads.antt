@@ -1,5 +1,5 @@
 -- What a read of a store answers, and the refusals that need no cause.
-use Rattle.std.proofs.Common.{◌≡◌, ◌≢◌, ◌⊎◌, ℕ, ◌<◌, ◌≤◌, Bool, List, [], ◌∷◌, length, refl, ap, sym, subst, ⊎_elim, inl, inr}
+use Rattle.std.proofs.Common.{◌≡◌, ◌≢◌, ◌⊎◌, ℕ, ◌<◌, ◌≤◌, Bool, Option, List, [], ◌∷◌, length, refl, ap, sym, subst, ⊎_elim, inl, inr}
 use Rattle.std.specs.Prelude.{Result, Ok, Err, IfErr, IsTrue, Some}
 use Rattle.std.proofs.lemmas.List.Elements.{All-nil, All-cons}
 use Rattle.line_base.specs.declared.event.Parts.{Parts}
@@ -9,6 +9,8 @@ use Rattle.line_io.specs.Faults.{Rose, NeverFall}
 use Rattle.line_io.specs.StoreView.{StoreView}
 use Rattle.line_io.specs.declared.store.StoreError.{StoreError}
 use Rattle.line_io.specs.declared.store.StoreError.TheVariants as store_error
+use Rattle.plant_file.specs.declared.draft.DraftPlant.{DraftPlant}
+use Rattle.plant_file.specs.Finish.{completed_plant}
 use Rattle.plant_model.specs.declared.error.PlantError.{PlantError}
 use Rattle.plant_model.specs.declared.error.PlantError.TheVariants as plant_error
 use Rattle.live_plant.specs.declared.refusals.refusal.Refusal.{Refusal}
@@ -19,6 +21,7 @@ use Rattle.live_plant.specs.Outside.{StoreOver, store_over, limit_of, with_reads
 use Rattle.live_plant.specs.Refused.{IsFaultOf, refusal_of}
 use Rattle.live_plant.specs.Steps.{LooksAt, Makes}
 use Rattle.live_plant.specs.PlantSteps.{or_refused, IsDeadRefusal, IsLiveOrDead}
+use Rattle.live_plant.proofs.StepLemmas.{NeedsNoCause}
 
 -- a read of a store that only added itself to what was asked
 abbrev pub one_read : (name : List ℕ) (given : Result (List ℕ) StoreError) → List Read
@@ -82,6 +85,18 @@ refusal_answers want error is = inl (sym (ap or_refused (is (λ same. cc))))
 pub refusal_caused : (tells : Bool) (old new : StoreView) (error : PlantError) → IsCaused (store_over tells old new) (refusal_of error)
 refusal_caused tells old new plant_error.NoMemory = tt
 refusal_caused tells old new error = tt
+
+-- what a draft and the bytes of its files answer
+abbrev pub IsCompleted : DraftPlant → Option (List ℕ) → Option (List ℕ) → Result Plant Refusal → Type 0
+IsCompleted d demands times answer = answer ≡ or_refused (completed_plant d demands times)
+
+refused_needs_none : {A : Type 0} (r : Result A PlantError) → IfErr (or_refused r) NeedsNoCause
+refused_needs_none (Ok x) = tt
+refused_needs_none (Err error) = tt
+
+pub completed_needs_none : (d : DraftPlant) (demands times : Option (List ℕ)) (answer : Result Plant Refusal) → IsCompleted d demands times answer → IfErr answer NeedsNoCause
+completed_needs_none d demands times answer is =
+    subst (λ (r : Result Plant Refusal). IfErr r NeedsNoCause) (sym is) (refused_needs_none (completed_plant d demands times))
 
 -- Refusals that name no file need no cause. A circuit without a token
 dead_needs_none : (store : StoreOver) (g : Parts) (refusal : Refusal) → IsDeadRefusal g refusal → IsCaused store refusal

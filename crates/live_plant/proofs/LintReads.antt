@@ -1,17 +1,16 @@
 -- What lint answers needs no cause outside: its refusals name no file that failed, and no disk.
-use Rattle.std.proofs.Common.{◌≡◌, ◌⊎◌, ℕ, List, Option, ap, sym, subst, ⊎_elim, inl, inr}
+use Rattle.std.proofs.Common.{ℕ, List, Option, sym, subst}
 use Rattle.std.specs.Prelude.{Result, Ok, Err, IfErr}
 use Rattle.line_base.specs.declared.event.Parts.{Parts}
 use Rattle.plant_file.specs.Finish.{plant_of_bytes}
-use Rattle.plant_lint.specs.DraftLints.{LintsDraft as LintsDraftOf, lint_of_draft}
+use Rattle.plant_lint.specs.DraftLints.{lint_of_draft}
 use Rattle.plant_lint.specs.PlantLints.{clean_text}
-use Rattle.plant_lint.specs.declared.draft_lint.DraftLint.{DraftLint}
 use Rattle.plant_lint.specs.declared.file.FileLint.{FileLint}
 use Rattle.plant_lint.specs.declared.file.FileLint.TheVariants as lint
 use Rattle.plant_model.specs.declared.plant.Plant.{Plant}
 use Rattle.plant_model.specs.Graph.{graph}
 use Rattle.live_plant.specs.declared.refusals.refusal.Refusal.{Refusal}
-use Rattle.live_plant.specs.declared.refusals.refusal.Refusal.TheVariants.{Faults, Dead, NoMemory}
+use Rattle.live_plant.specs.declared.refusals.refusal.Refusal.TheVariants.{Dead}
 use Rattle.live_plant.proofs.StepLemmas.{NeedsNoCause}
 use Rattle.live_plant.specs.LintSteps.{IsRefusedWith, IsFileLint, IsCleanOrDead, IsSaid, IsDraftLint}
 use Rattle.live_plant.specs.PlantSteps.{IsDeadRefusal}

@@ -1,12 +1,14 @@
 -- Two files, each read where it is named, one after the other; and then an answer of which something holds by their
 -- bytes.
-use Rattle.std.proofs.Common.{◌≡◌, ◌⊎◌, Bool, Option, ℕ, List, Result, subst}
+use Rattle.std.proofs.Common.{◌≡◌, ◌⊎◌, Bool, Option, ℕ, List, Result, ap, subst, ⊎_elim, inr}
 use Rattle.std.specs.Prelude.{Ok, Err, IfErr, IsErrAnd}
 use Rattle.line_io.specs.StoreView.{StoreView}
+use Rattle.line_io.specs.Calls.{Read}
+use Rattle.live_plant.specs.declared.files.NamedFiles.{NamedFiles}
 use Rattle.live_plant.specs.declared.refusals.refusal.Refusal.{Refusal}
 use Rattle.live_plant.specs.declared.refusals.refusal.Refusal.TheVariants.{NoMemory}
 use Rattle.live_plant.specs.Outside.{store_over, IsCaused}
-use Rattle.live_plant.specs.Steps.{Step, Settles, LooksAtNamed, Then, Makes}
+use Rattle.live_plant.specs.Steps.{Step, Settles, GoesOn, LooksAtNamed, Then, Makes}
 use Rattle.live_plant.proofs.StepLemmas.{then_makes, then_settles, then_hands_on}
 
 -- after the first file: the second, and then the answer
@@ -37,3 +39,83 @@ pub both_read : {A : Type 0} (tells : Bool) (old between new : StoreView) (named
 both_read tells old between new named first also second P x y answer same same_too made made_too is caused =
     then_makes tells old between new (LooksAtNamed first) (AfterFirst second P) x answer (looked tells old between named first (Ok x) same made)
     (then_settles tells between new (LooksAtNamed second) (P x) y answer (looked tells between new also second (Ok y) same_too made_too) is caused)
+
+-- both, as one value
+abbrev pub AreBoth : Option (List ℕ) → Option (List ℕ) → Result NamedFiles Refusal → Type 0
+AreBoth x y answer = answer ≡ Ok (record { demands = x; times = y })
+
+-- an answer of which something holds by their bytes, where a step read both
+abbrev Holds : {A : Type 0} → (Option (List ℕ) → Option (List ℕ) → Result A Refusal → Type 0) → NamedFiles → Result A Refusal → Type 0
+Holds P files answer = P files.demands files.times answer ⊎ (answer ≡ Err NoMemory)
+
+second_goes_on : {A : Type 0} (P : Option (List ℕ) → Option (List ℕ) → Result A Refusal → Type 0) (x : Option (List ℕ)) (files : NamedFiles) (answer : Result A Refusal) (between : Result (Option (List ℕ)) Refusal) (after : List Read) → GoesOn (λ y. Settles (AreBoth x y)) between after (Ok files) → Holds P files answer → GoesOn (λ y. Settles (P x y)) between after answer
+second_goes_on P x files answer (Ok y) after on holds =
+    let both : NamedFiles = record { demands = x; times = y } in
+    (on.0, ⊎_elim (λ is. let same : files ≡ both = cc in subst (λ (f : NamedFiles). Holds P f answer) same holds) (λ none. absurd (cc)) on.1)
+second_goes_on P x files answer (Err refusal) after on holds = absurd (let no = on.1 in cc)
+
+first_goes_on : {A : Type 0} (second : Option (List ℕ)) (P : Option (List ℕ) → Option (List ℕ) → Result A Refusal → Type 0) (files : NamedFiles) (answer : Result A Refusal) (between : Result (Option (List ℕ)) Refusal) (after : List Read) → GoesOn (AfterFirst second AreBoth) between after (Ok files) → Holds P files answer → GoesOn (AfterFirst second P) between after answer
+first_goes_on second P files answer (Ok x) after on holds = record {
+  before = on.before;
+  after = on.after;
+  split = on.split;
+  between = on.between;
+  answers = on.answers;
+  goes_on = second_goes_on P x files answer on.between on.after on.goes_on holds;
+}
+first_goes_on second P files answer (Err refusal) after on holds = absurd (let no = on.1 in cc)
+
+pub both_given : {A : Type 0} (tells : Bool) (old new : StoreView) (first second : Option (List ℕ)) (P : Option (List ℕ) → Option (List ℕ) → Result A Refusal → Type 0) (files : NamedFiles) (answer : Result A Refusal) → Makes (store_over tells old new) (ByBoth first second AreBoth) (Ok files) → Holds P files answer → IfErr answer (IsCaused (store_over tells old new)) → Makes (store_over tells old new) (ByBoth first second P) answer
+both_given tells old new first second P files answer m holds caused = record {
+  reads = m.reads;
+  asked = m.asked;
+  of_files = m.of_files;
+  answers = record {
+    before = m.answers.before;
+    after = m.answers.after;
+    split = m.answers.split;
+    between = m.answers.between;
+    answers = m.answers.answers;
+    goes_on = first_goes_on second P files answer m.answers.between m.answers.after m.answers.goes_on holds;
+  };
+  caused = caused;
+  files_stay = m.files_stay;
+  read_faults_stay_or_rise = m.read_faults_stay_or_rise;
+  write_faults_stay_or_rise = m.write_faults_stay_or_rise;
+}
+
+-- and a refusal, where it didn't
+second_stops : {A : Type 0} (P : Option (List ℕ) → Option (List ℕ) → Result A Refusal → Type 0) (x : Option (List ℕ)) (refusal : Refusal) (between : Result (Option (List ℕ)) Refusal) (after : List Read) → GoesOn (λ y. Settles (AreBoth x y)) between after (Err refusal) → GoesOn {B = A} (λ y. Settles (P x y)) between after (Err refusal)
+second_stops P x refusal (Ok y) after on =
+    (on.0, ⊎_elim (λ is. absurd (cc)) (λ none. let same : refusal ≡ NoMemory = cc in inr (ap Err same)) on.1)
+second_stops P x refusal (Err stop) after on = let is = on.1 in let same : refusal ≡ stop = cc in (on.0, ap Err same)
+
+first_stops : {A : Type 0} (second : Option (List ℕ)) (P : Option (List ℕ) → Option (List ℕ) → Result A Refusal → Type 0) (refusal : Refusal) (between : Result (Option (List ℕ)) Refusal) (after : List Read) → GoesOn (AfterFirst second AreBoth) between after (Err refusal) → GoesOn {B = A} (AfterFirst second P) between after (Err refusal)
+first_stops second P refusal (Ok x) after on = record {
+  before = on.before;
+  after = on.after;
+  split = on.split;
+  between = on.between;
+  answers = on.answers;
+  goes_on = second_stops P x refusal on.between on.after on.goes_on;
+}
+first_stops second P refusal (Err stop) after on = let is = on.1 in let same : refusal ≡ stop = cc in (on.0, ap Err same)
+
+pub none_given : {A : Type 0} (tells : Bool) (old new : StoreView) (first second : Option (List ℕ)) (P : Option (List ℕ) → Option (List ℕ) → Result A Refusal → Type 0) (refusal : Refusal) → Makes {A = NamedFiles} (store_over tells old new) (ByBoth first second AreBoth) (Err refusal) → Makes {A = A} (store_over tells old new) (ByBoth first second P) (Err refusal)
+none_given tells old new first second P refusal m = record {
+  reads = m.reads;
+  asked = m.asked;
+  of_files = m.of_files;
+  answers = record {
+    before = m.answers.before;
+    after = m.answers.after;
+    split = m.answers.split;
+    between = m.answers.between;
+    answers = m.answers.answers;
+    goes_on = first_stops second P refusal m.answers.between m.answers.after m.answers.goes_on;
+  };
+  caused = m.caused;
+  files_stay = m.files_stay;
+  read_faults_stay_or_rise = m.read_faults_stay_or_rise;
+  write_faults_stay_or_rise = m.write_faults_stay_or_rise;
+}

@@ -1,7 +1,6 @@
 -- What lint reads of a plant file and of the files that it names, in which order, and what it says of them.
 use Rattle.std.specs.Prelude.{◌≡◌, ℕ, List, Option, Result, Ok, Err}
 use Rattle.event_graph.specs.Live.{IsLive}
-use Rattle.plant_file.specs.declared.draft.DraftPlant.{DraftPlant}
 use Rattle.plant_file.specs.Draft.{demands_file}
 use Rattle.plant_file.specs.Reading.{reading}
 use Rattle.plant_file.specs.Finish.{plant_of_bytes}

@@ -1,9 +1,10 @@
 -- The steps up to a live plant: which files are read, in which order, and what they answer over the bytes that the
 -- reads gave. The first refusal ends the command.
-use Rattle.std.specs.Prelude.{◌≡◌, ℕ, List, Bool, IsTrue, Result, Ok, Err, ⊤}
+use Rattle.std.specs.Prelude.{◌≡◌, ◌≤◌, ℕ, List, length, Bool, is_some, IfSome, IsTrue, Result, Ok, Err, ⊤}
 use Rattle.line_io.specs.Calls.{Read}
 use Rattle.line_io.specs.Contents.{Contents}
 use Rattle.line_base.specs.declared.event.Parts.{Parts}
+use Rattle.line_base.specs.declared.limits.TheConstants.{MAX_CHECKPOINT_BYTES}
 use Rattle.plant_model.specs.declared.error.PlantError.{PlantError}
 use Rattle.plant_model.specs.declared.plant.Plant.{Plant}
 use Rattle.plant_model.specs.Graph.{graph}
@@ -14,6 +15,7 @@ use Rattle.plant_file.specs.Reading.{reading}
 use Rattle.event_graph.specs.Live.{IsLive}
 use Rattle.line_graph.specs.DeadLabels.{AreDead}
 use Rattle.plant_file.specs.PlantOfFiles.{plant_of}
+use Rattle.live_plant.specs.declared.files.NamedFiles.{NamedFiles}
 use Rattle.live_plant.specs.declared.refusals.refusal.Refusal.{Refusal}
 use Rattle.live_plant.specs.declared.refusals.refusal.Refusal.TheVariants.{Refused, Dead}
 use Rattle.live_plant.specs.Steps.{Step, Settles, Gives, LooksAt, Then, LooksAtNamed}
@@ -22,6 +24,19 @@ use Rattle.live_plant.specs.Steps.{Step, Settles, Gives, LooksAt, Then, LooksAtN
 abbrev pub or_refused : {A : Type 0} → Result A PlantError → Result A Refusal
 or_refused (Ok x) = Ok x
 or_refused (Err error) = Err (Refused error)
+
+-- the files of a draft, each read where it is named: that of the demands, then that of the times
+abbrev pub LooksAtFilesOf : DraftPlant → Step NamedFiles
+LooksAtFilesOf d =
+    Then (LooksAtNamed (demands_file d)) (λ demands.
+    Then (LooksAtNamed d.times_file) (λ times.
+    Gives (Ok (record { demands = demands; times = times }))))
+
+-- the bytes of these files: each exactly where the draft names it, of the times at most those of a checkpoint
+pub record AreNamedBy (d : DraftPlant) (files : NamedFiles) : Type 0 where
+  pub demands_where_used : is_some files.demands ≡ is_some (demands_file d)
+  pub times_where_used : is_some files.times ≡ is_some d.times_file
+  pub times_size : IfSome files.times (λ bytes. length bytes ≤ MAX_CHECKPOINT_BYTES)
 
 -- the plant of a draft: its demand file, then its times file, where it names them, then the refusals 10 to 15
 abbrev pub OfDraft : DraftPlant → Step Plant

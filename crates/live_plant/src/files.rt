@@ -1,10 +1,12 @@
-ghost use Rattle.std.specs.Prelude.{◌≡◌, ◌≤◌, length, option_map, is_some, IfOk, IfSome};
+ghost use Rattle.std.specs.Prelude.{◌≡◌, ◌⊎◌, ◌≤◌, Err, length, option_map, is_some, IfOk, IfSome};
+ghost use Rattle.plant_file.specs.Finish.{completed_plant};
 ghost use Rattle.plant_file.specs.Reading.{reading as reading_of, AnswersReading};
 ghost use Rattle.plant_model.specs.Sound.{IsSound};
 ghost use Rattle.live_plant.specs.Outside.{store_over, limit_of};
-ghost use Rattle.live_plant.specs.PlantSteps.{OfDraft, OfPlantFile};
+ghost use Rattle.live_plant.specs.PlantSteps.{or_refused, AreNamedBy, LooksAtFilesOf, OfDraft, OfPlantFile};
 ghost use Rattle.live_plant.specs.Refused.{IsFaultOf, refusal_of};
 ghost use Rattle.live_plant.specs.Steps.{Makes, LooksAt, LooksAtNamed};
+ghost use Rattle.live_plant.specs.declared.refusals.refusal.Refusal.TheVariants.{NoMemory};
 
 use crate::refusals::Refusal;
 use command_line::FileName;
@@ -51,8 +53,17 @@ fn file_fault(alloc: Global, name: &str, error: StoreError) -> Refusal
     }
 }
 
+/// The bytes of the files that a plant file names, where it names them.
+#[derive(Drop)]
+pub struct NamedFiles {
+    /// Those of the file of its demands.
+    pub demands: Option<Items<u8>>,
+    /// Those of the file of its times.
+    pub times: Option<Items<u8>>,
+}
+
 /// The bytes of a file, if one is named.
-pub(crate) fn read_named<S: Store>(
+fn read_named<S: Store>(
     alloc: Global,
     store: &mut S,
     name: Option<&str>,
@@ -96,9 +107,46 @@ fn complete<S: Store>(alloc: Global, store: &mut S, draft: Draft) -> Result<Plan
     ensures makes { Makes (store_over S.tells (S.shown store.old) (S.shown store.new)) (OfDraft draft) result }
     ensures sound { IfOk result IsSound }
 {
+    match read_files_of(alloc, store, &draft) {
+        Ok(files) => {
+            let answer = plant_of(alloc, draft, &files);
+            drop(files);
+            answer
+        }
+        Err(refusal) => {
+            drop(draft);
+            Err(refusal)
+        }
+    }
+}
+
+/// The bytes of the files that a draft names: first that of the demands, then that of the times.
+pub(crate) fn read_files_of<S: Store>(
+    alloc: Global,
+    store: &mut S,
+    draft: &Draft,
+) -> Result<NamedFiles, Refusal>
+    ensures makes { Makes (store_over S.tells (S.shown store.old) (S.shown store.new)) (LooksAtFilesOf draft.now) result }
+    ensures named { IfOk result (AreNamedBy draft.now) }
+{
     let demands = read_named(alloc, store, draft.demands_file())?;
     let times = read_named(alloc, store, draft.times_file())?;
-    match complete_draft(alloc, draft, slice_of(&demands), slice_of(&times)) {
+    Ok(NamedFiles { demands, times })
+}
+
+/// The plant of a draft and of the bytes of the files that it names.
+fn plant_of(alloc: Global, draft: Draft, files: &NamedFiles) -> Result<Plant, Refusal>
+    requires { AreNamedBy draft files.now }
+    ensures plant { (result ≡ or_refused (completed_plant draft files.now.demands files.now.times))
+        ⊎ (result ≡ Err NoMemory) }
+    ensures sound { IfOk result IsSound }
+{
+    match complete_draft(
+        alloc,
+        draft,
+        slice_of(&files.demands),
+        slice_of(&files.times),
+    ) {
         Ok(plant) => Ok(plant),
         Err(error) => Err(refusal_of(error)),
     }

@@ -14,7 +14,7 @@ mod sound_file;
 
 pub use big::big_plant;
 pub use command_line::FileName;
-pub use files::{read_file, read_plant_files};
+pub use files::{NamedFiles, read_file, read_plant_files};
 pub use generator::Generator;
 pub use line_graph::dead_labels;
 pub use lint::lint_plant_file;

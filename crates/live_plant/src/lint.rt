@@ -1,6 +1,5 @@
 //! What lint says of a plant file and of the files that it names.
-ghost use Rattle.std.specs.Prelude.{◌≡◌, ◌⊎◌, Ok, Err, option_copied};
-ghost use Rattle.plant_file.specs.Finish.{AreFilesOf};
+ghost use Rattle.std.specs.Prelude.{◌≡◌, ◌⊎◌, Ok, Err};
 ghost use Rattle.plant_lint.specs.FileLints.{LintsFile};
 ghost use Rattle.plant_lint.specs.PlantLints.{clean_text};
 ghost use Rattle.plant_lint.specs.declared.file.FileLint.TheVariants as lint;
@@ -8,9 +7,10 @@ ghost use Rattle.plant_model.specs.Sound.{IsSound};
 ghost use Rattle.live_plant.specs.declared.refusals.refusal.Refusal.TheVariants.{NoMemory};
 ghost use Rattle.live_plant.specs.LintSteps.{IsCleanOrDead, IsDraftLint, IsFileLint, LintsDraft, LintsPlant};
 ghost use Rattle.live_plant.specs.Outside.{store_over};
+ghost use Rattle.live_plant.specs.PlantSteps.{AreNamedBy};
 ghost use Rattle.live_plant.specs.Steps.{Makes};
 
-use crate::files::{read_file, read_named, slice_of};
+use crate::files::{NamedFiles, read_file, read_files_of, slice_of};
 use crate::live_plant::live_graph;
 use crate::refusals::Refusal;
 use crate::sound_file::SoundFile;
@@ -63,24 +63,31 @@ fn file_with(alloc: Global, bytes: &[u8], notes: Text) -> Result<SoundFile, Refu
 fn lint_files<S: Store>(alloc: Global, store: &mut S, file: SoundFile) -> Result<Items<u8>, Refusal>
     ensures { Makes (store_over S.tells (S.shown store.old) (S.shown store.new)) (LintsDraft file) result }
 {
-    let demands = read_named(alloc, store, file.draft.demands_file())?;
-    let times = read_named(alloc, store, file.draft.times_file())?;
-    lint_bytes(alloc, file, slice_of(&demands), slice_of(&times))
+    match read_files_of(alloc, store, &file.draft) {
+        Ok(files) => {
+            let answer = lint_bytes(alloc, file, &files);
+            drop(files);
+            answer
+        }
+        Err(refusal) => {
+            drop(file);
+            Err(refusal)
+        }
+    }
 }
 
 /// The same of the bytes of these files.
-fn lint_bytes(
-    alloc: Global,
-    file: SoundFile,
-    demands: Option<&[u8]>,
-    times: Option<&[u8]>,
-) -> Result<Items<u8>, Refusal>
-    requires { AreFilesOf file.draft demands times }
-    ensures { IsDraftLint file (option_copied demands.entry) (option_copied times.entry) result
-        ⊎ (result ≡ Err NoMemory) }
+fn lint_bytes(alloc: Global, file: SoundFile, files: &NamedFiles) -> Result<Items<u8>, Refusal>
+    requires { AreNamedBy file.draft files.now }
+    ensures { IsDraftLint file files.now.demands files.now.times result ⊎ (result ≡ Err NoMemory) }
 {
     let SoundFile { notes, draft } = file;
-    match lint_draft(alloc, draft, demands, times) {
+    match lint_draft(
+        alloc,
+        draft,
+        slice_of(&files.demands),
+        slice_of(&files.times),
+    ) {
         Ok(DraftLint::Sound { plant, notes: more }) => {
             let answer = lint_live(alloc, &plant, &notes, &more);
             drop(plant);
