@@ -17,9 +17,9 @@ use Rattle.station_step.specs.declared.source.Source.{Source}
 use Rattle.station_step.specs.Shelf.{WorkShelf, log_on, new_queue}
 use Rattle.station_step.specs.Ends.{bare_outlet, HasRingRoom, IsUntaken, IsUnfilled}
 use Rattle.station_step.specs.Input.{empty_handed}
-use Rattle.station_step.specs.Station.{WorkStation, IsStation, ComeFrom, outlet_at, new_station}
+use Rattle.station_step.specs.Station.{WorkStation, IsStation, ComeFrom, TakeLater, outlet_at, bare_input, new_station}
 use Rattle.station_step.specs.Kept.{IsFresh, IsKept}
-use Rattle.station_step.proofs.Posts.{come-same}
+use Rattle.station_step.proofs.Posts.{come-same, later-same}
 use Rattle.line_worker.specs.Share.{worker_of, first_of}
 use Rattle.line_worker.specs.Team.{WorkTeam, AreAt, member, no_station}
 use Rattle.line_worker.proofs.Share.{first-rises, first-all, worker_is}
@@ -260,6 +260,10 @@ sources-same g worker_count w old new same shelves have =
           subst (λ (f : List (List ℕ)). ComeFrom i (map (delay g) (outs g t)) (shelf (arcs_at old w) f) (outlets_at new t)) (sym firsts) (
           subst (λ (o : List Outlet). ComeFrom i (map (delay g) (outs g t)) (bare_shelf g worker_count old w) o) (sym (same.outlets t (omega (arith, at)))) (
           have.come t i there owned at)));
+      later = λ t i there owned at.
+          subst (λ (l : List ℕ). TakeLater (map (delay g) (ins g t)) (map (source_of g first) l) (map empty_handed (inlets_at new t))) (sym arcs) (
+          subst (λ (l : List Inlet). TakeLater (map (delay g) (ins g t)) (map (source_of g first) (arcs_at old w)) (map empty_handed l)) (sym (same.inlets t (omega (arith, at)))) (
+          have.later t i there owned at));
     }
 
 -- the stations of a worker, as its shelf has their logs
@@ -285,6 +289,12 @@ new-stands g begun worker_count w ends shelf made logs any low size are logs_are
                 (ap length is.outlets)
                 (ap (map bare_outlet) is.outlets)
                 (have.come t i there owned refl);
+            later = later-same (map (delay g) (ins g t)) (map (delay s.graph) (ins s.graph s.number)) (bare_shelf g worker_count ends w) shelf (map empty_handed (inlets_at ends t)) s.inputs
+                (ap (λ (h : Parts). map (delay h) (ins h s.number)) is.graph ∙ ap (λ n. map (delay g) (ins g n)) is.number)
+                sources
+                (ap length is.inputs)
+                (ap (map bare_input) is.inputs)
+                (have.later t i there owned refl);
           };
     }
 

@@ -307,6 +307,19 @@ module _ (g : Parts) (begun : State) (worker_count : ℕ) (ends : QueueEnds) (gr
       two (sym left.station ∙ ap side (one_arc w q left.number right.number left.uses right.uses) ∙ right.station)))
       (found_or_none queue q m)
 
+  -- the queue from which input k of station t takes is that of its arc
+  taken-from : (t w k q : ℕ) → t < stations g → worker_of worker_count (stations g) t ≡ w → k < length (inlets_at ends t) → inlet_queue (inlet_of g ends (get_or (ins g t) k 0)) ≡ Some q → Uses w q (get_or (ins g t) k 0)
+  taken-from t w k q there owned low queue =
+      let a = get_or (ins g t) k 0 in
+      let at = inlet-at t k there low in
+      let has = laid.each a at.listed in
+      let inside : putter g worker_count a ≡ taker g worker_count a = end-inside g begun worker_count ends a has q queue in
+      record {
+        listed = at.listed;
+        worker_number = inside ∙ ap (worker_of worker_count (stations g)) at.station ∙ owned;
+        queue = end-shared g begun worker_count ends a has q queue;
+      }
+
   -- each queue of worker w's shelf comes from the station where its arc starts
   pub laid_sources : (w : ℕ) → 1 ≤ stations g → 1 ≤ worker_count → HaveSources g worker_count ends w
   laid_sources w any some =
@@ -353,6 +366,19 @@ module _ (g : Parts) (begun : State) (worker_count : ℕ) (ends : QueueEnds) (gr
                 ),
               );
         };
+        later = λ t i there owned at_t k q low is.
+            let inlets = inlets_at ends t in
+            let here : k < length inlets = omega (arith, low, length-map inlets empty_handed) in
+            let a = get_or (ins g t) k 0 in
+            let queue : inlet_queue (inlet_of g ends a) ≡ Some q =
+            ap inlet_queue (inlet-at t k there here).is
+            ∙ ap (λ (n : Input). inlet_queue n.inlet) (sym (get_or-map empty_handed inlets k (inlet.Local 0) (record { inlet = inlet.Local 0; hand = None }) here))
+            ∙ is in
+            let uses = taken-from t w k q there owned here queue in
+            let q_low : q < length (firsts_at ends w) = omega (arith, uses-there w q a uses, length-map (firsts_at ends w) (new_queue (jobs g))) in
+            ap (λ (s : Source). s.delay) (source_is q q_low)
+            ∙ ap (delay g) (one_arc w q (arc_in ends w q) a (used q q_low) uses)
+            ∙ sym (get_or-map (delay g) (ins g t) k 0 0 (omega (arith, here, inlets-count t there)));
       }
 
   -- ---- a new station
@@ -379,17 +405,11 @@ module _ (g : Parts) (begun : State) (worker_count : ℕ) (ends : QueueEnds) (gr
     takes-used : (k q : ℕ) → k < length s.inputs → inlet_queue (input_at s.inputs k).inlet ≡ Some q → UsedAt to_of (first_ins g) t w q k
     takes-used k q low same =
         let a = get_or (ins g t) k 0 in
-        let at = inlet-at t k there (omega (arith, inputs-count)) in
-        let has = laid.each a at.listed in
-        let queue : inlet_queue (inlet_of g ends a) ≡ Some q = ap inlet_queue (sym (inlet-is k low)) ∙ same in
-        let inside : putter g worker_count a ≡ taker g worker_count a = end-inside g begun worker_count ends a has q queue in
+        let here : k < length (inlets_at ends t) = omega (arith, inputs-count) in
+        let at = inlet-at t k there here in
         record {
           number = a;
-          uses = record {
-            listed = at.listed;
-            worker_number = inside ∙ ap (worker_of worker_count (stations g)) at.station ∙ owned;
-            queue = end-shared g begun worker_count ends a has q queue;
-          };
+          uses = taken-from t w k q there owned here (ap inlet_queue (sym (inlet-is k low)) ∙ same);
           station = at.station;
           place = at.place;
         }

@@ -21,7 +21,7 @@ use Rattle.station_step.specs.declared.source.Source.{Source}
 use Rattle.station_step.specs.Shelf.{WorkShelf, log_on, new_queue}
 use Rattle.station_step.specs.Ends.{outlet_queue, IsUntaken, IsUnfilled, HasRingRoom}
 use Rattle.station_step.specs.Input.{empty_handed}
-use Rattle.station_step.specs.Station.{WorkStation, IsStation, ComeFrom, outlet_at}
+use Rattle.station_step.specs.Station.{WorkStation, IsStation, ComeFrom, TakeLater, outlet_at}
 use Rattle.station_step.specs.Kept.{IsFresh, IsKept}
 use Rattle.line_worker.specs.Share.{worker_of, first_of}
 use Rattle.line_worker.specs.Team.{WorkTeam, member}
@@ -135,7 +135,8 @@ bare_shelf g worker_count ends w = record {
   queues = shelf_at g ends w;
 }
 
--- each queue of worker w's shelf is that of an arc out of one of its stations, and its tokens come from there
+-- each queue of worker w's shelf is that of an arc out of one of its stations, and its tokens come from there, later by
+-- the delay of the arc
 pub record HaveSources (g : Parts) (worker_count : ℕ) (ends : QueueEnds) (w : ℕ) : Type 0 where
   pub count : length (arcs_at ends w) ≡ length (firsts_at ends w)
   pub exist : (q : ℕ) → q < length (arcs_at ends w) → arc_in ends w q < arc_count g
@@ -144,6 +145,9 @@ pub record HaveSources (g : Parts) (worker_count : ℕ) (ends : QueueEnds) (w : 
   pub come : (t i : ℕ) → t < stations g → worker_of worker_count (stations g) t ≡ w →
       t ≡ first_of worker_count (stations g) w + i →
       ComeFrom i (map (delay g) (outs g t)) (bare_shelf g worker_count ends w) (outlets_at ends t)
+  pub later : (t i : ℕ) → t < stations g → worker_of worker_count (stations g) t ≡ w →
+      t ≡ first_of worker_count (stations g) w + i →
+      TakeLater (map (delay g) (ins g t)) (bare_shelf g worker_count ends w).sources (map empty_handed (inlets_at ends t))
 
 -- a shelf can be made of these: the queues are not too many, and none is too long
 pub record MayShelve (g : Parts) (firsts : List (List ℕ)) : Type 0 where

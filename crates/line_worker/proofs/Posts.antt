@@ -12,12 +12,12 @@ use Rattle.line_worker.specs.Logs.{log_of, copy_of, copy_with, dates_in}
 use Rattle.line_worker.specs.Cleared.{cleared_station}
 use Rattle.line_worker.specs.Work.{dates_of}
 use Rattle.line_worker.proofs.Cleared.{member-cleared}
-use Rattle.line_worker.proofs.TeamSteps.{graph-same, number-same, outlets-same, outlets-count}
+use Rattle.line_worker.proofs.TeamSteps.{graph-same, number-same, inputs-same, inputs-count, outlets-same, outlets-count}
 
 -- a station that is the same but for its tokens, by its log on a shelf with the same queues
 stands-bare : (i : ℕ) (old new : WorkShelf) (before after : WorkStation) → length new.logs ≡ length old.logs → log_on new.logs i ≡ after.log → new.sources ≡ old.sources → length new.queues ≡ length old.queues → bare_station after ≡ bare_station before → StandsAt i old before → StandsAt i new after
 stands-bare i old new before after logs log sources count same stands =
-    stands-same i old new before after logs log sources count (graph-same before after same) (number-same before after same) (outlets-count before after same) (outlets-same before after same) stands
+    stands-same i old new before after logs log sources count (graph-same before after same) (number-same before after same) (inputs-count before after same) (inputs-same before after same) (outlets-count before after same) (outlets-same before after same) stands
 
 -- station i is another one, which is the same but for its tokens and its log
 pub at-set : (old new : WorkShelf) (stations : List WorkStation) (i : ℕ) (after : WorkStation) → i < length stations → bare_station after ≡ bare_station (member stations i) → new.logs ≡ set old.logs i after.log → new.sources ≡ old.sources → length new.queues ≡ length old.queues → AreAt old stations → AreAt new (set stations i after)
@@ -63,7 +63,7 @@ at-cleared shelf stations are =
       each = λ i low.
           let was = are.each i (omega (arith, low, all)) in
           subst (StandsAt i shelf) (sym (member-cleared stations i))
-          (record { there = was.there; log = was.log; come = was.come });
+          (record { there = was.there; log = was.log; come = was.come; later = was.later });
     }
 
 -- ---- their logs

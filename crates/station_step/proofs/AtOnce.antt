@@ -1,15 +1,16 @@
 -- A station that fires at once, by its fronts: what it does is what it does where its hands are filled and emptied.
 use Rattle.std.proofs.Common.{◌≡◌, ◌≢◌, ℕ, zero, suc, ◌+◌, ◌<◌, ◌≤◌, max, List, [], ◌∷◌, ◌++◌, length, map, set, take, refl, sym, ap, ◌∙◌, subst, arith, ⊎_elim, get_or-set_same, get_or-set_other}
 use Rattle.std.proofs.Math.Seq.{map-set_same}
-use Rattle.std.specs.Prelude.{Bool, true, false, Option, None, Some, IsTrue, IsSome, IfSome, slice_index, unwrap_or, option_to_list}
+use Rattle.std.specs.Prelude.{Bool, false, Option, None, Some, IsTrue, IsSome, IfSome, slice_index, unwrap_or, option_to_list}
 use Rattle.std.specs.List.{range_with_len}
 use Rattle.std.specs.Ordering.{ord_max, nat_cmp}
-use Rattle.std.proofs.lemmas.List.{append-nil, get_or-map, length-map, length-set, take_more, get_or_push, get_or_append_left, map_push, length_push}
+use Rattle.std.proofs.lemmas.List.{append-nil, get_or-map, length-map, length-set, get_or-take, length-take-le, take_more, ext_get_or, get_or_push, get_or_append_left, map_push, length_push}
 use Rattle.std.proofs.lemmas.Bool.{cases_eq, cases_lt}
 use Rattle.line_base.specs.declared.event.Parts.{Parts}
 use Rattle.card_queue.specs.Plain.{PlainQueue, plain_taken, plain_waiting, plain_tokens}
 use Rattle.event_graph.specs.GreatestValue.{greatest}
-use Rattle.station_step.specs.Shelf.{queue_at, with_take, without_takes, OnlyTakes}
+use Rattle.station_step.specs.declared.source.Source.{Source}
+use Rattle.station_step.specs.Shelf.{queue_at, source_at, later_by, with_take, with_returned, without_takes, OnlyTakes}
 use Rattle.station_step.proofs.Queues.{front-some, front-more}
 use Rattle.station_step.specs.declared.ends.Inlet.{Inlet}
 use Rattle.station_step.specs.declared.ends.Inlet.TheVariants as inlet
@@ -17,35 +18,42 @@ use Rattle.station_step.specs.declared.fronts.Front.{Front}
 use Rattle.station_step.specs.declared.input.Input.{Input}
 use Rattle.station_step.specs.declared.noted.NotedInput.{NotedInput}
 use Rattle.station_step.specs.Ends.{inlet_queue, inlet_taken}
-use Rattle.station_step.specs.Fronts.{front_at, front_extras, waiting_at, front_asks, FrontsWithin, FrontsApart, NoneAt, AreAllThere, AreFronts, IsDirect, AreEmptyHanded, IsReadied}
+use Rattle.station_step.specs.Fronts.{front_at, front_extras, waiting_at, front_asks, FrontsWithin, FrontsApart, NoneAt, AreAllThere, AreFronts, AreLater, AreLaterBy, IsDirect, AreEmptyHanded, IsReadied}
 use Rattle.station_step.specs.Input.{input_at, IsRefilled, TakeApart, TakeWithin, NoneTakes}
 use Rattle.station_step.specs.Noted.{inputs_of, extras_of}
 use Rattle.station_step.specs.Refilled.{hand_asks}
 use Rattle.station_step.specs.Kept.{saturating}
 use Rattle.station_step.specs.Station.{bare_input}
 use Rattle.station_step.proofs.Dates.{greatest-agree, greatest-more, ord_max-nat, latest-none}
-use Rattle.station_step.proofs.OwnQueues.{None-Some, Some-injective, inlet_queue-same, input-same, OnlyTakes-trans}
+use Rattle.station_step.proofs.OwnQueues.{None-Some, Some-injective, inlet_queue-same, input-same}
 
 -- ---- the walk that gives each input its front
 
-pub record FrontsUpTo (k : ℕ) (inputs : List NotedInput) (fronts : List Front) : Type 0 where
+pub record FrontsUpTo (k : ℕ) (delays : List ℕ) (inputs : List NotedInput) (fronts : List Front) : Type 0 where
   pub count : length fronts ≡ k
   pub queues : (j : ℕ) → j < k → inlet_queue (input_at (inputs_of inputs) j).inlet ≡ Some (front_at fronts j).queue
   pub extras : front_extras fronts ≡ take k (extras_of inputs)
+  pub laters : AreLater delays fronts
 
-pub fronts_none : (inputs : List NotedInput) → FrontsUpTo 0 inputs []
-fronts_none inputs = record {
+-- none at all
+pub later_none : (delays : List ℕ) → AreLater delays []
+later_none delays k low = absurd (omega (arith, low))
+
+pub fronts_none : (delays : List ℕ) (inputs : List NotedInput) → FrontsUpTo 0 delays inputs []
+fronts_none delays inputs = record {
   count = refl;
   queues = λ j low. absurd (omega (arith, low));
   extras = refl;
+  laters = later_none delays;
 }
 
-pub fronts_more : (k : ℕ) (inputs : List NotedInput) (fronts : List Front) (q extra : ℕ) → k < length inputs → inlet_queue (input_at (inputs_of inputs) k).inlet ≡ Some q → extra ≡ slice_index (extras_of inputs) k → FrontsUpTo k inputs fronts → FrontsUpTo (k + 1) inputs (fronts ++ record { queue = q; extra = extra } ∷ [])
-fronts_more k inputs fronts q extra low queue extra_is up_to =
-    let next : Front = record { queue = q; extra = extra } in
-    let d : Front = record { queue = 0; extra = 0 } in
+pub fronts_more : (k : ℕ) (delays : List ℕ) (inputs : List NotedInput) (fronts : List Front) (q extra later : ℕ) → k < length inputs → inlet_queue (input_at (inputs_of inputs) k).inlet ≡ Some q → extra ≡ slice_index (extras_of inputs) k → later ≡ saturating (slice_index delays k) extra → FrontsUpTo k delays inputs fronts → FrontsUpTo (k + 1) delays inputs (fronts ++ record { queue = q; extra = extra; later = later } ∷ [])
+fronts_more k delays inputs fronts q extra later low queue extra_is later_is up_to =
+    let next : Front = record { queue = q; extra = extra; later = later } in
+    let d : Front = record { queue = 0; extra = 0; later = 0 } in
+    let count : length (fronts ++ next ∷ []) ≡ k + 1 = length_push fronts next ∙ ap (λ n. n + 1) up_to.count in
     record {
-      count = length_push fronts next ∙ ap (λ n. n + 1) up_to.count;
+      count = count;
       queues = λ j less.
           ⊎_elim
           (λ (before : j < k).
@@ -62,53 +70,51 @@ fronts_more k inputs fronts q extra low queue extra_is up_to =
           ∙ ap (λ xs. xs ++ extra ∷ []) up_to.extras
           ∙ ap (λ n. take k (extras_of inputs) ++ n ∷ []) extra_is
           ∙ sym (take_more (extras_of inputs) k 0 (omega (arith, low, length-map inputs (λ (n : NotedInput). n.extra))));
+      laters = λ j less.
+          let is_later : Front → Type 0 = λ f. f.later ≡ saturating (slice_index delays j) f.extra in
+          ⊎_elim
+          (λ (before : j < k).
+          let there : j < length fronts = omega (arith, before, up_to.count) in
+          subst is_later (sym (get_or_append_left fronts (next ∷ []) d j there)) (up_to.laters j there))
+          (λ (past : k ≤ j).
+          let e : j ≡ k = omega (arith, less, past, count) in
+          subst is_later (sym (get_or_push fronts next d j (up_to.count ∙ sym e)))
+          (later_is ∙ ap (λ n. saturating (slice_index delays n) extra) (sym e)))
+          (cases_lt j k);
     }
 
--- ---- the walk that counts a take at each front
+-- ---- the walk that changes the queue of each front
 
-pub record CountedUpTo (k : ℕ) (fronts : List Front) (old new : List PlainQueue) : Type 0 where
-  pub done : (j : ℕ) → j < k → queue_at new (front_at fronts j).queue ≡ with_take (queue_at old (front_at fronts j).queue)
+pub record ChangedUpTo (change : PlainQueue → PlainQueue) (k : ℕ) (fronts : List Front) (old new : List PlainQueue) : Type 0 where
+  pub count : length new ≡ length old
+  pub done : (j : ℕ) → j < k → queue_at new (front_at fronts j).queue ≡ change (queue_at old (front_at fronts j).queue)
   pub rest : (q : ℕ) → ((j : ℕ) → j < k → (front_at fronts j).queue ≢ q) → queue_at new q ≡ queue_at old q
-  pub only : OnlyTakes old new
 
-pub counted_none : (fronts : List Front) (shelf : List PlainQueue) → CountedUpTo 0 fronts shelf shelf
-counted_none fronts shelf = record {
+pub changed_none : (change : PlainQueue → PlainQueue) (fronts : List Front) (shelf : List PlainQueue) → ChangedUpTo change 0 fronts shelf shelf
+changed_none change fronts shelf = record {
+  count = refl;
   done = λ j low. absurd (omega (arith, low));
   rest = λ q none. refl;
-  only = record { count = refl; puts = λ q. refl };
 }
 
 abbrev no_queue : PlainQueue
 no_queue = record { initial = []; added = []; room = 0; takes = 0 }
 
--- one queue counts a take
-only-counted : (shelf : List PlainQueue) (q : ℕ) → q < length shelf → OnlyTakes shelf (set shelf q (with_take (queue_at shelf q)))
-only-counted shelf q low = record {
-  count = length-set shelf q (with_take (queue_at shelf q));
-  puts = λ r.
-      ⊎_elim
-      (λ (e : r ≡ q).
-      ap (λ n. without_takes (queue_at (set shelf q (with_take (queue_at shelf q))) n)) e
-      ∙ ap without_takes (get_or-set_same shelf q (with_take (queue_at shelf q)) no_queue low)
-      ∙ ap (λ n. without_takes (queue_at shelf n)) (sym e))
-      (λ (ne : r ≢ q). ap without_takes (get_or-set_other shelf q r (with_take (queue_at shelf q)) no_queue ne))
-      (cases_eq r q);
-}
-
 -- the queue of the next front is as it was
-pub not-yet : (k : ℕ) (fronts : List Front) (old mid : List PlainQueue) → FrontsApart fronts → k < length fronts → CountedUpTo k fronts old mid → queue_at mid (front_at fronts k).queue ≡ queue_at old (front_at fronts k).queue
-not-yet k fronts old mid apart low up_to = up_to.rest (front_at fronts k).queue (λ j less. apart j k less low)
+pub not-yet : (change : PlainQueue → PlainQueue) (k : ℕ) (fronts : List Front) (old mid : List PlainQueue) → FrontsApart fronts → k < length fronts → ChangedUpTo change k fronts old mid → queue_at mid (front_at fronts k).queue ≡ queue_at old (front_at fronts k).queue
+not-yet change k fronts old mid apart low up_to = up_to.rest (front_at fronts k).queue (λ j less. apart j k less low)
 
-pub counted_more : (k : ℕ) (fronts : List Front) (old mid new : List PlainQueue) → FrontsApart fronts → k < length fronts → (front_at fronts k).queue < length mid → new ≡ set mid (front_at fronts k).queue (with_take (queue_at mid (front_at fronts k).queue)) → CountedUpTo k fronts old mid → CountedUpTo (k + 1) fronts old new
-counted_more k fronts old mid new apart low there is up_to =
+pub changed_more : (change : PlainQueue → PlainQueue) (k : ℕ) (fronts : List Front) (old mid new : List PlainQueue) → FrontsApart fronts → k < length fronts → (front_at fronts k).queue < length old → new ≡ set mid (front_at fronts k).queue (change (queue_at mid (front_at fronts k).queue)) → ChangedUpTo change k fronts old mid → ChangedUpTo change (k + 1) fronts old new
+changed_more change k fronts old mid new apart low there is up_to =
     let q = (front_at fronts k).queue in
-    let here : queue_at new q ≡ with_take (queue_at old q) =
+    let here : queue_at new q ≡ change (queue_at old q) =
     ap (λ (l : List PlainQueue). queue_at l q) is
-    ∙ get_or-set_same mid q (with_take (queue_at mid q)) no_queue there
-    ∙ ap with_take (not-yet k fronts old mid apart low up_to) in
+    ∙ get_or-set_same mid q (change (queue_at mid q)) no_queue (omega (arith, there, up_to.count))
+    ∙ ap change (not-yet change k fronts old mid apart low up_to) in
     let elsewhere : (r : ℕ) → r ≢ q → queue_at new r ≡ queue_at mid r =
-    λ r ne. ap (λ (l : List PlainQueue). queue_at l r) is ∙ get_or-set_other mid q r (with_take (queue_at mid q)) no_queue ne in
+    λ r ne. ap (λ (l : List PlainQueue). queue_at l r) is ∙ get_or-set_other mid q r (change (queue_at mid q)) no_queue ne in
     record {
+      count = ap length is ∙ length-set mid q (change (queue_at mid q)) ∙ up_to.count;
       done = λ j less.
           ⊎_elim
           (λ (before : j < k). elsewhere (front_at fronts j).queue (apart j k before low) ∙ up_to.done j before)
@@ -116,13 +122,73 @@ counted_more k fronts old mid new apart low there is up_to =
           let e : j ≡ k = omega (arith, less, past) in
           ap (λ n. queue_at new (front_at fronts n).queue) e
           ∙ here
-          ∙ ap (λ n. with_take (queue_at old (front_at fronts n).queue)) (sym e))
+          ∙ ap (λ n. change (queue_at old (front_at fronts n).queue)) (sym e))
           (cases_lt j k);
       rest = λ r none.
           elsewhere r (λ e. none k (omega arith) (sym e))
           ∙ up_to.rest r (λ j less. none j (omega (arith, less)));
-      only = OnlyTakes-trans up_to.only (subst (OnlyTakes mid) (sym is) (only-counted mid q there));
     }
+
+-- what is so of each queue where its front is among the first k, and where no front is, is so
+at-front : (P : ℕ → Type 0) (k : ℕ) (fronts : List Front) (q : ℕ) → ((j : ℕ) → j < k → P (front_at fronts j).queue) → (((j : ℕ) → j < k → (front_at fronts j).queue ≢ q) → P q) → P q
+at-front P zero fronts q among else = else (λ j low. absurd (omega (arith, low)))
+at-front P (suc k) fronts q among else =
+    ⊎_elim
+    (λ (e : q ≡ (front_at fronts k).queue). subst P (sym e) (among k (omega arith)))
+    (λ (ne : q ≢ (front_at fronts k).queue).
+    at-front P k fronts q (λ j low. among j (omega (arith, low)))
+    (λ none.
+    else (λ j less.
+    ⊎_elim
+    (λ (before : j < k). none j before)
+    (λ (past : k ≤ j).
+    let at : j ≡ k = omega (arith, less, past) in
+    λ e. ne (sym e ∙ ap (λ n. (front_at fronts n).queue) at))
+    (cases_lt j k))))
+    (cases_eq q (front_at fronts k).queue)
+
+-- where a take is counted at each, nothing was put
+pub only-counted : (k : ℕ) (fronts : List Front) (old new : List PlainQueue) → ChangedUpTo with_take k fronts old new → OnlyTakes old new
+only-counted k fronts old new up_to = record {
+  count = up_to.count;
+  puts = λ q.
+      at-front (λ r. without_takes (queue_at new r) ≡ without_takes (queue_at old r)) k fronts q
+      (λ j low. ap without_takes (up_to.done j low))
+      (λ none. ap without_takes (up_to.rest q none));
+}
+
+-- the take is counted no more
+returned-taken : (queue : PlainQueue) → with_returned (with_take queue) ≡ queue
+returned-taken queue = ap (λ n. (let same : PlainQueue = record queue { takes = n } in same)) (omega arith)
+
+-- among the first fronts, a front is the same
+front-among : (k : ℕ) (fronts : List Front) (j : ℕ) → j < k → front_at (take k fronts) j ≡ front_at fronts j
+front-among k fronts j low = get_or-take k fronts j (record { queue = 0; extra = 0; later = 0 }) low
+
+-- the queues of the first k alone change
+pub first-changed : (change : PlainQueue → PlainQueue) (k : ℕ) (fronts : List Front) (old new : List PlainQueue) → k ≤ length fronts → length new ≡ length old → ((j : ℕ) → j < length (take k fronts) → queue_at new (front_at (take k fronts) j).queue ≡ change (queue_at old (front_at (take k fronts) j).queue)) → ((q : ℕ) → NoneAt q (take k fronts) → queue_at new q ≡ queue_at old q) → ChangedUpTo change k fronts old new
+first-changed change k fronts old new few count each others =
+    let many : length (take k fronts) ≡ k = length-take-le k fronts few in
+    record {
+      count = count;
+      done = λ j low.
+          subst (λ (f : Front). queue_at new f.queue ≡ change (queue_at old f.queue)) (front-among k fronts j low)
+          (each j (omega (arith, low, many)));
+      rest = λ q none.
+          others q
+          (λ j low e.
+          let below : j < k = omega (arith, low, many) in
+          none j below (ap (λ (f : Front). f.queue) (sym (front-among k fronts j below)) ∙ e));
+    }
+
+-- where each token is put back that was taken, the shelf is as it was
+pub all-returned : (k : ℕ) (fronts : List Front) (old mid new : List PlainQueue) → ChangedUpTo with_take k fronts old mid → ChangedUpTo with_returned k fronts mid new → new ≡ old
+all-returned k fronts old mid new taken given =
+    ext_get_or no_queue new old (given.count ∙ taken.count)
+    (λ q there.
+    at-front (λ r. queue_at new r ≡ queue_at old r) k fronts q
+    (λ j low. given.done j low ∙ ap with_returned (taken.done j low) ∙ returned-taken (queue_at old (front_at fronts j).queue))
+    (λ none. given.rest q none ∙ taken.rest q none))
 
 -- ---- where the fronts stay
 
@@ -138,30 +204,35 @@ pub direct-same : (g : Parts) (t : ℕ) (before after : List Input) (fronts : Li
 direct-same g t before after fronts bounded direct count same was is = record {
   each = fronts-same before after fronts count same (was is).each;
   extras = (was is).extras;
+  laters = (was is).laters;
   unbounded = (was is).unbounded;
+  inside = (was is).inside;
 }
 
 -- while a token may stand in a hand
-pub readied-waits : (g : Parts) (t : ℕ) (before after : List Input) (fronts : List Front) (bounded direct empty : Bool) → length after ≡ length before → map bare_input after ≡ map bare_input before → IsReadied g t before fronts bounded direct empty → IsReadied g t after fronts bounded direct false
-readied-waits g t before after fronts bounded direct empty count same is = record {
+pub readied-waits : (g : Parts) (t : ℕ) (before after : List Input) (fronts : List Front) (bounded direct at_once : Bool) → length after ≡ length before → map bare_input after ≡ map bare_input before → IsReadied g t before fronts bounded direct at_once → IsReadied g t after fronts bounded direct false
+readied-waits g t before after fronts bounded direct at_once count same is = record {
   fires = direct-same g t before after fronts bounded direct count same is.fires;
+  may = λ never. absurd (cc);
   hands = λ never. absurd (cc);
 }
 
 -- where all hands were emptied
-pub readied-emptied : (g : Parts) (t : ℕ) (before after : List Input) (fronts : List Front) (bounded direct empty : Bool) → length after ≡ length before → map bare_input after ≡ map bare_input before → AreEmptyHanded after → IsReadied g t before fronts bounded direct empty → IsReadied g t after fronts bounded direct true
-readied-emptied g t before after fronts bounded direct empty count same hands is = record {
+pub readied-emptied : (g : Parts) (t : ℕ) (before after : List Input) (fronts : List Front) (bounded direct at_once : Bool) → length after ≡ length before → map bare_input after ≡ map bare_input before → AreEmptyHanded after → IsReadied g t before fronts bounded direct at_once → IsReadied g t after fronts bounded direct direct
+readied-emptied g t before after fronts bounded direct at_once count same hands is = record {
   fires = direct-same g t before after fronts bounded direct count same is.fires;
+  may = λ is_direct. is_direct;
   hands = λ _. hands;
 }
 
 -- where an input knows of more, and its hand stays
-pub readied-met : (g : Parts) (t : ℕ) (before : List Input) (j : ℕ) (input : Input) (after : List Input) (fronts : List Front) (bounded direct empty : Bool) → after ≡ set before j input → j < length before → bare_input input ≡ bare_input (input_at before j) → input.hand ≡ (input_at before j).hand → IsReadied g t before fronts bounded direct empty → IsReadied g t after fronts bounded direct empty
-readied-met g t before j input after fronts bounded direct empty after_is low same hand is =
+pub readied-met : (g : Parts) (t : ℕ) (before : List Input) (j : ℕ) (input : Input) (after : List Input) (fronts : List Front) (bounded direct at_once : Bool) → after ≡ set before j input → j < length before → bare_input input ≡ bare_input (input_at before j) → input.hand ≡ (input_at before j).hand → IsReadied g t before fronts bounded direct at_once → IsReadied g t after fronts bounded direct at_once
+readied-met g t before j input after fronts bounded direct at_once after_is low same hand is =
     let d : Input = record { inlet = inlet.Local 0; hand = None } in
     let count : length after ≡ length before = ap length after_is ∙ length-set before j input in
     record {
       fires = direct-same g t before after fronts bounded direct count (ap (map bare_input) after_is ∙ map-set_same bare_input before j input d same) is.fires;
+      may = is.may;
       hands = λ all k less.
           ap (λ (l : List Input). (input_at l k).hand) after_is
           ∙ ⊎_elim
@@ -197,6 +268,13 @@ pub fronts-none : (q : ℕ) (inputs : List Input) (fronts : List Front) → AreF
 fronts-none q inputs fronts is none k low e =
     let below : k < length inputs = omega (arith, low, is.count) in
     none k below (is.queues k below ∙ ap (λ n. Some n) e)
+
+-- where the queues have the delays of the inputs' arcs, what is kept with each front is by the delay of its queue
+pub fronts-later : (inputs : List Input) (sources : List Source) (delays : List ℕ) (fronts : List Front) → AreFronts inputs fronts → AreLater delays fronts → ((k q : ℕ) → k < length inputs → inlet_queue (input_at inputs k).inlet ≡ Some q → (source_at sources q).delay ≡ slice_index delays k) → AreLaterBy sources fronts
+fronts-later inputs sources delays fronts is laters come k low =
+    let below : k < length inputs = omega (arith, low, is.count) in
+    laters k low
+    ∙ ap (λ n. saturating n (front_at fronts k).extra) (sym (come k (front_at fronts k).queue below (is.queues k below)))
 
 -- ---- the hands that are not filled
 
@@ -271,7 +349,7 @@ filled-full shelf inputs k low = subst (λ (i : Input). IsSome i.hand) (sym (fil
 -- and ask for what the fronts ask for
 pub filled-asks : (shelf : List PlainQueue) (inputs : List Input) (fronts : List Front) → AreFronts inputs fronts → (k : ℕ) → k < length inputs → front_asks shelf fronts k ≡ hand_asks (front_extras fronts) (filled shelf inputs) k
 filled-asks shelf inputs fronts is k low =
-    let d : Front = record { queue = 0; extra = 0 } in
+    let d : Front = record { queue = 0; extra = 0; later = 0 } in
     let i = (input_at inputs k).inlet in
     let q = (front_at fronts k).queue in
     let token : next_token shelf i ≡ slice_index (plain_waiting (queue_at shelf q)) 0 =
@@ -290,27 +368,32 @@ latest-filled shelf inputs fronts is =
     (λ k from to. filled-asks shelf inputs fronts is k (omega (arith, to, is.count)))
     ∙ ap (λ n. greatest asks (range_with_len 0 n)) (is.count ∙ sym (filled-count shelf inputs))
 
--- the first token that waits
-first-is : (waiting : List ℕ) (token : ℕ) → token ∷ [] ≡ take 1 waiting → token ≡ slice_index waiting 0
-first-is [] token front = absurd (omega (arith, ap length front))
-first-is (x ∷ xs) token front = ap (λ (l : List ℕ). slice_index l 0) front
+-- the date that the first token asks for, where one waits
+first-is : (waiting : List ℕ) (extra date : ℕ) → date ∷ [] ≡ map (later_by extra) (take 1 waiting) → date ≡ saturating (slice_index waiting 0) extra
+first-is [] extra date front = absurd (omega (arith, ap length front))
+first-is (x ∷ xs) extra date front = ap (λ (l : List ℕ). slice_index l 0) front
 
-pub some-there : (waiting : List ℕ) (token : ℕ) → token ∷ [] ≡ take 1 waiting → waiting ≢ []
-some-there waiting token front none = absurd (omega (arith, ap length front, ap (λ (l : List ℕ). length (take 1 l)) none))
+pub some-there : (waiting : List ℕ) (extra date : ℕ) → date ∷ [] ≡ map (later_by extra) (take 1 waiting) → waiting ≢ []
+some-there waiting extra date front none =
+    absurd (omega (arith, ap length front, ap (λ (l : List ℕ). length (map (later_by extra) (take 1 l))) none))
+
+pub none-there : (waiting : List ℕ) (extra : ℕ) → [] ≡ map (later_by extra) (take 1 waiting) → waiting ≡ []
+none-there [] extra front = refl
+none-there (x ∷ xs) extra front = absurd (omega (arith, ap length front))
 
 -- one front more asks
 pub front-none : (shelf : List PlainQueue) (fronts : List Front) → 0 ≡ greatest (front_asks shelf fronts) (range_with_len 0 0)
 front-none shelf fronts = latest-none (front_asks shelf fronts)
 
-pub latest-front_more : (shelf : List PlainQueue) (fronts : List Front) (k latest token : ℕ) → latest ≡ greatest (front_asks shelf fronts) (range_with_len 0 k) → token ∷ [] ≡ take 1 (waiting_at shelf fronts k) → ord_max nat_cmp latest (saturating token (front_at fronts k).extra) ≡ greatest (front_asks shelf fronts) (range_with_len 0 (k + 1))
-latest-front_more shelf fronts k latest token is front =
+pub latest-front_more : (shelf : List PlainQueue) (fronts : List Front) (k latest date : ℕ) → latest ≡ greatest (front_asks shelf fronts) (range_with_len 0 k) → date ∷ [] ≡ map (later_by (front_at fronts k).extra) (take 1 (waiting_at shelf fronts k)) → ord_max nat_cmp latest date ≡ greatest (front_asks shelf fronts) (range_with_len 0 (k + 1))
+latest-front_more shelf fronts k latest date is front =
     let asks = front_asks shelf fronts in
     let at : k ≡ 0 + k = omega arith in
-    let here : saturating token (front_at fronts k).extra ≡ asks (0 + k) =
-    ap (λ n. saturating n (front_at fronts k).extra) (first-is (waiting_at shelf fronts k) token front) ∙ ap asks at in
+    let here : date ≡ asks (0 + k) =
+    first-is (waiting_at shelf fronts k) (front_at fronts k).extra date front ∙ ap asks at in
     let next : suc k ≡ k + 1 = omega arith in
-    ord_max-nat latest (saturating token (front_at fronts k).extra)
-    ∙ ap (λ m. max m (saturating token (front_at fronts k).extra)) is
+    ord_max-nat latest date
+    ∙ ap (λ m. max m date) is
     ∙ ap (max (greatest asks (range_with_len 0 k))) here
     ∙ sym (greatest-more asks 0 k)
     ∙ ap (λ m. greatest asks (range_with_len 0 m)) next

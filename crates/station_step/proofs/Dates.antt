@@ -1,10 +1,10 @@
 -- The date of a job over the tokens of its inputs.
-use Rattle.std.proofs.Common.{◌≡◌, ℕ, zero, suc, ◌+◌, ◌<◌, ◌≤◌, max, List, length, set, refl, sym, ap, ◌∙◌, arith, get_or-set_same, get_or-set_other}
-use Rattle.std.specs.Prelude.{None, slice_index, slice_index_or, if◌then◌else◌, nat_eq, ◌==◌, unwrap_or}
+use Rattle.std.proofs.Common.{◌≡◌, ◌≢◌, ℕ, zero, suc, ◌+◌, ◌<◌, ◌≤◌, max, List, length, set, refl, sym, ap, ◌∙◌, arith, ⊎_elim, get_or-set_same, get_or-set_other}
+use Rattle.std.specs.Prelude.{Bool, false, None, slice_index, slice_index_or, if◌then◌else◌, nat_eq, ◌==◌, unwrap_or}
 use Rattle.std.specs.List.{range_with_len}
 use Rattle.std.specs.Ordering.{ord_max, nat_cmp}
 use Rattle.std.proofs.lemmas.List.{get_or-map}
-use Rattle.std.proofs.lemmas.Bool.Decides.{nat_tests}
+use Rattle.std.proofs.lemmas.Bool.Decides.{nat_tests, eqb_tells}
 use Rattle.line_base.specs.declared.times.Times.{Times}
 use Rattle.line_base.specs.declared.times.Times.TheVariants.{Fixed, Each}
 use Rattle.line_base.specs.Times.{time_at}
@@ -24,6 +24,14 @@ use Rattle.station_step.specs.Refilled.{hand_asks}
 pub date_for-is : (g : Parts) (t job latest : ℕ) (token : ℕ → ℕ) → latest ≡ greatest (date_asked g t job token) (range_with_len 0 (length (ins g t))) → (if t == 0 then demand g job else latest) ≡ date_for g t job token
 unfolding date_for
 date_for-is g t job latest token is = ap (λ m. if nat_eq t 0 then demand g job else m) is
+
+not-feed : (t : ℕ) → t ≢ 0 → nat_eq t 0 ≡ false
+not-feed t inside = ⊎_elim (λ h. absurd (inside h.1)) (λ h. h.0) (eqb_tells t 0)
+
+-- the latest alone, at any other station
+pub date_for-inside : (g : Parts) (t job latest : ℕ) (token : ℕ → ℕ) → t ≢ 0 → latest ≡ greatest (date_asked g t job token) (range_with_len 0 (length (ins g t))) → latest ≡ date_for g t job token
+date_for-inside g t job latest token inside is =
+    sym (ap (λ (b : Bool). if b then demand g job else latest) (not-feed t inside)) ∙ date_for-is g t job latest token is
 
 one_time : (times : Times) → (IsList times → ⊥) → (n m : ℕ) → time_at times n ≡ time_at times m
 one_time (Fixed takes) no_list n m = refl

@@ -7,13 +7,13 @@ use Rattle.std.proofs.lemmas.Bool.{cases_lt}
 use Rattle.line_base.specs.Roomy.{RoomyLog}
 use Rattle.card_queue.specs.Plain.{PlainQueue}
 use Rattle.station_step.specs.declared.source.Source.{Source}
-use Rattle.station_step.specs.declared.tally.Tally.{Tally}
+use Rattle.station_step.specs.Counts.{QueueTally}
 use Rattle.station_step.specs.Shelf.{new_queue, later_by, source_at, log_on}
 use Rattle.station_step.specs.Counts.{new_tally, no_tally, tally_at, dates_for, firsts_of, AreTallies}
 use Rattle.station_step.proofs.Queues.{seen_queues, length-seen, queue-seen, source-seen}
 
 -- a new queue, whose first tokens stand among these
-pub record IsLaid (logs : List RoomyLog) (first : List ℕ) (source : Source) (tokens : List ℕ) (tally : Tally) : Type 0 where
+pub record IsLaid (logs : List RoomyLog) (first : List ℕ) (source : Source) (tokens : List ℕ) (tally : QueueTally) : Type 0 where
   pub began : tally.start + tally.initial ≤ length tokens
   pub initial : tally.initial ≡ length first
   pub stand : firsts_of tokens tally ≡ first
@@ -22,12 +22,12 @@ pub record IsLaid (logs : List RoomyLog) (first : List ℕ) (source : Source) (t
   pub made : tally.made ≡ length (dates_for logs tally)
 
 -- the first n queues are laid
-pub record LaidUpTo (n : ℕ) (logs : List RoomyLog) (firsts : List (List ℕ)) (sources : List Source) (tokens : List ℕ) (tallies : List Tally) : Type 0 where
+pub record LaidUpTo (n : ℕ) (logs : List RoomyLog) (firsts : List (List ℕ)) (sources : List Source) (tokens : List ℕ) (tallies : List QueueTally) : Type 0 where
   pub count : length tallies ≡ n
   pub each : (q : ℕ) → q < n → IsLaid logs (slice_index_or firsts q []) (source_at sources q) tokens (tally_at tallies q)
 
 -- more tokens behind them change nothing
-laid-longer : (logs : List RoomyLog) (first : List ℕ) (source : Source) (tokens more : List ℕ) (tally : Tally) → IsLaid logs first source tokens tally → IsLaid logs first source (tokens ++ more) tally
+laid-longer : (logs : List RoomyLog) (first : List ℕ) (source : Source) (tokens more : List ℕ) (tally : QueueTally) → IsLaid logs first source tokens tally → IsLaid logs first source (tokens ++ more) tally
 laid-longer logs first source tokens more tally is =
     let before : length (drop tally.start tokens) ≡ length tokens - tally.start = length-drop tally.start tokens in
     record {
@@ -42,10 +42,10 @@ laid-longer logs first source tokens more tally is =
     }
 
 -- the next queue is laid
-pub laid_more : (n : ℕ) (logs : List RoomyLog) (firsts : List (List ℕ)) (sources : List Source) (tokens first : List ℕ) (source : Source) (made : ℕ) (tallies : List Tally) → first ≡ slice_index_or firsts n [] → source ≡ source_at sources n → made ≡ length (dates_for logs (new_tally 0 0 source 0)) → LaidUpTo n logs firsts sources tokens tallies → LaidUpTo (n + 1) logs firsts sources (tokens ++ first) (tallies ++ new_tally (length tokens) (length first) source made ∷ [])
+pub laid_more : (n : ℕ) (logs : List RoomyLog) (firsts : List (List ℕ)) (sources : List Source) (tokens first : List ℕ) (source : Source) (made : ℕ) (tallies : List QueueTally) → first ≡ slice_index_or firsts n [] → source ≡ source_at sources n → made ≡ length (dates_for logs (new_tally 0 0 source 0)) → LaidUpTo n logs firsts sources tokens tallies → LaidUpTo (n + 1) logs firsts sources (tokens ++ first) (tallies ++ new_tally (length tokens) (length first) source made ∷ [])
 laid_more n logs firsts sources tokens first source made tallies first_is source_is made_is laid =
-    let tally : Tally = new_tally (length tokens) (length first) source made in
-    let none : Tally = no_tally in
+    let tally : QueueTally = new_tally (length tokens) (length first) source made in
+    let none : QueueTally = no_tally in
     let tallies' = tallies ++ tally ∷ [] in
     let last : IsLaid logs (slice_index_or firsts n []) (source_at sources n) (tokens ++ first) tally = record {
       began = omega (arith, length-append tokens first);
@@ -72,7 +72,7 @@ laid_more n logs firsts sources tokens first source made tallies first_is source
     }
 
 -- the queues of all of them
-pub seen-laid : (logs : List RoomyLog) (firsts : List (List ℕ)) (sources : List Source) (tokens : List ℕ) (room : ℕ) (tallies : List Tally) → LaidUpTo (length firsts) logs firsts sources tokens tallies → seen_queues tokens room logs tallies ≡ map (new_queue room) firsts
+pub seen-laid : (logs : List RoomyLog) (firsts : List (List ℕ)) (sources : List Source) (tokens : List ℕ) (room : ℕ) (tallies : List QueueTally) → LaidUpTo (length firsts) logs firsts sources tokens tallies → seen_queues tokens room logs tallies ≡ map (new_queue room) firsts
 seen-laid logs firsts sources tokens room tallies laid =
     let seen = seen_queues tokens room logs tallies in
     let wanted = map (new_queue room) firsts in
@@ -96,14 +96,14 @@ seen-laid logs firsts sources tokens room tallies laid =
     ∙ sym (get_or-map (new_queue room) firsts q [] none low))
 
 -- their sources
-pub sources-laid : (logs : List RoomyLog) (firsts : List (List ℕ)) (sources : List Source) (tokens : List ℕ) (tallies : List Tally) → length sources ≡ length firsts → LaidUpTo (length firsts) logs firsts sources tokens tallies → map (λ (t : Tally). t.source) tallies ≡ sources
+pub sources-laid : (logs : List RoomyLog) (firsts : List (List ℕ)) (sources : List Source) (tokens : List ℕ) (tallies : List QueueTally) → length sources ≡ length firsts → LaidUpTo (length firsts) logs firsts sources tokens tallies → map (λ (t : QueueTally). t.source) tallies ≡ sources
 sources-laid logs firsts sources tokens tallies each laid =
-    let count : length (map (λ (t : Tally). t.source) tallies) ≡ length firsts = length-map tallies (λ (t : Tally). t.source) ∙ laid.count in
-    ext_get_or (record { station = 0; delay = 0 }) (map (λ (t : Tally). t.source) tallies) sources (count ∙ sym each)
+    let count : length (map (λ (t : QueueTally). t.source) tallies) ≡ length firsts = length-map tallies (λ (t : QueueTally). t.source) ∙ laid.count in
+    ext_get_or (record { station = 0; delay = 0 }) (map (λ (t : QueueTally). t.source) tallies) sources (count ∙ sym each)
     (λ q there. source-seen tallies q ∙ (laid.each q (omega (arith, there, count))).source_is)
 
 -- they are sound
-pub tallies-laid : (logs : List RoomyLog) (firsts : List (List ℕ)) (sources : List Source) (tokens : List ℕ) (room : ℕ) (tallies : List Tally) → ((q : ℕ) → q < length firsts → length (slice_index_or firsts q []) + room < 2 ^ 32) → ((q : ℕ) → q < length firsts → (source_at sources q).station < length logs) → ((i : ℕ) → i < length logs → length (log_on logs i).dates ≤ room) → LaidUpTo (length firsts) logs firsts sources tokens tallies → AreTallies tokens room logs tallies
+pub tallies-laid : (logs : List RoomyLog) (firsts : List (List ℕ)) (sources : List Source) (tokens : List ℕ) (room : ℕ) (tallies : List QueueTally) → ((q : ℕ) → q < length firsts → length (slice_index_or firsts q []) + room < 2 ^ 32) → ((q : ℕ) → q < length firsts → (source_at sources q).station < length logs) → ((i : ℕ) → i < length logs → length (log_on logs i).dates ≤ room) → LaidUpTo (length firsts) logs firsts sources tokens tallies → AreTallies tokens room logs tallies
 tallies-laid logs firsts sources tokens room tallies small there few laid q low =
     let low_first : q < length firsts = omega (arith, low, laid.count) in
     let is = laid.each q low_first in
@@ -124,7 +124,7 @@ tallies-laid logs firsts sources tokens room tallies small there few laid q low 
 abbrev pub items_of : List (Vec ℕ Global) → List (List ℕ)
 items_of firsts = map (λ (v : Vec ℕ Global). v.items) firsts
 
-pub laid_none : (logs : List RoomyLog) (firsts : List (List ℕ)) (sources : List Source) (tokens : List ℕ) (tallies : List Tally) → tallies ≡ [] → LaidUpTo 0 logs firsts sources tokens tallies
+pub laid_none : (logs : List RoomyLog) (firsts : List (List ℕ)) (sources : List Source) (tokens : List ℕ) (tallies : List QueueTally) → tallies ≡ [] → LaidUpTo 0 logs firsts sources tokens tallies
 laid_none logs firsts sources tokens tallies none = record { count = ap length none; each = λ q low. absurd (omega (arith, low)) }
 
 pub new-queues : (room : ℕ) (firsts : List (Vec ℕ Global)) → map (new_queue room) (items_of firsts) ≡ map (λ (v : Vec ℕ Global). new_queue room v.items) firsts

@@ -1,44 +1,44 @@
 -- The queues of a shelf by their counts and the logs: what is read there, and what a take or a date more changes.
-use Rattle.std.proofs.Common.{◌≡◌, ◌≢◌, ℕ, ◌+◌, ◌-◌, ◌^◌, ◌<◌, ◌≤◌, List, [], ◌∷◌, ◌++◌, length, get_or, set, take, drop, map, refl, sym, ap, ◌∙◌, subst, arith, ⊎_elim, append_assoc, length-append, length-drop, get_or-set_same, get_or-set_other}
-use Rattle.std.specs.Prelude.{Option, None, Some, IsNone, ◌↔◌, option_to_list, slice_index}
+use Rattle.std.proofs.Common.{◌≡◌, ◌≢◌, ℕ, ◌+◌, ◌-◌, ◌<◌, ◌≤◌, List, [], ◌∷◌, ◌++◌, length, get_or, set, take, drop, map, refl, sym, ap, ◌∙◌, subst, arith, ⊎_elim, append_assoc, length-append, length-drop, get_or-set_same, get_or-set_other}
+use Rattle.std.specs.Prelude.{Option, None, Some, IsNone, IfSome, IfNone, ◌↔◌, option_to_list, slice_index}
 use Rattle.std.proofs.lemmas.List.{append-nil, length-map, length-set, map-set, map_push, get_or-map, set-get_or, length-take-le, get_or-take, get_or-drop, get_or_append_left, get_or-append_right, drop_more, drop_all, drop-append-le, take_more, take-append-le, get_or_past, get_or_read}
 use Rattle.std.proofs.Math.Seq.{map-set_same}
 use Rattle.std.proofs.Math.ListN.{get_or-map as at_map}
 use Rattle.std.proofs.lemmas.Bool.{cases_lt, cases_eq}
 use Rattle.line_base.specs.Roomy.{RoomyLog, with_date}
 use Rattle.card_queue.specs.Plain.{PlainQueue, plain_tokens, plain_taken, plain_waiting}
-use Rattle.station_step.specs.declared.tally.Tally.{Tally}
-use Rattle.station_step.specs.Shelf.{log_on, source_at, later_by, queue_at, without_takes, with_take}
-use Rattle.station_step.specs.Counts.{no_tally, tally_at, dates_for, firsts_of, seen_queue, IsTally, AreTallies, one_taken}
+use Rattle.station_step.specs.Counts.{QueueTally}
+use Rattle.station_step.specs.Shelf.{log_on, source_at, later_by, queue_at, without_takes, with_take, with_returned}
+use Rattle.station_step.specs.Counts.{no_tally, tally_at, dates_for, firsts_of, seen_queue, IsTally, AreTallies, one_taken, one_returned}
 
 abbrev no_queue : PlainQueue
 no_queue = record { initial = []; added = []; room = 0; takes = 0 }
 
-abbrev pub seen_queues : List ℕ → ℕ → List RoomyLog → List Tally → List PlainQueue
+abbrev pub seen_queues : List ℕ → ℕ → List RoomyLog → List QueueTally → List PlainQueue
 seen_queues firsts room logs tallies = map (seen_queue firsts room logs) tallies
 
 -- ---- what is seen
 
-pub length-seen : (firsts : List ℕ) (room : ℕ) (logs : List RoomyLog) (tallies : List Tally) → length (seen_queues firsts room logs tallies) ≡ length tallies
+pub length-seen : (firsts : List ℕ) (room : ℕ) (logs : List RoomyLog) (tallies : List QueueTally) → length (seen_queues firsts room logs tallies) ≡ length tallies
 length-seen firsts room logs tallies = length-map tallies (seen_queue firsts room logs)
 
-pub queue-seen : (firsts : List ℕ) (room : ℕ) (logs : List RoomyLog) (tallies : List Tally) (k : ℕ) → k < length tallies → queue_at (seen_queues firsts room logs tallies) k ≡ seen_queue firsts room logs (tally_at tallies k)
+pub queue-seen : (firsts : List ℕ) (room : ℕ) (logs : List RoomyLog) (tallies : List QueueTally) (k : ℕ) → k < length tallies → queue_at (seen_queues firsts room logs tallies) k ≡ seen_queue firsts room logs (tally_at tallies k)
 queue-seen firsts room logs tallies k low = get_or-map (seen_queue firsts room logs) tallies k no_tally no_queue low
 
-pub source-seen : (tallies : List Tally) (k : ℕ) → source_at (map (λ (tally : Tally). tally.source) tallies) k ≡ (tally_at tallies k).source
-source-seen tallies k = at_map (λ (tally : Tally). tally.source) tallies k no_tally
+pub source-seen : (tallies : List QueueTally) (k : ℕ) → source_at (map (λ (tally : QueueTally). tally.source) tallies) k ≡ (tally_at tallies k).source
+source-seen tallies k = at_map (λ (tally : QueueTally). tally.source) tallies k no_tally
 
 -- a queue of the shelf has a tally
-pub tally_there : (firsts : List ℕ) (room : ℕ) (logs : List RoomyLog) (tallies : List Tally) (queues : List PlainQueue) (k : ℕ) → seen_queues firsts room logs tallies ≡ queues → k < length queues → k < length tallies
+pub tally_there : (firsts : List ℕ) (room : ℕ) (logs : List RoomyLog) (tallies : List QueueTally) (queues : List PlainQueue) (k : ℕ) → seen_queues firsts room logs tallies ≡ queues → k < length queues → k < length tallies
 tally_there firsts room logs tallies queues k is low = omega (arith, low, ap length is, length-seen firsts room logs tallies)
 
 -- the tally of queue k, as the shelf lends it
-pub record IsLent (firsts : List ℕ) (room : ℕ) (logs : List RoomyLog) (tallies : List Tally) (k : ℕ) (lent : Tally) : Type 0 where
+pub record IsLent (firsts : List ℕ) (room : ℕ) (logs : List RoomyLog) (tallies : List QueueTally) (k : ℕ) (lent : QueueTally) : Type 0 where
   pub there : k < length tallies
   pub at : lent ≡ tally_at tallies k
   pub sound : IsTally firsts room logs lent
 
-pub tally-lent : (firsts : List ℕ) (room : ℕ) (logs : List RoomyLog) (tallies : List Tally) (queues : List PlainQueue) (k : ℕ) (lent : Tally) → seen_queues firsts room logs tallies ≡ queues → k < length queues → lent ≡ get_or tallies k lent → AreTallies firsts room logs tallies → IsLent firsts room logs tallies k lent
+pub tally-lent : (firsts : List ℕ) (room : ℕ) (logs : List RoomyLog) (tallies : List QueueTally) (queues : List PlainQueue) (k : ℕ) (lent : QueueTally) → seen_queues firsts room logs tallies ≡ queues → k < length queues → lent ≡ get_or tallies k lent → AreTallies firsts room logs tallies → IsLent firsts room logs tallies k lent
 tally-lent firsts room logs tallies queues k lent is low read are =
     let there = tally_there firsts room logs tallies queues k is low in
     let at : lent ≡ tally_at tallies k = get_or_read tallies k lent there read no_tally in
@@ -46,11 +46,15 @@ tally-lent firsts room logs tallies queues k lent is low read are =
 
 -- ---- one queue
 
+-- two delays, one after the other
+pub later-twice : (extra delay date : ℕ) → later_by extra (later_by delay date) ≡ later_by (later_by extra delay) date
+later-twice extra delay date = omega (arith)
+
 front-there : (tokens : List ℕ) (i token : ℕ) → i < length tokens → get_or tokens i 0 ≡ token → token ∷ [] ≡ take 1 (drop i tokens)
 front-there tokens i token low is =
     ap (λ n. n ∷ []) (sym is) ∙ sym (ap (take 1) (drop_more tokens i 0 low))
 
-module _ (firsts : List ℕ) (room : ℕ) (logs : List RoomyLog) (tally : Tally) (is : IsTally firsts room logs tally) where
+module _ (firsts : List ℕ) (room : ℕ) (logs : List RoomyLog) (tally : QueueTally) (is : IsTally firsts room logs tally) where
   abbrev initial : List ℕ
   initial = firsts_of firsts tally
 
@@ -77,7 +81,7 @@ module _ (firsts : List ℕ) (room : ℕ) (logs : List RoomyLog) (tally : Tally)
   pub length-waiting : length (plain_waiting (seen_queue firsts room logs tally)) ≡ tally.initial + (length source_dates - tally.made) - tally.taken
   length-waiting = length-drop tally.taken (initial ++ added) ∙ ap (λ n. n - tally.taken) length-tokens
 
-  -- the front token: one that the queue began with, a date of its source, or none
+  -- the front token: one that the queue began with, or a date of its source
   pub front-initial : tally.taken < tally.initial → slice_index firsts (tally.start + tally.taken) ∷ [] ≡ take 1 (plain_waiting (seen_queue firsts room logs tally))
   front-initial less =
       front-there (initial ++ added) tally.taken _ (omega (arith, length-append initial added, length-firsts, less))
@@ -93,20 +97,33 @@ module _ (firsts : List ℕ) (room : ℕ) (logs : List RoomyLog) (tally : Tally)
       ∙ get_or-map later (drop tally.made source_dates) index 0 0 (omega (arith, length-drop tally.made source_dates, more))
       ∙ ap later (get_or-drop tally.made source_dates index 0))
 
-  pub front-none : tally.initial ≤ tally.taken → length source_dates ≤ tally.made + (tally.taken - tally.initial) → [] ≡ take 1 (plain_waiting (seen_queue firsts room logs tally))
+  -- and none where as many were taken as it was given
+  front-none : tally.initial ≤ tally.taken → length source_dates ≤ tally.made + (tally.taken - tally.initial) → [] ≡ take 1 (plain_waiting (seen_queue firsts room logs tally))
   front-none past all =
       ap (take 1) (sym (drop_all tally.taken (initial ++ added) (omega (arith, length-tokens, past, all, is.made_there))))
+
+  -- what is taken of those that the queue began with, where no date was
+  pub front-first : (token : Option ℕ) (rest : QueueTally) → rest ≡ tally → IfSome token (λ _. rest.taken < rest.initial) → IfSome token (λ n. n ≡ slice_index firsts (rest.start + rest.taken)) → IfNone token (rest.initial ≤ rest.taken) → (tally.initial ≤ tally.taken → length source_dates ≤ tally.made + (tally.taken - tally.initial)) → option_to_list token ≡ take 1 (plain_waiting (seen_queue firsts room logs tally))
+  front-first None rest same before at past all =
+      let over : tally.initial ≤ tally.taken = subst (λ (t : QueueTally). t.initial ≤ t.taken) same past in
+      front-none over (all over)
+  front-first (Some token) rest same before at past all =
+      ap (λ n. n ∷ []) (at ∙ ap (λ (t : QueueTally). slice_index firsts (t.start + t.taken)) same)
+      ∙ front-initial (subst (λ (t : QueueTally). t.taken < t.initial) same before)
 
 -- ---- a take
 
 pub record TakenFrom (old new : List PlainQueue) (k : ℕ) (token : Option ℕ) : Type 0 where
+  pub front : option_to_list token ≡ take 1 (plain_waiting (queue_at old k))
+  pub counted : IfSome token (λ _. new ≡ set old k (with_take (queue_at old k)))
+  pub stays : IfNone token (new ≡ old)
   pub only : new ≡ set old k (queue_at new k)
   pub taken : plain_taken (queue_at new k) ≡ plain_taken (queue_at old k) ++ option_to_list token
   pub none : IsNone token ↔ (plain_waiting (queue_at old k) ≡ [])
   pub puts : without_takes (queue_at new k) ≡ without_takes (queue_at old k)
 
 -- the tally is sound after it
-tally-one_taken : (firsts : List ℕ) (room : ℕ) (logs : List RoomyLog) (tally : Tally) → IsTally firsts room logs tally → tally.taken < tally.initial + (length (dates_for logs tally) - tally.made) → IsTally firsts room logs (one_taken tally)
+tally-one_taken : (firsts : List ℕ) (room : ℕ) (logs : List RoomyLog) (tally : QueueTally) → IsTally firsts room logs tally → tally.taken < tally.initial + (length (dates_for logs tally) - tally.made) → IsTally firsts room logs (one_taken tally)
 tally-one_taken firsts room logs tally is more = record {
   began = is.began;
   counted = is.counted;
@@ -137,12 +154,6 @@ front-empty : (waiting : List ℕ) → [] ≡ take 1 waiting → waiting ≡ []
 front-empty [] front = refl
 front-empty (x ∷ xs) front = absurd (omega (arith, ap length front))
 
--- where a token waits, one more may be counted as taken
-pub one-fits : (firsts : List ℕ) (room : ℕ) (logs : List RoomyLog) (tally : Tally) (token : ℕ) → IsTally firsts room logs tally → token ∷ [] ≡ take 1 (plain_waiting (seen_queue firsts room logs tally)) → tally.taken < 2 ^ 32 - 1
-one-fits firsts room logs tally token is front =
-    let queue = seen_queue firsts room logs tally in
-    omega (arith, front_below (plain_tokens queue) tally.taken token front, length-tokens firsts room logs tally is, is.fits, is.counted)
-
 -- the front of a list in which something is
 pub front-some : (waiting : List ℕ) → waiting ≢ [] → slice_index waiting 0 ∷ [] ≡ take 1 waiting
 front-some [] some = absurd (some refl)
@@ -150,6 +161,9 @@ front-some (x ∷ xs) some = refl
 
 pub take-none : (shelf : List PlainQueue) (k : ℕ) → k < length shelf → [] ≡ take 1 (plain_waiting (queue_at shelf k)) → TakenFrom shelf shelf k None
 take-none shelf k low front = record {
+  front = front;
+  counted = tt;
+  stays = refl;
   only = sym (set-get_or shelf k no_queue);
   taken = sym (append-nil (plain_taken (queue_at shelf k)));
   none = (λ _. front-empty (plain_waiting (queue_at shelf k)) front, λ _. refl);
@@ -162,14 +176,17 @@ take-some shelf k token low front =
     let was = queue_at shelf k in
     let now : queue_at (set shelf k (with_take was)) k ≡ with_take was = get_or-set_same shelf k (with_take was) no_queue low in
     record {
+      front = front;
+      counted = refl;
+      stays = tt;
       only = ap (set shelf k) (sym now);
       taken = ap plain_taken now ∙ front-more (plain_tokens was) was.takes token front;
       none = (λ none. absurd (cc), λ empty. absurd (omega (arith, ap length (front ∙ ap (take 1) empty))));
       puts = ap without_takes now;
     }
 
-module _ (firsts : List ℕ) (room : ℕ) (logs : List RoomyLog) (tallies : List Tally) (k token : ℕ) (is : AreTallies firsts room logs tallies) (low : k < length tallies) (front : token ∷ [] ≡ take 1 (plain_waiting (seen_queue firsts room logs (tally_at tallies k)))) where
-  abbrev taken_from : Tally
+module _ (firsts : List ℕ) (room : ℕ) (logs : List RoomyLog) (tallies : List QueueTally) (k token : ℕ) (is : AreTallies firsts room logs tallies) (low : k < length tallies) (front : token ∷ [] ≡ take 1 (plain_waiting (seen_queue firsts room logs (tally_at tallies k)))) where
+  abbrev taken_from : QueueTally
   taken_from = tally_at tallies k
 
   abbrev old : List PlainQueue
@@ -198,8 +215,93 @@ module _ (firsts : List ℕ) (room : ℕ) (logs : List RoomyLog) (tallies : List
       subst (IsTally firsts room logs) (sym (get_or-set_other tallies k q next no_tally ne)) (is q (omega (arith, there, length-set tallies k next))))
       (cases_eq q k)
 
-  pub take-sources : map (λ (t : Tally). t.source) (set tallies k (one_taken taken_from)) ≡ map (λ (t : Tally). t.source) tallies
-  take-sources = map-set_same (λ (t : Tally). t.source) tallies k (one_taken taken_from) no_tally refl
+  pub take-sources : map (λ (t : QueueTally). t.source) (set tallies k (one_taken taken_from)) ≡ map (λ (t : QueueTally). t.source) tallies
+  take-sources = map-set_same (λ (t : QueueTally). t.source) tallies k (one_taken taken_from) no_tally refl
+
+-- a take of one tally, as the shelf lends it, and what it does to all of them
+pub record ShelfTook (firsts : List ℕ) (room : ℕ) (logs : List RoomyLog) (old new : List QueueTally) (k : ℕ) (token : Option ℕ) : Type 0 where
+  pub sound : AreTallies firsts room logs new
+  pub sources : map (λ (t : QueueTally). t.source) new ≡ map (λ (t : QueueTally). t.source) old
+  pub took : TakenFrom (seen_queues firsts room logs old) (seen_queues firsts room logs new) k token
+
+-- what the queue shows of its front
+front-seen : (firsts : List ℕ) (room : ℕ) (logs : List RoomyLog) (tallies : List QueueTally) (k : ℕ) (front : List ℕ) → k < length tallies → front ≡ take 1 (plain_waiting (seen_queue firsts room logs (tally_at tallies k))) → front ≡ take 1 (plain_waiting (queue_at (seen_queues firsts room logs tallies) k))
+front-seen firsts room logs tallies k front low is =
+    is ∙ ap (λ (queue : PlainQueue). take 1 (plain_waiting queue)) (sym (queue-seen firsts room logs tallies k low))
+
+pub shelf-took : (firsts : List ℕ) (room : ℕ) (logs : List RoomyLog) (tallies : List QueueTally) (k : ℕ) (lent left : QueueTally) (token : Option ℕ) → AreTallies firsts room logs tallies → IsLent firsts room logs tallies k lent → option_to_list token ≡ take 1 (plain_waiting (seen_queue firsts room logs lent)) → IfSome token (λ _. left ≡ one_taken lent) → IfNone token (left ≡ lent) → ShelfTook firsts room logs tallies (set tallies k left) k token
+shelf-took firsts room logs tallies k lent left None are is front counted stays =
+    let seen = seen_queues firsts room logs tallies in
+    let low : k < length seen = omega (arith, is.there, length-seen firsts room logs tallies) in
+    let at : [] ≡ take 1 (plain_waiting (seen_queue firsts room logs (tally_at tallies k))) =
+    front ∙ ap (λ (t : QueueTally). take 1 (plain_waiting (seen_queue firsts room logs t))) is.at in
+    let same : set tallies k left ≡ tallies = ap (set tallies k) (stays ∙ is.at) ∙ set-get_or tallies k no_tally in
+    subst (λ (new : List QueueTally). ShelfTook firsts room logs tallies new k None) (sym same) (record {
+      sound = are;
+      sources = refl;
+      took = take-none seen k low (front-seen firsts room logs tallies k [] is.there at);
+    })
+shelf-took firsts room logs tallies k lent left (Some token) are is front counted stays =
+    let seen = seen_queues firsts room logs tallies in
+    let low : k < length seen = omega (arith, is.there, length-seen firsts room logs tallies) in
+    let at : token ∷ [] ≡ take 1 (plain_waiting (seen_queue firsts room logs (tally_at tallies k))) =
+    front ∙ ap (λ (t : QueueTally). take 1 (plain_waiting (seen_queue firsts room logs t))) is.at in
+    subst (λ (t : QueueTally). ShelfTook firsts room logs tallies (set tallies k t) k (Some token)) (sym (counted ∙ ap one_taken is.at)) (record {
+      sound = take-sound firsts room logs tallies k token are is.there at;
+      sources = take-sources firsts room logs tallies k token are is.there at;
+      took = subst (λ (new : List PlainQueue). TakenFrom seen new k (Some token)) (sym (take-counted firsts room logs tallies k token are is.there at)) (take-some seen k token low (front-seen firsts room logs tallies k (token ∷ []) is.there at));
+    })
+
+-- and a take that tells which date the token asks for
+pub record ShelfTookFor (firsts : List ℕ) (room : ℕ) (logs : List RoomyLog) (old new : List QueueTally) (k extra : ℕ) (asked : Option ℕ) : Type 0 where
+  pub sound : AreTallies firsts room logs new
+  pub sources : map (λ (t : QueueTally). t.source) new ≡ map (λ (t : QueueTally). t.source) old
+  pub asks : option_to_list asked ≡ map (later_by extra) (take 1 (plain_waiting (queue_at (seen_queues firsts room logs old) k)))
+  pub counted : IfSome asked (λ _. seen_queues firsts room logs new ≡ set (seen_queues firsts room logs old) k (with_take (queue_at (seen_queues firsts room logs old) k)))
+  pub stays : IfNone asked (seen_queues firsts room logs new ≡ seen_queues firsts room logs old)
+
+-- the token that asks is there, or there is none
+asked-none : (extra : ℕ) (waiting : List ℕ) → [] ≡ map (later_by extra) (take 1 waiting) → [] ≡ take 1 waiting
+asked-none extra [] asks = refl
+asked-none extra (x ∷ xs) asks = absurd (omega (arith, ap length asks))
+
+asked-some : (extra asked : ℕ) (waiting : List ℕ) → asked ∷ [] ≡ map (later_by extra) (take 1 waiting) → slice_index waiting 0 ∷ [] ≡ take 1 waiting
+asked-some extra asked [] asks = absurd (omega (arith, ap length asks))
+asked-some extra asked (x ∷ xs) asks = refl
+
+pub shelf-took-for : (firsts : List ℕ) (room : ℕ) (logs : List RoomyLog) (tallies : List QueueTally) (k extra : ℕ) (lent left : QueueTally) (asked : Option ℕ) → AreTallies firsts room logs tallies → IsLent firsts room logs tallies k lent → option_to_list asked ≡ map (later_by extra) (take 1 (plain_waiting (seen_queue firsts room logs lent))) → IfSome asked (λ _. left ≡ one_taken lent) → IfNone asked (left ≡ lent) → ShelfTookFor firsts room logs tallies (set tallies k left) k extra asked
+shelf-took-for firsts room logs tallies k extra lent left None are is asks counted stays =
+    let front = asked-none extra (plain_waiting (seen_queue firsts room logs lent)) asks in
+    let did = shelf-took firsts room logs tallies k lent left None are is front tt stays in
+    record {
+      sound = did.sound;
+      sources = did.sources;
+      asks = ap (map (later_by extra)) did.took.front;
+      counted = tt;
+      stays = did.took.stays;
+    }
+shelf-took-for firsts room logs tallies k extra lent left (Some asked) are is asks counted stays =
+    let waiting = plain_waiting (seen_queue firsts room logs lent) in
+    let front = asked-some extra asked waiting asks in
+    let did = shelf-took firsts room logs tallies k lent left (Some (slice_index waiting 0)) are is front counted tt in
+    record {
+      sound = did.sound;
+      sources = did.sources;
+      asks = asks ∙ ap (map (later_by extra)) (sym front ∙ did.took.front);
+      counted = did.took.counted;
+      stays = tt;
+    }
+
+-- ---- a token put back
+
+-- what is seen of all queues after it
+pub return-counted : (firsts : List ℕ) (room : ℕ) (logs : List RoomyLog) (tallies : List QueueTally) (k : ℕ) → k < length tallies → seen_queues firsts room logs (set tallies k (one_returned (tally_at tallies k))) ≡ set (seen_queues firsts room logs tallies) k (with_returned (queue_at (seen_queues firsts room logs tallies) k))
+return-counted firsts room logs tallies k low =
+    map-set (seen_queue firsts room logs) tallies k (one_returned (tally_at tallies k))
+    ∙ ap (λ (queue : PlainQueue). set (seen_queues firsts room logs tallies) k (with_returned queue)) (sym (queue-seen firsts room logs tallies k low))
+
+pub return-sources : (tallies : List QueueTally) (k : ℕ) → map (λ (t : QueueTally). t.source) (set tallies k (one_returned (tally_at tallies k))) ≡ map (λ (t : QueueTally). t.source) tallies
+return-sources tallies k = map-set_same (λ (t : QueueTally). t.source) tallies k (one_returned (tally_at tallies k)) no_tally refl
 
 -- ---- a date more
 
@@ -210,7 +312,7 @@ added-taken : (initial added more : List ℕ) (takes : ℕ) → takes ≤ length
 added-taken initial added more takes few =
     ap (take takes) (sym (append_assoc initial added more)) ∙ take-append-le takes (initial ++ added) more few
 
-module _ (firsts : List ℕ) (room : ℕ) (logs : List RoomyLog) (tallies : List Tally) (i date : ℕ) (is : AreTallies firsts room logs tallies) (low : i < length logs) where
+module _ (firsts : List ℕ) (room : ℕ) (logs : List RoomyLog) (tallies : List QueueTally) (i date : ℕ) (is : AreTallies firsts room logs tallies) (low : i < length logs) where
   abbrev log : RoomyLog
   log = with_date (log_on logs i) date
 
@@ -218,20 +320,20 @@ module _ (firsts : List ℕ) (room : ℕ) (logs : List RoomyLog) (tallies : List
   longer = set logs i log
 
   -- a queue that comes from elsewhere sees what it saw
-  dates-else : (tally : Tally) → tally.source.station ≢ i → dates_for longer tally ≡ dates_for logs tally
+  dates-else : (tally : QueueTally) → tally.source.station ≢ i → dates_for longer tally ≡ dates_for logs tally
   dates-else tally ne = ap (λ (l : RoomyLog). l.dates) (get_or-set_other logs i tally.source.station log no_log ne)
 
-  dates-here : (tally : Tally) → tally.source.station ≡ i → dates_for longer tally ≡ dates_for logs tally ++ date ∷ []
+  dates-here : (tally : QueueTally) → tally.source.station ≡ i → dates_for longer tally ≡ dates_for logs tally ++ date ∷ []
   dates-here tally e =
       ap (λ n. (log_on longer n).dates) e
       ∙ ap (λ (l : RoomyLog). l.dates) (get_or-set_same logs i log no_log low)
       ∙ ap (λ n. (log_on logs n).dates ++ date ∷ []) (sym e)
 
-  queue-dates : (tally : Tally) (dates : List ℕ) → dates_for longer tally ≡ dates → seen_queue firsts room longer tally ≡ record (seen_queue firsts room logs tally) { added = map (later_by tally.source.delay) (drop tally.made dates) }
+  queue-dates : (tally : QueueTally) (dates : List ℕ) → dates_for longer tally ≡ dates → seen_queue firsts room longer tally ≡ record (seen_queue firsts room logs tally) { added = map (later_by tally.source.delay) (drop tally.made dates) }
   queue-dates tally dates e =
       ap (λ (l : List ℕ). (let q : PlainQueue = record (seen_queue firsts room logs tally) { added = map (later_by tally.source.delay) (drop tally.made l) } in q)) e
 
-  added-here : (tally : Tally) → IsTally firsts room logs tally → tally.source.station ≡ i → seen_queue firsts room longer tally ≡ record (seen_queue firsts room logs tally) { added = (seen_queue firsts room logs tally).added ++ later_by tally.source.delay date ∷ [] }
+  added-here : (tally : QueueTally) → IsTally firsts room logs tally → tally.source.station ≡ i → seen_queue firsts room longer tally ≡ record (seen_queue firsts room logs tally) { added = (seen_queue firsts room logs tally).added ++ later_by tally.source.delay date ∷ [] }
   added-here tally sound e =
       queue-dates tally (dates_for logs tally ++ date ∷ []) (dates-here tally e)
       ∙ ap (λ (l : List ℕ). (let q : PlainQueue = record (seen_queue firsts room logs tally) { added = l } in q))
@@ -282,7 +384,7 @@ module _ (firsts : List ℕ) (room : ℕ) (logs : List RoomyLog) (tallies : List
       (cases_lt q (length tallies))
 
   -- a tally is sound over it, where there was room for what came
-  sound-over : (tally : Tally) → IsTally firsts room logs tally → length (dates_for logs tally) ≤ length (dates_for longer tally) → length (dates_for longer tally) ≤ tally.made + room → IsTally firsts room longer tally
+  sound-over : (tally : QueueTally) → IsTally firsts room logs tally → length (dates_for logs tally) ≤ length (dates_for longer tally) → length (dates_for longer tally) ≤ tally.made + room → IsTally firsts room longer tally
   sound-over tally sound grown fits = record {
     began = sound.began;
     counted = sound.counted;

@@ -8,6 +8,7 @@ use Rattle.line_base.specs.contracts.log.Log.TheInside as LogInside
 use Rattle.station_step.specs.contracts.shelf.Shelf as Shelf
 use Rattle.station_step.specs.contracts.shelf.Shelf.TheInside as ShelfInside
 use Rattle.station_step.specs.contracts.tally.Tally as Tally
+use Rattle.station_step.specs.contracts.tally.Tally.TheInside as TallyInside
 use Rattle.station_step.specs.contracts.fronts.Front as Front
 use Rattle.station_step.specs.contracts.noted.NotedInput as NotedInput
 use Rattle.station_step.specs.contracts.noted.NotedOutlet as NotedOutlet
@@ -22,7 +23,8 @@ log_send = view_send LogInside.the_row _ _ _ _ (declared_send LogInside.the_type
 
 tally_send : IsSend Tally.the_row
 tally_send =
-    declared_send Tally.the_type (
+    view_send TallyInside.the_row _ _ _ _ (
+    declared_send TallyInside.the_type (
       search sendable,
       (
         search sendable,
@@ -32,12 +34,18 @@ tally_send =
             search sendable,
             (
               search sendable,
-              tt,
+              (
+                search sendable,
+                (
+                  search crosses,
+                  tt,
+                ),
+              ),
             ),
           ),
         ),
       ),
-    )
+    ))
 
 pub shelf_send : IsSend Shelf.the_row
 shelf_send =

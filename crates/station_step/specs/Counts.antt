@@ -5,12 +5,19 @@ use Rattle.std.specs.Prelude.{ℕ, ◌+◌, ◌-◌, ◌^◌, ◌≤◌, ◌<◌
 use Rattle.card_queue.specs.Plain.{PlainQueue}
 use Rattle.line_base.specs.Roomy.{RoomyLog}
 use Rattle.station_step.specs.declared.source.Source.{Source}
-use Rattle.station_step.specs.declared.tally.Tally.{Tally}
 use Rattle.station_step.specs.Shelf.{WorkShelf, log_on, later_by}
+
+-- what contracts see of a `Tally`
+pub record QueueTally : Type 0 where
+  pub taken : ℕ  -- how many tokens were taken: first those that the queue began with
+  pub initial : ℕ  -- how many tokens it began with
+  pub source : Source  -- where the tokens come from that were put since
+  pub made : ℕ  -- how many dates that log had when the queue was made
+  pub start : ℕ  -- where its first token stands among those that the queues began with
 
 -- the tally of a queue whose first tokens, this many, stand from this place on, where the log of its source has this
 -- many dates
-abbrev pub new_tally : ℕ → ℕ → Source → ℕ → Tally
+abbrev pub new_tally : ℕ → ℕ → Source → ℕ → QueueTally
 new_tally start initial source made = record {
   taken = 0;
   initial = initial;
@@ -20,23 +27,27 @@ new_tally start initial source made = record {
 }
 
 -- where there is no queue
-abbrev pub no_tally : Tally
+abbrev pub no_tally : QueueTally
 no_tally = new_tally 0 0 (record { station = 0; delay = 0 }) 0
 
 -- the tally of queue q
-abbrev pub tally_at : List Tally → ℕ → Tally
+abbrev pub tally_at : List QueueTally → ℕ → QueueTally
 tally_at tallies q = slice_index_or tallies q no_tally
 
 -- the dates of the log from which the tokens of a queue come
-abbrev pub dates_for : List RoomyLog → Tally → List ℕ
+abbrev pub dates_for : List RoomyLog → QueueTally → List ℕ
 dates_for logs tally = (log_on logs tally.source.station).dates
 
 -- the tokens that the queue began with
-abbrev pub firsts_of : List ℕ → Tally → List ℕ
+abbrev pub firsts_of : List ℕ → QueueTally → List ℕ
 firsts_of firsts tally = take tally.initial (drop tally.start firsts)
 
+-- the place in that log of the next date to be taken, where none is left of the tokens that the queue began with
+abbrev pub next_place : QueueTally → ℕ
+next_place tally = tally.made + (tally.taken - tally.initial)
+
 -- the queue with this tally
-abbrev pub seen_queue : List ℕ → ℕ → List RoomyLog → Tally → PlainQueue
+abbrev pub seen_queue : List ℕ → ℕ → List RoomyLog → QueueTally → PlainQueue
 seen_queue firsts room logs tally = record {
   initial = firsts_of firsts tally;
   added = map (later_by tally.source.delay) (drop tally.made (dates_for logs tally));
@@ -45,16 +56,16 @@ seen_queue firsts room logs tally = record {
 }
 
 -- the shelf with these tallies
-abbrev pub seen_shelf : List ℕ → ℕ → List RoomyLog → List Tally → WorkShelf
+abbrev pub seen_shelf : List ℕ → ℕ → List RoomyLog → List QueueTally → WorkShelf
 seen_shelf firsts room logs tallies = record {
   logs = logs;
-  sources = map (λ (tally : Tally). tally.source) tallies;
+  sources = map (λ (tally : QueueTally). tally.source) tallies;
   queues = map (seen_queue firsts room logs) tallies;
 }
 
 -- the first tokens of a queue stand in the list, and its source's log is there. No more was taken than is there,
 -- and no more were put than there is room for
-pub record IsTally (firsts : List ℕ) (room : ℕ) (logs : List RoomyLog) (tally : Tally) : Type 0 where
+pub record IsTally (firsts : List ℕ) (room : ℕ) (logs : List RoomyLog) (tally : QueueTally) : Type 0 where
   pub began : tally.start + tally.initial ≤ length firsts
   pub counted : tally.initial + room < 2 ^ 32
   pub few : tally.made ≤ room
@@ -64,9 +75,13 @@ pub record IsTally (firsts : List ℕ) (room : ℕ) (logs : List RoomyLog) (tall
   pub fits : length (dates_for logs tally) ≤ tally.made + room
 
 -- each of these is such a tally
-abbrev pub AreTallies : List ℕ → ℕ → List RoomyLog → List Tally → Type 0
+abbrev pub AreTallies : List ℕ → ℕ → List RoomyLog → List QueueTally → Type 0
 AreTallies firsts room logs tallies = (q : ℕ) → q < length tallies → IsTally firsts room logs (tally_at tallies q)
 
 -- the tally after one token more was taken
-abbrev pub one_taken : Tally → Tally
+abbrev pub one_taken : QueueTally → QueueTally
 one_taken tally = record tally { taken = tally.taken + 1 }
+
+-- the tally after the token that was taken last was put back
+abbrev pub one_returned : QueueTally → QueueTally
+one_returned tally = record tally { taken = tally.taken - 1 }

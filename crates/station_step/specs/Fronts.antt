@@ -3,21 +3,31 @@
 use Rattle.std.specs.Prelude.{◌≡◌, ◌≢◌, ℕ, ◌<◌, Bool, false, List, [], None, Some, IsTrue, map, length, slice_index, slice_index_or}
 use Rattle.line_base.specs.declared.event.Parts.{Parts}
 use Rattle.card_queue.specs.Plain.{PlainQueue, plain_waiting}
-use Rattle.station_step.specs.Shelf.{queue_at}
+use Rattle.station_step.specs.declared.source.Source.{Source}
+use Rattle.station_step.specs.Shelf.{queue_at, source_at}
 use Rattle.station_step.specs.declared.fronts.Front.{Front}
 use Rattle.station_step.specs.declared.input.Input.{Input}
 use Rattle.station_step.specs.Ends.{inlet_queue}
 use Rattle.station_step.specs.Input.{input_at}
 use Rattle.station_step.specs.Kept.{saturating}
-use Rattle.station_step.specs.Noted.{extras_into}
+use Rattle.station_step.specs.Noted.{extras_into, delays_into}
 
 -- the front with this number
 abbrev pub front_at : List Front → ℕ → Front
-front_at fronts k = slice_index_or fronts k (record { queue = 0; extra = 0 })
+front_at fronts k = slice_index_or fronts k (record { queue = 0; extra = 0; later = 0 })
 
 -- what is noted with each: what the time of the job adds to its token
 abbrev pub front_extras : List Front → List ℕ
 front_extras fronts = map (λ (f : Front). f.extra) fronts
+
+-- what is kept as the delay with that added is that sum, of these delays of the arcs, or of those of the queues
+abbrev pub AreLater : List ℕ → List Front → Type 0
+AreLater delays fronts = (k : ℕ) → k < length fronts →
+    (front_at fronts k).later ≡ saturating (slice_index delays k) (front_at fronts k).extra
+
+abbrev pub AreLaterBy : List Source → List Front → Type 0
+AreLaterBy sources fronts = (k : ℕ) → k < length fronts →
+    (front_at fronts k).later ≡ saturating (source_at sources (front_at fronts k).queue).delay (front_at fronts k).extra
 
 -- the tokens that wait at a front
 abbrev pub waiting_at : List PlainQueue → List Front → ℕ → List ℕ
@@ -47,18 +57,22 @@ pub record AreFronts (inputs : List Input) (fronts : List Front) : Type 0 where
   pub count : length fronts ≡ length inputs
   pub queues : (k : ℕ) → k < length inputs → inlet_queue (input_at inputs k).inlet ≡ Some (front_at fronts k).queue
 
--- station t has a front for each input, each job takes as long there, and no outlet can lack space
+-- station t is not the feed and has a front for each input, each job takes as long there, and no outlet can lack space
 pub record IsDirect (g : Parts) (t : ℕ) (inputs : List Input) (fronts : List Front) (bounded : Bool) : Type 0 where
   pub each : AreFronts inputs fronts
   pub extras : (job : ℕ) → front_extras fronts ≡ extras_into g t job
+  pub laters : AreLater (delays_into g t) fronts
   pub unbounded : bounded ≡ false
+  pub inside : t ≢ 0
 
 -- all hands are empty
 abbrev pub AreEmptyHanded : List Input → Type 0
 AreEmptyHanded inputs = (k : ℕ) → k < length inputs → (input_at inputs k).hand ≡ None
 
--- what a station keeps to fire at once: where it is direct, its fronts, and where it says so, all hands are empty
+-- what a station keeps to fire at once: where it is direct, its fronts, and where it may fire by them now, all hands are
+-- empty
 pub record IsReadied (g : Parts) (t : ℕ) (inputs : List Input) (fronts : List Front)
-    (bounded direct empty : Bool) : Type 0 where
+    (bounded direct at_once : Bool) : Type 0 where
   pub fires : IsTrue direct → IsDirect g t inputs fronts bounded
-  pub hands : IsTrue empty → AreEmptyHanded inputs
+  pub may : IsTrue at_once → IsTrue direct
+  pub hands : IsTrue at_once → AreEmptyHanded inputs

@@ -1,5 +1,6 @@
 pub mod Shelf
 pub mod Counts
+pub mod Taken
 pub mod Ends
 pub mod Input
 pub mod Station

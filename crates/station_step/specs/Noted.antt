@@ -45,7 +45,10 @@ extras_for worked takes = map (λ (is_worked : Bool). if is_worked then takes el
 abbrev pub extras_into : Parts → ℕ → ℕ → List ℕ
 extras_into g t job = map (λ a. work g a job) (ins g t)
 
--- the delay of each arc out of a station
+-- the delay of each arc into a station, and of each out of it
+abbrev pub delays_into : Parts → ℕ → List ℕ
+delays_into g t = map (delay g) (ins g t)
+
 abbrev pub delays_from : Parts → ℕ → List ℕ
 delays_from g t = map (delay g) (outs g t)
 

@@ -5,11 +5,12 @@ use Rattle.line_base.specs.Roomy.{RoomyLog}
 use Rattle.card_queue.specs.Plain.{PlainQueue}
 use Rattle.event_graph.specs.Network.{stations, jobs, delay, ins, outs}
 use Rattle.station_step.specs.Shelf.{WorkShelf, log_on, source_at}
+use Rattle.station_step.specs.declared.source.Source.{Source}
 use Rattle.station_step.specs.declared.ends.Inlet.{Inlet}
 use Rattle.station_step.specs.declared.ends.Outlet.{Outlet}
 use Rattle.station_step.specs.declared.ends.Outlet.TheVariants.{Local}
 use Rattle.station_step.specs.declared.input.Input.{Input}
-use Rattle.station_step.specs.Ends.{HasRingRoom, HasShelfRoom, bare_inlet, bare_outlet, outlet_queue}
+use Rattle.station_step.specs.Ends.{HasRingRoom, HasShelfRoom, bare_inlet, bare_outlet, inlet_queue, outlet_queue}
 use Rattle.station_step.specs.Input.{input_at, empty_handed, TakeApart, TakeWithin, NoneTakes}
 
 -- what contracts see of a `Station`
@@ -76,6 +77,11 @@ pub record ComeFrom (i : ℕ) (delays : List ℕ) (shelf : WorkShelf) (outlets :
       source_at shelf.sources q ≡ record { station = i; delay = slice_index delays k }
   pub puts : (q : ℕ) → q < length shelf.queues → (source_at shelf.sources q).station ≡ i → SomePuts q outlets
 
+-- the tokens of the queues from which these inputs take are later than the dates of their sources by these delays
+abbrev pub TakeLater : List ℕ → List Source → List Input → Type 0
+TakeLater delays sources inputs = (k q : ℕ) → k < length inputs → inlet_queue (input_at inputs k).inlet ≡ Some q →
+    (source_at sources q).delay ≡ slice_index delays k
+
 -- one input for each arc into the station and one outlet for each arc out of it; the log, and each
 -- ring's put, has room for the firings that are left
 pub record IsStation (s : WorkStation) : Type 0 where
@@ -95,11 +101,13 @@ pub record IsSeated (shelf : List PlainQueue) (s : WorkStation) : Type 0 where
   pub puts_within : PutWithin (length shelf) s.outlets
   pub puts_apart : PutApart s.outlets
 
--- it is the worker's station i: its log stands there, and its queues look into it, with the delays of their arcs
+-- it is the worker's station i: its log stands there, and its queues look into it, with the delays of their arcs, as
+-- those from which it takes look into the logs of others
 pub record StandsAt (i : ℕ) (shelf : WorkShelf) (s : WorkStation) : Type 0 where
   pub there : i < length shelf.logs
   pub log : log_on shelf.logs i ≡ s.log
   pub come : ComeFrom i (map (delay s.graph) (outs s.graph s.number)) shelf s.outlets
+  pub later : TakeLater (map (delay s.graph) (ins s.graph s.number)) shelf.sources s.inputs
 
 -- where dates are left to be made, each of its outlets on the shelf has room for a token
 abbrev pub MayPut : List PlainQueue → WorkStation → Type 0

@@ -1,15 +1,15 @@
 -- What a step of a station did, and when it answers what.
-use Rattle.std.specs.Prelude.{◌≡◌, ℕ, ◌+◌, ◌<◌, ⊤, List, None, IsSome, length, slice_index}
+use Rattle.std.specs.Prelude.{◌≡◌, ◌≢◌, ℕ, ◌+◌, ◌<◌, ⊤, List, None, IsSome, length, slice_index, slice_set}
 use mathlib.Core.List.{IsPrefix}
 use Rattle.line_base.specs.Roomy.{with_date}
 use Rattle.card_queue.specs.Plain.{PlainQueue, plain_taken}
 use Rattle.event_graph.specs.Network.{jobs, ins, outs}
 use Rattle.station_step.specs.declared.stepped.Stepped.{Stepped}
 use Rattle.station_step.specs.declared.stepped.Stepped.TheVariants.{Fired, Blocked, Full, Done}
-use Rattle.station_step.specs.Shelf.{queue_at, unused_queue, OnlyTakes}
+use Rattle.station_step.specs.Shelf.{WorkShelf, queue_at, unused_queue, OnlyTakes}
 use Rattle.station_step.specs.Ends.{outlet_looks, HasSpace, HasNoSpace, HasLooked}
 use Rattle.station_step.specs.Input.{input_at, tokens_ahead, IsRefilled, NoneTakes}
-use Rattle.station_step.specs.Station.{WorkStation, IsStation, AreApart, outlet_at, NonePuts}
+use Rattle.station_step.specs.Station.{WorkStation, IsStation, IsSeated, StandsAt, AreApart, outlet_at, NonePuts, bare_station}
 use Rattle.station_step.specs.Kept.{IsKept}
 
 -- dates are left to be made, each arc into the station has a token, in the hand or known to come next, and each
@@ -119,3 +119,17 @@ pub record MovesApart (s : WorkStation) (old new : List PlainQueue) : Type 0 whe
   pub own : MovesItsOwn s old new
   pub others : (other : WorkStation) → IsStation other → AreApart s other → IsKept old other → IsKept new other
   pub ready : (other : WorkStation) → AreApart s other → IsReady old other → IsReady new other
+
+-- what a step of the worker's station i does that fires
+pub record FiresAt (i : ℕ) (old new : WorkShelf) (before after : WorkStation) : Type 0 where
+  pub left : length before.log.dates ≢ jobs before.graph
+  pub turns : after.turns ≡ before.turns + 1
+  pub same : bare_station after ≡ bare_station before
+  pub station : IsStation after
+  pub seated : IsSeated new.queues after
+  pub stands : StandsAt i new after
+  pub did : FiredOnce before after
+  pub kept : IsKept old.queues before → IsKept new.queues after
+  pub moves : MovesApart before old.queues new.queues
+  pub logs : new.logs ≡ slice_set old.logs i after.log
+  pub sources : new.sources ≡ old.sources

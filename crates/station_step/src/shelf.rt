@@ -1,7 +1,7 @@
-ghost use Rattle.std.specs.Prelude.{◌≡◌, ◌≢◌, ℕ, ◌<◌, ◌≤◌, ◌+◌, ◌^◌, ◌++◌, ◌∷◌, [], ◌↔◌, All, map, take, length, slice_set, IfOk, IsNone, option_to_list};
+ghost use Rattle.std.specs.Prelude.{◌≡◌, ◌≢◌, ℕ, ◌<◌, ◌≤◌, ◌+◌, ◌^◌, ◌++◌, ◌∷◌, [], ◌↔◌, All, map, take, length, slice_set, IfOk, IfSome, IfNone, IsNone, option_to_list};
 ghost use Rattle.card_queue.specs.Plain.{plain_taken, plain_waiting};
 ghost use Rattle.line_base.specs.Roomy.{with_date};
-ghost use Rattle.station_step.specs.Shelf.{log_on, source_at, later_by, queue_at, new_queue, without_takes, with_take};
+ghost use Rattle.station_step.specs.Shelf.{log_on, source_at, later_by, queue_at, new_queue, without_takes, with_take, with_returned};
 
 use crate::source::Source;
 use crate::tally::Tally;
@@ -60,7 +60,7 @@ impl Shelf {
         let mut queues = Vec::with_capacity(alloc, firsts.len())?;
         for first in &firsts {
             let source = sources[queues.len()];
-            let made = logs[source.station as usize].dates().len();
+            let made = logs[source.station as usize].dates().len() as u32;
             queues.push(Tally::new(tokens.len(), first.len() as u32, source, made))?;
             tokens.extend_from_slice(first)?;
         }
@@ -100,39 +100,17 @@ impl Shelf {
         requires { k < length self.now.queues }
         ensures { result ≡ length (plain_waiting (queue_at self.now.queues k)) }
     {
-        let tally = &self.queues[k as usize];
-        let put = self.logs[tally.source.station as usize].dates().len() - tally.made;
-        tally.initial + put as u32 - tally.taken
-    }
-
-    /// The front token of queue `k`, if there is one. It stays there.
-    #[inline(always)]
-    pub fn front(&self, k: u32) -> Option<Date>
-        requires { k < length self.now.queues }
-        ensures { option_to_list result ≡ take 1 (plain_waiting (queue_at self.now.queues k)) }
-    {
-        let tally = &self.queues[k as usize];
-        tally.front(self.firsts.as_slice(), &self.logs)
-    }
-
-    /// Counts the front token of queue `k`, which is there, as taken.
-    #[inline(always)]
-    pub fn count_take(&mut self, k: u32)
-        requires there { k < length self.old.queues }
-        requires some { plain_waiting (queue_at self.old.queues k) ≢ [] }
-        ensures counted { self.new.queues ≡
-            slice_set self.old.queues k (with_take (queue_at self.old.queues k)) }
-        ensures logs { self.new.logs ≡ self.old.logs }
-        ensures sources { self.new.sources ≡ self.old.sources }
-    {
-        let tally = &mut self.queues[k as usize];
-        tally.note_take();
+        self.queues[k as usize].waiting(self.logs.as_slice()) as u32
     }
 
     /// Takes the front token of queue `k`, if there is one.
     #[inline]
     pub fn take(&mut self, k: u32) -> Option<Date>
         requires { k < length self.old.queues }
+        ensures front { option_to_list result ≡ take 1 (plain_waiting (queue_at self.old.queues k)) }
+        ensures counted { IfSome result (λ _. self.new.queues ≡
+            slice_set self.old.queues k (with_take (queue_at self.old.queues k))) }
+        ensures stays { IfNone result (self.new.queues ≡ self.old.queues) }
         ensures only { self.new.queues ≡ slice_set self.old.queues k (queue_at self.new.queues k) }
         ensures taken { plain_taken (queue_at self.new.queues k) ≡ plain_taken (queue_at self.old.queues k) ++
             option_to_list result }
@@ -141,9 +119,39 @@ impl Shelf {
         ensures logs { self.new.logs ≡ self.old.logs }
         ensures sources { self.new.sources ≡ self.old.sources }
     {
-        let token = self.front(k)?;
-        self.count_take(k);
-        Some(token)
+        let tally = &mut self.queues[k as usize];
+        tally.take(self.firsts.as_slice(), self.logs.as_slice())
+    }
+
+    /// Takes the front token of queue `k`, if there is one. The answer is that token with `extra` added; `later` is the
+    /// delay of the queue with that added. Sums saturate.
+    #[inline(always)]
+    pub fn take_for(&mut self, k: u32, extra: u64, later: u64) -> Option<Date>
+        requires there { k < length self.old.queues }
+        requires later { later ≡ later_by extra (source_at self.old.sources k).delay }
+        ensures asks { option_to_list result ≡
+            map (later_by extra) (take 1 (plain_waiting (queue_at self.old.queues k))) }
+        ensures counted { IfSome result (λ _. self.new.queues ≡
+            slice_set self.old.queues k (with_take (queue_at self.old.queues k))) }
+        ensures stays { IfNone result (self.new.queues ≡ self.old.queues) }
+        ensures logs { self.new.logs ≡ self.old.logs }
+        ensures sources { self.new.sources ≡ self.old.sources }
+    {
+        let tally = &mut self.queues[k as usize];
+        tally.take_for(self.firsts.as_slice(), self.logs.as_slice(), extra, later)
+    }
+
+    /// Puts the token back on queue `k` that was taken from it last.
+    pub fn give_back(&mut self, k: u32)
+        requires there { k < length self.old.queues }
+        requires some { 0 < (queue_at self.old.queues k).takes }
+        ensures given { self.new.queues ≡
+            slice_set self.old.queues k (with_returned (queue_at self.old.queues k)) }
+        ensures logs { self.new.logs ≡ self.old.logs }
+        ensures sources { self.new.sources ≡ self.old.sources }
+    {
+        let tally = &mut self.queues[k as usize];
+        tally.give_back();
     }
 
     /// Adds a date to the log of station `i`, and with that a token to each queue that comes from there. It takes no

@@ -1,14 +1,14 @@
-ghost use Rattle.std.specs.Prelude.{◌≡◌, ℕ, ◌+◌, ◌-◌, ◌<◌, ◌≤◌, ◌^◌, ◌↔◌, List, [], All, length, slice_set, IfOk};
+ghost use Rattle.std.specs.Prelude.{◌≡◌, ℕ, ◌+◌, ◌-◌, ◌<◌, ◌≤◌, ◌^◌, ◌↔◌, List, [], All, false, length, slice_set, IfOk, IsTrue};
 ghost use Rattle.card_queue.specs.Plain.{PlainQueue};
 ghost use Rattle.event_graph.specs.Network.{stations, jobs, ins, outs};
 ghost use Rattle.station_step.specs.Ends.{IsUntaken, IsUnfilled, HasRingRoom, unseen_inlet, unseen_outlet, AreEnds, AreMet, KnowsMore, HasMoreSpace};
 ghost use Rattle.station_step.specs.Input.{input_at};
 ghost use Rattle.station_step.specs.Kept.{IsKept, IsFresh};
 ghost use Rattle.station_step.specs.Station.{WorkStation, IsStation, IsSeated, StandsAt, MayPut, outlet_at, bare_station, new_station, with_inlet, with_outlet};
-ghost use Rattle.station_step.specs.Step.{IsReady, IsDone, HasFired, IfBlocked, IsBlocked, IfFull, IsFull, Did, MovesApart};
+ghost use Rattle.station_step.specs.Step.{IsReady, IsDone, HasFired, IfBlocked, IsBlocked, IfFull, IsFull, Did, FiresAt, MovesApart};
 
 use crate::ends::{Inlet, Outlet, meet_ends};
-use crate::fronts::{Front, count_takes, fronts_of, is_direct, latest_front};
+use crate::fronts::{Front, fronts_of, is_direct, take_fronts};
 use crate::inputs::{empty_hands, next_date, refill, with_empty_hands};
 use crate::noted::{
     NotedInput, NotedOutlet, kinds_of, note_job, note_time, with_delays, worked_into,
@@ -38,9 +38,9 @@ pub struct Station {
     // Whether an output can lack space, and whether one is over a ring.
     bounded: bool,
     rings: bool,
-    // Whether it fires by its fronts where it can, and whether all hands are empty, without which it doesn't.
+    // Whether it fires by its fronts where it can, and whether it may do so now, as all of its hands are empty.
     direct: bool,
-    empty_handed: bool,
+    at_once: bool,
     turns: u64,
     fronts: Vec<Front>,
     // Beside each input stands what the time of the job adds to its token, and beside each outlet the delay of its arc.
@@ -69,7 +69,7 @@ impl Model for Station {
       noted : IsNoted s.graph.value s.number s.inputs.items s.outlets.items s.fixed s.worked.items
           s.bounded s.rings;
       readied : IsReadied s.graph.value s.number (inputs_of s.inputs.items) s.fronts.items s.bounded
-          s.direct s.empty_handed;
+          s.direct s.at_once;
     } };
 }
 
@@ -106,15 +106,16 @@ impl Station {
         let mut inputs = with_empty_hands(alloc, inlets)?;
         note_time(&mut inputs, worked.as_slice(), graph.time(t, 1));
         let fixed = !graph.varies(t);
-        let fronts = fronts_of(alloc, &inputs)?;
+        let fronts = fronts_of(alloc, graph, t, &inputs)?;
+        let direct = is_direct(t, fixed, bounded, &fronts, &inputs);
         let outlets = with_delays(alloc, graph, t, outlets)?;
         Ok(Station {
             number: t,
             fixed,
             bounded,
             rings,
-            direct: is_direct(fixed, bounded, &fronts, &inputs),
-            empty_handed: true,
+            direct,
+            at_once: direct,
             turns: 0,
             fronts,
             inputs,
@@ -137,11 +138,69 @@ impl Station {
     ///
     /// The station is number `i` of its worker, on whose shelf its log stands.
     ///
-    /// It takes no memory, and goes over its inputs and its outputs at most twice each.
+    /// It takes no memory, and goes over its inputs at most three times and over its outputs at most twice.
     ///
     /// Source of the rule: Baccelli, Cohen, Olsder and Quadrat, Synchronization and Linearity, on event graphs.
     #[inline(always)]
     pub fn step(&mut self, live: &Live, shelf: &mut Shelf, i: u32) -> Stepped
+        requires made_for { live.now.graph ≡ self.old.graph }
+        requires turns { self.old.turns < 2 ^ 40 }
+        requires seated { IsSeated shelf.old.queues self.old }
+        requires may_put { MayPut shelf.old.queues self.old }
+        requires stands { StandsAt i shelf.old self.old }
+        ensures turns { self.new.turns ≡ self.old.turns + 1 }
+        ensures same { bare_station self.new ≡ bare_station self.old }
+        ensures station { IsStation self.new }
+        ensures seated { IsSeated shelf.new.queues self.new }
+        ensures stands { StandsAt i shelf.new self.new }
+        ensures done { IsDone result ↔ (length self.old.log.dates ≡ jobs self.old.graph) }
+        ensures blocked { IfBlocked result (IsBlocked shelf.old.queues self.old self.new) }
+        ensures full { IfFull result (IsFull self.old self.new) }
+        ensures fires { IsReady shelf.old.queues self.old → HasFired result }
+        ensures did { Did result shelf.old.queues shelf.new.queues self.old self.new }
+        ensures kept { IsKept shelf.old.queues self.old → IsKept shelf.new.queues self.new }
+        ensures moves { MovesApart self.old shelf.old.queues shelf.new.queues }
+        ensures logs { shelf.new.logs ≡ slice_set shelf.old.logs i self.new.log }
+        ensures sources { shelf.new.sources ≡ shelf.old.sources }
+    {
+        if self.fire_at_once(live, shelf, i) {
+            return Stepped::Fired;
+        }
+        self.step_by_hands(live, shelf, i)
+    }
+
+    /// Fires by the fronts, where the station may and has a token at each of them. Else nothing changes.
+    #[inline(always)]
+    fn fire_at_once(&mut self, live: &Live, shelf: &mut Shelf, i: u32) -> bool
+        requires made_for { live.now.graph ≡ self.old.graph }
+        requires turns { self.old.turns < 2 ^ 40 }
+        requires seated { IsSeated shelf.old.queues self.old }
+        requires may_put { MayPut shelf.old.queues self.old }
+        requires stands { StandsAt i shelf.old self.old }
+        ensures fired { IsTrue result → FiresAt i shelf.old shelf.new self.old self.new }
+        ensures shelf { result ≡ false → shelf.new ≡ shelf.old }
+        ensures station { result ≡ false → self.new ≡ self.old }
+    {
+        if !self.at_once {
+            return false;
+        }
+        let graph = live.graph();
+        let done = shelf.log(i).dates().len() as u32;
+        if done == graph.jobs() {
+            return false;
+        }
+        let Some(date) = take_fronts(self.fronts.as_slice(), shelf) else {
+            return false;
+        };
+        put_all(self.rings, &mut self.outlets, shelf, i, date);
+        self.turns += 1;
+        self.log = Snapshot::of(shelf.log(i));
+        true
+    }
+
+    /// Makes one step as `step` does, with the tokens in the hands.
+    #[inline]
+    fn step_by_hands(&mut self, live: &Live, shelf: &mut Shelf, i: u32) -> Stepped
         requires made_for { live.now.graph ≡ self.old.graph }
         requires turns { self.old.turns < 2 ^ 40 }
         requires seated { IsSeated shelf.old.queues self.old }
@@ -169,15 +228,7 @@ impl Station {
             return Stepped::Done;
         }
         let job = done + 1;
-        let fronts = self.fronts.as_slice();
-        if let Some(latest) = latest_front(self.direct, self.empty_handed, fronts, shelf) {
-            count_takes(fronts, shelf);
-            let date = next_date(graph, self.number, job, latest);
-            put_all(self.rings, &mut self.outlets, shelf, i, date);
-            self.log = Snapshot::of(shelf.log(i));
-            return Stepped::Fired;
-        }
-        self.empty_handed = false;
+        self.at_once = false;
         let worked = self.worked.as_slice();
         note_job(
             self.fixed,
@@ -195,7 +246,7 @@ impl Station {
             return Stepped::Full(graph.outs(self.number)[k]);
         }
         empty_hands(&mut self.inputs);
-        self.empty_handed = true;
+        self.at_once = self.direct;
         let date = next_date(graph, self.number, job, latest);
         put_all(self.rings, &mut self.outlets, shelf, i, date);
         self.log = Snapshot::of(shelf.log(i));

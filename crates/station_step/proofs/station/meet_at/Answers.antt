@@ -136,7 +136,7 @@ invariant_of-to c =
           refl
           refl
           c.to.invariant.noted;
-      readied = readied-met s.graph.value s.number (inputs c) c.args.j (met_input c) (inputs_of (met_inputs c)) s.fronts.items s.bounded s.direct s.empty_handed
+      readied = readied-met s.graph.value s.number (inputs c) c.args.j (met_input c) (inputs_of (met_inputs c)) s.fronts.items s.bounded s.direct s.at_once
           (met_inputs_are c)
           (there c)
           (ap (λ (i : Inlet). (let m : Input = record { inlet = i; hand = None } in m)) (sym (bare-unseen c.meet_ends.new.inlet) ∙ ap bare_inlet (same_but_known c) ∙ bare-unseen (input_at (inputs c) c.args.j).inlet))

@@ -5,7 +5,7 @@ use Rattle.std.proofs.lemmas.List.{get_or-map, get_or_default, length-map}
 use Rattle.std.proofs.lemmas.Result.{err_from_is_err_and}
 use Rattle.line_base.specs.Roomy.{RoomyLog}
 use Rattle.station_step.specs.declared.source.Source.{Source}
-use Rattle.station_step.specs.declared.tally.Tally.{Tally}
+use Rattle.station_step.specs.Counts.{QueueTally}
 use Rattle.station_step.specs.Shelf.{source_at, log_on}
 use Rattle.station_step.specs.Counts.{new_tally, dates_for, seen_queue, AreTallies}
 use Rattle.station_step.proofs.LaidTallies.{LaidUpTo, items_of, laid_none, laid_more, seen-laid, sources-laid, tallies-laid, new-queues}
@@ -112,7 +112,7 @@ loop-first-preserved c =
     let n = c.loop-first.first-index in
     let first = c.deref.result.now in
     let source = c.index-source.result.now in
-    let made = length c.dates-made.result.now in
+    let made = length c.dates.result.now in
     let in_firsts : n < length firsts = omega (arith, c.loop-first-test.true, ap length c.deref-first-items.ensures.value) in
     let first_at : first ≡ slice_index_or (items_of firsts) n [] =
     c.deref.ensures.value
@@ -123,7 +123,7 @@ loop-first-preserved c =
     ∙ get_or_default sources c.len-in-loop-first.result _ _ (low from)
     ∙ ap (source_at sources) (at from) in
     let made_is : made ≡ length (dates_for logs (new_tally 0 0 source 0)) =
-    ap length c.dates-made.ensures
+    ap length c.dates.ensures
     ∙ ap (λ (l : RoomyLog). length l.dates) (c.index.ensures ∙ get_or_default logs source.station _ _ (there from)) in
     let start : c.len-in-loop-first-2.result ≡ length tokens = omega (arith, c.len-in-loop-first-2.ensures, c.loop-first.tokens.ok.0) in
     let initial : c.len-in-loop-first-3.result ≡ length first = omega (arith, c.len-in-loop-first-3.ensures, c.first-item.result.ok.0, ap length c.deref.ensures.value) in
@@ -132,9 +132,9 @@ loop-first-preserved c =
     ∙ ap (λ k. new_tally k c.len-in-loop-first-3.result source made) start
     ∙ ap (λ k. new_tally (length tokens) k source made) initial in
     let pushed : c.push.new.self.items ≡ tallies ++ new_tally (length tokens) (length first) source made ∷ [] =
-    c.in_ok-push.ensures.items ∙ ap (λ (t : Tally). tallies ++ t ∷ []) tally in
+    c.in_ok-push.ensures.items ∙ ap (λ (t : QueueTally). tallies ++ t ∷ []) tally in
     subst (λ (l : List ℕ). LaidUpTo (n + 1) logs (items_of firsts) sources l c.push.new.self.items) (sym c.in_ok-extend_from_slice.ensures.items)
-    (subst (λ (l : List Tally). LaidUpTo (n + 1) logs (items_of firsts) sources (tokens ++ first) l) (sym pushed)
+    (subst (λ (l : List QueueTally). LaidUpTo (n + 1) logs (items_of firsts) sources (tokens ++ first) l) (sym pushed)
     (laid_more n logs (items_of firsts) sources tokens first source made tallies first_at source_is made_is c.loop-first.invariant))
 
 pub returns-clause-logs : goal.returns-clause-logs

@@ -1,31 +1,51 @@
-use Rattle.std.proofs.Common.{ℕ, List, length, take, sym, ap, ◌∙◌, arith, subst, refl}
-use Rattle.std.specs.Prelude.{Option, Some}
-use Rattle.card_queue.specs.Plain.{PlainQueue}
-use Rattle.station_step.proofs.Queues.{TakenFrom, take-none, take-some}
+use Rattle.std.proofs.Common.{◌≡◌, ℕ, List, set, take, ap, ◌∙◌, subst}
+use Rattle.std.specs.Prelude.{option_to_list}
+use Rattle.line_base.specs.Roomy.{RoomyLog}
+use Rattle.card_queue.specs.Plain.{PlainQueue, plain_waiting}
+use Rattle.station_step.specs.Shelf.{WorkShelf}
+use Rattle.station_step.specs.Counts.{seen_queue, IsTally}
+use Rattle.station_step.proofs.Queues.{IsLent, tally-lent, seen_queues, TakenFrom, ShelfTook, shelf-took}
 use Rattle.station_step.proofs.shelf.Shelf.take.Goals as goal
+use Rattle.station_step.proofs.shelf.Shelf.take.Goals.{After-index_mut-tally, After-take}
 
-pub count_take-requires-clause-there : goal.count_take-requires-clause-there
-count_take-requires-clause-there c = c.requires
+lent : (c : After-index_mut-tally) → IsLent c.self.inside.firsts.items c.self.inside.room.value c.self.inside.logs.items c.self.inside.queues.items c.args.k c.index_mut-tally.result.now
+lent c =
+    tally-lent c.self.inside.firsts.items c.self.inside.room.value c.self.inside.logs.items c.self.inside.queues.items c.args.self.now.queues c.args.k c.index_mut-tally.result.now (ap (λ (w : WorkShelf). w.queues) c.self.view_is) c.requires c.index_mut-tally.ensures.value c.self.invariant
 
-pub count_take-requires-clause-some : goal.count_take-requires-clause-some
-count_take-requires-clause-some c empty = omega (arith, ap length (c.in_ok-token.ensures ∙ ap (take 1) empty))
+-- what the tally tells of the front
+front : (c : After-take) → IsLent c.self.inside.firsts.items c.self.inside.room.value c.self.inside.logs.items c.self.inside.queues.items c.args.k c.index_mut-tally.result.now → option_to_list c.take.result ≡ take 1 (plain_waiting (seen_queue c.self.inside.firsts.items c.self.inside.room.value c.self.inside.logs.items c.index_mut-tally.result.now))
+front c is =
+    let s = c.self.inside in
+    let tally = c.index_mut-tally.result.now in
+    subst (λ (l : List RoomyLog). IsTally s.firsts.items s.room.value l tally → option_to_list c.take.result ≡ take 1 (plain_waiting (seen_queue s.firsts.items s.room.value l tally))) c.as_slice-2.ensures.value
+    (subst (λ (l : List ℕ). IsTally l s.room.value c.as_slice-2.result.now tally → option_to_list c.take.result ≡ take 1 (plain_waiting (seen_queue l s.room.value c.as_slice-2.result.now tally))) c.as_slice.ensures.value (c.take.ensures.front s.room.value))
+    is.sound
 
-pub returns-in_err-token : goal.returns-in_err-token
-returns-in_err-token c =
-    let queues = c.args.self.now.queues in
-    let did = subst (λ (answer : Option ℕ). TakenFrom queues queues c.args.k answer) (sym c.from_residual.ensures) (take-none queues c.args.k c.requires c.in_err-token.ensures) in
-    record { only = did.only; taken = did.taken; none = did.none; puts = did.puts; logs = refl; sources = refl }
+took : (c : After-take) → IsLent c.self.inside.firsts.items c.self.inside.room.value c.self.inside.logs.items c.self.inside.queues.items c.args.k c.index_mut-tally.result.now → ShelfTook c.self.inside.firsts.items c.self.inside.room.value c.self.inside.logs.items c.self.inside.queues.items (set c.self.inside.queues.items c.args.k c.take.new.self) c.args.k c.take.result
+took c is =
+    let s = c.self.inside in
+    shelf-took s.firsts.items s.room.value s.logs.items s.queues.items c.args.k c.index_mut-tally.result.now c.take.new.self c.take.result c.self.invariant is (front c is) c.take.ensures.counted c.take.ensures.stays
+
+pub invariant_of-self : goal.invariant_of-self
+invariant_of-self c =
+    let from = goal.at.invariant_of-self c in
+    (took from.After-take (lent from.After-index_mut-tally)).sound
 
 pub returns : goal.returns
 returns c =
-    let old = c.args.self.now.queues in
-    let token = c.in_ok-token.token in
-    let did = subst (λ (new : List PlainQueue). TakenFrom old new c.args.k (Some token)) (sym c.count_take.ensures.counted) (take-some old c.args.k token c.requires c.in_ok-token.ensures) in
+    let s = c.self.inside in
+    let k = c.args.k in
+    let from = goal.at.returns c in
+    let did = took from.After-take (lent from.After-index_mut-tally) in
+    let taken = subst (λ (old : List PlainQueue). TakenFrom old (seen_queues s.firsts.items s.room.value s.logs.items (set s.queues.items k c.take.new.self)) k c.take.result) (ap (λ (w : WorkShelf). w.queues) c.self.view_is) did.took in
     record {
-      only = did.only;
-      taken = did.taken;
-      none = did.none;
-      puts = did.puts;
-      logs = c.count_take.ensures.logs;
-      sources = c.count_take.ensures.sources;
+      front = taken.front;
+      counted = taken.counted;
+      stays = taken.stays;
+      only = taken.only;
+      taken = taken.taken;
+      none = taken.none;
+      puts = taken.puts;
+      logs = ap (λ (w : WorkShelf). w.logs) c.self.view_is;
+      sources = did.sources ∙ ap (λ (w : WorkShelf). w.sources) c.self.view_is;
     }

@@ -140,22 +140,25 @@ invariant_of-result c =
       rings_are = c.kinds_of-bounded.ensures.rings
           ∙ ap (list_any is_ring) (c.as_slice.ensures.value ∙ sym c.in_ok-outlets.ensures.outlets);
     } in
-    let d = c.is_direct.result in
+    let d = c.is_direct-direct.result in
     let fixed = not c.varies-fixed.result in
-    let readied : IsReadied g t (inputs_of inputs) c.in_ok-fronts.fronts.items c.kinds_of-bounded.result.0 d true =
+    let readied : IsReadied g t (inputs_of inputs) c.in_ok-fronts.fronts.items c.kinds_of-bounded.result.0 d d =
     record {
       fires = λ is.
           let count : length c.in_ok-fronts.fronts.items ≡ length (inputs_of inputs) =
-          c.is_direct.ensures.fronts is ∙ sym (inputs-count inputs) in record {
+          c.is_direct-direct.ensures.fronts is ∙ sym (inputs-count inputs) in record {
             each = c.in_ok-fronts.ensures.fronts count;
-            extras = λ job. c.in_ok-fronts.ensures.extras count ∙ noted.extras_are (c.is_direct.ensures.fixed is) job;
-            unbounded = c.is_direct.ensures.unbounded is;
+            laters = c.in_ok-fronts.ensures.laters;
+            extras = λ job. c.in_ok-fronts.ensures.extras count ∙ noted.extras_are (c.is_direct-direct.ensures.fixed is) job;
+            unbounded = c.is_direct-direct.ensures.unbounded is;
+            inside = c.is_direct-direct.ensures.inside is;
           };
+      may = λ is. is;
       hands = λ _ k low.
           ap (λ (l : List Input). (input_at l k).hand) (c.note_time.ensures.inputs ∙ ap inputs_of c.in_ok-inputs.ensures ∙ inputs-unnoted c.args.inlets.items)
           ∙ hands-new c.args.inlets.items k;
     } in record {
-      readied = subst (λ (h : Parts). IsReadied h t (inputs_of inputs) c.in_ok-fronts.fronts.items c.kinds_of-bounded.result.0 d true) (sym c.of-2.ensures) readied;
+      readied = subst (λ (h : Parts). IsReadied h t (inputs_of inputs) c.in_ok-fronts.fronts.items c.kinds_of-bounded.result.0 d d) (sym c.of-2.ensures) readied;
       station = is_station c;
       noted = subst (λ (h : Parts). IsNoted h t inputs outlets (not c.varies-fixed.result) c.in_ok-worked.worked.items c.kinds_of-bounded.result.0 c.kinds_of-bounded.result.1) (sym c.of-2.ensures) noted;
     }
