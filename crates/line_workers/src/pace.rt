@@ -3,10 +3,10 @@ use std::sync::atomic::{AtomicU64, Ordering};
 use std::{hint, thread};
 
 /// How often a worker looks for the others before it lets another thread run.
-const LOOKS: u32 = 100;
+const LOOKS: u32 = 20;
 
 /// How often a worker lets another thread run in a burst, at most. After that it waits for nobody.
-const ROUNDS: u64 = 200;
+const ROUNDS: u64 = 400;
 
 /// Stands for no station.
 const NO_STATION: u64 = u64::MAX;

@@ -1,16 +1,16 @@
-/// How many bursts go in turn after the first burst by threads that did not pay. After each further one they are twice
-/// as many.
-const FIRST_PAUSE: u32 = 256;
+/// How many bursts go in turn after the first burst by threads that did not pay, as the first of a line hardly does: its
+/// memory is touched for the first time. After each further one they are twice as many.
+const FIRST_PAUSE: u32 = 4;
 
 /// How many they are at most.
 const LONGEST_PAUSE: u32 = 1024;
 
 /// How many firings a burst by threads makes at the least for each look of the worker that waited most, where it pays.
 ///
-/// One look takes about half as long as one firing. So the worker then waits for a thirtieth of the time at the most in
-/// which one thread would make the firings. To fetch what another processor has written takes time too, which nothing
-/// counts.
-const FIRINGS_FOR_A_LOOK: u64 = 16;
+/// With the turns that it leaves to other threads, a look takes as long as one to three firings, by the processor. So
+/// where that worker has waited longest for what counts as paying, it has waited a third of the time in which one thread
+/// would make the firings, or all of it.
+const FIRINGS_FOR_A_LOOK: u64 = 3;
 
 /// Whether the next burst of a line goes by threads.
 ///
