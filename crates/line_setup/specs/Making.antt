@@ -147,7 +147,8 @@ pub record HaveSources (g : Parts) (worker_count : ℕ) (ends : QueueEnds) (w : 
       ComeFrom i (map (delay g) (outs g t)) (bare_shelf g worker_count ends w) (outlets_at ends t)
   pub later : (t i : ℕ) → t < stations g → worker_of worker_count (stations g) t ≡ w →
       t ≡ first_of worker_count (stations g) w + i →
-      TakeLater (map (delay g) (ins g t)) (bare_shelf g worker_count ends w).sources (map empty_handed (inlets_at ends t))
+      TakeLater (map (delay g) (ins g t)) (bare_shelf g worker_count ends w).sources
+      (map empty_handed (inlets_at ends t))
 
 -- a shelf can be made of these: the queues are not too many, and none is too long
 pub record MayShelve (g : Parts) (firsts : List (List ℕ)) : Type 0 where

@@ -7,9 +7,9 @@ const LONGEST_PAUSE: u32 = 1024;
 
 /// How many firings a burst by threads makes at the least for each look of the worker that waited most, where it pays.
 ///
-/// With the turns that it leaves to other threads, a look takes as long as one to three firings, by the processor. So
-/// where that worker has waited longest for what counts as paying, it has waited a third of the time in which one thread
-/// would make the firings, or all of it.
+/// With the turns that it leaves to other threads, a look takes as long as one to three firings, by the processor. So in
+/// a burst that pays no worker has waited longer than one thread would take for all firings, or for a third of that
+/// where a look takes as long as one firing.
 const FIRINGS_FOR_A_LOOK: u64 = 3;
 
 /// Whether the next burst of a line goes by threads.

@@ -126,7 +126,8 @@ pub(crate) fn read_files_of<S: Store>(
     store: &mut S,
     draft: &Draft,
 ) -> Result<NamedFiles, Refusal>
-    ensures makes { Makes (store_over S.tells (S.shown store.old) (S.shown store.new)) (LooksAtFilesOf draft.now) result }
+    ensures makes { Makes (store_over S.tells (S.shown store.old) (S.shown store.new))
+        (LooksAtFilesOf draft.now) result }
     ensures named { IfOk result (AreNamedBy draft.now) }
 {
     let demands = read_named(alloc, store, draft.demands_file())?;
