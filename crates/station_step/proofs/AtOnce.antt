@@ -1,16 +1,15 @@
 -- A station that fires at once, by its fronts: what it does is what it does where its hands are filled and emptied.
-use Rattle.std.proofs.Common.{◌≡◌, ◌≢◌, ℕ, zero, suc, ◌+◌, ◌<◌, ◌≤◌, max, List, [], ◌∷◌, ◌++◌, length, map, set, take, refl, sym, ap, ◌∙◌, subst, arith, ⊎_elim, get_or-set_same, get_or-set_other}
+use Rattle.std.proofs.Common.{◌≡◌, ◌≢◌, ℕ, zero, suc, ◌+◌, ◌<◌, ◌≤◌, List, [], ◌∷◌, ◌++◌, length, map, set, take, refl, sym, ap, ◌∙◌, subst, arith, ⊎_elim, get_or-set_same, get_or-set_other}
 use Rattle.std.proofs.Math.Seq.{map-set_same}
 use Rattle.std.specs.Prelude.{Bool, false, Option, None, Some, IsTrue, IsSome, IfSome, slice_index, unwrap_or, option_to_list}
 use Rattle.std.specs.List.{range_with_len}
-use Rattle.std.specs.Ordering.{ord_max, nat_cmp}
-use Rattle.std.proofs.lemmas.List.{append-nil, get_or-map, length-map, length-set, get_or-take, length-take-le, take_more, ext_get_or, get_or_push, get_or_append_left, map_push, length_push}
+use Rattle.std.proofs.lemmas.List.{append-nil, get_or-map, length-map, length-set, take_more, get_or_push, get_or_append_left, map_push, length_push}
 use Rattle.std.proofs.lemmas.Bool.{cases_eq, cases_lt}
 use Rattle.line_base.specs.declared.event.Parts.{Parts}
 use Rattle.card_queue.specs.Plain.{PlainQueue, plain_taken, plain_waiting, plain_tokens}
 use Rattle.event_graph.specs.GreatestValue.{greatest}
 use Rattle.station_step.specs.declared.source.Source.{Source}
-use Rattle.station_step.specs.Shelf.{queue_at, source_at, later_by, with_take, with_returned, without_takes, OnlyTakes}
+use Rattle.station_step.specs.Shelf.{queue_at, source_at, with_take}
 use Rattle.station_step.proofs.Queues.{front-some, front-more}
 use Rattle.station_step.specs.declared.ends.Inlet.{Inlet}
 use Rattle.station_step.specs.declared.ends.Inlet.TheVariants as inlet
@@ -18,13 +17,13 @@ use Rattle.station_step.specs.declared.fronts.Front.{Front}
 use Rattle.station_step.specs.declared.input.Input.{Input}
 use Rattle.station_step.specs.declared.noted.NotedInput.{NotedInput}
 use Rattle.station_step.specs.Ends.{inlet_queue, inlet_taken}
-use Rattle.station_step.specs.Fronts.{front_at, front_extras, waiting_at, front_asks, FrontsWithin, FrontsApart, NoneAt, AreAllThere, AreFronts, AreLater, AreLaterBy, IsDirect, AreEmptyHanded, IsReadied}
+use Rattle.station_step.specs.Fronts.{front_at, front_extras, front_asks, FrontsWithin, FrontsApart, NoneAt, AreAllThere, AreFronts, AreLater, AreLaterBy, IsDirect, AreEmptyHanded, IsReadied}
 use Rattle.station_step.specs.Input.{input_at, IsRefilled, TakeApart, TakeWithin, NoneTakes}
 use Rattle.station_step.specs.Noted.{inputs_of, extras_of}
 use Rattle.station_step.specs.Refilled.{hand_asks}
 use Rattle.station_step.specs.Kept.{saturating}
 use Rattle.station_step.specs.Station.{bare_input}
-use Rattle.station_step.proofs.Dates.{greatest-agree, greatest-more, ord_max-nat, latest-none}
+use Rattle.station_step.proofs.Dates.{greatest-agree}
 use Rattle.station_step.proofs.OwnQueues.{None-Some, Some-injective, inlet_queue-same, input-same}
 
 -- ---- the walk that gives each input its front
@@ -82,113 +81,6 @@ fronts_more k delays inputs fronts q extra later low queue extra_is later_is up_
           (later_is ∙ ap (λ n. saturating (slice_index delays n) extra) (sym e)))
           (cases_lt j k);
     }
-
--- ---- the walk that changes the queue of each front
-
-pub record ChangedUpTo (change : PlainQueue → PlainQueue) (k : ℕ) (fronts : List Front) (old new : List PlainQueue) : Type 0 where
-  pub count : length new ≡ length old
-  pub done : (j : ℕ) → j < k → queue_at new (front_at fronts j).queue ≡ change (queue_at old (front_at fronts j).queue)
-  pub rest : (q : ℕ) → ((j : ℕ) → j < k → (front_at fronts j).queue ≢ q) → queue_at new q ≡ queue_at old q
-
-pub changed_none : (change : PlainQueue → PlainQueue) (fronts : List Front) (shelf : List PlainQueue) → ChangedUpTo change 0 fronts shelf shelf
-changed_none change fronts shelf = record {
-  count = refl;
-  done = λ j low. absurd (omega (arith, low));
-  rest = λ q none. refl;
-}
-
-abbrev no_queue : PlainQueue
-no_queue = record { initial = []; added = []; room = 0; takes = 0 }
-
--- the queue of the next front is as it was
-pub not-yet : (change : PlainQueue → PlainQueue) (k : ℕ) (fronts : List Front) (old mid : List PlainQueue) → FrontsApart fronts → k < length fronts → ChangedUpTo change k fronts old mid → queue_at mid (front_at fronts k).queue ≡ queue_at old (front_at fronts k).queue
-not-yet change k fronts old mid apart low up_to = up_to.rest (front_at fronts k).queue (λ j less. apart j k less low)
-
-pub changed_more : (change : PlainQueue → PlainQueue) (k : ℕ) (fronts : List Front) (old mid new : List PlainQueue) → FrontsApart fronts → k < length fronts → (front_at fronts k).queue < length old → new ≡ set mid (front_at fronts k).queue (change (queue_at mid (front_at fronts k).queue)) → ChangedUpTo change k fronts old mid → ChangedUpTo change (k + 1) fronts old new
-changed_more change k fronts old mid new apart low there is up_to =
-    let q = (front_at fronts k).queue in
-    let here : queue_at new q ≡ change (queue_at old q) =
-    ap (λ (l : List PlainQueue). queue_at l q) is
-    ∙ get_or-set_same mid q (change (queue_at mid q)) no_queue (omega (arith, there, up_to.count))
-    ∙ ap change (not-yet change k fronts old mid apart low up_to) in
-    let elsewhere : (r : ℕ) → r ≢ q → queue_at new r ≡ queue_at mid r =
-    λ r ne. ap (λ (l : List PlainQueue). queue_at l r) is ∙ get_or-set_other mid q r (change (queue_at mid q)) no_queue ne in
-    record {
-      count = ap length is ∙ length-set mid q (change (queue_at mid q)) ∙ up_to.count;
-      done = λ j less.
-          ⊎_elim
-          (λ (before : j < k). elsewhere (front_at fronts j).queue (apart j k before low) ∙ up_to.done j before)
-          (λ (past : k ≤ j).
-          let e : j ≡ k = omega (arith, less, past) in
-          ap (λ n. queue_at new (front_at fronts n).queue) e
-          ∙ here
-          ∙ ap (λ n. change (queue_at old (front_at fronts n).queue)) (sym e))
-          (cases_lt j k);
-      rest = λ r none.
-          elsewhere r (λ e. none k (omega arith) (sym e))
-          ∙ up_to.rest r (λ j less. none j (omega (arith, less)));
-    }
-
--- what is so of each queue where its front is among the first k, and where no front is, is so
-at-front : (P : ℕ → Type 0) (k : ℕ) (fronts : List Front) (q : ℕ) → ((j : ℕ) → j < k → P (front_at fronts j).queue) → (((j : ℕ) → j < k → (front_at fronts j).queue ≢ q) → P q) → P q
-at-front P zero fronts q among else = else (λ j low. absurd (omega (arith, low)))
-at-front P (suc k) fronts q among else =
-    ⊎_elim
-    (λ (e : q ≡ (front_at fronts k).queue). subst P (sym e) (among k (omega arith)))
-    (λ (ne : q ≢ (front_at fronts k).queue).
-    at-front P k fronts q (λ j low. among j (omega (arith, low)))
-    (λ none.
-    else (λ j less.
-    ⊎_elim
-    (λ (before : j < k). none j before)
-    (λ (past : k ≤ j).
-    let at : j ≡ k = omega (arith, less, past) in
-    λ e. ne (sym e ∙ ap (λ n. (front_at fronts n).queue) at))
-    (cases_lt j k))))
-    (cases_eq q (front_at fronts k).queue)
-
--- where a take is counted at each, nothing was put
-pub only-counted : (k : ℕ) (fronts : List Front) (old new : List PlainQueue) → ChangedUpTo with_take k fronts old new → OnlyTakes old new
-only-counted k fronts old new up_to = record {
-  count = up_to.count;
-  puts = λ q.
-      at-front (λ r. without_takes (queue_at new r) ≡ without_takes (queue_at old r)) k fronts q
-      (λ j low. ap without_takes (up_to.done j low))
-      (λ none. ap without_takes (up_to.rest q none));
-}
-
--- the take is counted no more
-returned-taken : (queue : PlainQueue) → with_returned (with_take queue) ≡ queue
-returned-taken queue = ap (λ n. (let same : PlainQueue = record queue { takes = n } in same)) (omega arith)
-
--- among the first fronts, a front is the same
-front-among : (k : ℕ) (fronts : List Front) (j : ℕ) → j < k → front_at (take k fronts) j ≡ front_at fronts j
-front-among k fronts j low = get_or-take k fronts j (record { queue = 0; extra = 0; later = 0 }) low
-
--- the queues of the first k alone change
-pub first-changed : (change : PlainQueue → PlainQueue) (k : ℕ) (fronts : List Front) (old new : List PlainQueue) → k ≤ length fronts → length new ≡ length old → ((j : ℕ) → j < length (take k fronts) → queue_at new (front_at (take k fronts) j).queue ≡ change (queue_at old (front_at (take k fronts) j).queue)) → ((q : ℕ) → NoneAt q (take k fronts) → queue_at new q ≡ queue_at old q) → ChangedUpTo change k fronts old new
-first-changed change k fronts old new few count each others =
-    let many : length (take k fronts) ≡ k = length-take-le k fronts few in
-    record {
-      count = count;
-      done = λ j low.
-          subst (λ (f : Front). queue_at new f.queue ≡ change (queue_at old f.queue)) (front-among k fronts j low)
-          (each j (omega (arith, low, many)));
-      rest = λ q none.
-          others q
-          (λ j low e.
-          let below : j < k = omega (arith, low, many) in
-          none j below (ap (λ (f : Front). f.queue) (sym (front-among k fronts j below)) ∙ e));
-    }
-
--- where each token is put back that was taken, the shelf is as it was
-pub all-returned : (k : ℕ) (fronts : List Front) (old mid new : List PlainQueue) → ChangedUpTo with_take k fronts old mid → ChangedUpTo with_returned k fronts mid new → new ≡ old
-all-returned k fronts old mid new taken given =
-    ext_get_or no_queue new old (given.count ∙ taken.count)
-    (λ q there.
-    at-front (λ r. queue_at new r ≡ queue_at old r) k fronts q
-    (λ j low. given.done j low ∙ ap with_returned (taken.done j low) ∙ returned-taken (queue_at old (front_at fronts j).queue))
-    (λ none. given.rest q none ∙ taken.rest q none))
 
 -- ---- where the fronts stay
 
@@ -367,33 +259,3 @@ latest-filled shelf inputs fronts is =
     greatest-agree (front_asks shelf fronts) asks 0 (length fronts)
     (λ k from to. filled-asks shelf inputs fronts is k (omega (arith, to, is.count)))
     ∙ ap (λ n. greatest asks (range_with_len 0 n)) (is.count ∙ sym (filled-count shelf inputs))
-
--- the date that the first token asks for, where one waits
-first-is : (waiting : List ℕ) (extra date : ℕ) → date ∷ [] ≡ map (later_by extra) (take 1 waiting) → date ≡ saturating (slice_index waiting 0) extra
-first-is [] extra date front = absurd (omega (arith, ap length front))
-first-is (x ∷ xs) extra date front = ap (λ (l : List ℕ). slice_index l 0) front
-
-pub some-there : (waiting : List ℕ) (extra date : ℕ) → date ∷ [] ≡ map (later_by extra) (take 1 waiting) → waiting ≢ []
-some-there waiting extra date front none =
-    absurd (omega (arith, ap length front, ap (λ (l : List ℕ). length (map (later_by extra) (take 1 l))) none))
-
-pub none-there : (waiting : List ℕ) (extra : ℕ) → [] ≡ map (later_by extra) (take 1 waiting) → waiting ≡ []
-none-there [] extra front = refl
-none-there (x ∷ xs) extra front = absurd (omega (arith, ap length front))
-
--- one front more asks
-pub front-none : (shelf : List PlainQueue) (fronts : List Front) → 0 ≡ greatest (front_asks shelf fronts) (range_with_len 0 0)
-front-none shelf fronts = latest-none (front_asks shelf fronts)
-
-pub latest-front_more : (shelf : List PlainQueue) (fronts : List Front) (k latest date : ℕ) → latest ≡ greatest (front_asks shelf fronts) (range_with_len 0 k) → date ∷ [] ≡ map (later_by (front_at fronts k).extra) (take 1 (waiting_at shelf fronts k)) → ord_max nat_cmp latest date ≡ greatest (front_asks shelf fronts) (range_with_len 0 (k + 1))
-latest-front_more shelf fronts k latest date is front =
-    let asks = front_asks shelf fronts in
-    let at : k ≡ 0 + k = omega arith in
-    let here : date ≡ asks (0 + k) =
-    first-is (waiting_at shelf fronts k) (front_at fronts k).extra date front ∙ ap asks at in
-    let next : suc k ≡ k + 1 = omega arith in
-    ord_max-nat latest date
-    ∙ ap (λ m. max m date) is
-    ∙ ap (max (greatest asks (range_with_len 0 k))) here
-    ∙ sym (greatest-more asks 0 k)
-    ∙ ap (λ m. greatest asks (range_with_len 0 m)) next

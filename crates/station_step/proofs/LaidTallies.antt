@@ -9,8 +9,8 @@ use Rattle.card_queue.specs.Plain.{PlainQueue}
 use Rattle.station_step.specs.declared.source.Source.{Source}
 use Rattle.station_step.specs.Counts.{QueueTally}
 use Rattle.station_step.specs.Shelf.{new_queue, later_by, source_at, log_on}
-use Rattle.station_step.specs.Counts.{new_tally, no_tally, tally_at, dates_for, firsts_of, AreTallies}
-use Rattle.station_step.proofs.Queues.{seen_queues, length-seen, queue-seen, source-seen}
+use Rattle.station_step.specs.Counts.{new_tally, no_tally, tally_at, dates_for, firsts_of, seen_queues, sources_of, AreTallies}
+use Rattle.station_step.proofs.Queues.{length-seen, queue-seen, source-seen}
 
 -- a new queue, whose first tokens stand among these
 pub record IsLaid (logs : List RoomyLog) (first : List ℕ) (source : Source) (tokens : List ℕ) (tally : QueueTally) : Type 0 where
@@ -96,10 +96,10 @@ seen-laid logs firsts sources tokens room tallies laid =
     ∙ sym (get_or-map (new_queue room) firsts q [] none low))
 
 -- their sources
-pub sources-laid : (logs : List RoomyLog) (firsts : List (List ℕ)) (sources : List Source) (tokens : List ℕ) (tallies : List QueueTally) → length sources ≡ length firsts → LaidUpTo (length firsts) logs firsts sources tokens tallies → map (λ (t : QueueTally). t.source) tallies ≡ sources
+pub sources-laid : (logs : List RoomyLog) (firsts : List (List ℕ)) (sources : List Source) (tokens : List ℕ) (tallies : List QueueTally) → length sources ≡ length firsts → LaidUpTo (length firsts) logs firsts sources tokens tallies → sources_of tallies ≡ sources
 sources-laid logs firsts sources tokens tallies each laid =
-    let count : length (map (λ (t : QueueTally). t.source) tallies) ≡ length firsts = length-map tallies (λ (t : QueueTally). t.source) ∙ laid.count in
-    ext_get_or (record { station = 0; delay = 0 }) (map (λ (t : QueueTally). t.source) tallies) sources (count ∙ sym each)
+    let count : length (sources_of tallies) ≡ length firsts = length-map tallies (λ (t : QueueTally). t.source) ∙ laid.count in
+    ext_get_or (record { station = 0; delay = 0 }) (sources_of tallies) sources (count ∙ sym each)
     (λ q there. source-seen tallies q ∙ (laid.each q (omega (arith, there, count))).source_is)
 
 -- they are sound

@@ -9,6 +9,7 @@ pub mod FilledOutlets
 pub mod NotedExtras
 pub mod Dates
 pub mod KeptStations
+pub mod TakenFronts
 pub mod AtOnce
 pub mod Posts
 pub mod StationSend

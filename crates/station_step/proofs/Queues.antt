@@ -8,14 +8,11 @@ use Rattle.std.proofs.lemmas.Bool.{cases_lt, cases_eq}
 use Rattle.line_base.specs.Roomy.{RoomyLog, with_date}
 use Rattle.card_queue.specs.Plain.{PlainQueue, plain_tokens, plain_taken, plain_waiting}
 use Rattle.station_step.specs.Counts.{QueueTally}
-use Rattle.station_step.specs.Shelf.{log_on, source_at, later_by, queue_at, without_takes, with_take, with_returned}
-use Rattle.station_step.specs.Counts.{no_tally, tally_at, dates_for, firsts_of, seen_queue, IsTally, AreTallies, one_taken, one_returned}
+use Rattle.station_step.specs.Shelf.{log_on, source_at, later_by, queue_at, without_takes, with_take}
+use Rattle.station_step.specs.Counts.{no_tally, tally_at, dates_for, firsts_of, seen_queue, seen_queues, sources_of, IsTally, AreTallies, one_taken}
 
 abbrev no_queue : PlainQueue
 no_queue = record { initial = []; added = []; room = 0; takes = 0 }
-
-abbrev pub seen_queues : List ℕ → ℕ → List RoomyLog → List QueueTally → List PlainQueue
-seen_queues firsts room logs tallies = map (seen_queue firsts room logs) tallies
 
 -- ---- what is seen
 
@@ -25,7 +22,7 @@ length-seen firsts room logs tallies = length-map tallies (seen_queue firsts roo
 pub queue-seen : (firsts : List ℕ) (room : ℕ) (logs : List RoomyLog) (tallies : List QueueTally) (k : ℕ) → k < length tallies → queue_at (seen_queues firsts room logs tallies) k ≡ seen_queue firsts room logs (tally_at tallies k)
 queue-seen firsts room logs tallies k low = get_or-map (seen_queue firsts room logs) tallies k no_tally no_queue low
 
-pub source-seen : (tallies : List QueueTally) (k : ℕ) → source_at (map (λ (tally : QueueTally). tally.source) tallies) k ≡ (tally_at tallies k).source
+pub source-seen : (tallies : List QueueTally) (k : ℕ) → source_at (sources_of tallies) k ≡ (tally_at tallies k).source
 source-seen tallies k = at_map (λ (tally : QueueTally). tally.source) tallies k no_tally
 
 -- a queue of the shelf has a tally
@@ -123,7 +120,7 @@ pub record TakenFrom (old new : List PlainQueue) (k : ℕ) (token : Option ℕ) 
   pub puts : without_takes (queue_at new k) ≡ without_takes (queue_at old k)
 
 -- the tally is sound after it
-tally-one_taken : (firsts : List ℕ) (room : ℕ) (logs : List RoomyLog) (tally : QueueTally) → IsTally firsts room logs tally → tally.taken < tally.initial + (length (dates_for logs tally) - tally.made) → IsTally firsts room logs (one_taken tally)
+pub tally-one_taken : (firsts : List ℕ) (room : ℕ) (logs : List RoomyLog) (tally : QueueTally) → IsTally firsts room logs tally → tally.taken < tally.initial + (length (dates_for logs tally) - tally.made) → IsTally firsts room logs (one_taken tally)
 tally-one_taken firsts room logs tally is more = record {
   began = is.began;
   counted = is.counted;
@@ -215,13 +212,13 @@ module _ (firsts : List ℕ) (room : ℕ) (logs : List RoomyLog) (tallies : List
       subst (IsTally firsts room logs) (sym (get_or-set_other tallies k q next no_tally ne)) (is q (omega (arith, there, length-set tallies k next))))
       (cases_eq q k)
 
-  pub take-sources : map (λ (t : QueueTally). t.source) (set tallies k (one_taken taken_from)) ≡ map (λ (t : QueueTally). t.source) tallies
+  pub take-sources : sources_of (set tallies k (one_taken taken_from)) ≡ sources_of tallies
   take-sources = map-set_same (λ (t : QueueTally). t.source) tallies k (one_taken taken_from) no_tally refl
 
 -- a take of one tally, as the shelf lends it, and what it does to all of them
 pub record ShelfTook (firsts : List ℕ) (room : ℕ) (logs : List RoomyLog) (old new : List QueueTally) (k : ℕ) (token : Option ℕ) : Type 0 where
   pub sound : AreTallies firsts room logs new
-  pub sources : map (λ (t : QueueTally). t.source) new ≡ map (λ (t : QueueTally). t.source) old
+  pub sources : sources_of new ≡ sources_of old
   pub took : TakenFrom (seen_queues firsts room logs old) (seen_queues firsts room logs new) k token
 
 -- what the queue shows of its front
@@ -251,57 +248,6 @@ shelf-took firsts room logs tallies k lent left (Some token) are is front counte
       sources = take-sources firsts room logs tallies k token are is.there at;
       took = subst (λ (new : List PlainQueue). TakenFrom seen new k (Some token)) (sym (take-counted firsts room logs tallies k token are is.there at)) (take-some seen k token low (front-seen firsts room logs tallies k (token ∷ []) is.there at));
     })
-
--- and a take that tells which date the token asks for
-pub record ShelfTookFor (firsts : List ℕ) (room : ℕ) (logs : List RoomyLog) (old new : List QueueTally) (k extra : ℕ) (asked : Option ℕ) : Type 0 where
-  pub sound : AreTallies firsts room logs new
-  pub sources : map (λ (t : QueueTally). t.source) new ≡ map (λ (t : QueueTally). t.source) old
-  pub asks : option_to_list asked ≡ map (later_by extra) (take 1 (plain_waiting (queue_at (seen_queues firsts room logs old) k)))
-  pub counted : IfSome asked (λ _. seen_queues firsts room logs new ≡ set (seen_queues firsts room logs old) k (with_take (queue_at (seen_queues firsts room logs old) k)))
-  pub stays : IfNone asked (seen_queues firsts room logs new ≡ seen_queues firsts room logs old)
-
--- the token that asks is there, or there is none
-asked-none : (extra : ℕ) (waiting : List ℕ) → [] ≡ map (later_by extra) (take 1 waiting) → [] ≡ take 1 waiting
-asked-none extra [] asks = refl
-asked-none extra (x ∷ xs) asks = absurd (omega (arith, ap length asks))
-
-asked-some : (extra asked : ℕ) (waiting : List ℕ) → asked ∷ [] ≡ map (later_by extra) (take 1 waiting) → slice_index waiting 0 ∷ [] ≡ take 1 waiting
-asked-some extra asked [] asks = absurd (omega (arith, ap length asks))
-asked-some extra asked (x ∷ xs) asks = refl
-
-pub shelf-took-for : (firsts : List ℕ) (room : ℕ) (logs : List RoomyLog) (tallies : List QueueTally) (k extra : ℕ) (lent left : QueueTally) (asked : Option ℕ) → AreTallies firsts room logs tallies → IsLent firsts room logs tallies k lent → option_to_list asked ≡ map (later_by extra) (take 1 (plain_waiting (seen_queue firsts room logs lent))) → IfSome asked (λ _. left ≡ one_taken lent) → IfNone asked (left ≡ lent) → ShelfTookFor firsts room logs tallies (set tallies k left) k extra asked
-shelf-took-for firsts room logs tallies k extra lent left None are is asks counted stays =
-    let front = asked-none extra (plain_waiting (seen_queue firsts room logs lent)) asks in
-    let did = shelf-took firsts room logs tallies k lent left None are is front tt stays in
-    record {
-      sound = did.sound;
-      sources = did.sources;
-      asks = ap (map (later_by extra)) did.took.front;
-      counted = tt;
-      stays = did.took.stays;
-    }
-shelf-took-for firsts room logs tallies k extra lent left (Some asked) are is asks counted stays =
-    let waiting = plain_waiting (seen_queue firsts room logs lent) in
-    let front = asked-some extra asked waiting asks in
-    let did = shelf-took firsts room logs tallies k lent left (Some (slice_index waiting 0)) are is front counted tt in
-    record {
-      sound = did.sound;
-      sources = did.sources;
-      asks = asks ∙ ap (map (later_by extra)) (sym front ∙ did.took.front);
-      counted = did.took.counted;
-      stays = tt;
-    }
-
--- ---- a token put back
-
--- what is seen of all queues after it
-pub return-counted : (firsts : List ℕ) (room : ℕ) (logs : List RoomyLog) (tallies : List QueueTally) (k : ℕ) → k < length tallies → seen_queues firsts room logs (set tallies k (one_returned (tally_at tallies k))) ≡ set (seen_queues firsts room logs tallies) k (with_returned (queue_at (seen_queues firsts room logs tallies) k))
-return-counted firsts room logs tallies k low =
-    map-set (seen_queue firsts room logs) tallies k (one_returned (tally_at tallies k))
-    ∙ ap (λ (queue : PlainQueue). set (seen_queues firsts room logs tallies) k (with_returned queue)) (sym (queue-seen firsts room logs tallies k low))
-
-pub return-sources : (tallies : List QueueTally) (k : ℕ) → map (λ (t : QueueTally). t.source) (set tallies k (one_returned (tally_at tallies k))) ≡ map (λ (t : QueueTally). t.source) tallies
-return-sources tallies k = map-set_same (λ (t : QueueTally). t.source) tallies k (one_returned (tally_at tallies k)) no_tally refl
 
 -- ---- a date more
 

@@ -1,6 +1,6 @@
 -- How a shelf keeps its queues: the tokens that they began with stand queue after queue in one list. Those that were
 -- put since stand nowhere: they are the dates of their source's log, later by a delay. Of each queue it is counted how
--- many tokens were taken. Only the shelf itself reads these words.
+-- many tokens were taken. Only the shelf itself and the take at its fronts read these words.
 use Rattle.std.specs.Prelude.{ℕ, ◌+◌, ◌-◌, ◌^◌, ◌≤◌, ◌<◌, List, map, take, drop, length, slice_index_or}
 use Rattle.card_queue.specs.Plain.{PlainQueue}
 use Rattle.line_base.specs.Roomy.{RoomyLog}
@@ -55,12 +55,20 @@ seen_queue firsts room logs tally = record {
   takes = tally.taken;
 }
 
+-- the queues with these tallies
+abbrev pub seen_queues : List ℕ → ℕ → List RoomyLog → List QueueTally → List PlainQueue
+seen_queues firsts room logs tallies = map (seen_queue firsts room logs) tallies
+
+-- and where their further tokens come from
+abbrev pub sources_of : List QueueTally → List Source
+sources_of tallies = map (λ (tally : QueueTally). tally.source) tallies
+
 -- the shelf with these tallies
 abbrev pub seen_shelf : List ℕ → ℕ → List RoomyLog → List QueueTally → WorkShelf
 seen_shelf firsts room logs tallies = record {
   logs = logs;
-  sources = map (λ (tally : QueueTally). tally.source) tallies;
-  queues = map (seen_queue firsts room logs) tallies;
+  sources = sources_of tallies;
+  queues = seen_queues firsts room logs tallies;
 }
 
 -- the first tokens of a queue stand in the list, and its source's log is there. No more was taken than is there,

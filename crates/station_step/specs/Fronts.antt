@@ -1,10 +1,12 @@
--- What a station keeps of its inputs to fire at once, where all of them are on the shelf: only the station itself reads
--- these words.
-use Rattle.std.specs.Prelude.{◌≡◌, ◌≢◌, ℕ, ◌<◌, Bool, false, List, [], None, Some, IsTrue, map, length, slice_index, slice_index_or}
+-- What a station keeps of its inputs to fire at once, where all of them are on the shelf, and what a take at each does.
+-- Only the station and its shelf read these words.
+use Rattle.std.specs.Prelude.{◌≡◌, ◌≢◌, ℕ, ◌<◌, Bool, false, List, [], Option, None, Some, IsTrue, IfSome, IfNone, map, length, slice_index, slice_index_or}
+use Rattle.std.specs.List.{range_with_len}
 use Rattle.line_base.specs.declared.event.Parts.{Parts}
 use Rattle.card_queue.specs.Plain.{PlainQueue, plain_waiting}
+use Rattle.event_graph.specs.GreatestValue.{greatest}
 use Rattle.station_step.specs.declared.source.Source.{Source}
-use Rattle.station_step.specs.Shelf.{queue_at, source_at}
+use Rattle.station_step.specs.Shelf.{queue_at, source_at, with_take, OnlyTakes}
 use Rattle.station_step.specs.declared.fronts.Front.{Front}
 use Rattle.station_step.specs.declared.input.Input.{Input}
 use Rattle.station_step.specs.Ends.{inlet_queue}
@@ -51,6 +53,18 @@ NoneAt q fronts = (k : ℕ) → k < length fronts → (front_at fronts k).queue 
 -- a token waits at each of them
 abbrev pub AreAllThere : List PlainQueue → List Front → Type 0
 AreAllThere shelf fronts = (k : ℕ) → k < length fronts → waiting_at shelf fronts k ≢ []
+
+-- the first token is taken at each of them where one waits at each, and this is the latest date that they ask for; else
+-- nothing is taken
+pub record TakesEach (fronts : List Front) (old new : List PlainQueue) (latest : Option ℕ) : Type 0 where
+  pub there : IfSome latest (λ _. AreAllThere old fronts)
+  pub date : IfSome latest (λ date. date ≡ greatest (front_asks old fronts) (range_with_len 0 (length fronts)))
+  pub each : IfSome latest (λ _. (k : ℕ) → k < length fronts →
+      queue_at new (front_at fronts k).queue ≡ with_take (queue_at old (front_at fronts k).queue))
+  pub lacks : IfNone latest (AreAllThere old fronts → ⊥)
+  pub stays : IfNone latest (new ≡ old)
+  pub only_takes : OnlyTakes old new
+  pub others : (q : ℕ) → NoneAt q fronts → queue_at new q ≡ queue_at old q
 
 -- each input takes from a queue of the shelf, and its front is at that queue
 pub record AreFronts (inputs : List Input) (fronts : List Front) : Type 0 where

@@ -39,10 +39,6 @@ without_takes queue = record queue { takes = 0 }
 abbrev pub with_take : PlainQueue → PlainQueue
 with_take queue = record queue { takes = queue.takes + 1 }
 
--- a queue on which the token that was taken last was put back
-abbrev pub with_returned : PlainQueue → PlainQueue
-with_returned queue = record queue { takes = queue.takes - 1 }
-
 -- a queue without the tokens that were put since it was made
 abbrev pub without_added : PlainQueue → PlainQueue
 without_added queue = record queue { added = [] }

@@ -1,16 +1,15 @@
-ghost use Rattle.std.specs.List.{range_with_len};
-ghost use Rattle.std.specs.Prelude.{◌≡◌, ◌≢◌, ℕ, ◌<◌, false, length, IsTrue, IfOk, IfSome, IfNone};
-ghost use Rattle.event_graph.specs.GreatestValue.{greatest};
+ghost use Rattle.std.specs.Prelude.{◌≡◌, ◌≢◌, ℕ, ◌<◌, false, length, IsTrue, IfOk};
 ghost use Rattle.event_graph.specs.Network.{stations, ins};
-ghost use Rattle.station_step.specs.Fronts.{front_at, front_extras, front_asks, FrontsWithin, FrontsApart, NoneAt, AreAllThere, AreFronts, AreLater, AreLaterBy};
+ghost use Rattle.station_step.specs.Counts.{tally_at, sources_of, seen_queues, AreTallies, one_returned};
+ghost use Rattle.station_step.specs.Fronts.{front_at, front_extras, FrontsWithin, FrontsApart, NoneAt, TakesEach, AreFronts, AreLater, AreLaterBy};
 ghost use Rattle.station_step.specs.Noted.{inputs_of, extras_of, delays_into};
-ghost use Rattle.station_step.specs.Shelf.{queue_at, with_take, with_returned, OnlyTakes};
 
 use crate::noted::NotedInput;
-use crate::shelf::Shelf;
+use crate::tally::Tally;
 use event_graph::Graph;
-use line_base::Date;
+use line_base::{Date, Log};
 use std::alloc::{AllocError, Global};
+use std::snapshot::Snapshot;
 
 /// The front of an input on the worker's shelf: the queue from which it takes, what the time of the job adds to its
 /// token, and the delay of its arc with that added. A step that fires at once reads this alone of the input.
@@ -71,30 +70,29 @@ pub(crate) fn is_direct(
 }
 
 /// Takes the first token at each of these fronts, where one waits at each of them, and tells the latest date that they
-/// ask for. Else nothing is taken.
+/// ask for. Else nothing is taken. `firsts`, `logs` and `tallies` are those of the shelf.
 #[inline(always)]
-pub(crate) fn take_fronts(fronts: &[Front], shelf: &mut Shelf) -> Option<Date>
-    requires within { FrontsWithin (length shelf.old.queues) fronts.now }
+pub(crate) fn take_each(
+    fronts: &[Front],
+    room: &Snapshot<u32>,
+    firsts: &[Date],
+    logs: &[Log],
+    tallies: &mut [Tally],
+) -> Option<Date>
+    requires sound { AreTallies firsts.now room.now.value logs.now tallies.old }
+    requires within { FrontsWithin (length tallies.old) fronts.now }
     requires apart { FrontsApart fronts.now }
-    requires later { AreLaterBy shelf.old.sources fronts.now }
-    ensures there { IfSome result (λ _. AreAllThere shelf.old.queues fronts.now) }
-    ensures date { IfSome result (λ latest. latest ≡
-        greatest (front_asks shelf.old.queues fronts.now) (range_with_len 0 (length fronts.now))) }
-    ensures each { IfSome result (λ _. (k : ℕ) → k < length fronts.now →
-        queue_at shelf.new.queues (front_at fronts.now k).queue ≡
-        with_take (queue_at shelf.old.queues (front_at fronts.now k).queue)) }
-    ensures lacks { IfNone result (AreAllThere shelf.old.queues fronts.now → ⊥) }
-    ensures stays { IfNone result (shelf.new.queues ≡ shelf.old.queues) }
-    ensures only_takes { OnlyTakes shelf.old.queues shelf.new.queues }
-    ensures others { (q : ℕ) → NoneAt q fronts.now →
-        queue_at shelf.new.queues q ≡ queue_at shelf.old.queues q }
-    ensures logs { shelf.new.logs ≡ shelf.old.logs }
-    ensures sources { shelf.new.sources ≡ shelf.old.sources }
+    requires later { AreLaterBy (sources_of tallies.old) fronts.now }
+    ensures sound { AreTallies firsts.now room.now.value logs.now tallies.new }
+    ensures sources { sources_of tallies.new ≡ sources_of tallies.old }
+    ensures takes { TakesEach fronts.now (seen_queues firsts.now room.now.value logs.now tallies.old)
+        (seen_queues firsts.now room.now.value logs.now tallies.new) result }
 {
     let mut latest = 0;
     for (k, front) in fronts.iter().enumerate() {
-        let Some(date) = shelf.take_for(front.queue, front.extra, front.later) else {
-            give_back(&fronts[..k], shelf);
+        let tally = &mut tallies[front.queue as usize];
+        let Some(date) = tally.take_for(firsts, logs, front.extra, front.later) else {
+            give_back(&fronts[..k], tallies);
             return None;
         };
         latest = latest.max(date);
@@ -103,21 +101,18 @@ pub(crate) fn take_fronts(fronts: &[Front], shelf: &mut Shelf) -> Option<Date>
 }
 
 /// Puts the token back at each of these fronts that was taken there last.
-fn give_back(fronts: &[Front], shelf: &mut Shelf)
-    requires within { FrontsWithin (length shelf.old.queues) fronts.now }
+fn give_back(fronts: &[Front], tallies: &mut [Tally])
+    requires within { FrontsWithin (length tallies.old) fronts.now }
     requires apart { FrontsApart fronts.now }
     requires taken { (k : ℕ) → k < length fronts.now →
-        0 < (queue_at shelf.old.queues (front_at fronts.now k).queue).takes }
-    ensures count { length shelf.new.queues ≡ length shelf.old.queues }
+        0 < (tally_at tallies.old (front_at fronts.now k).queue).taken }
+    ensures count { length tallies.new ≡ length tallies.old }
     ensures each { (k : ℕ) → k < length fronts.now →
-        queue_at shelf.new.queues (front_at fronts.now k).queue ≡
-        with_returned (queue_at shelf.old.queues (front_at fronts.now k).queue) }
-    ensures others { (q : ℕ) → NoneAt q fronts.now →
-        queue_at shelf.new.queues q ≡ queue_at shelf.old.queues q }
-    ensures logs { shelf.new.logs ≡ shelf.old.logs }
-    ensures sources { shelf.new.sources ≡ shelf.old.sources }
+        tally_at tallies.new (front_at fronts.now k).queue ≡
+        one_returned (tally_at tallies.old (front_at fronts.now k).queue) }
+    ensures others { (q : ℕ) → NoneAt q fronts.now → tally_at tallies.new q ≡ tally_at tallies.old q }
 {
     for front in fronts {
-        shelf.give_back(front.queue);
+        tallies[front.queue as usize].give_back();
     }
 }

@@ -1,8 +1,12 @@
+ghost use Rattle.std.specs.List.{range_with_len};
 ghost use Rattle.std.specs.Prelude.{◌≡◌, ◌≢◌, ℕ, ◌<◌, ◌≤◌, ◌+◌, ◌^◌, ◌++◌, ◌∷◌, [], ◌↔◌, All, map, take, length, slice_set, IfOk, IfSome, IfNone, IsNone, option_to_list};
 ghost use Rattle.card_queue.specs.Plain.{plain_taken, plain_waiting};
+ghost use Rattle.event_graph.specs.GreatestValue.{greatest};
 ghost use Rattle.line_base.specs.Roomy.{with_date};
-ghost use Rattle.station_step.specs.Shelf.{log_on, source_at, later_by, queue_at, new_queue, without_takes, with_take, with_returned};
+ghost use Rattle.station_step.specs.Fronts.{front_at, front_asks, FrontsWithin, FrontsApart, NoneAt, AreAllThere, AreLaterBy};
+ghost use Rattle.station_step.specs.Shelf.{log_on, source_at, later_by, queue_at, new_queue, without_takes, with_take, OnlyTakes};
 
+use crate::fronts::{Front, take_each};
 use crate::source::Source;
 use crate::tally::Tally;
 use line_base::{Date, Log};
@@ -123,35 +127,34 @@ impl Shelf {
         tally.take(self.firsts.as_slice(), self.logs.as_slice())
     }
 
-    /// Takes the front token of queue `k`, if there is one. The answer is that token with `extra` added; `later` is the
-    /// delay of the queue with that added. Sums saturate.
+    /// Takes the first token at each of these fronts, where one waits at each of them, and tells the latest date that
+    /// they ask for. Else nothing is taken.
     #[inline(always)]
-    pub fn take_for(&mut self, k: u32, extra: u64, later: u64) -> Option<Date>
-        requires there { k < length self.old.queues }
-        requires later { later ≡ later_by extra (source_at self.old.sources k).delay }
-        ensures asks { option_to_list result ≡
-            map (later_by extra) (take 1 (plain_waiting (queue_at self.old.queues k))) }
-        ensures counted { IfSome result (λ _. self.new.queues ≡
-            slice_set self.old.queues k (with_take (queue_at self.old.queues k))) }
+    pub(crate) fn take_fronts(&mut self, fronts: &[Front]) -> Option<Date>
+        requires within { FrontsWithin (length self.old.queues) fronts.now }
+        requires apart { FrontsApart fronts.now }
+        requires later { AreLaterBy self.old.sources fronts.now }
+        ensures there { IfSome result (λ _. AreAllThere self.old.queues fronts.now) }
+        ensures date { IfSome result (λ latest. latest ≡
+            greatest (front_asks self.old.queues fronts.now) (range_with_len 0 (length fronts.now))) }
+        ensures each { IfSome result (λ _. (k : ℕ) → k < length fronts.now →
+            queue_at self.new.queues (front_at fronts.now k).queue ≡
+            with_take (queue_at self.old.queues (front_at fronts.now k).queue)) }
+        ensures lacks { IfNone result (AreAllThere self.old.queues fronts.now → ⊥) }
         ensures stays { IfNone result (self.new.queues ≡ self.old.queues) }
+        ensures only_takes { OnlyTakes self.old.queues self.new.queues }
+        ensures others { (q : ℕ) → NoneAt q fronts.now →
+            queue_at self.new.queues q ≡ queue_at self.old.queues q }
         ensures logs { self.new.logs ≡ self.old.logs }
         ensures sources { self.new.sources ≡ self.old.sources }
     {
-        let tally = &mut self.queues[k as usize];
-        tally.take_for(self.firsts.as_slice(), self.logs.as_slice(), extra, later)
-    }
-
-    /// Puts the token back on queue `k` that was taken from it last.
-    pub fn give_back(&mut self, k: u32)
-        requires there { k < length self.old.queues }
-        requires some { 0 < (queue_at self.old.queues k).takes }
-        ensures given { self.new.queues ≡
-            slice_set self.old.queues k (with_returned (queue_at self.old.queues k)) }
-        ensures logs { self.new.logs ≡ self.old.logs }
-        ensures sources { self.new.sources ≡ self.old.sources }
-    {
-        let tally = &mut self.queues[k as usize];
-        tally.give_back();
+        take_each(
+            fronts,
+            &self.room,
+            self.firsts.as_slice(),
+            self.logs.as_slice(),
+            self.queues.as_mut_slice(),
+        )
     }
 
     /// Adds a date to the log of station `i`, and with that a token to each queue that comes from there. It takes no

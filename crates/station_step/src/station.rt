@@ -8,7 +8,7 @@ ghost use Rattle.station_step.specs.Station.{WorkStation, IsStation, IsSeated, S
 ghost use Rattle.station_step.specs.Step.{IsReady, IsDone, HasFired, IfBlocked, IsBlocked, IfFull, IsFull, Did, FiresAt, MovesApart};
 
 use crate::ends::{Inlet, Outlet, meet_ends};
-use crate::fronts::{Front, fronts_of, is_direct, take_fronts};
+use crate::fronts::{Front, fronts_of, is_direct};
 use crate::inputs::{empty_hands, next_date, refill, with_empty_hands};
 use crate::noted::{
     NotedInput, NotedOutlet, kinds_of, note_job, note_time, with_delays, worked_into,
@@ -189,7 +189,7 @@ impl Station {
         if done == graph.jobs() {
             return false;
         }
-        let Some(date) = take_fronts(self.fronts.as_slice(), shelf) else {
+        let Some(date) = shelf.take_fronts(self.fronts.as_slice()) else {
             return false;
         };
         put_all(self.rings, &mut self.outlets, shelf, i, date);

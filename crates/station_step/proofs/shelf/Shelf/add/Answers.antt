@@ -4,8 +4,8 @@ use Rattle.line_base.specs.Roomy.{RoomyLog, with_date}
 use Rattle.card_queue.specs.Plain.{PlainQueue, plain_taken}
 use Rattle.station_step.specs.declared.source.Source.{Source}
 use Rattle.station_step.specs.Shelf.{WorkShelf, queue_at, log_on, source_at, later_by}
-use Rattle.station_step.specs.Counts.{tally_at, seen_shelf, AreTallies}
-use Rattle.station_step.proofs.Queues.{seen_queues, length-seen, queue-seen, source-seen, add-here, add-else, add-taken, add-sound}
+use Rattle.station_step.specs.Counts.{tally_at, seen_shelf, seen_queues, AreTallies}
+use Rattle.station_step.proofs.Queues.{length-seen, queue-seen, source-seen, add-here, add-else, add-taken, add-sound}
 use Rattle.station_step.proofs.shelf.Shelf.add.Goals as goal
 use Rattle.station_step.proofs.shelf.Shelf.add.Goals.{After-add}
 

@@ -3,8 +3,8 @@ use Rattle.std.specs.Prelude.{option_to_list}
 use Rattle.line_base.specs.Roomy.{RoomyLog}
 use Rattle.card_queue.specs.Plain.{PlainQueue, plain_waiting}
 use Rattle.station_step.specs.Shelf.{WorkShelf}
-use Rattle.station_step.specs.Counts.{seen_queue, IsTally}
-use Rattle.station_step.proofs.Queues.{IsLent, tally-lent, seen_queues, TakenFrom, ShelfTook, shelf-took}
+use Rattle.station_step.specs.Counts.{seen_queue, seen_queues, IsTally}
+use Rattle.station_step.proofs.Queues.{IsLent, tally-lent, TakenFrom, ShelfTook, shelf-took}
 use Rattle.station_step.proofs.shelf.Shelf.take.Goals as goal
 use Rattle.station_step.proofs.shelf.Shelf.take.Goals.{After-index_mut-tally, After-take}
 

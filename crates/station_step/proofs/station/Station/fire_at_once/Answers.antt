@@ -84,7 +84,7 @@ put_all-requires-clause-shelf_room c k low =
     let old = c.args.shelf.now.queues in
     let left = dates_left (goal.at.put_all-requires-clause-shelf_room c).Else-done-jobs in
     let may : MayPut old s = subst (MayPut old) (sym c.self.view_is) c.requires.may_put in
-    shelf_room-after_takes old c.take_fronts.new.shelf.queues (outlet_at s.outlets k) c.take_fronts.ensures.only_takes (may left k low)
+    shelf_room-after_takes old c.take_fronts.new.self.queues (outlet_at s.outlets k) c.take_fronts.ensures.only_takes (may left k low)
 
 pub put_all-requires-clause-space : goal.put_all-requires-clause-space
 put_all-requires-clause-space c k low =
@@ -104,7 +104,7 @@ pub put_all-requires-clause-log_room : goal.put_all-requires-clause-log_room
 put_all-requires-clause-log_room c =
     let s = the_view c.self.inside in
     let left = dates_left (goal.at.put_all-requires-clause-log_room c).Else-done-jobs in
-    let was : log_on c.take_fronts.new.shelf.logs c.args.i ≡ s.log =
+    let was : log_on c.take_fronts.new.self.logs c.args.i ≡ s.log =
     ap (λ (l : List RoomyLog). log_on l c.args.i) c.take_fronts.ensures.logs ∙ c.requires.stands.log ∙ sym (ap (λ (w : WorkStation). w.log) c.self.view_is) in
     subst (λ (l : RoomyLog). length l.dates < l.room) (sym was) (omega (arith, left, c.self.invariant.station.log_room))
 
@@ -113,13 +113,13 @@ put_all-requires-clause-come c =
     let s = the_view c.self.inside in
     let old = c.args.shelf.now in
     let stands : StandsAt c.args.i old s = subst (StandsAt c.args.i old) (sym c.self.view_is) c.requires.stands in
-    come-same c.args.i (map (delay s.graph) (outs s.graph s.number)) (delays_of c.self.inside.outlets.items) old c.take_fronts.new.shelf s.outlets s.outlets
+    come-same c.args.i (map (delay s.graph) (outs s.graph s.number)) (delays_of c.self.inside.outlets.items) old c.take_fronts.new.self s.outlets s.outlets
     c.self.invariant.noted.delays_are
     c.take_fronts.ensures.sources c.take_fronts.ensures.only_takes.count refl refl stands.come
 
 pub log-requires-2 : goal.log-requires-2
 log-requires-2 c =
-    let mid = c.take_fronts.new.shelf.logs in
+    let mid = c.take_fronts.new.self.logs in
     let logs = length-set mid c.args.i (with_date (log_on mid c.args.i) c.in-Some.date) in
     omega (arith, c.requires.stands.there, ap length c.take_fronts.ensures.logs, ap length c.put_all.ensures.logs, logs)
 
@@ -156,11 +156,11 @@ date_at_once c =
     ∙ latest-filled c.args.shelf.now.queues s.inputs fronts (fronts_of c)
     ∙ latest-is s.graph s.number job (front_extras fronts) full (length full) each extras)
 
-firing_at_once : (c : After-of) → IsFiring c.args.shelf.now.queues c.take_fronts.new.shelf.queues c.put_all.new.shelf.queues (the_view c.self.inside) (full_at_once c) (the_view c.self.inside).inputs (outlets_of c.put_all.new.outlets.items) c.in-Some.date
+firing_at_once : (c : After-of) → IsFiring c.args.shelf.now.queues c.take_fronts.new.self.queues c.put_all.new.shelf.queues (the_view c.self.inside) (full_at_once c) (the_view c.self.inside).inputs (outlets_of c.put_all.new.outlets.items) c.in-Some.date
 firing_at_once c =
     let s = the_view c.self.inside in
     let old = c.args.shelf.now.queues in
-    let mid = c.take_fronts.new.shelf.queues in
+    let mid = c.take_fronts.new.self.queues in
     let count = filled-count old s.inputs in
     record {
       full_count = count;
@@ -183,17 +183,17 @@ firing_at_once c =
 fires_at_once : (c : After-of) → length (the_view c.self.inside).log.dates ≢ jobs (the_view c.self.inside).graph → IsStation (fired_station (the_view c.self.inside) (the_view c.self.inside).inputs (outlets_of c.put_all.new.outlets.items) c.in-Some.date (c.self.inside.turns + 1))
 fires_at_once c left =
     let s = the_view c.self.inside in
-    station-fires c.args.shelf.now.queues c.take_fronts.new.shelf.queues c.put_all.new.shelf.queues s (full_at_once c) s.inputs (outlets_of c.put_all.new.outlets.items) c.in-Some.date (c.self.inside.turns + 1) c.self.invariant.station left (firing_at_once c)
+    station-fires c.args.shelf.now.queues c.take_fronts.new.self.queues c.put_all.new.shelf.queues s (full_at_once c) s.inputs (outlets_of c.put_all.new.outlets.items) c.in-Some.date (c.self.inside.turns + 1) c.self.invariant.station left (firing_at_once c)
 
 -- its log before it and after it, as it stands on the shelf
-log_before : (c : After-of) → log_on c.take_fronts.new.shelf.logs c.args.i ≡ c.self.inside.log.value
+log_before : (c : After-of) → log_on c.take_fronts.new.self.logs c.args.i ≡ c.self.inside.log.value
 log_before c =
     ap (λ (l : List RoomyLog). log_on l c.args.i) c.take_fronts.ensures.logs ∙ c.requires.stands.log ∙ sym (ap (λ (w : WorkStation). w.log) c.self.view_is)
 
 log_at_once : (c : After-of) → c.of.result.value ≡ with_date c.self.inside.log.value c.in-Some.date
 log_at_once c =
     let i = c.args.i in
-    let mid = c.take_fronts.new.shelf.logs in
+    let mid = c.take_fronts.new.self.logs in
     let low : i < length mid = omega (arith, c.requires.stands.there, ap length c.take_fronts.ensures.logs) in
     c.of.ensures
     ∙ c.log-2.ensures
@@ -205,7 +205,7 @@ logs_at_once : (c : After-of) → c.put_all.new.shelf.logs ≡ set c.args.shelf.
 logs_at_once c =
     let i = c.args.i in
     let date = c.in-Some.date in
-    let mid = c.take_fronts.new.shelf.logs in
+    let mid = c.take_fronts.new.self.logs in
     c.put_all.ensures.logs
     ∙ ap (λ (l : RoomyLog). set mid i (with_date l date)) (log_before c)
     ∙ ap (set mid i) (sym (log_at_once c))
@@ -240,7 +240,7 @@ fires c left =
     let outlets = outlets_of c.put_all.new.outlets.items in
     let log = c.of.result.value in
     let old = c.args.shelf.now in
-    let mid = c.take_fronts.new.shelf.queues in
+    let mid = c.take_fronts.new.self.queues in
     let new = c.put_all.new.shelf in
     let no_log : RoomyLog = record { dates = []; room = 0 } in
     let stands : StandsAt i old s = subst (StandsAt i old) (sym c.self.view_is) c.requires.stands in
