@@ -70,7 +70,9 @@ pub(crate) fn is_direct(
 }
 
 /// Takes the first token at each of these fronts, where one waits at each of them, and tells the latest date that they
-/// ask for. Else nothing is taken. `firsts`, `logs` and `tallies` are those of the shelf.
+/// ask for. Else nothing is taken.
+///
+/// The lists of the shelf come as slices, so that the loop loads once where each of them begins.
 #[inline(always)]
 pub(crate) fn take_each(
     fronts: &[Front],
