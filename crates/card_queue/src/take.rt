@@ -39,6 +39,15 @@ impl Take {
         self.consumer.pop().ok()
     }
 
+    /// Looks how many tokens were put, and answers how many are then known to wait. Nothing else changes.
+    pub fn look(&mut self) -> u32
+        ensures known { result ≡ length self.new.known }
+        ensures more { IsPrefix self.old.known self.new.known }
+        ensures same { self.new ≡ record self.old { known = self.new.known } }
+    {
+        self.consumer.slots() as u32
+    }
+
     /// How many tokens are known to wait. The end that puts never lowers it.
     pub fn known(&self) -> u32
         ensures { result ≡ length self.now.known }

@@ -41,7 +41,7 @@ impl RoomTake {
     }
 
     /// Looks how many tokens were put, and answers how many are then known to wait.
-    fn look(&mut self) -> u32
+    pub fn look(&mut self) -> u32
         ensures known { result ≡ room_known self.new }
         ensures looks { TakeLooks self.old self.new }
     {

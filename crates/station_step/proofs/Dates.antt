@@ -4,6 +4,7 @@ use Rattle.std.specs.Prelude.{Bool, false, None, slice_index, slice_index_or, if
 use Rattle.std.specs.List.{range_with_len}
 use Rattle.std.specs.Ordering.{ord_max, nat_cmp}
 use Rattle.std.proofs.lemmas.List.{get_or-map}
+use Rattle.std.proofs.lemmas.Bool.{cases_lt}
 use Rattle.std.proofs.lemmas.Bool.Decides.{nat_tests, eqb_tells}
 use Rattle.line_base.specs.declared.times.Times.{Times}
 use Rattle.line_base.specs.declared.times.Times.TheVariants.{Fixed, Each}
@@ -52,6 +53,11 @@ pub extra-noted : (g : Parts) (t job k : ℕ) (extras : List ℕ) → k < length
 extra-noted g t job k extras low is =
     ap (λ (l : List ℕ). slice_index l k) is ∙ get_or-map (λ a. work g a job) (ins g t) k 0 0 low
 
+-- the latest where no input asks yet
+pub latest-none : (f : ℕ → ℕ) → 0 ≡ greatest f (range_with_len 0 0)
+unfolding greatest
+latest-none f = refl
+
 -- the greatest over one input more
 pub greatest-more : (f : ℕ → ℕ) (k n : ℕ) → greatest f (range_with_len k (suc n)) ≡ max (greatest f (range_with_len k n)) (f (k + n))
 unfolding greatest
@@ -67,6 +73,26 @@ greatest-agree f h k (suc n) agree =
     ap (λ m. max m (greatest f (range_with_len (k + 1) n))) (agree k (omega arith) (omega arith))
     ∙ ap (max (h k)) (greatest-agree f h (k + 1) n (λ j from to. agree j (omega arith) (omega arith)))
 
+-- no value below n is above the greatest there
+pub greatest-above : (f : ℕ → ℕ) (n k : ℕ) → k < n → f k ≤ greatest f (range_with_len 0 n)
+greatest-above f zero k low = absurd (omega (arith, low))
+greatest-above f (suc n) k low =
+    let last : 0 + n ≡ n = omega arith in
+    ⊎_elim
+    (λ (before : k < n). omega (arith, greatest-above f n k before, greatest-more f 0 n))
+    (λ (past : n ≤ k).
+    let e : k ≡ n = omega (arith, low, past) in
+    omega (arith, greatest-more f 0 n, ap f e, ap f last))
+    (cases_lt k n)
+
+-- and the greatest is at most what each of them is at most
+pub greatest-below : (f : ℕ → ℕ) (n most : ℕ) → ((k : ℕ) → k < n → f k ≤ most) → greatest f (range_with_len 0 n) ≤ most
+greatest-below f zero most each = omega (arith, latest-none f)
+greatest-below f (suc n) most each =
+    let last : 0 + n ≡ n = omega arith in
+    let here = each n (omega arith) in
+    omega (arith, greatest-more f 0 n, ap f last, here, greatest-below f n most (λ k low. each k (omega (arith, low))))
+
 -- the date follows from the tokens of the inputs alone
 pub date_for-agree : (g : Parts) (t job : ℕ) (one other : ℕ → ℕ) → ((k : ℕ) → k < length (ins g t) → one k ≡ other k) → date_for g t job one ≡ date_for g t job other
 unfolding date_for
@@ -80,11 +106,6 @@ pub ord_max-nat : (a b : ℕ) → ord_max nat_cmp a b ≡ max a b
 ord_max-nat a b = grind (arith, nat_tests)
 
 -- ---- what the tokens in the hands ask for
-
--- the latest where none is refilled yet
-pub latest-none : (f : ℕ → ℕ) → 0 ≡ greatest f (range_with_len 0 0)
-unfolding greatest
-latest-none f = refl
 
 -- the latest that they ask for, where one input more is refilled
 pub latest-more : (extras : List ℕ) (k : ℕ) (inputs : List Input) (input : Input) (latest asks : ℕ) → k < length inputs → latest ≡ greatest (hand_asks extras inputs) (range_with_len 0 k) → asks ≡ saturating (unwrap_or input.hand 0) (slice_index extras k) → ord_max nat_cmp latest asks ≡ greatest (hand_asks extras (set inputs k input)) (range_with_len 0 (k + 1))

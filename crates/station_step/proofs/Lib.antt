@@ -4,12 +4,15 @@ pub mod OwnQueues
 pub mod Turns
 pub mod RefilledHands
 pub mod EmptiedHands
+pub mod RingInputs
 pub mod OutletLooks
 pub mod FilledOutlets
 pub mod NotedExtras
 pub mod Dates
 pub mod KeptStations
 pub mod TakenFronts
-pub mod AtOnce
+pub mod FrontsOf
+pub mod FullHands
+pub mod Looked
 pub mod Posts
 pub mod StationSend

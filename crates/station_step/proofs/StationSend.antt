@@ -81,20 +81,23 @@ station_fields =
                 (
                   search sendable,
                   (
-                    Vec-send Front.the_row (as_row_send Front.the_field FrontSent.the_field_send),
+                    search sendable,
                     (
-                      Vec-send NotedInput.the_row (as_row_send NotedInput.the_field InputSent.the_field_send),
+                      Vec-send Front.the_row (as_row_send Front.the_field FrontSent.the_field_send),
                       (
-                        Vec-send NotedOutlet.the_row (as_row_send NotedOutlet.the_field OutletSent.the_field_send),
+                        Vec-send NotedInput.the_row (as_row_send NotedInput.the_field InputSent.the_field_send),
                         (
-                          search crosses,
+                          Vec-send NotedOutlet.the_row (as_row_send NotedOutlet.the_field OutletSent.the_field_send),
                           (
-                            search sendable,
+                            search crosses,
                             (
-                              search crosses,
+                              search sendable,
                               (
                                 search crosses,
-                                tt,
+                                (
+                                  search crosses,
+                                  tt,
+                                ),
                               ),
                             ),
                           ),

@@ -91,6 +91,18 @@ IsUnfilled (outlet.Ring put) = put.added ≡ []
 IsUnfilled (outlet.Room put) = put.added ≡ []
 IsUnfilled (outlet.Local k) = ⊤
 
+-- whether an inlet is the end of a ring
+abbrev pub is_ring_inlet : Inlet → Bool
+is_ring_inlet (inlet.Ring take) = true
+is_ring_inlet (inlet.Room take) = true
+is_ring_inlet (inlet.Local k) = false
+
+-- a token is known to come next at the end of a ring
+abbrev pub HasKnown : Inlet → Type 0
+HasKnown (inlet.Ring take) = 0 < length take.known
+HasKnown (inlet.Room take) = 0 < room_known take
+HasKnown (inlet.Local k) = ⊤
+
 -- this many more tokens may be put at a ring's put
 abbrev pub HasRingRoom : ℕ → Outlet → Type 0
 HasRingRoom more (outlet.Ring put) = length put.added + more ≤ put.room

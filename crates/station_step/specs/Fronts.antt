@@ -1,7 +1,7 @@
--- What a station keeps of its inputs to fire at once, where all of them are on the shelf, and what a take at each does.
--- Only the station and its shelf read these words.
-use Rattle.std.specs.Prelude.{◌≡◌, ◌≢◌, ℕ, ◌<◌, Bool, false, List, [], Option, None, Some, IsTrue, IfSome, IfNone, map, length, slice_index, slice_index_or}
-use Rattle.std.specs.List.{range_with_len}
+-- What a station keeps to fire at once of its inputs on the shelf, and what a take at each of its fronts does. Only the
+-- station and its shelf read these words.
+use Rattle.std.specs.Prelude.{◌≡◌, ◌≢◌, ℕ, ◌<◌, Bool, false, List, [], Option, None, Some, IsTrue, IfSome, IfNone, length, slice_index, slice_index_or}
+use Rattle.std.specs.List.{list_any, range_with_len}
 use Rattle.line_base.specs.declared.event.Parts.{Parts}
 use Rattle.card_queue.specs.Plain.{PlainQueue, plain_waiting}
 use Rattle.event_graph.specs.GreatestValue.{greatest}
@@ -13,20 +13,13 @@ use Rattle.station_step.specs.Ends.{inlet_queue}
 use Rattle.station_step.specs.Input.{input_at}
 use Rattle.station_step.specs.Kept.{saturating}
 use Rattle.station_step.specs.Noted.{extras_into, delays_into}
+use Rattle.station_step.specs.RingInputs.{is_ring_input}
 
 -- the front with this number
 abbrev pub front_at : List Front → ℕ → Front
 front_at fronts k = slice_index_or fronts k (record { queue = 0; extra = 0; later = 0 })
 
--- what is noted with each: what the time of the job adds to its token
-abbrev pub front_extras : List Front → List ℕ
-front_extras fronts = map (λ (f : Front). f.extra) fronts
-
--- what is kept as the delay with that added is that sum, of these delays of the arcs, or of those of the queues
-abbrev pub AreLater : List ℕ → List Front → Type 0
-AreLater delays fronts = (k : ℕ) → k < length fronts →
-    (front_at fronts k).later ≡ saturating (slice_index delays k) (front_at fronts k).extra
-
+-- what is kept with each as the delay with what is added is that sum, by the delays of their queues
 abbrev pub AreLaterBy : List Source → List Front → Type 0
 AreLaterBy sources fronts = (k : ℕ) → k < length fronts →
     (front_at fronts k).later ≡ saturating (source_at sources (front_at fronts k).queue).delay (front_at fronts k).extra
@@ -66,16 +59,34 @@ pub record TakesEach (fronts : List Front) (old new : List PlainQueue) (latest :
   pub only_takes : OnlyTakes old new
   pub others : (q : ℕ) → NoneAt q fronts → queue_at new q ≡ queue_at old q
 
--- each input takes from a queue of the shelf, and its front is at that queue
-pub record AreFronts (inputs : List Input) (fronts : List Front) : Type 0 where
-  pub count : length fronts ≡ length inputs
-  pub queues : (k : ℕ) → k < length inputs → inlet_queue (input_at inputs k).inlet ≡ Some (front_at fronts k).queue
+-- one of these numbers is k
+abbrev pub HasNumber : ℕ → List ℕ → Type 0
+HasNumber k numbers = (j : ℕ) × ((j < length numbers) × (slice_index numbers j ≡ k))
 
--- station t is not the feed and has a front for each input, each job takes as long there, and no outlet can lack space
-pub record IsDirect (g : Parts) (t : ℕ) (inputs : List Input) (fronts : List Front) (bounded : Bool) : Type 0 where
-  pub each : AreFronts inputs fronts
-  pub extras : (job : ℕ) → front_extras fronts ≡ extras_into g t job
-  pub laters : AreLater (delays_into g t) fronts
+-- these are the fronts of the first inputs, this many: of each that takes from a queue of the shelf there is one, in
+-- their order, which is at that queue. With it stands what is noted beside its input, and the delay of its arc with that
+-- added
+pub record FrontsUpTo (n : ℕ) (delays extras : List ℕ) (inputs : List Input) (fronts : List Front) : Type 0 where
+  pub numbers : List ℕ  -- the numbers of their inputs
+  pub count : length numbers ≡ length fronts
+  pub within : (j : ℕ) → j < length fronts → slice_index numbers j < n
+  pub in_order : (i j : ℕ) → i < j → j < length fronts → slice_index numbers i < slice_index numbers j
+  pub queues : (j : ℕ) → j < length fronts →
+      inlet_queue (input_at inputs (slice_index numbers j)).inlet ≡ Some (front_at fronts j).queue
+  pub extra : (j : ℕ) → j < length fronts → (front_at fronts j).extra ≡ slice_index extras (slice_index numbers j)
+  pub later : (j : ℕ) → j < length fronts →
+      (front_at fronts j).later ≡ saturating (slice_index delays (slice_index numbers j)) (front_at fronts j).extra
+  pub each : (k : ℕ) → k < n → is_ring_input (input_at inputs k) ≡ false → HasNumber k numbers
+
+-- and these those of all inputs
+abbrev pub AreFronts : List ℕ → List ℕ → List Input → List Front → Type 0
+AreFronts delays extras inputs fronts = FrontsUpTo (length inputs) delays extras inputs fronts
+
+-- station t is not the feed, each job takes as long there, and no outlet can lack space; these are its fronts
+pub record IsDirect (g : Parts) (t : ℕ) (inputs : List Input) (fronts : List Front)
+    (fixed bounded : Bool) : Type 0 where
+  pub fronts_are : (job : ℕ) → AreFronts (delays_into g t) (extras_into g t job) inputs fronts
+  pub fixed_is : IsTrue fixed
   pub unbounded : bounded ≡ false
   pub inside : t ≢ 0
 
@@ -83,10 +94,11 @@ pub record IsDirect (g : Parts) (t : ℕ) (inputs : List Input) (fronts : List F
 abbrev pub AreEmptyHanded : List Input → Type 0
 AreEmptyHanded inputs = (k : ℕ) → k < length inputs → (input_at inputs k).hand ≡ None
 
--- what a station keeps to fire at once: where it is direct, its fronts, and where it may fire by them now, all hands are
--- empty
+-- what a station keeps to fire at once: where it is direct, its fronts; where it may fire by them now, all hands are
+-- empty; and whether one of its inputs is over a ring
 pub record IsReadied (g : Parts) (t : ℕ) (inputs : List Input) (fronts : List Front)
-    (bounded direct at_once : Bool) : Type 0 where
-  pub fires : IsTrue direct → IsDirect g t inputs fronts bounded
+    (fixed bounded rings_in direct at_once : Bool) : Type 0 where
+  pub fires : IsTrue direct → IsDirect g t inputs fronts fixed bounded
   pub may : IsTrue at_once → IsTrue direct
   pub hands : IsTrue at_once → AreEmptyHanded inputs
+  pub rings_are : rings_in ≡ list_any is_ring_input inputs

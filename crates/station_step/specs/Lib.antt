@@ -6,6 +6,7 @@ pub mod Input
 pub mod Station
 pub mod Noted
 pub mod Kept
+pub mod RingInputs
 pub mod Fronts
 pub mod Refilled
 pub mod Step

@@ -1,5 +1,6 @@
-ghost use Rattle.std.specs.Prelude.{◌≡◌, ◌≢◌, ℕ, ◌+◌, ◌<◌, ◌≤◌, ◌++◌, ◌∷◌, ◌↔◌, [], Some, length, IsTrue, IfSome, IfNone, option_to_list};
-ghost use Rattle.station_step.specs.Ends.{inlet_taken, inlet_ahead, bare_inlet, bare_outlet, unseen_inlet, unseen_outlet, inlet_queue, outlet_queue, HasRingRoom, HasGot, is_bounded, is_ring, HasSpace, HasLooked, AreEnds, AreMet, KnowsMore, HasMoreSpace};
+ghost use Rattle.std.specs.Prelude.{◌≡◌, ◌≢◌, ℕ, ◌+◌, ◌<◌, ◌≤◌, ◌++◌, ◌∷◌, ◌↔◌, List, [], Some, length, IsTrue, IsSome, IfSome, IfNone, option_to_list};
+ghost use Rattle.card_queue.specs.Plain.{PlainQueue};
+ghost use Rattle.station_step.specs.Ends.{inlet_taken, inlet_ahead, bare_inlet, bare_outlet, unseen_inlet, unseen_outlet, inlet_queue, outlet_queue, is_ring_inlet, HasKnown, HasRingRoom, HasGot, is_bounded, is_ring, HasSpace, HasLooked, AreEnds, AreMet, KnowsMore, HasMoreSpace};
 ghost use Rattle.station_step.specs.Shelf.{queue_at, OnlyTakes};
 
 use crate::shelf::Shelf;
@@ -33,6 +34,45 @@ impl Inlet {
         match self {
             Inlet::Ring(_) | Inlet::Room(_) => None,
             Inlet::Local(k) => Some(*k),
+        }
+    }
+
+    /// Whether it is the end of a ring.
+    pub(crate) fn is_ring(&self) -> bool
+        ensures { result ≡ is_ring_inlet self.now }
+    {
+        !matches!(self, Inlet::Local(_))
+    }
+
+    /// Looks for a token where none is known, at the end of a ring. Tells whether one is known then. A queue on the
+    /// shelf is not asked.
+    #[inline(always)]
+    pub(crate) fn look(&mut self) -> bool
+        ensures same { unseen_inlet self.new ≡ unseen_inlet self.old }
+        ensures more { KnowsMore self.old self.new }
+        ensures known { IsTrue result ↔ HasKnown self.new }
+    {
+        match self {
+            Inlet::Ring(take) => take.known() > 0 || take.look() > 0,
+            Inlet::Room(take) => take.known() > 0 || take.look() > 0,
+            Inlet::Local(_) => true,
+        }
+    }
+
+    /// Takes the token that is known at the end of a ring. Nothing is taken from a queue on the shelf.
+    #[inline(always)]
+    pub(crate) fn take_known(&mut self) -> Option<Date>
+        requires { HasKnown self.old }
+        ensures ring { IsSome result ↔ IsTrue (is_ring_inlet self.old) }
+        ensures same { bare_inlet self.new ≡ bare_inlet self.old }
+        ensures taken { (shelf : List PlainQueue) →
+            inlet_taken shelf self.new ≡ inlet_taken shelf self.old ++ option_to_list result }
+        ensures stays { IfNone result (self.new ≡ self.old) }
+    {
+        match self {
+            Inlet::Ring(take) => take.take(),
+            Inlet::Room(take) => take.take(),
+            Inlet::Local(_) => None,
         }
     }
 

@@ -1,7 +1,7 @@
-ghost use Rattle.std.specs.Prelude.{◌≡◌, ◌≢◌, ℕ, ◌<◌, false, length, IsTrue, IfOk};
+ghost use Rattle.std.specs.Prelude.{◌≡◌, ◌≢◌, ℕ, ◌<◌, ◌↔◌, false, length, IsTrue, IfOk};
 ghost use Rattle.event_graph.specs.Network.{stations, ins};
 ghost use Rattle.station_step.specs.Counts.{tally_at, sources_of, seen_queues, AreTallies, one_returned};
-ghost use Rattle.station_step.specs.Fronts.{front_at, front_extras, FrontsWithin, FrontsApart, NoneAt, TakesEach, AreFronts, AreLater, AreLaterBy};
+ghost use Rattle.station_step.specs.Fronts.{front_at, FrontsWithin, FrontsApart, NoneAt, TakesEach, AreFronts, AreLaterBy};
 ghost use Rattle.station_step.specs.Noted.{inputs_of, extras_of, delays_into};
 
 use crate::noted::NotedInput;
@@ -20,8 +20,8 @@ pub(crate) struct Front {
     pub(crate) later: u64,
 }
 
-/// A front for each of these inputs of station `t`, with what is noted beside it; none at all where one of them is over a
-/// ring.
+/// The fronts of these inputs of station `t`: one for each that is on the shelf, in their order, with what is noted
+/// beside it.
 pub(crate) fn fronts_of(
     alloc: Global,
     graph: &Graph,
@@ -30,43 +30,30 @@ pub(crate) fn fronts_of(
 ) -> Result<Vec<Front>, AllocError>
     requires station { t < stations graph.now }
     requires an_input_each { length inputs.now.items ≡ length (ins graph.now t) }
-    ensures fronts { IfOk result (λ fronts. length fronts.items ≡ length (inputs_of inputs.now.items) →
-        AreFronts (inputs_of inputs.now.items) fronts.items) }
-    ensures extras { IfOk result (λ fronts. length fronts.items ≡ length (inputs_of inputs.now.items) →
-        front_extras fronts.items ≡ extras_of inputs.now.items) }
-    ensures laters { IfOk result (λ fronts. AreLater (delays_into graph.now t) fronts.items) }
+    ensures { IfOk result (λ fronts. AreFronts (delays_into graph.now t) (extras_of inputs.now.items)
+        (inputs_of inputs.now.items) fronts.items) }
 {
     let ins = graph.ins(t);
     let mut fronts = Vec::with_capacity(alloc, inputs.len())?;
-    for noted in inputs.iter() {
-        let Some(queue) = noted.input.inlet.queue() else {
-            return Ok(Vec::new(alloc));
-        };
-        let delay = graph.delay(ins[fronts.len()]);
-        fronts.push(Front {
-            queue,
-            extra: noted.extra,
-            later: delay.saturating_add(noted.extra),
-        })?;
+    for (k, noted) in inputs.iter().enumerate() {
+        if let Some(queue) = noted.input.inlet.queue() {
+            let delay = graph.delay(ins[k]);
+            fronts.push(Front {
+                queue,
+                extra: noted.extra,
+                later: delay.saturating_add(noted.extra),
+            })?;
+        }
     }
     Ok(fronts)
 }
 
-/// Whether a station fires by these fronts where it can: where it is not the feed, each job takes as long there, no
-/// outlet can lack space, and each input has a front.
-pub(crate) fn is_direct(
-    t: u32,
-    fixed: bool,
-    bounded: bool,
-    fronts: &Vec<Front>,
-    inputs: &Vec<NotedInput>,
-) -> bool
-    ensures fixed { IsTrue result → IsTrue fixed }
-    ensures unbounded { IsTrue result → bounded ≡ false }
-    ensures inside { IsTrue result → t ≢ 0 }
-    ensures fronts { IsTrue result → length fronts.now.items ≡ length inputs.now.items }
+/// Whether a station fires at once where it can: where it is not the feed, each job takes as long there, and no outlet
+/// can lack space.
+pub(crate) fn is_direct(t: u32, fixed: bool, bounded: bool) -> bool
+    ensures { IsTrue result ↔ (t ≢ 0) × (IsTrue fixed × (bounded ≡ false)) }
 {
-    t != 0 && fixed && !bounded && fronts.len() == inputs.len()
+    t != 0 && fixed && !bounded
 }
 
 /// Takes the first token at each of these fronts, where one waits at each of them, and tells the latest date that they

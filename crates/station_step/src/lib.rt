@@ -10,6 +10,7 @@ mod inputs;
 mod noted;
 mod outlets;
 mod refilled;
+mod ring_inputs;
 mod shelf;
 mod source;
 mod station;

@@ -4,6 +4,7 @@ ghost use Rattle.event_graph.specs.Network.{stations, jobs, ins, outs};
 ghost use Rattle.station_step.specs.Ends.{IsUntaken, IsUnfilled, HasRingRoom, unseen_inlet, unseen_outlet, AreEnds, AreMet, KnowsMore, HasMoreSpace};
 ghost use Rattle.station_step.specs.Input.{input_at};
 ghost use Rattle.station_step.specs.Kept.{IsKept, IsFresh};
+ghost use Rattle.station_step.specs.RingInputs.{HaveLooked};
 ghost use Rattle.station_step.specs.Station.{WorkStation, IsStation, IsSeated, StandsAt, MayPut, outlet_at, bare_station, new_station, with_inlet, with_outlet};
 ghost use Rattle.station_step.specs.Step.{IsReady, IsDone, HasFired, IfBlocked, IsBlocked, IfFull, IsFull, Did, FiresAt, MovesApart};
 
@@ -15,6 +16,7 @@ use crate::noted::{
 };
 use crate::outlets::{look_all, put_all};
 use crate::refilled::Refilled;
+use crate::ring_inputs::{has_rings, look_rings, take_rings};
 use crate::shelf::Shelf;
 use crate::stepped::Stepped;
 use event_graph::Graph;
@@ -35,10 +37,11 @@ pub struct Station {
     // Whether every job takes one time here. Where not, each step notes what its job adds, by whether the arc of each
     // input is worked.
     fixed: bool,
-    // Whether an output can lack space, and whether one is over a ring.
+    // Whether an output can lack space, and whether one is over a ring; and whether an input is.
     bounded: bool,
     rings: bool,
-    // Whether it fires by its fronts where it can, and whether it may do so now, as all of its hands are empty.
+    rings_in: bool,
+    // Whether it fires at once where it can, and whether it may do so now, as all of its hands are empty.
     direct: bool,
     at_once: bool,
     turns: u64,
@@ -68,8 +71,8 @@ impl Model for Station {
           s.made s.turns);
       noted : IsNoted s.graph.value s.number s.inputs.items s.outlets.items s.fixed s.worked.items
           s.bounded s.rings;
-      readied : IsReadied s.graph.value s.number (inputs_of s.inputs.items) s.fronts.items s.bounded
-          s.direct s.at_once;
+      readied : IsReadied s.graph.value s.number (inputs_of s.inputs.items) s.fronts.items s.fixed
+          s.bounded s.rings_in s.direct s.at_once;
     } };
 }
 
@@ -107,13 +110,15 @@ impl Station {
         note_time(&mut inputs, worked.as_slice(), graph.time(t, 1));
         let fixed = !graph.varies(t);
         let fronts = fronts_of(alloc, graph, t, &inputs)?;
-        let direct = is_direct(t, fixed, bounded, &fronts, &inputs);
+        let rings_in = has_rings(inputs.as_slice());
+        let direct = is_direct(t, fixed, bounded);
         let outlets = with_delays(alloc, graph, t, outlets)?;
         Ok(Station {
             number: t,
             fixed,
             bounded,
             rings,
+            rings_in,
             direct,
             at_once: direct,
             turns: 0,
@@ -138,7 +143,7 @@ impl Station {
     ///
     /// The station is number `i` of its worker, on whose shelf its log stands.
     ///
-    /// It takes no memory, and goes over its inputs at most three times and over its outputs at most twice.
+    /// It takes no memory, and goes over its inputs at most five times and over its outputs at most twice.
     ///
     /// Source of the rule: Baccelli, Cohen, Olsder and Quadrat, Synchronization and Linearity, on event graphs.
     #[inline(always)]
@@ -169,7 +174,8 @@ impl Station {
         self.step_by_hands(live, shelf, i)
     }
 
-    /// Fires by the fronts, where the station may and has a token at each of them. Else nothing changes.
+    /// Fires at once, where the station may, a token waits at each of its fronts, and one is known at each input over a
+    /// ring. Else it has looked at these rings at most.
     #[inline(always)]
     fn fire_at_once(&mut self, live: &Live, shelf: &mut Shelf, i: u32) -> bool
         requires made_for { live.now.graph ≡ self.old.graph }
@@ -179,7 +185,8 @@ impl Station {
         requires stands { StandsAt i shelf.old self.old }
         ensures fired { IsTrue result → FiresAt i shelf.old shelf.new self.old self.new }
         ensures shelf { result ≡ false → shelf.new ≡ shelf.old }
-        ensures station { result ≡ false → self.new ≡ self.old }
+        ensures looked { result ≡ false → HaveLooked self.old self.new }
+        ensures stays { length self.old.log.dates ≡ jobs self.old.graph → self.new ≡ self.old }
     {
         if !self.at_once {
             return false;
@@ -189,9 +196,13 @@ impl Station {
         if done == graph.jobs() {
             return false;
         }
-        let Some(date) = shelf.take_fronts(self.fronts.as_slice()) else {
+        if !look_rings(self.rings_in, &mut self.inputs) {
+            return false;
+        }
+        let Some(latest) = shelf.take_fronts(self.fronts.as_slice()) else {
             return false;
         };
+        let date = take_rings(self.rings_in, &mut self.inputs, latest);
         put_all(self.rings, &mut self.outlets, shelf, i, date);
         self.turns += 1;
         self.log = Snapshot::of(shelf.log(i));

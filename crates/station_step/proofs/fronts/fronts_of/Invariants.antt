@@ -1,6 +1,6 @@
-use Rattle.station_step.specs.Noted.{delays_into}
-use Rattle.station_step.proofs.AtOnce.{FrontsUpTo}
+use Rattle.station_step.specs.Fronts.{FrontsUpTo}
+use Rattle.station_step.specs.Noted.{inputs_of, extras_of, delays_into}
 use Rattle.station_step.proofs.fronts.fronts_of.Given as goal
 
-abbrev pub invariant-loop-noted : goal.invariant-loop-noted
-invariant-loop-noted l = FrontsUpTo l.noted-index (delays_into l.graph l.t) l.inputs.items l.fronts.items
+abbrev pub invariant-loop-k : goal.invariant-loop-k
+invariant-loop-k l = FrontsUpTo l.k (delays_into l.graph l.t) (extras_of l.inputs.items) (inputs_of l.inputs.items) l.fronts.items

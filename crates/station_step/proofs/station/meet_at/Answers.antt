@@ -15,7 +15,7 @@ use Rattle.station_step.proofs.KeptStations.{bare-met, kept-met, met_station, st
 use Rattle.station_step.proofs.OutletLooks.{at-set, bare-set, noted-same}
 use Rattle.station_step.proofs.NotedExtras.{no_input, no_outlet, input-lent, outlet-lent, input-at, outlet-at, inputs-count, outlets-count, inputs-set, outlets-set, extras-stay, delays-stay}
 use Rattle.station_step.proofs.RefilledHands.{input_at-set}
-use Rattle.station_step.proofs.AtOnce.{readied-met}
+use Rattle.station_step.proofs.FrontsOf.{readied-met}
 use Rattle.station_step.proofs.OwnQueues.{bare-unseen}
 use Rattle.station_step.proofs.station.meet_at.Goals as goal
 
@@ -136,7 +136,7 @@ invariant_of-to c =
           refl
           refl
           c.to.invariant.noted;
-      readied = readied-met s.graph.value s.number (inputs c) c.args.j (met_input c) (inputs_of (met_inputs c)) s.fronts.items s.bounded s.direct s.at_once
+      readied = readied-met s.graph.value s.number (inputs c) c.args.j (met_input c) (inputs_of (met_inputs c)) s.fronts.items s.fixed s.bounded s.rings_in s.direct s.at_once
           (met_inputs_are c)
           (there c)
           (ap (λ (i : Inlet). (let m : Input = record { inlet = i; hand = None } in m)) (sym (bare-unseen c.meet_ends.new.inlet) ∙ ap bare_inlet (same_but_known c) ∙ bare-unseen (input_at (inputs c) c.args.j).inlet))

@@ -12,14 +12,15 @@ use Rattle.station_step.specs.declared.ends.Outlet.{Outlet}
 use Rattle.station_step.specs.declared.input.Input.{Input}
 use Rattle.station_step.specs.Ends.{is_bounded, is_ring}
 use Rattle.station_step.specs.Input.{empty_handed, input_at}
-use Rattle.station_step.specs.Fronts.{IsReadied}
+use Rattle.station_step.specs.Fronts.{AreFronts, IsReadied}
+use Rattle.station_step.specs.RingInputs.{is_ring_input}
 use Rattle.station_step.specs.declared.ends.Inlet.{Inlet}
 use Rattle.station_step.specs.Station.{WorkStation, IsStation, new_station}
 use Rattle.station_step.specs.Kept.{IsKept, IsFresh}
-use Rattle.station_step.specs.Noted.{IsNoted, inputs_of, outlets_of, unnoted_input}
+use Rattle.station_step.specs.Noted.{IsNoted, inputs_of, outlets_of, unnoted_input, delays_into}
 use Rattle.station_step.proofs.Dates.{time-fixed}
 use Rattle.station_step.proofs.KeptStations.{kept-fresh, station-new}
-use Rattle.station_step.proofs.NotedExtras.{inputs-count, inputs-unnoted, extras-into}
+use Rattle.station_step.proofs.NotedExtras.{inputs-unnoted, extras-into}
 use Rattle.station_step.proofs.station.Station.new.Goals as goal
 use Rattle.station_step.proofs.station.Station.new.Goals.{After-graph-graph, After-of-2}
 
@@ -142,23 +143,25 @@ invariant_of-result c =
     } in
     let d = c.is_direct-direct.result in
     let fixed = not c.varies-fixed.result in
-    let readied : IsReadied g t (inputs_of inputs) c.in_ok-fronts.fronts.items c.kinds_of-bounded.result.0 d d =
+    let readied : IsReadied g t (inputs_of inputs) c.in_ok-fronts.fronts.items (not c.varies-fixed.result) c.kinds_of-bounded.result.0 c.has_rings-rings_in.result d d =
     record {
       fires = λ is.
-          let count : length c.in_ok-fronts.fronts.items ≡ length (inputs_of inputs) =
-          c.is_direct-direct.ensures.fronts is ∙ sym (inputs-count inputs) in record {
-            each = c.in_ok-fronts.ensures.fronts count;
-            laters = c.in_ok-fronts.ensures.laters;
-            extras = λ job. c.in_ok-fronts.ensures.extras count ∙ noted.extras_are (c.is_direct-direct.ensures.fixed is) job;
-            unbounded = c.is_direct-direct.ensures.unbounded is;
-            inside = c.is_direct-direct.ensures.inside is;
+          let all = c.is_direct-direct.ensures.0 is in
+          record {
+            fronts_are = λ job.
+                subst (λ l. AreFronts (delays_into g t) l (inputs_of inputs) c.in_ok-fronts.fronts.items)
+                (noted.extras_are all.1.0 job) c.in_ok-fronts.ensures;
+            fixed_is = all.1.0;
+            unbounded = all.1.1;
+            inside = all.0;
           };
       may = λ is. is;
       hands = λ _ k low.
           ap (λ (l : List Input). (input_at l k).hand) (c.note_time.ensures.inputs ∙ ap inputs_of c.in_ok-inputs.ensures ∙ inputs-unnoted c.args.inlets.items)
           ∙ hands-new c.args.inlets.items k;
+      rings_are = c.has_rings-rings_in.ensures ∙ ap (λ l. list_any is_ring_input (inputs_of l)) c.as_slice-3.ensures.value;
     } in record {
-      readied = subst (λ (h : Parts). IsReadied h t (inputs_of inputs) c.in_ok-fronts.fronts.items c.kinds_of-bounded.result.0 d d) (sym c.of-2.ensures) readied;
+      readied = subst (λ (h : Parts). IsReadied h t (inputs_of inputs) c.in_ok-fronts.fronts.items (not c.varies-fixed.result) c.kinds_of-bounded.result.0 c.has_rings-rings_in.result d d) (sym c.of-2.ensures) readied;
       station = is_station c;
       noted = subst (λ (h : Parts). IsNoted h t inputs outlets (not c.varies-fixed.result) c.in_ok-worked.worked.items c.kinds_of-bounded.result.0 c.kinds_of-bounded.result.1) (sym c.of-2.ensures) noted;
     }

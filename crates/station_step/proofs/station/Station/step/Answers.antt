@@ -2,9 +2,11 @@ use Rattle.std.proofs.Common.{◌≡◌, ◌+◌, ◌<◌, ◌^◌, subst, sym, 
 use Rattle.std.specs.Prelude.{◌↔◌}
 use Rattle.event_graph.specs.Network.{jobs}
 use Rattle.station_step.specs.Shelf.{WorkShelf}
-use Rattle.station_step.specs.Station.{WorkStation, IsSeated, StandsAt, MayPut, bare_station}
+use Rattle.station_step.specs.RingInputs.{HaveLooked}
+use Rattle.station_step.specs.Station.{WorkStation, IsSeated, StandsAt, MayPut}
 use Rattle.station_step.specs.Kept.{IsKept}
-use Rattle.station_step.specs.Step.{FiresAt, IsReady, IsDone, HasFired, IfBlocked, IsBlocked, IfFull, IsFull, Did, MovesApart}
+use Rattle.station_step.specs.Step.{FiresAt, IsReady, IsDone, HasFired, IfBlocked, IsBlocked, Did, MovesApart}
+use Rattle.station_step.proofs.Looked.{bare_station-looked, seated-looked, may_put-looked, stands-looked, ready-looked, kept-looked, blocked-looked, full-looked, did-looked, moves-looked}
 use Rattle.station_step.proofs.station.Station.step.Goals as goal
 use Rattle.station_step.proofs.station.Station.step.Goals.{Then-fire_at_once, Else-fire_at_once, After-step_by_hands}
 
@@ -47,83 +49,97 @@ pub returns-then-fire_at_once-clause-done : goal.returns-then-fire_at_once-claus
 returns-then-fire_at_once-clause-done c =
     (λ never. absurd never, (fires (goal.at.returns-then-fire_at_once-clause-done c).Then-fire_at_once).left)
 
--- ---- it did not, and nothing has changed
+-- ---- it did not: it has looked at its rings at most, and the shelf is as it was
 
 shelf_is : (c : Else-fire_at_once) → c.fire_at_once.new.shelf ≡ c.args.shelf.now
 shelf_is c = c.fire_at_once.ensures.shelf c.if-fire_at_once.false
 
-station_is : (c : Else-fire_at_once) → c.fire_at_once.new.self ≡ c.args.self.now
-station_is c = c.fire_at_once.ensures.station c.if-fire_at_once.false
+looked : (c : Else-fire_at_once) → HaveLooked c.args.self.now c.fire_at_once.new.self
+looked c = c.fire_at_once.ensures.looked c.if-fire_at_once.false
 
 pub step_by_hands-requires-clause-made_for : goal.step_by_hands-requires-clause-made_for
 step_by_hands-requires-clause-made_for c =
     let from = (goal.at.step_by_hands-requires-clause-made_for c).Else-fire_at_once in
-    c.requires.made_for ∙ sym (ap (λ (s : WorkStation). s.graph) (station_is from))
+    c.requires.made_for ∙ sym (ap (λ (s : WorkStation). s.graph) (looked from).rest)
 
 pub step_by_hands-requires-clause-turns : goal.step_by_hands-requires-clause-turns
 step_by_hands-requires-clause-turns c =
     let from = (goal.at.step_by_hands-requires-clause-turns c).Else-fire_at_once in
-    subst (λ (s : WorkStation). s.turns < 2 ^ 40) (sym (station_is from)) c.requires.turns
+    subst (λ (s : WorkStation). s.turns < 2 ^ 40) (sym (looked from).rest) c.requires.turns
 
 pub step_by_hands-requires-clause-seated : goal.step_by_hands-requires-clause-seated
 step_by_hands-requires-clause-seated c =
     let from = (goal.at.step_by_hands-requires-clause-seated c).Else-fire_at_once in
-    subst (λ (w : WorkShelf). IsSeated w.queues c.fire_at_once.new.self) (sym (shelf_is from)) (subst (λ (s : WorkStation). IsSeated c.args.shelf.now.queues s) (sym (station_is from)) c.requires.seated)
+    subst (λ (w : WorkShelf). IsSeated w.queues c.fire_at_once.new.self) (sym (shelf_is from))
+    (seated-looked c.args.shelf.now.queues c.args.self.now c.fire_at_once.new.self (looked from) c.requires.seated)
 
 pub step_by_hands-requires-clause-may_put : goal.step_by_hands-requires-clause-may_put
 step_by_hands-requires-clause-may_put c =
     let from = (goal.at.step_by_hands-requires-clause-may_put c).Else-fire_at_once in
-    subst (λ (w : WorkShelf). MayPut w.queues c.fire_at_once.new.self) (sym (shelf_is from)) (subst (λ (s : WorkStation). MayPut c.args.shelf.now.queues s) (sym (station_is from)) c.requires.may_put)
+    subst (λ (w : WorkShelf). MayPut w.queues c.fire_at_once.new.self) (sym (shelf_is from))
+    (may_put-looked c.args.shelf.now.queues c.args.self.now c.fire_at_once.new.self (looked from) c.requires.may_put)
 
 pub step_by_hands-requires-clause-stands : goal.step_by_hands-requires-clause-stands
 step_by_hands-requires-clause-stands c =
     let from = (goal.at.step_by_hands-requires-clause-stands c).Else-fire_at_once in
-    subst (λ (w : WorkShelf). StandsAt c.args.i w c.fire_at_once.new.self) (sym (shelf_is from)) (subst (λ (s : WorkStation). StandsAt c.args.i c.args.shelf.now s) (sym (station_is from)) c.requires.stands)
+    subst (λ (w : WorkShelf). StandsAt c.args.i w c.fire_at_once.new.self) (sym (shelf_is from))
+    (stands-looked c.args.i c.args.shelf.now c.args.self.now c.fire_at_once.new.self (looked from) c.requires.stands)
 
 pub returns-clause-turns : goal.returns-clause-turns
 returns-clause-turns c =
     let from = (goal.at.returns-clause-turns c).Else-fire_at_once in
-    c.step_by_hands.ensures.turns ∙ ap (λ (s : WorkStation). s.turns + 1) (station_is from)
+    c.step_by_hands.ensures.turns ∙ ap (λ (s : WorkStation). s.turns + 1) (looked from).rest
 
 pub returns-clause-same : goal.returns-clause-same
 returns-clause-same c =
     let from = (goal.at.returns-clause-same c).Else-fire_at_once in
-    c.step_by_hands.ensures.same ∙ ap bare_station (station_is from)
+    c.step_by_hands.ensures.same ∙ bare_station-looked c.args.self.now c.fire_at_once.new.self (looked from)
 
 pub returns-clause-done : goal.returns-clause-done
 returns-clause-done c =
     let from = (goal.at.returns-clause-done c).Else-fire_at_once in
-    subst (λ (s : WorkStation). IsDone c.step_by_hands.result ↔ (length s.log.dates ≡ jobs s.graph)) (station_is from) c.step_by_hands.ensures.done
+    subst (λ (s : WorkStation). IsDone c.step_by_hands.result ↔ (length s.log.dates ≡ jobs s.graph)) (looked from).rest c.step_by_hands.ensures.done
 
 pub returns-clause-blocked : goal.returns-clause-blocked
 returns-clause-blocked c =
     let from = (goal.at.returns-clause-blocked c).Else-fire_at_once in
-    subst (λ (w : WorkShelf). IfBlocked c.step_by_hands.result (IsBlocked w.queues c.args.self.now c.step_by_hands.new.self)) (shelf_is from) (subst (λ (s : WorkStation). IfBlocked c.step_by_hands.result (IsBlocked c.fire_at_once.new.shelf.queues s c.step_by_hands.new.self)) (station_is from) c.step_by_hands.ensures.blocked)
+    subst (λ (w : WorkShelf). IfBlocked c.step_by_hands.result (IsBlocked w.queues c.args.self.now c.step_by_hands.new.self)) (shelf_is from)
+    (blocked-looked c.step_by_hands.result c.fire_at_once.new.shelf.queues c.args.self.now c.fire_at_once.new.self c.step_by_hands.new.self (looked from) c.step_by_hands.ensures.blocked)
 
 pub returns-clause-full : goal.returns-clause-full
 returns-clause-full c =
     let from = (goal.at.returns-clause-full c).Else-fire_at_once in
-    subst (λ (s : WorkStation). IfFull c.step_by_hands.result (IsFull s c.step_by_hands.new.self)) (station_is from) c.step_by_hands.ensures.full
+    full-looked c.step_by_hands.result c.args.self.now c.fire_at_once.new.self c.step_by_hands.new.self (looked from) c.step_by_hands.ensures.full
 
 pub returns-clause-fires : goal.returns-clause-fires
 returns-clause-fires c =
     let from = (goal.at.returns-clause-fires c).Else-fire_at_once in
-    subst (λ (w : WorkShelf). IsReady w.queues c.args.self.now → HasFired c.step_by_hands.result) (shelf_is from) (subst (λ (s : WorkStation). IsReady c.fire_at_once.new.shelf.queues s → HasFired c.step_by_hands.result) (station_is from) c.step_by_hands.ensures.fires)
+    subst (λ (w : WorkShelf). IsReady w.queues c.args.self.now → HasFired c.step_by_hands.result) (shelf_is from)
+    (λ ready. c.step_by_hands.ensures.fires (ready-looked c.fire_at_once.new.shelf.queues c.args.self.now c.fire_at_once.new.self (looked from) ready))
+
+-- where the answer is that the station is done, it was done before, and so it has not looked
+stays : (c : After-step_by_hands) → IsDone c.step_by_hands.result → c.fire_at_once.new.self ≡ c.args.self.now
+stays c done =
+    c.fire_at_once.ensures.stays
+    (subst (λ (s : WorkStation). length s.log.dates ≡ jobs s.graph) (c.fire_at_once.ensures.looked c.if-fire_at_once.false).rest (c.step_by_hands.ensures.done.0 done))
 
 pub returns-clause-did : goal.returns-clause-did
 returns-clause-did c =
     let from = (goal.at.returns-clause-did c).Else-fire_at_once in
-    subst (λ (w : WorkShelf). Did c.step_by_hands.result w.queues c.step_by_hands.new.shelf.queues c.args.self.now c.step_by_hands.new.self) (shelf_is from) (subst (λ (s : WorkStation). Did c.step_by_hands.result c.fire_at_once.new.shelf.queues c.step_by_hands.new.shelf.queues s c.step_by_hands.new.self) (station_is from) c.step_by_hands.ensures.did)
+    subst (λ (w : WorkShelf). Did c.step_by_hands.result w.queues c.step_by_hands.new.shelf.queues c.args.self.now c.step_by_hands.new.self) (shelf_is from)
+    (did-looked c.step_by_hands.result c.fire_at_once.new.shelf.queues c.step_by_hands.new.shelf.queues c.args.self.now c.fire_at_once.new.self c.step_by_hands.new.self (looked from) (stays (goal.at.returns-clause-did c).After-step_by_hands) c.step_by_hands.ensures.did)
 
 pub returns-clause-kept : goal.returns-clause-kept
 returns-clause-kept c =
     let from = (goal.at.returns-clause-kept c).Else-fire_at_once in
-    subst (λ (w : WorkShelf). IsKept w.queues c.args.self.now → IsKept c.step_by_hands.new.shelf.queues c.step_by_hands.new.self) (shelf_is from) (subst (λ (s : WorkStation). IsKept c.fire_at_once.new.shelf.queues s → IsKept c.step_by_hands.new.shelf.queues c.step_by_hands.new.self) (station_is from) c.step_by_hands.ensures.kept)
+    subst (λ (w : WorkShelf). IsKept w.queues c.args.self.now → IsKept c.step_by_hands.new.shelf.queues c.step_by_hands.new.self) (shelf_is from)
+    (λ kept. c.step_by_hands.ensures.kept (kept-looked c.fire_at_once.new.shelf.queues c.args.self.now c.fire_at_once.new.self (looked from) kept))
 
 pub returns-clause-moves : goal.returns-clause-moves
 returns-clause-moves c =
     let from = (goal.at.returns-clause-moves c).Else-fire_at_once in
-    subst (λ (w : WorkShelf). MovesApart c.args.self.now w.queues c.step_by_hands.new.shelf.queues) (shelf_is from) (subst (λ (s : WorkStation). MovesApart s c.fire_at_once.new.shelf.queues c.step_by_hands.new.shelf.queues) (station_is from) c.step_by_hands.ensures.moves)
+    subst (λ (w : WorkShelf). MovesApart c.args.self.now w.queues c.step_by_hands.new.shelf.queues) (shelf_is from)
+    (moves-looked c.fire_at_once.new.shelf.queues c.step_by_hands.new.shelf.queues c.args.self.now c.fire_at_once.new.self (looked from) c.step_by_hands.ensures.moves)
 
 pub returns-clause-logs : goal.returns-clause-logs
 returns-clause-logs c =

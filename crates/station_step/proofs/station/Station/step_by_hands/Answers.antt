@@ -12,7 +12,7 @@ use Rattle.station_step.specs.Station.{WorkStation, IsStation, IsSeated, StandsA
 use Rattle.station_step.specs.Kept.{IsKept, date_for, saturating}
 use Rattle.station_step.specs.Step.{MovesItsOwn, MovesApart, IsReady, IsBlockedAt, IsFullAt, FiredOnce, OnlyRefilled, OnlyLooked}
 use Rattle.station_step.specs.Noted.{inputs_of, extras_of, outlets_of, delays_of, extras_into, worked_into}
-use Rattle.station_step.proofs.AtOnce.{readied-waits, readied-emptied}
+use Rattle.station_step.proofs.FrontsOf.{readied-waits, readied-emptied}
 use Rattle.station_step.specs.declared.input.Input.{Input}
 use Rattle.station_step.proofs.Dates.{delay-noted, date_for-is, latest-is}
 use Rattle.station_step.proofs.KeptStations.{kept-waits, kept-fires, IsFiring, fired_station, station-fires, seated-same, own-waits, own-fires, grows-waits, station-waits, grows-fires, moves-apart, moves-none, kept-alike, station-alike, bare-same, fired-once}
@@ -237,7 +237,7 @@ invariant_of-self-in-Empty c =
           refl
           refl
           c.self.invariant.noted;
-      readied = readied-waits s.graph.value s.number (inputs_of s.inputs.items) full s.fronts.items s.bounded s.direct s.at_once (as_many from) (bare_inputs from) c.self.invariant.readied;
+      readied = readied-waits s.graph.value s.number (inputs_of s.inputs.items) full s.fronts.items s.fixed s.bounded s.rings_in s.direct s.at_once (as_many from) (bare_inputs from) c.self.invariant.readied;
     }
 
 pub returns-in-Empty-clause-turns : goal.returns-in-Empty-clause-turns
@@ -508,7 +508,7 @@ invariant_of-self-in-Some c =
           c.look_all.ensures.delays
           c.look_all.ensures.same
           c.self.invariant.noted;
-      readied = readied-waits s.graph.value s.number (inputs_of s.inputs.items) full s.fronts.items s.bounded s.direct s.at_once count
+      readied = readied-waits s.graph.value s.number (inputs_of s.inputs.items) full s.fronts.items s.fixed s.bounded s.rings_in s.direct s.at_once count
           (c.refill.ensures.same ∙ ap (map bare_input) c.note_job.ensures.inputs)
           c.self.invariant.readied;
     }
@@ -702,7 +702,7 @@ invariant_of-self-2 c =
           (c.put_all.ensures.delays ∙ c.look_all.ensures.delays)
           (c.put_all.ensures.same ∙ c.look_all.ensures.same)
           c.self.invariant.noted;
-      readied = readied-emptied s.graph.value s.number (inputs_of s.inputs.items) (inputs_of c.empty_hands.new.inputs.items) s.fronts.items s.bounded s.direct s.at_once
+      readied = readied-emptied s.graph.value s.number (inputs_of s.inputs.items) (inputs_of c.empty_hands.new.inputs.items) s.fronts.items s.fixed s.bounded s.rings_in s.direct s.at_once
           (c.empty_hands.ensures.count ∙ full_count from)
           (c.empty_hands.ensures.same ∙ c.refill.ensures.same ∙ ap (map bare_input) c.note_job.ensures.inputs)
           (λ k low. c.empty_hands.ensures.hands k (omega (arith, low, c.empty_hands.ensures.count)))
