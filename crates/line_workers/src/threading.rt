@@ -1,6 +1,6 @@
 /// How many bursts go in turn after the first burst by threads that did not pay, as the first of a line hardly does: its
-/// memory is touched for the first time. After each further one they are twice as many.
-const FIRST_PAUSE: u32 = 4;
+/// memory is touched for the first time. After each further one they are four times as many.
+const FIRST_PAUSE: u32 = 16;
 
 /// How many they are at most.
 const LONGEST_PAUSE: u32 = 1024;
@@ -51,7 +51,7 @@ impl Threading {
             Some(looks) if looks < fired / FIRINGS_FOR_A_LOOK => self.pause = FIRST_PAUSE,
             Some(_) => {
                 self.in_turn = self.pause;
-                self.pause = self.pause.saturating_mul(2).min(LONGEST_PAUSE);
+                self.pause = self.pause.saturating_mul(4).min(LONGEST_PAUSE);
             }
         }
     }
