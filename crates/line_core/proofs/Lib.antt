@@ -8,6 +8,7 @@ pub mod Progress
 pub mod Existence
 pub mod LastFirings
 pub mod Runs
+pub mod ReachedTokens
 pub mod Searches
 pub mod FollowedLines
 pub mod RoundLemmas

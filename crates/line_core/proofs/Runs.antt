@@ -26,7 +26,7 @@ use Rattle.line_core.proofs.Bounds.{fired-le, reached_is_within}
 use Rattle.event_graph.proofs.Places.{circuit_keeps_number}
 use Rattle.line_core.proofs.Solution.{finished_is_least}
 use Rattle.event_graph.proofs.GreatestTerms.{greatest_of_terms}
-use Rattle.line_core.proofs.LastFirings.{state_of-logs, place-state_of}
+use Rattle.line_core.proofs.LastFirings.{state_of-logs}
 
 -- the state of a run's logs
 abbrev pub state_in : Parts → RoomyLogs → State
@@ -149,10 +149,6 @@ held_from g logs sound limits reached room = record {
 }
 
 -- ---- the tokens on an arc
-
-pub place-tokens : (g : Parts) (logs : RoomyLogs) (a : ℕ) → a < arc_count g → place (state_in g logs) a ≡ drop (length (get_or (dates_of logs) (arc g a).to [])) (tokens_of (arc g a).tokens (get_or (dates_of logs) (arc g a).from []) (delay g a))
-unfolding all_tokens
-place-tokens g logs a there = place-state_of g (dates_of logs) a there
 
 -- what is left of the tokens when more than those of the start were taken
 pub tokens-put : (initial delay taken : ℕ) (dates : List ℕ) → initial ≤ taken → map (λ date. date + delay) (take (length dates - (taken - initial)) (drop (taken - initial) dates)) ≡ drop taken (tokens_of initial dates delay)

@@ -1,6 +1,7 @@
 //! The pure machine of an event graph: one station fires after the other.
 #![tactic(auto)]
 
+mod as_state;
 mod dates;
 mod error;
 mod laws;
@@ -13,6 +14,7 @@ mod state;
 mod table;
 mod tokens;
 
+pub use as_state::{AsState, place_in};
 pub use error::{FireError, ReplayError, StateError};
 pub use laws::{
     circuits_keep_their_number, dates_stay_early, dead_stations_stay_idle,

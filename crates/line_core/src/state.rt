@@ -11,6 +11,7 @@ ghost use Rattle.line_core.specs.Parts.{LATEST_GIVEN, AreParts, run_with, IsStat
 ghost use Rattle.line_core.specs.Refusals.{Refuses, first_unfinished};
 ghost use Rattle.line_core.specs.Run.{run_of, first_run, fired_at, IsReached, IsLeastTable, IsRunWithRoom};
 
+use crate::as_state::{AsState, place_in};
 use crate::dates::{count_at, first_empty, first_unfinished, next_date, tokens_on};
 use crate::error::{FireError, StateError};
 use crate::parts::{check_marked, check_parts, with_room};
@@ -151,11 +152,7 @@ impl State {
         ensures tokens { result ≡ place self.now.state a }
         ensures reached { IsReached self.now }
     {
-        let graph = live.graph();
-        let arc = graph.arc(a);
-        let taken = count_at(&self.logs, graph, arc.to);
-        let dates = self.logs.get(arc.from).dates();
-        Tokens::after_takes(taken, arc.tokens as usize, dates, graph.delay(a))
+        place_in(self, live, a)
     }
 
     /// How many firings made the state.
@@ -258,5 +255,13 @@ impl State {
         ensures least { IsLeastTable result }
     {
         Table::of(live.graph(), self.logs)
+    }
+}
+
+impl AsState for State {
+    ghost run = { λ s. s };
+
+    fn log_of(&self, t: u32) -> &[Date] {
+        self.log(t)
     }
 }
