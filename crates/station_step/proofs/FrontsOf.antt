@@ -240,12 +240,8 @@ readied-stays g t before after fronts fixed bounded rings_in direct at_once coun
 }
 
 -- where an input knows of more, and its hand stays
-pub readied-met : (g : Parts) (t : ℕ) (before : List Input) (j : ℕ) (input : Input) (after : List Input) (fronts : List Front) (fixed bounded rings_in direct at_once : Bool) → after ≡ set before j input → j < length before → bare_input input ≡ bare_input (input_at before j) → input.hand ≡ (input_at before j).hand → IsReadied g t before fronts fixed bounded rings_in direct at_once → IsReadied g t after fronts fixed bounded rings_in direct at_once
-readied-met g t before j input after fronts fixed bounded rings_in direct at_once after_is low same hand is =
-    readied-stays g t before after fronts fixed bounded rings_in direct at_once
-    (ap length after_is ∙ length-set before j input)
-    (ap (map bare_input) after_is ∙ map-set_same bare_input before j input no_input same)
-    (λ k less.
+pub hands-met : (before : List Input) (j : ℕ) (input : Input) (after : List Input) → after ≡ set before j input → j < length before → input.hand ≡ (input_at before j).hand → (k : ℕ) → k < length before → (input_at after k).hand ≡ (input_at before k).hand
+hands-met before j input after after_is low hand k less =
     ap (λ (l : List Input). (input_at l k).hand) after_is
     ∙ ⊎_elim
     (λ (e : k ≡ j).
@@ -254,7 +250,14 @@ readied-met g t before j input after fronts fixed bounded rings_in direct at_onc
     ∙ hand
     ∙ ap (λ n. (input_at before n).hand) (sym e))
     (λ (ne : k ≢ j). ap (λ (i : Input). i.hand) (get_or-set_other before j k input no_input ne))
-    (cases_eq k j))
+    (cases_eq k j)
+
+pub readied-met : (g : Parts) (t : ℕ) (before : List Input) (j : ℕ) (input : Input) (after : List Input) (fronts : List Front) (fixed bounded rings_in direct at_once : Bool) → after ≡ set before j input → j < length before → bare_input input ≡ bare_input (input_at before j) → input.hand ≡ (input_at before j).hand → IsReadied g t before fronts fixed bounded rings_in direct at_once → IsReadied g t after fronts fixed bounded rings_in direct at_once
+readied-met g t before j input after fronts fixed bounded rings_in direct at_once after_is low same hand is =
+    readied-stays g t before after fronts fixed bounded rings_in direct at_once
+    (ap length after_is ∙ length-set before j input)
+    (ap (map bare_input) after_is ∙ map-set_same bare_input before j input no_input same)
+    (hands-met before j input after after_is low hand)
     is
 
 -- ---- what the inputs say of the fronts

@@ -15,4 +15,5 @@ pub mod FrontsOf
 pub mod FullHands
 pub mod Looked
 pub mod Posts
+pub mod WaitingStations
 pub mod StationSend

@@ -26,14 +26,14 @@ use Rattle.station_step.proofs.Posts.{stands-same}
 
 -- ---- one input that has looked
 
-bare-looked : (before after : Input) → HasLookedIn before after → bare_inlet after.inlet ≡ bare_inlet before.inlet
+pub bare-looked : (before after : Input) → HasLookedIn before after → bare_inlet after.inlet ≡ bare_inlet before.inlet
 bare-looked before after looked =
     sym (bare-unseen after.inlet) ∙ ap bare_inlet looked.same ∙ bare-unseen before.inlet
 
 queue-looked : (before after : Input) → HasLookedIn before after → inlet_queue after.inlet ≡ inlet_queue before.inlet
 queue-looked before after looked = inlet_queue-same before.inlet after.inlet (bare-looked before after looked)
 
-taken-looked : (shelf : List PlainQueue) (before after : Input) → HasLookedIn before after → inlet_taken shelf after.inlet ≡ inlet_taken shelf before.inlet
+pub taken-looked : (shelf : List PlainQueue) (before after : Input) → HasLookedIn before after → inlet_taken shelf after.inlet ≡ inlet_taken shelf before.inlet
 taken-looked shelf before after looked =
     sym (taken-unseen shelf after.inlet) ∙ ap (inlet_taken shelf) looked.same ∙ taken-unseen shelf before.inlet
 
@@ -52,7 +52,7 @@ ahead-more shelf (inlet.Room take) (inlet.Local r) same more = absurd (cc)
 ahead-more shelf (inlet.Local q) (inlet.Ring later) same more = absurd (cc)
 ahead-more shelf (inlet.Local q) (inlet.Room later) same more = absurd (cc)
 
-tokens-looked : (shelf : List PlainQueue) (before after : Input) → HasLookedIn before after → tokens_ahead shelf before ≤ tokens_ahead shelf after
+pub tokens-looked : (shelf : List PlainQueue) (before after : Input) → HasLookedIn before after → tokens_ahead shelf before ≤ tokens_ahead shelf after
 tokens-looked shelf before after looked =
     omega (
       arith,

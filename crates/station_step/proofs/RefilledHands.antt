@@ -137,12 +137,55 @@ first-full k None inputs input low full is = record {
   first = tt;
 }
 
+-- the last of the inputs below k whose hand is empty, where one is
+pub record IsLastEmpty (k : ℕ) (found : Option ℕ) (last : ℕ) (inputs : List Input) : Type 0 where
+  pub there : IfSome found (λ _. last < k)
+  pub empty : IfSome found (λ _. (input_at inputs last).hand ≡ None)
+  pub behind : (j : ℕ) → last < j → j < k → IsSome (input_at inputs j).hand
+
+pub last-none : (inputs : List Input) → IsLastEmpty 0 None 0 inputs
+last-none inputs = record { there = tt; empty = tt; behind = λ j more lt. absurd (omega (arith, lt)) }
+
+of_any : (Fact : Type 0) (found : Option ℕ) → Fact → IfSome found (λ _. Fact)
+of_any Fact None is = tt
+of_any Fact (Some i) is = is
+
+-- the next input has an empty hand: it is the last one now
+pub last-empty : (k : ℕ) (found : Option ℕ) (inputs : List Input) (input : Input) → k < length inputs → is_some input.hand ≡ false → IsLastEmpty (k + 1) found k (set inputs k input)
+last-empty k found inputs input low empty = record {
+  there = of_any (k < k + 1) found (omega arith);
+  empty = of_any ((input_at (set inputs k input) k).hand ≡ None) found
+      (ap (λ (l : Input). l.hand) (input_at-set inputs k input low) ∙ no_token input.hand empty);
+  behind = λ j more lt. absurd (omega (arith, more, lt));
+}
+
+-- the next input has a full hand
+behind-full : (k last : ℕ) (inputs : List Input) (input : Input) → k < length inputs → IsSome input.hand → ((j : ℕ) → last < j → j < k → IsSome (input_at inputs j).hand) → (j : ℕ) → j < k + 1 → last < j → IsSome (input_at (set inputs k input) j).hand
+behind-full k last inputs input low full behind =
+    below-set (record { inlet = Local 0; hand = None }) (λ (j : ℕ) (l : Input). last < j → IsSome l.hand) k inputs input low
+    (λ j lt more. behind j more lt)
+    (λ more. full)
+
+pub last-full : (k : ℕ) (found : Option ℕ) (last : ℕ) (inputs : List Input) (input : Input) → k < length inputs → IsSome input.hand → IsLastEmpty k found last inputs → IsLastEmpty (k + 1) found last (set inputs k input)
+last-full k None last inputs input low full is =
+    let full_behind = behind-full k last inputs input low full is.behind in record {
+      there = tt;
+      empty = tt;
+      behind = λ j more lt. full_behind j lt more;
+    }
+last-full k (Some i) last inputs input low full is =
+    let full_behind = behind-full k last inputs input low full is.behind in record {
+      there = omega (arith, is.there);
+      empty = ap (λ (l : Input). l.hand) (before-set inputs k last input is.there) ∙ is.empty;
+      behind = λ j more lt. full_behind j lt more;
+    }
+
 -- ---- what came of it, by the first hand that is empty
 
-pub full-where_none : (r : Refilled) (found : Option ℕ) (latest : ℕ) (holds : ℕ → Type 0) → r ≡ refill_result found latest → (found ≡ None → holds latest) → IfFull r holds
-full-where_none r None latest holds is full = subst (λ (a : Refilled). IfFull a holds) (sym is) (full refl)
-full-where_none r (Some k) latest holds is full = subst (λ (a : Refilled). IfFull a holds) (sym is) tt
+pub full-where_none : (r : Refilled) (found : Option ℕ) (last latest : ℕ) (holds : ℕ → Type 0) → r ≡ refill_result found last latest → (found ≡ None → holds latest) → IfFull r holds
+full-where_none r None last latest holds is full = subst (λ (a : Refilled). IfFull a holds) (sym is) (full refl)
+full-where_none r (Some k) last latest holds is full = subst (λ (a : Refilled). IfFull a holds) (sym is) tt
 
-pub empty-where_some : (r : Refilled) (found : Option ℕ) (latest : ℕ) (holds : ℕ → Type 0) → r ≡ refill_result found latest → ((k : ℕ) → found ≡ Some k → holds k) → IfEmpty r holds
-empty-where_some r None latest holds is empty = subst (λ (a : Refilled). IfEmpty a holds) (sym is) tt
-empty-where_some r (Some k) latest holds is empty = subst (λ (a : Refilled). IfEmpty a holds) (sym is) (empty k refl)
+pub empty-where_some : (r : Refilled) (found : Option ℕ) (last latest : ℕ) (holds : ℕ → ℕ → Type 0) → r ≡ refill_result found last latest → ((k : ℕ) → found ≡ Some k → holds k last) → IfEmpty r holds
+empty-where_some r None last latest holds is empty = subst (λ (a : Refilled). IfEmpty a holds) (sym is) tt
+empty-where_some r (Some k) last latest holds is empty = subst (λ (a : Refilled). IfEmpty a holds) (sym is) (empty k refl)

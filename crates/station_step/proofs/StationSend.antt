@@ -14,6 +14,8 @@ use Rattle.station_step.specs.contracts.noted.NotedInput as NotedInput
 use Rattle.station_step.specs.contracts.noted.NotedOutlet as NotedOutlet
 use Rattle.station_step.specs.contracts.station.Station as Station
 use Rattle.station_step.specs.contracts.station.Station.TheInside as StationInside
+use Rattle.station_step.specs.contracts.waits.EmptyHand as EmptyHand
+use Rattle.station_step.proofs.waits.EmptyHand.TheSendSync as HandSent
 use Rattle.station_step.proofs.fronts.Front.TheSendSync as FrontSent
 use Rattle.station_step.proofs.noted.NotedInput.TheSendSync as InputSent
 use Rattle.station_step.proofs.noted.NotedOutlet.TheSendSync as OutletSent
@@ -64,6 +66,9 @@ shelf_send =
       ),
     ))
 
+hand_send : IsSend EmptyHand.the_row
+hand_send = as_row_send EmptyHand.the_field HandSent.the_field_send
+
 station_fields : IsSend StationInside.the_row
 station_fields =
     declared_send StationInside.the_type (
@@ -81,22 +86,25 @@ station_fields =
                 (
                   search sendable,
                   (
-                    search sendable,
+                    search (sendable, hand_send) depth 20,
                     (
-                      Vec-send Front.the_row (as_row_send Front.the_field FrontSent.the_field_send),
+                      search sendable,
                       (
-                        Vec-send NotedInput.the_row (as_row_send NotedInput.the_field InputSent.the_field_send),
+                        Vec-send Front.the_row (as_row_send Front.the_field FrontSent.the_field_send),
                         (
-                          Vec-send NotedOutlet.the_row (as_row_send NotedOutlet.the_field OutletSent.the_field_send),
+                          Vec-send NotedInput.the_row (as_row_send NotedInput.the_field InputSent.the_field_send),
                           (
-                            search crosses,
+                            Vec-send NotedOutlet.the_row (as_row_send NotedOutlet.the_field OutletSent.the_field_send),
                             (
-                              search sendable,
+                              search crosses,
                               (
-                                search crosses,
+                                search sendable,
                                 (
                                   search crosses,
-                                  tt,
+                                  (
+                                    search crosses,
+                                    tt,
+                                  ),
                                 ),
                               ),
                             ),

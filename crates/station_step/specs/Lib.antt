@@ -10,3 +10,4 @@ pub mod RingInputs
 pub mod Fronts
 pub mod Refilled
 pub mod Step
+pub mod Waits

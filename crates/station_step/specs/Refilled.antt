@@ -6,20 +6,21 @@ use Rattle.station_step.specs.declared.refilled.Refilled.TheVariants.{Full, Empt
 use Rattle.station_step.specs.Input.{input_at}
 use Rattle.station_step.specs.Kept.{saturating}
 
--- what came of it, by the first hand that is empty, if one is, and the date that the tokens in the hands ask for
-abbrev pub refill_result : Option ℕ → ℕ → Refilled
-refill_result None latest = Full latest
-refill_result (Some k) latest = Empty k
+-- what came of it, by the first hand that is empty, if one is, the last such, and the date that the tokens in the hands
+-- ask for
+abbrev pub refill_result : Option ℕ → ℕ → ℕ → Refilled
+refill_result None last latest = Full latest
+refill_result (Some first) last latest = Empty first last
 
 -- where all hands are full, this holds of the date that their tokens ask for
 abbrev pub IfFull : Refilled → (ℕ → Type 0) → Type 0
 IfFull (Full date) holds = holds date
-IfFull (Empty k) holds = ⊤
+IfFull (Empty first last) holds = ⊤
 
--- where a hand is empty, this holds of its input
-abbrev pub IfEmpty : Refilled → (ℕ → Type 0) → Type 0
+-- where hands are empty, this holds of the first and the last of their inputs
+abbrev pub IfEmpty : Refilled → (ℕ → ℕ → Type 0) → Type 0
 IfEmpty (Full date) holds = ⊤
-IfEmpty (Empty k) holds = holds k
+IfEmpty (Empty first last) holds = holds first last
 
 -- what the token in the hand of input k asks of the date of a job that adds this to the token on each input
 abbrev pub hand_asks : List ℕ → List Input → ℕ → ℕ

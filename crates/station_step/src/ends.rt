@@ -59,6 +59,21 @@ impl Inlet {
         }
     }
 
+    /// Looks for a token, at the end of a ring or on the shelf. Tells whether one is there.
+    #[inline(always)]
+    pub(crate) fn has_token(&mut self, shelf: &Shelf) -> bool
+        requires { IfSome (inlet_queue self.old) (λ q. q < length shelf.now.queues) }
+        ensures same { unseen_inlet self.new ≡ unseen_inlet self.old }
+        ensures more { KnowsMore self.old self.new }
+        ensures there { IsTrue result ↔ (0 < inlet_ahead shelf.now.queues self.new) }
+    {
+        match self {
+            Inlet::Ring(take) => take.look() > 0,
+            Inlet::Room(take) => take.look() > 0,
+            Inlet::Local(k) => shelf.waiting(*k) > 0,
+        }
+    }
+
     /// Takes the token that is known at the end of a ring. Nothing is taken from a queue on the shelf.
     #[inline(always)]
     pub(crate) fn take_known(&mut self) -> Option<Date>

@@ -34,8 +34,8 @@ pub(crate) fn with_empty_hands(
 }
 
 /// Takes a token into each empty hand whose inlet gives one. Where all hands are full then, the answer is the greatest
-/// date that their tokens ask for, each with what is noted beside its input; else it is the first input whose hand
-/// stays empty.
+/// date that their tokens ask for, each with what is noted beside its input; else it is the first and the last input
+/// whose hand stays empty.
 #[inline(always)]
 pub(crate) fn refill(inputs: &mut Vec<NotedInput>, shelf: &mut Shelf) -> Refilled
     requires within { TakeWithin (length shelf.old.queues) (inputs_of inputs.old.items) }
@@ -57,21 +57,26 @@ pub(crate) fn refill(inputs: &mut Vec<NotedInput>, shelf: &mut Shelf) -> Refille
     ensures date { IfFull result (λ date. date ≡
         greatest (hand_asks (extras_of inputs.new.items) (inputs_of inputs.new.items))
         (range_with_len 0 (length (inputs_of inputs.new.items)))) }
-    ensures there { IfEmpty result (λ k. k < length (inputs_of inputs.new.items)) }
-    ensures empty { IfEmpty result (λ k. (input_at (inputs_of inputs.new.items) k).hand ≡ None) }
-    ensures first { IfEmpty result (λ k. (j : ℕ) → j < k →
+    ensures there { IfEmpty result (λ first _. first < length (inputs_of inputs.new.items)) }
+    ensures empty { IfEmpty result (λ first _. (input_at (inputs_of inputs.new.items) first).hand ≡ None) }
+    ensures first { IfEmpty result (λ first _. (j : ℕ) → j < first →
+        IsSome (input_at (inputs_of inputs.new.items) j).hand) }
+    ensures last_there { IfEmpty result (λ _ last. last < length (inputs_of inputs.new.items)) }
+    ensures last_empty { IfEmpty result (λ _ last. (input_at (inputs_of inputs.new.items) last).hand ≡ None) }
+    ensures last { IfEmpty result (λ _ last. (j : ℕ) → last < j → j < length (inputs_of inputs.new.items) →
         IsSome (input_at (inputs_of inputs.new.items) j).hand) }
 {
     let mut first = None;
-    let mut latest = 0;
+    let (mut last, mut latest) = (0, 0);
     for (k, noted) in inputs.iter_mut().enumerate() {
         noted.input.refill(shelf);
         if noted.input.hand.is_none() {
             first = first.or(Some(k));
+            last = k;
         }
         latest = latest.max(noted.input.hand.unwrap_or(0).saturating_add(noted.extra));
     }
-    Refilled::of(first, latest)
+    Refilled::of(first, last, latest)
 }
 
 /// Takes the tokens out of all hands.

@@ -17,6 +17,7 @@ mod station;
 mod stepped;
 mod tally;
 mod threads;
+mod waits;
 
 pub use ends::{Inlet, Outlet};
 pub use shelf::Shelf;

@@ -100,6 +100,7 @@ impl Shelf {
     }
 
     /// How many tokens of queue `k` wait to be taken.
+    #[inline]
     pub fn waiting(&self, k: u32) -> u32
         requires { k < length self.now.queues }
         ensures { result ≡ length (plain_waiting (queue_at self.now.queues k)) }

@@ -1,4 +1,4 @@
-ghost use Rattle.std.specs.Prelude.{◌≡◌, ℕ, ◌+◌, ◌-◌, ◌<◌, ◌≤◌, ◌^◌, ◌↔◌, List, [], All, false, length, slice_set, IfOk, IsTrue};
+ghost use Rattle.std.specs.Prelude.{◌≡◌, ℕ, ◌+◌, ◌-◌, ◌<◌, ◌≤◌, ◌^◌, ◌↔◌, List, [], All, false, length, slice_set, IfOk, IfSome, IfNone, IsTrue};
 ghost use Rattle.card_queue.specs.Plain.{PlainQueue};
 ghost use Rattle.event_graph.specs.Network.{stations, jobs, ins, outs};
 ghost use Rattle.station_step.specs.Ends.{IsUntaken, IsUnfilled, HasRingRoom, unseen_inlet, unseen_outlet, AreEnds, AreMet, KnowsMore, HasMoreSpace};
@@ -7,6 +7,7 @@ ghost use Rattle.station_step.specs.Kept.{IsKept, IsFresh};
 ghost use Rattle.station_step.specs.RingInputs.{HaveLooked};
 ghost use Rattle.station_step.specs.Station.{WorkStation, IsStation, IsSeated, StandsAt, MayPut, outlet_at, bare_station, new_station, with_inlet, with_outlet};
 ghost use Rattle.station_step.specs.Step.{IsReady, IsDone, HasFired, IfBlocked, IsBlocked, IfFull, IsFull, Did, FiresAt, MovesApart};
+ghost use Rattle.station_step.specs.Waits.{StaysBlocked};
 
 use crate::ends::{Inlet, Outlet, meet_ends};
 use crate::fronts::{Front, fronts_of, is_direct};
@@ -19,6 +20,7 @@ use crate::refilled::Refilled;
 use crate::ring_inputs::{has_rings, look_rings, take_rings};
 use crate::shelf::Shelf;
 use crate::stepped::Stepped;
+use crate::waits::{EmptyHand, only_empty};
 use event_graph::Graph;
 use line_base::{Date, Log};
 use live_check::Live;
@@ -44,6 +46,8 @@ pub struct Station {
     // Whether it fires at once where it can, and whether it may do so now, as all of its hands are empty.
     direct: bool,
     at_once: bool,
+    // The one hand that stayed empty at its last step, where all others were full then.
+    waits_for: Option<EmptyHand>,
     turns: u64,
     fronts: Vec<Front>,
     // Beside each input stands what the time of the job adds to its token, and beside each outlet the delay of its arc.
@@ -61,6 +65,7 @@ impl Model for Station {
     ghost use Rattle.station_step.specs.Fronts.{IsReadied};
     ghost use Rattle.station_step.specs.Noted.{IsNoted, inputs_of, seen_station};
     ghost use Rattle.station_step.specs.Station.{WorkStation, IsStation};
+    ghost use Rattle.station_step.specs.Waits.{IsWaiting};
 
     ghost Value = { WorkStation };
 
@@ -73,6 +78,7 @@ impl Model for Station {
           s.bounded s.rings;
       readied : IsReadied s.graph.value s.number (inputs_of s.inputs.items) s.fronts.items s.fixed
           s.bounded s.rings_in s.direct s.at_once;
+      waiting : IsWaiting s.graph.value s.number (inputs_of s.inputs.items) s.log.value s.at_once s.waits_for;
     } };
 }
 
@@ -121,6 +127,7 @@ impl Station {
             rings_in,
             direct,
             at_once: direct,
+            waits_for: None,
             turns: 0,
             fronts,
             inputs,
@@ -143,7 +150,8 @@ impl Station {
     ///
     /// The station is number `i` of its worker, on whose shelf its log stands.
     ///
-    /// It takes no memory, and goes over its inputs at most five times and over its outputs at most twice.
+    /// It takes no memory, and goes over its inputs at most five times and over its outputs at most twice. Where one hand
+    /// alone stayed empty at the last step and no token has come there, it looks at that input alone.
     ///
     /// Source of the rule: Baccelli, Cohen, Olsder and Quadrat, Synchronization and Linearity, on event graphs.
     #[inline(always)]
@@ -170,6 +178,9 @@ impl Station {
     {
         if self.fire_at_once(live, shelf, i) {
             return Stepped::Fired;
+        }
+        if let Some(arc) = self.stay_blocked(shelf) {
+            return Stepped::Blocked(arc);
         }
         self.step_by_hands(live, shelf, i)
     }
@@ -207,6 +218,26 @@ impl Station {
         self.turns += 1;
         self.log = Snapshot::of(shelf.log(i));
         true
+    }
+
+    /// Looks for a token at the one input whose hand is empty, where all others are full. Where none is there, that is
+    /// a step, and the answer is the arc. Else it has looked there at most.
+    #[inline(always)]
+    fn stay_blocked(&mut self, shelf: &Shelf) -> Option<u32>
+        requires turns { self.old.turns < 2 ^ 40 }
+        requires seated { IsSeated shelf.now.queues self.old }
+        ensures blocked { IfSome result (StaysBlocked shelf.now.queues self.old self.new) }
+        ensures looked { IfNone result (HaveLooked self.old self.new) }
+        ensures stays { length self.old.log.dates ≡ jobs self.old.graph → self.new ≡ self.old }
+    {
+        let Some(hand) = self.waits_for else {
+            return None;
+        };
+        if self.inputs[hand.input].input.inlet.has_token(shelf) {
+            return None;
+        }
+        self.turns += 1;
+        Some(hand.arc)
     }
 
     /// Makes one step as `step` does, with the tokens in the hands.
@@ -251,8 +282,13 @@ impl Station {
         );
         let latest = match refill(&mut self.inputs, shelf) {
             Refilled::Full(latest) => latest,
-            Refilled::Empty(k) => return Stepped::Blocked(graph.ins(self.number)[k]),
+            Refilled::Empty(first, last) => {
+                let arc = graph.ins(self.number)[first];
+                self.waits_for = only_empty(first, last, arc);
+                return Stepped::Blocked(arc);
+            }
         };
+        self.waits_for = None;
         if let Some(k) = look_all(self.bounded, &mut self.outlets) {
             return Stepped::Full(graph.outs(self.number)[k]);
         }

@@ -158,6 +158,7 @@ impl Tally {
     }
 
     /// How many tokens of the queue wait.
+    #[inline]
     pub(crate) fn waiting(&self, logs: &[Log]) -> usize
         requires there { self.now.source.station < length logs.now }
         requires made_there { self.now.made ≤ length (dates_for logs.now self.now) }

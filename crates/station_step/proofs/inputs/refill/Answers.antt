@@ -13,7 +13,7 @@ use Rattle.station_step.specs.Noted.{inputs_of, extras_of}
 use Rattle.station_step.specs.Refilled.{hand_asks}
 use Rattle.station_step.proofs.Dates.{latest-none, latest-more}
 use Rattle.station_step.proofs.NotedExtras.{no_input, input-at, extra-at, inputs-count, inputs-set, extras-stay}
-use Rattle.station_step.proofs.RefilledHands.{RefilledUpTo, IsFirstEmpty, refilled_none, refilled_more, first-none, first-empty, first-full, full-where_none, empty-where_some}
+use Rattle.station_step.proofs.RefilledHands.{RefilledUpTo, IsFirstEmpty, IsLastEmpty, refilled_none, refilled_more, first-none, first-empty, first-full, last-none, last-empty, last-full, full-where_none, empty-where_some}
 use Rattle.station_step.proofs.Turns.{walked, walked-is}
 use Rattle.station_step.proofs.inputs.refill.Goals.{then-is_none, else-is_none, After-loop-k}
 use Rattle.station_step.proofs.inputs.refill.Goals as goal
@@ -30,6 +30,7 @@ loop-k-init c =
       sources = refl;
       refilled = subst (λ (l : List NotedInput). RefilledUpTo 0 shelf shelf before (inputs_of l)) (sym all) (refilled_none shelf before);
       found = first-none (inputs_of items);
+      last = last-none (inputs_of items);
       date = latest-none (hand_asks (extras_of items) (inputs_of items));
     }
 
@@ -93,6 +94,17 @@ loop-k-preserved c =
                 subst (λ (found : Option ℕ). IsFirstEmpty (k + 1) found (set inputs k input)) (sym w.first-is)
                 (first-full k c.loop-k.first inputs input low w.if-is_none.ensures was.found)
           ]);
+      last =
+          subst (IsLastEmpty (k + 1) c.if-is_none.first c.if-is_none.last) changed
+          (elim c.if-is_none.branch [
+            | then-is_none w ↦
+                subst (λ (last : ℕ). IsLastEmpty (k + 1) c.if-is_none.first last (set inputs k input)) (sym w.last-is)
+                (last-empty k c.if-is_none.first inputs input low w.if-is_none.ensures)
+            | else-is_none w ↦
+                subst (λ (found : Option ℕ). IsLastEmpty (k + 1) found c.if-is_none.last (set inputs k input)) (sym w.first-is)
+                (subst (λ (last : ℕ). IsLastEmpty (k + 1) c.loop-k.first last (set inputs k input)) (sym w.last-is)
+                (last-full k c.loop-k.first c.loop-k.last inputs input low w.if-is_none.ensures was.last))
+          ]);
       date =
           c.max-latest.ensures
           ∙ latest-more extras k inputs input c.loop-k.latest c.saturating_add.result low was.date asks
@@ -120,6 +132,11 @@ found : (c : After-loop-k) (answer : Option ℕ) → c.loop-k.first ≡ answer �
 found c answer is =
     subst (λ (l : List NotedInput). IsFirstEmpty c.loop-k.k answer (inputs_of l)) (sym (left-is c))
     (subst (λ (first : Option ℕ). IsFirstEmpty c.loop-k.k first (inputs_of c.loop-k.noted-items)) is c.loop-k.invariant.found)
+
+found_last : (c : After-loop-k) (answer : Option ℕ) → c.loop-k.first ≡ answer → IsLastEmpty c.loop-k.k answer c.loop-k.last (inputs_of (left c))
+found_last c answer is =
+    subst (λ (l : List NotedInput). IsLastEmpty c.loop-k.k answer c.loop-k.last (inputs_of l)) (sym (left-is c))
+    (subst (λ (first : Option ℕ). IsLastEmpty c.loop-k.k first c.loop-k.last (inputs_of c.loop-k.noted-items)) is c.loop-k.invariant.last)
 
 pub returns-clause-only_takes : goal.returns-clause-only_takes
 returns-clause-only_takes c = c.loop-k.invariant.refilled.only_takes
@@ -155,7 +172,7 @@ pub returns-clause-full : goal.returns-clause-full
 returns-clause-full c =
     let from = (goal.at.returns-clause-full c).After-loop-k in
     let inputs = inputs_of (left from) in
-    full-where_none c.of.result c.loop-k.first c.loop-k.latest (λ _. (k : ℕ) → k < length inputs → IsSome (input_at inputs k).hand) c.of.ensures
+    full-where_none c.of.result c.loop-k.first c.loop-k.last c.loop-k.latest (λ _. (k : ℕ) → k < length inputs → IsSome (input_at inputs k).hand) c.of.ensures
     (λ none k low. (found from None none).none k (omega (arith, low, all from, (refilled from).count)))
 
 pub returns-clause-date : goal.returns-clause-date
@@ -167,7 +184,7 @@ returns-clause-date c =
     ∙ ap (λ (l : List NotedInput). greatest (hand_asks (extras_of l) (inputs_of l)) (range_with_len 0 c.loop-k.k)) (sym (left-is from))
     ∙ ap (λ m. greatest (hand_asks (extras_of (left from)) (inputs_of (left from))) (range_with_len 0 m)) is in
     let many = length (inputs_of (left from)) in
-    full-where_none c.of.result c.loop-k.first c.loop-k.latest (λ date. date ≡ greatest (hand_asks (extras_of (left from)) (inputs_of (left from))) (range_with_len 0 many)) c.of.ensures
+    full-where_none c.of.result c.loop-k.first c.loop-k.last c.loop-k.latest (λ date. date ≡ greatest (hand_asks (extras_of (left from)) (inputs_of (left from))) (range_with_len 0 many)) c.of.ensures
     (λ _. latest many (all from ∙ sym (refilled from).count))
 
 -- ---- a hand stays empty
@@ -175,17 +192,36 @@ returns-clause-date c =
 pub returns-clause-there : goal.returns-clause-there
 returns-clause-there c =
     let from = (goal.at.returns-clause-there c).After-loop-k in
-    empty-where_some c.of.result c.loop-k.first c.loop-k.latest (λ k. k < length (inputs_of (left from))) c.of.ensures
+    empty-where_some c.of.result c.loop-k.first c.loop-k.last c.loop-k.latest (λ k _. k < length (inputs_of (left from))) c.of.ensures
     (λ k some. omega (arith, (found from (Some k) some).there, all from, (refilled from).count))
 
 pub returns-clause-empty : goal.returns-clause-empty
 returns-clause-empty c =
     let from = (goal.at.returns-clause-empty c).After-loop-k in
-    empty-where_some c.of.result c.loop-k.first c.loop-k.latest (λ k. (input_at (inputs_of (left from)) k).hand ≡ None) c.of.ensures
+    empty-where_some c.of.result c.loop-k.first c.loop-k.last c.loop-k.latest (λ k _. (input_at (inputs_of (left from)) k).hand ≡ None) c.of.ensures
     (λ k some. (found from (Some k) some).empty)
 
 pub returns-clause-first : goal.returns-clause-first
 returns-clause-first c =
     let from = (goal.at.returns-clause-first c).After-loop-k in
-    empty-where_some c.of.result c.loop-k.first c.loop-k.latest (λ k. (j : ℕ) → j < k → IsSome (input_at (inputs_of (left from)) j).hand) c.of.ensures
+    empty-where_some c.of.result c.loop-k.first c.loop-k.last c.loop-k.latest (λ k _. (j : ℕ) → j < k → IsSome (input_at (inputs_of (left from)) j).hand) c.of.ensures
     (λ k some. (found from (Some k) some).first)
+
+pub returns-clause-last_there : goal.returns-clause-last_there
+returns-clause-last_there c =
+    let from = (goal.at.returns-clause-last_there c).After-loop-k in
+    empty-where_some c.of.result c.loop-k.first c.loop-k.last c.loop-k.latest (λ _ last. last < length (inputs_of (left from))) c.of.ensures
+    (λ k some. omega (arith, (found_last from (Some k) some).there, all from, (refilled from).count))
+
+pub returns-clause-last_empty : goal.returns-clause-last_empty
+returns-clause-last_empty c =
+    let from = (goal.at.returns-clause-last_empty c).After-loop-k in
+    empty-where_some c.of.result c.loop-k.first c.loop-k.last c.loop-k.latest (λ _ last. (input_at (inputs_of (left from)) last).hand ≡ None) c.of.ensures
+    (λ k some. (found_last from (Some k) some).empty)
+
+pub returns-clause-last : goal.returns-clause-last
+returns-clause-last c =
+    let from = (goal.at.returns-clause-last c).After-loop-k in
+    empty-where_some c.of.result c.loop-k.first c.loop-k.last c.loop-k.latest (λ _ last. (j : ℕ) → last < j → j < length (inputs_of (left from)) → IsSome (input_at (inputs_of (left from)) j).hand) c.of.ensures
+    (λ k some j more low.
+    (found_last from (Some k) some).behind j more (omega (arith, low, all from, (refilled from).count)))

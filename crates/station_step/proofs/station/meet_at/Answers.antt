@@ -1,5 +1,6 @@
 use Rattle.std.proofs.Common.{subst, sym, ◌∙◌, ap, ◌≡◌, ◌<◌, List, length, set, map, get_or, arith, refl}
 use Rattle.std.specs.Prelude.{None}
+use Rattle.std.proofs.lemmas.List.{length-set}
 use Rattle.station_step.specs.declared.ends.Inlet.{Inlet}
 use Rattle.station_step.specs.declared.ends.Outlet.{Outlet}
 use Rattle.station_step.specs.declared.input.Input.{Input}
@@ -15,7 +16,8 @@ use Rattle.station_step.proofs.KeptStations.{bare-met, kept-met, met_station, st
 use Rattle.station_step.proofs.OutletLooks.{at-set, bare-set, noted-same}
 use Rattle.station_step.proofs.NotedExtras.{no_input, no_outlet, input-lent, outlet-lent, input-at, outlet-at, inputs-count, outlets-count, inputs-set, outlets-set, extras-stay, delays-stay}
 use Rattle.station_step.proofs.RefilledHands.{input_at-set}
-use Rattle.station_step.proofs.FrontsOf.{readied-met}
+use Rattle.station_step.proofs.FrontsOf.{hands-met, readied-met}
+use Rattle.station_step.proofs.WaitingStations.{waiting-stays}
 use Rattle.station_step.proofs.OwnQueues.{bare-unseen}
 use Rattle.station_step.proofs.station.meet_at.Goals as goal
 
@@ -125,6 +127,7 @@ invariant_of-from c =
           (ap (map bare_outlet) (met_outlets_are c) ∙ bare-set (outlets c) c.args.k c.meet_ends.new.outlet (same_but_seen c))
           c.from.invariant.noted;
       readied = c.from.invariant.readied;
+      waiting = c.from.invariant.waiting;
     }
 
 pub invariant_of-to : goal.invariant_of-to
@@ -142,6 +145,10 @@ invariant_of-to c =
           (ap (λ (i : Inlet). (let m : Input = record { inlet = i; hand = None } in m)) (sym (bare-unseen c.meet_ends.new.inlet) ∙ ap bare_inlet (same_but_known c) ∙ bare-unseen (input_at (inputs c) c.args.j).inlet))
           (ap (λ (i : Input). i.hand) (at c))
           c.to.invariant.readied;
+      waiting = waiting-stays s.graph.value s.number (inputs c) (inputs_of (met_inputs c)) s.log.value s.at_once s.waits_for
+          (ap length (met_inputs_are c) ∙ length-set (inputs c) c.args.j (met_input c))
+          (hands-met (inputs c) c.args.j (met_input c) (inputs_of (met_inputs c)) (met_inputs_are c) (there c) (ap (λ (i : Input). i.hand) (at c)))
+          c.to.invariant.waiting;
     }
 
 pub returns-clause-from : goal.returns-clause-from

@@ -13,9 +13,11 @@ use Rattle.station_step.specs.Kept.{IsKept, date_for, saturating}
 use Rattle.station_step.specs.Step.{MovesItsOwn, FiredOnce, FiresAt}
 use Rattle.station_step.specs.Noted.{IsNoted, inputs_of, extras_of, outlets_of, delays_of, extras_into, delays_into}
 use Rattle.station_step.specs.RingInputs.{HaveLooked, ring_asks}
+use Rattle.station_step.specs.Waits.{IsWaiting}
 use Rattle.station_step.specs.Fronts.{front_asks, AreFronts, IsDirect, IsReadied, AreEmptyHanded}
 use Rattle.station_step.proofs.FrontsOf.{fronts-none, fronts-within, fronts-apart, fronts-later, readied-stays, any-ring-same}
 use Rattle.station_step.proofs.Looked.{bare_inputs-looked}
+use Rattle.station_step.proofs.WaitingStations.{waiting-at_once}
 use Rattle.station_step.proofs.FullHands.{TookAtOnce, took-at_once, filled, filled-count, filled-inlet, filled-full, each-filled, latest-filled, ring_asks-looked}
 use Rattle.station_step.specs.declared.input.Input.{Input}
 use Rattle.station_step.proofs.Dates.{delay-noted, date_for-inside, latest-is, greatest-agree}
@@ -99,15 +101,20 @@ readied_looked c =
     readied-stays s.graph.value s.number (inputs_of s.inputs.items) (looked c) s.fronts.items s.fixed s.bounded s.rings_in s.direct s.at_once c.look_rings.ensures.count (bare_looked c)
     (λ k low. (c.look_rings.ensures.looked k low).hand) c.self.invariant.readied
 
+waiting_looked : (c : After-look_rings) → IsWaiting c.self.inside.graph.value c.self.inside.number (looked c) c.self.inside.log.value c.self.inside.at_once c.self.inside.waits_for
+waiting_looked c =
+    let s = c.self.inside in
+    waiting-at_once s.graph.value s.number (inputs_of s.inputs.items) (looked c) s.log.value s.log.value s.at_once s.waits_for c.if-not-self.false c.self.invariant.waiting
+
 pub invariant_of-self : goal.invariant_of-self
 invariant_of-self c =
     let from = (goal.at.invariant_of-self c).After-look_rings in
-    record { station = station_looked from; noted = noted_looked from; readied = readied_looked from }
+    record { station = station_looked from; noted = noted_looked from; readied = readied_looked from; waiting = waiting_looked from }
 
 pub invariant_of-self-in_default : goal.invariant_of-self-in_default
 invariant_of-self-in_default c =
     let from = (goal.at.invariant_of-self-in_default c).After-look_rings in
-    record { station = station_looked from; noted = noted_looked from; readied = readied_looked from }
+    record { station = station_looked from; noted = noted_looked from; readied = readied_looked from; waiting = waiting_looked from }
 
 -- ---- the fronts and the rings
 
@@ -348,6 +355,7 @@ invariant_of-self-2 c =
       readied = readied-stays s.graph.value s.number (inputs_of s.inputs.items) (given from) s.fronts.items s.fixed s.bounded s.rings_in s.direct s.at_once (given_count from) (bare_given from)
           (λ k low. hands_given from k low ∙ sym (hands_of from k low))
           c.self.invariant.readied;
+      waiting = waiting-at_once s.graph.value s.number (inputs_of s.inputs.items) (given from) s.log.value c.of.result.value s.at_once s.waits_for c.if-not-self.false c.self.invariant.waiting;
     }
 
 -- all that it does where it fires

@@ -163,6 +163,7 @@ invariant_of-result c =
     } in record {
       readied = subst (λ (h : Parts). IsReadied h t (inputs_of inputs) c.in_ok-fronts.fronts.items (not c.varies-fixed.result) c.kinds_of-bounded.result.0 c.has_rings-rings_in.result d d) (sym c.of-2.ensures) readied;
       station = is_station c;
+      waiting = record { hand = tt; left = tt; by_hands = tt };
       noted = subst (λ (h : Parts). IsNoted h t inputs outlets (not c.varies-fixed.result) c.in_ok-worked.worked.items c.kinds_of-bounded.result.0 c.kinds_of-bounded.result.1) (sym c.of-2.ensures) noted;
     }
 

@@ -1,6 +1,6 @@
 use Rattle.std.proofs.Common.{subst, ◌∙◌, sym, ap, ◌≡◌, ◌≢◌, ◌+◌, ◌-◌, ◌<◌, ◌≤◌, ◌++◌, ◌∷◌, [], ℕ, List, arith, refl, length, map, set, slice_index, get_or-set_same}
 use Rattle.std.proofs.lemmas.List.{length-set, set-get_or}
-use Rattle.std.specs.Prelude.{Option, IfNone, unwrap_or}
+use Rattle.std.specs.Prelude.{false, Option, IfNone, unwrap_or}
 use Rattle.line_base.specs.declared.event.Parts.{Parts}
 use Rattle.line_base.specs.Roomy.{RoomyLog, with_date}
 use Rattle.event_graph.specs.Network.{stations, jobs, delay, ins, outs}
@@ -13,6 +13,7 @@ use Rattle.station_step.specs.Kept.{IsKept, date_for, saturating}
 use Rattle.station_step.specs.Step.{MovesItsOwn, MovesApart, IsReady, IsBlockedAt, IsFullAt, FiredOnce, OnlyRefilled, OnlyLooked}
 use Rattle.station_step.specs.Noted.{inputs_of, extras_of, outlets_of, delays_of, extras_into, worked_into}
 use Rattle.station_step.proofs.FrontsOf.{readied-waits, readied-emptied}
+use Rattle.station_step.proofs.WaitingStations.{waiting-none, waiting-refilled}
 use Rattle.station_step.specs.declared.input.Input.{Input}
 use Rattle.station_step.proofs.Dates.{delay-noted, date_for-is, latest-is}
 use Rattle.station_step.proofs.KeptStations.{kept-waits, kept-fires, IsFiring, fired_station, station-fires, seated-same, own-waits, own-fires, grows-waits, station-waits, grows-fires, moves-apart, moves-none, kept-alike, station-alike, bare-same, fired-once}
@@ -113,6 +114,7 @@ invariant_of-self c =
       station = station-waits s s.inputs (s.turns + 1) refl c.self.invariant.station;
       noted = c.self.invariant.noted;
       readied = c.self.invariant.readied;
+      waiting = c.self.invariant.waiting;
     }
 
 pub returns-then-done-jobs-clause-turns : goal.returns-then-done-jobs-clause-turns
@@ -220,9 +222,9 @@ hands_filled c =
 pub ins-requires : goal.ins-requires
 ins-requires c = exists_there (goal.at.ins-requires c).After-dates
 
-pub bounds-ins-k : goal.bounds-ins-k
-bounds-ins-k c =
-    let from = goal.at.bounds-ins-k c in
+pub bounds-ins-first : goal.bounds-ins-first
+bounds-ins-first c =
+    let from = goal.at.bounds-ins-first c in
     let arcs = c.ins.ensures.arcs ∙ ap (λ (g : Parts). ins g c.self.inside.number) (graph_is from.After-dates) in
     omega (arith, c.in-Empty.ensures.there, as_many from.After-refill, c.self.invariant.station.an_input_each, ap length arcs)
 
@@ -238,6 +240,11 @@ invariant_of-self-in-Empty c =
           refl
           c.self.invariant.noted;
       readied = readied-waits s.graph.value s.number (inputs_of s.inputs.items) full s.fronts.items s.fixed s.bounded s.rings_in s.direct s.at_once (as_many from) (bare_inputs from) c.self.invariant.readied;
+      waiting = waiting-refilled s.graph.value s.number full s.log.value c.in-Empty.first c.in-Empty.last (slice_index c.ins.result.now c.in-Empty.first) c.only_empty-self-inside.result
+          c.only_empty-self-inside.ensures c.in-Empty.ensures.there
+          (ap (λ (l : List ℕ). slice_index l c.in-Empty.first) (sym (c.ins.ensures.arcs ∙ ap (λ (g : Parts). ins g s.number) (graph_is (goal.at.invariant_of-self-in-Empty c).After-dates))))
+          c.in-Empty.ensures.empty c.in-Empty.ensures.first c.in-Empty.ensures.last
+          (dates_left (goal.at.invariant_of-self-in-Empty c).Else-done-jobs);
     }
 
 pub returns-in-Empty-clause-turns : goal.returns-in-Empty-clause-turns
@@ -267,7 +274,7 @@ returns-in-Empty-clause-blocked c =
     let full = inputs_of c.refill.new.inputs.items in
     let after : WorkStation = record s { inputs = full; turns = s.turns + 1 } in
     let from = goal.at.returns-in-Empty-clause-blocked c in
-    let k = c.in-Empty.k in
+    let k = c.in-Empty.first in
     let arc = slice_index c.ins.result.now k in
     let below : k < length s.inputs = omega (arith, c.in-Empty.ensures.there, as_many from.After-refill) in
     let filled = hands_filled from.After-refill k below in
@@ -511,6 +518,7 @@ invariant_of-self-in-Some c =
       readied = readied-waits s.graph.value s.number (inputs_of s.inputs.items) full s.fronts.items s.fixed s.bounded s.rings_in s.direct s.at_once count
           (c.refill.ensures.same ∙ ap (map bare_input) c.note_job.ensures.inputs)
           c.self.invariant.readied;
+      waiting = waiting-none s.graph.value s.number full s.log.value false;
     }
 
 -- ---- the station fires by its hands
@@ -707,6 +715,7 @@ invariant_of-self-2 c =
           (c.empty_hands.ensures.same ∙ c.refill.ensures.same ∙ ap (map bare_input) c.note_job.ensures.inputs)
           (λ k low. c.empty_hands.ensures.hands k (omega (arith, low, c.empty_hands.ensures.count)))
           c.self.invariant.readied;
+      waiting = waiting-none s.graph.value s.number (inputs_of c.empty_hands.new.inputs.items) c.of.result.value s.direct;
     }
 
 pub returns-clause-turns : goal.returns-clause-turns
