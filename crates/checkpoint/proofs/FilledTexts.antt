@@ -52,17 +52,25 @@ filled-lines format g logs places a_log a_place =
     no_dates Differences = refl
 
 -- the parts of a written text
-pub text_written : (g : Parts) (logs places : List (List ℕ)) (delays stations_ places_ : List ℕ) → length logs ≡ stations g → length places ≡ arc_count g → delays ≡ lines_text Differences (head_lines Differences g) [] → stations_ ≡ delays ++ lines_text Differences (station_lines g) logs → places_ ≡ stations_ ++ lines_text Differences (place_lines g) places → places_ ++ codes "end\n" ≡ lines_text Differences (lines Differences g) (logs ++ places)
-text_written g logs places delays stations_ places_ a_log a_place head is_stations is_places =
+pub text_written : (g : Parts) (logs places : List (List ℕ)) (head stations_ whole : List ℕ) → length logs ≡ stations g → length places ≡ arc_count g → head ≡ lines_text Differences (head_lines Differences g) [] → stations_ ≡ head ++ lines_text Differences (station_lines g) logs → whole ≡ stations_ ++ (lines_text Differences (place_lines g) places ++ codes "end\n") → whole ≡ lines_text Differences (lines Differences g) (logs ++ places)
+text_written g logs places head stations_ whole a_log a_place is_head is_stations is_whole =
     let head_text = lines_text Differences (head_lines Differences g) [] in
     let station_text = lines_text Differences (station_lines g) logs in
-    let place_text = lines_text Differences (place_lines g) places in
-    ap (λ l. l ++ codes "end\n") (is_places ∙ ap (λ l. l ++ place_text) (is_stations ∙ ap (λ l. l ++ station_text) head))
-    ∙ append_assoc (head_text ++ station_text) place_text (codes "end\n")
-    ∙ append_assoc head_text station_text (place_text ++ codes "end\n")
+    let rest = lines_text Differences (place_lines g) places ++ codes "end\n" in
+    is_whole
+    ∙ ap (λ l. l ++ rest) (is_stations ∙ ap (λ l. l ++ station_text) is_head)
+    ∙ append_assoc head_text station_text rest
     ∙ sym (filled-lines Differences g logs places a_log a_place)
 
 -- the first lines, written
-pub head_written : (g : Parts) (titled delays : List ℕ) → titled ≡ codes "pull-checkpoint 2\n" → delays ≡ titled ++ delays_line g → delays ≡ lines_text Differences (head_lines Differences g) []
+pub head_written : (g : Parts) (start titled delays : List ℕ) → titled ≡ start ++ codes "pull-checkpoint 2\n" → delays ≡ titled ++ delays_line g → delays ≡ start ++ lines_text Differences (head_lines Differences g) []
 unfolding lines_text
-head_written g titled delays title is = is ∙ ap (λ l. l ++ delays_line g) title ∙ ap (λ l. codes "pull-checkpoint 2\n" ++ l) (sym (append-nil (delays_line g)))
+head_written g start titled delays title is =
+    is
+    ∙ ap (λ l. l ++ delays_line g) title
+    ∙ append_assoc start (codes "pull-checkpoint 2\n") (delays_line g)
+    ∙ ap (λ l. start ++ (codes "pull-checkpoint 2\n" ++ l)) (sym (append-nil (delays_line g)))
+
+-- the lines of the arcs, and the end
+pub rest_written : (start lines_ tail : List ℕ) → lines_ ≡ start ++ tail → lines_ ++ codes "end\n" ≡ start ++ (tail ++ codes "end\n")
+rest_written start lines_ tail is = ap (λ l. l ++ codes "end\n") is ∙ append_assoc start tail (codes "end\n")

@@ -1,5 +1,6 @@
 mod Examples
 pub mod WrittenTexts
+pub mod KeptWords
 pub mod FilledTexts
 pub mod WordBytes
 pub mod ReadDates

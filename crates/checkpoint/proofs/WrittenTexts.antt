@@ -26,11 +26,6 @@ pub word-later : (before date : ℕ) → before ≤ date → date_word Differenc
 word-later before date late =
     ap (λ b. cond b (codes "-" ++ decimal (before - date)) (decimal (date - before))) (le-ltb date before late)
 
--- the words of all dates
-pub words_from-all : (dates : List ℕ) → words_from dates 0 ≡ date_words Differences 0 dates
-unfolding words_from
-words_from-all dates = refl
-
 -- no date is left
 pub words_from-none : (dates : List ℕ) (k : ℕ) → length dates ≤ k → words_from dates k ≡ []
 unfolding words_from date_words

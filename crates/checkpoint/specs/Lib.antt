@@ -6,3 +6,4 @@ pub mod Answers
 pub mod Refusals
 pub mod Length
 pub mod Laws
+pub mod Kept

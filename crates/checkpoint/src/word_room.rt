@@ -1,6 +1,6 @@
 //! The room in which the words of dates are written, from the last to the first, before they go to a text.
 ghost use Rattle.std.specs.Prelude.{◌≡◌, ◌+◌, ◌<◌, ◌≤◌, ◌∷◌, ◌++◌, length, drop, decimal, IfOk};
-ghost use Rattle.checkpoint.specs.Text.{date_word, date_words};
+ghost use Rattle.checkpoint.specs.Text.{date_word};
 ghost use Rattle.checkpoint.specs.Writing.{date_before, words_from};
 ghost use Rattle.checkpoint.specs.declared.format.Format.TheVariants.{Differences};
 
@@ -83,14 +83,19 @@ fn write_words(room: &mut [u8], dates: &[Date], from: usize, to: usize) -> usize
     at
 }
 
-/// Writes the words of dates at the end of a text, as many at once as the room takes.
-fn put_by_room(text: &mut Vec<u8>, room: &mut [u8], dates: &[Date]) -> Result<(), AllocError>
-    requires { length room.old ≡ ROOM }
-    ensures { IfOk result
-        (λ _. text.new.items ≡ text.old.items ++ date_words Differences 0 dates.now) }
+/// Writes the words of the dates from number `first` on at the end of a text, as many at once as the room takes.
+fn put_by_room(
+    text: &mut Vec<u8>,
+    room: &mut [u8],
+    dates: &[Date],
+    first: usize,
+) -> Result<(), AllocError>
+    requires room { length room.old ≡ ROOM }
+    requires within { first ≤ length dates.now }
+    ensures { IfOk result (λ _. text.new.items ≡ text.old.items ++ words_from dates.now first) }
 {
     let count = dates.len();
-    let mut from = 0;
+    let mut from = first;
     while from < count {
         let to = from + (count - from).min(MAX_DATES);
         let start = write_words(room, dates, from, to);
@@ -100,11 +105,12 @@ fn put_by_room(text: &mut Vec<u8>, room: &mut [u8], dates: &[Date]) -> Result<()
     Ok(())
 }
 
-/// Writes the words of dates at the end of a text, with a space before each.
-pub fn put_words(text: &mut Vec<u8>, dates: &[Date]) -> Result<(), AllocError>
-    ensures { IfOk result
-        (λ _. text.new.items ≡ text.old.items ++ date_words Differences 0 dates.now) }
+/// Writes the words of the dates from number `first` on at the end of a text, with a space before each. The word of
+/// the first of them follows the date in front of it.
+pub fn put_words(text: &mut Vec<u8>, dates: &[Date], first: usize) -> Result<(), AllocError>
+    requires { first ≤ length dates.now }
+    ensures { IfOk result (λ _. text.new.items ≡ text.old.items ++ words_from dates.now first) }
 {
     let mut room = [0; ROOM];
-    put_by_room(text, &mut room, dates)
+    put_by_room(text, &mut room, dates, first)
 }

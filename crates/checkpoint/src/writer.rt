@@ -1,5 +1,5 @@
-ghost use Rattle.std.specs.Prelude.{◌≡◌, ◌≢◌, true, false, ◌++◌, ◌<◌, [], length, decimal, IfOk};
-ghost use Rattle.checkpoint.specs.Text.{dates_text, delayed_arcs, delays_line, two_words, station_lines, place_lines, place_words, lines_text, text};
+ghost use Rattle.std.specs.Prelude.{◌≡◌, ◌≢◌, true, false, ◌++◌, ◌<◌, ◌≤◌, [], codes, length, take, decimal, IfOk};
+ghost use Rattle.checkpoint.specs.Text.{date_words, dates_text, delayed_arcs, delays_line, head_lines, two_words, station_words, station_lines, place_lines, place_words, lines_text, text};
 ghost use Rattle.checkpoint.specs.declared.format.Format.TheVariants.{Differences};
 ghost use Rattle.event_graph.specs.Network.{stations, arc_count};
 ghost use Rattle.event_graph.specs.State.{place};
@@ -9,7 +9,7 @@ use crate::word_room::put_words;
 use event_graph::Graph;
 use itoa::Buffer;
 use line_base::Date;
-use line_core::{State, Tokens};
+use line_core::{AsState, Tokens, place_in};
 use live_check::Live;
 use std::alloc::{AllocError, Global};
 
@@ -33,14 +33,31 @@ fn put_numbered(text: &mut Vec<u8>, words: &[u8], number: u64) -> Result<(), All
     put_number(text, number)
 }
 
+/// Writes how many dates there are, the dates, and the end of the line. The first dates, this many, have their words in
+/// `words` already.
+pub fn put_log_behind(
+    text: &mut Vec<u8>,
+    words: &[u8],
+    count: usize,
+    dates: &[Date],
+) -> Result<(), AllocError>
+    requires few { count ≤ length dates.now }
+    requires words { words.now ≡ date_words Differences 0 (take count dates.now) }
+    ensures { IfOk result
+        (λ _. text.new.items ≡ text.old.items ++ dates_text Differences dates.now) }
+{
+    put_number(text, dates.len() as u64)?;
+    text.extend_from_slice(words)?;
+    put_words(text, dates, count)?;
+    text.extend_from_slice(b"\n")
+}
+
 /// Writes how many dates there are, the dates, and the end of the line.
 fn put_log(text: &mut Vec<u8>, dates: &[Date]) -> Result<(), AllocError>
     ensures { IfOk result
         (λ _. text.new.items ≡ text.old.items ++ dates_text Differences dates.now) }
 {
-    put_number(text, dates.len() as u64)?;
-    put_words(text, dates)?;
-    text.extend_from_slice(b"\n")
+    put_log_behind(text, b"", 0, dates)
 }
 
 /// Puts the dates of tokens into a list, in place of those that were there.
@@ -106,80 +123,113 @@ fn put_delay(text: &mut Vec<u8>, a: u32, delay: u64) -> Result<(), AllocError>
     put_numbered(text, b" ", delay)
 }
 
+/// Writes the first lines: the number of the format, and the delays of the arcs.
+pub fn put_head(text: &mut Vec<u8>, graph: &Graph) -> Result<(), AllocError>
+    ensures { IfOk result
+        (λ _. text.new.items ≡ text.old.items
+        ++ lines_text Differences (head_lines Differences graph.now) []) }
+{
+    text.extend_from_slice(b"pull-checkpoint 2\n")?;
+    put_delays(text, graph)
+}
+
+/// Writes the words with which the line of station `t` begins.
+pub fn put_station(text: &mut Vec<u8>, graph: &Graph, t: u32) -> Result<(), AllocError>
+    requires { t < stations graph.now }
+    ensures { IfOk result (λ _. text.new.items ≡ text.old.items ++ station_words graph.now t) }
+{
+    text.extend_from_slice(b"station ")?;
+    text.extend_from_slice(graph.label(t))?;
+    text.extend_from_slice(b" ")
+}
+
 /// Writes a line for each station: its label, and its log.
-fn put_stations(text: &mut Vec<u8>, graph: &Graph, state: &State) -> Result<(), AllocError>
-    requires { state.now.graph ≡ graph.now }
-    ensures { IfOk result (λ _. text.new.items
-        ≡ text.old.items ++ lines_text Differences (station_lines graph.now) state.now.state.logs) }
+fn put_stations<S: AsState>(text: &mut Vec<u8>, graph: &Graph, state: &S) -> Result<(), AllocError>
+    requires { (S.run state.now).graph ≡ graph.now }
+    ensures { IfOk result (λ _. text.new.items ≡ text.old.items
+        ++ lines_text Differences (station_lines graph.now) (S.run state.now).state.logs) }
 {
     for t in 0..graph.stations() {
-        text.extend_from_slice(b"station ")?;
-        text.extend_from_slice(graph.label(t))?;
-        text.extend_from_slice(b" ")?;
-        put_log(text, state.log(t))?;
+        put_station(text, graph, t)?;
+        put_log(text, state.log_of(t))?;
     }
     Ok(())
 }
 
 /// Writes the line of arc `a`: its number, and its place. The dates are gathered in a list first.
-fn put_place(
+fn put_place<S: AsState>(
     text: &mut Vec<u8>,
     dates: &mut Vec<Date>,
     live: &Live,
-    state: &State,
+    state: &S,
     a: u32,
 ) -> Result<(), AllocError>
-    requires made_for { live.now.graph ≡ state.now.graph }
-    requires arc { a < arc_count state.now.graph }
-    ensures { IfOk result
-        (λ _. text.new.items
-        ≡ text.old.items ++ (place_words a ++ dates_text Differences (place state.now.state a))) }
+    requires made_for { live.now.graph ≡ (S.run state.now).graph }
+    requires arc { a < arc_count (S.run state.now).graph }
+    ensures { IfOk result (λ _. text.new.items ≡ text.old.items
+        ++ (place_words a ++ dates_text Differences (place (S.run state.now).state a))) }
 {
     put_numbered(text, b"place ", u64::from(a))?;
     text.extend_from_slice(b" ")?;
-    put_tokens(text, dates, state.place(live, a))
+    put_tokens(text, dates, place_in(state, live, a))
 }
 
-/// Writes a line for each arc.
-fn put_places(
+/// Writes a line for each arc. The dates of a place are gathered in a list first.
+fn put_places<S: AsState>(
     text: &mut Vec<u8>,
-    alloc: Global,
+    dates: &mut Vec<Date>,
     live: &Live,
-    state: &State,
+    state: &S,
 ) -> Result<(), AllocError>
-    requires { live.now.graph ≡ state.now.graph }
-    ensures { IfOk result (λ _. text.new.items
-        ≡ text.old.items
-        ++ lines_text Differences (place_lines live.now.graph) state.now.state.places) }
+    requires { live.now.graph ≡ (S.run state.now).graph }
+    ensures { IfOk result (λ _. text.new.items ≡ text.old.items
+        ++ lines_text Differences (place_lines live.now.graph) (S.run state.now).state.places) }
 {
-    let mut dates = Vec::new(alloc);
     for a in 0..live.graph().arcs().len() as u32 {
-        put_place(text, &mut dates, live, state, a)?;
+        put_place(text, dates, live, state, a)?;
     }
     Ok(())
 }
 
-/// About how many digits the differences of a log's dates have: each as many as the mean one.
-fn likely_digits(dates: &[Date]) -> usize {
+/// Writes a line for each arc, and the end. The dates of a place are gathered in a list first.
+pub fn put_rest<S: AsState>(
+    text: &mut Vec<u8>,
+    dates: &mut Vec<Date>,
+    live: &Live,
+    state: &S,
+) -> Result<(), AllocError>
+    requires { live.now.graph ≡ (S.run state.now).graph }
+    ensures { IfOk result (λ _. text.new.items ≡ text.old.items
+        ++ (lines_text Differences (place_lines live.now.graph) (S.run state.now).state.places
+        ++ codes "end\n")) }
+{
+    put_places(text, dates, live, state)?;
+    text.extend_from_slice(b"end\n")
+}
+
+/// About how many bytes the words of this many dates take where they go on as these: for each date the space, as many
+/// digits as the mean difference has, and one more.
+pub fn likely_words(dates: &[Date], count: usize) -> usize {
     let last = dates.last().copied().unwrap_or(0);
     let mean = last / (dates.len() as u64).max(1);
     let mut digits = Buffer::new();
-    digits.format(mean).len().saturating_mul(dates.len())
+    digits
+        .format(mean)
+        .len()
+        .saturating_add(2)
+        .saturating_mul(count)
 }
 
-/// About how many bytes the text of a state takes, so that it is seldom moved as it grows. For each date that is the
-/// space, its digits, and one more.
-fn likely_size(graph: &Graph, state: &State) -> usize
-    requires { state.now.graph ≡ graph.now }
-    ensures reached { IsReached state.now }
+/// About how many bytes the text of a state takes, so that it is seldom moved as it grows.
+pub fn likely_size<S: AsState>(graph: &Graph, state: &S) -> usize
+    requires { (S.run state.now).graph ≡ graph.now }
+    ensures reached { IsReached (S.run state.now) }
 {
     let lines = graph.arcs().len().saturating_add(graph.stations() as usize);
-    let dates = state.fired() as usize;
-    let mut size = lines
-        .saturating_mul(LIKELY_LINE)
-        .saturating_add(dates.saturating_mul(2));
+    let mut size = lines.saturating_mul(LIKELY_LINE);
     for t in 0..graph.stations() {
-        size = size.saturating_add(likely_digits(state.log(t)));
+        let dates = state.log_of(t);
+        size = size.saturating_add(likely_words(dates, dates.len()));
     }
     size
 }
@@ -187,17 +237,15 @@ fn likely_size(graph: &Graph, state: &State) -> usize
 /// The text of a state in format 2: the number of the format, the delays of the arcs, the log of each station, the
 /// place of each arc, and the end, each on lines of their own. A date that follows another one stands as its difference
 /// from that one.
-pub fn write_state(alloc: Global, live: &Live, state: &State) -> Result<Vec<u8>, AllocError>
-    requires made_for { live.now.graph ≡ state.now.graph }
+pub fn write_state<S: AsState>(alloc: Global, live: &Live, state: &S) -> Result<Vec<u8>, AllocError>
+    requires made_for { live.now.graph ≡ (S.run state.now).graph }
     ensures text { IfOk result
-        (λ bytes. bytes.items ≡ text Differences state.now.graph state.now.state) }
+        (λ bytes. bytes.items ≡ text Differences (S.run state.now).graph (S.run state.now).state) }
 {
     let graph = live.graph();
     let mut text = Vec::with_capacity(alloc, likely_size(graph, state))?;
-    text.extend_from_slice(b"pull-checkpoint 2\n")?;
-    put_delays(&mut text, graph)?;
+    put_head(&mut text, graph)?;
     put_stations(&mut text, graph, state)?;
-    put_places(&mut text, alloc, live, state)?;
-    text.extend_from_slice(b"end\n")?;
+    put_rest(&mut text, &mut Vec::new(alloc), live, state)?;
     Ok(text)
 }

@@ -1,6 +1,6 @@
 use Rattle.std.proofs.Common.{◌+◌, ◌-◌, ◌≤◌, ◌++◌, drop, length, refl, sym, ap, ◌∙◌, append_assoc, append-nil, take_all, length-drop, arith}
 use Rattle.checkpoint.specs.Writing.{words_from}
-use Rattle.checkpoint.proofs.WrittenTexts.{words_from-all, words_from-none}
+use Rattle.checkpoint.proofs.WrittenTexts.{words_from-none}
 use Rattle.checkpoint.proofs.word_room.put_by_room.Goals as goal
 
 pub loop-from-init : goal.loop-from-init
@@ -37,4 +37,3 @@ returns c =
     sym (append-nil loop.text.items)
     ∙ ap (λ l. loop.text.items ++ l) (sym (words_from-none dates loop.from past))
     ∙ loop.invariant.written
-    ∙ ap (λ l. c.args.text.now.items ++ l) (words_from-all dates)

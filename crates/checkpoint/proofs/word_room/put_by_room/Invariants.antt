@@ -7,7 +7,7 @@ abbrev pub invariant-loop-from : goal.invariant-loop-from
 invariant-loop-from l = record {
   size : length l.room ≡ length l.fn.room;
   within : l.from ≤ l.count;
-  written : l.text.items ++ words_from l.dates l.from ≡ l.initial.text.items ++ words_from l.dates 0;
+  written : l.text.items ++ words_from l.dates l.from ≡ l.initial.text.items ++ words_from l.dates l.first;
 }
 
 abbrev pub decreases-loop-from : goal.decreases-loop-from
