@@ -13,6 +13,12 @@ use std::thread::Promise;
 /// How many turns a station makes at most before its worker stops sweeping.
 const MAX_TURNS: u64 = 1 << 39;
 
+/// After how many sweeps in a row in which nothing was fired a worker lets another thread run.
+///
+/// A call to the system takes longer than a sweep of blocked stations, so it is not made after each of them. With more
+/// workers than processors one that waits must still give way soon: the one that it waits for may have no processor.
+const IDLE_SWEEPS: u32 = 64;
+
 /// What the thread of a worker gives back: that very worker, after some sweeps.
 #[derive(Drop)]
 pub(crate) struct AfterSweeps(pub(crate) Snapshot<Worker>);
@@ -31,16 +37,34 @@ fn may_sweep(worker: &Worker, turns: u64) -> bool
     !worker.is_done() && turns < MAX_TURNS
 }
 
-/// Lets another thread run after a sweep in which nothing was fired. With more workers than processors one that has
-/// something to fire may then go on instead.
-fn yield_if_idle(fired: u64) {
-    if fired == 0 {
-        thread::yield_now();
+/// How many sweeps a worker has made in a row in which nothing was fired, since it last let another thread run.
+#[derive(Drop)]
+struct Idle {
+    sweeps: u32,
+}
+
+impl Idle {
+    /// Of a worker that has made no sweep.
+    fn new() -> Idle {
+        Idle { sweeps: 0 }
+    }
+
+    /// Counts a sweep in which this many stations fired. After the last of so many idle ones it lets another thread run.
+    fn count(&mut self, fired: u64) {
+        if fired > 0 {
+            self.sweeps = 0;
+            return;
+        }
+        self.sweeps = self.sweeps.saturating_add(1);
+        if self.sweeps >= IDLE_SWEEPS {
+            thread::yield_now();
+            self.sweeps = 0;
+        }
     }
 }
 
 /// Lets a worker sweep until it is done, the stop word is set, or a station has made as many turns as
-/// it may. An idle sweep is followed by another: the worker never parks, but lets another thread run.
+/// it may. An idle sweep is followed by another: the worker never parks, but now and then lets another thread run.
 /// Each sweep gives every station one turn, so it looks once how many were made, and then counts.
 pub(crate) fn sweep_on<G: Gate>(worker: Worker, live: &Live, gate: &G, stop: &AtomicBool) -> Worker
     requires { IsWorkerFor live.now worker }
@@ -48,8 +72,9 @@ pub(crate) fn sweep_on<G: Gate>(worker: Worker, live: &Live, gate: &G, stop: &At
 {
     let mut worker = worker;
     let mut turns = worker.turns();
+    let mut idle = Idle::new();
     while !stop.load(Ordering::SeqCst) && may_sweep(&worker, turns) {
-        yield_if_idle(worker.sweep(live, gate));
+        idle.count(worker.sweep(live, gate));
         turns += 1;
     }
     worker
