@@ -10,7 +10,7 @@ ghost use Rattle.station_step.specs.Input.{input_at};
 ghost use Rattle.station_step.specs.Station.{outlet_at};
 
 use crate::clearing::clear_stations;
-use line_base::Log;
+use line_base::{Date, Log};
 use station_step::{Shelf, Station, meet_at};
 use std::marker::Model;
 
@@ -45,6 +45,14 @@ impl Team {
         ensures { result.now.items ≡ map log_of self.now.stations }
     {
         self.shelf.logs()
+    }
+
+    /// The log of station `i`: its dates, in the order of the jobs.
+    pub(crate) fn log(&self, i: u32) -> &[Date]
+        requires { i < length self.now.stations }
+        ensures { result.now ≡ (member self.now.stations i).log.dates }
+    {
+        self.shelf.log(i).dates()
     }
 
     /// Gives up the logs of the stations. It takes no memory.

@@ -22,7 +22,7 @@ use crate::logs::{copy_logs, give_logs};
 use crate::order::order_of;
 use crate::owner::first_of;
 use crate::team::{Team, clear_team, meet_teams};
-use line_base::Logs;
+use line_base::{Date, Logs};
 use line_core::State;
 use live_check::Live;
 use station_step::Stepped;
@@ -252,6 +252,15 @@ impl Worker {
         ensures { IsWorker self.now }
     {
         self.alloc
+    }
+
+    /// The log of station `i` of the worker, counted from 0: its dates, in the order of the jobs. It takes no memory.
+    pub fn log(&self, i: u32) -> &[Date]
+        requires { i < length self.now.team.stations }
+        ensures log { result.now ≡ (log_of (member self.now.team.stations i)).dates }
+        ensures worker { IsWorker self.now }
+    {
+        self.team.log(i)
     }
 
     /// Gives up the logs of the worker's stations, in the list that the worker has for them. It takes no memory.
