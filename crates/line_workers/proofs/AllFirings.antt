@@ -66,3 +66,6 @@ module _ (room : Option ℕ) (live : LiveGraph) (state : State) (worker_count : 
 
   pub new_all : (all : ℕ) → all ≡ stations live.graph * jobs live.graph → all ≡ stations (graph_of workers) * jobs (graph_of workers)
   new_all all is = is ∙ ap (λ (v : LiveGraph). stations v.graph * jobs v.graph) (sym stands.live_is)
+
+  pub new_station_count : (count : ℕ) → count ≡ stations live.graph → count ≡ stations (graph_of workers)
+  new_station_count count is = is ∙ ap (λ (v : LiveGraph). stations v.graph) (sym stands.live_is)

@@ -5,6 +5,7 @@ pub mod AllWorkers
 pub mod AllBurst
 pub mod LineBurst
 pub mod Lines
+pub mod StationLogs
 pub mod AllFirings
 pub mod LogsGiven
 pub mod TurnsCleared

@@ -129,7 +129,7 @@ module _ (workers : List LineWorker) (are : AreWorkers workers) where
   pub target-of : (w : ℕ) → w < length workers → (worker_at workers w).target ≡ jobs (graph_of workers)
   target-of w low = (are.each w low).target ∙ ap jobs (graph-same workers are w low)
 
-  log-of : (t : ℕ) → t < stations (graph_of workers) → log (state_among (graph_of workers) (teams_of workers)) t ≡ (station_of (graph_of workers) (teams_of workers) t).log.dates
+  pub log-of : (t : ℕ) → t < stations (graph_of workers) → log (state_among (graph_of workers) (teams_of workers)) t ≡ (station_of (graph_of workers) (teams_of workers) t).log.dates
   log-of = log-among (graph_of workers) (begun_of workers) (teams_of workers) (ranked workers are).sound (ranked workers are).limits.some_station (workers_are_teams workers are)
 
   pub done_is_finished : ((w : ℕ) → w < length workers → AllDone (worker_at workers w).target (worker_at workers w).team) → IsFinished (graph_of workers) (state_among (graph_of workers) (teams_of workers))

@@ -17,12 +17,16 @@ use Rattle.line_worker.specs.Worker.{LineWorker}
 use Rattle.line_worker.specs.Meeting.{OutletMet, InletMet}
 use Rattle.line_worker.specs.Workers.{worker_at, IsSameWorker}
 
--- the worker of station t, and the station's number in the team
-abbrev pub seat_of : Parts → ℕ → ℕ → Seat
-seat_of g worker_count t = record {
-  worker_number = worker_of worker_count (stations g) t;
-  number = t - first_of worker_count (stations g) (worker_of worker_count (stations g) t);
+-- the worker of station t, one of this many with stations up to a number, and the station's number in the team
+abbrev pub seat_among : ℕ → ℕ → ℕ → Seat
+seat_among worker_count stations t = record {
+  worker_number = worker_of worker_count stations t;
+  number = t - first_of worker_count stations (worker_of worker_count stations t);
 }
+
+-- that of a graph's station
+abbrev pub seat_of : Parts → ℕ → ℕ → Seat
+seat_of g worker_count t = seat_among worker_count (stations g) t
 
 -- where the two ends of arc a stand
 abbrev pub link_of : Parts → ℕ → ℕ → Link

@@ -17,10 +17,11 @@ ghost use Rattle.line_worker.specs.Work.{TurnsBelow};
 ghost use Rattle.line_worker.specs.Sweeps.{most_sweeps};
 
 use crate::closing::{copies_of, logs_of};
-use crate::link::{Links, links_of};
+use crate::link::{Links, links_of, seat_of};
 use crate::threading::Threading;
 use crate::workers::{Counts, burst_of, gather_workers};
-use line_core::State;
+use line_base::Date;
+use line_core::{AsState, State};
 use line_setup::{Start, workers_of};
 use line_worker::{Gate, Worker};
 use live_check::Live;
@@ -38,9 +39,10 @@ pub struct Line {
     workers: Vec<Worker>,
     // How many firings had been made when the turns of the stations began to count. Contracts alone read it.
     made: u64,
-    // How many firings and steps the stations have made, and how many firings there are in all.
+    // How many firings and steps the stations have made, and how many firings and stations there are in all.
     counts: Counts,
     all: u64,
+    station_count: u32,
     // The arcs between two workers.
     links: Links,
     // Whether the next burst goes by threads.
@@ -64,6 +66,7 @@ impl Model for Line {
       rest : AreAtRest l.workers.items l.made;
       counts : AreCounts l.counts l.workers.items;
       all : l.all ≡ stations (graph_of l.workers.items) * jobs (graph_of l.workers.items);
+      station_count : l.station_count ≡ stations (graph_of l.workers.items);
       links : AreLinks (graph_of l.workers.items) (length l.workers.items) l.links;
     } };
 }
@@ -118,6 +121,7 @@ impl Line {
             made,
             counts,
             all: firings_of(live),
+            station_count: live.graph().stations(),
             links: Links::Listed(links),
             threading: Threading::new(),
         })
@@ -198,6 +202,16 @@ impl Line {
         ensures line { IsLine self.now }
     {
         self.counts.fired == self.all
+    }
+
+    /// The log of station `t`: its dates, in the order of the jobs. It takes no memory.
+    pub fn log(&self, t: u32) -> &[Date]
+        requires { t < stations self.now.live.graph }
+        ensures log { result.now ≡ log self.now.state t }
+        ensures line { IsLine self.now }
+    {
+        let seat = seat_of(self.workers.len() as u32, self.station_count, t);
+        self.workers[seat.worker_number].log(seat.number)
     }
 
     /// Lets each worker go over its stations 16 times, or fewer where all of them are done before, and then lets the
@@ -302,8 +316,17 @@ impl Line {
             made,
             counts,
             all: firings_of(live),
+            station_count: live.graph().stations(),
             links: Links::Unlisted,
             threading: Threading::new(),
         }
+    }
+}
+
+impl AsState for Line {
+    ghost run = { run_in };
+
+    fn log_of(&self, t: u32) -> &[Date] {
+        self.log(t)
     }
 }

@@ -1,7 +1,7 @@
 ghost use Rattle.std.specs.Prelude.{◌≡◌, ◌<◌, ◌≤◌, ◌^◌, ◌↔◌, IsTrue, IfOk, length};
-ghost use Rattle.line_base.specs.Limits.{most_workers};
-ghost use Rattle.event_graph.specs.Network.{stations, arc_count};
-ghost use Rattle.line_workers.specs.Link.{seat_of, link_of, links_of, IsInside};
+ghost use Rattle.line_base.specs.Limits.{most_stations, most_workers};
+ghost use Rattle.event_graph.specs.Network.{arc_count};
+ghost use Rattle.line_workers.specs.Link.{seat_among, link_of, links_of, IsInside};
 ghost use Rattle.line_worker.specs.Teams.{index_in};
 
 use line_worker::{first_of, worker_of};
@@ -41,14 +41,14 @@ fn index_in(list: &[u32], number: u32) -> u32
     list.iter().position(|x| *x == number).unwrap_or(list.len()) as u32
 }
 
-/// Where station `t` stands.
-fn seat_of(worker_count: u32, live: &Live, t: u32) -> Seat
+/// Where station `t` stands, where so many workers have so many stations.
+pub(crate) fn seat_of(worker_count: u32, stations: u32, t: u32) -> Seat
     requires some { 1 ≤ worker_count }
     requires few { worker_count ≤ most_workers }
-    requires station { t < stations live.now.graph }
-    ensures { result ≡ seat_of live.now.graph worker_count t }
+    requires stations { stations ≤ most_stations }
+    requires station { t < stations }
+    ensures { result ≡ seat_among worker_count stations t }
 {
-    let stations = live.graph().stations();
     let worker_number = worker_of(worker_count, stations, t);
     Seat {
         worker_number: worker_number as usize,
@@ -76,11 +76,12 @@ pub(crate) fn link_of(worker_count: u32, live: &Live, a: u32) -> Link
     ensures { result ≡ link_of live.now.graph worker_count a }
 {
     let graph = live.graph();
+    let stations = graph.stations();
     let arc = graph.arc(a);
     Link {
-        from: seat_of(worker_count, live, arc.from),
+        from: seat_of(worker_count, stations, arc.from),
         output: index_in(graph.outs(arc.from), a),
-        to: seat_of(worker_count, live, arc.to),
+        to: seat_of(worker_count, stations, arc.to),
         input: index_in(graph.ins(arc.to), a),
     }
 }

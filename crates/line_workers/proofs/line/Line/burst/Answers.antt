@@ -71,6 +71,7 @@ invariant_of-self g c =
       rest = (after g (goal.at.invariant_of-self g c).After-burst_of).1;
       counts = subst (AreCounts c.burst_of.new.counts) (sym same) e.counts;
       all = c.self.invariant.all ∙ ap (λ (h : Parts). stations h * jobs h) (sym stays.0);
+      station_count = c.self.invariant.station_count ∙ ap stations (sym stays.0);
       links =
           subst (λ n. AreLinks (graph_of (with_items v new).items) n links) (sym stays.1) (
           subst (λ (h : Parts). AreLinks h (length v.items) links) (sym stays.0) c.self.invariant.links);

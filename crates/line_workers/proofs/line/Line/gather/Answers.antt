@@ -8,7 +8,7 @@ use Rattle.line_workers.specs.Counts.{AreCounts}
 use Rattle.line_workers.specs.Line.{StandsIn}
 use Rattle.line_workers.specs.OfWorkers.{line_of, AreAtRest}
 use Rattle.line_workers.specs.Gather.{logs_in}
-use Rattle.line_workers.proofs.AllFirings.{new_counts, new_all}
+use Rattle.line_workers.proofs.AllFirings.{new_counts, new_all, new_station_count}
 use Rattle.line_workers.proofs.Lines.{at_rest_is_line}
 use Rattle.line_workers.proofs.line.Line.gather.Goals as goal
 
@@ -27,6 +27,9 @@ invariant_of-result c =
       all =
           subst (λ (l : List LineWorker). c.firings_of.result ≡ stations (graph_of l) * jobs (graph_of l)) (sym after) (
           new_all room c.args.live.now state n e.new.workers made stands c.firings_of.result c.firings_of.ensures);
+      station_count =
+          subst (λ (l : List LineWorker). c.stations.result ≡ stations (graph_of l)) (sym after) (
+          new_station_count room c.args.live.now state n e.new.workers made stands c.stations.result (c.stations.ensures.count ∙ ap stations c.graph.ensures.graph));
       links = tt;
     }
 

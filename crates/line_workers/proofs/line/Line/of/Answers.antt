@@ -1,10 +1,11 @@
 use Rattle.std.proofs.Common.{sym, ap, ◌∙◌, subst}
 use Rattle.line_base.specs.declared.event.Parts.{Parts}
+use Rattle.event_graph.specs.Network.{stations}
 use Rattle.event_graph.specs.Reached.{Reached}
 use Rattle.live_check.specs.Order.{LiveGraph}
 use Rattle.line_worker.specs.Workers.{graph_of}
 use Rattle.line_workers.specs.Link.{links_of}
-use Rattle.line_workers.proofs.AllFirings.{new_counts, new_all}
+use Rattle.line_workers.proofs.AllFirings.{new_counts, new_all, new_station_count}
 use Rattle.line_workers.proofs.Lines.{at_rest_is_line, new_at_rest, new_stands}
 use Rattle.line_workers.proofs.line.Line.of.Goals as goal
 
@@ -27,6 +28,7 @@ invariant_of-result c =
       rest = new_at_rest live begun n room workers made c.in_ok-workers.ensures reached c.requires.few c.fired-made.ensures.fired;
       counts = new_counts room live begun n workers made stands;
       all = new_all room live begun n workers made stands c.firings_of.result c.firings_of.ensures;
+      station_count = new_station_count room live begun n workers made stands c.stations.result (c.stations.ensures.count ∙ ap stations c.graph.ensures.graph);
       links =
           c.in_ok-links.ensures
           ∙ ap (λ (v : LiveGraph). links_of v.graph n) (sym stands.live_is)
