@@ -41,7 +41,7 @@ fn index_in(list: &[u32], number: u32) -> u32
     list.iter().position(|x| *x == number).unwrap_or(list.len()) as u32
 }
 
-/// Where station `t` stands, where so many workers have so many stations.
+/// Where station `t` stands among this many workers, which have this many stations.
 pub(crate) fn seat_of(worker_count: u32, stations: u32, t: u32) -> Seat
     requires some { 1 ≤ worker_count }
     requires few { worker_count ≤ most_workers }
