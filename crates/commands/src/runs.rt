@@ -9,7 +9,7 @@ ghost use Rattle.live_plant.specs.LivePlant.{IsLivePlant};
 use crate::reports::{report_of, report_or_none};
 use answers::Answer;
 use line_core::Table;
-use line_runs::run_to_end;
+use line_runs::{run_through, run_to_end};
 use line_workers::{Gate, Line};
 use live_check::Live;
 use live_plant::{LivePlant, Refusal, checkpoint_refusal};
@@ -50,7 +50,10 @@ pub(crate) fn table_of<R: Threads + Sync, G: Gate>(
     ensures { IfOk result (IsLeastOf live.now.graph) }
 {
     let work = line_of(alloc, live, workers, room)?;
-    Ok(run_to_end(rt, live, work, gate))
+    Ok(match room {
+        None => run_through(rt, live, work, workers, gate),
+        Some(_) => run_to_end(rt, live, work, gate),
+    })
 }
 
 /// A line of this many workers at the start of a live graph, with this room in the rings between them where one is

@@ -2,7 +2,7 @@ ghost use Rattle.std.specs.Prelude.{◌≡◌, All, vec_capacity};
 ghost use Rattle.line_workers.specs.Gather.{IsWorkerAfter, AreWorkersAfter};
 ghost use Rattle.line_runs.specs.Sweeping.{IsWorkerFor};
 
-use crate::sweeping::{AfterSweeps, sweep_on};
+use crate::sweeping::{AfterSweeps, Patience, sweep_on};
 use line_workers::{Gate, Worker};
 use live_check::Live;
 use std::snapshot::Snapshot;
@@ -10,6 +10,17 @@ use std::sync::Wait;
 use std::sync::atomic::{AtomicBool, Ordering};
 use std::thread;
 use std::thread::{Scope, Threads};
+
+/// A worker that stood: after it has swept until it was done, the stop word was set, or a station had made as many turns
+/// as it may.
+fn worker_after<G: Gate>(worker: Worker, live: &Live, gate: &G, stop: &AtomicBool) -> Worker
+    requires { IsWorkerFor live.now worker }
+    ensures { IsWorkerAfter worker result }
+{
+    let mut worker = worker;
+    sweep_on(&mut worker, live, gate, stop, Patience::Endless);
+    worker
+}
 
 /// Lets all of these workers sweep at the same time, the first of them in the thread of the caller, and
 /// brings them back in their order. Where a thread is refused the stop word is set, and the workers
@@ -32,14 +43,14 @@ fn sweep_all<'s, E, R: Threads, G: Gate>(
         return workers;
     };
     if workers.is_empty() {
-        workers.push_reserved(sweep_on(worker, live, gate, stop));
+        workers.push_reserved(worker_after(worker, live, gate, stop));
         return workers;
     }
     let promise = AfterSweeps(Snapshot::of(&worker));
     let sweeps = move || -> Worker
         requires { IsWorkerFor live.now worker }
         ensures { IsWorkerAfter worker result }
-    { sweep_on(worker, live, gate, stop) };
+    { worker_after(worker, live, gate, stop) };
     match scope.spawn_with(promise, sweeps) {
         Ok(thread) => {
             let mut workers = sweep_all(rt, scope, workers, live, gate, stop);

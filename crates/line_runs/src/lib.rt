@@ -5,6 +5,7 @@
 mod apart;
 mod error;
 mod finishing;
+mod long_burst;
 mod resuming;
 mod run;
 mod slots;
@@ -16,7 +17,7 @@ mod sweeping;
 
 pub use error::ResumeError;
 pub use resuming::{line_of_text, resume};
-pub use run::{run_standing, run_to_end};
+pub use run::{run_standing, run_through, run_to_end};
 pub use slots::run_with_slots;
 pub use slots_resuming::resume_slots;
 pub use stop::{Outcome, run_until};

@@ -5,7 +5,7 @@ ghost use Rattle.line_runs.specs.Resume.{FailsOnlyFor, Resumes};
 ghost use Rattle.line_runs.specs.StandsFor.{StandsFor};
 ghost use Rattle.line_workers.specs.Line.{IsLine};
 
-use crate::run::run_to_end;
+use crate::run::run_through;
 use checkpoint::{CheckpointError, read_state};
 use line_core::Table;
 use line_workers::{Gate, Line};
@@ -57,5 +57,5 @@ pub fn resume<R: Threads + Sync, G: Gate>(
     ensures { Resumes live.now.graph bytes.now result }
 {
     let line = line_of_text(alloc, live, bytes, workers)?;
-    Ok(run_to_end(rt, live, line, gate))
+    Ok(run_through(rt, live, line, workers, gate))
 }

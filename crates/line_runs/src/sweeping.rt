@@ -17,7 +17,20 @@ const MAX_TURNS: u64 = 1 << 39;
 ///
 /// A call to the system takes longer than a sweep of blocked stations, so it is not made after each of them. With more
 /// workers than processors one that waits must still give way soon: the one that it waits for may have no processor.
-const IDLE_SWEEPS: u32 = 64;
+const YIELD_EVERY: u32 = 64;
+
+/// How many idle sweeps a worker of bounded patience may make beside those for which it has worked: as many as it makes
+/// while the threads of the others begin.
+const IDLE_AT_FIRST: u64 = 1024;
+
+/// How long a worker sweeps on while nothing is fired.
+#[derive(Clone, Copy)]
+pub(crate) enum Patience {
+    /// Without end.
+    Endless,
+    /// As long as it has idled in at most half as many sweeps as it has fired in, and a few more.
+    WhileItPays,
+}
 
 /// What the thread of a worker gives back: that very worker, after some sweeps.
 #[derive(Drop)]
@@ -37,45 +50,76 @@ fn may_sweep(worker: &Worker, turns: u64) -> bool
     !worker.is_done() && turns < MAX_TURNS
 }
 
-/// How many sweeps a worker has made in a row in which nothing was fired, since it last let another thread run.
+/// The sweeps of a worker, by whether something was fired in them.
 #[derive(Drop)]
-struct Idle {
-    sweeps: u32,
+struct Pauses {
+    // How many sweeps in a row were idle, since it last let another thread run.
+    in_a_row: u32,
+    idle: u64,
+    busy: u64,
 }
 
-impl Idle {
+impl Pauses {
     /// Of a worker that has made no sweep.
-    fn new() -> Idle {
-        Idle { sweeps: 0 }
+    fn new() -> Pauses {
+        Pauses {
+            in_a_row: 0,
+            idle: 0,
+            busy: 0,
+        }
     }
 
-    /// Counts a sweep in which this many stations fired. After the last of so many idle ones it lets another thread run.
+    /// Counts a sweep with this many firings. After each `YIELD_EVERY` idle ones in a row it lets another thread run.
     fn count(&mut self, fired: u64) {
         if fired > 0 {
-            self.sweeps = 0;
+            self.busy = self.busy.saturating_add(1);
+            self.in_a_row = 0;
             return;
         }
-        self.sweeps = self.sweeps.saturating_add(1);
-        if self.sweeps >= IDLE_SWEEPS {
+        self.idle = self.idle.saturating_add(1);
+        self.in_a_row = self.in_a_row.saturating_add(1);
+        if self.in_a_row >= YIELD_EVERY {
             thread::yield_now();
-            self.sweeps = 0;
+            self.in_a_row = 0;
         }
+    }
+
+    /// Whether a worker has idled for longer than its patience lasts.
+    fn exceed(&self, patience: Patience) -> bool {
+        match patience {
+            Patience::Endless => false,
+            Patience::WhileItPays => self.idle > IDLE_AT_FIRST.saturating_add(self.busy / 2),
+        }
+    }
+}
+
+/// Sets the stop word where a worker has idled for longer than its patience lasts, so that it leaves, and the others
+/// too.
+fn stop_if_idle(pauses: &Pauses, patience: Patience, stop: &AtomicBool) {
+    if pauses.exceed(patience) {
+        stop.store(true, Ordering::SeqCst);
     }
 }
 
 /// Lets a worker sweep until it is done, the stop word is set, or a station has made as many turns as
-/// it may. An idle sweep is followed by another: the worker never parks, but now and then lets another thread run.
-/// Each sweep gives every station one turn, so it looks once how many were made, and then counts.
-pub(crate) fn sweep_on<G: Gate>(worker: Worker, live: &Live, gate: &G, stop: &AtomicBool) -> Worker
-    requires { IsWorkerFor live.now worker }
-    ensures { IsWorkerAfter worker result }
+/// it may. An idle sweep is followed by another: the worker never parks, but now and then lets another thread run, and
+/// sets the stop word where its patience ends. Each sweep gives every station one turn, so it looks once how many were
+/// made, and then counts.
+pub(crate) fn sweep_on<G: Gate>(
+    worker: &mut Worker,
+    live: &Live,
+    gate: &G,
+    stop: &AtomicBool,
+    patience: Patience,
+)
+    requires { IsWorkerFor live.now worker.old }
+    ensures { IsWorkerAfter worker.old worker.new }
 {
-    let mut worker = worker;
     let mut turns = worker.turns();
-    let mut idle = Idle::new();
-    while !stop.load(Ordering::SeqCst) && may_sweep(&worker, turns) {
-        idle.count(worker.sweep(live, gate));
+    let mut pauses = Pauses::new();
+    while !stop.load(Ordering::SeqCst) && may_sweep(worker, turns) {
+        pauses.count(worker.sweep(live, gate));
+        stop_if_idle(&pauses, patience, stop);
         turns += 1;
     }
-    worker
 }

@@ -58,9 +58,9 @@ pub returns-then-is_empty-clause-after : goal.returns-then-is_empty-clause-after
 returns-then-is_empty-clause-after g t c =
     let rest : List LineWorker = c.pop.new.self.items in
     let worker : LineWorker = c.in-Some.worker in
-    let back : LineWorker = c.sweep_on.result in
+    let back : LineWorker = c.worker_after.result in
     let are_for = rest_are_for c.args.live.now c.args.workers.items rest worker c.requires c.in-Some.ensures.items in
-    let are = one_more rest rest worker back (as_they_are c.args.live.now rest are_for) c.sweep_on.ensures in
+    let are = one_more rest rest worker back (as_they_are c.args.live.now rest are_for) c.worker_after.ensures in
     subst (λ (l : List LineWorker). AreWorkersAfter l c.push_reserved.new.self.items) (sym {A = List LineWorker} c.in-Some.ensures.items) (
     subst (AreWorkersAfter (rest ++ worker ∷ [])) (sym {A = List LineWorker} c.push_reserved.ensures.items) are)
 

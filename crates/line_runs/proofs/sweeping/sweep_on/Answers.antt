@@ -5,7 +5,7 @@ use Rattle.line_runs.proofs.sweeping.sweep_on.Goals as goal
 
 pub loop-worker-init : goal.loop-worker-init
 loop-worker-init g c = record {
-  after = as_it_is c.args.worker c.requires.worker;
+  after = as_it_is c.args.worker.now c.requires.worker;
   counted = record { most = c.turns-turns.ensures.most; one = c.turns-turns.ensures.one };
 }
 
@@ -24,7 +24,7 @@ loop-worker-preserved g c =
     let yes : IsTrue c.may_sweep.result = search rules in
     let may = c.may_sweep.ensures.may.0 yes in
     record {
-      after = sweep_more c.args.worker c.loop-worker.worker c.sweep.new.self c.loop-worker.invariant.after e.worker e.frame e.swept;
+      after = sweep_more c.args.worker.now c.loop-worker.worker c.sweep.new.self c.loop-worker.invariant.after e.worker e.frame e.swept;
       counted = one_turn_more c.loop-worker.worker c.sweep.new.self.team c.loop-worker.turns may.undone c.loop-worker.invariant.counted e.swept;
     }
 

@@ -1,0 +1,47 @@
+ghost use Rattle.std.specs.Prelude.{◌≡◌, ◌≤◌, All, length};
+ghost use Rattle.line_runs.specs.Standing.{GoesOn};
+ghost use Rattle.line_runs.specs.Sweeping.{IsWorkerFor};
+ghost use Rattle.line_workers.specs.Gather.{IsWorkerAfter, AreWorkersAfter};
+
+use crate::sweeping::{Patience, sweep_on};
+use line_base::for_each_mut;
+use line_workers::{Gate, Line, Worker};
+use live_check::Live;
+use std::sync::atomic::AtomicBool;
+use std::thread::Threads;
+
+/// Lets all workers sweep at the same time, each in a thread of its own, until each is done, or one has idled for too
+/// long. Where a thread is refused its worker sweeps on this one, waits for the others in vain, and leaves.
+fn sweep_at_once<R: Threads + Sync, G: Gate>(rt: &R, workers: &mut [Worker], live: &Live, gate: &G)
+    requires some { 1 ≤ length workers.old }
+    requires made_for { All (IsWorkerFor live.now) workers.old }
+    ensures { AreWorkersAfter workers.old workers.new }
+{
+    let threads = workers.len();
+    let stop = AtomicBool::new(false);
+    for_each_mut(
+        rt,
+        workers,
+        threads,
+        &|_, worker: &mut Worker|
+            requires { IsWorkerFor live.now worker.now }
+            ensures { IsWorkerAfter worker.entry.now worker.exit.now }
+        { sweep_on(worker, live, gate, &stop, Patience::WhileItPays) },
+    );
+}
+
+/// Lets a line work for a long burst: its workers sweep side by side, without a meeting, and are gathered. Firings are
+/// left where one of them idled for too long. It takes no memory and waits for no lock.
+pub(crate) fn work_long<R: Threads + Sync, G: Gate>(
+    rt: &R,
+    line: Line,
+    live: &Live,
+    gate: &G,
+) -> Line
+    requires { live.now ≡ line.live }
+    ensures { GoesOn line result }
+{
+    let mut workers = line.workers();
+    sweep_at_once(rt, &mut workers, live, gate);
+    Line::gather(live, workers)
+}
