@@ -58,12 +58,15 @@ pub(crate) fn refill(inputs: &mut Vec<NotedInput>, shelf: &mut Shelf) -> Refille
         greatest (hand_asks (extras_of inputs.new.items) (inputs_of inputs.new.items))
         (range_with_len 0 (length (inputs_of inputs.new.items)))) }
     ensures there { IfEmpty result (λ first _. first < length (inputs_of inputs.new.items)) }
-    ensures empty { IfEmpty result (λ first _. (input_at (inputs_of inputs.new.items) first).hand ≡ None) }
+    ensures empty { IfEmpty result (λ first _.
+        (input_at (inputs_of inputs.new.items) first).hand ≡ None) }
     ensures first { IfEmpty result (λ first _. (j : ℕ) → j < first →
         IsSome (input_at (inputs_of inputs.new.items) j).hand) }
     ensures last_there { IfEmpty result (λ _ last. last < length (inputs_of inputs.new.items)) }
-    ensures last_empty { IfEmpty result (λ _ last. (input_at (inputs_of inputs.new.items) last).hand ≡ None) }
-    ensures last { IfEmpty result (λ _ last. (j : ℕ) → last < j → j < length (inputs_of inputs.new.items) →
+    ensures last_empty { IfEmpty result (λ _ last.
+        (input_at (inputs_of inputs.new.items) last).hand ≡ None) }
+    ensures last { IfEmpty result (λ _ last. (j : ℕ) → last < j →
+        j < length (inputs_of inputs.new.items) →
         IsSome (input_at (inputs_of inputs.new.items) j).hand) }
 {
     let mut first = None;

@@ -78,7 +78,8 @@ impl Model for Station {
           s.bounded s.rings;
       readied : IsReadied s.graph.value s.number (inputs_of s.inputs.items) s.fronts.items s.fixed
           s.bounded s.rings_in s.direct s.at_once;
-      waiting : IsWaiting s.graph.value s.number (inputs_of s.inputs.items) s.log.value s.at_once s.waits_for;
+      waiting : IsWaiting s.graph.value s.number (inputs_of s.inputs.items) s.log.value s.at_once
+          s.waits_for;
     } };
 }
 
