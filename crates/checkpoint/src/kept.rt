@@ -1,11 +1,11 @@
-ghost use Rattle.std.specs.Prelude.{◌≡◌, ◌++◌, length, replicate, IfOk};
+ghost use Rattle.std.specs.Prelude.{◌≡◌, ◌++◌, [], replicate, IfOk};
 ghost use Rattle.checkpoint.specs.Kept.{AreFirstWordsOfEach, Follows, HaveEachWord, no_words};
 ghost use Rattle.checkpoint.specs.Text.{lines_text, station_lines, text};
 ghost use Rattle.checkpoint.specs.declared.format.Format.TheVariants.{Differences};
 ghost use Rattle.event_graph.specs.State.{State};
 
 use crate::kept_log::KeptLog;
-use crate::writer::{likely_size, put_head, put_rest, put_station};
+use crate::writer::{likely_size, put_head, put_rest, put_station, reserve_first};
 use event_graph::Graph;
 use line_base::Date;
 use line_core::AsState;
@@ -72,7 +72,8 @@ fn put_stations<S: AsState>(
 impl KeptText {
     /// No words yet, and an empty text.
     pub fn new(alloc: Global, live: &Live) -> Result<KeptText, AllocError>
-        ensures { IfOk result (λ kept. (s : State) → Follows live.now.graph s kept) }
+        ensures follows { IfOk result (λ kept. (s : State) → Follows live.now.graph s kept) }
+        ensures empty { IfOk result (λ kept. kept.text ≡ []) }
     {
         Ok(KeptText {
             logs: empty_logs(alloc, live.graph().stations())?,
@@ -84,8 +85,8 @@ impl KeptText {
     /// Writes the text of a state in format 2, in place of the one before. Each log of the state begins with the dates
     /// whose words are here; the words of the others are written and kept.
     ///
-    /// It takes memory for the words and for the text. Nothing is known of the words and of the text where memory ran
-    /// out.
+    /// The first call takes the room that the words of all jobs, and a text of them, are likely to need. Nothing is known
+    /// of the words and of the text where memory ran out.
     pub fn write<S: AsState>(&mut self, live: &Live, state: &S) -> Result<(), AllocError>
         requires made_for { live.now.graph ≡ (S.run state.now).graph }
         requires follows { Follows (S.run state.now).graph (S.run state.now).state self.old }
@@ -97,8 +98,9 @@ impl KeptText {
             (λ _. HaveEachWord (S.run state.now).graph (S.run state.now).state self.new.logs) }
     {
         let graph = live.graph();
+        let likely = likely_size(graph, state, graph.jobs() as usize);
+        reserve_first(&mut self.text, likely)?;
         self.text.clear();
-        self.text.reserve(likely_size(graph, state))?;
         put_head(&mut self.text, graph)?;
         put_stations(&mut self.text, &mut self.logs, graph, state)?;
         put_rest(&mut self.text, &mut self.dates, live, state)

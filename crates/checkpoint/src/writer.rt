@@ -220,8 +220,9 @@ pub fn likely_words(dates: &[Date], count: usize) -> usize {
         .saturating_mul(count)
 }
 
-/// About how many bytes the text of a state takes, so that it is seldom moved as it grows.
-pub fn likely_size<S: AsState>(graph: &Graph, state: &S) -> usize
+/// About how many bytes the text of a state takes, once each of its logs has this many dates at least, so that it is
+/// seldom moved as it grows.
+pub fn likely_size<S: AsState>(graph: &Graph, state: &S, count: usize) -> usize
     requires { (S.run state.now).graph ≡ graph.now }
     ensures reached { IsReached (S.run state.now) }
 {
@@ -229,9 +230,19 @@ pub fn likely_size<S: AsState>(graph: &Graph, state: &S) -> usize
     let mut size = lines.saturating_mul(LIKELY_LINE);
     for t in 0..graph.stations() {
         let dates = state.log_of(t);
-        size = size.saturating_add(likely_words(dates, dates.len()));
+        size = size.saturating_add(likely_words(dates, dates.len().max(count)));
     }
     size
+}
+
+/// Takes room for this many bytes where there are none yet.
+pub fn reserve_first(text: &mut Vec<u8>, bytes: usize) -> Result<(), AllocError>
+    ensures { text.new.items ≡ text.old.items }
+{
+    if text.is_empty() {
+        return text.reserve(bytes);
+    }
+    Ok(())
 }
 
 /// The text of a state in format 2: the number of the format, the delays of the arcs, the log of each station, the
@@ -243,7 +254,7 @@ pub fn write_state<S: AsState>(alloc: Global, live: &Live, state: &S) -> Result<
         (λ bytes. bytes.items ≡ text Differences (S.run state.now).graph (S.run state.now).state) }
 {
     let graph = live.graph();
-    let mut text = Vec::with_capacity(alloc, likely_size(graph, state))?;
+    let mut text = Vec::with_capacity(alloc, likely_size(graph, state, 0))?;
     put_head(&mut text, graph)?;
     put_stations(&mut text, graph, state)?;
     put_rest(&mut text, &mut Vec::new(alloc), live, state)?;
