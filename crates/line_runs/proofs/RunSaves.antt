@@ -10,6 +10,8 @@ use Rattle.line_core.specs.Run.{Dates}
 use Rattle.line_worker.specs.Sweeps.{most_sweeps}
 use Rattle.checkpoint.specs.declared.format.Format.TheVariants.{Differences}
 use Rattle.checkpoint.specs.Text.{text}
+use Rattle.checkpoint.specs.Kept.{Kept, Follows}
+use Rattle.checkpoint.proofs.KeptWords.{Follows-grown}
 use Rattle.line_disk.specs.DiskView.{Image, DiskView, LeavesOnly, held_now}
 use Rattle.line_disk.proofs.Moments.{leaves_on, leaves_also, leaves_here, leaves_last}
 use Rattle.line_disk.specs.Layout.{content}
@@ -227,6 +229,12 @@ saves_go_on tells room n first l last count next old now new on burst step momen
     (due_or_not n count last)
 
 -- ---- the text of a line with firings left, and whether it is to be saved
+
+-- the words that are kept for a line are those for the line after a burst, in which no date has changed
+pub follows_burst : (old new : WorkLine) (kept : Kept) → IsBurst old new → Follows old.live.graph old.state kept → Follows new.live.graph new.state kept
+follows_burst old new kept burst follows =
+    subst (λ (v : LiveGraph). Follows v.graph new.state kept) (sym (burst_live old new burst)) (
+    Follows-grown old.live.graph old.state new.state kept follows burst.logs)
 
 -- the state of a line, where its text doesn't fit
 pub too_long_state : (room have : ℕ) (l : WorkLine) → IsLine l → IsOver room have (text Differences l.live.graph l.state) → HasTooLongState l.live.graph room have

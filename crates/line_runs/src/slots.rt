@@ -1,4 +1,5 @@
 ghost use Rattle.std.specs.Prelude.{◌≡◌, ℕ, ◌+◌, ◌*◌, ◌<◌, ◌≤◌, ◌↔◌, IsTrue, IfOk, OnOk, IsErrOf};
+ghost use Rattle.checkpoint.specs.Kept.{Follows};
 ghost use Rattle.event_graph.specs.Network.{stations};
 ghost use Rattle.line_core.specs.Consistent.{firing_count};
 ghost use Rattle.line_disk.specs.DiskView.{LeavesOnly, held_now};
@@ -14,7 +15,7 @@ ghost use Rattle.line_disk.specs.Crash.{IsOldOrNew, IsSaved};
 ghost use Rattle.line_disk.specs.declared.slots.error.SlotError.TheVariants.{TooLong};
 
 use crate::run::{burst_on, table_of};
-use checkpoint::write_state;
+use checkpoint::KeptText;
 use line_core::Table;
 use line_disk::Disk;
 use line_disk::slots::{MAX_ROOM, SlotError, Slots};
@@ -23,15 +24,28 @@ use live_check::Live;
 use std::alloc::{AllocError, Global};
 use std::thread::Threads;
 
-/// The text of the state that a line stands for.
-fn text_of(alloc: Global, live: &Live, line: &Line) -> Result<Vec<u8>, AllocError>
-    requires { live.now ≡ line.now.live }
-    ensures { IfOk result (λ text. text.items ≡ text_of (run_in line.now)) }
-{
-    let state = line.state(live)?;
-    let text = write_state(alloc, live, &state);
-    drop(state);
-    text
+/// What a run keeps of its last save for the next one.
+#[derive(Drop)]
+struct LastSave {
+    // How many firings the state has that was saved; as long as none was, how many that has with which the run began.
+    fired: u64,
+    // The text that was saved, with the words of its dates.
+    kept: KeptText,
+}
+
+impl LastSave {
+    /// Of a run that begins with this line, and has saved nothing.
+    fn none(alloc: Global, live: &Live, line: &Line) -> Result<LastSave, AllocError>
+        requires { live.now ≡ line.now.live }
+        ensures fired { IfOk result (λ last. last.fired ≡ firing_count line.now.state) }
+        ensures follows { IfOk result
+            (λ last. Follows line.now.live.graph line.now.state last.kept) }
+        ensures line { IsLine line.now }
+    {
+        let fired = line.fired();
+        let kept = KeptText::new(alloc, live)?;
+        Ok(LastSave { fired, kept })
+    }
 }
 
 /// Saves a text as the content of a disk's two slots.
@@ -50,14 +64,18 @@ fn save_text<D: Disk>(alloc: Global, text: &[u8], disk: &mut D) -> Result<(), Sl
     Slots::new(disk, MAX_ROOM).save(alloc, text)
 }
 
-/// Saves the state that a line stands for as the content of a disk's two slots.
+/// Saves the state that a line stands for as the content of a disk's two slots. Of its text only the words of those
+/// dates are written that the text before didn't have.
 fn save_line<D: Disk>(
     alloc: Global,
     live: &Live,
     line: &Line,
+    kept: &mut KeptText,
     disk: &mut D,
 ) -> Result<(), SlotError>
-    requires { live.now ≡ line.now.live }
+    requires made_for { live.now ≡ line.now.live }
+    requires follows { Follows line.now.live.graph line.now.state kept.old }
+    ensures follows { OnOk result (Follows line.now.live.graph line.now.state kept.new) }
     ensures any_moment { IsTrue D.tells → LeavesOnly (D.shown disk.old) (D.shown disk.new)
         (IsOldOrNew (held_now (D.shown disk.old)) MAX_ROOM (text_of (run_in line.now))) }
     ensures saved { OnOk result (IsTrue D.tells
@@ -69,8 +87,8 @@ fn save_line<D: Disk>(
     ensures never_none_saved { ¬ (IsErrOf result SlotError.NoneSaved) }
     ensures faults_stay_or_rise { (D.shown disk.old).faults ≤ (D.shown disk.new).faults }
 {
-    match text_of(alloc, live, line) {
-        Ok(text) => save_text(alloc, text.as_slice(), disk),
+    match kept.write(live, line) {
+        Ok(()) => save_text(alloc, kept.text(), disk),
         Err(_) => Err(SlotError::NoMemory),
     }
 }
@@ -84,20 +102,21 @@ fn is_due(line: &Line, every: u64, saved: u64) -> bool
     !line.finished() && line.fired() - saved >= every
 }
 
-/// Saves the state that a line stands for where that is due. Answers how many firings the state has
-/// that was saved last.
+/// Saves the state that a line stands for where that is due.
 fn save_if_due<D: Disk>(
     alloc: Global,
     live: &Live,
     line: &Line,
     every: u64,
-    saved: u64,
+    last: &mut LastSave,
     disk: &mut D,
-) -> Result<u64, SlotError>
+) -> Result<(), SlotError>
     requires made_for { live.now ≡ line.now.live }
-    requires before { saved ≤ firing_count line.now.state }
-    ensures saved { IfOk result (λ last. SavesIfDue D.tells MAX_ROOM every line.now saved last
-        (D.shown disk.old) (D.shown disk.new)) }
+    requires before { last.old.fired ≤ firing_count line.now.state }
+    requires follows { Follows line.now.live.graph line.now.state last.old.kept }
+    ensures saved { OnOk result (SavesIfDue D.tells MAX_ROOM every line.now last.old.fired
+        last.new.fired (D.shown disk.old) (D.shown disk.new)) }
+    ensures follows { OnOk result (Follows line.now.live.graph line.now.state last.new.kept) }
     ensures any_moment { IsTrue D.tells → LeavesOnly (D.shown disk.old) (D.shown disk.new)
         (IsOldOrState (held_now (D.shown disk.old)) MAX_ROOM line.now.live.graph) }
     ensures too_long { (have : ℕ) → IsErrOf result (TooLong have)
@@ -107,11 +126,12 @@ fn save_if_due<D: Disk>(
     ensures never_none_saved { ¬ (IsErrOf result SlotError.NoneSaved) }
     ensures faults_stay_or_rise { (D.shown disk.old).faults ≤ (D.shown disk.new).faults }
 {
-    if !is_due(line, every, saved) {
-        return Ok(saved);
+    if !is_due(line, every, last.fired) {
+        return Ok(());
     }
-    save_line(alloc, live, line, disk)?;
-    Ok(line.fired())
+    save_line(alloc, live, line, &mut last.kept, disk)?;
+    last.fired = line.fired();
+    Ok(())
 }
 
 /// Lets a line work until every station has fired once for each job. At each burst's end that
@@ -153,16 +173,21 @@ pub fn run_with_slots<R: Threads + Sync, G: Gate, D: Disk>(
     ensures faults_stay_or_rise { (D.shown disk.old).faults ≤ (D.shown disk.new).faults }
 {
     let mut line = line;
-    let mut saved = line.fired();
+    let mut last = match LastSave::none(alloc, live, &line) {
+        Ok(last) => last,
+        Err(_) => {
+            drop(line);
+            return Err(SlotError::NoMemory);
+        }
+    };
     while !line.finished() {
         burst_on(rt, live, &mut line, gate);
-        match save_if_due(alloc, live, &line, every, saved, disk) {
-            Ok(last) => saved = last,
-            Err(error) => {
-                drop(line);
-                return Err(error);
-            }
+        if let Err(error) = save_if_due(alloc, live, &line, every, &mut last, disk) {
+            drop(last);
+            drop(line);
+            return Err(error);
         }
     }
+    drop(last);
     Ok(table_of(live, line))
 }

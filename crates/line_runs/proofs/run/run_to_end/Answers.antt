@@ -1,4 +1,4 @@
-use Rattle.std.proofs.Common.{◌<◌, sym, ap, ◌∙◌, subst, rules}
+use Rattle.std.proofs.Common.{◌<◌, sym, ◌∙◌, subst, rules}
 use Rattle.live_check.specs.Order.{LiveGraph}
 use Rattle.line_core.specs.Consistent.{firing_count}
 use Rattle.line_runs.specs.AllFirings.{all_firings}

@@ -21,7 +21,7 @@ returns-clause-saved g c =
     let yes : IsTrue c.is_due.result = search rules in
     let due = c.is_due.ensures.due.0 yes in
     record {
-      due_count = λ _. c.fired.ensures.fired;
+      due_count = λ _. c.fired-last.ensures.fired;
       due_saved = λ _ known. c.in_ok-save_line.ensures.saved known;
       else_count = λ not_due. absurd (not_due due);
       else_untouched = λ not_due. absurd (not_due due);
@@ -29,7 +29,7 @@ returns-clause-saved g c =
 
 pub returns-then-not-is_due-clause-saved : goal.returns-then-not-is_due-clause-saved
 returns-then-not-is_due-clause-saved g c =
-    let not_due : ¬ IsDue c.args.every c.args.saved c.args.line.now = search rules in
+    let not_due : ¬ IsDue c.args.every c.args.last.now.fired c.args.line.now = search rules in
     record {
       due_count = λ due. absurd (not_due due);
       due_saved = λ due known. absurd (not_due due);
