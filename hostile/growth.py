@@ -21,7 +21,8 @@ DOUBLINGS = 24
 NOBODY = 65534
 SECONDS = 30
 
-# The words behind `run PLANT`, and whether how many threads are begun is up to the clock.
+# The words behind `run PLANT`, and whether how many threads are begun is up to the clock. The line has fifty stations:
+# two workers have enough of them for a long burst, three go by bursts alone.
 WAYS = [
     ([], False),
     (["--room", "3"], False),
@@ -29,6 +30,7 @@ WAYS = [
     (["--stand", "--workers", "3"], False),
     (["--stop-after", "1000", "--save", "a.ckpt"], False),
     (["--every", "1000000", "--slots"], False),
+    (["--workers", "2"], True),
     (["--workers", "3"], True),
     (["--room", "3", "--workers", "3"], True),
 ]

@@ -1,7 +1,6 @@
 use Rattle.std.proofs.Common.{◌≡◌, ◌<◌, length, ap, ◌∙◌, subst, arith}
 use Rattle.event_graph.specs.Network.{stations}
 use Rattle.event_graph.specs.State.{log}
-use Rattle.line_worker.specs.Worker.{LineWorker}
 use Rattle.line_worker.specs.Workers.{graph_of}
 use Rattle.line_workers.specs.declared.link.Seat.{Seat}
 use Rattle.line_workers.specs.Line.{WorkLine, IsLine}
