@@ -21,14 +21,14 @@ const YIELD_EVERY: u32 = 64;
 
 /// How many idle sweeps a worker of bounded patience may make beside those for which it has worked: as many as it makes
 /// while the threads of the others begin.
-const IDLE_AT_FIRST: u64 = 1024;
+const IDLE_AT_FIRST: u64 = 4096;
 
 /// How long a worker sweeps on while nothing is fired.
 #[derive(Clone, Copy)]
 pub(crate) enum Patience {
     /// Without end.
     Endless,
-    /// As long as it has idled in at most half as many sweeps as it has fired in, and a few more.
+    /// As long as it has idled in at most twice as many sweeps as it has fired in, and a few more.
     WhileItPays,
 }
 
@@ -88,7 +88,9 @@ impl Pauses {
     fn exceed(&self, patience: Patience) -> bool {
         match patience {
             Patience::Endless => false,
-            Patience::WhileItPays => self.idle > IDLE_AT_FIRST.saturating_add(self.busy / 2),
+            Patience::WhileItPays => {
+                self.idle > self.busy.saturating_mul(2).saturating_add(IDLE_AT_FIRST)
+            }
         }
     }
 }
