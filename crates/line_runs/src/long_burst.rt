@@ -10,6 +10,13 @@ use live_check::Live;
 use std::sync::atomic::AtomicBool;
 use std::thread::Threads;
 
+/// How many idle sweeps, in which it fires nothing, a worker of a long burst makes for each job at most.
+///
+/// It makes one sweep for each job at least in which it fires, and an idle one takes some two fifths of the time of one
+/// in which all of its stations fire. So by waiting in vain it loses about twice the time of its own firings at most. This
+/// was measured, and nothing is proved of it.
+const IDLE_FOR_EACH_JOB: u64 = 5;
+
 /// Lets all workers sweep at the same time, each in a thread of its own, until each is done, or one has idled for too
 /// long. Where a thread is refused its worker sweeps on this one, waits for the others in vain, and leaves.
 fn sweep_at_once<R: Threads + Sync, G: Gate>(rt: &R, workers: &mut [Worker], live: &Live, gate: &G)
@@ -19,6 +26,7 @@ fn sweep_at_once<R: Threads + Sync, G: Gate>(rt: &R, workers: &mut [Worker], liv
 {
     let threads = workers.len();
     let stop = AtomicBool::new(false);
+    let patience = Patience::Sweeps(IDLE_FOR_EACH_JOB * u64::from(live.graph().jobs()));
     for_each_mut(
         rt,
         workers,
@@ -26,7 +34,7 @@ fn sweep_at_once<R: Threads + Sync, G: Gate>(rt: &R, workers: &mut [Worker], liv
         &|_, worker: &mut Worker|
             requires { IsWorkerFor live.now worker.now }
             ensures { IsWorkerAfter worker.entry.now worker.exit.now }
-        { sweep_on(worker, live, gate, &stop, Patience::WhileItPays) },
+        { sweep_on(worker, live, gate, &stop, patience) },
     );
 }
 

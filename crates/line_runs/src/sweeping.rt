@@ -19,17 +19,13 @@ const MAX_TURNS: u64 = 1 << 39;
 /// workers than processors one that waits must still give way soon: the one that it waits for may have no processor.
 const YIELD_EVERY: u32 = 64;
 
-/// How many idle sweeps a worker of bounded patience may make beside those for which it has worked: as many as it makes
-/// while the threads of the others begin.
-const IDLE_AT_FIRST: u64 = 4096;
-
 /// How long a worker sweeps on while nothing is fired.
 #[derive(Clone, Copy)]
 pub(crate) enum Patience {
     /// Without end.
     Endless,
-    /// As long as it has idled in at most twice as many sweeps as it has fired in, and a few more.
-    WhileItPays,
+    /// Until it has made more idle sweeps than this.
+    Sweeps(u64),
 }
 
 /// What the thread of a worker gives back: that very worker, after some sweeps.
@@ -50,33 +46,30 @@ fn may_sweep(worker: &Worker, turns: u64) -> bool
     !worker.is_done() && turns < MAX_TURNS
 }
 
-/// The sweeps of a worker, by whether something was fired in them.
+/// The idle sweeps of a worker: those in which nothing was fired.
 #[derive(Drop)]
-struct Pauses {
-    // How many sweeps in a row were idle, since it last let another thread run.
+struct IdleSweeps {
+    made: u64,
+    // How many of them in a row there were since it last let another thread run.
     in_a_row: u32,
-    idle: u64,
-    busy: u64,
 }
 
-impl Pauses {
+impl IdleSweeps {
     /// Of a worker that has made no sweep.
-    fn new() -> Pauses {
-        Pauses {
+    fn new() -> IdleSweeps {
+        IdleSweeps {
+            made: 0,
             in_a_row: 0,
-            idle: 0,
-            busy: 0,
         }
     }
 
     /// Counts a sweep with this many firings. After each `YIELD_EVERY` idle ones in a row it lets another thread run.
     fn count(&mut self, fired: u64) {
         if fired > 0 {
-            self.busy = self.busy.saturating_add(1);
             self.in_a_row = 0;
             return;
         }
-        self.idle = self.idle.saturating_add(1);
+        self.made = self.made.saturating_add(1);
         self.in_a_row = self.in_a_row.saturating_add(1);
         if self.in_a_row >= YIELD_EVERY {
             thread::yield_now();
@@ -84,21 +77,19 @@ impl Pauses {
         }
     }
 
-    /// Whether a worker has idled for longer than its patience lasts.
+    /// Whether a worker has made more of them than its patience allows.
     fn exceed(&self, patience: Patience) -> bool {
         match patience {
             Patience::Endless => false,
-            Patience::WhileItPays => {
-                self.idle > self.busy.saturating_mul(2).saturating_add(IDLE_AT_FIRST)
-            }
+            Patience::Sweeps(most) => self.made > most,
         }
     }
 }
 
-/// Sets the stop word where a worker has idled for longer than its patience lasts, so that it leaves, and the others
-/// too.
-fn stop_if_idle(pauses: &Pauses, patience: Patience, stop: &AtomicBool) {
-    if pauses.exceed(patience) {
+/// Sets the stop word where a worker has made more idle sweeps than its patience allows, so that it leaves, and the
+/// others too.
+fn stop_if_idle(idle: &IdleSweeps, patience: Patience, stop: &AtomicBool) {
+    if idle.exceed(patience) {
         stop.store(true, Ordering::SeqCst);
     }
 }
@@ -118,10 +109,10 @@ pub(crate) fn sweep_on<G: Gate>(
     ensures { IsWorkerAfter worker.old worker.new }
 {
     let mut turns = worker.turns();
-    let mut pauses = Pauses::new();
+    let mut idle = IdleSweeps::new();
     while !stop.load(Ordering::SeqCst) && may_sweep(worker, turns) {
-        pauses.count(worker.sweep(live, gate));
-        stop_if_idle(&pauses, patience, stop);
+        idle.count(worker.sweep(live, gate));
+        stop_if_idle(&idle, patience, stop);
         turns += 1;
     }
 }
