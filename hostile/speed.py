@@ -1,0 +1,100 @@
+"""How long ways of running a line take, side by side.
+
+    PULL=.. [BESIDE="PROGRAM PROGRAM .."] python3 speed.py [TURNS]
+
+Three lines of a million firings each, within the limits, under extended kanban: many stations, many jobs, and between.
+In each turn every way is run once, one after the other, so that what else the machine does meets all alike; the output
+goes to /dev/null. A program of BESIDE is run with the plant file as its one word. For each way a line: the least and
+the first quartile of all turns, in milliseconds of the clock, and the least as a part of that of `run`. It makes its
+files where TMPDIR says: in memory or on a disk, which runs that save feel. Checks nothing; stop all else first."""
+import os
+import shlex
+import sys
+import tempfile
+import time
+
+from machine import program
+
+TURNS = 41
+EVERY = 95_000  # ten saves for each of the plants
+
+# Stages, machines in each, and jobs.
+PLANTS = [(63, 7, 1_976), (6, 7, 20_000), (16, 7, 7_692)]
+
+
+def large_plant(stages, machines, jobs):
+    """A serial line, the same each time for the same numbers."""
+    state = 7
+
+    def draw(below):
+        nonlocal state
+        state = (state * 6_364_136_223_846_793_005 + 1_442_695_040_888_963_407) % 2**64
+        return (state >> 33) % below
+
+    date, dates = 0, []
+    for _ in range(jobs):
+        date += draw(30)
+        dates.append(date)
+    lines = ['policy = "extended"', f"demands = {dates}"]
+    for i in range(1, stages + 1):
+        stock = draw(4)
+        lines += ["[[stage]]", f'name = "s{i}"']
+        lines += [f'feeds = "s{i + 1}"'] if i < stages else []
+        lines += [f"cards = {stock + 1 + draw(4)}", f"stock = {stock}"]
+        for j in range(1, machines + 1):
+            servers = 1 + draw(3)
+            lines += ["[[stage.machine]]", f'name = "m{j}"', f"servers = {servers}", f"time = {1 + draw(20)}"]
+    return "\n".join(lines) + "\n"
+
+
+def ways(firings):
+    """The ways of running a line with this many firings: how each is called, its words, and the words before it."""
+    pull = program()
+    stop = [*pull, "run", "line.toml", "--stop-after", str(firings // 2), "--save", "line.ckpt"]
+    yield "run", [*pull, "run", "line.toml"]
+    for words in ["--workers 4", "--stand --workers 4", "--room 64 --workers 4", f"--every {EVERY} --slots"]:
+        yield words, [*pull, "run", "line.toml", *words.split()]
+    yield "resume from the middle", [*pull, "resume", "line.toml", "line.ckpt"], stop
+    for other in shlex.split(os.environ.get("BESIDE", "")):
+        yield os.path.basename(other), [other, "line.toml"]
+
+
+def timed(words):
+    """How long a run takes, in milliseconds."""
+    null = [(os.POSIX_SPAWN_OPEN, 1, "/dev/null", os.O_WRONLY, 0)]
+    start = time.perf_counter()
+    child = os.posix_spawn(words[0], words, os.environ, file_actions=null)
+    _, status = os.waitpid(child, 0)
+    taken = time.perf_counter() - start
+    if status != 0:
+        sys.exit(f"{' '.join(words)}: status {status}")
+    return taken * 1000
+
+
+def measure(stages, machines, jobs, turns):
+    """Runs each way this many times with a plant, and prints its lines."""
+    stations = stages * (machines + 1) + 2
+    with open("line.toml", "w", encoding="utf-8") as file:
+        file.write(large_plant(stages, machines, jobs))
+    rows = list(ways(stations * jobs))
+    for _, _, *before in rows:
+        for words in before:
+            timed(words)
+    taken = [[timed(words) for _, words, *_ in rows] for _ in range(turns)]
+    print(f"{stations} stations, {jobs} jobs, {turns} turns")
+    run = min(turn[0] for turn in taken)
+    for k, (name, *_) in enumerate(rows):
+        times = sorted(turn[k] for turn in taken)
+        print(f"{name:24}{times[0]:9.1f}{times[len(times) // 4]:9.1f}{times[0] / run:9.2f}", flush=True)
+
+
+def main():
+    turns = int(sys.argv[1]) if len(sys.argv) > 1 else TURNS
+    with tempfile.TemporaryDirectory(prefix="speed-") as folder:
+        os.chdir(folder)
+        for plant in PLANTS:
+            measure(*plant, turns)
+
+
+if __name__ == "__main__":
+    main()
