@@ -3,6 +3,7 @@ pub mod WrittenTexts
 pub mod KeptWords
 pub mod FilledTexts
 pub mod WordBytes
+pub mod ShortNumbers
 pub mod ReadDates
 pub mod Unique
 pub mod ReadLines

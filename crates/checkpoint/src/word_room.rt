@@ -111,6 +111,9 @@ pub fn put_words(text: &mut Vec<u8>, dates: &[Date], first: usize) -> Result<(),
     requires { first ≤ length dates.now }
     ensures { IfOk result (λ _. text.new.items ≡ text.old.items ++ words_from dates.now first) }
 {
+    if first == dates.len() {
+        return Ok(());
+    }
     let mut room = [0; ROOM];
     put_by_room(text, &mut room, dates, first)
 }

@@ -10,6 +10,35 @@ use line_base::{Date, number_of};
 /// The latest date that a text may give.
 const MAX_GIVEN_DATE: Date = 1_000_000_000_000_000_000;
 
+/// The number that a text writes in decimal, where it is just one digit, or two without a zero in front.
+#[inline]
+fn short_number(text: &[u8]) -> Option<u64>
+    ensures read { IfSome result (λ n. text.now ≡ decimal n) }
+    ensures small { IfSome result (λ n. n < 100) }
+{
+    match text {
+        [ones @ b'0'..=b'9'] => Some(u64::from(ones - b'0')),
+        [tens @ b'1'..=b'9', ones @ b'0'..=b'9'] => {
+            Some(u64::from(tens - b'0') * 10 + u64::from(ones - b'0'))
+        }
+        _ => None,
+    }
+}
+
+/// The number that a text writes, as `number_of` reads it. Most differences of dates have one digit or two, and these
+/// are read at once.
+fn difference_of(text: &[u8], most: u64) -> Option<u64>
+    ensures read { IfSome result (λ n. text.now ≡ decimal n) }
+    ensures small { IfSome result (λ n. n ≤ most) }
+    ensures tells { (n : ℕ) → n ≤ most → text.now ≡ decimal n → result ≡ Some n }
+{
+    match short_number(text) {
+        None => number_of(text, most),
+        Some(number) if number <= most => Some(number),
+        Some(_) => None,
+    }
+}
+
 /// The date that is earlier than another one by the number that a text writes.
 fn earlier_date(text: &[u8], before: Date) -> Option<Date>
     ensures read { IfSome result (λ date. text.now ≡ decimal (before - date)) }
@@ -17,7 +46,7 @@ fn earlier_date(text: &[u8], before: Date) -> Option<Date>
     ensures tells { (date : ℕ) → date < before → text.now ≡ decimal (before - date)
         → result ≡ Some date }
 {
-    let less = number_of(text, before)?;
+    let less = difference_of(text, before)?;
     if less == 0 {
         return None;
     }
@@ -34,7 +63,7 @@ fn later_date(text: &[u8], before: Date) -> Option<Date>
         → text.now ≡ decimal (date - before)
         → result ≡ Some date }
 {
-    let more = number_of(text, MAX_GIVEN_DATE - before)?;
+    let more = difference_of(text, MAX_GIVEN_DATE - before)?;
     Some(before + more)
 }
 
