@@ -10,12 +10,18 @@ use live_check::Live;
 use std::sync::atomic::AtomicBool;
 use std::thread::Threads;
 
-/// How many idle sweeps, in which it fires nothing, a worker of a long burst makes for each job at most.
+/// How many idle sweeps, in which it fires nothing, a worker of a long burst makes at most, for each job and each worker.
 ///
-/// It makes one sweep for each job at least in which it fires, and an idle one takes some two fifths of the time of one
-/// in which all of its stations fire. So by waiting in vain it loses about twice the time of its own firings at most. This
-/// was measured, and nothing is proved of it.
-const IDLE_FOR_EACH_JOB: u64 = 5;
+/// An idle sweep takes some two fifths of the time of one in which all stations of the worker fire, and of these it would
+/// make one for each job. So a worker waits at most about as long as one worker alone takes for all firings. This was
+/// measured, and nothing is proved of it.
+const IDLE_EACH: u64 = 3;
+
+/// How long a worker of a long burst waits for the others.
+fn patience_of(live: &Live, workers: usize) -> Patience {
+    let most = IDLE_EACH * u64::from(live.graph().jobs());
+    Patience::Sweeps(most.saturating_mul(workers as u64))
+}
 
 /// Lets all workers sweep at the same time, each in a thread of its own, until each is done, or one has idled for too
 /// long. Where a thread is refused its worker sweeps on this one, waits for the others in vain, and leaves.
@@ -26,7 +32,7 @@ fn sweep_at_once<R: Threads + Sync, G: Gate>(rt: &R, workers: &mut [Worker], liv
 {
     let threads = workers.len();
     let stop = AtomicBool::new(false);
-    let patience = Patience::Sweeps(IDLE_FOR_EACH_JOB * u64::from(live.graph().jobs()));
+    let patience = patience_of(live, threads);
     for_each_mut(
         rt,
         workers,
