@@ -3,9 +3,10 @@ ghost use Rattle.checkpoint.specs.Kept.{AreFirstWordsOfEach, Follows, HaveEachWo
 ghost use Rattle.checkpoint.specs.Text.{lines_text, station_lines, text};
 ghost use Rattle.checkpoint.specs.declared.format.Format.TheVariants.{Differences};
 ghost use Rattle.event_graph.specs.State.{State};
+ghost use Rattle.line_core.specs.Run.{IsReached};
 
 use crate::kept_log::KeptLog;
-use crate::writer::{likely_size, put_head, put_rest, put_station, reserve_first};
+use crate::writer::{likely_size, put_head, put_rest, put_station};
 use event_graph::Graph;
 use line_base::Date;
 use line_core::AsState;
@@ -45,6 +46,17 @@ fn empty_logs(alloc: Global, count: u32) -> Result<Vec<KeptLog>, AllocError>
     Ok(logs)
 }
 
+/// Takes the room that a text of this state, with the dates of all jobs, is likely to need, where there is no text yet.
+fn reserve_text<S: AsState>(text: &mut Vec<u8>, graph: &Graph, state: &S) -> Result<(), AllocError>
+    requires { (S.run state.now).graph ≡ graph.now }
+    ensures { text.new.items ≡ text.old.items }
+{
+    if text.is_empty() {
+        return text.reserve(likely_size(graph, state, graph.jobs() as usize));
+    }
+    Ok(())
+}
+
 /// Writes a line for each station: its label, and its log.
 fn put_stations<S: AsState>(
     text: &mut Vec<u8>,
@@ -60,6 +72,7 @@ fn put_stations<S: AsState>(
         (λ _. AreFirstWordsOfEach graph.now (S.run state.now).state logs.new.items) }
     ensures all { IfOk result
         (λ _. HaveEachWord graph.now (S.run state.now).state logs.new.items) }
+    ensures reached { IfOk result (λ _. IsReached (S.run state.now)) }
 {
     let jobs = graph.jobs() as usize;
     for t in 0..graph.stations() {
@@ -98,8 +111,7 @@ impl KeptText {
             (λ _. HaveEachWord (S.run state.now).graph (S.run state.now).state self.new.logs) }
     {
         let graph = live.graph();
-        let likely = likely_size(graph, state, graph.jobs() as usize);
-        reserve_first(&mut self.text, likely)?;
+        reserve_text(&mut self.text, graph, state)?;
         self.text.clear();
         put_head(&mut self.text, graph)?;
         put_stations(&mut self.text, &mut self.logs, graph, state)?;

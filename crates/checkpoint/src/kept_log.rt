@@ -4,7 +4,7 @@ ghost use Rattle.checkpoint.specs.Text.{dates_text};
 ghost use Rattle.checkpoint.specs.declared.format.Format.TheVariants.{Differences};
 
 use crate::word_room::put_words;
-use crate::writer::{likely_words, put_log_behind, reserve_first};
+use crate::writer::{likely_words, put_log_behind};
 use line_base::Date;
 use std::alloc::{AllocError, Global};
 use std::marker::Model;
@@ -25,6 +25,17 @@ impl Model for KeptLog {
     ghost view = { λ l. record { count = l.count; words = l.words.items } };
 }
 
+/// Takes the room that the words of all jobs are likely to need where they go on as these dates, where there are no words
+/// yet.
+fn reserve_words(words: &mut Vec<u8>, dates: &[Date], jobs: usize) -> Result<(), AllocError>
+    ensures { words.new.items ≡ words.old.items }
+{
+    if words.is_empty() {
+        return words.reserve(likely_words(dates, jobs));
+    }
+    Ok(())
+}
+
 impl KeptLog {
     /// No words yet.
     pub fn new(alloc: Global) -> KeptLog
@@ -43,7 +54,7 @@ impl KeptLog {
         ensures words { IfOk result (λ _. AreFirstWords dates.now self.new) }
         ensures all { IfOk result (λ _. self.new.count ≡ length dates.now) }
     {
-        reserve_first(&mut self.words, likely_words(dates, jobs))?;
+        reserve_words(&mut self.words, dates, jobs)?;
         put_words(&mut self.words, dates, self.count)?;
         self.count = dates.len();
         Ok(())

@@ -235,16 +235,6 @@ pub fn likely_size<S: AsState>(graph: &Graph, state: &S, count: usize) -> usize
     size
 }
 
-/// Takes room for this many bytes where there are none yet.
-pub fn reserve_first(text: &mut Vec<u8>, bytes: usize) -> Result<(), AllocError>
-    ensures { text.new.items ≡ text.old.items }
-{
-    if text.is_empty() {
-        return text.reserve(bytes);
-    }
-    Ok(())
-}
-
 /// The text of a state in format 2: the number of the format, the delays of the arcs, the log of each station, the
 /// place of each arc, and the end, each on lines of their own. A date that follows another one stands as its difference
 /// from that one.

@@ -21,6 +21,7 @@ loop-t-preserved g c =
       written =
           line_step Differences (station_lines of) s.logs t (station_words of t) c.loop-t.text.items _ c.put.new.text.items (c.args.text.now.items ++ lines_text Differences (station_lines of) s.logs) low (station_line_at of t there) c.loop-t.invariant.written c.in_ok-put_station.ensures dated;
       first = first_words-set of s c.loop-t.logs.items t c.put.new.self there c.loop-t.invariant.first words;
+      reached = λ some. c.log_of.ensures.reached;
       all =
           each_word-set of s c.loop-t.logs.items t c.put.new.self there c.loop-t.invariant.first words (c.in_ok-put.ensures.all ∙ ap length c.log_of.ensures.log) c.loop-t.invariant.all;
     }

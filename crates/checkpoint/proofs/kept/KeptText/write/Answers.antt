@@ -11,7 +11,7 @@ use Rattle.checkpoint.proofs.kept.KeptText.write.Goals as goal
 pub returns-clause-text : goal.returns-clause-text
 returns-clause-text g c =
     let r = g.S.AsState.run c.args.state.now in
-    let all = reached_is_consistent r.graph r.state c.likely_size-likely.ensures.reached.reached in
+    let all = reached_is_consistent r.graph r.state c.in_ok-put_stations.ensures.reached.reached in
     let of_graph = c.graph-graph.ensures.graph ∙ c.requires.made_for in
     let head = c.in_ok-put_head.ensures ∙ ap (λ (l : List ℕ). l ++ lines_text Differences (head_lines Differences c.graph-graph.result.now) []) c.clear.ensures.items ∙ ap (λ (h : Parts). lines_text Differences (head_lines Differences h) []) of_graph in
     let logs = c.in_ok-put_stations.ensures.text ∙ ap (λ (h : Parts). c.put_head.new.text.items ++ lines_text Differences (station_lines h) r.state.logs) of_graph in

@@ -10,4 +10,4 @@ returns-clause-words c =
     let count = c.self.inside.count in
     let before : KeptWords = record { count = count; words = c.self.inside.words.items } in
     let first : AreFirstWords dates before = subst (AreFirstWords dates) (sym c.self.view_is) c.requires in
-    all_words dates before c.put_words.new.text.items first (c.in_ok-put_words.ensures ∙ ap (λ (l : List ℕ). l ++ words_from dates count) c.reserve_first.ensures)
+    all_words dates before c.put_words.new.text.items first (c.in_ok-put_words.ensures ∙ ap (λ (l : List ℕ). l ++ words_from dates count) c.reserve_words.ensures)
