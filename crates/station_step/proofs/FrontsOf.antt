@@ -21,7 +21,7 @@ use Rattle.station_step.specs.Station.{bare_input}
 use Rattle.station_step.proofs.OwnQueues.{None-Some, Some-injective, inlet_queue-same, input-same}
 
 abbrev no_front : Front
-no_front = record { queue = 0; extra = 0; later = 0 }
+no_front = front_at [] 0
 
 abbrev no_input : Input
 no_input = record { inlet = inlet.Local 0; hand = None }
@@ -77,9 +77,8 @@ fronts_past n delays extras inputs fronts none up_to = record {
 }
 
 -- the next input is on the shelf
-pub fronts_more : (n : ℕ) (delays extras : List ℕ) (inputs : List Input) (fronts : List Front) (q extra later : ℕ) → inlet_queue (input_at inputs n).inlet ≡ Some q → extra ≡ slice_index extras n → later ≡ saturating (slice_index delays n) extra → FrontsUpTo n delays extras inputs fronts → FrontsUpTo (n + 1) delays extras inputs (fronts ++ record { queue = q; extra = extra; later = later } ∷ [])
-fronts_more n delays extras inputs fronts q extra later queue extra_is later_is up_to =
-    let next : Front = record { queue = q; extra = extra; later = later } in
+pub fronts_more : (n : ℕ) (delays extras : List ℕ) (inputs : List Input) (fronts : List Front) (next : Front) → inlet_queue (input_at inputs n).inlet ≡ Some next.queue → next.extra.value ≡ slice_index extras n → next.later ≡ saturating (slice_index delays n) next.extra.value → FrontsUpTo n delays extras inputs fronts → FrontsUpTo (n + 1) delays extras inputs (fronts ++ next ∷ [])
+fronts_more n delays extras inputs fronts next queue extra_is later_is up_to =
     let was = up_to.numbers in
     let many : length (fronts ++ next ∷ []) ≡ length fronts + 1 = length_push fronts next in
     let count : length (was ++ n ∷ []) ≡ length (fronts ++ next ∷ []) =
@@ -124,11 +123,11 @@ fronts_more n delays extras inputs fronts q extra later queue extra_is later_is 
       extra = λ j low.
           ⊎_elim
           (λ (before : j < length fronts).
-          ap (λ (f : Front). f.extra) (front-before j before)
+          ap (λ (f : Front). f.extra.value) (front-before j before)
           ∙ up_to.extra j before
           ∙ ap (slice_index extras) (sym (number-before j before)))
           (λ (past : length fronts ≤ j).
-          ap (λ (f : Front). f.extra) (front-here j (end j low past))
+          ap (λ (f : Front). f.extra.value) (front-here j (end j low past))
           ∙ extra_is
           ∙ ap (slice_index extras) (sym (number-here j (end j low past))))
           (cases_lt j (length fronts));
@@ -137,14 +136,14 @@ fronts_more n delays extras inputs fronts q extra later queue extra_is later_is 
           (λ (before : j < length fronts).
           ap (λ (f : Front). f.later) (front-before j before)
           ∙ up_to.later j before
-          ∙ ap (λ m. saturating (slice_index delays m) (front_at fronts j).extra) (sym (number-before j before))
-          ∙ ap (λ (f : Front). saturating (slice_index delays (slice_index (was ++ n ∷ []) j)) f.extra) (sym (front-before j before)))
+          ∙ ap (λ m. saturating (slice_index delays m) (front_at fronts j).extra.value) (sym (number-before j before))
+          ∙ ap (λ (f : Front). saturating (slice_index delays (slice_index (was ++ n ∷ []) j)) f.extra.value) (sym (front-before j before)))
           (λ (past : length fronts ≤ j).
           let here = end j low past in
           ap (λ (f : Front). f.later) (front-here j here)
           ∙ later_is
-          ∙ ap (λ m. saturating (slice_index delays m) extra) (sym (number-here j here))
-          ∙ ap (λ (f : Front). saturating (slice_index delays (slice_index (was ++ n ∷ []) j)) f.extra) (sym (front-here j here)))
+          ∙ ap (λ m. saturating (slice_index delays m) next.extra.value) (sym (number-here j here))
+          ∙ ap (λ (f : Front). saturating (slice_index delays (slice_index (was ++ n ∷ []) j)) f.extra.value) (sym (front-here j here)))
           (cases_lt j (length fronts));
       each = λ k less local.
           ⊎_elim
@@ -288,5 +287,5 @@ module _ (delays extras : List ℕ) (inputs : List Input) (fronts : List Front) 
   pub fronts-later : (sources : List Source) → ((k q : ℕ) → k < length inputs → inlet_queue (input_at inputs k).inlet ≡ Some q → (source_at sources q).delay ≡ slice_index delays k) → AreLaterBy sources fronts
   fronts-later sources come j low =
       is.later j low
-      ∙ ap (λ n. saturating n (front_at fronts j).extra)
+      ∙ ap (λ n. saturating n (front_at fronts j).extra.value)
       (sym (come (number j) (front_at fronts j).queue (is.within j low) (is.queues j low)))

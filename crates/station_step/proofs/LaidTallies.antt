@@ -2,14 +2,15 @@
 use Rattle.std.proofs.Common.{◌≡◌, ℕ, ◌+◌, ◌-◌, ◌^◌, ◌<◌, ◌≤◌, List, [], ◌∷◌, ◌++◌, length, map, take, drop, refl, sym, ap, ◌∙◌, subst, arith, ⊎_elim, length-append, length-drop}
 use Rattle.std.specs.Prelude.{Vec, slice_index_or}
 use Rattle.std.specs.declared.alloc.Global.{Global}
-use Rattle.std.proofs.lemmas.List.{get_or_append_left, get_or_push, get_or-map, ext_get_or, drop_at, drop_all, take_all, length-map, drop-append-le, take-append-le}
+use Rattle.std.proofs.lemmas.List.{get_or_append_left, get_or_push, get_or-map, ext_get_or, drop_at, drop_all, take_all, length-map, map_push, drop-append-le, take-append-le}
 use Rattle.std.proofs.lemmas.Bool.{cases_lt}
 use Rattle.line_base.specs.Roomy.{RoomyLog}
 use Rattle.card_queue.specs.Plain.{PlainQueue}
 use Rattle.station_step.specs.declared.source.Source.{Source}
+use Rattle.station_step.specs.declared.tally.Origin.{Origin}
 use Rattle.station_step.specs.Counts.{QueueTally}
 use Rattle.station_step.specs.Shelf.{new_queue, later_by, source_at, log_on}
-use Rattle.station_step.specs.Counts.{new_tally, no_tally, tally_at, dates_for, firsts_of, seen_queues, sources_of, AreTallies}
+use Rattle.station_step.specs.Counts.{new_tally, no_tally, origin_of, origins_of, tally_at, dates_for, firsts_of, seen_queues, sources_of, AreTallies}
 use Rattle.station_step.proofs.Queues.{length-seen, queue-seen, source-seen}
 
 -- a new queue, whose first tokens stand among these
@@ -42,19 +43,21 @@ laid-longer logs first source tokens more tally is =
     }
 
 -- the next queue is laid
-pub laid_more : (n : ℕ) (logs : List RoomyLog) (firsts : List (List ℕ)) (sources : List Source) (tokens first : List ℕ) (source : Source) (made : ℕ) (tallies : List QueueTally) → first ≡ slice_index_or firsts n [] → source ≡ source_at sources n → made ≡ length (dates_for logs (new_tally 0 0 source 0)) → LaidUpTo n logs firsts sources tokens tallies → LaidUpTo (n + 1) logs firsts sources (tokens ++ first) (tallies ++ new_tally (length tokens) (length first) source made ∷ [])
-laid_more n logs firsts sources tokens first source made tallies first_is source_is made_is laid =
-    let tally : QueueTally = new_tally (length tokens) (length first) source made in
+pub laid_more : (n : ℕ) (logs : List RoomyLog) (firsts : List (List ℕ)) (sources : List Source) (tokens first : List ℕ) (source : Source) (origin : Origin) (tallies : List QueueTally) → first ≡ slice_index_or firsts n [] → source ≡ source_at sources n → origin.delay ≡ source.delay → origin.made ≡ length (log_on logs source.station).dates → origin.end ≡ length tokens + length first → LaidUpTo n logs firsts sources tokens tallies → LaidUpTo (n + 1) logs firsts sources (tokens ++ first) (tallies ++ new_tally origin source.station (length first) ∷ [])
+laid_more n logs firsts sources tokens first source origin tallies first_is source_is delay_is made_is end_is laid =
+    let tally : QueueTally = new_tally origin source.station (length first) in
     let none : QueueTally = no_tally in
     let tallies' = tallies ++ tally ∷ [] in
+    let start : tally.start ≡ length tokens = omega (arith, end_is) in
     let last : IsLaid logs (slice_index_or firsts n []) (source_at sources n) (tokens ++ first) tally = record {
-      began = omega (arith, length-append tokens first);
+      began = omega (arith, start, length-append tokens first);
       initial = ap length first_is;
-      stand = ap (take (length first)) (drop_at tokens first (length tokens) refl)
+      stand = ap (λ m. take (length first) (drop m (tokens ++ first))) start
+          ∙ ap (take (length first)) (drop_at tokens first (length tokens) refl)
           ∙ take_all (length first) first (omega arith)
           ∙ first_is;
       taken = refl;
-      source_is = source_is;
+      source_is = ap (λ d. (let same : Source = record { station = source.station; delay = d } in same)) delay_is ∙ source_is;
       made = made_is;
     } in
     record {
@@ -70,6 +73,14 @@ laid_more n logs firsts sources tokens first source made tallies first_is source
           (subst (IsLaid logs (slice_index_or firsts n []) (source_at sources n) (tokens ++ first)) (sym (get_or_push tallies tally none n laid.count)) last))
           (cases_lt q n);
     }
+
+-- and so is its origin
+pub origins_more : (tallies : List QueueTally) (origins : List Origin) (origin : Origin) (station initial : ℕ) → initial ≤ origin.end → origins ≡ origins_of tallies → origins ++ origin ∷ [] ≡ origins_of (tallies ++ new_tally origin station initial ∷ [])
+origins_more tallies origins origin station initial low are =
+    let ended : origin.end ≡ origin.end - initial + initial = omega (arith, low) in
+    ap (λ (l : List Origin). l ++ origin ∷ []) are
+    ∙ ap (λ m. (let same : Origin = record { delay = origin.delay; made = origin.made; end = m } in origins_of tallies ++ same ∷ [])) ended
+    ∙ sym (map_push origin_of tallies (new_tally origin station initial))
 
 -- the queues of all of them
 pub seen-laid : (logs : List RoomyLog) (firsts : List (List ℕ)) (sources : List Source) (tokens : List ℕ) (room : ℕ) (tallies : List QueueTally) → LaidUpTo (length firsts) logs firsts sources tokens tallies → seen_queues tokens room logs tallies ≡ map (new_queue room) firsts

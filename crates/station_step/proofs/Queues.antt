@@ -7,9 +7,10 @@ use Rattle.std.proofs.Math.ListN.{get_or-map as at_map}
 use Rattle.std.proofs.lemmas.Bool.{cases_lt, cases_eq}
 use Rattle.line_base.specs.Roomy.{RoomyLog, with_date}
 use Rattle.card_queue.specs.Plain.{PlainQueue, plain_tokens, plain_taken, plain_waiting}
+use Rattle.station_step.specs.declared.tally.Origin.{Origin}
 use Rattle.station_step.specs.Counts.{QueueTally}
 use Rattle.station_step.specs.Shelf.{log_on, source_at, later_by, queue_at, without_takes, with_take}
-use Rattle.station_step.specs.Counts.{no_tally, tally_at, dates_for, firsts_of, seen_queue, seen_queues, sources_of, IsTally, AreTallies, one_taken}
+use Rattle.station_step.specs.Counts.{no_tally, tally_at, dates_for, firsts_of, seen_queue, seen_queues, sources_of, origin_of, origins_of, IsTally, AreTallies, one_taken}
 
 abbrev no_queue : PlainQueue
 no_queue = record { initial = []; added = []; room = 0; takes = 0 }
@@ -24,6 +25,13 @@ queue-seen firsts room logs tallies k low = get_or-map (seen_queue firsts room l
 
 pub source-seen : (tallies : List QueueTally) (k : ℕ) → source_at (sources_of tallies) k ≡ (tally_at tallies k).source
 source-seen tallies k = at_map (λ (tally : QueueTally). tally.source) tallies k no_tally
+
+-- the origin of queue k, as the shelf lends it
+pub origin-lent : (tallies : List QueueTally) (origins : List Origin) (k : ℕ) (lent : Origin) → origins ≡ origins_of tallies → k < length tallies → lent ≡ get_or origins k lent → lent ≡ origin_of (tally_at tallies k)
+origin-lent tallies origins k lent are low read =
+    read
+    ∙ ap (λ (l : List Origin). get_or l k lent) are
+    ∙ get_or-map origin_of tallies k no_tally lent low
 
 -- a queue of the shelf has a tally
 pub tally_there : (firsts : List ℕ) (room : ℕ) (logs : List RoomyLog) (tallies : List QueueTally) (queues : List PlainQueue) (k : ℕ) → seen_queues firsts room logs tallies ≡ queues → k < length queues → k < length tallies
@@ -64,7 +72,7 @@ module _ (firsts : List ℕ) (room : ℕ) (logs : List RoomyLog) (tally : QueueT
   abbrev added : List ℕ
   added = map later (drop tally.made source_dates)
 
-  length-firsts : length initial ≡ tally.initial
+  pub length-firsts : length initial ≡ tally.initial
   length-firsts = length-take-le tally.initial (drop tally.start firsts) (omega (arith, is.began, length-drop tally.start firsts))
 
   length-added : length added ≡ length source_dates - tally.made
@@ -215,10 +223,14 @@ module _ (firsts : List ℕ) (room : ℕ) (logs : List RoomyLog) (tallies : List
   pub take-sources : sources_of (set tallies k (one_taken taken_from)) ≡ sources_of tallies
   take-sources = map-set_same (λ (t : QueueTally). t.source) tallies k (one_taken taken_from) no_tally refl
 
+  pub take-origins : origins_of (set tallies k (one_taken taken_from)) ≡ origins_of tallies
+  take-origins = map-set_same origin_of tallies k (one_taken taken_from) no_tally refl
+
 -- a take of one tally, as the shelf lends it, and what it does to all of them
 pub record ShelfTook (firsts : List ℕ) (room : ℕ) (logs : List RoomyLog) (old new : List QueueTally) (k : ℕ) (token : Option ℕ) : Type 0 where
   pub sound : AreTallies firsts room logs new
   pub sources : sources_of new ≡ sources_of old
+  pub origins : origins_of new ≡ origins_of old
   pub took : TakenFrom (seen_queues firsts room logs old) (seen_queues firsts room logs new) k token
 
 -- what the queue shows of its front
@@ -236,6 +248,7 @@ shelf-took firsts room logs tallies k lent left None are is front counted stays 
     subst (λ (new : List QueueTally). ShelfTook firsts room logs tallies new k None) (sym same) (record {
       sound = are;
       sources = refl;
+      origins = refl;
       took = take-none seen k low (front-seen firsts room logs tallies k [] is.there at);
     })
 shelf-took firsts room logs tallies k lent left (Some token) are is front counted stays =
@@ -246,6 +259,7 @@ shelf-took firsts room logs tallies k lent left (Some token) are is front counte
     subst (λ (t : QueueTally). ShelfTook firsts room logs tallies (set tallies k t) k (Some token)) (sym (counted ∙ ap one_taken is.at)) (record {
       sound = take-sound firsts room logs tallies k token are is.there at;
       sources = take-sources firsts room logs tallies k token are is.there at;
+      origins = take-origins firsts room logs tallies k token are is.there at;
       took = subst (λ (new : List PlainQueue). TakenFrom seen new k (Some token)) (sym (take-counted firsts room logs tallies k token are is.there at)) (take-some seen k token low (front-seen firsts room logs tallies k (token ∷ []) is.there at));
     })
 

@@ -9,6 +9,7 @@ use Rattle.station_step.specs.contracts.shelf.Shelf as Shelf
 use Rattle.station_step.specs.contracts.shelf.Shelf.TheInside as ShelfInside
 use Rattle.station_step.specs.contracts.tally.Tally as Tally
 use Rattle.station_step.specs.contracts.tally.Tally.TheInside as TallyInside
+use Rattle.station_step.specs.contracts.tally.Origin as Origin
 use Rattle.station_step.specs.contracts.fronts.Front as Front
 use Rattle.station_step.specs.contracts.noted.NotedInput as NotedInput
 use Rattle.station_step.specs.contracts.noted.NotedOutlet as NotedOutlet
@@ -16,7 +17,7 @@ use Rattle.station_step.specs.contracts.station.Station as Station
 use Rattle.station_step.specs.contracts.station.Station.TheInside as StationInside
 use Rattle.station_step.specs.contracts.waits.EmptyHand as EmptyHand
 use Rattle.station_step.proofs.waits.EmptyHand.TheSendSync as HandSent
-use Rattle.station_step.proofs.fronts.Front.TheSendSync as FrontSent
+use Rattle.station_step.proofs.tally.Origin.TheSendSync as OriginSent
 use Rattle.station_step.proofs.noted.NotedInput.TheSendSync as InputSent
 use Rattle.station_step.proofs.noted.NotedOutlet.TheSendSync as OutletSent
 
@@ -33,16 +34,10 @@ tally_send =
         (
           search sendable,
           (
-            search sendable,
+            search crosses,
             (
-              search sendable,
-              (
-                search sendable,
-                (
-                  search crosses,
-                  tt,
-                ),
-              ),
+              search crosses,
+              tt,
             ),
           ),
         ),
@@ -59,8 +54,11 @@ shelf_send =
         (
           Vec-send Tally.the_row tally_send,
           (
-            search crosses,
-            tt,
+            Vec-send Origin.the_row (as_row_send Origin.the_field OriginSent.the_field_send),
+            (
+              search crosses,
+              tt,
+            ),
           ),
         ),
       ),
@@ -68,6 +66,19 @@ shelf_send =
 
 hand_send : IsSend EmptyHand.the_row
 hand_send = as_row_send EmptyHand.the_field HandSent.the_field_send
+
+front_send : IsSend Front.the_row
+front_send =
+    declared_send Front.the_type (
+      search sendable,
+      (
+        search sendable,
+        (
+          search crosses,
+          tt,
+        ),
+      ),
+    )
 
 station_fields : IsSend StationInside.the_row
 station_fields =
@@ -86,19 +97,19 @@ station_fields =
                 (
                   search sendable,
                   (
-                    search (sendable, hand_send) depth 20,
+                    search sendable,
                     (
                       search sendable,
                       (
-                        Vec-send Front.the_row (as_row_send Front.the_field FrontSent.the_field_send),
+                        Vec-send Front.the_row front_send,
                         (
                           Vec-send NotedInput.the_row (as_row_send NotedInput.the_field InputSent.the_field_send),
                           (
                             Vec-send NotedOutlet.the_row (as_row_send NotedOutlet.the_field OutletSent.the_field_send),
                             (
-                              search crosses,
+                              search (sendable, hand_send) depth 20,
                               (
-                                search sendable,
+                                search crosses,
                                 (
                                   search crosses,
                                   (

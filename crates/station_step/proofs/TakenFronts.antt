@@ -1,20 +1,22 @@
 -- The tallies of the fronts: one token more is taken of each, or put back at each, and what is seen of the queues then.
-use Rattle.std.proofs.Common.{◌≡◌, ◌≢◌, ℕ, zero, suc, ◌+◌, ◌<◌, ◌≤◌, max, List, [], ◌∷◌, length, map, set, take, refl, sym, ap, ◌∙◌, subst, arith, ⊎_elim, get_or-set_same, get_or-set_other}
+use Rattle.std.proofs.Common.{◌≡◌, ◌≢◌, ℕ, zero, suc, ◌+◌, ◌<◌, ◌≤◌, max, List, [], ◌∷◌, length, map, get_or, set, take, refl, sym, ap, ◌∙◌, subst, arith, ⊎_elim, get_or-set_same, get_or-set_other}
 use Rattle.std.specs.Prelude.{None, Some, slice_index}
 use Rattle.std.specs.List.{range_with_len}
 use Rattle.std.specs.Ordering.{ord_max, nat_cmp}
 use Rattle.std.proofs.lemmas.List.{length-map, length-set, get_or-take, length-take-le, get_or_past, ext_get_or}
+use Rattle.std.proofs.Math.ListN.{get_or-map as at_map}
 use Rattle.std.proofs.lemmas.Bool.{cases_eq, cases_lt}
 use Rattle.line_base.specs.Roomy.{RoomyLog}
 use Rattle.card_queue.specs.Plain.{PlainQueue, plain_waiting}
 use Rattle.event_graph.specs.GreatestValue.{greatest}
 use Rattle.station_step.specs.declared.source.Source.{Source}
+use Rattle.station_step.specs.declared.tally.Origin.{Origin}
 use Rattle.station_step.specs.declared.fronts.Front.{Front}
 use Rattle.station_step.specs.Shelf.{queue_at, later_by, with_take, without_takes, OnlyTakes}
-use Rattle.station_step.specs.Counts.{QueueTally, no_tally, tally_at, seen_queue, seen_queues, sources_of, IsTally, AreTallies, one_taken, one_returned}
-use Rattle.station_step.specs.Fronts.{front_at, waiting_at, front_asks, FrontsWithin, FrontsApart, NoneAt, AreAllThere, TakesEach}
+use Rattle.station_step.specs.Counts.{QueueTally, no_tally, tally_at, next_place, dates_for, seen_queue, seen_queues, sources_of, origin_of, origins_of, IsTally, AreTallies, one_taken, one_returned}
+use Rattle.station_step.specs.Fronts.{front_at, waiting_at, front_asks, FrontsWithin, FrontsApart, NoneAt, AreAllThere, AreDates, AreLaterBy, TakesEach}
 use Rattle.station_step.specs.Kept.{saturating}
-use Rattle.station_step.proofs.Queues.{length-seen, queue-seen, source-seen, length-waiting, tally-one_taken}
+use Rattle.station_step.proofs.Queues.{length-seen, queue-seen, source-seen, length-firsts, length-waiting, later-twice, front-date, tally-one_taken}
 use Rattle.station_step.proofs.Dates.{greatest-more, ord_max-nat, latest-none}
 
 -- ---- the walk that changes the tally of each front
@@ -75,8 +77,8 @@ at-front P (suc k) fronts q among else =
     (cases_eq q (front_at fronts k).queue)
 
 -- among the first fronts, a front is the same
-front-among : (k : ℕ) (fronts : List Front) (j : ℕ) → j < k → front_at (take k fronts) j ≡ front_at fronts j
-front-among k fronts j low = get_or-take k fronts j (record { queue = 0; extra = 0; later = 0 }) low
+pub front-among : (k : ℕ) (fronts : List Front) (j : ℕ) → j < k → front_at (take k fronts) j ≡ front_at fronts j
+front-among k fronts j low = get_or-take k fronts j (front_at [] 0) low
 
 -- the tallies of the first k alone change
 pub first-changed : (change : QueueTally → QueueTally) (k : ℕ) (fronts : List Front) (old new : List QueueTally) → k ≤ length fronts → length new ≡ length old → ((j : ℕ) → j < length (take k fronts) → tally_at new (front_at (take k fronts) j).queue ≡ change (tally_at old (front_at (take k fronts) j).queue)) → ((q : ℕ) → NoneAt q (take k fronts) → tally_at new q ≡ tally_at old q) → ChangedUpTo change k fronts old new
@@ -166,6 +168,20 @@ module _ (firsts : List ℕ) (room : ℕ) (logs : List RoomyLog) (fronts : List 
       (λ none. ap source (changed.rest q none))
       ∙ sym (source-seen old q))
 
+  pub taken-origins : origins_of new ≡ origins_of old
+  taken-origins =
+      let none : Origin = origin_of no_tally in
+      let seen : (tallies : List QueueTally) (q : ℕ) → get_or (origins_of tallies) q none ≡ origin_of (tally_at tallies q) =
+      λ tallies q. at_map origin_of tallies q no_tally in
+      ext_get_or none (origins_of new) (origins_of old)
+      (length-map new origin_of ∙ changed.count ∙ sym (length-map old origin_of))
+      (λ q low.
+      seen new q
+      ∙ at-front (λ r. origin_of (tally_at new r) ≡ origin_of (tally_at old r)) (length fronts) fronts q
+      (λ j less. ap origin_of (changed.done j less))
+      (λ none. ap origin_of (changed.rest q none))
+      ∙ sym (seen old q))
+
   taken-each : (k : ℕ) → k < length fronts → queue_at after (front_at fronts k).queue ≡ with_take (queue_at before (front_at fronts k).queue)
   taken-each k low =
       let q = (front_at fronts k).queue in
@@ -185,9 +201,10 @@ module _ (firsts : List ℕ) (room : ℕ) (logs : List RoomyLog) (fronts : List 
         (λ none. ap without_takes (taken-others q none));
   }
 
-  pub takes-all : (date : ℕ) → date ≡ greatest (front_asks before fronts) (range_with_len 0 (length fronts)) → TakesEach fronts before after (Some date)
-  takes-all date is = record {
+  pub takes-all : AreDates before fronts → (date : ℕ) → date ≡ greatest (front_asks before fronts) (range_with_len 0 (length fronts)) → TakesEach fronts before after (Some date)
+  takes-all dates date is = record {
     there = there;
+    dates = dates;
     date = is;
     each = taken-each;
     lacks = tt;
@@ -197,9 +214,10 @@ module _ (firsts : List ℕ) (room : ℕ) (logs : List RoomyLog) (fronts : List 
   }
 
 -- where one lacks
-pub takes-none : (fronts : List Front) (queues : List PlainQueue) → (AreAllThere queues fronts → ⊥) → TakesEach fronts queues queues None
+pub takes-none : (fronts : List Front) (queues : List PlainQueue) → (AreAllThere queues fronts → AreDates queues fronts → ⊥) → TakesEach fronts queues queues None
 takes-none fronts queues lacks = record {
   there = tt;
+  dates = tt;
   date = tt;
   each = tt;
   lacks = lacks;
@@ -210,14 +228,47 @@ takes-none fronts queues lacks = record {
 
 -- ---- the date that they ask for
 
--- what the tally of the next front tells of its front token, as the walk lends it, is so of its queue
-pub asks-seen : (firsts : List ℕ) (room : ℕ) (logs : List RoomyLog) (tallies : List QueueTally) (fronts : List Front) (k extra : ℕ) (lent : QueueTally) (asked : List ℕ) → AreTallies firsts room logs tallies → FrontsWithin (length tallies) fronts → k < length fronts → lent ≡ tally_at tallies (front_at fronts k).queue → (IsTally firsts room logs lent → asked ≡ map (later_by extra) (take 1 (plain_waiting (seen_queue firsts room logs lent)))) → asked ≡ map (later_by extra) (take 1 (waiting_at (seen_queues firsts room logs tallies) fronts k))
-asks-seen firsts room logs tallies fronts k extra lent asked are within low is asks =
+-- what the next front asks for, where its tally, as the walk lends it, gives a date
+pub asks-date : (firsts : List ℕ) (room : ℕ) (logs : List RoomyLog) (tallies : List QueueTally) (fronts : List Front) (k date : ℕ) (lent : QueueTally) → AreTallies firsts room logs tallies → FrontsWithin (length tallies) fronts → AreLaterBy (sources_of tallies) fronts → k < length fronts → lent ≡ tally_at tallies (front_at fronts k).queue → lent.initial ≤ lent.taken → next_place lent < length (dates_for logs lent) → date ≡ slice_index (dates_for logs lent) (next_place lent) → later_by (front_at fronts k).later date ∷ [] ≡ map (later_by (front_at fronts k).extra.value) (take 1 (waiting_at (seen_queues firsts room logs tallies) fronts k))
+asks-date firsts room logs tallies fronts k date lent are within later low is past more date_is =
     let q = (front_at fronts k).queue in
+    let extra = (front_at fronts k).extra.value in
     let there = within k low in
-    asks (subst (IsTally firsts room logs) (sym is) (are q there))
-    ∙ ap (λ (queue : PlainQueue). map (later_by extra) (take 1 (plain_waiting queue)))
-    (ap (seen_queue firsts room logs) is ∙ sym (queue-seen firsts room logs tallies q there))
+    let sound : IsTally firsts room logs lent = subst (IsTally firsts room logs) (sym is) (are q there) in
+    let delay : (front_at fronts k).later ≡ later_by extra lent.source.delay =
+    later k low
+    ∙ ap (λ (source : Source). later_by extra source.delay) (source-seen tallies q)
+    ∙ ap (λ (t : QueueTally). later_by extra t.source.delay) (sym is) in
+    ap (λ n. n ∷ []) (ap (λ n. later_by n date) delay
+    ∙ sym (later-twice extra lent.source.delay date)
+    ∙ ap (λ n. later_by extra (later_by lent.source.delay n)) date_is)
+    ∙ ap (map (later_by extra)) (front-date firsts room logs lent sound past more
+    ∙ ap (λ (t : QueueTally). take 1 (plain_waiting (seen_queue firsts room logs t))) is
+    ∙ ap (λ (queue : PlainQueue). take 1 (plain_waiting queue)) (sym (queue-seen firsts room logs tallies q there)))
+
+-- the tally of a front past the tokens with which its queue began
+pub past-seen : (firsts : List ℕ) (room : ℕ) (logs : List RoomyLog) (tallies : List QueueTally) (q : ℕ) → AreTallies firsts room logs tallies → q < length tallies → length (queue_at (seen_queues firsts room logs tallies) q).initial ≡ (tally_at tallies q).initial
+past-seen firsts room logs tallies q are there =
+    ap (λ (queue : PlainQueue). length queue.initial) (queue-seen firsts room logs tallies q there)
+    ∙ length-firsts firsts room logs (tally_at tallies q) (are q there)
+
+pub dates-seen : (firsts : List ℕ) (room : ℕ) (logs : List RoomyLog) (tallies : List QueueTally) (fronts : List Front) → AreTallies firsts room logs tallies → FrontsWithin (length tallies) fronts → ((k : ℕ) → k < length fronts → (tally_at tallies (front_at fronts k).queue).initial ≤ (tally_at tallies (front_at fronts k).queue).taken) → AreDates (seen_queues firsts room logs tallies) fronts
+dates-seen firsts room logs tallies fronts are within past k low =
+    let q = (front_at fronts k).queue in
+    omega (arith, past k low, past-seen firsts room logs tallies q are (within k low), ap (λ (queue : PlainQueue). queue.takes) (queue-seen firsts room logs tallies q (within k low)))
+
+-- where it gives none, no token waits there that is a date
+pub lacks-date : (firsts : List ℕ) (room : ℕ) (logs : List RoomyLog) (tallies : List QueueTally) (fronts : List Front) (k : ℕ) (lent : QueueTally) → AreTallies firsts room logs tallies → FrontsWithin (length tallies) fronts → k < length fronts → lent ≡ tally_at tallies (front_at fronts k).queue → (lent.initial ≤ lent.taken → length (dates_for logs lent) ≤ next_place lent) → AreAllThere (seen_queues firsts room logs tallies) fronts → AreDates (seen_queues firsts room logs tallies) fronts → ⊥
+lacks-date firsts room logs tallies fronts k lent are within low is none there dates =
+    let q = (front_at fronts k).queue in
+    let tally = tally_at tallies q in
+    let at = within k low in
+    let queue = queue-seen firsts room logs tallies q at in
+    let past : tally.initial ≤ tally.taken =
+    omega (arith, dates k low, past-seen firsts room logs tallies q are at, ap (λ (p : PlainQueue). p.takes) queue) in
+    let over : length (dates_for logs tally) ≤ next_place tally =
+    subst (λ (t : QueueTally). t.initial ≤ t.taken → length (dates_for logs t) ≤ next_place t) is none past in
+    omega (arith, over, past, some-length _ (there k low), ap (λ (p : PlainQueue). length (plain_waiting p)) queue, length-waiting firsts room logs tally (are q at), (are q at).made_there)
 
 -- the date that the first token asks for, where one waits
 first-is : (waiting : List ℕ) (extra date : ℕ) → date ∷ [] ≡ map (later_by extra) (take 1 waiting) → date ≡ saturating (slice_index waiting 0) extra
@@ -228,20 +279,16 @@ pub some-there : (waiting : List ℕ) (extra date : ℕ) → date ∷ [] ≡ map
 some-there waiting extra date front none =
     absurd (omega (arith, ap length front, ap (λ (l : List ℕ). length (map (later_by extra) (take 1 l))) none))
 
-pub none-there : (waiting : List ℕ) (extra : ℕ) → [] ≡ map (later_by extra) (take 1 waiting) → waiting ≡ []
-none-there [] extra front = refl
-none-there (x ∷ xs) extra front = absurd (omega (arith, ap length front))
-
 -- one front more asks
 pub front-none : (shelf : List PlainQueue) (fronts : List Front) → 0 ≡ greatest (front_asks shelf fronts) (range_with_len 0 0)
 front-none shelf fronts = latest-none (front_asks shelf fronts)
 
-pub latest-front_more : (shelf : List PlainQueue) (fronts : List Front) (k latest date : ℕ) → latest ≡ greatest (front_asks shelf fronts) (range_with_len 0 k) → date ∷ [] ≡ map (later_by (front_at fronts k).extra) (take 1 (waiting_at shelf fronts k)) → ord_max nat_cmp latest date ≡ greatest (front_asks shelf fronts) (range_with_len 0 (k + 1))
+pub latest-front_more : (shelf : List PlainQueue) (fronts : List Front) (k latest date : ℕ) → latest ≡ greatest (front_asks shelf fronts) (range_with_len 0 k) → date ∷ [] ≡ map (later_by (front_at fronts k).extra.value) (take 1 (waiting_at shelf fronts k)) → ord_max nat_cmp latest date ≡ greatest (front_asks shelf fronts) (range_with_len 0 (k + 1))
 latest-front_more shelf fronts k latest date is front =
     let asks = front_asks shelf fronts in
     let at : k ≡ 0 + k = omega arith in
     let here : date ≡ asks (0 + k) =
-    first-is (waiting_at shelf fronts k) (front_at fronts k).extra date front ∙ ap asks at in
+    first-is (waiting_at shelf fronts k) (front_at fronts k).extra.value date front ∙ ap asks at in
     let next : suc k ≡ k + 1 = omega arith in
     ord_max-nat latest date
     ∙ ap (λ m. max m date) is

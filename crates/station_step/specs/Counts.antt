@@ -1,10 +1,11 @@
 -- How a shelf keeps its queues: the tokens that they began with stand queue after queue in one list. Those that were
 -- put since stand nowhere: they are the dates of their source's log, later by a delay. Of each queue it is counted how
 -- many tokens were taken. Only the shelf itself and the take at its fronts read these words.
-use Rattle.std.specs.Prelude.{ℕ, ◌+◌, ◌-◌, ◌^◌, ◌≤◌, ◌<◌, List, map, take, drop, length, slice_index_or}
+use Rattle.std.specs.Prelude.{◌≡◌, ℕ, ◌+◌, ◌-◌, ◌^◌, ◌≤◌, ◌<◌, List, map, take, drop, length, slice_index_or}
 use Rattle.card_queue.specs.Plain.{PlainQueue}
 use Rattle.line_base.specs.Roomy.{RoomyLog}
 use Rattle.station_step.specs.declared.source.Source.{Source}
+use Rattle.station_step.specs.declared.tally.Origin.{Origin}
 use Rattle.station_step.specs.Shelf.{WorkShelf, log_on, later_by}
 
 -- what contracts see of a `Tally`
@@ -15,20 +16,26 @@ pub record QueueTally : Type 0 where
   pub made : ℕ  -- how many dates that log had when the queue was made
   pub start : ℕ  -- where its first token stands among those that the queues began with
 
--- the tally of a queue whose first tokens, this many, stand from this place on, where the log of its source has this
--- many dates
-abbrev pub new_tally : ℕ → ℕ → Source → ℕ → QueueTally
-new_tally start initial source made = record {
+-- the tally of a queue of this origin, whose further tokens come from this station and which begins with this many
+abbrev pub new_tally : Origin → ℕ → ℕ → QueueTally
+new_tally origin station initial = record {
   taken = 0;
   initial = initial;
-  source = source;
-  made = made;
-  start = start;
+  source = record { station = station; delay = origin.delay };
+  made = origin.made;
+  start = origin.end - initial;
 }
 
 -- where there is no queue
 abbrev pub no_tally : QueueTally
-no_tally = new_tally 0 0 (record { station = 0; delay = 0 }) 0
+no_tally = new_tally (record { delay = 0; made = 0; end = 0 }) 0 0
+
+-- what stands of a queue with this tally in the other list of the shelf
+abbrev pub origin_of : QueueTally → Origin
+origin_of tally = record { delay = tally.source.delay; made = tally.made; end = tally.start + tally.initial }
+
+abbrev pub origins_of : List QueueTally → List Origin
+origins_of tallies = map origin_of tallies
 
 -- the tally of queue q
 abbrev pub tally_at : List QueueTally → ℕ → QueueTally
@@ -85,6 +92,11 @@ pub record IsTally (firsts : List ℕ) (room : ℕ) (logs : List RoomyLog) (tall
 -- each of these is such a tally
 abbrev pub AreTallies : List ℕ → ℕ → List RoomyLog → List QueueTally → Type 0
 AreTallies firsts room logs tallies = (q : ℕ) → q < length tallies → IsTally firsts room logs (tally_at tallies q)
+
+-- and the other list of the shelf has the origins of these queues
+pub record IsShelf (firsts : List ℕ) (room : ℕ) (logs : List RoomyLog) (tallies : List QueueTally) (origins : List Origin) : Type 0 where
+  pub sound : AreTallies firsts room logs tallies
+  pub origins_are : origins ≡ origins_of tallies
 
 -- the tally after one token more was taken
 abbrev pub one_taken : QueueTally → QueueTally

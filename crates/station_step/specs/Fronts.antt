@@ -1,6 +1,6 @@
 -- What a station keeps to fire at once of its inputs on the shelf, and what a take at each of its fronts does. Only the
 -- station and its shelf read these words.
-use Rattle.std.specs.Prelude.{◌≡◌, ◌≢◌, ℕ, ◌<◌, Bool, false, List, [], Option, None, Some, IsTrue, IfSome, IfNone, length, slice_index, slice_index_or}
+use Rattle.std.specs.Prelude.{◌≡◌, ◌≢◌, ℕ, ◌<◌, ◌≤◌, Bool, false, List, [], Option, None, Some, IsTrue, IfSome, IfNone, length, slice_index, slice_index_or}
 use Rattle.std.specs.List.{list_any, range_with_len}
 use Rattle.line_base.specs.declared.event.Parts.{Parts}
 use Rattle.card_queue.specs.Plain.{PlainQueue, plain_waiting}
@@ -17,12 +17,12 @@ use Rattle.station_step.specs.RingInputs.{is_ring_input}
 
 -- the front with this number
 abbrev pub front_at : List Front → ℕ → Front
-front_at fronts k = slice_index_or fronts k (record { queue = 0; extra = 0; later = 0 })
+front_at fronts k = slice_index_or fronts k (record { queue = 0; later = 0; extra = record { marker = record {}; value = 0 } })
 
 -- what is kept with each as the delay with what is added is that sum, by the delays of their queues
 abbrev pub AreLaterBy : List Source → List Front → Type 0
 AreLaterBy sources fronts = (k : ℕ) → k < length fronts →
-    (front_at fronts k).later ≡ saturating (source_at sources (front_at fronts k).queue).delay (front_at fronts k).extra
+    (front_at fronts k).later ≡ saturating (source_at sources (front_at fronts k).queue).delay (front_at fronts k).extra.value
 
 -- the tokens that wait at a front
 abbrev pub waiting_at : List PlainQueue → List Front → ℕ → List ℕ
@@ -30,7 +30,7 @@ waiting_at shelf fronts k = plain_waiting (queue_at shelf (front_at fronts k).qu
 
 -- what the first of them asks of the date of the job
 abbrev pub front_asks : List PlainQueue → List Front → ℕ → ℕ
-front_asks shelf fronts k = saturating (slice_index (waiting_at shelf fronts k) 0) (front_at fronts k).extra
+front_asks shelf fronts k = saturating (slice_index (waiting_at shelf fronts k) 0) (front_at fronts k).extra.value
 
 -- each of them is at a queue of a shelf of this many, and no two at the same
 abbrev pub FrontsWithin : ℕ → List Front → Type 0
@@ -47,14 +47,20 @@ NoneAt q fronts = (k : ℕ) → k < length fronts → (front_at fronts k).queue 
 abbrev pub AreAllThere : List PlainQueue → List Front → Type 0
 AreAllThere shelf fronts = (k : ℕ) → k < length fronts → waiting_at shelf fronts k ≢ []
 
--- the first token is taken at each of them where one waits at each, and this is the latest date that they ask for; else
--- nothing is taken
+-- of the queue at each of them the tokens are taken with which it began: the next are dates of its source
+abbrev pub AreDates : List PlainQueue → List Front → Type 0
+AreDates shelf fronts = (k : ℕ) → k < length fronts →
+    length (queue_at shelf (front_at fronts k).queue).initial ≤ (queue_at shelf (front_at fronts k).queue).takes
+
+-- the first token is taken at each of them where one waits at each that is a date of its source, and this is the latest
+-- date that they ask for; else nothing is taken
 pub record TakesEach (fronts : List Front) (old new : List PlainQueue) (latest : Option ℕ) : Type 0 where
   pub there : IfSome latest (λ _. AreAllThere old fronts)
+  pub dates : IfSome latest (λ _. AreDates old fronts)
   pub date : IfSome latest (λ date. date ≡ greatest (front_asks old fronts) (range_with_len 0 (length fronts)))
   pub each : IfSome latest (λ _. (k : ℕ) → k < length fronts →
       queue_at new (front_at fronts k).queue ≡ with_take (queue_at old (front_at fronts k).queue))
-  pub lacks : IfNone latest (AreAllThere old fronts → ⊥)
+  pub lacks : IfNone latest (AreAllThere old fronts → AreDates old fronts → ⊥)
   pub stays : IfNone latest (new ≡ old)
   pub only_takes : OnlyTakes old new
   pub others : (q : ℕ) → NoneAt q fronts → queue_at new q ≡ queue_at old q
@@ -73,9 +79,9 @@ pub record FrontsUpTo (n : ℕ) (delays extras : List ℕ) (inputs : List Input)
   pub in_order : (i j : ℕ) → i < j → j < length fronts → slice_index numbers i < slice_index numbers j
   pub queues : (j : ℕ) → j < length fronts →
       inlet_queue (input_at inputs (slice_index numbers j)).inlet ≡ Some (front_at fronts j).queue
-  pub extra : (j : ℕ) → j < length fronts → (front_at fronts j).extra ≡ slice_index extras (slice_index numbers j)
+  pub extra : (j : ℕ) → j < length fronts → (front_at fronts j).extra.value ≡ slice_index extras (slice_index numbers j)
   pub later : (j : ℕ) → j < length fronts →
-      (front_at fronts j).later ≡ saturating (slice_index delays (slice_index numbers j)) (front_at fronts j).extra
+      (front_at fronts j).later ≡ saturating (slice_index delays (slice_index numbers j)) (front_at fronts j).extra.value
   pub each : (k : ℕ) → k < n → is_ring_input (input_at inputs k) ≡ false → HasNumber k numbers
 
 -- and these those of all inputs

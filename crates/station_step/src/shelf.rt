@@ -3,12 +3,12 @@ ghost use Rattle.std.specs.Prelude.{◌≡◌, ◌≢◌, ℕ, ◌<◌, ◌≤�
 ghost use Rattle.card_queue.specs.Plain.{plain_taken, plain_waiting};
 ghost use Rattle.event_graph.specs.GreatestValue.{greatest};
 ghost use Rattle.line_base.specs.Roomy.{with_date};
-ghost use Rattle.station_step.specs.Fronts.{front_at, front_asks, FrontsWithin, FrontsApart, NoneAt, AreAllThere, AreLaterBy};
+ghost use Rattle.station_step.specs.Fronts.{front_at, front_asks, FrontsWithin, FrontsApart, NoneAt, AreAllThere, AreDates, AreLaterBy};
 ghost use Rattle.station_step.specs.Shelf.{log_on, source_at, later_by, queue_at, new_queue, without_takes, with_take, OnlyTakes};
 
 use crate::fronts::{Front, take_each};
 use crate::source::Source;
-use crate::tally::Tally;
+use crate::tally::{Origin, Tally};
 use line_base::{Date, Log};
 use std::alloc::{AllocError, Global};
 use std::marker::Model;
@@ -25,19 +25,21 @@ pub struct Shelf {
     // The tokens that the queues began with, queue after queue.
     firsts: Vec<Date>,
     queues: Vec<Tally>,
+    // Of each queue where its tokens come from. A step that fires at once reads none of these.
+    origins: Vec<Origin>,
     // How many tokens may be put on each queue. Contracts alone read it.
     room: Snapshot<u32>,
 }
 
 impl Model for Shelf {
-    ghost use Rattle.station_step.specs.Counts.{seen_shelf, AreTallies};
+    ghost use Rattle.station_step.specs.Counts.{seen_shelf, IsShelf};
     ghost use Rattle.station_step.specs.Shelf.{WorkShelf};
 
     ghost Value = { WorkShelf };
 
     ghost view = { λ s. seen_shelf s.firsts.items s.room.value s.logs.items s.queues.items };
 
-    ghost invariant = { λ s. AreTallies s.firsts.items s.room.value s.logs.items s.queues.items };
+    ghost invariant = { λ s. IsShelf s.firsts.items s.room.value s.logs.items s.queues.items s.origins.items };
 }
 
 impl Shelf {
@@ -62,16 +64,23 @@ impl Shelf {
     {
         let mut tokens = Vec::new(alloc);
         let mut queues = Vec::with_capacity(alloc, firsts.len())?;
+        let mut origins = Vec::with_capacity(alloc, firsts.len())?;
         for first in &firsts {
             let source = sources[queues.len()];
-            let made = logs[source.station as usize].dates().len() as u32;
-            queues.push(Tally::new(tokens.len(), first.len() as u32, source, made))?;
+            let origin = Origin {
+                delay: source.delay,
+                made: logs[source.station as usize].dates().len() as u32,
+                end: tokens.len() + first.len(),
+            };
+            queues.push(Tally::new(&origin, source.station, first.len() as u32))?;
+            origins.push(origin)?;
             tokens.extend_from_slice(first)?;
         }
         Ok(Shelf {
             logs,
             firsts: tokens,
             queues,
+            origins,
             room: Snapshot::of(&room),
         })
     }
@@ -105,7 +114,8 @@ impl Shelf {
         requires { k < length self.now.queues }
         ensures { result ≡ length (plain_waiting (queue_at self.now.queues k)) }
     {
-        self.queues[k as usize].waiting(self.logs.as_slice()) as u32
+        let origin = &self.origins[k as usize];
+        self.queues[k as usize].waiting(origin, self.logs.as_slice()) as u32
     }
 
     /// Takes the front token of queue `k`, if there is one.
@@ -124,24 +134,27 @@ impl Shelf {
         ensures logs { self.new.logs ≡ self.old.logs }
         ensures sources { self.new.sources ≡ self.old.sources }
     {
+        let origin = &self.origins[k as usize];
         let tally = &mut self.queues[k as usize];
-        tally.take(self.firsts.as_slice(), self.logs.as_slice())
+        tally.take(origin, self.firsts.as_slice(), self.logs.as_slice())
     }
 
-    /// Takes the first token at each of these fronts, where one waits at each of them, and tells the latest date that
-    /// they ask for. Else nothing is taken.
+    /// Takes the first token at each of these fronts, where one waits at each of them and is a date of its source, and
+    /// tells the latest date that they ask for. Else nothing is taken.
     #[inline(always)]
     pub(crate) fn take_fronts(&mut self, fronts: &[Front]) -> Option<Date>
         requires within { FrontsWithin (length self.old.queues) fronts.now }
         requires apart { FrontsApart fronts.now }
         requires later { AreLaterBy self.old.sources fronts.now }
         ensures there { IfSome result (λ _. AreAllThere self.old.queues fronts.now) }
+        ensures dates { IfSome result (λ _. AreDates self.old.queues fronts.now) }
         ensures date { IfSome result (λ latest. latest ≡
             greatest (front_asks self.old.queues fronts.now) (range_with_len 0 (length fronts.now))) }
         ensures each { IfSome result (λ _. (k : ℕ) → k < length fronts.now →
             queue_at self.new.queues (front_at fronts.now k).queue ≡
             with_take (queue_at self.old.queues (front_at fronts.now k).queue)) }
-        ensures lacks { IfNone result (AreAllThere self.old.queues fronts.now → ⊥) }
+        ensures lacks { IfNone result (AreAllThere self.old.queues fronts.now
+            → AreDates self.old.queues fronts.now → ⊥) }
         ensures stays { IfNone result (self.new.queues ≡ self.old.queues) }
         ensures only_takes { OnlyTakes self.old.queues self.new.queues }
         ensures others { (q : ℕ) → NoneAt q fronts.now →

@@ -36,6 +36,7 @@ use std::snapshot::Snapshot;
 #[derive(Drop)]
 pub struct Station {
     number: u32,
+    made: u32,
     // Whether every job takes one time here. Where not, each step notes what its job adds, by whether the arc of each
     // input is worked.
     fixed: bool,
@@ -46,15 +47,15 @@ pub struct Station {
     // Whether it fires at once where it can, and whether it may do so now, as all of its hands are empty.
     direct: bool,
     at_once: bool,
-    // The one hand that stayed empty at its last step, where all others were full then.
-    waits_for: Option<EmptyHand>,
     turns: u64,
+    // A step that fires at once reads what stands up to here, and of what follows the ends of its rings alone.
     fronts: Vec<Front>,
     // Beside each input stands what the time of the job adds to its token, and beside each outlet the delay of its arc.
     inputs: Vec<NotedInput>,
     outlets: Vec<NotedOutlet>,
+    // The one hand that stayed empty at its last step, where all others were full then.
+    waits_for: Option<EmptyHand>,
     worked: Vec<bool>,
-    made: u32,
     // Its log, as it stands on the worker's shelf, and the graph that the station was made for. Contracts alone read
     // them.
     log: Snapshot<Log>,

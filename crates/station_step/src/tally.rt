@@ -1,9 +1,7 @@
-ghost use Rattle.std.specs.Prelude.{◌≡◌, ℕ, ◌+◌, ◌-◌, ◌<◌, ◌≤◌, ◌^◌, List, map, take, length, slice_index, option_to_list, IfSome, IfNone};
+ghost use Rattle.std.specs.Prelude.{◌≡◌, ℕ, ◌+◌, ◌-◌, ◌<◌, ◌≤◌, ◌^◌, List, take, length, slice_index, option_to_list, IfSome, IfNone};
 ghost use Rattle.card_queue.specs.Plain.{plain_waiting};
-ghost use Rattle.station_step.specs.Counts.{IsTally, new_tally, next_place, dates_for, seen_queue, one_taken, one_returned};
-ghost use Rattle.station_step.specs.Shelf.{later_by};
+ghost use Rattle.station_step.specs.Counts.{IsTally, new_tally, origin_of, next_place, dates_for, seen_queue, one_taken, one_returned};
 
-use crate::source::Source;
 use line_base::{Date, Log};
 use std::marker::Model;
 use std::snapshot::Snapshot;
@@ -11,21 +9,28 @@ use std::snapshot::Snapshot;
 /// A place behind the dates of every log.
 const NOT_YET: usize = usize::MAX;
 
-/// What a shelf notes of one of its queues. Contracts see how many tokens were taken: first those that it began with,
-/// and then dates of its source's log.
+/// Where the tokens of a queue come from, and what else is so of it as long as there is a shelf.
+#[derive(Clone, Copy)]
+pub(crate) struct Origin {
+    pub(crate) delay: u64,
+    // How many dates the log of its source had when the queue was made.
+    pub(crate) made: u32,
+    // The place behind the last token that it began with, among those that the queues began with.
+    pub(crate) end: usize,
+}
+
+/// What a shelf notes of one of its queues while tokens are taken, in sixteen bytes. Contracts see how many were taken:
+/// first those that it began with, and then dates of its source's log.
 #[derive(Drop)]
 pub(crate) struct Tally {
     // The place in that log of the next date to be taken, or NOT_YET while tokens are left with which the queue began.
     next: usize,
-    delay: u64,
     station: u32,
     // How many of the tokens that it began with are left. They are taken first.
     left: u32,
-    // How many dates the log had when the queue was made.
-    made: u32,
-    // The place behind the last token that it began with, among those that the queues began with.
-    end: usize,
-    // How many it began with. Contracts alone read it.
+    // Its origin, which stands in another list of the shelf, and how many tokens it began with. Contracts alone read
+    // them.
+    origin: Snapshot<Origin>,
     initial: Snapshot<u32>,
 }
 
@@ -35,25 +40,26 @@ impl Model for Tally {
 
     ghost Value = { QueueTally };
 
-    ghost view = { λ t. seen_tally t.next t.delay t.station t.left t.made t.end t.initial.value };
+    ghost view = { λ t. seen_tally t.next t.station t.left t.origin.value t.initial.value };
 
-    ghost invariant = { λ t. IsTaken t.next t.left t.made t.end t.initial.value };
+    ghost invariant = { λ t. IsTaken t.next t.left t.origin.value t.initial.value };
 }
 
 impl Tally {
-    /// The tally of a queue that begins with this many tokens, which stand from `start` on, where the log of its source
-    /// has this many dates.
-    pub(crate) fn new(start: usize, initial: u32, source: Source, made: u32) -> Tally
-        requires { start + initial < 2 ^ 64 }
-        ensures { result ≡ new_tally start initial source made }
+    /// The tally of a queue of this origin, whose further tokens come from this station and which begins with this many.
+    pub(crate) fn new(origin: &Origin, station: u32, initial: u32) -> Tally
+        requires { initial ≤ origin.now.end }
+        ensures { result ≡ new_tally origin.now station initial }
     {
         Tally {
-            next: if initial == 0 { made as usize } else { NOT_YET },
-            delay: source.delay,
-            station: source.station,
+            next: if initial == 0 {
+                origin.made as usize
+            } else {
+                NOT_YET
+            },
+            station,
             left: initial,
-            made,
-            end: start + initial as usize,
+            origin: Snapshot::of(origin),
             initial: Snapshot::of(&initial),
         }
     }
@@ -61,7 +67,7 @@ impl Tally {
     /// Takes the next date of the source's log, without the delay, where no token is left of those with which the queue
     /// began and a date is there.
     #[inline(always)]
-    fn take_date(&mut self, logs: &[Log]) -> Option<Date>
+    pub(crate) fn take_date(&mut self, logs: &[Log]) -> Option<Date>
         requires there { self.old.source.station < length logs.now }
         ensures past { IfSome result (λ _. self.old.initial ≤ self.old.taken) }
         ensures more { IfSome result (λ _. next_place self.old < length (dates_for logs.now self.old)) }
@@ -82,7 +88,8 @@ impl Tally {
     }
 
     /// Takes the next of the tokens with which the queue began, if one is left.
-    fn take_first(&mut self, firsts: &[Date]) -> Option<Date>
+    fn take_first(&mut self, origin: &Origin, firsts: &[Date]) -> Option<Date>
+        requires origin { origin.now ≡ origin_of self.old }
         requires began { self.old.start + self.old.initial ≤ length firsts.now }
         ensures before { IfSome result (λ _. self.old.taken < self.old.initial) }
         ensures token { IfSome result (λ token. token ≡
@@ -94,17 +101,18 @@ impl Tally {
         if self.left == 0 {
             return None;
         }
-        let token = firsts[self.end - self.left as usize];
+        let token = firsts[origin.end - self.left as usize];
         self.left -= 1;
         if self.left == 0 {
-            self.next = self.made as usize;
+            self.next = origin.made as usize;
         }
         Some(token)
     }
 
     /// Takes the front token of the queue, if there is one: one of those that the queue began with, or else the next
     /// date of its source, with the delay.
-    pub(crate) fn take(&mut self, firsts: &[Date], logs: &[Log]) -> Option<Date>
+    pub(crate) fn take(&mut self, origin: &Origin, firsts: &[Date], logs: &[Log]) -> Option<Date>
+        requires origin { origin.now ≡ origin_of self.old }
         requires began { self.old.start + self.old.initial ≤ length firsts.now }
         requires there { self.old.source.station < length logs.now }
         ensures front { (room : ℕ) → IsTally firsts.now room logs.now self.old →
@@ -113,53 +121,23 @@ impl Tally {
         ensures stays { IfNone result (self.new ≡ self.old) }
     {
         if let Some(date) = self.take_date(logs) {
-            return Some(date.saturating_add(self.delay));
+            return Some(date.saturating_add(origin.delay));
         }
-        self.take_first(firsts)
+        self.take_first(origin, firsts)
     }
 
-    /// Takes the front token of the queue, if there is one. The answer is that token with `extra` added; `later` is the
-    /// delay with that added. Sums saturate.
-    #[inline(always)]
-    pub(crate) fn take_for(
-        &mut self,
-        firsts: &[Date],
-        logs: &[Log],
-        extra: u64,
-        later: u64,
-    ) -> Option<Date>
-        requires began { self.old.start + self.old.initial ≤ length firsts.now }
-        requires there { self.old.source.station < length logs.now }
-        requires later { later ≡ later_by extra self.old.source.delay }
-        ensures asks { (room : ℕ) → IsTally firsts.now room logs.now self.old →
-            option_to_list result ≡ map (later_by extra)
-            (take 1 (plain_waiting (seen_queue firsts.now room logs.now self.old))) }
-        ensures counted { IfSome result (λ _. self.new ≡ one_taken self.old) }
-        ensures stays { IfNone result (self.new ≡ self.old) }
-    {
-        if let Some(date) = self.take_date(logs) {
-            return Some(date.saturating_add(later));
-        }
-        let token = self.take_first(firsts)?;
-        Some(token.saturating_add(extra))
-    }
-
-    /// Puts the token back that was taken last.
+    /// Puts the date back that was taken last.
     pub(crate) fn give_back(&mut self)
-        requires { 0 < self.old.taken }
+        requires { self.old.initial < self.old.taken }
         ensures { self.new ≡ one_returned self.old }
     {
-        if self.left == 0 && self.next > self.made as usize {
-            self.next -= 1;
-        } else {
-            self.left += 1;
-            self.next = NOT_YET;
-        }
+        self.next -= 1;
     }
 
     /// How many tokens of the queue wait.
     #[inline]
-    pub(crate) fn waiting(&self, logs: &[Log]) -> usize
+    pub(crate) fn waiting(&self, origin: &Origin, logs: &[Log]) -> usize
+        requires origin { origin.now ≡ origin_of self.now }
         requires there { self.now.source.station < length logs.now }
         requires made_there { self.now.made ≤ length (dates_for logs.now self.now) }
         requires taken_there { self.now.taken ≤
@@ -171,7 +149,7 @@ impl Tally {
         let next = if self.left == 0 {
             self.next
         } else {
-            self.made as usize
+            origin.made as usize
         };
         self.left as usize + (logs[self.station as usize].dates().len() - next)
     }

@@ -2,6 +2,7 @@ use Rattle.std.proofs.Common.{◌≡◌, ◌+◌, ◌<◌, ℕ, List, length, ge
 use Rattle.std.proofs.lemmas.List as list
 use Rattle.std.specs.Prelude.{slice_index}
 use Rattle.event_graph.specs.Network.{ins, delay}
+use Rattle.station_step.specs.declared.fronts.Front.{Front}
 use Rattle.station_step.specs.declared.input.Input.{Input}
 use Rattle.station_step.specs.declared.noted.NotedInput.{NotedInput}
 use Rattle.station_step.specs.Ends.{inlet_queue}
@@ -50,12 +51,13 @@ loop-k-preserved c =
           w.delay-delay.ensures.delay
           ∙ ap (λ (l : List ℕ). delay g (slice_index l k)) c.ins-ins.ensures.arcs
           ∙ sym (list.get_or-map (delay g) (ins g c.args.t) k 0 0 there) in
-          let extra = c.noted-item.result.extra in
+          let extra_is = w.of.ensures in
+          let next : Front = record { queue = w.in-Some.queue; later = w.saturating_add.result; extra = w.of.result } in
           subst (FrontsUpTo (k + 1) delays extras inputs) (sym (ap (λ fronts. fronts.items) w.fronts-is ∙ w.in_ok-push.ensures.items))
-          (fronts_more k delays extras inputs c.loop-k.fronts.items w.in-Some.queue extra w.saturating_add.result
+          (fronts_more k delays extras inputs c.loop-k.fronts.items next
           (queue_is c ∙ w.in-Some.is)
-          (ap (λ (n : NotedInput). n.extra) (lent c) ∙ sym (extra-at items k))
-          (w.saturating_add.ensures ∙ ap (λ n. saturating n extra) delay_is)
+          (extra_is ∙ ap (λ (n : NotedInput). n.extra) (lent c) ∙ sym (extra-at items k))
+          (w.saturating_add.ensures ∙ ap (λ n. saturating n c.noted-item.result.extra) delay_is ∙ ap (saturating (slice_index delays k)) (sym extra_is))
           c.loop-k.invariant)
       | in_default w ↦
           subst (FrontsUpTo (k + 1) delays extras inputs) (sym (ap (λ fronts. fronts.items) w.fronts-is))

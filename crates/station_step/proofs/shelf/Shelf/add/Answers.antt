@@ -35,12 +35,14 @@ pub invariant_of-self : goal.invariant_of-self
 invariant_of-self c =
     let s = c.self.inside in
     let from = (goal.at.invariant_of-self c).After-add in
+    let sound =
     subst (λ (log : RoomyLog). AreTallies s.firsts.items s.room.value (set s.logs.items c.args.i log) s.queues.items) (sym (log_is from))
-    (add-sound s.firsts.items s.room.value s.logs.items s.queues.items c.args.i c.args.date c.self.invariant (low from)
+    (add-sound s.firsts.items s.room.value s.logs.items s.queues.items c.args.i c.args.date c.self.invariant.sound (low from)
     (λ q there e.
     let was : queue_at c.args.self.now.queues q ≡ queue_at (seen_queues s.firsts.items s.room.value s.logs.items s.queues.items) q =
     ap (λ (w : WorkShelf). queue_at w.queues q) (sym c.self.view_is) in
-    omega (arith, c.requires.room q (omega (arith, there, count from)) (ap (λ (u : Source). u.station) (source_is from q) ∙ e), ap (λ (p : PlainQueue). length p.added) was, ap (λ (p : PlainQueue). p.room) (was ∙ queue-seen s.firsts.items s.room.value s.logs.items s.queues.items q there))))
+    omega (arith, c.requires.room q (omega (arith, there, count from)) (ap (λ (u : Source). u.station) (source_is from q) ∙ e), ap (λ (p : PlainQueue). length p.added) was, ap (λ (p : PlainQueue). p.room) (was ∙ queue-seen s.firsts.items s.room.value s.logs.items s.queues.items q there)))) in
+    record { sound = sound; origins_are = c.self.invariant.origins_are }
 
 pub returns : goal.returns
 returns c =
@@ -59,15 +61,15 @@ returns c =
           let source = (tally_at s.queues.items q).source in
           let is = source_is from q in
           ap (λ (log : RoomyLog). queue_at (now from log) q) (log_is from)
-          ∙ add-here s.firsts.items s.room.value s.logs.items s.queues.items i date c.self.invariant (low from) q (omega (arith, there, count from)) (ap (λ (u : Source). u.station) (sym is) ∙ e)
+          ∙ add-here s.firsts.items s.room.value s.logs.items s.queues.items i date c.self.invariant.sound (low from) q (omega (arith, there, count from)) (ap (λ (u : Source). u.station) (sym is) ∙ e)
           ∙ ap (λ (p : PlainQueue). (let r : PlainQueue = record p { added = p.added ++ later_by source.delay date ∷ [] } in r)) (at q)
           ∙ ap (λ (u : Source). (let p : PlainQueue = queue_at c.args.self.now.queues q in let r : PlainQueue = record p { added = p.added ++ later_by u.delay date ∷ [] } in r)) (sym is);
       others = λ q other.
           ap (λ (log : RoomyLog). queue_at (now from log) q) (log_is from)
-          ∙ add-else s.firsts.items s.room.value s.logs.items s.queues.items i date c.self.invariant (low from) q (λ there e. other (omega (arith, there, count from)) (ap (λ (u : Source). u.station) (source_is from q) ∙ e))
+          ∙ add-else s.firsts.items s.room.value s.logs.items s.queues.items i date c.self.invariant.sound (low from) q (λ there e. other (omega (arith, there, count from)) (ap (λ (u : Source). u.station) (source_is from q) ∙ e))
           ∙ at q;
       taken = λ q.
           ap (λ (log : RoomyLog). plain_taken (queue_at (now from log) q)) (log_is from)
-          ∙ add-taken s.firsts.items s.room.value s.logs.items s.queues.items i date c.self.invariant (low from) q
+          ∙ add-taken s.firsts.items s.room.value s.logs.items s.queues.items i date c.self.invariant.sound (low from) q
           ∙ ap plain_taken (at q);
     }

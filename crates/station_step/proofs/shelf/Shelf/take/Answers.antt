@@ -1,16 +1,24 @@
-use Rattle.std.proofs.Common.{◌≡◌, ℕ, List, set, take, ap, ◌∙◌, subst}
+use Rattle.std.proofs.Common.{◌≡◌, ℕ, List, set, take, sym, ap, ◌∙◌, subst}
 use Rattle.std.specs.Prelude.{option_to_list}
 use Rattle.line_base.specs.Roomy.{RoomyLog}
 use Rattle.card_queue.specs.Plain.{PlainQueue, plain_waiting}
 use Rattle.station_step.specs.Shelf.{WorkShelf}
-use Rattle.station_step.specs.Counts.{seen_queue, seen_queues, IsTally}
-use Rattle.station_step.proofs.Queues.{IsLent, tally-lent, TakenFrom, ShelfTook, shelf-took}
+use Rattle.station_step.specs.Counts.{origin_of, seen_queue, seen_queues, IsTally}
+use Rattle.station_step.proofs.Queues.{IsLent, tally-lent, origin-lent, TakenFrom, ShelfTook, shelf-took}
 use Rattle.station_step.proofs.shelf.Shelf.take.Goals as goal
 use Rattle.station_step.proofs.shelf.Shelf.take.Goals.{After-index_mut-tally, After-take}
 
 lent : (c : After-index_mut-tally) → IsLent c.self.inside.firsts.items c.self.inside.room.value c.self.inside.logs.items c.self.inside.queues.items c.args.k c.index_mut-tally.result.now
 lent c =
-    tally-lent c.self.inside.firsts.items c.self.inside.room.value c.self.inside.logs.items c.self.inside.queues.items c.args.self.now.queues c.args.k c.index_mut-tally.result.now (ap (λ (w : WorkShelf). w.queues) c.self.view_is) c.requires c.index_mut-tally.ensures.value c.self.invariant
+    tally-lent c.self.inside.firsts.items c.self.inside.room.value c.self.inside.logs.items c.self.inside.queues.items c.args.self.now.queues c.args.k c.index_mut-tally.result.now (ap (λ (w : WorkShelf). w.queues) c.self.view_is) c.requires c.index_mut-tally.ensures.value c.self.invariant.sound
+
+-- its origin
+pub take-requires-clause-origin : goal.take-requires-clause-origin
+take-requires-clause-origin c =
+    let from = (goal.at.take-requires-clause-origin c).After-index_mut-tally in
+    let s = c.self.inside in
+    origin-lent s.queues.items s.origins.items c.args.k c.index-origin.result.now c.self.invariant.origins_are (lent from).there c.index-origin.ensures
+    ∙ ap origin_of (sym (lent from).at)
 
 -- what the tally tells of the front
 front : (c : After-take) → IsLent c.self.inside.firsts.items c.self.inside.room.value c.self.inside.logs.items c.self.inside.queues.items c.args.k c.index_mut-tally.result.now → option_to_list c.take.result ≡ take 1 (plain_waiting (seen_queue c.self.inside.firsts.items c.self.inside.room.value c.self.inside.logs.items c.index_mut-tally.result.now))
@@ -24,12 +32,13 @@ front c is =
 took : (c : After-take) → IsLent c.self.inside.firsts.items c.self.inside.room.value c.self.inside.logs.items c.self.inside.queues.items c.args.k c.index_mut-tally.result.now → ShelfTook c.self.inside.firsts.items c.self.inside.room.value c.self.inside.logs.items c.self.inside.queues.items (set c.self.inside.queues.items c.args.k c.take.new.self) c.args.k c.take.result
 took c is =
     let s = c.self.inside in
-    shelf-took s.firsts.items s.room.value s.logs.items s.queues.items c.args.k c.index_mut-tally.result.now c.take.new.self c.take.result c.self.invariant is (front c is) c.take.ensures.counted c.take.ensures.stays
+    shelf-took s.firsts.items s.room.value s.logs.items s.queues.items c.args.k c.index_mut-tally.result.now c.take.new.self c.take.result c.self.invariant.sound is (front c is) c.take.ensures.counted c.take.ensures.stays
 
 pub invariant_of-self : goal.invariant_of-self
 invariant_of-self c =
     let from = goal.at.invariant_of-self c in
-    (took from.After-take (lent from.After-index_mut-tally)).sound
+    let did = took from.After-take (lent from.After-index_mut-tally) in
+    record { sound = did.sound; origins_are = c.self.invariant.origins_are ∙ sym did.origins }
 
 pub returns : goal.returns
 returns c =

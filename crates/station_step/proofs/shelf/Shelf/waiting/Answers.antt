@@ -1,15 +1,26 @@
-use Rattle.std.proofs.Common.{List, length, sym, ap, ◌∙◌, subst}
+use Rattle.std.proofs.Common.{◌≡◌, List, length, sym, ap, ◌∙◌, subst}
 use Rattle.line_base.specs.Roomy.{RoomyLog}
 use Rattle.card_queue.specs.Plain.{PlainQueue, plain_waiting}
 use Rattle.station_step.specs.Shelf.{WorkShelf, queue_at}
-use Rattle.station_step.specs.Counts.{QueueTally, seen_queue, IsTally}
-use Rattle.station_step.proofs.Queues.{IsLent, tally-lent, queue-seen, length-waiting}
+use Rattle.station_step.specs.Counts.{QueueTally, tally_at, origin_of, seen_queue, IsTally}
+use Rattle.station_step.proofs.Queues.{IsLent, tally-lent, origin-lent, queue-seen, length-waiting}
 use Rattle.station_step.proofs.shelf.Shelf.waiting.Goals as goal
 use Rattle.station_step.proofs.shelf.Shelf.waiting.Goals.{After-index, After-as_slice}
 
 lent : (c : After-index) → IsLent c.self.inside.firsts.items c.self.inside.room.value c.self.inside.logs.items c.self.inside.queues.items c.args.k c.index.result.now
 lent c =
-    tally-lent c.self.inside.firsts.items c.self.inside.room.value c.self.inside.logs.items c.self.inside.queues.items c.args.self.now.queues c.args.k c.index.result.now (ap (λ (w : WorkShelf). w.queues) c.self.view_is) c.requires c.index.ensures c.self.invariant
+    tally-lent c.self.inside.firsts.items c.self.inside.room.value c.self.inside.logs.items c.self.inside.queues.items c.args.self.now.queues c.args.k c.index.result.now (ap (λ (w : WorkShelf). w.queues) c.self.view_is) c.requires c.index.ensures c.self.invariant.sound
+
+-- its origin
+origin_is : (c : After-index) → c.index-origin.result.now ≡ origin_of (tally_at c.self.inside.queues.items c.args.k)
+origin_is c =
+    let s = c.self.inside in
+    origin-lent s.queues.items s.origins.items c.args.k c.index-origin.result.now c.self.invariant.origins_are (lent c).there c.index-origin.ensures
+
+pub waiting-requires-clause-origin : goal.waiting-requires-clause-origin
+waiting-requires-clause-origin c =
+    let from = (goal.at.waiting-requires-clause-origin c).After-index in
+    origin_is from ∙ ap origin_of (sym (lent from).at)
 
 -- it is sound over the slice of the logs, which is lent with it
 sound : (c : After-as_slice) → IsLent c.self.inside.firsts.items c.self.inside.room.value c.self.inside.logs.items c.self.inside.queues.items c.args.k c.index.result.now → IsTally c.self.inside.firsts.items c.self.inside.room.value c.as_slice.result.now c.index.result.now

@@ -1,13 +1,13 @@
 use Rattle.std.proofs.Common.{◌∷◌, [], ap, ◌∙◌}
 use Rattle.station_step.specs.Shelf.{later_by}
-use Rattle.station_step.specs.Counts.{QueueTally}
+use Rattle.station_step.specs.declared.tally.Origin.{Origin}
 use Rattle.station_step.proofs.Queues.{front-date, front-first}
 use Rattle.station_step.proofs.tally.Tally.take.Goals as goal
 
 pub returns-in-Some-clause-front : goal.returns-in-Some-clause-front
 returns-in-Some-clause-front c room is =
     ap (λ n. n ∷ []) (c.saturating_add.ensures
-    ∙ ap (λ n. later_by n c.in-Some.date) (ap (λ (q : QueueTally). q.source.delay) (c.self.view_is ∙ c.in-Some.ensures.counted))
+    ∙ ap (λ n. later_by n c.in-Some.date) (ap (λ (o : Origin). o.delay) c.requires.origin)
     ∙ ap (later_by c.args.self.now.source.delay) c.in-Some.ensures.date)
     ∙ front-date c.args.firsts.now room c.args.logs.now c.args.self.now is c.in-Some.ensures.past c.in-Some.ensures.more
 
