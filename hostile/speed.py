@@ -5,7 +5,7 @@
 Three lines of a million firings each, within the limits, under extended kanban: many stations, many jobs, and between.
 In each turn every way is run once, one after the other, so that what else the machine does meets all alike; the output
 goes to /dev/null. A program of BESIDE is run with the plant file as its one word. For each way a line: the least and
-the first quartile of all turns, in milliseconds of the clock, and the least as a part of that of `run`. It makes its
+the first quartile of all turns, in milliseconds of the clock, and both as parts of those of `run`. It makes its
 files where TMPDIR says: in memory or on a disk, which runs that save feel. Checks nothing; stop all else first."""
 import os
 import shlex
@@ -71,6 +71,12 @@ def timed(words):
     return taken * 1000
 
 
+def least_and_quartile(times):
+    """The least and the first quartile of these."""
+    times = sorted(times)
+    return times[0], times[len(times) // 4]
+
+
 def measure(stages, machines, jobs, turns):
     """Runs each way this many times with a plant, and prints its lines."""
     stations = stages * (machines + 1) + 2
@@ -82,10 +88,11 @@ def measure(stages, machines, jobs, turns):
             timed(words)
     taken = [[timed(words) for _, words, *_ in rows] for _ in range(turns)]
     print(f"{stations} stations, {jobs} jobs, {turns} turns")
-    run = min(turn[0] for turn in taken)
+    run = least_and_quartile(turn[0] for turn in taken)
     for k, (name, *_) in enumerate(rows):
-        times = sorted(turn[k] for turn in taken)
-        print(f"{name:24}{times[0]:9.1f}{times[len(times) // 4]:9.1f}{times[0] / run:9.2f}", flush=True)
+        both = least_and_quartile(turn[k] for turn in taken)
+        parts = [mine / its for mine, its in zip(both, run)]
+        print(f"{name:24}{both[0]:9.1f}{both[1]:9.1f}{parts[0]:9.2f}{parts[1]:9.2f}", flush=True)
 
 
 def main():

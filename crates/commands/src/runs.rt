@@ -51,7 +51,7 @@ pub(crate) fn table_of<R: Threads + Sync, G: Gate>(
 {
     let work = line_of(alloc, live, workers, room)?;
     Ok(match room {
-        None => run_through(rt, live, work, workers, gate),
+        None => run_through(rt, alloc, live, work, workers, gate),
         Some(_) => run_to_end(rt, live, work, gate),
     })
 }

@@ -2,11 +2,11 @@
 use Rattle.std.proofs.Common.{◌≡◌, ℕ, ◌≤◌, List, take, length, refl, sym, ap, ◌∙◌, arith}
 use Rattle.std.proofs.lemmas.List.{take_all, take-take, length-take}
 use Rattle.event_graph.specs.Network.{stations}
-use Rattle.event_graph.specs.State.{log}
+use Rattle.event_graph.specs.State.{State, log}
 use Rattle.live_check.specs.Order.{LiveGraph}
-use Rattle.line_workers.specs.Line.{WorkLine, IsLine}
+use Rattle.line_workers.specs.Line.{WorkLine, IsLine, Stands}
 use Rattle.line_runs.specs.Bursts.{IsBurst}
-use Rattle.line_runs.specs.Standing.{GoesOn}
+use Rattle.line_runs.specs.Standing.{KeepsDates, GoesOn}
 
 pub stays : (l : WorkLine) → IsLine l → GoesOn l l
 stays l is = record {
@@ -41,4 +41,17 @@ goes_on_more first now next before after = record {
   logs = λ t there.
       let same : stations now.live.graph ≡ stations first.live.graph = ap (λ (v : LiveGraph). stations v.graph) before.live in
       kept-more (log first.state t) (log now.state t) (log next.state t) (before.logs t there) (after.logs t (omega (arith, there, same)));
+}
+
+-- ---- by whatever number of workers
+
+pub keeps : (old new : WorkLine) → GoesOn old new → KeepsDates old new
+keeps old new on = record { line = on.line; live = on.live; logs = on.logs }
+
+-- and where the stations are dealt to others
+pub keeps_dealt : (old mid new : WorkLine) (live : LiveGraph) (workers : ℕ) → KeepsDates old mid → live ≡ old.live → IsLine new → Stands live mid.state workers new → KeepsDates old new
+keeps_dealt old mid new live workers kept same is stands = record {
+  line = is;
+  live = stands.live_is ∙ same;
+  logs = λ t there. ap (λ (s : State). take (length (log old.state t)) (log s t)) stands.state_is ∙ kept.logs t there;
 }

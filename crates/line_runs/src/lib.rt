@@ -3,6 +3,7 @@
 #![tactic(auto)]
 
 mod apart;
+mod dealing;
 mod error;
 mod finishing;
 mod long_burst;

@@ -57,5 +57,5 @@ pub fn resume<R: Threads + Sync, G: Gate>(
     ensures { Resumes live.now.graph bytes.now result }
 {
     let line = line_of_text(alloc, live, bytes, workers)?;
-    Ok(run_through(rt, live, line, workers, gate))
+    Ok(run_through(rt, alloc, live, line, workers, gate))
 }

@@ -4,19 +4,15 @@ ghost use Rattle.line_runs.specs.AllFirings.{all_firings};
 ghost use Rattle.line_runs.specs.Stop.{FinishesBefore};
 ghost use Rattle.line_runs.specs.Table.{IsLeastOf};
 
+use crate::dealing::{begin_and_deal, paying_workers};
 use crate::long_burst::work_long;
 use crate::standing::stand;
 use line_core::Table;
 use line_workers::{Gate, Line};
 use live_check::Live;
+use std::alloc::Global;
 use std::sync::Wait;
 use std::thread::Threads;
-
-/// How many stations each worker has at least where a long burst pays.
-///
-/// A token takes as long from one processor to another as some ten to twenty firings, so a worker with fewer stations
-/// waits more than it fires. This was measured, and nothing is proved of it.
-const STATIONS_EACH: u32 = 20;
 
 /// Lets a line work for a burst that has firings left.
 pub(crate) fn burst_on<R: Threads + Sync, G: Gate>(rt: &R, live: &Live, line: &mut Line, gate: &G)
@@ -55,19 +51,16 @@ pub fn run_to_end<R: Threads + Sync, G: Gate>(rt: &R, live: &Live, line: Line, g
     table_of(live, line)
 }
 
-/// Whether a long burst pays with this many workers: there are others beside the first, and each has stations enough.
-fn long_burst_pays(live: &Live, workers: u32) -> bool {
-    2 <= workers && workers <= live.graph().stations() / STATIONS_EACH
-}
-
-/// Runs a line to its end: by one long burst where each of several workers has stations enough for it to pay, and then,
-/// or else, burst by burst. The table is that of `run_to_end`, and `workers` is how many workers the line has. It takes
-/// no memory.
+/// Runs a line of this many workers to its end. Where each has stations enough to pay, it begins with a long burst. Where
+/// not, all make one burst, and then as many as pay go on, by a long burst or one of them alone. What is left then goes
+/// burst by burst. The table is that of `run_to_end`. Where fewer workers go on it takes memory for their line, and where
+/// there is none, all go on.
 ///
 /// In a long burst all workers sweep at the same time, each in a thread of its own, and meet once, at its end. They
 /// leave it when all of their stations are done, or when one of them has found nothing to fire for too long.
 pub fn run_through<R: Threads + Sync, G: Gate>(
     rt: &R,
+    alloc: Global,
     live: &Live,
     line: Line,
     workers: u32,
@@ -76,10 +69,17 @@ pub fn run_through<R: Threads + Sync, G: Gate>(
     requires { live.now ≡ line.live }
     ensures { IsLeastOf live.now.graph result }
 {
-    if !long_burst_pays(live, workers) {
-        return run_to_end(rt, live, line, gate);
-    }
-    let line = work_long(rt, line, live, gate);
+    let paying = paying_workers(live, workers);
+    let line = if paying < workers {
+        begin_and_deal(rt, alloc, live, line, paying, gate)
+    } else {
+        line
+    };
+    let line = if paying > 1 {
+        work_long(rt, line, live, gate)
+    } else {
+        line
+    };
     run_to_end(rt, live, line, gate)
 }
 

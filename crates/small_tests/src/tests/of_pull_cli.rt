@@ -20,8 +20,8 @@ use std::thread::Threads;
 /// How often a worker with three stations passes a gate in a burst.
 const PASSES: u64 = 48;
 
-/// How often a worker with twenty stations passes a gate in a burst.
-const PASSES_OF_TWENTY: u64 = 320;
+/// How often a worker with thirty stations passes a gate in a burst.
+const PASSES_OF_THIRTY: u64 = 480;
 
 /// The checkpoint of the two stages with a card each after all firings for three demands, in format 1.
 const FINISHED: &str = "\
@@ -276,11 +276,11 @@ fn a_worker_stays_in_its_thread_between_sweeps(rt: HostRuntime) {
     assert_same(&rt, gate.has_missed(), false);
 }
 
-/// What is said of a stage with a card and seventeen machines before its own. The plant of two such stages has forty
+/// What is said of a stage with a card and twenty-seven machines before its own. The plant of two such stages has sixty
 /// stations.
 fn said_of_many_machines(alloc: Global) -> Result<String, AllocError> {
     let mut said = String::from_str(alloc, ONE_CARD)?;
-    for machine in 0..17u32 {
+    for machine in 0..27u32 {
         write!(
             said,
             "\n[[stage.machine]]\nname = \"m{}\"\ntime = 1",
@@ -290,15 +290,15 @@ fn said_of_many_machines(alloc: Global) -> Result<String, AllocError> {
     Ok(said)
 }
 
-// In a run of bursts worker 1 would pass 320 times, and worker 0 look in vain.
+// In a run of bursts worker 1 would pass 480 times, and worker 0 look in vain.
 #[test]
-fn workers_with_twenty_stations_each_sweep_on_in_a_long_burst(rt: HostRuntime) {
+fn workers_with_thirty_stations_each_sweep_on_in_a_long_burst(rt: HostRuntime) {
     let alloc = rt.alloc();
     let said = expect_ok(&rt, said_of_many_machines(alloc));
     let mut store = stages_store(&rt, alloc, KANBAN, THREE_DEMANDS, said.as_str());
     drop(said);
     let whole = output_of(&rt, alloc, "run a.toml", &mut store, &FreeGate);
-    let gate = HoldingGate::new(0, PASSES_OF_TWENTY + 1);
+    let gate = HoldingGate::new(0, PASSES_OF_THIRTY + 1);
     let report = output_of(&rt, alloc, "run a.toml --workers 2", &mut store, &gate);
     drop(store);
     assert!(rt; gate.is_open());
