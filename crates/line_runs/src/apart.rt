@@ -2,6 +2,7 @@ ghost use Rattle.std.specs.Prelude.{◌≡◌, All, vec_capacity};
 ghost use Rattle.line_workers.specs.Gather.{IsWorkerAfter, AreWorkersAfter};
 ghost use Rattle.line_runs.specs.Sweeping.{IsWorkerFor};
 
+use crate::placing::begin_empty_thread;
 use crate::sweeping::{AfterSweeps, Patience, sweep_on};
 use line_workers::{Gate, Worker};
 use live_check::Live;
@@ -75,6 +76,9 @@ pub(crate) fn sweep_apart<R: Threads + Wait, G: Gate>(
     requires { All (IsWorkerFor live.now) workers.items }
     ensures { AreWorkersAfter workers.items result.items }
 {
+    if workers.len() > 1 {
+        begin_empty_thread(rt);
+    }
     let stop = AtomicBool::new(false);
     let stop = &stop;
     thread::scope(

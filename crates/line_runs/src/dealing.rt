@@ -3,6 +3,7 @@ ghost use Rattle.line_base.specs.Limits.{most_workers};
 ghost use Rattle.line_runs.specs.Standing.{KeepsDates};
 ghost use Rattle.line_workers.specs.Line.{IsLine, Stands};
 
+use crate::placing::begin_empty_thread;
 use crate::run::burst_on;
 use line_base::MAX_WORKERS;
 use line_workers::{Gate, Line};
@@ -63,6 +64,7 @@ pub(crate) fn begin_and_deal<R: Threads + Sync, G: Gate>(
     if line.finished() {
         return line;
     }
+    begin_empty_thread(rt);
     burst_on(rt, live, &mut line, gate);
     if line.finished() {
         return line;

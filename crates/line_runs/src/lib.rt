@@ -7,6 +7,7 @@ mod dealing;
 mod error;
 mod finishing;
 mod long_burst;
+mod placing;
 mod resuming;
 mod run;
 mod slots;

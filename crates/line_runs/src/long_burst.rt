@@ -3,6 +3,7 @@ ghost use Rattle.line_runs.specs.Standing.{GoesOn};
 ghost use Rattle.line_runs.specs.Sweeping.{IsWorkerFor};
 ghost use Rattle.line_workers.specs.Gather.{IsWorkerAfter, AreWorkersAfter};
 
+use crate::placing::begin_empty_thread;
 use crate::sweeping::{Patience, sweep_on};
 use line_base::for_each_mut;
 use line_workers::{Gate, Line, Worker};
@@ -31,6 +32,7 @@ fn sweep_at_once<R: Threads + Sync, G: Gate>(rt: &R, workers: &mut [Worker], liv
     ensures { AreWorkersAfter workers.old workers.new }
 {
     let threads = workers.len();
+    begin_empty_thread(rt);
     let stop = AtomicBool::new(false);
     let patience = patience_of(live, threads);
     for_each_mut(
