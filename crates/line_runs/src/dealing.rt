@@ -14,7 +14,7 @@ use std::thread::Threads;
 /// How many stations each worker has at least where several pay.
 ///
 /// A token takes as long from one processor to another as some ten to twenty firings, so a worker with few stations waits
-/// more than it fires: two with 25 each took longer than one alone, and four with 32 less. This was measured, and nothing
+/// more than it fires: two with 25 each took no less than one alone, but four with 32 did. This was measured, and nothing
 /// is proved of it.
 const STATIONS_EACH: u32 = 30;
 

@@ -94,7 +94,8 @@ abbrev pub AreTallies : List ℕ → ℕ → List RoomyLog → List QueueTally �
 AreTallies firsts room logs tallies = (q : ℕ) → q < length tallies → IsTally firsts room logs (tally_at tallies q)
 
 -- and the other list of the shelf has the origins of these queues
-pub record IsShelf (firsts : List ℕ) (room : ℕ) (logs : List RoomyLog) (tallies : List QueueTally) (origins : List Origin) : Type 0 where
+pub record IsShelf (firsts : List ℕ) (room : ℕ) (logs : List RoomyLog) (tallies : List QueueTally)
+    (origins : List Origin) : Type 0 where
   pub sound : AreTallies firsts room logs tallies
   pub origins_are : origins ≡ origins_of tallies
 

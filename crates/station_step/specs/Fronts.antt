@@ -17,12 +17,14 @@ use Rattle.station_step.specs.RingInputs.{is_ring_input}
 
 -- the front with this number
 abbrev pub front_at : List Front → ℕ → Front
-front_at fronts k = slice_index_or fronts k (record { queue = 0; later = 0; extra = record { marker = record {}; value = 0 } })
+front_at fronts k =
+    slice_index_or fronts k (record { queue = 0; later = 0; extra = record { marker = record {}; value = 0 } })
 
 -- what is kept with each as the delay with what is added is that sum, by the delays of their queues
 abbrev pub AreLaterBy : List Source → List Front → Type 0
 AreLaterBy sources fronts = (k : ℕ) → k < length fronts →
-    (front_at fronts k).later ≡ saturating (source_at sources (front_at fronts k).queue).delay (front_at fronts k).extra.value
+    (front_at fronts k).later ≡
+    saturating (source_at sources (front_at fronts k).queue).delay (front_at fronts k).extra.value
 
 -- the tokens that wait at a front
 abbrev pub waiting_at : List PlainQueue → List Front → ℕ → List ℕ
@@ -79,7 +81,8 @@ pub record FrontsUpTo (n : ℕ) (delays extras : List ℕ) (inputs : List Input)
   pub in_order : (i j : ℕ) → i < j → j < length fronts → slice_index numbers i < slice_index numbers j
   pub queues : (j : ℕ) → j < length fronts →
       inlet_queue (input_at inputs (slice_index numbers j)).inlet ≡ Some (front_at fronts j).queue
-  pub extra : (j : ℕ) → j < length fronts → (front_at fronts j).extra.value ≡ slice_index extras (slice_index numbers j)
+  pub extra : (j : ℕ) → j < length fronts →
+      (front_at fronts j).extra.value ≡ slice_index extras (slice_index numbers j)
   pub later : (j : ℕ) → j < length fronts →
       (front_at fronts j).later ≡ saturating (slice_index delays (slice_index numbers j)) (front_at fronts j).extra.value
   pub each : (k : ℕ) → k < n → is_ring_input (input_at inputs k) ≡ false → HasNumber k numbers
