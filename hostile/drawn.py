@@ -1,20 +1,24 @@
 """Draws plants, and compares what each way of running them writes with the report of another program.
 
-    PULL=.. BESIDE=PROGRAM python3 drawn.py [SECONDS] [SEED]
+    python3 drawn.py [SECONDS] [SEED]
 
 The plants are lines and trees under each policy, of one stage to forty, with several servers, travel and card times,
-lists of job times and dates to observe. PROGRAM, run with the plant file as its one word, writes the report by other
-means, and ends with another status than 0 where it knows no answer; that plant is left out. The ways are one worker and
-several, in bursts, with bounded rings, standing, with saves in the slots, resumed from these, and stopped at a drawn
+lists of job times and dates to observe. The other program is bench/line.cpp, built with g++, or what BESIDE names: run
+with the plant file as its one word, it writes the report by other means, and ends with another status than 0 where it
+knows no answer; that plant is left out. The ways are one worker and several, in bursts, with bounded rings, standing, with saves in the slots, resumed from these, and stopped at a drawn
 number of firings and resumed. Prints each run that differs with its plant, and ends with 1 where there is one."""
 import os
 import random
 import shlex
 import subprocess
 import sys
+import tempfile
 import time
 
-from machine import SLOTS, Folder
+from machine import HERE, SLOTS, Folder
+
+sys.path.append(os.path.join(HERE, "..", "bench"))
+import programs
 
 SECONDS = 60
 PLANT = "drawn.toml"
@@ -105,12 +109,11 @@ def drawn_ways(draw):
 class Drawn:
     """One plant in a folder of its own, and the report that every run of it is to write."""
 
-    def __init__(self, draw):
+    def __init__(self, draw, other):
         self.draw, self.folder, self.runs, self.wrong = draw, Folder(), 0, 0
         self.text, self.firings = drawn_plant(draw)
         self.folder.put(PLANT, self.text.encode())
-        beside = [*shlex.split(os.environ["BESIDE"]), PLANT]
-        ended = subprocess.run(beside, cwd=self.folder.path, stdout=subprocess.PIPE, check=False)
+        ended = subprocess.run([*other, PLANT], cwd=self.folder.path, stdout=subprocess.PIPE, check=False)
         self.report = ended.stdout if ended.returncode == 0 else None
 
     def compare(self, *words, also=None):
@@ -135,21 +138,27 @@ class Drawn:
             self.compare("resume", PLANT, SAVED, *workers(self.draw, 16))
 
 
-def main():
-    seconds = float(sys.argv[1]) if len(sys.argv) > 1 else SECONDS
-    draw = random.Random(int(sys.argv[2]) if len(sys.argv) > 2 else 1)
-    if "BESIDE" not in os.environ:
-        sys.exit("set BESIDE to a program that writes the report of a plant file")
+def compare_drawn(draw, seconds, other):
+    """Draws plants for so many seconds. Answers whether a run differs from the other program's report."""
     end = time.time() + seconds
     plants = runs = wrong = 0
     while time.time() < end:
-        drawn = Drawn(draw)
+        drawn = Drawn(draw, other)
         if drawn.report is not None:
             drawn.check()
             plants, runs, wrong = plants + 1, runs + drawn.runs, wrong + drawn.wrong
         drawn.folder.remove()
     print(f"{plants} plants, {runs} runs, {wrong} differ")
-    sys.exit(1 if wrong else 0)
+    return wrong > 0
+
+
+def main():
+    seconds = float(sys.argv[1]) if len(sys.argv) > 1 else SECONDS
+    draw = random.Random(int(sys.argv[2]) if len(sys.argv) > 2 else 1)
+    with tempfile.TemporaryDirectory(prefix="drawn-") as folder:
+        beside = os.environ.get("BESIDE")
+        other = shlex.split(beside) if beside else [programs.build(folder)["line"]]
+        sys.exit(1 if compare_drawn(draw, seconds, other) else 0)
 
 
 if __name__ == "__main__":

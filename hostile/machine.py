@@ -1,6 +1,7 @@
 """What the checks of this folder share: the commands, the files that they find, and runs of the program.
 
-The program is named by PULL, the path of its file, or a line of words that starts it."""
+The program is named by PULL, the path of its file, or a line of words that starts it; where PULL isn't set, it is
+crates/pull/out/pull, as the gate leaves it."""
 import os
 import shlex
 import shutil
@@ -11,6 +12,7 @@ import tempfile
 
 HERE = os.path.dirname(os.path.abspath(__file__))
 EXAMPLES = os.path.join(HERE, "..", "examples")
+BUILT = os.path.join(HERE, "..", "crates", "pull", "out", "pull")
 LOG_BYTES = 1 << 20
 CRASHED = 99
 SLOTS = "pull.slots"
@@ -29,9 +31,11 @@ def is_hint(status, error):
 
 def program():
     """The words that start the program."""
-    if "PULL" not in os.environ:
+    if "PULL" in os.environ:
+        return shlex.split(os.environ["PULL"])
+    if not os.path.exists(BUILT):
         sys.exit("set PULL to the program's file")
-    return shlex.split(os.environ["PULL"])
+    return [BUILT]
 
 
 class Command:

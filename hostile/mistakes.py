@@ -1,5 +1,6 @@
 """Runs each file of mistakes/ and compares the status, the first line and the message that names the cause with the table
-of mistakes/README.md, with PULL naming the program. Prints what differs, and ends with status 1 where anything does."""
+of mistakes/README.md, with PULL naming the program. At status 3 standard error is to say the first line of `lint`.
+Prints what differs, and ends with status 1 where anything does."""
 
 import os
 import re
@@ -41,6 +42,10 @@ def faults_of(name, status, line, message):
     if came != status:
         yield f"lint ends with status {came}"
     lines = out.split("\n")
+    # standard error says on which line of the file it stands, beside the names or in brackets of its own
+    told = re.sub(r" \(line \d+\)|, line \d+(?=\))", "", err)
+    if status == 3 and lines[0].removeprefix("plant: ") not in told:
+        yield f"standard error says {err!r}"
     if message == "none":
         if lines != ["no fault", ""]:
             yield f"lint writes {lines}"

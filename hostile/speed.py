@@ -1,19 +1,24 @@
 """How long ways of running a line take, side by side.
 
-    PULL=.. [BESIDE="PROGRAM PROGRAM .."] python3 speed.py [TURNS]
+    python3 speed.py [TURNS]
 
 Three lines of a million firings each, within the limits, under extended kanban: many stations, many jobs, and between.
 In each turn every way is run once, one after the other, so that what else the machine does meets all alike; the output
-goes to /dev/null. A program of BESIDE is run with the plant file as its one word. For each way a line: the least and
+goes to /dev/null. Beside them stand the programs of bench/, built with g++, or those that BESIDE names: each is run
+with the plant file as its one word. For each way a line: the least and
 the first quartile of all turns, in milliseconds of the clock, and both as parts of those of `run`. It makes its
-files where TMPDIR says: in memory or on a disk, which runs that save feel. Checks nothing; stop all else first."""
+files where TMPDIR says: in memory or on a disk, which runs that save feel. Checks nothing; stop all else first.
+`bench/table` writes the same as the table of docs/SPEED.md."""
 import os
 import shlex
 import sys
 import tempfile
 import time
 
-from machine import program
+from machine import HERE, program
+
+sys.path.append(os.path.join(HERE, "..", "bench"))
+import programs
 
 TURNS = 41
 EVERY = 95_000  # ten saves for each of the plants
@@ -47,16 +52,22 @@ def large_plant(stages, machines, jobs):
     return "\n".join(lines) + "\n"
 
 
-def ways(firings):
-    """The ways of running a line with this many firings: how each is called, its words, and the words before it."""
+def stations(stages, machines, _jobs):
+    """How many stations such a line has."""
+    return stages * (machines + 1) + 2
+
+
+def ways(firings, beside):
+    """The ways of running a line with this many firings: how each is called, its words, and the words before it. The
+    other programs come first."""
     pull = program()
     stop = [*pull, "run", "line.toml", "--stop-after", str(firings // 2), "--save", "line.ckpt"]
+    for other in beside:
+        yield os.path.basename(other), [other, "line.toml"]
     yield "run", [*pull, "run", "line.toml"]
     for words in ["--workers 4", "--stand --workers 4", "--room 64 --workers 4", f"--every {EVERY} --slots"]:
-        yield words, [*pull, "run", "line.toml", *words.split()]
+        yield f"run {words}", [*pull, "run", "line.toml", *words.split()]
     yield "resume from the middle", [*pull, "resume", "line.toml", "line.ckpt"], stop
-    for other in shlex.split(os.environ.get("BESIDE", "")):
-        yield os.path.basename(other), [other, "line.toml"]
 
 
 def timed(words):
@@ -77,30 +88,29 @@ def least_and_quartile(times):
     return times[0], times[len(times) // 4]
 
 
-def measure(stages, machines, jobs, turns):
-    """Runs each way this many times with a plant, and prints its lines."""
-    stations = stages * (machines + 1) + 2
+def measured(stages, machines, jobs, turns, beside):
+    """Runs each way this many times with a plant: by how it is called, the least and the first quartile of its times."""
     with open("line.toml", "w", encoding="utf-8") as file:
         file.write(large_plant(stages, machines, jobs))
-    rows = list(ways(stations * jobs))
+    rows = list(ways(stations(stages, machines, jobs) * jobs, beside))
     for _, _, *before in rows:
         for words in before:
             timed(words)
     taken = [[timed(words) for _, words, *_ in rows] for _ in range(turns)]
-    print(f"{stations} stations, {jobs} jobs, {turns} turns")
-    run = least_and_quartile(turn[0] for turn in taken)
-    for k, (name, *_) in enumerate(rows):
-        both = least_and_quartile(turn[k] for turn in taken)
-        parts = [mine / its for mine, its in zip(both, run)]
-        print(f"{name:24}{both[0]:9.1f}{both[1]:9.1f}{parts[0]:9.2f}{parts[1]:9.2f}", flush=True)
+    return {name: least_and_quartile(turn[k] for turn in taken) for k, (name, *_) in enumerate(rows)}
 
 
 def main():
     turns = int(sys.argv[1]) if len(sys.argv) > 1 else TURNS
     with tempfile.TemporaryDirectory(prefix="speed-") as folder:
+        beside = shlex.split(os.environ["BESIDE"]) if "BESIDE" in os.environ else programs.build(folder).values()
         os.chdir(folder)
         for plant in PLANTS:
-            measure(*plant, turns)
+            found = measured(*plant, turns, beside)
+            print(f"{stations(*plant)} stations, {plant[2]} jobs, {turns} turns")
+            for name, both in found.items():
+                parts = [mine / its for mine, its in zip(both, found["run"])]
+                print(f"{name:28}{both[0]:9.1f}{both[1]:9.1f}{parts[0]:9.2f}{parts[1]:9.2f}", flush=True)
 
 
 if __name__ == "__main__":

@@ -1,9 +1,9 @@
 -- Texts that go to a sink one after another, each whole or a prefix of it.
 use Rattle.std.proofs.Common.{ℕ, ◌≤◌, List, ◌++◌, arith}
 use Rattle.std.specs.Prelude.{Result, Ok, Err}
-use Rattle.line_io.proofs.WrittenLemmas.{puts_all_after, puts_prefix_after, puts_prefix_longer}
-use Rattle.line_io.specs.SinkView.{SinkView, PutsAll, WritesText}
-use Rattle.line_io.specs.declared.sink.Failed.{Failed}
+use Rattle.outside_io.proofs.WrittenLemmas.{puts_all_after, puts_prefix_after, puts_prefix_longer}
+use Rattle.outside_io.specs.SinkView.{SinkView, PutsAll, WritesText}
+use Rattle.outside_io.specs.declared.sink.Failed.{Failed}
 use Rattle.answers.specs.Put.{BytesArePut, whole_of}
 
 -- a text, and then another

@@ -5,8 +5,8 @@ use Rattle.std.proofs.lemmas.Bool.{eq-eqb, ne_eqb}
 use Rattle.std.proofs.lemmas.List.{length-append, take_more}
 use Rattle.std.proofs.lemmas.List.Concat.{flat_map-append}
 use Rattle.std.proofs.lemmas.List.FromFn.{map-range_with_len_more}
-use Rattle.line_io.specs.Outgoing.{Stream, Pushed}
-use Rattle.line_io.proofs.OutgoingLemmas.{pushed_none, pushed_after}
+use Rattle.outside_io.specs.Outgoing.{Stream, Pushed}
+use Rattle.outside_io.proofs.OutgoingLemmas.{pushed_none, pushed_after}
 use Rattle.answers.specs.ChangesText.{change_line, lines_of_dates}
 use Rattle.answers.specs.Written.{IsWritten}
 

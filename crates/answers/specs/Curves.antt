@@ -7,7 +7,7 @@ use Rattle.answers.specs.declared.unwritten.Unwritten.{Unwritten}
 use Rattle.answers.specs.declared.unwritten.Unwritten.TheVariants.{Failed, NoMemory}
 use Rattle.card_sizing.specs.Sized.{has_single_count}
 use Rattle.line_base.specs.Limits.{most_cards}
-use Rattle.line_io.specs.SinkView.{SinkView}
+use Rattle.outside_io.specs.SinkView.{SinkView}
 use Rattle.plant_model.specs.declared.plant.Plant.{Plant}
 use Rattle.plant_model.specs.Sound.{IsSound}
 

@@ -6,8 +6,8 @@ use Rattle.answers.specs.declared.answer.Answer.{Answer}
 use Rattle.answers.specs.declared.answer.Answer.TheVariants.{Curved}
 use Rattle.answers.specs.declared.unwritten.Unwritten.{Unwritten}
 use Rattle.answers.specs.declared.unwritten.Unwritten.TheVariants as unwritten
-use Rattle.line_io.specs.SinkView.{SinkView, WritesText}
-use Rattle.line_io.specs.declared.sink.Failed.{Failed}
+use Rattle.outside_io.specs.SinkView.{SinkView, WritesText}
+use Rattle.outside_io.specs.declared.sink.Failed.{Failed}
 
 -- what writing these bytes answers
 abbrev pub whole_of : Result (Unit {0}) Failed → Result (Unit {0}) Unwritten

@@ -1,6 +1,6 @@
 -- Lines that were given to a sink and counted.
 use Rattle.std.specs.Prelude.{◌≡◌, ℕ, false, List, length}
-use Rattle.line_io.specs.Outgoing.{Stream, Pending, Pushed, nothing_waiting}
+use Rattle.outside_io.specs.Outgoing.{Stream, Pending, Pushed, nothing_waiting}
 use Rattle.answers.specs.ChangesText.{joined_lines}
 
 -- these lines were given to a stream, and this is their number

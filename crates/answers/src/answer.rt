@@ -3,7 +3,7 @@ ghost use Rattle.std.specs.Prelude.{◌≡◌};
 ghost use Rattle.answers.specs.Answer.{answer_bytes};
 ghost use Rattle.answers.specs.Put.{whole_of, IsPut};
 ghost use Rattle.answers.specs.declared.answer.Answer.TheVariants.{Stopped};
-ghost use Rattle.line_io.specs.SinkView.{WritesText};
+ghost use Rattle.outside_io.specs.SinkView.{WritesText};
 
 use crate::changes::Changes;
 use crate::curve::Curve;
@@ -15,9 +15,9 @@ use itoa::Buffer;
 use latest_dates::Latest;
 use line_base::Items;
 use line_chart::{Chart, DateTable};
-use line_io::{Failed, Sink};
 use line_report::Report;
 use line_summary::Summary;
+use outside_io::{Failed, Sink};
 use std::alloc::Global;
 use std::thread::Threads;
 

@@ -3,11 +3,11 @@ ghost use Rattle.std.specs.Prelude.{◌≡◌, ◌≤◌, ◌<◌, ◌^◌};
 ghost use Rattle.answers.specs.ChangesText.{lines_of_dates, lines_of_station, change_lines};
 ghost use Rattle.answers.specs.Written.{IsWritten};
 ghost use Rattle.event_graph.specs.Network.{stations};
-ghost use Rattle.line_io.specs.Outgoing.{stream};
+ghost use Rattle.outside_io.specs.Outgoing.{stream};
 
 use line_base::Date;
-use line_io::{Outgoing, Sink};
 use live_check::Live;
+use outside_io::{Outgoing, Sink};
 use what_if::Sheet;
 
 /// Writes the line of a job at the station with this label, the date of the table and the present one, where these

@@ -1,12 +1,12 @@
 //! What `whatif` writes.
 ghost use Rattle.std.specs.Prelude.{◌≡◌, IfOk};
 ghost use Rattle.answers.specs.ChangesText.{changes_text};
-ghost use Rattle.line_io.specs.Outgoing.{Pushed, stream};
-ghost use Rattle.line_io.specs.SinkView.{WritesText};
+ghost use Rattle.outside_io.specs.Outgoing.{Pushed, stream};
+ghost use Rattle.outside_io.specs.SinkView.{WritesText};
 
 use crate::change_lines::write_stations;
-use line_io::{Failed, Outgoing, Sink};
 use live_check::Live;
+use outside_io::{Failed, Outgoing, Sink};
 use std::alloc::{AllocError, Global};
 use std::marker::Model;
 use what_if::Sheet;

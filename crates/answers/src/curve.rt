@@ -3,8 +3,8 @@ ghost use Rattle.std.specs.Prelude.{◌≡◌, ◌≤◌};
 ghost use Rattle.answers.specs.Curves.{IsAsked, CurveIsPut, unwritten_of};
 
 use crate::unwritten::Unwritten;
-use line_io::Sink;
 use line_summary::{CurveError, write_curve};
+use outside_io::Sink;
 use plant_model::Plant;
 use std::alloc::Global;
 use std::marker::Model;

@@ -1,9 +1,9 @@
 //! Texts and lines that go to a sink whole, and take no memory.
 ghost use Rattle.std.specs.Prelude.{◌++◌};
 ghost use Rattle.command_line.specs.Lines.{as_line};
-ghost use Rattle.line_io.specs.SinkView.{WritesText};
+ghost use Rattle.outside_io.specs.SinkView.{WritesText};
 
-use line_io::{Failed, Sink, put_all};
+use outside_io::{Failed, Sink, put_all};
 
 /// Writes a text. After `Failed` a prefix of it was written.
 pub fn put_text<K: Sink>(sink: &mut K, text: &[u8]) -> Result<(), Failed>

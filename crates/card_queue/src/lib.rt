@@ -5,12 +5,14 @@
 
 ghost use Rattle.std.specs.Prelude.{◌≡◌, ◌+◌, ◌<◌, ◌^◌, [], length, IfOk};
 ghost use Rattle.card_queue.specs.Queue.{IsQueue, IsMet};
-ghost use mathlib.Core.List.{IsPrefix};
+ghost use Rattle.card_queue.specs.Take.{TakeLooks};
 
+mod looks;
 mod plain;
 mod put;
 mod take;
 
+use looks::Looks;
 pub use plain::Plain;
 pub use put::Put;
 use rtrb::RingBuffer;
@@ -27,6 +29,7 @@ pub fn queue(alloc: Global, initial: &[u64], room: u32) -> Result<(Put, Take), A
     ensures room { IfOk result (λ ends. ends.0.room ≡ room) }
     ensures taken { IfOk result (λ ends. ends.1.taken ≡ []) }
     ensures known { IfOk result (λ ends. ends.1.known ≡ initial.now) }
+    ensures looks { IfOk result (λ ends. ends.1.looks ≡ 0) }
 {
     let capacity = initial.len() + room as usize;
     let (mut producer, mut consumer) = RingBuffer::new(alloc, capacity)?;
@@ -37,19 +40,22 @@ pub fn queue(alloc: Global, initial: &[u64], room: u32) -> Result<(Put, Take), A
         producer,
         initial: initial.len(),
     };
-    Ok((put, Take { consumer }))
+    let take = Take {
+        consumer,
+        looks: Looks::new(),
+    };
+    Ok((put, take))
 }
 
 /// Brings the two ends of one queue together on one thread. What was taken is then a prefix of what was put, the
-/// initial tokens first, and all the rest is known.
+/// initial tokens first, and all the rest is known. The take end looks once.
 pub fn meet(put: &mut Put, take: &mut Take)
     requires { IsQueue put.old take.old }
     ensures put { put.new ≡ put.old }
-    ensures ring { take.new.ring ≡ take.old.ring }
-    ensures taken { take.new.taken ≡ take.old.taken }
-    ensures known { IsPrefix take.old.known take.new.known }
+    ensures take { TakeLooks take.old take.new }
     ensures met { IsMet put.new take.new }
 {
+    take.looks.count();
     take.consumer.slots_beside(&mut put.producer);
 }
 

@@ -6,6 +6,7 @@ pub mod DeadLines
 pub mod Searches
 pub mod CountedPlants
 pub mod StageSearches
+pub mod LoweredOnce
 pub mod Refusals
 pub mod CoveredCards
 pub mod HighestCounts

@@ -1,7 +1,9 @@
 -- The steps of the search for the least count, and its ends.
-use Rattle.std.proofs.Common.{◌≡◌, ℕ, zero, suc, ◌+◌, ◌-◌, ◌^◌, ◌<◌, ◌≤◌, true, length, refl, sym, subst, arith}
+use Rattle.std.proofs.Common.{◌≡◌, ℕ, zero, suc, ◌+◌, ◌-◌, ◌^◌, ◌<◌, ◌≤◌, true, length, refl, sym, ap, subst, arith, ⊎_elim}
 use Rattle.std.proofs.Math.Nat.{pow-succ'}
+use Rattle.std.proofs.lemmas.Bool.{cases_lt}
 use Rattle.std.proofs.lemmas.List.Elements.{All-filter, filter_passes}
+use Rattle.std.proofs.lemmas.Nat.{pow_pos}
 use Rattle.line_base.specs.declared.limits.TheConstants.{MAX_CARDS}
 use Rattle.plant_model.specs.declared.plant.Policy.{Policy}
 use Rattle.plant_model.specs.declared.plant.Policy.TheVariants.{Kanban, Conwip, BaseStock, Extended}
@@ -19,7 +21,7 @@ use Rattle.card_sizing.specs.Sized.{has_single_count, sized_plant, lowest_under,
 use Rattle.card_sizing.specs.Serving.{Serves, IsLateWith}
 use Rattle.line_graph.specs.DeadLabels.{AreDead}
 use Rattle.card_sizing.specs.Sizing.{NoneServesBelow, IsBelow, IsSearch}
-use Rattle.card_sizing.specs.Trying.{FailsBy, HasTriesLeft}
+use Rattle.card_sizing.specs.Trying.{FailsBy, HasTriesLeft, HalvesRange, IsHalving}
 use Rattle.card_sizing.proofs.SizedSound.{sound_sized}
 use Rattle.card_sizing.proofs.EnoughCards.{serves_more, dead_not_live, late_not_in_time}
 
@@ -96,3 +98,41 @@ try_taken most tries range rest has some half = by_left has.left has.all has.hal
 pub try_counted : (most tries counted range rest : ℕ) → counted ≡ tries + 1 → HasTriesLeft most tries range → 1 ≤ range → rest + rest ≤ range → HasTriesLeft most counted rest
 try_counted most tries counted range rest is has some half =
     subst (λ (n : ℕ). HasTriesLeft most n rest) (sym is) (try_taken most tries range rest has some half)
+
+-- ---- no fewer tries than halving takes
+
+-- nothing is tried yet
+pub halving_begins : (begun start range : ℕ) → range ≡ start → IsHalving begun begun start range
+halving_begins begun start range is = record {
+  done = 0;
+  counted = omega arith;
+  halved = λ k wide.
+      let same : 2 ^ k ≡ 2 ^ (0 + k) = ap (λ (e : ℕ). 2 ^ e) (omega arith) in
+      omega (arith, same, wide, is);
+}
+
+-- one try more, after which at least half of the range is left, but for the count that was tried
+pub half_counted : (begun tries counted start range rest : ℕ) → counted ≡ tries + 1 → IsHalving begun tries start range → range ≤ rest + rest + 2 → IsHalving begun counted start rest
+half_counted begun tries counted start range rest is has half = record {
+  done = has.done + 1;
+  counted = omega (arith, is, has.counted);
+  halved = λ k wide.
+      let same : 2 ^ (has.done + suc k) ≡ 2 ^ (has.done + 1 + k) = ap (λ (e : ℕ). 2 ^ e) (omega arith) in
+      let before = has.halved (suc k) (omega (arith, same, wide)) in
+      let twice = pow-succ' 2 k in
+      omega (arith, before, twice, half);
+}
+
+-- where one count is left, they are as many as halving takes
+pub halving_ends : (begun tries start range : ℕ) → IsHalving begun tries start range → range ≡ 0 → HalvesRange start begun tries
+halving_ends begun tries start range has none k wide =
+    ⊎_elim
+    (λ more.
+    let rest = k - has.done - 1 in
+    let same : 2 ^ k ≡ 2 ^ (has.done + suc rest) = ap (λ (e : ℕ). 2 ^ e) (omega (arith, more)) in
+    let left = has.halved (suc rest) (omega (arith, same, wide)) in
+    let twice = pow-succ' 2 rest in
+    let some = pow_pos rest in
+    absurd (omega (arith, left, twice, some, none)))
+    (λ enough. omega (arith, has.counted, enough))
+    (cases_lt has.done k)

@@ -15,7 +15,8 @@ use Rattle.card_sizing.specs.declared.sizing.Below.TheVariants.{Lowest, Job, Dea
 use Rattle.card_sizing.specs.Sized.{lowest}
 use Rattle.card_sizing.specs.Serving.{IsInTime, Serves}
 use Rattle.card_sizing.specs.Trying.{FailsBy}
-use Rattle.card_sizing.specs.Counted.{has_stage_counts, least_under, least_at, with_counts, AreCounts, ServeEach, with_count, IsLeastCount, NoneServesLessFrom, IsStageSearch}
+use Rattle.card_sizing.specs.Counted.{has_stage_counts, least_under, least_at, with_counts, AreCounts, ServeEach, NoneServesLessFrom, IsStageSearch}
+use Rattle.card_sizing.specs.Lowered.{with_count, IsLeastCount}
 use Rattle.card_sizing.specs.Each.{no_sizing, counts_of, names_of, below_at, IsBelowAt, HaveReasons, IsEachRefusal}
 use Rattle.card_sizing.specs.Sizing.{IsSizingRefusal}
 use Rattle.card_sizing.specs.declared.each.StageSizing.{StageSizing}
@@ -140,12 +141,21 @@ module _ (p : Plant) (sound : IsSound p) (has : has_stage_counts p ≡ true) whe
 
   -- ---- from stage to stage
 
+  -- the least count is no more than the stage has
+  no_more_than : (may : ℕ) (counts : List ℕ) (i c : ℕ) → ServeEach p may counts → IsLeastCount (ServeEach p may) counts i c → c ≤ get_or counts i 0
+  no_more_than may counts i c serves least =
+      ⊎_elim
+      (λ less. absurd (least.none (get_or counts i 0) less (subst (ServeEach p may) (sym (set-get_or counts i 0)) serves)))
+      (λ ge. ge)
+      (cases_lt (get_or counts i 0) c)
+
   -- where stage i gets its least count, the stages from i on have no less count that serves
-  pub lowered_from : (may : ℕ) (counts : List ℕ) (i c : ℕ) → ServeEach p may counts → i < length p.stages → NoneServesLessFrom p may counts (i + 1) → IsLeastCount p may counts i c → NoneServesLessFrom p may (with_count counts i c) i
+  pub lowered_from : (may : ℕ) (counts : List ℕ) (i c : ℕ) → ServeEach p may counts → i < length p.stages → NoneServesLessFrom p may counts (i + 1) → IsLeastCount (ServeEach p may) counts i c → NoneServesLessFrom p may (with_count counts i c) i
   lowered_from may counts i c serves below none least j d from inside less served =
       let number = serves.counts_fit.number in
       let there : i < length counts = omega (arith, number) in
       let long = length-set counts i c in
+      let no_more = no_more_than may counts i c serves least in
       ⊎_elim
       (λ here.
       let at : get_or (set counts i c) j 0 ≡ c = here.1 in
@@ -166,7 +176,7 @@ module _ (p : Plant) (sound : IsSound p) (has : has_stage_counts p ≡ true) whe
       (λ first. ⊎_elim
       (λ also. absurd (first.0 also.0))
       (λ also. ⊎_elim
-      (λ at_i. let here_i = ap (λ n. get_or counts n 0) at_i.0 in omega (arith, first.1, also.1, at_i.1, here_i, least.no_more))
+      (λ at_i. let here_i = ap (λ n. get_or counts n 0) at_i.0 in omega (arith, first.1, also.1, at_i.1, here_i, no_more))
       (λ not_i. omega (arith, first.1, also.1, not_i.1))
       (count-with counts i c k there))
       (count-with counts j d k there_j))

@@ -1,12 +1,13 @@
 -- A plant with a count of cards for each stage, under kanban and extended kanban, and what it is that the counts serve.
 -- Source: Dallery and Liberopoulos 2000, for what a stage's cards and its stock are.
-use Rattle.std.specs.Prelude.{◌≡◌, ℕ, ◌<◌, ◌≤◌, Bool, false, List, map, length, slice_index, slice_set}
+use Rattle.std.specs.Prelude.{◌≡◌, ℕ, ◌<◌, ◌≤◌, Bool, false, List, map, length, slice_index}
 use Rattle.line_base.specs.Limits.{most_cards}
 use Rattle.plant_model.specs.declared.plant.Policy.{Policy}
 use Rattle.plant_model.specs.declared.plant.Policy.TheVariants.{Kanban, Conwip, BaseStock, Extended}
 use Rattle.plant_model.specs.Stages.{Stage}
 use Rattle.plant_model.specs.declared.plant.Plant.{Plant}
 use Rattle.plant_model.specs.Line.{stage_at, stage_numbers}
+use Rattle.card_sizing.specs.Lowered.{with_count}
 use Rattle.card_sizing.specs.Sized.{has_count_under}
 use Rattle.card_sizing.specs.Serving.{IsInTime}
 
@@ -49,22 +50,6 @@ pub record AreCounts (p : Plant) (counts : List ℕ) : Type 0 where
 pub record ServeEach (p : Plant) (may : ℕ) (counts : List ℕ) : Type 0 where
   pub counts_fit : AreCounts p counts
   pub in_time : IsInTime (with_counts p counts) may
-
--- the counts with c cards at stage i, the others as they stand
-abbrev pub with_count : List ℕ → ℕ → ℕ → List ℕ
-with_count counts i c = slice_set counts i c
-
--- c is the least count of stage i with which the line is in time, the others as they stand, and no more than it has
-pub record IsLeastCount (p : Plant) (may : ℕ) (counts : List ℕ) (i c : ℕ) : Type 0 where
-  pub serves : ServeEach p may (with_count counts i c)
-  pub none : (d : ℕ) → d < c → ¬ ServeEach p may (with_count counts i d)
-  pub no_more : c ≤ slice_index counts i
-
--- the counts with that of stage i lowered to the least with which the line is in time, the others as they stood
-pub record IsLowered (p : Plant) (may : ℕ) (old : List ℕ) (i : ℕ) (new : List ℕ) : Type 0 where
-  pub count : ℕ
-  pub least : IsLeastCount p may old i count
-  pub lowered : new ≡ with_count old i count
 
 -- the stages from number `from` on have no less count with which the line is in time, the others as they stand
 abbrev pub NoneServesLessFrom : Plant → ℕ → List ℕ → ℕ → Type 0

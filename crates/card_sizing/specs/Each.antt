@@ -1,5 +1,5 @@
 -- What the search for the least counts, stage by stage, answers.
-use Rattle.std.specs.Prelude.{◌≡◌, ⊤, ℕ, ◌-◌, ◌<◌, true, false, List, [], map, slice_index, slice_index_or}
+use Rattle.std.specs.Prelude.{◌≡◌, ⊤, ℕ, ◌+◌, ◌-◌, ◌*◌, ◌^◌, ◌<◌, ◌≤◌, true, false, List, [], map, length, replicate, slice_index, slice_index_or}
 use Rattle.line_base.specs.Limits.{most_cards}
 use Rattle.plant_model.specs.declared.plant.Plant.{Plant}
 use Rattle.plant_model.specs.Graph.{graph}
@@ -9,12 +9,34 @@ use Rattle.card_sizing.specs.declared.sizing.Below.TheVariants.{Lowest, Job, Dea
 use Rattle.card_sizing.specs.declared.sizing.SizingError.{SizingError}
 use Rattle.card_sizing.specs.declared.sizing.SizingError.TheVariants.{NoSingleCount, NoCount, NoMemory}
 use Rattle.card_sizing.specs.declared.each.StageSizing.{StageSizing}
-use Rattle.card_sizing.specs.Serving.{IsLate, IsLateWith}
-use Rattle.card_sizing.specs.Counted.{has_stage_counts, least_at, with_counts, with_count}
+use Rattle.card_sizing.specs.Serving.{IsLate, IsLateWith, Serves}
+use Rattle.card_sizing.specs.Sizing.{NoneServesBelow}
+use Rattle.card_sizing.specs.Counted.{has_stage_counts, least_at, with_counts, ServeEach}
+use Rattle.card_sizing.specs.Lowered.{with_count, AreLowered}
 
 -- the counts of the answer, in the order of the stages
 abbrev pub counts_of : List StageSizing → List ℕ
 counts_of sizings = map (λ s. s.cards) sizings
+
+-- the counts are those that stand at the end where each stage begins at the least single count that serves, and then,
+-- from the last stage back to the first, gets the least count with which the line is in time, the others as they stand
+pub record AreLeastInOrder (p : Plant) (may : ℕ) (counts : List ℕ) : Type 0 where
+  pub start : ℕ
+  pub serves : Serves p may start
+  pub least : NoneServesBelow p may start
+  pub lowered : AreLowered (ServeEach p may) (replicate (length p.stages) start) counts
+
+-- at least as many tries were made as halving takes for each stage: k, where at each stage there are 2 ^ k counts or
+-- more from its least one to the one that it has
+abbrev pub HalvesEach : Plant → List ℕ → ℕ → ℕ → Type 0
+HalvesEach p counts before after =
+    (k : ℕ) → ((i : ℕ) → i < length p.stages → 2 ^ k ≤ slice_index counts i - least_at p i + 1) →
+    before + k * length p.stages ≤ after
+
+-- as many at least as halving takes where each stage begins at the least single count that serves
+abbrev pub HalvesFromStart : Plant → ℕ → ℕ → Type 0
+HalvesFromStart p may tries =
+    (c : ℕ) → Serves p may c → NoneServesBelow p may c → HalvesEach p (replicate (length p.stages) c) 0 tries
 
 -- the names of its stages
 abbrev pub names_of : List StageSizing → List (List ℕ)

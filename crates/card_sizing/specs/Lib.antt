@@ -3,5 +3,6 @@ pub mod Serving
 pub mod Laws
 pub mod Trying
 pub mod Sizing
+pub mod Lowered
 pub mod Counted
 pub mod Each

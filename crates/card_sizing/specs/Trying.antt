@@ -1,5 +1,5 @@
 -- What a try of a plant finds, and how many tries a search has left.
-use Rattle.std.specs.Prelude.{◌≡◌, ⊤, ℕ, ◌+◌, ◌^◌, ◌<◌, List, Option, None, Some}
+use Rattle.std.specs.Prelude.{◌≡◌, ⊤, ℕ, ◌+◌, ◌^◌, ◌<◌, ◌≤◌, List, Option, None, Some}
 use Rattle.plant_model.specs.declared.plant.Plant.{Plant}
 use Rattle.plant_model.specs.Graph.{graph}
 use Rattle.card_sizing.specs.declared.sizing.Below.{Below}
@@ -37,3 +37,13 @@ pub record HasTriesLeft (most tries range : ℕ) : Type 0 where
   pub left : ℕ
   pub all : tries + left ≡ most
   pub halved : range < 2 ^ left
+
+-- at least as many tries were made as halving takes where the counts lie this far apart: k where they are 2 ^ k or more
+abbrev pub HalvesRange : ℕ → ℕ → ℕ → Type 0
+HalvesRange range before after = (k : ℕ) → 2 ^ k ≤ range + 1 → before + k ≤ after
+
+-- the tries halved the counts that lay `start` apart, one after the other; these lie `range` apart
+pub record IsHalving (begun tries start range : ℕ) : Type 0 where
+  pub done : ℕ
+  pub counted : tries ≡ begun + done
+  pub halved : (k : ℕ) → 2 ^ (done + k) ≤ start + 1 → 2 ^ k ≤ range + 1

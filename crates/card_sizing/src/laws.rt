@@ -1,5 +1,5 @@
 ghost use Rattle.std.specs.Prelude.{◌≡◌, true};
-ghost use Rattle.card_sizing.specs.Laws.{CountsAreSound, MoreCardsServe};
+ghost use Rattle.card_sizing.specs.Laws.{CountsAreSound, MoreCardsServe, CountsInOrderAreOne};
 ghost use Rattle.card_sizing.specs.Sized.{has_single_count};
 ghost use Rattle.plant_model.specs.Sound.{IsSound};
 ghost use Rattle.plant_model.specs.declared.plant.Plant.{Plant};
@@ -13,4 +13,9 @@ pub fn sized_plants_are_sound()
 /// the least. It rests on the law *More tokens, never later*.
 pub fn more_cards_serve()
     ensures { (p : Plant) → IsSound p → has_single_count p ≡ true → MoreCardsServe p }
+{}
+
+/// A law of the definitions: two answers of `least_each` for one plant and one wait have the same counts.
+pub fn counts_in_order_are_one()
+    ensures { (p : Plant) → CountsInOrderAreOne p }
 {}

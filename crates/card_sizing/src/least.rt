@@ -1,7 +1,7 @@
 //! The two questions: the least count of cards that serves, and the least counts stage by stage.
 ghost use Rattle.std.specs.Prelude.{◌≡◌, ◌+◌, ◌*◌, ◌≤◌, true, false, ◌↔◌, map, sum, length, IfOk, OnOk, IfErr, IsErrOf};
 ghost use Rattle.card_sizing.specs.Counted.{has_stage_counts, ServeEach, NoneServesLess};
-ghost use Rattle.card_sizing.specs.Each.{counts_of, names_of, HaveReasons, IsEachRefusal};
+ghost use Rattle.card_sizing.specs.Each.{counts_of, names_of, AreLeastInOrder, HalvesFromStart, HaveReasons, IsEachRefusal};
 ghost use Rattle.card_sizing.specs.Serving.{Serves};
 ghost use Rattle.card_sizing.specs.Sized.{has_single_count, lowest, highest};
 ghost use Rattle.card_sizing.specs.Sizing.{NoneServesBelow, IsBelow, HalvesCounts, IsSizingRefusal};
@@ -105,9 +105,10 @@ fn halve(
 /// Counts of cards, one for each stage, with which the line is live and no job waits longer than `wait` from its demand
 /// to its delivery, in the plant's unit; and with one card less at any one stage, the others as they stand, that isn't
 /// so. They begin at the answer of `least_cards` at each stage. From the last stage back to the first a stage gets the
-/// least count with which the line is still in time, the others as they stand. One pass is enough: with more cards no
-/// job waits longer (the law `more_cards_never_later` of line_graph), so what a stage needs it needs also with fewer
-/// cards elsewhere.
+/// least count with which the line is still in time, the others as they stand. The order decides: from the first stage
+/// on there may be other counts. There is one answer (the law `counts_in_order_are_one`). One pass is enough: with more
+/// cards no job waits longer (the law `more_cards_never_later` of line_graph), so what a stage needs it needs also with
+/// fewer cards elsewhere.
 ///
 /// `NoSingleCount` comes exactly where the plant runs by CONWIP or base stock, or by kanban with a loop; else `NoCount`
 /// exactly where 10,000 cards at each stage don't serve. At most fourteen counts of a stage are tried, and one of them
@@ -117,11 +118,13 @@ pub fn least_each(alloc: Global, plant: &Plant, wait: u64) -> Result<EachSizing,
     requires live { IsLive (graph plant.now) }
     ensures serves { IfOk result (λ each. ServeEach plant.now wait (counts_of each.stages)) }
     ensures least { IfOk result (λ each. NoneServesLess plant.now wait (counts_of each.stages)) }
+    ensures in_order { IfOk result (λ each. AreLeastInOrder plant.now wait (counts_of each.stages)) }
     ensures below { IfOk result (λ each.
         HaveReasons plant.now wait (counts_of each.stages) each.stages (length plant.now.stages)) }
     ensures named { IfOk result (λ each. names_of each.stages ≡ map (λ s. s.name) plant.now.stages) }
     ensures total { IfOk result (λ each. each.total ≡ sum (counts_of each.stages)) }
     ensures few_tries { IfOk result (λ each. each.tries ≤ 15 + 15 * length plant.now.stages) }
+    ensures halved { IfOk result (λ each. HalvesFromStart plant.now wait each.tries) }
 
     // No answer but running out of memory is free.
     ensures refused { IfErr result (IsEachRefusal plant.now wait) }

@@ -13,7 +13,7 @@ mod trying;
 mod waits;
 
 pub use each::{EachSizing, StageSizing};
-pub use laws::{more_cards_serve, sized_plants_are_sound};
+pub use laws::{counts_in_order_are_one, more_cards_serve, sized_plants_are_sound};
 pub use least::{least_cards, least_each};
 pub use lowest::{has_single_count, lowest_count};
 pub use sized::sized_plant;

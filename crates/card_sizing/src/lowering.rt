@@ -1,8 +1,9 @@
 //! What lowering the counts of the stages takes: one stage after the other, and why none can have one less.
-ghost use Rattle.std.specs.Prelude.{◌≡◌, ◌+◌, ◌*◌, ◌<◌, ◌≤◌, true, map, sum, length, IfOk, OnOk};
-ghost use Rattle.card_sizing.specs.Counted.{has_stage_counts, least_at, with_counts, AreCounts, ServeEach, with_count, IsLowered, NoneServesLess};
-ghost use Rattle.card_sizing.specs.Each.{counts_of, names_of, IsBelowAt, HaveReasons};
-ghost use Rattle.card_sizing.specs.Trying.{Tells};
+ghost use Rattle.std.specs.Prelude.{◌≡◌, ◌+◌, ◌-◌, ◌*◌, ◌<◌, ◌≤◌, true, map, sum, length, slice_index, IfOk, OnOk};
+ghost use Rattle.card_sizing.specs.Counted.{has_stage_counts, least_at, with_counts, AreCounts, ServeEach, NoneServesLess};
+ghost use Rattle.card_sizing.specs.Lowered.{with_count, IsLowered, AreLowered};
+ghost use Rattle.card_sizing.specs.Each.{counts_of, names_of, HalvesEach, IsBelowAt, HaveReasons};
+ghost use Rattle.card_sizing.specs.Trying.{Tells, HalvesRange};
 ghost use Rattle.line_base.specs.Limits.{most_cards};
 ghost use Rattle.plant_model.specs.Sound.{IsSound};
 
@@ -15,7 +16,8 @@ use line_base::Items;
 use plant_model::Plant;
 use std::alloc::{AllocError, Global};
 
-/// Lowers counts that serve until no one can be less, the others as they stand.
+/// Lowers counts that serve, one after the other from the last back to the first, until no one can be less, the others
+/// as they stand.
 pub fn lower_each(
     alloc: Global,
     plant: &Plant,
@@ -29,6 +31,8 @@ pub fn lower_each(
     requires few_tries { tries.old ≤ 15 }
     ensures serves { OnOk result (ServeEach plant.now may counts.new) }
     ensures least { OnOk result (NoneServesLess plant.now may counts.new) }
+    ensures in_order { OnOk result (AreLowered (ServeEach plant.now may) counts.old counts.new) }
+    ensures halved { OnOk result (HalvesEach plant.now counts.old tries.old tries.new) }
     ensures counted { OnOk result (tries.new ≤ tries.old + 14 * length plant.now.stages) }
 {
     let stages = plant.stages.len();
@@ -52,7 +56,9 @@ fn lower(
     requires serves { ServeEach plant.now may counts.old }
     requires stage { stage < length plant.now.stages }
     requires few_tries { tries.old < 980 }
-    ensures least { OnOk result (IsLowered plant.now may counts.old stage counts.new) }
+    ensures least { OnOk result (IsLowered (ServeEach plant.now may) counts.old stage counts.new) }
+    ensures halved { OnOk result (HalvesRange
+        (slice_index counts.old stage - least_at plant.now stage) tries.old tries.new) }
     ensures counted { OnOk result (tries.new ≤ tries.old + 14) }
 {
     let mut low = least_count(plant, stage);
@@ -133,6 +139,7 @@ pub fn with_reasons(
     ensures below { IfOk result (λ sizings.
         HaveReasons plant.now may counts.now sizings (length plant.now.stages)) }
     ensures counted { OnOk result (tries.new ≤ tries.old + length plant.now.stages) }
+    ensures kept { OnOk result (tries.old ≤ tries.new) }
 {
     let stages = plant.stages.as_slice();
     let mut sizings = Vec::with_capacity(alloc, stages.len())?;
@@ -164,6 +171,7 @@ fn reason_of(
     requires few_tries { tries.old < 1_000 }
     ensures below { IfOk result (IsBelowAt plant.now may counts.now stage) }
     ensures counted { OnOk result (tries.new ≤ tries.old + 1) }
+    ensures kept { OnOk result (tries.old ≤ tries.new) }
 {
     let count = counts[stage];
     if count == least_count(plant, stage) {

@@ -3,7 +3,7 @@ use crate::lines::{is_comment, line_at};
 use crate::reason::{Reason, add_to, both_if_ok, value_if_ok};
 use crate::words::Words;
 use line_base::MAX_FILE_BYTES;
-use line_io::{Files, Store};
+use outside_io::{Files, Store};
 use std::alloc::Global;
 
 /// Puts a file among others, in the place of one of its name: the words name it, and say with the lines below them

@@ -3,7 +3,7 @@ use crate::ending::Ending;
 use crate::reason::Reason;
 use crate::runner::Attempt;
 use crate::slots::add_number;
-use line_io::Files;
+use outside_io::Files;
 use std::alloc::{AllocError, Global};
 
 /// What is found in a case.

@@ -14,8 +14,9 @@ mod words;
 
 use files::read_file;
 use findings::Findings;
-use line_io::{FileStore, Sink, StdSink, Store, put_all};
+use host_calls::{HostFiles, HostOut};
 use lines::{is_comment, line_at, lines_of};
+use outside_io::{FileStore, Sink, StdSink, Store, put_all};
 use reason::Reason;
 use runner::run_case;
 use std::alloc::{AllocError, Global};
@@ -34,8 +35,8 @@ const BROKEN: u8 = 2;
 
 fn main(rt: HostRuntime) -> ExitCode {
     let alloc = rt.alloc();
-    let mut folder = FileStore::new(&rt);
-    let mut sink = StdSink::new(rt.stdout());
+    let mut folder = FileStore::over(alloc, HostFiles::new(&rt));
+    let mut sink = StdSink::over(HostOut::new(rt.stdout()));
     match run_all(&rt, alloc, &mut folder, &mut sink) {
         Ok(true) => ExitCode::SUCCESS,
         Ok(false) => FAILED.into(),

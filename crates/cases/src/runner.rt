@@ -7,7 +7,7 @@ use crate::reason::{Reason, both_if_ok, replace, value_if_ok};
 use crate::run::{Faults, Run, run_of};
 use crate::slots::Slots;
 use crate::words::{Words, command_words};
-use line_io::{Files, Store};
+use outside_io::{Files, Store};
 use std::alloc::Global;
 use std::sync::Wait;
 use std::thread::Threads;

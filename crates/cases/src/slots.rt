@@ -1,8 +1,8 @@
 //! What the two slots of a disk hold, from one command of a case to the next.
 use crate::reason::{Reason, both_if_ok, value_if_ok};
+use crash_disk::slots::MAX_ROOM;
+use crash_disk::{Disk, DiskError, MemDisk};
 use line_base::digits;
-use line_disk::slots::MAX_ROOM;
-use line_disk::{Disk, DiskError, MemDisk};
 use std::alloc::Global;
 
 /// The bytes of a slot before its content.

@@ -23,7 +23,8 @@ use Rattle.checkpoint.specs.declared.format.Format.{Format}
 use Rattle.checkpoint.specs.declared.format.Format.TheVariants.{Dates, Differences}
 use Rattle.checkpoint.specs.declared.error.CheckpointError.{CheckpointError}
 use Rattle.checkpoint.specs.declared.error.CheckpointError.TheVariants.{Line, Count, Marking, Date, PlaceDate, NoMemory}
-use Rattle.checkpoint.specs.Text.{lines, head_lines, station_lines, place_lines, lines_text, IsTextOf, AreGiven}
+use Rattle.checkpoint.specs.Text.{lines, head_lines, station_lines, place_lines, lines_text, IsTextOf}
+use Rattle.checkpoint.specs.Given.{AreGiven}
 use Rattle.checkpoint.specs.Text.{Fixed}
 use Rattle.checkpoint.specs.Reading.{dated_line_count}
 use Rattle.checkpoint.specs.Answers.{IsRefused, Tells, IsStateOrNoMemory}

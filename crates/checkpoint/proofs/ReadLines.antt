@@ -8,7 +8,8 @@ use Rattle.event_graph.specs.Network.{stations, arc_count, label}
 use Rattle.line_core.specs.Parts.{list_at}
 use Rattle.checkpoint.specs.declared.format.Format.{Format}
 use Rattle.checkpoint.specs.declared.format.Format.TheVariants.{Dates, Differences}
-use Rattle.checkpoint.specs.Text.{dates_text, Line, Fixed, Dated, lines_text, lines, head_lines, delayed_arcs, delays_line, station_words, place_words, station_lines, place_lines, IsReadFor, AreGiven}
+use Rattle.checkpoint.specs.Text.{dates_text, Line, Fixed, Dated, lines_text, lines, head_lines, delayed_arcs, delays_line, station_words, place_words, station_lines, place_lines, IsReadFor}
+use Rattle.checkpoint.specs.Given.{AreGiven}
 use Rattle.line_base.specs.Roomy.{RoomyLog, RoomyLogs, dates_of}
 use Rattle.checkpoint.specs.declared.error.CheckpointError.{CheckpointError}
 use Rattle.checkpoint.specs.declared.error.CheckpointError.TheVariants.{Line as LineError}

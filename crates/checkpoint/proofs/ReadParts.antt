@@ -16,7 +16,8 @@ use Rattle.line_core.proofs.MarkedLogs.{each_below-same}
 use Rattle.line_core.proofs.PartsLemmas.{few_from, given_is_consistent}
 use Rattle.line_core.proofs.LastFirings.{state_of-logs}
 use Rattle.checkpoint.specs.declared.format.Format.{Format}
-use Rattle.checkpoint.specs.Text.{station_words, place_words, AreGiven}
+use Rattle.checkpoint.specs.Text.{station_words, place_words}
+use Rattle.checkpoint.specs.Given.{AreGiven}
 use Rattle.checkpoint.specs.Answers.{IsRefused}
 use Rattle.checkpoint.specs.Reading.{Reading, HasRead, HasReadLogs, HasReadPlaces, IsReadOf, KeepsLine, ComparesLine, or_first, unlike_token, unlike_tokens, unlike_places, head_count}
 use Rattle.checkpoint.proofs.ReadDates.{IsGiven}

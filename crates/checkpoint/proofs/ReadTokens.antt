@@ -13,7 +13,8 @@ use Rattle.line_core.specs.ArcTokens.{tokens_of, AddWithin}
 use Rattle.line_core.specs.Consistent.{all_tokens, tokens_left}
 use Rattle.line_core.specs.Parts.{list_at, each_below, refuse_if}
 use Rattle.checkpoint.specs.declared.format.Format.{Format}
-use Rattle.checkpoint.specs.Text.{date_word, AreGiven}
+use Rattle.checkpoint.specs.Text.{date_word}
+use Rattle.checkpoint.specs.Given.{AreGiven}
 use Rattle.checkpoint.specs.Reading.{Compares, or_first, unlike_tokens, TellsDate}
 use Rattle.checkpoint.proofs.ReadDates.{IsGiven, ArePartlyRead, read_none, read_next, read_all}
 use Rattle.checkpoint.proofs.Noted.{or_first-twice, unlike-push}

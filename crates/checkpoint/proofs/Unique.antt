@@ -9,7 +9,8 @@ use Rattle.std.proofs.lemmas.List.Elements.{All-head, All-tail}
 use Rattle.line_core.specs.Parts.{list_at}
 use Rattle.checkpoint.specs.declared.format.Format.{Format}
 use Rattle.checkpoint.specs.declared.format.Format.TheVariants.{Dates, Differences}
-use Rattle.checkpoint.specs.Text.{date_word, date_words, dates_text, Line, Fixed, Dated, lines_text, AreGiven}
+use Rattle.checkpoint.specs.Text.{date_word, date_words, dates_text, Line, Fixed, Dated, lines_text}
+use Rattle.checkpoint.specs.Given.{AreGiven}
 use Rattle.checkpoint.specs.Reading.{is_word_byte, EndsWord, dated_line_count}
 use Rattle.checkpoint.proofs.WordBytes.{IsWord, no_minus, word-decimal, word-date_word, word_taken, word_dropped}
 use Rattle.checkpoint.proofs.ReadDates.{IsGiven, ends-date_words, length-date_words, dates_parts}

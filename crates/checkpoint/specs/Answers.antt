@@ -12,7 +12,8 @@ use Rattle.checkpoint.specs.declared.error.Stop.{Stop}
 use Rattle.checkpoint.specs.declared.error.Stop.TheVariants.{Form, Memory}
 use Rattle.checkpoint.specs.declared.error.CheckpointError.{CheckpointError}
 use Rattle.checkpoint.specs.declared.error.CheckpointError.TheVariants.{Line, Count, Marking, Date, PlaceDate, NoMemory}
-use Rattle.checkpoint.specs.Text.{IsTextOf, AreGiven}
+use Rattle.checkpoint.specs.Text.{IsTextOf}
+use Rattle.checkpoint.specs.Given.{AreGiven}
 use Rattle.checkpoint.specs.FirstBadLine.{IsFirstBadLine}
 
 -- the error of a line with this number that was not read

@@ -2,7 +2,8 @@
 use Rattle.std.specs.Prelude.{◌≡◌, ℕ, ◌-◌, ◌<◌, ◌≤◌, List, [], ◌++◌, length, take}
 use Rattle.line_base.specs.declared.event.Parts.{Parts}
 use Rattle.checkpoint.specs.declared.format.Format.{Format}
-use Rattle.checkpoint.specs.Text.{lines, lines_text, IsReadFor, AreGiven}
+use Rattle.checkpoint.specs.Text.{lines, lines_text, IsReadFor}
+use Rattle.checkpoint.specs.Given.{AreGiven}
 
 -- the file begins with the first `number` lines of a checkpoint of this graph, whatever dates they give, and nothing
 -- stands behind its last line

@@ -1,4 +1,5 @@
 pub mod Text
+pub mod Given
 pub mod Writing
 pub mod FirstBadLine
 pub mod Reading

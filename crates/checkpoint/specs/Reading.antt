@@ -14,7 +14,8 @@ use Rattle.checkpoint.specs.declared.error.Stop.TheVariants.{Memory}
 use Rattle.line_base.specs.declared.event.Parts.{Parts}
 use Rattle.checkpoint.specs.declared.format.Format.{Format}
 use Rattle.checkpoint.specs.declared.format.Format.TheVariants.{Dates, Differences}
-use Rattle.checkpoint.specs.Text.{date_word, date_words, dates_text, place_words, Line, Fixed, Dated, lines, lines_text, AreGivenDates, AreGiven}
+use Rattle.checkpoint.specs.Text.{date_word, date_words, dates_text, place_words, Line, Fixed, Dated, lines, lines_text}
+use Rattle.checkpoint.specs.Given.{AreGivenDates, AreGiven}
 
 -- a text, and what of it is left to read
 pub record Reading : Type 0 where

@@ -1,10 +1,9 @@
 -- The text of a checkpoint: which lines it has, in order, and of what words they are. Stations and arcs count from 0.
-use Rattle.std.specs.Prelude.{◌≡◌, ℕ, ◌-◌, ◌≤◌, nat_lt, if◌then◌else◌, List, [], ◌∷◌, ◌++◌, drop, filter, length, map, codes, decimal, All, ⊤}
+use Rattle.std.specs.Prelude.{◌≡◌, ℕ, ◌-◌, nat_lt, if◌then◌else◌, List, [], ◌∷◌, ◌++◌, drop, filter, length, map, slice_index_or, codes, decimal, ⊤}
 use Rattle.std.specs.List.{flat_map, range_with_len}
 use Rattle.line_base.specs.declared.event.Parts.{Parts}
 use Rattle.event_graph.specs.Network.{stations, arc_count, delay, label}
 use Rattle.event_graph.specs.State.{State}
-use Rattle.line_core.specs.Parts.{LATEST_GIVEN, list_at}
 use Rattle.checkpoint.specs.declared.format.Format.{Format}
 use Rattle.checkpoint.specs.declared.format.Format.TheVariants.{Dates, Differences}
 
@@ -75,7 +74,7 @@ unfoldable pub lines_text : Format → List Line → List (List ℕ) → List �
 lines_text format [] lists = []
 lines_text format (Fixed text ∷ rest) lists = text ++ lines_text format rest lists
 lines_text format (Dated words ∷ rest) lists =
-    words ++ (dates_text format (list_at lists 0) ++ lines_text format rest (drop 1 lists))
+    words ++ (dates_text format (slice_index_or lists 0 []) ++ lines_text format rest (drop 1 lists))
 
 -- the text of a state: its logs stand in the lines of the stations, its places in those of the arcs
 abbrev pub text : Format → Parts → State → List ℕ
@@ -91,10 +90,3 @@ pub record IsTextOf (g : Parts) (s : State) (bytes : List ℕ) : Type 0 where
   pub format : Format
   pub read : IsReadFor format g
   pub is : bytes ≡ text format g s
-
--- no date is later than the latest that a text may give
-abbrev pub AreGivenDates : List ℕ → Type 0
-AreGivenDates dates = All (λ date. date ≤ LATEST_GIVEN) dates
-
-abbrev pub AreGiven : List (List ℕ) → Type 0
-AreGiven lists = All AreGivenDates lists

@@ -2,7 +2,8 @@
 ghost use Rattle.std.specs.Prelude.{◌≡◌, ℕ, ◌^◌, ◌<◌, ◌++◌, [], length, List, true, nat_lt, IfOk, IfErr};
 ghost use Rattle.checkpoint.specs.Answers.{Tells};
 ghost use Rattle.checkpoint.specs.Reading.{HasRead, HasReadLogs, HasReadPlaces, KeepsLine, or_first, head_count, arcs_from, TellsPassing, TellsLine};
-ghost use Rattle.checkpoint.specs.Text.{station_words, IsReadFor, AreGiven};
+ghost use Rattle.checkpoint.specs.Text.{station_words, IsReadFor};
+ghost use Rattle.checkpoint.specs.Given.{AreGiven};
 ghost use Rattle.event_graph.specs.Network.{stations, jobs, arc_count};
 ghost use Rattle.line_base.specs.Roomy.{dates_of};
 ghost use Rattle.line_core.specs.ArcTokens.{HasRoom};

@@ -1,7 +1,8 @@
 ghost use Rattle.std.specs.Prelude.{◌≡◌, ℕ, ◌^◌, ◌<◌, [], length, List, None, Some, IfOk, IfErr, OnOk};
 ghost use Rattle.checkpoint.specs.Answers.{IsRefused, Tells, FindsStates};
 ghost use Rattle.checkpoint.specs.Reading.{HasRead, IsReadOf, head_count, end_from};
-ghost use Rattle.checkpoint.specs.Text.{lines, lines_text, IsReadFor, IsTextOf, AreGiven};
+ghost use Rattle.checkpoint.specs.Text.{lines, lines_text, IsReadFor, IsTextOf};
+ghost use Rattle.checkpoint.specs.Given.{AreGiven};
 ghost use Rattle.checkpoint.specs.declared.format.Format.TheVariants.{Differences};
 ghost use Rattle.event_graph.specs.Network.{stations, arc_count};
 ghost use Rattle.line_base.specs.Roomy.{dates_of};

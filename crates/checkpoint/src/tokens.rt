@@ -1,7 +1,8 @@
 //! The tokens of a line, beside those that the logs leave on the arc.
 ghost use Rattle.std.specs.Prelude.{◌≡◌, ◌^◌, ◌<◌, ◌+◌, ◌++◌, ◌==◌, not, drop, length, slice_index, true, IfOk};
 ghost use Rattle.checkpoint.specs.Reading.{Compares, ComparesLine, or_first, TellsDates, TellsPassing, TellsLine};
-ghost use Rattle.checkpoint.specs.Text.{AreGiven, place_words};
+ghost use Rattle.checkpoint.specs.Text.{place_words};
+ghost use Rattle.checkpoint.specs.Given.{AreGiven};
 ghost use Rattle.event_graph.specs.Network.{stations, arc_count};
 ghost use Rattle.line_base.specs.Roomy.{dates_of};
 ghost use Rattle.line_core.specs.Consistent.{tokens_left};

@@ -10,10 +10,15 @@ use Rattle.line_base.proofs.Numbers.{decimal-read}
 use Rattle.command_line.specs.Numbers.{number_in}
 use Rattle.command_line.specs.Options.{with_flag, with_value, options_after}
 use Rattle.command_line.specs.Settings.{asked_run}
-use Rattle.command_line.specs.Words.{after_help, after_big, after_resume, after_cards, after_curve, after_latest, after_plant_word, command_of, topic_of}
+use Rattle.command_line.specs.Sources.{plant_at}
+use Rattle.command_line.specs.Words.{after_help, after_big, after_resume, after_curve, after_plant_word, with_wait, command_of, topic_of}
 use Rattle.command_line.specs.declared.command.Command.{Command}
-use Rattle.command_line.specs.declared.command.Command.TheVariants.{Run, Replay, Big, Resume, RunSlots, RunRoom, RunStand, ResumeSlots, Cards, Curve, Latest, WhatIf, Help}
-use Rattle.command_line.specs.declared.command.Topic.TheVariants as topic
+use Rattle.command_line.specs.declared.alone_question.AloneQuestion.TheVariants.{Big, Help}
+use Rattle.command_line.specs.declared.command.Command.TheVariants.{Alone, OnPlant, OnFile, Standing, Stopping, OnDisk}
+use Rattle.command_line.specs.declared.disk_question.DiskQuestion.TheVariants.{RunSlots, ResumeSlots}
+use Rattle.command_line.specs.declared.file_question.FileQuestion.TheVariants.{Resume, Replay, WhatIf}
+use Rattle.command_line.specs.declared.plant_question.PlantQuestion.TheVariants.{Run, RunRoom, Cards, Curve, Latest}
+use Rattle.command_line.specs.declared.topic.Topic.TheVariants as topic
 
 own : IsNumeralModel (λ ds. list_all is_ascii_digit ds ≡ true) (digits_value 10)
 own = numerals_by_value _ (search rules)
@@ -51,47 +56,47 @@ numerals = record {
 -- words, each with the command that they are
 abbrev commands : List (List (List ℕ) × Command)
 commands =
-    (codes "run" ∷ codes "a.toml" ∷ [], Run (codes "a.toml") 1 None)
+    (codes "run" ∷ codes "a.toml" ∷ [], OnPlant (plant_at (codes "a.toml")) (Run 1))
     ∷ (
       codes "run" ∷ codes "a.toml" ∷ codes "--stop-after" ∷ codes "0" ∷ codes "--save" ∷ codes "c.ckpt" ∷ [],
-      Run (codes "a.toml") 1 (Some (record { after = 0; save = codes "c.ckpt" })),
+      Stopping (plant_at (codes "a.toml")) 1 (record { after = 0; save = codes "c.ckpt" }),
     )
     ∷ (
       codes "run" ∷ codes "a.toml" ∷ codes "--workers" ∷ codes "16" ∷ codes "--save" ∷ codes "c.ckpt" ∷ codes "--stop-after" ∷ codes "2" ∷ [],
-      Run (codes "a.toml") 16 (Some (record { after = 2; save = codes "c.ckpt" })),
+      Stopping (plant_at (codes "a.toml")) 16 (record { after = 2; save = codes "c.ckpt" }),
     )
-    ∷ (codes "run" ∷ codes "a.toml" ∷ codes "--slots" ∷ codes "--every" ∷ codes "2" ∷ [], RunSlots (codes "a.toml") 2 1)
-    ∷ (codes "run" ∷ codes "a.toml" ∷ codes "--room" ∷ codes "10000" ∷ [], RunRoom (codes "a.toml") 10_000 1)
+    ∷ (codes "run" ∷ codes "a.toml" ∷ codes "--slots" ∷ codes "--every" ∷ codes "2" ∷ [], OnDisk (plant_at (codes "a.toml")) (RunSlots 2 1))
+    ∷ (codes "run" ∷ codes "a.toml" ∷ codes "--room" ∷ codes "10000" ∷ [], OnPlant (plant_at (codes "a.toml")) (RunRoom 10_000 1))
     ∷ (
       codes "run" ∷ codes "a.toml" ∷ codes "--workers" ∷ codes "2" ∷ codes "--room" ∷ codes "16" ∷ [],
-      RunRoom (codes "a.toml") 16 2,
+      OnPlant (plant_at (codes "a.toml")) (RunRoom 16 2),
     )
-    ∷ (codes "run" ∷ codes "a.toml" ∷ codes "--stand" ∷ [], RunStand (codes "a.toml") 1)
-    ∷ (codes "run" ∷ codes "a.toml" ∷ codes "--workers" ∷ codes "2" ∷ codes "--stand" ∷ [], RunStand (codes "a.toml") 2)
+    ∷ (codes "run" ∷ codes "a.toml" ∷ codes "--stand" ∷ [], Standing (plant_at (codes "a.toml")) 1)
+    ∷ (codes "run" ∷ codes "a.toml" ∷ codes "--workers" ∷ codes "2" ∷ codes "--stand" ∷ [], Standing (plant_at (codes "a.toml")) 2)
     ∷ (
       codes "resume" ∷ codes "a.toml" ∷ codes "c.ckpt" ∷ codes "--workers" ∷ codes "2" ∷ [],
-      Resume (codes "a.toml") (codes "c.ckpt") 2,
+      OnFile (plant_at (codes "a.toml")) (codes "c.ckpt") (Resume 2),
     )
-    ∷ (codes "resume" ∷ codes "a.toml" ∷ codes "--slots" ∷ [], ResumeSlots (codes "a.toml") 1)
-    ∷ (codes "big" ∷ codes "18446744073709551615" ∷ [], Big 18_446_744_073_709_551_615 1)
-    ∷ (codes "cards" ∷ codes "a.toml" ∷ codes "0" ∷ [], Cards (codes "a.toml") 0)
+    ∷ (codes "resume" ∷ codes "a.toml" ∷ codes "--slots" ∷ [], OnDisk (plant_at (codes "a.toml")) (ResumeSlots 1))
+    ∷ (codes "big" ∷ codes "18446744073709551615" ∷ [], Alone (Big 18_446_744_073_709_551_615 1))
+    ∷ (codes "cards" ∷ codes "a.toml" ∷ codes "0" ∷ [], OnPlant (plant_at (codes "a.toml")) (Cards 0))
     ∷ (
       codes "curve" ∷ codes "a.toml" ∷ codes "2" ∷ codes "1001" ∷ codes "--workers" ∷ codes "16" ∷ [],
-      Curve (codes "a.toml") 2 1_001 16,
+      OnPlant (plant_at (codes "a.toml")) (Curve 2 1_001 16),
     )
-    ∷ (codes "curve" ∷ codes "a.toml" ∷ codes "10000" ∷ codes "10000" ∷ [], Curve (codes "a.toml") 10_000 10_000 1)
-    ∷ (codes "latest" ∷ codes "a.toml" ∷ codes "16" ∷ [], Latest (codes "a.toml") 16)
-    ∷ (codes "replay" ∷ codes "a.toml" ∷ codes "s.txt" ∷ [], Replay (codes "a.toml") (codes "s.txt"))
-    ∷ (codes "whatif" ∷ codes "a.toml" ∷ codes "e.txt" ∷ [], WhatIf (codes "a.toml") (codes "e.txt"))
-    ∷ (codes "--help" ∷ [], Help None)
-    ∷ (codes "help" ∷ [], Help None)
-    ∷ (codes "help" ∷ codes "whatif" ∷ [], Help (Some topic.WhatIf))
-    ∷ (codes "whatif" ∷ codes "--help" ∷ [], Help (Some topic.WhatIf))
-    ∷ (codes "big" ∷ codes "--help" ∷ [], Help (Some topic.Big))
+    ∷ (codes "curve" ∷ codes "a.toml" ∷ codes "10000" ∷ codes "10000" ∷ [], OnPlant (plant_at (codes "a.toml")) (Curve 10_000 10_000 1))
+    ∷ (codes "latest" ∷ codes "a.toml" ∷ codes "16" ∷ [], OnPlant (plant_at (codes "a.toml")) (Latest 16))
+    ∷ (codes "replay" ∷ codes "a.toml" ∷ codes "s.txt" ∷ [], OnFile (plant_at (codes "a.toml")) (codes "s.txt") Replay)
+    ∷ (codes "whatif" ∷ codes "a.toml" ∷ codes "e.txt" ∷ [], OnFile (plant_at (codes "a.toml")) (codes "e.txt") WhatIf)
+    ∷ (codes "--help" ∷ [], Alone (Help None))
+    ∷ (codes "help" ∷ [], Alone (Help None))
+    ∷ (codes "help" ∷ codes "whatif" ∷ [], Alone (Help (Some topic.WhatIf)))
+    ∷ (codes "whatif" ∷ codes "--help" ∷ [], Alone (Help (Some topic.WhatIf)))
+    ∷ (codes "big" ∷ codes "--help" ∷ [], Alone (Help (Some topic.Big)))
     ∷ []
 
 commands_are : map (λ case. command_of case.0) commands ≡ map (λ case. Some case.1) commands
-unfolding number_in with_flag with_value options_after asked_run topic_of after_help after_big after_resume after_cards after_curve after_latest after_plant_word
+unfolding number_in with_flag with_value options_after asked_run topic_of after_help after_big after_resume after_curve after_plant_word with_wait
 commands_are =
     rw (numerals.none, numerals.two, numerals.sixteen, numerals.thousand, numerals.most_room, numerals.greatest) refl
 
@@ -136,6 +141,6 @@ others =
     ∷ []
 
 others_are_none : map command_of others ≡ map (λ words. None) others
-unfolding number_in with_flag with_value options_after asked_run topic_of after_help after_big after_resume after_cards after_curve after_latest after_plant_word
+unfolding number_in with_flag with_value options_after asked_run topic_of after_help after_big after_resume after_curve after_plant_word with_wait
 others_are_none =
     rw (numerals.none, numerals.two, numerals.sixteen, numerals.seventeen, numerals.more, numerals.more_room) refl

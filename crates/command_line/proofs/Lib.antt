@@ -6,3 +6,4 @@ pub mod NumberWords
 pub mod ReadCommands
 pub mod ResumeWords
 pub mod Texts
+pub mod Topics

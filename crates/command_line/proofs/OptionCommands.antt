@@ -1,34 +1,39 @@
 -- A command with options in another order is the same command, and one with an option twice is none.
-use Rattle.std.proofs.Common.{refl, sym, ◌∙◌, ap, ◌≡◌, Bool, true, false, List, [], ◌∷◌, ◌++◌, Option, Some, None, option_and_then, if◌then◌else◌, arith, ◌^◌, ◌-◌}
+use Rattle.std.proofs.Common.{refl, sym, ◌∙◌, ap, ◌≡◌, ℕ, Bool, true, false, List, [], ◌∷◌, ◌++◌, Option, Some, None, option_and_then, option_map, if◌then◌else◌, arith, ◌^◌, ◌-◌}
 use Rattle.std.proofs.lemmas.List.Sorted.{length_permutation}
 use Rattle.line_base.specs.Limits.{most_cards}
 use Rattle.line_base.specs.Text.{is_file_name, is_checkpoint_name}
 use Rattle.command_line.specs.AnyOrder.{Written, workers, stop_after, save, every, room, slots, stand, name_of, words_of_all, Operands, run, resume, resume_slots, big, curve, NamesCheckpoint, command_with, StandInAnyOrder, StandAtMostOnce}
 use Rattle.command_line.specs.Numbers.{number_in}
 use Rattle.command_line.specs.Settings.{Asked, asked_run}
-use Rattle.command_line.specs.Words.{run_command, resume_command, resume_slots_command, big_command, curve_command, are_counts, after_big, after_resume, after_curve, after_plant_word, topic_of}
+use Rattle.command_line.specs.Words.{workers_alone, run_command, resuming, resume_slots_command, running_big, asking, are_counts, after_big, after_resume, after_curve, after_plant_word, topic_of}
 use Rattle.command_line.specs.declared.command.Command.{Command}
+use Rattle.command_line.specs.declared.plant_question.PlantQuestion.TheVariants.{Curve}
 use Rattle.command_line.proofs.OptionOrder.{asked_same, asked_twice}
+
+-- the number of workers, where nothing else is asked for
+abbrev workers_in : Option Asked → Option ℕ
+workers_in asks = option_and_then (λ (a : Asked). workers_alone a.workers a.way) asks
 
 -- the command of operands by what their options ask for
 abbrev by_asked : Operands → Option Asked → Option Command
 by_asked (run plant) asks =
     if is_file_name plant then option_and_then (λ (a : Asked). run_command plant a.workers a.way) asks else None
 by_asked (resume plant saved) asks =
-    if is_file_name plant then option_and_then (λ (a : Asked). resume_command plant saved a.workers a.way) asks else None
+    if is_file_name plant then option_map (resuming plant saved) (workers_in asks) else None
 by_asked (resume_slots plant) asks =
     if is_file_name plant then option_and_then (λ (a : Asked). resume_slots_command plant a.workers a.way) asks else None
 by_asked (big seed) asks =
-    option_and_then (λ n. option_and_then (λ (a : Asked). big_command n a.workers a.way) asks) (number_in 0 (2 ^ 64 - 1) seed)
+    option_and_then (λ n. option_map (running_big n) (workers_in asks)) (number_in 0 (2 ^ 64 - 1) seed)
 by_asked (curve plant from to) asks =
     if is_file_name plant
-    then option_and_then
+    then option_map (asking plant) (option_and_then
     (λ low. option_and_then
     (λ high. if are_counts low high
-    then option_and_then (λ (a : Asked). curve_command plant low high a.workers a.way) asks
+    then option_map (Curve low high) (workers_in asks)
     else None)
     (number_in 0 most_cards to))
-    (number_in 0 most_cards from)
+    (number_in 0 most_cards from))
     else None
 
 -- no option's name is a checkpoint's
@@ -66,8 +71,8 @@ none_asked (resume_slots plant) = if_none (is_file_name plant) None refl
 none_asked (big seed) = then_none (number_in 0 (2 ^ 64 - 1) seed) _ (λ n. refl)
 none_asked (curve plant from to) =
     if_none (is_file_name plant) _
-    (then_none (number_in 0 most_cards from) _
-    (λ low. then_none (number_in 0 most_cards to) _ (λ high. if_none (are_counts low high) None refl)))
+    (ap (option_map (asking plant)) (then_none (number_in 0 most_cards from) _
+    (λ low. then_none (number_in 0 most_cards to) _ (λ high. if_none (are_counts low high) None refl))))
 
 pub any_order : StandInAnyOrder
 any_order operands [] [] named same = refl

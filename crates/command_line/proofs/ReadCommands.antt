@@ -1,43 +1,41 @@
--- What a function that reads words answers, by the command that the words are.
+-- What a function that reads words answers, by the command or the question that the words are.
 use Rattle.std.proofs.Common.{◌≡◌, ℕ, List, [], ◌∷◌, true, refl}
 use Rattle.std.specs.Prelude.{Option, Some, None, Result, Ok, Err, IsErrAnd, option_map}
 use Rattle.std.proofs.lemmas.Result.{err_from_is_err_and}
 use Rattle.line_base.specs.Text.{is_file_name}
-use Rattle.command_line.specs.Ranges.{IsInRange}
-use Rattle.command_line.specs.ReadAs.{IsReadAs}
+use Rattle.command_line.specs.ReadAs.{IsReadIn}
 use Rattle.command_line.specs.Settings.{Way, asked_run, way_seen, settings_seen}
 use Rattle.command_line.specs.Words.{asking_of_file, one_file, with_options}
-use Rattle.command_line.specs.declared.command.Command.{Command}
 use Rattle.command_line.specs.declared.command.WordsError.{WordsError}
 use Rattle.command_line.specs.declared.command.WordsError.TheVariants.{Usage, NoMemory}
+use Rattle.command_line.specs.declared.file_question.FileQuestion.{FileQuestion}
 use Rattle.command_line.specs.declared.settings.Mode.{Mode}
 use Rattle.command_line.specs.declared.settings.Settings.{Settings}
-use Rattle.command_line.specs.declared.words.FileQuestion.{FileQuestion}
 
--- the command, where it is one
-pub reads : (c : Command) (command : Option Command) → command ≡ Some c → IsInRange c → IsReadAs (Ok c) command
-reads c command is range = record { command_is = is; usage = (λ e. cc, λ none. cc); range = range }
+-- what it asks, where it asks something
+pub reads : {A : Type 0} {Within : A → Type 0} (a : A) (asked : Option A) → asked ≡ Some a → Within a → IsReadIn Within (Ok a) asked
+reads a asked is range = record { asked_is = is; usage = (λ e. cc, λ none. cc); range = range }
 
 -- no memory for it
-lacks : (error : WordsError) (c : Command) (command : Option Command) → error ≡ NoMemory → command ≡ Some c → IsReadAs (Err error) command
-lacks error c command out is = rw out (record { command_is = tt; usage = (λ e. cc, λ none. cc); range = tt })
+lacks : {A : Type 0} {Within : A → Type 0} (error : WordsError) (a : A) (asked : Option A) → error ≡ NoMemory → asked ≡ Some a → IsReadIn Within (Err error) asked
+lacks error a asked out is = rw out (record { asked_is = tt; usage = (λ e. cc, λ none. cc); range = tt })
 
--- what the exit of a `?` returns, where the words are a command
-pub lacks_for : (result : Result Command WordsError) (c : Command) (command : Option Command) → IsErrAnd result (λ error. error ≡ NoMemory) → command ≡ Some c → IsReadAs result command
-lacks_for result c command known is =
-    let p = err_from_is_err_and result known in rw p.1 (lacks p.0 c command p.2 is)
+-- what the exit of a `?` returns, where the words ask something
+pub lacks_for : {A : Type 0} {Within : A → Type 0} (result : Result A WordsError) (a : A) (asked : Option A) → IsErrAnd result (λ error. error ≡ NoMemory) → asked ≡ Some a → IsReadIn Within result asked
+lacks_for {A} {Within} result a asked known is =
+    let p = err_from_is_err_and result known in rw p.1 (lacks {A = A} {Within = Within} p.0 a asked p.2 is)
 
--- no command
-pub reads_none : (command : Option Command) → command ≡ None → IsReadAs (Err Usage) command
-reads_none command is = record { command_is = tt; usage = (λ e. is, λ none. refl); range = tt }
+-- nothing is asked
+pub reads_none : {A : Type 0} {Within : A → Type 0} (asked : Option A) → asked ≡ None → IsReadIn Within (Err Usage) asked
+reads_none asked is = record { asked_is = tt; usage = (λ e. is, λ none. refl); range = tt }
 
--- what is asked for with options, as the command that it makes
-pub asked_for : (command : ℕ → Way → Option Command) (words : List (List ℕ)) (s : Settings) (mode : Mode) → Some (settings_seen s) ≡ asked_run words → s.mode ≡ mode → with_options command words ≡ command s.workers (way_seen mode)
-asked_for command words s mode e is = rw (← e, is) refl
+-- what is asked for with options
+pub asked_for : {A : Type 0} (asks : ℕ → Way → Option A) (words : List (List ℕ)) (s : Settings) (mode : Mode) → Some (settings_seen s) ≡ asked_run words → s.mode ≡ mode → with_options asks words ≡ asks s.workers (way_seen mode)
+asked_for asks words s mode e is = rw (← e, is) refl
 
 -- where it is nothing, there is none
-pub none_asked : (command : ℕ → Way → Option Command) (words : List (List ℕ)) → None ≡ asked_run words → with_options command words ≡ None
-none_asked command words e = rw (← e) refl
+pub none_asked : {A : Type 0} (asks : ℕ → Way → Option A) (words : List (List ℕ)) → None ≡ asked_run words → with_options asks words ≡ None
+none_asked asks words e = rw (← e) refl
 
 -- a question that names a further file, as the command that it makes
 pub file_asked : (question : FileQuestion) (plant file : List ℕ) (words : List (List ℕ)) → words ≡ file ∷ [] → is_file_name file ≡ true → option_map (asking_of_file question plant) (one_file words) ≡ Some (asking_of_file question plant file)

@@ -5,6 +5,7 @@ pub mod Ranges
 pub mod ReadAs
 pub mod Screens
 pub mod Settings
+pub mod Sources
 pub mod Statuses
 pub mod Words
 pub mod Labels

@@ -3,7 +3,15 @@ use Rattle.std.specs.Prelude.{ℕ, ◌+◌, ◌<◌, ◌≤◌, ⊤, IfSome}
 use Rattle.line_base.specs.Limits.{most_workers, most_demands, most_cards, most_ring_room, last_observed}
 use Rattle.command_line.specs.Numbers.{most_firings, longest_wait, most_counts}
 use Rattle.command_line.specs.declared.command.Command.{Command}
-use Rattle.command_line.specs.declared.command.Command.TheVariants.{Run, Big, Resume, RunSlots, RunRoom, RunStand, ResumeSlots, Cards, CardsEach, Curve, Latest, Why, Chart}
+use Rattle.command_line.specs.declared.command.Command.TheVariants.{Alone, Lint, OnPlant, OnFile, Standing, Stopping, OnDisk}
+use Rattle.command_line.specs.declared.alone_question.AloneQuestion.{AloneQuestion}
+use Rattle.command_line.specs.declared.alone_question.AloneQuestion.TheVariants as alone
+use Rattle.command_line.specs.declared.disk_question.DiskQuestion.{DiskQuestion}
+use Rattle.command_line.specs.declared.disk_question.DiskQuestion.TheVariants as disk
+use Rattle.command_line.specs.declared.file_question.FileQuestion.{FileQuestion}
+use Rattle.command_line.specs.declared.file_question.FileQuestion.TheVariants as file
+use Rattle.command_line.specs.declared.plant_question.PlantQuestion.{PlantQuestion}
+use Rattle.command_line.specs.declared.plant_question.PlantQuestion.TheVariants as of_plant
 use Rattle.command_line.specs.declared.options.Options.{Options}
 use Rattle.command_line.specs.declared.settings.Mode.{Mode}
 use Rattle.command_line.specs.declared.settings.Mode.TheVariants.{Stopped, Saving, Bounded}
@@ -52,19 +60,36 @@ pub record AreSettingsInRange (settings : Settings) : Type 0 where
   pub workers : AreWorkers settings.workers
   pub mode : IsModeInRange settings.mode
 
+-- each number of a question is in its range
+abbrev pub IsAloneInRange : AloneQuestion → Type 0
+IsAloneInRange (alone.Big seed workers) = AreWorkers workers
+IsAloneInRange other = ⊤
+
+abbrev pub IsPlantInRange : PlantQuestion → Type 0
+IsPlantInRange (of_plant.Run workers) = AreWorkers workers
+IsPlantInRange (of_plant.RunRoom room workers) = AreWorkers workers × IsRingRoom room
+IsPlantInRange (of_plant.Cards wait) = wait ≤ longest_wait
+IsPlantInRange (of_plant.CardsEach wait) = wait ≤ longest_wait
+IsPlantInRange (of_plant.Curve from to workers) = AreCounts from to × AreWorkers workers
+IsPlantInRange (of_plant.Latest wait) = wait ≤ longest_wait
+IsPlantInRange (of_plant.Why label job) = IsJobNumber job
+IsPlantInRange (of_plant.Chart window) = IfSome window IsWindowGiven
+IsPlantInRange other = ⊤
+
+abbrev pub IsFileInRange : FileQuestion → Type 0
+IsFileInRange (file.Resume workers) = AreWorkers workers
+IsFileInRange other = ⊤
+
+abbrev pub IsDiskInRange : DiskQuestion → Type 0
+IsDiskInRange (disk.RunSlots every workers) = AreWorkers workers × IsInterval every
+IsDiskInRange (disk.ResumeSlots workers) = AreWorkers workers
+
 -- each number of a command is in its range
 abbrev pub IsInRange : Command → Type 0
-IsInRange (Run plant workers stop) = AreWorkers workers × IfSome stop (λ s. s.after ≤ most_firings)
-IsInRange (Big seed workers) = AreWorkers workers
-IsInRange (Resume plant saved workers) = AreWorkers workers
-IsInRange (RunSlots plant every workers) = AreWorkers workers × IsInterval every
-IsInRange (RunRoom plant room workers) = AreWorkers workers × IsRingRoom room
-IsInRange (RunStand plant workers) = AreWorkers workers
-IsInRange (ResumeSlots plant workers) = AreWorkers workers
-IsInRange (Cards plant wait) = wait ≤ longest_wait
-IsInRange (CardsEach plant wait) = wait ≤ longest_wait
-IsInRange (Curve plant from to workers) = AreCounts from to × AreWorkers workers
-IsInRange (Latest plant wait) = wait ≤ longest_wait
-IsInRange (Why plant label job) = IsJobNumber job
-IsInRange (Chart plant window) = IfSome window IsWindowGiven
-IsInRange other = ⊤
+IsInRange (Alone question) = IsAloneInRange question
+IsInRange (Lint file) = ⊤
+IsInRange (OnPlant plant question) = IsPlantInRange question
+IsInRange (OnFile plant file question) = IsFileInRange question
+IsInRange (Standing plant workers) = AreWorkers workers
+IsInRange (Stopping plant workers stop) = AreWorkers workers × (stop.after ≤ most_firings)
+IsInRange (OnDisk plant question) = IsDiskInRange question

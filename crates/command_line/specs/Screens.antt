@@ -5,8 +5,8 @@ use Prim.Native.String.{String}
 use Rattle.std.specs.Prelude.{ℕ, List, [], ◌∷◌, ◌++◌, ◌-◌, length, replicate, codes, Option, Some, None}
 use Rattle.command_line.specs.Lines.{as_text}
 use Rattle.command_line.specs.Statuses as status
-use Rattle.command_line.specs.declared.command.Topic.{Topic}
-use Rattle.command_line.specs.declared.command.Topic.TheVariants as topic
+use Rattle.command_line.specs.declared.topic.Topic.{Topic}
+use Rattle.command_line.specs.declared.topic.Topic.TheVariants as topic
 
 -- the words of a command, and from the same column on what it does
 abbrev pub row : String → String → List ℕ
@@ -81,10 +81,10 @@ screen_lines topic.Lint =
     ∷ codes "no fault"
     ∷ codes "$ sed 's/cards = 1/cards = 99999/; s/time = 5/tim = 5/' two-stage.toml > wrong.toml"
     ∷ codes "$ pull lint wrong.toml"
-    ∷ codes "plant: unknown key: stage[2].machine[1].tim"
-    ∷ codes "plant: missing: stage[2].machine[1].time"
-    ∷ codes "plant: out of range: stage[1].cards wants 0 to 10000"
-    ∷ codes "plant: out of range: stage[2].cards wants 0 to 10000"
+    ∷ codes "plant: unknown key: stage[2].machine[1].tim (weld.torch)"
+    ∷ codes "plant: missing: stage[2].machine[1].time (weld.torch)"
+    ∷ codes "plant: out of range: stage[1].cards (cut) wants 0 to 10000"
+    ∷ codes "plant: out of range: stage[2].cards (weld) wants 0 to 10000"
     ∷ codes ""
     ∷ status.done
     ∷ status.of_plants

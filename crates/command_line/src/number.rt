@@ -3,8 +3,7 @@ ghost use Rattle.command_line.specs.Numbers.{number_in};
 ghost use Rattle.command_line.specs.Ranges.{AreWorkers, IsRingRoom};
 ghost use Rattle.line_base.specs.Limits.{most_cards, most_workers, most_ring_room};
 
-use crate::limits::MAX_RING_ROOM;
-use line_base::{MAX_CARDS, MAX_WORKERS, number_of};
+use line_base::{MAX_CARDS, MAX_RING_ROOM, MAX_WORKERS, number_of};
 
 /// The number that a word is, where it is one from `least` to `most`.
 pub fn number_in(word: &str, least: u64, most: u64) -> Option<u64>

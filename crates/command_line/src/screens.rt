@@ -1,8 +1,8 @@
 ghost use Rattle.std.specs.Prelude.{◌≡◌};
 ghost use Rattle.command_line.specs.Screens.{usage, screen, help_text};
 
-use crate::command::Topic;
 use crate::statuses::with_statuses;
+use crate::topic::Topic;
 
 /// What `help COMMAND` shows of a command, or what `--help` shows where none is named.
 pub fn help_text(topic: Option<Topic>) -> &'static str
@@ -113,10 +113,10 @@ $ pull lint two-stage.toml
 no fault
 $ sed 's/cards = 1/cards = 99999/; s/time = 5/tim = 5/' two-stage.toml > wrong.toml
 $ pull lint wrong.toml
-plant: unknown key: stage[2].machine[1].tim
-plant: missing: stage[2].machine[1].time
-plant: out of range: stage[1].cards wants 0 to 10000
-plant: out of range: stage[2].cards wants 0 to 10000
+plant: unknown key: stage[2].machine[1].tim (weld.torch)
+plant: missing: stage[2].machine[1].time (weld.torch)
+plant: out of range: stage[1].cards (cut) wants 0 to 10000
+plant: out of range: stage[2].cards (weld) wants 0 to 10000
 
 ";
     0 of_plants

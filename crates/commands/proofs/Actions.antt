@@ -3,12 +3,12 @@ use Rattle.std.proofs.Common.{◌≡◌, ℕ, ◌≤◌, Bool, List, [], ◌∷�
 use Rattle.std.proofs.Common.{arith}
 use Rattle.std.specs.Prelude.{Result, Ok, Err, OnOk, IfErr, IsErrOf, IsErrAnd, Some, IsTrue, Any}
 use Rattle.std.proofs.lemmas.List.Elements.{All-nil}
-use Rattle.line_io.specs.Calls.{Read, Write, Asked, write_of, none_asked}
-use Rattle.line_io.specs.Contents.{Contents, SameFiles, OthersStay, IsTorn}
-use Rattle.line_io.specs.Faults.{Rose, NeverFall}
-use Rattle.line_io.specs.StoreView.{StoreView}
-use Rattle.line_io.specs.declared.store.StoreError.{StoreError}
-use Rattle.line_io.specs.declared.store.StoreError.TheVariants as store_error
+use Rattle.outside_io.specs.Calls.{Read, Write, Asked, write_of, none_asked}
+use Rattle.outside_io.specs.Contents.{Contents, SameFiles, OthersStay, IsTorn}
+use Rattle.outside_io.specs.Faults.{Rose, NeverFall}
+use Rattle.outside_io.specs.StoreView.{StoreView}
+use Rattle.outside_io.specs.declared.store.StoreError.{StoreError}
+use Rattle.outside_io.specs.declared.store.StoreError.TheVariants as store_error
 use Rattle.line_runs.specs.Store.{AsksToWrite}
 use Rattle.live_plant.specs.declared.refusals.refusal.Refusal.{Refusal}
 use Rattle.live_plant.specs.declared.refusals.refusal.Refusal.TheVariants.{NoMemory}

@@ -15,6 +15,7 @@ use Rattle.event_graph.specs.Table.{date_in}
 use Rattle.latest_dates.specs.Found.{Found, IsFound, IsLatestRefusal, latest_of}
 use Rattle.latest_dates.specs.declared.error.LatestError.{LatestError}
 use Rattle.latest_dates.specs.declared.error.LatestError.TheVariants as late
+use Rattle.line_base.specs.Limits.{most_bars}
 use Rattle.line_base.specs.declared.event.Parts.{Parts}
 use Rattle.line_chart.specs.Picture.{Picture, IsDrawn, MayBeAskedFor, bars_and_lanes, text_of}
 use Rattle.line_core.specs.Schedule.{station_with}
@@ -64,17 +65,17 @@ pub draws : (p : Plant) (rows : List (List ℕ)) (window : Option (ℕ × ℕ)) 
 draws p rows window c least is drawn = inl (inl (record {
   rows = rows;
   least = least;
-  small = subst (λ (d : Picture). bars_and_lanes d ≤ 20_000) is drawn.small;
+  small = subst (λ (d : Picture). bars_and_lanes d ≤ most_bars) is drawn.small;
   written = ap (λ (d : Picture). text_of d) is;
 }))
 
 pub draws_none : (p : Plant) (rows : List (List ℕ)) (window : Option (ℕ × ℕ)) (bars : ℕ) →
-    IsLeast (graph p) (date_in rows) → (bars ≡ bars_and_lanes (picture_of p rows window)) × (20_000 < bars) →
+    IsLeast (graph p) (date_in rows) → (bars ≡ bars_and_lanes (picture_of p rows window)) × (most_bars < bars) →
     OrNoMemory (IsChart p window) (said (TooLarge bars))
 draws_none p rows window bars least large = inl (inr (record {
   rows = rows;
   least = least;
-  large = subst (λ n. 20_000 < n) large.0 large.1;
+  large = subst (λ n. most_bars < n) large.0 large.1;
   says = ap (λ n. said (TooLarge n)) large.0;
 }))
 

@@ -1,5 +1,7 @@
 pub mod Actions
+pub mod Asked
 pub mod CardAnswers
+pub mod NoCauses
 pub mod Checkpoints
 pub mod CycleAnswers
 pub mod DateAnswers

@@ -7,8 +7,8 @@ use Rattle.checkpoint.specs.declared.error.CheckpointError.TheVariants as error
 use Rattle.line_base.specs.declared.event.Parts.{Parts}
 use Rattle.line_base.specs.Limits.{most_checkpoint_bytes}
 use Rattle.line_core.specs.Run.{Dates}
-use Rattle.line_disk.specs.DiskView.{DiskView, Stays}
-use Rattle.line_io.specs.Faults.{Rose}
+use Rattle.crash_disk.specs.DiskView.{DiskView, Stays}
+use Rattle.outside_io.specs.Faults.{Rose}
 use Rattle.line_runs.specs.Resume.{IsCheckpoint, Resumes}
 use Rattle.line_runs.specs.ResumeSlots.{AnswersSaved, ResumesSlots}
 use Rattle.line_runs.specs.Table.{IsLeastOf}

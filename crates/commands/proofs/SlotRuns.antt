@@ -7,8 +7,8 @@ use Rattle.event_graph.specs.State.{State, start}
 use Rattle.line_base.specs.declared.event.Parts.{Parts}
 use Rattle.line_base.specs.Limits.{most_checkpoint_bytes}
 use Rattle.line_core.specs.Consistent.{firing_count}
-use Rattle.line_disk.specs.DiskView.{DiskView, LeavesOnly, held_now}
-use Rattle.line_io.specs.Faults.{Rose}
+use Rattle.crash_disk.specs.DiskView.{DiskView, LeavesOnly, held_now}
+use Rattle.outside_io.specs.Faults.{Rose}
 use Rattle.line_runs.proofs.RunSaves.{leaves_at_first, saves_live}
 use Rattle.line_runs.proofs.FirstBursts.{burst_live}
 use Rattle.line_runs.specs.Saves.{SavesWhenDue, begins, passes, saves, HoldsLast, IsOldOrState, IsLateState}
@@ -26,8 +26,8 @@ use Rattle.commands.proofs.Stops.{fired_at_start, reported_caused}
 use Rattle.commands.specs.Reports.{IsReport}
 use Rattle.commands.specs.Saving.{SavesOnTheWay, Saves, RunsWithSlots, AnswersSave}
 use Rattle.answers.specs.declared.answer.Answer.{Answer}
-use Rattle.line_disk.specs.declared.slots.error.SlotError.{SlotError}
-use Rattle.line_disk.specs.declared.slots.error.SlotError.TheVariants as slot_error
+use Rattle.crash_disk.specs.declared.slots.error.SlotError.{SlotError}
+use Rattle.crash_disk.specs.declared.slots.error.SlotError.TheVariants as slot_error
 use Rattle.line_worker.specs.Sweeps.{most_sweeps}
 
 -- what a run with slots leaves of the disk, whatever it answers

@@ -11,8 +11,8 @@ use Rattle.event_graph.specs.State.{State, start}
 use Rattle.line_base.specs.declared.event.Parts.{Parts}
 use Rattle.line_core.specs.Consistent.{firing_count}
 use Rattle.line_core.specs.Run.{Run}
-use Rattle.line_io.specs.Calls.{Asked, none_asked}
-use Rattle.line_io.specs.StoreView.{StoreView}
+use Rattle.outside_io.specs.Calls.{Asked, none_asked}
+use Rattle.outside_io.specs.StoreView.{StoreView}
 use Rattle.line_runs.specs.Headline.{MayBeResumed}
 use Rattle.line_runs.specs.AllFirings.{all_firings}
 use Rattle.line_runs.specs.Bursts.{BurstsBelow}

@@ -10,7 +10,7 @@ use Rattle.card_sizing.specs.Sized.{has_single_count}
 use Rattle.card_sizing.specs.Serving.{Serves, IsFirstLate}
 use Rattle.card_sizing.specs.declared.sizing.Sizing.{Sizing}
 use Rattle.card_sizing.specs.Counted.{has_stage_counts, ServeEach, NoneServesLess}
-use Rattle.card_sizing.specs.Each.{counts_of, names_of, HaveReasons, IsEachRefusal}
+use Rattle.card_sizing.specs.Each.{AreLeastInOrder, counts_of, names_of, HaveReasons, IsEachRefusal}
 use Rattle.card_sizing.specs.declared.each.EachSizing.{EachSizing}
 use Rattle.answers.specs.CardsText.{cards_text}
 use Rattle.answers.specs.EachCardsText.{each_cards_text}
@@ -35,6 +35,7 @@ use Rattle.latest_dates.specs.Found.{IsInTime, NoneIsBefore, wait_of}
 use Rattle.latest_dates.specs.Latest.{LatestTable, AreLatest}
 use Rattle.latest_dates.specs.LatestText.{latest_text}
 use Rattle.event_graph.specs.Table.{date_in}
+use Rattle.line_base.specs.Limits.{most_bars}
 use Rattle.line_base.specs.declared.event.Parts.{Parts}
 use Rattle.line_core.specs.Schedule.{follow, lines_of, station_with}
 use Rattle.line_core.specs.declared.error.ReplayError.{ReplayError}
@@ -54,12 +55,12 @@ use Rattle.what_if.specs.Settled.{IsSolved}
 use Rattle.answers.specs.declared.answer.Answer.{Answer}
 use Rattle.answers.specs.declared.answer.Answer.TheVariants.{Curved}
 use Rattle.commands.specs.Reports.{Writes, WritesOfLeast, IsReport, IsResumed}
-use Rattle.commands.specs.declared.task.AloneQuestion.{AloneQuestion}
-use Rattle.commands.specs.declared.task.AloneQuestion.TheVariants as alone
-use Rattle.commands.specs.declared.task.FileQuestion.{FileQuestion}
-use Rattle.commands.specs.declared.task.FileQuestion.TheVariants as file
-use Rattle.commands.specs.declared.task.PlantQuestion.{PlantQuestion}
-use Rattle.commands.specs.declared.task.PlantQuestion.TheVariants as of_plant
+use Rattle.command_line.specs.declared.alone_question.AloneQuestion.{AloneQuestion}
+use Rattle.command_line.specs.declared.alone_question.AloneQuestion.TheVariants as alone
+use Rattle.command_line.specs.declared.file_question.FileQuestion.{FileQuestion}
+use Rattle.command_line.specs.declared.file_question.FileQuestion.TheVariants as file
+use Rattle.command_line.specs.declared.plant_question.PlantQuestion.{PlantQuestion}
+use Rattle.command_line.specs.declared.plant_question.PlantQuestion.TheVariants as of_plant
 
 -- there is none, and an error says why: its refusal is answered
 pub record IsRefusedFor {E : Type 0} (IsReason : E → Type 0) (refusal_of : E → Refusal)
@@ -103,13 +104,15 @@ pub record IsSized (p : Plant) (wait : ℕ) (answer : Result Answer Refusal) : T
 abbrev pub IsCards : Plant → ℕ → Result Answer Refusal → Type 0
 IsCards p wait answer = IsSized p wait answer ⊎ IsRefusedFor (IsSizingRefusal p wait) sizing_refusal answer
 
--- each stage has a count of cards; these counts serve, and with one card less at any one stage they don't, or the
--- count is the stage's least, and why
+-- each stage has a count of cards: from the least single count on each is lowered, from the last stage back to the
+-- first; these counts serve, and with one card less at any one stage they don't, or the count is the stage's least, and
+-- why
 pub record IsSizedEach (p : Plant) (wait : ℕ) (answer : Result Answer Refusal) : Type 0 where
   pub each : EachSizing
   pub counted : IsTrue (has_stage_counts p)
   pub serves : ServeEach p wait (counts_of each.stages)
   pub least : NoneServesLess p wait (counts_of each.stages)
+  pub in_order : AreLeastInOrder p wait (counts_of each.stages)
   pub below : HaveReasons p wait (counts_of each.stages) each.stages (length p.stages)
   pub named : names_of each.stages ≡ map (λ s. s.name) p.stages
   pub total : each.total ≡ sum (counts_of each.stages)
@@ -183,18 +186,18 @@ picture_of p rows window = record {
   window = window_of window (last_date (graph p) (date_in rows));
 }
 
--- the picture of the least solution is written; it has at most 20,000 bars and lanes
+-- the picture of the least solution is written; it has no more bars and lanes than a picture may have
 pub record IsPictured (p : Plant) (window : Option (ℕ × ℕ)) (answer : Result Answer Refusal) : Type 0 where
   pub rows : List (List ℕ)
   pub least : IsLeast (graph p) (date_in rows)
-  pub small : bars_and_lanes (picture_of p rows window) ≤ 20_000
+  pub small : bars_and_lanes (picture_of p rows window) ≤ most_bars
   pub written : Writes (text_of (picture_of p rows window)) answer
 
 -- it has more, as many as are named
 pub record IsTooLarge (p : Plant) (window : Option (ℕ × ℕ)) (answer : Result Answer Refusal) : Type 0 where
   pub rows : List (List ℕ)
   pub least : IsLeast (graph p) (date_in rows)
-  pub large : 20_000 < bars_and_lanes (picture_of p rows window)
+  pub large : most_bars < bars_and_lanes (picture_of p rows window)
   pub says : answer ≡ Err (TooLarge (bars_and_lanes (picture_of p rows window)))
 
 -- `chart`

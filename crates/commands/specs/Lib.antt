@@ -4,4 +4,3 @@ pub mod FirstEnd
 pub mod EndsAsAsked
 pub mod Reports
 pub mod Saving
-pub mod Task

@@ -10,10 +10,10 @@ use Rattle.line_base.specs.declared.event.Parts.{Parts}
 use Rattle.line_base.specs.Limits.{most_checkpoint_bytes}
 use Rattle.line_core.specs.Consistent.{firing_count}
 use Rattle.line_core.specs.Run.{Dates}
-use Rattle.line_disk.specs.DiskView.{LeavesOnly, Stays, held_now}
-use Rattle.line_io.specs.Calls.{Asked, none_asked}
-use Rattle.line_io.specs.declared.store.StoreError.{StoreError}
-use Rattle.line_io.specs.declared.store.StoreError.TheVariants as store_error
+use Rattle.crash_disk.specs.DiskView.{LeavesOnly, Stays, held_now}
+use Rattle.outside_io.specs.Calls.{Asked, none_asked}
+use Rattle.outside_io.specs.declared.store.StoreError.{StoreError}
+use Rattle.outside_io.specs.declared.store.StoreError.TheVariants as store_error
 use Rattle.line_runs.specs.Headline.{MayBeResumed}
 use Rattle.line_runs.specs.declared.error.ResumeError.{ResumeError}
 use Rattle.line_runs.specs.declared.error.ResumeError.TheVariants as resume_error
@@ -26,16 +26,16 @@ use Rattle.plant_model.specs.Graph.{graph}
 use Rattle.live_plant.specs.Checkpoints.{checkpoint_refusal, NamesStation}
 use Rattle.live_plant.specs.declared.refusals.refusal.Refusal.{Refusal}
 use Rattle.live_plant.specs.declared.refusals.refusal.Refusal.TheVariants.{Disk, NoMemory, NothingSaved, StoreFault}
-use Rattle.line_disk.specs.Crash.{bytes_now}
-use Rattle.line_disk.specs.declared.slots.error.SlotError.{SlotError}
-use Rattle.line_disk.specs.declared.slots.error.SlotError.TheVariants as slot_error
-use Rattle.line_disk.specs.Layout.{content}
-use Rattle.line_disk.specs.Loads.{HasLoaded, answer_finding}
+use Rattle.crash_disk.specs.Crash.{bytes_now}
+use Rattle.crash_disk.specs.declared.slots.error.SlotError.{SlotError}
+use Rattle.crash_disk.specs.declared.slots.error.SlotError.TheVariants as slot_error
+use Rattle.crash_disk.specs.Layout.{content}
+use Rattle.crash_disk.specs.Loads.{HasLoaded, answer_finding}
 use Rattle.live_plant.specs.Actions.{DiskOver, Action}
 use Rattle.commands.specs.FirstEnd.{IsDoneFirst, IsFirstEnd}
 use Rattle.commands.specs.Reports.{IsReport, IsResumed}
-use Rattle.commands.specs.declared.task.DiskQuestion.{DiskQuestion}
-use Rattle.commands.specs.declared.task.DiskQuestion.TheVariants as disk_question
+use Rattle.command_line.specs.declared.disk_question.DiskQuestion.{DiskQuestion}
+use Rattle.command_line.specs.declared.disk_question.DiskQuestion.TheVariants as disk_question
 use Rattle.answers.specs.declared.answer.Answer.{Answer}
 use Rattle.answers.specs.declared.answer.Answer.TheVariants.{Stopped}
 use Rattle.line_worker.specs.Sweeps.{most_sweeps}

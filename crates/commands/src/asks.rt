@@ -1,11 +1,12 @@
 //! What is asked: each kind of question is matched once.
-ghost use Rattle.std.specs.Prelude.{◌≡◌, ◌⊎◌, ◌≤◌, length, Err};
+ghost use Rattle.std.specs.Prelude.{◌≡◌, ◌⊎◌, ◌≤◌, length, Err, IfErr};
+ghost use Rattle.command_line.specs.Ranges.{IsAloneInRange, IsDiskInRange, IsFileInRange, IsPlantInRange};
 ghost use Rattle.commands.specs.Answers.{AnswersAlone, AnswersOfFile, AnswersOfPlant};
 ghost use Rattle.commands.specs.Saving.{DoesOnSlots};
-ghost use Rattle.commands.specs.Task.{IsAloneInRange, IsDiskInRange, IsFileInRange, IsPlantInRange};
 ghost use Rattle.line_base.specs.Limits.{most_checkpoint_bytes};
 ghost use Rattle.live_plant.specs.Actions.{disk_over, DoesOnDisk};
 ghost use Rattle.live_plant.specs.LivePlant.{IsLivePlant};
+ghost use Rattle.live_plant.specs.Outside.{NeedsNoCause};
 
 use crate::big::big;
 use crate::cards::{cards, cards_each, curve};
@@ -17,15 +18,16 @@ use crate::lateness::latest;
 use crate::replaying::replay;
 use crate::runs::{resume, run_whole};
 use crate::slots::{resume_slots, run_with_slots};
-use crate::task::{AloneQuestion, DiskQuestion, FileQuestion, PlantQuestion};
 use answers::Answer;
-use line_disk::Disk;
+use command_line::{AloneQuestion, DiskQuestion, FileQuestion, PlantQuestion};
+use crash_disk::Disk;
 use line_workers::Gate;
 use live_plant::{LivePlant, Refusal};
 use std::alloc::Global;
 use std::thread::Threads;
 
 /// Answers a question for which nothing is read.
+#[tactic(auto, using(crate::proofs::Asked::alone_asked, crate::proofs::NoCauses::text_inside, crate::proofs::NoCauses::least_inside))]
 pub fn ask_alone<R: Threads + Sync, G: Gate>(
     rt: &R,
     alloc: Global,
@@ -33,7 +35,8 @@ pub fn ask_alone<R: Threads + Sync, G: Gate>(
     gate: &G,
 ) -> Result<Answer, Refusal>
     requires range { IsAloneInRange question }
-    ensures { AnswersAlone question result ⊎ (result ≡ Err Refusal.NoMemory) }
+    ensures answers { AnswersAlone question result ⊎ (result ≡ Err Refusal.NoMemory) }
+    ensures inside { IfErr result NeedsNoCause }
 {
     match question {
         AloneQuestion::Help { topic } => Ok(Answer::Help { topic }),
@@ -43,6 +46,7 @@ pub fn ask_alone<R: Threads + Sync, G: Gate>(
 }
 
 /// Answers a question about a live plant.
+#[tactic(auto, using(crate::proofs::Asked::plant_asked, crate::proofs::NoCauses::text_inside, crate::proofs::NoCauses::least_inside, crate::proofs::NoCauses::cycle_inside, crate::proofs::NoCauses::cards_inside, crate::proofs::NoCauses::each_inside, crate::proofs::NoCauses::curve_inside, crate::proofs::NoCauses::latest_inside, crate::proofs::NoCauses::why_inside, crate::proofs::NoCauses::chart_inside))]
 pub fn ask_plant<R: Threads + Sync, G: Gate>(
     rt: &R,
     alloc: Global,
@@ -52,7 +56,8 @@ pub fn ask_plant<R: Threads + Sync, G: Gate>(
 ) -> Result<Answer, Refusal>
     requires plant { IsLivePlant line }
     requires range { IsPlantInRange question }
-    ensures { AnswersOfPlant question line.plant result ⊎ (result ≡ Err Refusal.NoMemory) }
+    ensures answers { AnswersOfPlant question line.plant result ⊎ (result ≡ Err Refusal.NoMemory) }
+    ensures inside { IfErr result NeedsNoCause }
 {
     match question {
         PlantQuestion::Run { workers } => run_whole(rt, alloc, line, workers, None, gate),
@@ -89,6 +94,7 @@ pub fn ask_plant<R: Threads + Sync, G: Gate>(
 }
 
 /// Answers a question about a live plant and the bytes of a further file.
+#[tactic(auto, using(crate::proofs::Asked::file_asked, crate::proofs::NoCauses::resumed_inside, crate::proofs::NoCauses::end_inside, crate::proofs::NoCauses::edits_inside))]
 pub fn ask_file<R: Threads + Sync, G: Gate>(
     rt: &R,
     alloc: Global,
@@ -100,7 +106,8 @@ pub fn ask_file<R: Threads + Sync, G: Gate>(
     requires plant { IsLivePlant line }
     requires short { length bytes.now ≤ most_checkpoint_bytes }
     requires range { IsFileInRange question }
-    ensures { AnswersOfFile question line.plant bytes.now result ⊎ (result ≡ Err Refusal.NoMemory) }
+    ensures answers { AnswersOfFile question line.plant bytes.now result ⊎ (result ≡ Err Refusal.NoMemory) }
+    ensures inside { IfErr result NeedsNoCause }
 {
     match question {
         FileQuestion::Resume { workers } => resume(rt, alloc, line, bytes, workers, gate),

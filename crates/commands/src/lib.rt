@@ -1,6 +1,5 @@
-//! What each command does: its task, and each kind of question matched once: a run by a line of workers, to its end or
-//! to a stop, a run that goes on from what was saved, a schedule that is replayed, or what else is asked of a live
-//! plant.
+//! What each command does, each kind of question matched once: a run by a line of workers, to its end or to a stop, a
+//! run that goes on from what was saved, a schedule that is replayed, or what else is asked of a live plant.
 #![tactic(auto)]
 
 mod asks;
@@ -16,9 +15,7 @@ mod reports;
 mod runs;
 mod slots;
 mod stopping;
-mod task;
 
 pub use asks::{ask_alone, ask_disk, ask_file, ask_plant};
 pub use runs::run_standing;
 pub use stopping::run_until;
-pub use task::{AloneQuestion, DiskQuestion, FileQuestion, PlantQuestion, Task, task_of};

@@ -1,15 +1,16 @@
 //! Runs of a live plant to its end, by a line of workers.
-ghost use Rattle.std.specs.Prelude.{◌≡◌, ◌⊎◌, ◌≤◌, length, Err, IfOk, IfSome};
+ghost use Rattle.std.specs.Prelude.{◌≡◌, ◌⊎◌, ◌≤◌, length, Err, IfErr, IfOk, IfSome};
 ghost use Rattle.command_line.specs.Ranges.{AreWorkers, IsRingRoom};
 ghost use Rattle.commands.specs.Reports.{IsReport, IsResumed};
 ghost use Rattle.line_base.specs.Limits.{most_checkpoint_bytes};
 ghost use Rattle.line_runs.specs.Table.{IsLeastOf};
 ghost use Rattle.live_plant.specs.LivePlant.{IsLivePlant};
+ghost use Rattle.live_plant.specs.Outside.{NeedsNoCause};
 
 use crate::reports::{report_of, report_or_none};
 use answers::Answer;
 use line_core::Table;
-use line_runs::{run_through, run_to_end};
+use line_runs::{line_of_run, run_through, run_to_end};
 use line_workers::{Gate, Line};
 use live_check::Live;
 use live_plant::{LivePlant, Refusal, checkpoint_refusal};
@@ -49,28 +50,16 @@ pub(crate) fn table_of<R: Threads + Sync, G: Gate>(
     requires room { IfSome room IsRingRoom }
     ensures { IfOk result (IsLeastOf live.now.graph) }
 {
-    let work = line_of(alloc, live, workers, room)?;
+    let work = line_of_run(alloc, live, workers, room)?;
     Ok(match room {
-        None => run_through(rt, alloc, live, work, workers, gate),
+        None => run_through(rt, live, work, gate),
         Some(_) => run_to_end(rt, live, work, gate),
     })
 }
 
-/// A line of this many workers at the start of a live graph, with this room in the rings between them where one is
-/// given.
-fn line_of(alloc: Global, live: &Live, workers: u32, room: Option<u32>) -> Result<Line, AllocError>
-    requires workers { AreWorkers workers }
-    requires room { IfSome room IsRingRoom }
-    ensures { IfOk result (λ work. live.now ≡ work.live) }
-{
-    match room {
-        None => Line::prepare(alloc, live, workers),
-        Some(room) => Line::prepare_room(alloc, live, workers, room),
-    }
-}
-
 /// Runs a live plant to its end, by this many workers that stand until all firings are made. It waits
 /// for its threads, and doesn't promise to return.
+#[tactic(auto, using(crate::proofs::NoCauses::least_inside))]
 pub fn run_standing<R: Threads + Wait + Sync, G: Gate>(
     rt: &R,
     alloc: Global,
@@ -80,7 +69,8 @@ pub fn run_standing<R: Threads + Wait + Sync, G: Gate>(
 ) -> Result<Answer, Refusal>
     requires plant { IsLivePlant line }
     requires workers { AreWorkers workers }
-    ensures { IsReport line.plant result ⊎ (result ≡ Err Refusal.NoMemory) }
+    ensures report { IsReport line.plant result ⊎ (result ≡ Err Refusal.NoMemory) }
+    ensures inside { IfErr result NeedsNoCause }
 {
     let table = standing_table_of(rt, alloc, &line.live, workers, gate);
     report_or_none(alloc, line, table, workers)

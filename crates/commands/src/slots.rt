@@ -6,13 +6,13 @@ ghost use Rattle.commands.specs.Saving.{NamesStationOf, IsResumeRefusal};
 ghost use Rattle.commands.specs.Saving.{RunsWithSlots, ResumesSlots, AnswersSave};
 ghost use Rattle.live_plant.specs.Actions.{disk_over, DoesOnDisk};
 ghost use Rattle.live_plant.specs.LivePlant.{IsLivePlant};
-ghost use Rattle.line_disk.specs.declared.slots.error.SlotError.TheVariants.{TooLong};
+ghost use Rattle.crash_disk.specs.declared.slots.error.SlotError.TheVariants.{TooLong};
 
 use crate::reports::report_of;
 use answers::Answer;
+use crash_disk::Disk;
+use crash_disk::slots::SlotError;
 use event_graph::Graph;
-use line_disk::Disk;
-use line_disk::slots::SlotError;
 use line_runs::ResumeError;
 use line_workers::{Gate, Line};
 use live_plant::{LivePlant, Refusal, checkpoint_refusal};

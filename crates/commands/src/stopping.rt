@@ -13,11 +13,11 @@ use crate::reports::report_of;
 use answers::Answer;
 use command_line::Stop;
 use line_core::State;
-use line_io::{Store, StoreError};
 use line_runs::{Outcome, save_state};
 use line_workers::{Gate, Line};
 use live_check::Live;
 use live_plant::{FileName, LivePlant, Refusal};
+use outside_io::{Store, StoreError};
 use std::alloc::{AllocError, Global};
 use std::thread::Threads;
 

@@ -1,5 +1,5 @@
 -- The potentials at which no arc gives more make a ratio the cycle time.
-use Rattle.std.proofs.Common.{◌≡◌, ℕ, ◌+◌, ◌*◌, ◌<◌, ◌≤◌, ◌^◌, ◌⊎◌, List, [], ◌∷◌, length, get_or, map, sym, ap, ◌∙◌, subst, inl, inr, arith}
+use Rattle.std.proofs.Common.{◌≡◌, ℕ, ◌+◌, ◌*◌, ◌<◌, ◌≤◌, ◌⊎◌, List, [], ◌∷◌, length, get_or, map, sym, ap, ◌∙◌, subst, inl, inr, arith}
 use Rattle.std.specs.Prelude.{ℤ, pos, neg_ℤ, ◌+ℤ◌, ◌-ℤ◌, ◌≤ℤ◌}
 use Rattle.std.specs.List.{All}
 use Rattle.std.specs.Int.{IsGcd}
@@ -18,7 +18,7 @@ use Rattle.cycle_time.specs.declared.ratio.Ratio.{Ratio}
 use Rattle.cycle_time.specs.declared.weights.Weighing.{Weighing}
 use Rattle.cycle_time.specs.declared.weights.Weighing.TheVariants.{PerArc, AtRatio}
 use Rattle.cycle_time.specs.Weight.{weight_along, potential, ArePotentials, IsGreatestWeight}
-use Rattle.cycle_time.specs.Certificate.{HasRatio, IsCertificate, HasNoCircuit, NoneVaries}
+use Rattle.cycle_time.specs.Certificate.{most_potential, HasRatio, IsCertificate, HasNoCircuit, NoneVaries}
 use Rattle.cycle_time.specs.CycleTime.{IsCycleTime}
 use Rattle.cycle_time.specs.Dates.{NoneIsNegative, HoldsBack}
 use Rattle.cycle_time.specs.Ratio.{IsRatio, IsWithoutCircuit, Holds}
@@ -79,10 +79,10 @@ greatest_signed g time cards P t final exists =
 not_below : (n : ℕ) → pos 0 ≤ℤ pos n
 not_below n = omega (arith, ints)
 
-low_signed : (n : ℕ) → neg_ℤ (pos (10 ^ 24)) ≤ℤ pos n
+low_signed : (n : ℕ) → neg_ℤ (pos most_potential) ≤ℤ pos n
 low_signed n = omega (arith, ints)
 
-high_signed : (n : ℕ) → n ≤ 1_000_000_000_000_000_000_000_000 → pos n ≤ℤ pos (10 ^ 24)
+high_signed : (n : ℕ) → n ≤ most_potential → pos n ≤ℤ pos most_potential
 high_signed n h = omega (arith, ints)
 
 nowhere_left : (g : Parts) (arcs : List ℕ) → arcs ≡ [] → HoldsBack g arcs
@@ -116,8 +116,8 @@ cycle_time g r P c graph limits fixed h final holds =
       ];
       small = record {
         potential_for_each = ap (λ xs. length xs) holds.potentials_are ∙ (length-map P pos ∙ final.potential_for_each);
-        potentials_low = rw holds.potentials_are (All-map (λ p. neg_ℤ (pos (10 ^ 24)) ≤ℤ p) pos P (λ k d below. low_signed (get_or P k d)));
-        potentials_high = rw holds.potentials_are (All-map (λ p. p ≤ℤ pos (10 ^ 24)) pos P (All-weaker (λ n. n ≤ 1_000_000_000_000_000_000_000_000) (λ n. pos n ≤ℤ pos (10 ^ 24)) high_signed P final.small));
+        potentials_low = rw holds.potentials_are (All-map (λ p. neg_ℤ (pos most_potential) ≤ℤ p) pos P (λ k d below. low_signed (get_or P k d)));
+        potentials_high = rw holds.potentials_are (All-map (λ p. p ≤ℤ pos most_potential) pos P (All-weaker (λ n. n ≤ most_potential) (λ n. pos n ≤ℤ pos most_potential) high_signed P final.small));
         time = omega (arith, holds.time, h.time_small);
         cards = omega (arith, holds.cards, h.cards_small);
         few = rw holds.circuit h.few;

@@ -5,7 +5,8 @@ use Rattle.line_base.specs.declared.event.Parts.{Parts}
 use Rattle.event_graph.specs.Network.{IsGraph, arc, arc_count, stations}
 use Rattle.event_graph.specs.Circuit.{IsWalk}
 use Rattle.cycle_time.specs.declared.weights.Weighing.{Weighing}
-use Rattle.cycle_time.specs.Search.{gain, loss, gains, losses, most_gain, Potentials, IsGrown, IsRaised, Covers, HasRisen, IsWithin, IsSoonReached, CoversWalks, AreFinal}
+use Rattle.cycle_time.specs.Certificate.{most_potential}
+use Rattle.cycle_time.specs.Search.{gain, loss, gains, losses, most_before_pass, most_gain, Potentials, IsGrown, IsRaised, Covers, HasRisen, IsWithin, IsSoonReached, CoversWalks, AreFinal}
 use Rattle.cycle_time.proofs.Weighed.{gains-cons, losses-cons}
 
 -- after a number of passes, fewer than there are stations
@@ -79,14 +80,14 @@ after_more g w old new turn t graph h grown raised covers within risen soon = re
   early = (let late : stations g ≤ turn + 1 → ⊥ = λ end. omega (arith, h.covers soon.start t soon.walk soon.ends risen.exists (omega (arith, soon.short)), soon.sum, risen.more) in omega (arith, h.early, late));
 }
 
-pub small_within : (g : Parts) (w : Weighing) (p : Potentials) (turn : ℕ) → stations g ≤ 512 → IsAfter g w p turn → IsWithin 100_000_000_000_000_000_000_000 p
+pub small_within : (g : Parts) (w : Weighing) (p : Potentials) (turn : ℕ) → stations g ≤ 512 → IsAfter g w p turn → IsWithin most_before_pass p
 small_within g w p turn few h =
-    All-weaker (λ v. v ≤ turn * (512 * most_gain)) (λ v. v ≤ 100_000_000_000_000_000_000_000) (λ v fits. omega (arith, fits, few, h.early)) p.potentials h.within
+    All-weaker (λ v. v ≤ turn * (512 * most_gain)) (λ v. v ≤ most_before_pass) (λ v fits. omega (arith, fits, few, h.early)) p.potentials h.within
 
 pub final : (g : Parts) (w : Weighing) (old new : Potentials) (turn : ℕ) → IsGraph g → stations g ≤ 512 → IsAfter g w old turn → IsGrown g w new → Covers g w old new → new ≡ old → AreFinal g w new.potentials
 final g w old new turn graph few h grown covers rests = record {
   potential_for_each = grown.potential_for_each;
   settled = λ a exists. omega (arith, covers a exists, ap (λ (p : Potentials). get_or p.potentials (arc g a).from 0) rests);
   reached = grown.reached;
-  small = All-weaker (λ v. v ≤ 100_000_000_000_000_000_000_000) (λ v. v ≤ 1_000_000_000_000_000_000_000_000) (λ v fits. omega (arith, fits)) new.potentials (subst (IsWithin 100_000_000_000_000_000_000_000) (sym rests) (small_within g w old turn few h));
+  small = All-weaker (λ v. v ≤ most_before_pass) (λ v. v ≤ most_potential) (λ v fits. omega (arith, fits)) new.potentials (subst (IsWithin most_before_pass) (sym rests) (small_within g w old turn few h));
 }

@@ -47,13 +47,29 @@ HasNoCircuit g = (arcs : List ℕ) → ¬ IsCircuit g arcs
 abbrev pub NoneVaries : Parts → Type 0
 NoneVaries g = HasNone (Varies g) (stations g)
 
--- the sizes that `accept` takes
+-- the sizes that `accept` takes of a certificate that nobody trusts: far more than one of a plant has, and yet so little
+-- that each of its sums and products has 128 bits
+abbrev pub most_ratio_time : ℕ
+most_ratio_time = 10 ^ 18
+
+abbrev pub most_ratio_cards : ℕ
+most_ratio_cards = 10 ^ 9
+
+abbrev pub most_potential : ℕ
+most_potential = 10 ^ 24
+
+-- no arc weighs more at such a ratio, nor less than this below 0: its tokens are at most 10,000, its time and delay
+-- together at most 2,000,000,000
+abbrev pub most_weight : ℕ
+most_weight = 10 ^ 23
+
+-- a certificate is within these sizes
 pub record IsSmall (g : Parts) (c : Certificate) : Type 0 where
   pub potential_for_each : length c.potentials ≡ stations g
-  pub potentials_low : All (λ p. neg_ℤ (pos (10 ^ 24)) ≤ℤ p) c.potentials
-  pub potentials_high : All (λ p. p ≤ℤ pos (10 ^ 24)) c.potentials
-  pub time : c.time ≤ 10 ^ 18
-  pub cards : c.cards ≤ 10 ^ 9
+  pub potentials_low : All (λ p. neg_ℤ (pos most_potential) ≤ℤ p) c.potentials
+  pub potentials_high : All (λ p. p ≤ℤ pos most_potential) c.potentials
+  pub time : c.time ≤ most_ratio_time
+  pub cards : c.cards ≤ most_ratio_cards
   pub few : length c.circuit ≤ most_stations
   pub exist : All (λ a. a < arc_count g) c.circuit
 

@@ -1,11 +1,12 @@
 -- The search for heavier walks, for the functions that make it: potentials grow arc by arc, each station keeps the arc
 -- that gave it its potential, and a circuit of such arcs weighs more than 0. Source: the method of Bellman and Ford for
 -- longest walks, with a look for circuits among the arcs that it keeps.
-use Rattle.std.specs.Prelude.{◌≡◌, ℕ, ◌+◌, ◌-◌, ◌*◌, ◌<◌, ◌≤◌, ◌⊎◌, List, length, sum_by, slice_index, slice_set, All}
+use Rattle.std.specs.Prelude.{◌≡◌, ℕ, ◌+◌, ◌-◌, ◌*◌, ◌^◌, ◌<◌, ◌≤◌, ◌⊎◌, List, length, sum_by, slice_index, slice_set, All}
 use Rattle.line_base.specs.declared.event.Parts.{Parts}
 use Rattle.event_graph.specs.Network.{stations, arc_count, arc, delay, EndsAt}
 use Rattle.event_graph.specs.Term.{work}
 use Rattle.event_graph.specs.Circuit.{IsWalk, IsCircuit}
+use Rattle.cycle_time.specs.Certificate.{most_potential}
 use Rattle.cycle_time.specs.declared.search.Found.{Found}
 use Rattle.cycle_time.specs.declared.search.Found.TheVariants.{Circuit, Potentials as Final}
 use Rattle.cycle_time.specs.declared.tree.Offer.{Offer}
@@ -182,13 +183,18 @@ CoversWalks g w p n =
     (s t : ℕ) (arcs : List ℕ) → IsWalk g s arcs t → t < stations g → length arcs ≤ n →
     gains g w arcs ≤ slice_index p.potentials t + losses g w arcs
 
--- potentials at which no arc gives more: each that of a walk, and none more than 10 ^ 24
+-- no potential is more when a pass begins: no walk of fewer arcs than stations gains as much, and what one pass adds
+-- leaves it below `most_potential`
+abbrev pub most_before_pass : ℕ
+most_before_pass = 10 ^ 23
+
+-- potentials at which no arc gives more: each that of a walk, and none too much for a certificate
 pub record AreFinal (g : Parts) (w : Weighing) (potentials : List ℕ) : Type 0 where
   pub potential_for_each : length potentials ≡ stations g
   pub settled : (a : ℕ) → a < arc_count g →
       slice_index potentials (arc g a).from + gain g w a ≤ slice_index potentials (arc g a).to + loss g w a
   pub reached : (t : ℕ) → t < stations g → IsReached g w t (slice_index potentials t)
-  pub small : All (λ potential. potential ≤ 1_000_000_000_000_000_000_000_000) potentials
+  pub small : All (λ potential. potential ≤ most_potential) potentials
 
 -- a circuit that gains more than it loses, or the potentials at which no arc gives more
 abbrev pub Finds : Parts → Weighing → Found → Type 0

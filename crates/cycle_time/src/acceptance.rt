@@ -1,5 +1,5 @@
-ghost use Rattle.std.specs.Prelude.{◌≡◌, ◌≤◌, ◌<◌, ◌^◌, IsTrue, ◌↔◌, neg_ℤ, pos, ◌≤ℤ◌, ◌+ℤ◌};
-ghost use Rattle.cycle_time.specs.Certificate.{HasRatio, IsIdle, IsCertificate, HasNoGreaterRatio, NoneVaries, IsSmall};
+ghost use Rattle.std.specs.Prelude.{◌≡◌, ◌≤◌, ◌<◌, IsTrue, ◌↔◌, neg_ℤ, pos, ◌≤ℤ◌, ◌+ℤ◌};
+ghost use Rattle.cycle_time.specs.Certificate.{HasRatio, IsIdle, IsCertificate, HasNoGreaterRatio, NoneVaries, IsSmall, most_ratio_time, most_ratio_cards, most_potential, most_weight};
 ghost use Rattle.cycle_time.specs.Weight.{weight, ArePotentials};
 ghost use Rattle.event_graph.specs.Network.{arc_count};
 
@@ -31,11 +31,11 @@ fn is_idle(given: &Certificate) -> bool
 /// What arc `a` weighs at a ratio of time to cards.
 fn weight_of(graph: &Graph, time: u64, cards: u64, a: u32) -> i128
     requires exists { a < arc_count graph.now }
-    requires time { time ≤ 10 ^ 18 }
-    requires cards { cards ≤ 10 ^ 9 }
+    requires time { time ≤ most_ratio_time }
+    requires cards { cards ≤ most_ratio_cards }
     ensures weight { result ≡ weight graph.now time cards a }
-    ensures low { neg_ℤ (pos (10 ^ 23)) ≤ℤ result }
-    ensures high { result ≤ℤ pos (10 ^ 23) }
+    ensures low { neg_ℤ (pos most_weight) ≤ℤ result }
+    ensures high { result ≤ℤ pos most_weight }
 {
     let gain = u128::from(cards) * u128::from(time_on(graph, a));
     let loss = u128::from(time) * u128::from(graph.tokens(a));
@@ -44,10 +44,10 @@ fn weight_of(graph: &Graph, time: u64, cards: u64, a: u32) -> i128
 
 /// Whether the potential at the start of an arc and the arc's weight are together at most the one at its end.
 fn is_covered(start: i128, weight: i128, end: i128) -> bool
-    requires start_low { neg_ℤ (pos (10 ^ 24)) ≤ℤ start }
-    requires start_high { start ≤ℤ pos (10 ^ 24) }
-    requires weight_low { neg_ℤ (pos (10 ^ 23)) ≤ℤ weight }
-    requires weight_high { weight ≤ℤ pos (10 ^ 23) }
+    requires start_low { neg_ℤ (pos most_potential) ≤ℤ start }
+    requires start_high { start ≤ℤ pos most_potential }
+    requires weight_low { neg_ℤ (pos most_weight) ≤ℤ weight }
+    requires weight_high { weight ≤ℤ pos most_weight }
     ensures { IsTrue result ↔ ((start +ℤ weight) ≤ℤ end) }
 {
     start + weight <= end

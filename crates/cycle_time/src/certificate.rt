@@ -1,4 +1,5 @@
-ghost use Rattle.std.specs.Prelude.{◌≡◌, ◌≤◌, ◌^◌, map, pos, All, IfOk};
+ghost use Rattle.std.specs.Prelude.{◌≡◌, ◌≤◌, map, pos, All, IfOk};
+ghost use Rattle.cycle_time.specs.Certificate.{most_potential};
 ghost use Rattle.cycle_time.specs.Ratio.{Holds};
 ghost use Rattle.cycle_time.specs.declared.certificate.CycleError.TheVariants.{NoMemory};
 
@@ -41,7 +42,7 @@ impl From<AllocError> for CycleError {
 
 /// The numbers as signed ones.
 fn signed_numbers(alloc: Global, numbers: &[u128]) -> Result<Vec<i128>, AllocError>
-    requires { All (λ n. n ≤ 10 ^ 24) numbers.now }
+    requires { All (λ n. n ≤ most_potential) numbers.now }
     ensures { IfOk result (λ v. v.items ≡ map pos numbers.now) }
 {
     let mut all = Vec::with_capacity(alloc, numbers.len())?;
@@ -57,7 +58,7 @@ pub fn certificate_with(
     ratio: Ratio,
     potentials: &[u128],
 ) -> Result<Certificate, AllocError>
-    requires { All (λ n. n ≤ 10 ^ 24) potentials.now }
+    requires { All (λ n. n ≤ most_potential) potentials.now }
     ensures { IfOk result (Holds ratio potentials.now) }
 {
     let potentials = signed_numbers(alloc, potentials)?;

@@ -1,5 +1,6 @@
-ghost use Rattle.std.specs.Prelude.{◌≡◌, ℕ, ◌+◌, ◌*◌, ◌^◌, ◌<◌, ◌≤◌, length, reverse, drop, All, IfOk, IfNone, IfSome, MatchBool, MatchOption};
-ghost use Rattle.cycle_time.specs.Search.{most_gain, AreWeights, IsGrown, IsBetter, IsBestOffer, IsRaisedAt, IsKeptAt, step_of, IsRaised, Covers, HasRisen, IsWithin, EntriesEnter, IsSoonReached, IsHeavy};
+ghost use Rattle.std.specs.Prelude.{◌≡◌, ℕ, ◌+◌, ◌*◌, ◌<◌, ◌≤◌, length, reverse, drop, All, IfOk, IfNone, IfSome, MatchBool, MatchOption};
+ghost use Rattle.cycle_time.specs.Certificate.{most_potential};
+ghost use Rattle.cycle_time.specs.Search.{most_before_pass, most_gain, AreWeights, IsGrown, IsBetter, IsBestOffer, IsRaisedAt, IsKeptAt, step_of, IsRaised, Covers, HasRisen, IsWithin, EntriesEnter, IsSoonReached, IsHeavy};
 ghost use Rattle.cycle_time.specs.declared.weights.Weighing.{Weighing};
 ghost use Rattle.event_graph.specs.Network.{stations, arc_count};
 ghost use Rattle.line_base.specs.Limits.{most_stations};
@@ -59,8 +60,8 @@ fn better_of(graph: &Graph, weights: &Weights, potentials: &[u128], a: u32, befo
     requires weights { AreWeights graph.now weights.now }
     requires exists { a < arc_count graph.now }
     requires potential_for_each { length potentials.now ≡ stations graph.now }
-    requires small { All (λ p. p ≤ 10 ^ 24) potentials.now }
-    requires small_before { before.potential ≤ 2 * 10 ^ 24 }
+    requires small { All (λ p. p ≤ most_potential) potentials.now }
+    requires small_before { before.potential ≤ 2 * most_potential }
     ensures { IsBetter graph.now weights.now.weighing potentials.now a before result }
 {
     let from = graph.arc(a).from;
@@ -81,7 +82,7 @@ fn best_of(graph: &Graph, weights: &Weights, potentials: &[u128], t: u32) -> Off
     requires weights { AreWeights graph.now weights.now }
     requires station { t < stations graph.now }
     requires potential_for_each { length potentials.now ≡ stations graph.now }
-    requires small { All (λ p. p ≤ 10 ^ 24) potentials.now }
+    requires small { All (λ p. p ≤ most_potential) potentials.now }
     ensures { IsBestOffer graph.now weights.now.weighing potentials.now t result }
 {
     let ins = graph.ins(t);
@@ -127,7 +128,7 @@ impl Tree {
         requires weights { AreWeights graph.now weights.now }
         requires station { t < stations graph.now }
         requires grown { IsGrown graph.now weights.now.weighing self.old }
-        requires small { IsWithin (10 ^ 24) self.old }
+        requires small { IsWithin most_potential self.old }
         ensures { let w = weights.now.weighing in
             MatchBool result (IsRaisedAt graph.now w self.old self.new t) (IsKeptAt graph.now w self.old self.new t) }
     {
@@ -145,7 +146,7 @@ impl Tree {
     pub fn pass(&mut self, graph: &Graph, weights: &Weights, sweep: Sweep) -> Option<u32>
         requires weights { AreWeights graph.now weights.now }
         requires grown { IsGrown graph.now weights.now.weighing self.old }
-        requires small { IsWithin (10 ^ 23) self.old }
+        requires small { IsWithin most_before_pass self.old }
         ensures grown { IsGrown graph.now weights.now.weighing self.new }
         ensures raised { IsRaised graph.now self.old self.new }
         ensures covers { Covers graph.now weights.now.weighing self.old self.new }

@@ -1,13 +1,13 @@
 ghost use Rattle.std.specs.Prelude.{◌≡◌, ◌≤◌, IfOk};
 ghost use Rattle.date_causes.specs.Caused.{text_of, IsChainOf, HasStation, HasJob};
-ghost use Rattle.line_io.specs.SinkView.{WritesText};
+ghost use Rattle.outside_io.specs.SinkView.{WritesText};
 ghost use Rattle.line_stats.specs.PlantDates.{AreOfPlant};
 
 use crate::making::chain_of;
 use crate::writing::{Chain, write_chain};
 use line_core::Table;
-use line_io::{Failed, Outgoing, Sink};
 use live_check::Live;
+use outside_io::{Failed, Outgoing, Sink};
 use plant_model::Plant;
 use std::alloc::{AllocError, Global};
 use std::marker::Model;
@@ -24,7 +24,7 @@ pub struct Causes {
 
 impl Model for Causes {
     ghost use Rattle.std.specs.Prelude.{◌≡◌, false};
-    ghost use Rattle.line_io.specs.Outgoing.{nothing_waiting};
+    ghost use Rattle.outside_io.specs.Outgoing.{nothing_waiting};
     ghost use Rattle.date_causes.specs.Caused.{Caused, IsWritable};
 
     ghost Value = { Caused };

@@ -1,15 +1,15 @@
 //! What the chain of a date is made of.
 ghost use Rattle.std.specs.Prelude.{◌≡◌, ◌≤◌, false, IfOk};
 ghost use Rattle.date_causes.specs.Caused.{HasStation, HasJob, IsChainOf, IsWritable};
-ghost use Rattle.line_io.specs.Outgoing.{nothing_waiting};
+ghost use Rattle.outside_io.specs.Outgoing.{nothing_waiting};
 ghost use Rattle.line_stats.specs.PlantDates.{AreOfPlant};
 
 use crate::chain::causes;
 use crate::shares::shares_of;
 use crate::writing::Chain;
 use line_core::Table;
-use line_io::Outgoing;
 use live_check::Live;
+use outside_io::Outgoing;
 use plant_model::{LineNumbers, Plant};
 use std::alloc::{AllocError, Global};
 

@@ -4,13 +4,13 @@ ghost use Rattle.date_causes.specs.Caused.{IsOfPlant, IsPlaced, IsWritable};
 ghost use Rattle.date_causes.specs.Chain.{HasArc};
 ghost use Rattle.date_causes.specs.WhyText.{cause_word, link_words, link_line, share_words, share_lines, why_text};
 ghost use Rattle.event_graph.specs.Network.{stations};
-ghost use Rattle.line_io.specs.Outgoing.{Pushed, stream};
+ghost use Rattle.outside_io.specs.Outgoing.{Pushed, stream};
 
 use crate::kind::{kind_of, word_of};
 use crate::link::{Cause, Link};
 use event_graph::Graph;
 use line_base::Items;
-use line_io::{Outgoing, Sink};
+use outside_io::{Outgoing, Sink};
 use plant_model::{LineNumbers, Plant};
 
 /// A chain of causes, with what its text takes beside the plant and the plant's graph.

@@ -8,8 +8,8 @@ use Rattle.std.proofs.lemmas.List.Sums.{sum_by_push, sum_by-append}
 use Rattle.line_base.specs.declared.event.Parts.{Parts}
 use Rattle.event_graph.specs.Network.{jobs}
 use Rattle.event_graph.specs.Table.{Table}
-use Rattle.line_io.specs.Outgoing.{Stream, Pushed}
-use Rattle.line_io.proofs.OutgoingLemmas.{pushed_after}
+use Rattle.outside_io.specs.Outgoing.{Stream, Pushed}
+use Rattle.outside_io.proofs.OutgoingLemmas.{pushed_after}
 use Rattle.latest_dates.specs.Latest.{LatestTable}
 use Rattle.latest_dates.specs.LatestText.{latest_line, is_tight, station_lines, tight_at}
 use Rattle.latest_dates.specs.JobLines.{job_lines, tight_jobs}

@@ -6,7 +6,7 @@ use Rattle.event_graph.specs.Table.{Table, date_in}
 use Rattle.event_graph.specs.Term.{work}
 use Rattle.live_check.specs.Order.{LiveGraph}
 use Rattle.line_core.specs.Run.{IsLeastTable}
-use Rattle.line_io.specs.Outgoing.{Pending, nothing_waiting}
+use Rattle.outside_io.specs.Outgoing.{Pending, nothing_waiting}
 use Rattle.what_if.specs.Page.{IsDate}
 use Rattle.what_if.specs.Sheet.{date_count}
 use Rattle.card_sizing.specs.Serving.{wait_until, NoneWaitsLonger, IsFirstLate}

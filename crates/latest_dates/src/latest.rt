@@ -1,15 +1,15 @@
 ghost use Rattle.std.specs.Prelude.{◌≡◌, ◌^◌, ◌<◌, IfOk, IfErr};
 ghost use Rattle.event_graph.specs.Table.{date_in};
 ghost use Rattle.latest_dates.specs.Found.{IsFound, IsLatestRefusal, text_of};
-ghost use Rattle.line_io.specs.SinkView.{WritesText};
+ghost use Rattle.outside_io.specs.SinkView.{WritesText};
 
 use crate::error::LatestError;
 use crate::pass::dates_of;
 use crate::run::LatestRun;
 use crate::writing::write_latest;
 use line_core::Table;
-use line_io::{Failed, Outgoing, Sink};
 use live_check::Live;
+use outside_io::{Failed, Outgoing, Sink};
 use std::alloc::Global;
 use std::marker::Model;
 

@@ -5,7 +5,7 @@ ghost use Rattle.latest_dates.specs.ArcBounds.{AreBoundsOf};
 ghost use Rattle.latest_dates.specs.Found.{latest_in, HasDates, IsFound, IsInTime, IsLatestRefusal, NoneIsBefore};
 ghost use Rattle.latest_dates.specs.Latest.{AreLatest};
 ghost use Rattle.latest_dates.specs.Pass.{AreLatestFrom, IsServable};
-ghost use Rattle.line_io.specs.Outgoing.{nothing_waiting};
+ghost use Rattle.outside_io.specs.Outgoing.{nothing_waiting};
 
 use crate::arc_bounds::{ArcBound, arc_bounds};
 use crate::bounds::{date_index, earliest_bound};
@@ -13,8 +13,8 @@ use crate::error::LatestError;
 use crate::latest_date::LatestDate;
 use crate::waits::check_waits;
 use line_core::Table;
-use line_io::Outgoing;
 use live_check::Live;
+use outside_io::Outgoing;
 use std::alloc::{AllocError, Global};
 
 /// Finds the latest dates of job `n`, where those of later jobs are found. It goes against the order of the stations.

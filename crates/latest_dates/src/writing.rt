@@ -6,14 +6,14 @@ ghost use Rattle.latest_dates.specs.Found.{found_of, latest_of, text_of, IsRun};
 ghost use Rattle.latest_dates.specs.JobLines.{job_lines, tight_jobs};
 ghost use Rattle.latest_dates.specs.Latest.{IsNoLater};
 ghost use Rattle.latest_dates.specs.LatestText.{slack_words, line_words, has_no_slack, station_lines, tight_at, all_lines, tight_count};
-ghost use Rattle.line_io.specs.Outgoing.{Pushed, stream};
+ghost use Rattle.outside_io.specs.Outgoing.{Pushed, stream};
 
 use crate::bounds::latest_at;
 use crate::run::LatestRun;
 use line_base::{Date, MAX_DIGITS};
-use line_io::{Outgoing, Sink};
 use line_report::line_end::write_number;
 use line_report::line_start::{LineStart, WIDTH};
+use outside_io::{Outgoing, Sink};
 
 /// The most bytes of a line, and of what writing it may change behind it.
 const MAX_LINE: usize = WIDTH + 2 * MAX_DIGITS + 8;

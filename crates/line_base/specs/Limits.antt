@@ -47,6 +47,10 @@ most_workers = 16
 abbrev pub most_ring_room : ℕ
 most_ring_room = 10_000
 
+-- of a chart, bars and lanes together
+abbrev pub most_bars : ℕ
+most_bars = 20_000
+
 -- of a graph that is built by hand
 abbrev pub most_arcs : ℕ
 most_arcs = 4_096

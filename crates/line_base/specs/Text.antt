@@ -1,5 +1,5 @@
 -- Which texts are names, labels and file names. Bytes are ASCII codes.
-use Rattle.std.specs.Prelude.{ℕ, Bool, ◌&&◌, ◌||◌, not, ◌==◌, nat_le, nat_eq, List, length, slice_index, codes}
+use Rattle.std.specs.Prelude.{ℕ, Bool, ◌&&◌, ◌||◌, not, ◌==◌, nat_le, nat_eq, List, length, slice_index, codes, bytes_eq}
 use Rattle.std.specs.List.{list_all, ends_with}
 
 -- low ≤ byte ≤ high
@@ -34,9 +34,16 @@ is_file_byte byte = nat_le 32 byte && not (byte == 127)
 abbrev pub may_name_file : List ℕ → Bool
 may_name_file text = is_between 1 255 (length text) && not (slice_index text 0 == 45) && list_all is_file_byte text
 
--- a file name that is no checkpoint's
+-- the name of a file that runs make for themselves, also in a folder: the spare that a checkpoint is written into
+-- first, which ends in `.ckpt.new`, and the file of the slots, `pull.slots`
+abbrev pub is_own_file : List ℕ → Bool
+is_own_file text =
+    ends_with nat_eq text (codes ".ckpt.new") || bytes_eq text (codes "pull.slots")
+    || ends_with nat_eq text (codes "/pull.slots")
+
+-- a file name that is no checkpoint's, and no name of a file that runs make for themselves
 abbrev pub is_file_name : List ℕ → Bool
-is_file_name text = may_name_file text && not (ends_in_ckpt text)
+is_file_name text = may_name_file text && not (ends_in_ckpt text) && not (is_own_file text)
 
 -- a checkpoint's name
 abbrev pub is_checkpoint_name : List ℕ → Bool

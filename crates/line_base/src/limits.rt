@@ -1,5 +1,5 @@
 ghost use Rattle.std.specs.Prelude.{◌≡◌};
-ghost use Rattle.line_base.specs.Limits.{most_stages, most_stations, most_demands, most_dates, most_loops, most_observed, last_observed, most_cards, longest_time, last_demand, last_column, most_workers, most_arcs, most_file_bytes, most_checkpoint_bytes};
+ghost use Rattle.line_base.specs.Limits.{most_stages, most_stations, most_demands, most_dates, most_loops, most_observed, last_observed, most_cards, longest_time, last_demand, last_column, most_workers, most_ring_room, most_bars, most_arcs, most_file_bytes, most_checkpoint_bytes};
 
 /// The most stages of a plant.
 pub const MAX_STAGES: u32 = 64;
@@ -37,6 +37,12 @@ pub const MAX_COLUMN: u32 = 512;
 /// The most workers of a run.
 pub const MAX_WORKERS: u32 = 16;
 
+/// The most room of a ring between two workers, beyond the tokens with which its arc starts.
+pub const MAX_RING_ROOM: u32 = 10_000;
+
+/// The most bars and lanes of a chart, together.
+pub const MAX_BARS: u64 = 20_000;
+
 /// The most arcs of an event graph that is built by hand; a plant's has fewer.
 pub const MAX_ARCS: u32 = 4_096;
 
@@ -60,6 +66,8 @@ pub fn limits_are_those_of_the_definitions()
     ensures demand_date { MAX_DEMAND_DATE ≡ last_demand }
     ensures column { MAX_COLUMN ≡ last_column }
     ensures workers { MAX_WORKERS ≡ most_workers }
+    ensures ring_room { MAX_RING_ROOM ≡ most_ring_room }
+    ensures bars { MAX_BARS ≡ most_bars }
     ensures arcs { MAX_ARCS ≡ most_arcs }
     ensures file_bytes { MAX_FILE_BYTES ≡ most_file_bytes }
     ensures checkpoint_bytes { MAX_CHECKPOINT_BYTES ≡ most_checkpoint_bytes }

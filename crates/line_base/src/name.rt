@@ -1,6 +1,6 @@
 ghost use Rattle.std.specs.List.{list_all};
 ghost use Rattle.std.specs.Prelude.{◌≡◌, ◌≤◌, IsTrue, IfOk, IsErrOf, ◌↔◌, false};
-ghost use Rattle.line_base.specs.Text.{is_between, is_letter, is_name_byte, is_file_byte, is_name, is_label, ends_in_ckpt, may_name_file, is_file_name, is_checkpoint_name};
+ghost use Rattle.line_base.specs.Text.{is_between, is_letter, is_name_byte, is_file_byte, is_name, is_label, ends_in_ckpt, may_name_file, is_own_file, is_file_name, is_checkpoint_name};
 
 use std::alloc::{AllocError, Global};
 use std::marker::Model;
@@ -142,11 +142,22 @@ fn has_file_bytes(text: &[u8]) -> bool
     text.iter().all(|byte| *byte >= 32 && *byte != 127)
 }
 
-/// Whether a text names a plant, csv, schedule or edits file: a file name that doesn't end in `.ckpt`.
+/// Whether a text names a file that runs make for themselves, also in a folder: the spare that a checkpoint is written
+/// into first, which ends in `.ckpt.new`, and the file of the slots, `pull.slots`.
+fn is_own_file(text: &[u8]) -> bool
+    ensures { result ≡ is_own_file text.now }
+{
+    text.ends_with(b".ckpt.new")
+        || text == b"pull.slots".as_slice()
+        || text.ends_with(b"/pull.slots")
+}
+
+/// Whether a text names a plant, csv, schedule or edits file: a file name that doesn't end in `.ckpt`, and that is no
+/// name of a file that runs make for themselves (`.ckpt.new`, `pull.slots`).
 pub fn is_file_name(text: &[u8]) -> bool
     ensures { result ≡ is_file_name text.now }
 {
-    may_name_file(text) && !text.ends_with(b".ckpt")
+    may_name_file(text) && !text.ends_with(b".ckpt") && !is_own_file(text)
 }
 
 /// Whether a text names a checkpoint: a file name that ends in `.ckpt`.

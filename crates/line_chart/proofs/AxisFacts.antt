@@ -4,8 +4,8 @@ use Rattle.std.specs.List.{flat_map, range_with_len}
 use Rattle.std.proofs.Math.Nat.{mul-le-mul_left, div-add-mod}
 use Rattle.std.proofs.lemmas.List.Concat.{flat_map-append}
 use Rattle.std.proofs.lemmas.List.FromFn.{map-range_with_len_more}
-use Rattle.line_io.specs.Outgoing.{Stream, Pushed}
-use Rattle.line_io.proofs.OutgoingLemmas.{pushed_after}
+use Rattle.outside_io.specs.Outgoing.{Stream, Pushed}
+use Rattle.outside_io.proofs.OutgoingLemmas.{pushed_after}
 use Rattle.line_chart.specs.declared.window.Window.{Window}
 use Rattle.line_chart.specs.ChartText.{axis_line}
 

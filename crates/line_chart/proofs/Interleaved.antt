@@ -1,7 +1,7 @@
 -- What is left of texts and numbers, written one after another.
 use Rattle.std.proofs.Common.{◌≡◌, ℕ, suc, ◌+◌, ◌<◌, ◌≤◌, List, [], length, get_or, drop, drop-cons, drop_of_length-le, Bor, arith}
-use Rattle.line_io.specs.Outgoing.{Stream, Pushed}
-use Rattle.line_io.proofs.OutgoingLemmas.{◌⨟◌}
+use Rattle.outside_io.specs.Outgoing.{Stream, Pushed}
+use Rattle.outside_io.proofs.OutgoingLemmas.{◌⨟◌}
 use Rattle.line_chart.specs.ChartText.{with_number}
 use Rattle.line_chart.specs.Interleaved.{interleave}
 

@@ -20,12 +20,22 @@ use Rattle.line_chart.specs.Axis.{axis_step, multiples, axis_x}
 abbrev pub with_number : List ℕ → ℕ → List ℕ
 with_number text n = text ++ decimal n
 
+-- the height of a lane, in the picture and in the field of the bars, and that of an area
+abbrev pub lane_height : ℕ
+lane_height = 16
+
+abbrev pub lane_units : ℕ
+lane_units = 10
+
+abbrev pub area_height : ℕ
+area_height = 50
+
 -- where the areas begin under this many lanes, and where this many of them end
 abbrev pub areas_top : ℕ → ℕ
-areas_top lanes = 60 + 16 * lanes
+areas_top lanes = 60 + lane_height * lanes
 
 abbrev pub areas_end : ℕ → ℕ → ℕ
-areas_end lanes areas = areas_top lanes + 50 * areas
+areas_end lanes areas = areas_top lanes + area_height * areas
 
 -- how many areas there are: the stages, and the backlog
 abbrev pub area_count : Plant → ℕ
@@ -64,7 +74,7 @@ lane_number count k = if nat_lt 1 count then with_number (codes " ") (k + 1) els
 
 unfoldable pub lane_line : Parts → Lanes → ℕ → List ℕ
 lane_line g m k =
-    name_begin (52 + 16 * (m.first + k))
+    name_begin (52 + lane_height * (m.first + k))
     ++ (label g m.station ++ (lane_number m.count k ++ codes "</text>\n"))
 
 unfoldable pub lane_lines : Parts → Lanes → List ℕ
@@ -78,7 +88,7 @@ unfoldable pub bar_line : Bar → List ℕ
 bar_line b =
     with_number (codes "<rect class=\"c") (b.job % 6)
     ++ (with_number (codes "\" x=\"") b.start
-    ++ (with_number (codes "\" y=\"") (10 * b.lane + 1)
+    ++ (with_number (codes "\" y=\"") (lane_units * b.lane + 1)
     ++ (with_number (codes "\" width=\"") b.time
     ++ (with_number (codes "\" height=\"8\"><title>job ") b.job
     ++ (with_number (codes ", ") b.start
@@ -88,10 +98,10 @@ bar_line b =
 -- the field of the bars, in the units of the plant
 unfoldable pub field_line : Window → ℕ → List ℕ
 field_line w lanes =
-    with_number (codes "<svg x=\"170\" y=\"40\" width=\"1000\" height=\"") (16 * lanes)
+    with_number (codes "<svg x=\"170\" y=\"40\" width=\"1000\" height=\"") (lane_height * lanes)
     ++ (with_number (codes "\" viewBox=\"") w.from
     ++ (with_number (codes " 0 ") (span w)
-    ++ (with_number (codes " ") (10 * lanes)
+    ++ (with_number (codes " ") (lane_units * lanes)
     ++ codes "\" preserveAspectRatio=\"none\">\n")))
 
 unfoldable pub bars_text : Plant → Table → Window → List ℕ
@@ -133,7 +143,7 @@ area_head name y most w =
 unfoldable pub stage_area : Plant → Table → Window → ℕ → List ℕ
 stage_area p x w i =
     let parts = count_of p x (count.Parts i) in
-    area_head (stage_at p i).name (areas_top (lane_count p) + 50 * i) (most parts w.from w.to) w
+    area_head (stage_at p i).name (areas_end (lane_count p) i) (most parts w.from w.to) w
     ++ (class_path (codes "n") parts w
     ++ (class_path (codes "p") (count_of p x (count.UnderWay i)) w ++ codes "</g></svg>\n"))
 
@@ -141,7 +151,7 @@ stage_area p x w i =
 unfoldable pub backlog_area : Plant → Table → Window → List ℕ
 backlog_area p x w =
     let backlog = count_of p x count.Backlog in
-    area_head (codes "backlog") (areas_top (lane_count p) + 50 * length p.stages) (most backlog w.from w.to) w
+    area_head (codes "backlog") (areas_end (lane_count p) (length p.stages)) (most backlog w.from w.to) w
     ++ (class_path (codes "n") backlog w ++ codes "</g></svg>\n")
 
 -- the picture

@@ -5,7 +5,7 @@ use Rattle.plant_model.specs.Line.{stage_numbers, path_stock}
 use Rattle.event_graph.specs.Table.{date_in}
 use Rattle.line_stats.specs.PlantDates.{PlantDates, AreOfPlant}
 use Rattle.line_core.specs.Run.{IsLeastTable}
-use Rattle.line_io.specs.Outgoing.{Pending, nothing_waiting}
+use Rattle.outside_io.specs.Outgoing.{Pending, nothing_waiting}
 use Rattle.line_chart.specs.TableText.{table_text}
 use Rattle.line_chart.specs.declared.table_run.TableRun.{TableRun}
 

@@ -1,6 +1,6 @@
 -- What contracts see of a `Chart`: the plant, the dates of a run of it, and the window.
 use Rattle.std.specs.Prelude.{◌≡◌, ℕ, ◌+◌, ◌<◌, ◌≤◌, List, length, Option, None, Some, ⊤, All}
-use Rattle.line_base.specs.Limits.{last_observed}
+use Rattle.line_base.specs.Limits.{last_observed, most_bars}
 use Rattle.plant_model.specs.declared.plant.Plant.{Plant}
 use Rattle.plant_model.specs.Graph.{graph}
 use Rattle.plant_model.specs.Sound.{IsSound}
@@ -41,7 +41,7 @@ MayBeAskedFor (Some (from, to)) = IsWindow (record { from = from; to = to })
 
 -- why a picture isn't drawn: it has this many bars and lanes, more than 20,000; running out of memory may come instead
 abbrev pub IsReason : Picture → ChartError → Type 0
-IsReason c (TooLarge bars) = (bars ≡ bars_and_lanes c) × (20_000 < bars)
+IsReason c (TooLarge bars) = (bars ≡ bars_and_lanes c) × (most_bars < bars)
 IsReason c NoMemory = ⊤
 
 -- the plant is sound, the dates are the least solution of its graph, and the window is one
@@ -49,7 +49,7 @@ pub record IsDrawn (c : Picture) : Type 0 where
   pub sound : IsSound c.plant
   pub least : IsLeastTable (record { graph = graph c.plant; rows = c.rows })
   pub window : IsWindow c.window
-  pub small : bars_and_lanes c ≤ 20_000
+  pub small : bars_and_lanes c ≤ most_bars
 
 -- the numbers and the lanes of a finished run are those of its plant, and its graph and its table are of that plant
 pub record IsOfRun (run : ChartRun) : Type 0 where

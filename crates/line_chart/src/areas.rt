@@ -2,7 +2,7 @@
 ghost use Rattle.std.specs.List.{flat_map};
 ghost use Rattle.std.specs.Prelude.{◌≡◌, ◌<◌, ◌≤◌, ◌+◌, ◌*◌, ◌++◌, length, codes};
 ghost use Rattle.event_graph.specs.Table.{date_in};
-ghost use Rattle.line_io.specs.Outgoing.{Pushed, stream};
+ghost use Rattle.outside_io.specs.Outgoing.{Pushed, stream};
 ghost use Rattle.line_chart.specs.Areas.{count_of, most};
 ghost use Rattle.line_chart.specs.ChartText.{step_text, path_text, area_head, stage_area, backlog_area};
 ghost use Rattle.line_chart.specs.Counts.{IsCountOf};
@@ -11,10 +11,11 @@ ghost use Rattle.plant_model.specs.Line.{stage_numbers};
 
 use crate::count::Count;
 use crate::dates::{count_at, next_date};
+use crate::heights::areas_end;
 use crate::run::ChartRun;
 use crate::text::{NAME, write_interleaved, write_numbered};
 use crate::window::Window;
-use line_io::{Outgoing, Sink};
+use outside_io::{Outgoing, Sink};
 
 /// How the element of a path begins: of all that an area counts, and of what is in process or on its way.
 const ALL: &[u8] = b"<path class=\"n\" d=\"";
@@ -135,7 +136,7 @@ fn write_stage<K: Sink>(out: &mut Outgoing, sink: &mut K, run: &ChartRun, stage:
         (stage_area run.now.plant (date_in run.now.table.rows) run.now.window stage) }
 {
     let name = run.plant.stages.as_slice()[stage as usize].name.text();
-    let y = 60 + 16 * run.lanes + 50 * stage as u64;
+    let y = areas_end(run, stage as u64);
     write_head(
         out,
         sink,
@@ -150,7 +151,7 @@ fn write_stage<K: Sink>(out: &mut Outgoing, sink: &mut K, run: &ChartRun, stage:
 }
 
 /// Writes the areas of all stages, in order.
-#[tactic(auto, using(line_io::proofs::OutgoingLemmas::pushed_none))]
+#[tactic(auto, using(outside_io::proofs::OutgoingLemmas::pushed_none))]
 pub fn write_stages<K: Sink>(out: &mut Outgoing, sink: &mut K, run: &ChartRun)
     requires { IsOfRun run.now }
     ensures { Pushed (stream (K.shown sink.old) out.old) (stream (K.shown sink.new) out.new)
@@ -168,7 +169,7 @@ pub fn write_backlog<K: Sink>(out: &mut Outgoing, sink: &mut K, run: &ChartRun)
     ensures { Pushed (stream (K.shown sink.old) out.old) (stream (K.shown sink.new) out.new)
         (backlog_area run.now.plant (date_in run.now.table.rows) run.now.window) }
 {
-    let y = 60 + 16 * run.lanes + 50 * run.plant.stages.len() as u64;
+    let y = areas_end(run, run.plant.stages.len() as u64);
     write_head(
         out,
         sink,

@@ -1,13 +1,13 @@
 //! The axis of a picture.
 ghost use Rattle.std.specs.Prelude.{◌≡◌, ◌≤◌, ◌<◌, ◌+◌, ◌-◌};
-ghost use Rattle.line_io.specs.Outgoing.{Pushed, stream};
+ghost use Rattle.outside_io.specs.Outgoing.{Pushed, stream};
 ghost use Rattle.line_chart.specs.Axis.{axis_step, axis_x};
 ghost use Rattle.line_chart.specs.ChartText.{axis_line, axis_text};
 ghost use Rattle.line_chart.specs.Picture.{IsWindow};
 
 use crate::text::write_interleaved;
 use crate::window::Window;
-use line_io::{Outgoing, Sink};
+use outside_io::{Outgoing, Sink};
 
 /// The step of the axis of a window that has this many dates.
 fn axis_step(span: u64) -> u64

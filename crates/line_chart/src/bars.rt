@@ -3,13 +3,14 @@ ghost use Rattle.std.specs.List.{flat_map};
 ghost use Rattle.std.specs.Prelude.{◌≡◌, ◌<◌, ◌≤◌, length};
 ghost use Rattle.event_graph.specs.Network.{jobs};
 ghost use Rattle.event_graph.specs.Table.{date_in};
-ghost use Rattle.line_io.specs.Outgoing.{Pushed, stream};
+ghost use Rattle.outside_io.specs.Outgoing.{Pushed, stream};
 ghost use Rattle.line_chart.specs.Bars.{bar, meets, machine_bars, bars};
 ghost use Rattle.line_chart.specs.ChartText.{bar_line, bars_text};
 ghost use Rattle.line_chart.specs.Machines.{IsMachineOf};
 ghost use Rattle.line_chart.specs.Picture.{IsOfRun};
 
 use crate::bar::Bar;
+use crate::heights::{LANE_HEIGHT, LANE_UNITS};
 use crate::lanes::Lanes;
 use crate::run::ChartRun;
 use crate::starts::start;
@@ -18,7 +19,7 @@ use crate::window::Window;
 use event_graph::Graph;
 use line_base::MAX_TIME;
 use line_core::Table;
-use line_io::{Outgoing, Sink};
+use outside_io::{Outgoing, Sink};
 
 /// A bar between its numbers.
 const BAR: [&[u8]; 8] = [
@@ -113,7 +114,7 @@ fn write_bar<K: Sink>(out: &mut Outgoing, sink: &mut K, bar: Bar)
     let numbers = [
         job % 6,
         start,
-        10 * bar.lane + 1,
+        LANE_UNITS * bar.lane + 1,
         time,
         job,
         start,
@@ -164,7 +165,12 @@ pub fn write_bars<K: Sink>(out: &mut Outgoing, sink: &mut K, run: &ChartRun)
         (bars_text run.now.plant (date_in run.now.table.rows) run.now.window) }
 {
     let Window { from, to } = run.window;
-    let numbers = [16 * run.lanes, from, to - from, 10 * run.lanes];
+    let numbers = [
+        LANE_HEIGHT * run.lanes,
+        from,
+        to - from,
+        LANE_UNITS * run.lanes,
+    ];
     write_interleaved(out, sink, &FIELD, &numbers);
     write_all_bars(out, sink, run);
     out.push(sink, b"</svg>\n");

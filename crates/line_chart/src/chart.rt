@@ -2,7 +2,7 @@ ghost use Rattle.std.specs.Prelude.{◌≡◌, IfOk, IfErr};
 ghost use Rattle.event_graph.specs.Table.{date_in};
 ghost use Rattle.line_chart.specs.Picture.{Picture, IsDrawn, IsReason, IsWindow, MayBeAskedFor, Stays, text_of};
 ghost use Rattle.line_chart.specs.Window.{window_of};
-ghost use Rattle.line_io.specs.SinkView.{WritesText};
+ghost use Rattle.outside_io.specs.SinkView.{WritesText};
 ghost use Rattle.line_stats.specs.Counts.{last_date};
 ghost use Rattle.line_stats.specs.PlantDates.{AreOfPlant};
 ghost use Rattle.plant_model.specs.Graph.{graph};
@@ -13,15 +13,12 @@ use crate::picture::write_picture;
 use crate::run::ChartRun;
 use crate::window::Window;
 use line_core::Table;
-use line_io::{Failed, Outgoing, Sink};
 use line_stats::last;
 use live_check::Live;
+use outside_io::{Failed, Outgoing, Sink};
 use plant_model::Plant;
 use std::alloc::Global;
 use std::marker::Model;
-
-/// The most bars and lanes that a picture may have together.
-pub(crate) const MAX_BARS: u64 = 20_000;
 
 /// A picture of a finished run of a plant, and the memory for writing it. Contracts see the plant, the dates and the
 /// window.
@@ -33,8 +30,9 @@ pub struct Chart {
 
 impl Model for Chart {
     ghost use Rattle.std.specs.Prelude.{◌≡◌, ◌≤◌, false};
+    ghost use Rattle.line_base.specs.Limits.{most_bars};
     ghost use Rattle.line_core.specs.Run.{IsLeastTable};
-    ghost use Rattle.line_io.specs.Outgoing.{nothing_waiting};
+    ghost use Rattle.outside_io.specs.Outgoing.{nothing_waiting};
     ghost use Rattle.line_chart.specs.Picture.{Picture, IsOfRun, bars_and_lanes};
 
     ghost Value = { Picture };
@@ -42,7 +40,7 @@ impl Model for Chart {
     ghost view = { λ c. record { plant = c.run.plant; rows = c.run.table.rows; window = c.run.window } };
 
     ghost invariant = { λ c. IsOfRun c.run × IsLeastTable c.run.table × (c.out ≡ nothing_waiting false)
-        × (bars_and_lanes (record { plant = c.run.plant; rows = c.run.table.rows; window = c.run.window }) ≤ 20_000) };
+        × (bars_and_lanes (record { plant = c.run.plant; rows = c.run.table.rows; window = c.run.window }) ≤ most_bars) };
 }
 
 /// The window that is asked for, else all dates to the last, and the first one where that is 0.

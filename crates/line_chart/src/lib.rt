@@ -10,6 +10,7 @@ mod chart;
 mod count;
 mod dates;
 mod error;
+mod heights;
 mod lanes;
 mod laws;
 mod machines;

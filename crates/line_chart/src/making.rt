@@ -1,23 +1,25 @@
 //! What a picture and a table are made of.
-ghost use Rattle.std.specs.Prelude.{◌≡◌, ◌≤◌, false, IfOk, IfErr};
+ghost use Rattle.std.specs.Prelude.{◌≡◌, ◌<◌, ◌≤◌, false, Err, IfOk, IfErr};
+ghost use Rattle.line_base.specs.Limits.{most_bars};
 ghost use Rattle.line_chart.specs.DateTable.{path_stocks};
 ghost use Rattle.line_chart.specs.Machines.{AreLanesOf};
 ghost use Rattle.line_chart.specs.Picture.{IsOfRun, IsReason, IsRunOf, IsWindow, bars_and_lanes, picture_of};
-ghost use Rattle.line_io.specs.Outgoing.{nothing_waiting};
+ghost use Rattle.line_chart.specs.declared.error.ChartError.TheVariants.{TooLarge};
+ghost use Rattle.outside_io.specs.Outgoing.{nothing_waiting};
 ghost use Rattle.line_stats.specs.PlantDates.{AreOfPlant};
 ghost use Rattle.plant_model.specs.Sound.{IsSound};
 
 use crate::bars::count_bars;
-use crate::chart::MAX_BARS;
 use crate::error::ChartError;
 use crate::lanes::Lanes;
 use crate::machines::all_lanes;
 use crate::run::ChartRun;
 use crate::stocks::path_stocks;
 use crate::window::Window;
+use line_base::MAX_BARS;
 use line_core::Table;
-use line_io::Outgoing;
 use live_check::Live;
+use outside_io::Outgoing;
 use plant_model::{LineNumbers, Plant};
 use std::alloc::{AllocError, Global};
 
@@ -73,8 +75,10 @@ pub fn run_of(
 pub fn room_for(alloc: Global, run: &ChartRun) -> Result<Outgoing, ChartError>
     requires { IsOfRun run.now }
     ensures room { IfOk result (λ out. out ≡ nothing_waiting false) }
-    ensures small { IfOk result (λ _. bars_and_lanes (picture_of run.now) ≤ 20_000) }
+    ensures small { IfOk result (λ _. bars_and_lanes (picture_of run.now) ≤ most_bars) }
     ensures refused { IfErr result (IsReason (picture_of run.now)) }
+    ensures too_large { most_bars < bars_and_lanes (picture_of run.now)
+        → result ≡ Err (TooLarge (bars_and_lanes (picture_of run.now))) }
 {
     let bars = count_bars(run) + run.lanes;
     if bars > MAX_BARS {

@@ -1,15 +1,19 @@
 //! The names of the lanes of a picture.
 ghost use Rattle.std.specs.Prelude.{◌<◌};
-ghost use Rattle.line_io.specs.Outgoing.{Pushed, stream};
+ghost use Rattle.outside_io.specs.Outgoing.{Pushed, stream};
 ghost use Rattle.line_chart.specs.ChartText.{lane_number, lane_lines, names_text};
 ghost use Rattle.line_chart.specs.Machines.{IsMachineOf};
 ghost use Rattle.line_chart.specs.Picture.{IsOfRun};
 
+use crate::heights::LANE_HEIGHT;
 use crate::lanes::Lanes;
 use crate::run::ChartRun;
 use crate::text::{NAME, write_interleaved, write_numbered};
 use event_graph::Graph;
-use line_io::{Outgoing, Sink};
+use outside_io::{Outgoing, Sink};
+
+/// The height at which the name of the first lane stands.
+const FIRST_NAME: u64 = 52;
 
 /// Writes the number of a lane of a machine, counted from 0 here, where the machine has several.
 fn write_lane_number<K: Sink>(out: &mut Outgoing, sink: &mut K, count: u64, lane: u64)
@@ -29,7 +33,7 @@ fn write_names_of<K: Sink>(out: &mut Outgoing, sink: &mut K, graph: &Graph, mach
         (stream (K.shown sink.new) out.new) (lane_lines graph.now machine) }
 {
     for lane in 0..machine.count {
-        let y = 52 + 16 * (machine.first + lane);
+        let y = FIRST_NAME + LANE_HEIGHT * (machine.first + lane);
         write_interleaved(out, sink, &NAME, &[y]);
         out.push(sink, graph.label(machine.station));
         write_lane_number(out, sink, machine.count, lane);

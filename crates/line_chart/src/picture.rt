@@ -1,17 +1,18 @@
 //! The whole picture.
-ghost use Rattle.std.specs.Prelude.{◌≤◌, ◌+◌, ◌*◌};
+ghost use Rattle.std.specs.Prelude.{◌≤◌};
 ghost use Rattle.event_graph.specs.Table.{date_in};
-ghost use Rattle.line_io.specs.Outgoing.{Pushed, stream};
+ghost use Rattle.outside_io.specs.Outgoing.{Pushed, stream};
 ghost use Rattle.line_chart.specs.ChartText.{head_text, picture};
 ghost use Rattle.line_chart.specs.Picture.{IsOfRun};
 
 use crate::areas::{write_backlog, write_stages};
 use crate::axis::write_axis;
 use crate::bars::write_bars;
+use crate::heights::areas_end;
 use crate::names::write_names;
 use crate::run::ChartRun;
 use crate::text::write_interleaved;
-use line_io::{Outgoing, Sink};
+use outside_io::{Outgoing, Sink};
 
 /// How a picture begins, on both sides of its height.
 const HEAD: [&[u8]; 2] = [
@@ -38,7 +39,7 @@ pub fn write_picture<K: Sink>(out: &mut Outgoing, sink: &mut K, run: &ChartRun)
     ensures { Pushed (stream (K.shown sink.old) out.old) (stream (K.shown sink.new) out.new)
         (picture run.now.plant (date_in run.now.table.rows) run.now.window) }
 {
-    let end = 60 + 16 * run.lanes + 50 * (run.plant.stages.len() as u64 + 1);
+    let end = areas_end(run, run.plant.stages.len() as u64 + 1);
     write_head(out, sink, end);
     write_axis(out, sink, run.window, end);
     write_names(out, sink, run);

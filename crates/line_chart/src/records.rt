@@ -6,7 +6,7 @@ ghost use Rattle.event_graph.specs.Table.{date_in};
 ghost use Rattle.line_chart.specs.DateTable.{IsTableRun};
 ghost use Rattle.line_chart.specs.Serves.{customer};
 ghost use Rattle.line_chart.specs.TableText.{field, csv_record, station_records, machine_records_behind, stage_records, table_text};
-ghost use Rattle.line_io.specs.Outgoing.{Pushed, stream};
+ghost use Rattle.outside_io.specs.Outgoing.{Pushed, stream};
 ghost use Rattle.plant_model.specs.Line.{stage_numbers};
 
 use crate::starts::start;
@@ -14,7 +14,7 @@ use crate::table_run::TableRun;
 use event_graph::Graph;
 use line_base::Date;
 use line_core::Table;
-use line_io::{Outgoing, Sink};
+use outside_io::{Outgoing, Sink};
 use plant_model::FEED;
 
 /// Writes a number, or nothing.
@@ -134,7 +134,7 @@ fn write_stage<K: Sink>(out: &mut Outgoing, sink: &mut K, run: &TableRun, stage:
 }
 
 /// Writes the records of all stages, in order.
-#[tactic(auto, using(line_io::proofs::OutgoingLemmas::pushed_none))]
+#[tactic(auto, using(outside_io::proofs::OutgoingLemmas::pushed_none))]
 fn write_stages<K: Sink>(out: &mut Outgoing, sink: &mut K, run: &TableRun)
     requires { IsTableRun run.now }
     ensures { Pushed (stream (K.shown sink.old) out.old) (stream (K.shown sink.new) out.new)

@@ -1,14 +1,14 @@
 ghost use Rattle.std.specs.Prelude.{◌≡◌, IfOk};
 ghost use Rattle.line_chart.specs.DateTable.{text_of};
-ghost use Rattle.line_io.specs.SinkView.{WritesText};
+ghost use Rattle.outside_io.specs.SinkView.{WritesText};
 ghost use Rattle.line_stats.specs.PlantDates.{AreLeastDates, AreOfPlant, Stays};
 
 use crate::making::memory_for;
 use crate::records::write_table;
 use crate::table_run::TableRun;
 use line_core::Table;
-use line_io::{Failed, Outgoing, Sink};
 use live_check::Live;
+use outside_io::{Failed, Outgoing, Sink};
 use plant_model::Plant;
 use std::alloc::{AllocError, Global};
 use std::marker::Model;

@@ -1,10 +1,10 @@
 //! Texts and numbers, one after another.
 ghost use Rattle.std.specs.Prelude.{◌≡◌, ◌+◌, length};
-ghost use Rattle.line_io.specs.Outgoing.{Pushed, stream};
+ghost use Rattle.outside_io.specs.Outgoing.{Pushed, stream};
 ghost use Rattle.line_chart.specs.ChartText.{with_number};
 ghost use Rattle.line_chart.specs.Interleaved.{interleave};
 
-use line_io::{Outgoing, Sink};
+use outside_io::{Outgoing, Sink};
 
 /// How the name of a lane or an area begins, on both sides of its height.
 pub const NAME: [&[u8]; 2] = [b"<text class=\"e\" x=\"164\" y=\"", b"\">"];

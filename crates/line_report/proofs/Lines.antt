@@ -9,8 +9,8 @@ use Rattle.plant_model.specs.declared.plant.Plant.{Plant}
 use Rattle.plant_model.specs.Stages.{Stage}
 use Rattle.plant_model.specs.Line.{stage_at, no_stage}
 use Rattle.event_graph.specs.Table.{Table}
-use Rattle.line_io.specs.Outgoing.{Stream, Pushed}
-pub use Rattle.line_io.proofs.OutgoingLemmas.{text_written}
+use Rattle.outside_io.specs.Outgoing.{Stream, Pushed}
+pub use Rattle.outside_io.proofs.OutgoingLemmas.{text_written}
 use Rattle.line_stats.specs.Counts.{in_process, in_move, in_stock}
 use Rattle.line_report.specs.ReportText.{line, stage_line}
 

@@ -8,8 +8,8 @@ use Rattle.line_base.specs.declared.event.Parts.{Parts}
 use Rattle.event_graph.specs.Network.{stations, jobs, label}
 use Rattle.event_graph.specs.Table.{Table, date_in}
 use Rattle.line_report.specs.ReportText.{line, date_line, station_lines, date_lines}
-use Rattle.line_io.specs.Outgoing.{Stream, Pushed}
-use Rattle.line_io.proofs.OutgoingLemmas.{pushed_none, pushed_next, ◌⨟◌}
+use Rattle.outside_io.specs.Outgoing.{Stream, Pushed}
+use Rattle.outside_io.proofs.OutgoingLemmas.{pushed_none, pushed_next, ◌⨟◌}
 use Rattle.line_report.specs.Portions.{Formatted, numbered_line, numbered_lines, job_lines, HasLines, HaveShares, share_start}
 use Rattle.line_report.proofs.Lines.{lines_more}
 

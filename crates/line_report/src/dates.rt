@@ -2,7 +2,7 @@
 ghost use Rattle.std.specs.Prelude.{◌≡◌, ◌+◌, ◌-◌, ◌*◌, ◌<◌, ◌≤◌, length, min};
 ghost use Rattle.event_graph.specs.Network.{stations, jobs};
 ghost use Rattle.event_graph.specs.Table.{date_in};
-ghost use Rattle.line_io.specs.Outgoing.{Pushed, stream};
+ghost use Rattle.outside_io.specs.Outgoing.{Pushed, stream};
 ghost use Rattle.line_report.specs.Portions.{HasLines, HaveShares, share_start, numbered_line, numbered_lines};
 ghost use Rattle.line_report.specs.ReportText.{date_lines};
 
@@ -10,7 +10,7 @@ use crate::portion::{Portion, fitting_lines};
 use event_graph::Graph;
 use line_base::for_each_mut;
 use line_core::Table;
-use line_io::{Outgoing, Sink};
+use outside_io::{Outgoing, Sink};
 use std::thread::Threads;
 
 /// Writes the line of a number.

@@ -1,10 +1,10 @@
 //! What a report is made of.
 ghost use Rattle.std.specs.Prelude.{◌≡◌, ◌+◌, ◌<◌, false, length, IfOk, OnOk};
-ghost use Rattle.line_io.specs.Outgoing.{nothing_waiting};
+ghost use Rattle.outside_io.specs.Outgoing.{nothing_waiting};
 ghost use Rattle.plant_model.specs.Sound.{IsSound};
 
 use crate::portion::Portion;
-use line_io::Outgoing;
+use outside_io::Outgoing;
 use plant_model::{LineNumbers, Plant};
 use std::alloc::{AllocError, Global};
 

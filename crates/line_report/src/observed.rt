@@ -2,15 +2,15 @@
 ghost use Rattle.std.specs.List.{flat_map};
 ghost use Rattle.std.specs.Prelude.{◌<◌, length};
 ghost use Rattle.event_graph.specs.Table.{date_in};
-ghost use Rattle.line_io.specs.Outgoing.{Pushed, stream};
+ghost use Rattle.outside_io.specs.Outgoing.{Pushed, stream};
 ghost use Rattle.line_report.specs.ReportText.{stage_line, backlog_line, observed_lines};
 ghost use Rattle.line_report.specs.Reported.{IsOfRun};
 
 use crate::run::FinishedRun;
 use crate::words::write_number_behind;
 use line_base::Date;
-use line_io::{Outgoing, Sink};
 use line_stats::{backlog, in_move, in_process, in_stock};
+use outside_io::{Outgoing, Sink};
 
 /// Writes how many parts of a stage there are at a date; those on their way where the way takes time.
 fn write_stage<K: Sink>(out: &mut Outgoing, sink: &mut K, run: &FinishedRun, at: Date, stage: u32)

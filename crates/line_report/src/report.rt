@@ -1,5 +1,5 @@
 ghost use Rattle.std.specs.Prelude.{◌≡◌, IfOk};
-ghost use Rattle.line_io.specs.SinkView.{WritesText};
+ghost use Rattle.outside_io.specs.SinkView.{WritesText};
 ghost use Rattle.line_report.specs.Reported.{report_of, summary_of};
 ghost use Rattle.line_stats.specs.PlantDates.{AreLeastDates, AreOfPlant, Stays};
 
@@ -8,8 +8,8 @@ use crate::portion::Portion;
 use crate::run::FinishedRun;
 use crate::texts::{write_summary_text, write_text};
 use line_core::Table;
-use line_io::{Failed, Outgoing, Sink};
 use live_check::Live;
+use outside_io::{Failed, Outgoing, Sink};
 use plant_model::Plant;
 use std::alloc::{AllocError, Global};
 use std::marker::Model;
@@ -27,7 +27,7 @@ pub struct Report {
 impl Model for Report {
     ghost use Rattle.std.specs.Prelude.{◌≡◌, ◌<◌, false, length};
     ghost use Rattle.line_core.specs.Run.{IsLeastTable};
-    ghost use Rattle.line_io.specs.Outgoing.{nothing_waiting};
+    ghost use Rattle.outside_io.specs.Outgoing.{nothing_waiting};
     ghost use Rattle.line_stats.specs.PlantDates.{PlantDates, AreOfPlant};
 
     ghost Value = { PlantDates };

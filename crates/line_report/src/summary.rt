@@ -1,13 +1,13 @@
 //! The sizes of a run and the sum of its dates, for runs whose dates are too many to print.
 ghost use Rattle.event_graph.specs.Table.{date_in};
-ghost use Rattle.line_io.specs.Outgoing.{Pushed, stream};
+ghost use Rattle.outside_io.specs.Outgoing.{Pushed, stream};
 ghost use Rattle.line_report.specs.SummaryText.{size_lines, sum_line};
 
 use crate::words::write_number_line;
 use event_graph::Graph;
 use line_core::Table;
-use line_io::{Outgoing, Sink};
 use line_stats::date_total;
+use outside_io::{Outgoing, Sink};
 
 /// Writes how many stations and jobs there are, and how often the stations fire in a whole run.
 pub fn write_sizes<K: Sink>(out: &mut Outgoing, sink: &mut K, graph: &Graph)

@@ -1,7 +1,7 @@
 //! The whole texts of a report and of a summary.
 ghost use Rattle.std.specs.Prelude.{◌≡◌, ◌<◌, length};
 ghost use Rattle.event_graph.specs.Table.{date_in};
-ghost use Rattle.line_io.specs.Outgoing.{Pushed, stream};
+ghost use Rattle.outside_io.specs.Outgoing.{Pushed, stream};
 ghost use Rattle.line_report.specs.ReportText.{report};
 ghost use Rattle.line_report.specs.Reported.{IsOfRun};
 ghost use Rattle.line_report.specs.SummaryText.{summary};
@@ -12,7 +12,7 @@ use crate::portion::Portion;
 use crate::run::FinishedRun;
 use crate::summary::{write_sizes, write_sum};
 use crate::totals::write_end;
-use line_io::{Outgoing, Sink};
+use outside_io::{Outgoing, Sink};
 use std::thread::Threads;
 
 /// Writes the whole text of a report.

@@ -2,7 +2,7 @@
 ghost use Rattle.std.specs.List.{flat_map};
 ghost use Rattle.std.specs.Prelude.{◌<◌, ◌++◌, codes, decimal, length};
 ghost use Rattle.event_graph.specs.Table.{date_in};
-ghost use Rattle.line_io.specs.Outgoing.{Pushed, stream};
+ghost use Rattle.outside_io.specs.Outgoing.{Pushed, stream};
 ghost use Rattle.line_report.specs.ReportText.{bound_word, peak_line, waiting_line, last_line, end_lines};
 ghost use Rattle.line_report.specs.Reported.{IsOfRun};
 ghost use Rattle.plant_model.specs.Graph.{graph};
@@ -11,8 +11,8 @@ ghost use Rattle.plant_model.specs.Line.{stage_numbers};
 use crate::run::FinishedRun;
 use crate::words::{write_number_behind, write_number_line};
 use line_core::Table;
-use line_io::{Outgoing, Sink};
 use line_stats::{last, peak, waiting_total};
+use outside_io::{Outgoing, Sink};
 use plant_model::bound_of;
 
 /// Writes the bound of a stage, or that it has none.

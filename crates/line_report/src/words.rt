@@ -1,9 +1,9 @@
 //! Numbers with words before them.
 ghost use Rattle.std.specs.Prelude.{◌++◌, decimal};
-ghost use Rattle.line_io.specs.Outgoing.{Pushed, stream};
+ghost use Rattle.outside_io.specs.Outgoing.{Pushed, stream};
 ghost use Rattle.line_report.specs.SummaryText.{number_line};
 
-use line_io::{Outgoing, Sink};
+use outside_io::{Outgoing, Sink};
 
 /// Writes words, and the number behind them.
 pub fn write_number_behind<K: Sink>(out: &mut Outgoing, sink: &mut K, words: &[u8], number: u64)

@@ -4,9 +4,12 @@ use Rattle.std.proofs.lemmas.List.{take_all, take-take, length-take}
 use Rattle.event_graph.specs.Network.{stations}
 use Rattle.event_graph.specs.State.{State, log}
 use Rattle.live_check.specs.Order.{LiveGraph}
-use Rattle.line_workers.specs.Line.{WorkLine, IsLine, Stands}
-use Rattle.line_runs.specs.Bursts.{IsBurst}
-use Rattle.line_runs.specs.Standing.{KeepsDates, GoesOn}
+use Rattle.line_core.specs.Run.{Dates}
+use Rattle.line_workers.specs.Line.{WorkLine, IsLine}
+use Rattle.line_runs.specs.Bursts.{IsBurst, BurstsBelow, none, more}
+use Rattle.line_runs.specs.Scheduler.{EndsFrom}
+use Rattle.line_runs.specs.Standing.{GoesOn}
+use Rattle.line_runs.specs.Stop.{FinishesBefore}
 
 pub stays : (l : WorkLine) → IsLine l → GoesOn l l
 stays l is = record {
@@ -43,15 +46,17 @@ goes_on_more first now next before after = record {
       kept-more (log first.state t) (log now.state t) (log next.state t) (before.logs t there) (after.logs t (omega (arith, there, same)));
 }
 
--- ---- by whatever number of workers
+-- bursts leave dates as they are, too
+pub bursts_go_on : (n : ℕ) (first : WorkLine) (count : ℕ) (last : WorkLine) → IsLine first → BurstsBelow n first count last → GoesOn first last
+bursts_go_on n first count last is none = stays first is
+bursts_go_on n first count last is (more before l new bursts below burst) =
+    goes_on_more first l new (bursts_go_on n first before l is bursts) (burst_goes_on l new burst)
 
-pub keeps : (old new : WorkLine) → GoesOn old new → KeepsDates old new
-keeps old new on = record { line = on.line; live = on.live; logs = on.logs }
-
--- and where the stations are dealt to others
-pub keeps_dealt : (old mid new : WorkLine) (live : LiveGraph) (workers : ℕ) → KeepsDates old mid → live ≡ old.live → IsLine new → Stands live mid.state workers new → KeepsDates old new
-keeps_dealt old mid new live workers kept same is stands = record {
-  line = is;
-  live = stands.live_is ∙ same;
-  logs = λ t there. ap (λ (s : State). take (length (log old.state t)) (log s t)) stands.state_is ∙ kept.logs t there;
+-- a line that went on, and then by bursts to its end
+pub ends_from : (n : ℕ) (first now : WorkLine) (d : Dates) → GoesOn first now → FinishesBefore n now d → EndsFrom first d
+ends_from n first now d on ends = record {
+  last = ends.last;
+  goes_on = goes_on_more first now ends.last on (bursts_go_on n now ends.count ends.last on.line ends.bursts);
+  done = ends.done;
+  dates = ends.dates;
 }

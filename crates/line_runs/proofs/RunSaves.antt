@@ -12,10 +12,10 @@ use Rattle.checkpoint.specs.declared.format.Format.TheVariants.{Differences}
 use Rattle.checkpoint.specs.Text.{text}
 use Rattle.checkpoint.specs.Kept.{Kept, Follows}
 use Rattle.checkpoint.proofs.KeptWords.{Follows-grown}
-use Rattle.line_disk.specs.DiskView.{Image, DiskView, LeavesOnly, held_now}
-use Rattle.line_disk.proofs.Moments.{leaves_on, leaves_also, leaves_here, leaves_last}
-use Rattle.line_disk.specs.Layout.{content}
-use Rattle.line_disk.specs.Crash.{CouldLeave, IsOldOrNew}
+use Rattle.crash_disk.specs.DiskView.{Image, DiskView, LeavesOnly, held_now}
+use Rattle.crash_disk.proofs.Moments.{leaves_on, leaves_also, leaves_here, leaves_last}
+use Rattle.crash_disk.specs.Layout.{content}
+use Rattle.crash_disk.specs.Crash.{CouldLeave, IsOldOrNew}
 use Rattle.line_workers.specs.Line.{WorkLine, IsLine, run_in}
 use Rattle.line_runs.specs.Bursts.{IsBurst, IsDone, none}
 use Rattle.line_runs.specs.AllFirings.{all_firings}

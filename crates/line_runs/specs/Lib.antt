@@ -9,4 +9,5 @@ pub mod Saves
 pub mod ResumeSlots
 pub mod StandsFor
 pub mod Standing
+pub mod Scheduler
 pub mod Sweeping

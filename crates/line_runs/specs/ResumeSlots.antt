@@ -4,12 +4,12 @@ use Rattle.line_base.specs.declared.event.Parts.{Parts}
 use Rattle.line_core.specs.Run.{Dates}
 use Rattle.checkpoint.specs.declared.error.CheckpointError.{CheckpointError}
 use Rattle.checkpoint.specs.declared.error.CheckpointError.TheVariants as Text
-use Rattle.line_disk.specs.DiskView.{DiskView}
-use Rattle.line_disk.specs.declared.slots.error.SlotError.{SlotError}
-use Rattle.line_disk.specs.declared.slots.error.SlotError.TheVariants as Slot
-use Rattle.line_disk.specs.Crash.{bytes_now}
-use Rattle.line_disk.specs.Layout.{content}
-use Rattle.line_disk.specs.Loads.{HasLoaded, answer_finding}
+use Rattle.crash_disk.specs.DiskView.{DiskView}
+use Rattle.crash_disk.specs.declared.slots.error.SlotError.{SlotError}
+use Rattle.crash_disk.specs.declared.slots.error.SlotError.TheVariants as Slot
+use Rattle.crash_disk.specs.Crash.{bytes_now}
+use Rattle.crash_disk.specs.Layout.{content}
+use Rattle.crash_disk.specs.Loads.{HasLoaded, answer_finding}
 use Rattle.line_runs.specs.declared.error.ResumeError.{ResumeError}
 use Rattle.line_runs.specs.declared.error.ResumeError.TheVariants.{NothingSaved, Checkpoint, DiskFault, NoMemory}
 use Rattle.line_runs.specs.Resume.{Resumes}

@@ -10,9 +10,9 @@ use Rattle.line_worker.specs.Sweeps.{most_sweeps}
 use Rattle.line_workers.specs.Line.{WorkLine}
 use Rattle.checkpoint.specs.declared.format.Format.TheVariants.{Differences}
 use Rattle.checkpoint.specs.Text.{text}
-use Rattle.line_disk.specs.DiskView.{Image, DiskView, Held, held_now}
-use Rattle.line_disk.specs.Layout.{content}
-use Rattle.line_disk.specs.Crash.{CouldLeave, IsSaved}
+use Rattle.crash_disk.specs.DiskView.{Image, DiskView, Held, held_now}
+use Rattle.crash_disk.specs.Layout.{content}
+use Rattle.crash_disk.specs.Crash.{CouldLeave, IsSaved}
 use Rattle.line_runs.specs.Bursts.{IsBurst, BurstsBelow, HasMade, IsDone}
 use Rattle.line_runs.specs.AllFirings.{all_firings}
 use Rattle.line_runs.specs.Headline.{MayBeResumed}

@@ -2,12 +2,6 @@
 use Rattle.std.specs.Prelude.{◌≡◌}
 use Rattle.line_workers.specs.Line.{WorkLine, IsLine, LogsGrow}
 
--- a line of the same graph: each log has the dates that it had, and maybe more behind them
-pub record KeepsDates (old new : WorkLine) : Type 0 where
-  pub line : IsLine new
-  pub live : new.live ≡ old.live
-  pub logs : LogsGrow old.live.graph old.state new.state
-
 -- the same line later, of the same graph, with as many workers and rings of the same room: firings
 -- lead to its state, and each log has the dates that it had, and maybe more behind them
 pub record GoesOn (old new : WorkLine) : Type 0 where

@@ -1,9 +1,9 @@
 -- The text in which a state is saved, and what a store is asked for it.
 use Rattle.std.specs.Prelude.{◌≡◌, ℕ, ◌<◌, ◌⊎◌, List, length, Result, Err}
 use Rattle.line_core.specs.Run.{Run}
-use Rattle.line_io.specs.declared.store.StoreError.{StoreError}
-use Rattle.line_io.specs.declared.store.StoreError.TheVariants.{NoMemory}
-use Rattle.line_io.specs.Calls.{Asked, after_write}
+use Rattle.outside_io.specs.declared.store.StoreError.{StoreError}
+use Rattle.outside_io.specs.declared.store.StoreError.TheVariants.{NoMemory}
+use Rattle.outside_io.specs.Calls.{Asked, after_write}
 use Rattle.checkpoint.specs.declared.format.Format.TheVariants.{Differences}
 use Rattle.checkpoint.specs.Text.{text}
 

@@ -2,24 +2,19 @@
 //! was saved.
 #![tactic(auto)]
 
-mod apart;
-mod dealing;
 mod error;
-mod finishing;
-mod long_burst;
-mod placing;
 mod resuming;
 mod run;
+mod scheduler;
 mod slots;
 mod slots_resuming;
-mod standing;
 mod stop;
 mod store;
-mod sweeping;
 
 pub use error::ResumeError;
 pub use resuming::{line_of_text, resume};
 pub use run::{run_standing, run_through, run_to_end};
+pub use scheduler::paying::line_of_run;
 pub use slots::run_with_slots;
 pub use slots_resuming::resume_slots;
 pub use stop::{Outcome, run_until};

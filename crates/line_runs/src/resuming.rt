@@ -2,10 +2,12 @@ ghost use Rattle.std.specs.Prelude.{◌^◌, ◌<◌, ◌≤◌, length, IfOk, I
 ghost use Rattle.line_base.specs.Limits.{most_workers};
 ghost use Rattle.checkpoint.specs.Answers.{Tells};
 ghost use Rattle.line_runs.specs.Resume.{FailsOnlyFor, Resumes};
+ghost use Rattle.line_runs.specs.Scheduler.{IsResumedBy};
 ghost use Rattle.line_runs.specs.StandsFor.{StandsFor};
 ghost use Rattle.line_workers.specs.Line.{IsLine};
 
 use crate::run::run_through;
+use crate::scheduler::paying::paying_workers;
 use checkpoint::{CheckpointError, read_state};
 use line_core::Table;
 use line_workers::{Gate, Line};
@@ -40,9 +42,8 @@ pub fn line_of_text(
     }
 }
 
-/// Goes on from the text of a state, with this many workers, until every station has fired once for
-/// each job. The table is the least solution of the graph, the same as that of a run that never
-/// stopped.
+/// Goes on from the text of a state, by as many of this many workers as pay, until every station has fired once for
+/// each job. The table is the least solution of the graph, the same as that of a run that never stopped.
 pub fn resume<R: Threads + Sync, G: Gate>(
     rt: &R,
     alloc: Global,
@@ -54,8 +55,9 @@ pub fn resume<R: Threads + Sync, G: Gate>(
     requires some { 1 ≤ workers }
     requires few { workers ≤ most_workers }
     requires short { length bytes.now < 2 ^ 32 }
-    ensures { Resumes live.now.graph bytes.now result }
+    ensures resumes { Resumes live.now.graph bytes.now result }
+    ensures by { IfOk result (IsResumedBy live.now bytes.now workers) }
 {
-    let line = line_of_text(alloc, live, bytes, workers)?;
-    Ok(run_through(rt, alloc, live, line, workers, gate))
+    let line = line_of_text(alloc, live, bytes, paying_workers(live, workers))?;
+    Ok(run_through(rt, live, line, gate))
 }

@@ -1,15 +1,16 @@
-ghost use Rattle.std.specs.Prelude.{◌≡◌, ℕ, ◌≤◌, IsTrue, IsErrOf};
+ghost use Rattle.std.specs.Prelude.{◌≡◌, ℕ, ◌≤◌, IsTrue, IfOk, IsErrOf};
 ghost use Rattle.line_base.specs.Limits.{most_workers};
-ghost use Rattle.line_disk.specs.DiskView.{Stays};
-ghost use Rattle.line_io.specs.Faults.{Rose};
+ghost use Rattle.crash_disk.specs.DiskView.{Stays};
+ghost use Rattle.outside_io.specs.Faults.{Rose};
 ghost use Rattle.line_runs.specs.ResumeSlots.{AnswersLoad, ResumesSlots};
-ghost use Rattle.line_disk.specs.declared.slots.error.SlotError.TheVariants.{TooLong};
+ghost use Rattle.line_runs.specs.Scheduler.{IsResumedFromSlots};
+ghost use Rattle.crash_disk.specs.declared.slots.error.SlotError.TheVariants.{TooLong};
 
 use crate::error::ResumeError;
 use crate::resuming::resume;
+use crash_disk::Disk;
+use crash_disk::slots::{MAX_ROOM, SlotError, Slots};
 use line_core::Table;
-use line_disk::Disk;
-use line_disk::slots::{MAX_ROOM, SlotError, Slots};
 use line_workers::Gate;
 use live_check::Live;
 use std::alloc::Global;
@@ -28,7 +29,7 @@ fn not_loaded(refusal: SlotError) -> ResumeError
     }
 }
 
-/// Goes on from what the two slots of a disk hold, with this many workers, until every station has
+/// Goes on from what the two slots of a disk hold, by as many of this many workers as pay, until every station has
 /// fired once for each job. The table is the least solution of the graph. The disk is as before.
 pub fn resume_slots<R: Threads + Sync, G: Gate, D: Disk>(
     rt: &R,
@@ -42,6 +43,8 @@ pub fn resume_slots<R: Threads + Sync, G: Gate, D: Disk>(
     requires few { workers ≤ most_workers }
     ensures resumes { ResumesSlots D.tells (D.shown disk.old) (D.shown disk.new) MAX_ROOM
         live.now.graph result }
+    ensures by { IfOk result
+        (IsResumedFromSlots D.tells (D.shown disk.old) MAX_ROOM live.now workers) }
     ensures stays { IsTrue D.tells → Stays (D.shown disk.old) (D.shown disk.new) }
     ensures disk_fault { IsErrOf result ResumeError.DiskFault
         → Rose (D.shown disk.old).faults (D.shown disk.new).faults }

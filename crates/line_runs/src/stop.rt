@@ -3,7 +3,8 @@ ghost use Rattle.line_core.specs.Consistent.{firing_count};
 ghost use Rattle.line_runs.specs.Headline.{EndsWell};
 ghost use Rattle.line_runs.specs.Stop.{EndsFirst, CountsWell};
 
-use crate::run::{burst_on, table_of};
+use crate::run::table_of;
+use crate::scheduler::bursts::burst_on;
 use line_core::{State, Table};
 use line_workers::{Gate, Line};
 use live_check::Live;

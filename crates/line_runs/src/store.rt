@@ -1,12 +1,12 @@
 ghost use Rattle.std.specs.Prelude.{◌≡◌, Some, IsTrue, OnOk, IsErrOf};
-ghost use Rattle.line_io.specs.Contents.{SameFiles, OthersStay, IsTorn};
-ghost use Rattle.line_io.specs.Faults.{Rose, NeverFall};
+ghost use Rattle.outside_io.specs.Contents.{SameFiles, OthersStay, IsTorn};
+ghost use Rattle.outside_io.specs.Faults.{Rose, NeverFall};
 ghost use Rattle.line_runs.specs.Store.{text_of, AsksToWrite};
 
 use checkpoint::write_state;
 use line_core::State;
-use line_io::{Store, StoreError};
 use live_check::Live;
+use outside_io::{Store, StoreError};
 use std::alloc::Global;
 
 /// Gives a file the text of a state, from which a run can go on. `Failed` comes only from the

@@ -3,8 +3,8 @@ use Rattle.std.proofs.Common.{◌≡◌, ℕ, ◌+◌, ◌≤◌, true, List, []
 use Rattle.line_base.specs.Limits.{most_cards}
 use Rattle.plant_model.specs.declared.plant.Plant.{Plant}
 use Rattle.plant_model.specs.Sound.{IsSound}
-use Rattle.line_io.specs.SinkView.{SinkView, PutsPrefix}
-use Rattle.line_io.proofs.WrittenLemmas.{puts_prefix_longer}
+use Rattle.outside_io.specs.SinkView.{SinkView, PutsPrefix}
+use Rattle.outside_io.proofs.WrittenLemmas.{puts_prefix_longer}
 use Rattle.card_sizing.specs.Sized.{has_single_count}
 use Rattle.line_summary.specs.Curve.{EndsEarly, PutsPrefixOfCurve}
 use Rattle.line_summary.specs.CurveText.{row_of, rows_from}

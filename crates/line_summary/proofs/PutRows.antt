@@ -2,10 +2,10 @@
 use Rattle.std.proofs.Common.{◌≡◌, ℕ, ◌+◌, ◌<◌, ◌≤◌, List, [], ◌∷◌, ◌++◌, length, get_or, Option, None, Some, IfSome, refl, sym, ap, ◌∙◌, subst, append_assoc, append-nil, arith}
 use Rattle.std.proofs.lemmas.List.{length-append}
 use Rattle.plant_model.specs.declared.plant.Plant.{Plant}
-use Rattle.line_io.specs.Faults.{Rose}
-use Rattle.line_io.specs.SinkView.{SinkView, PutsAll, PutsPrefix}
-use Rattle.line_io.proofs.OutgoingLemmas.{rose_after}
-use Rattle.line_io.proofs.WrittenLemmas.{puts_none, puts_all_after, puts_prefix_after}
+use Rattle.outside_io.specs.Faults.{Rose}
+use Rattle.outside_io.specs.SinkView.{SinkView, PutsAll, PutsPrefix}
+use Rattle.outside_io.proofs.OutgoingLemmas.{rose_after}
+use Rattle.outside_io.proofs.WrittenLemmas.{puts_none, puts_all_after, puts_prefix_after}
 use Rattle.line_summary.specs.Curve.{HavePoints, PutsRows, PutsPrefixOfRows, EndsEarly}
 use Rattle.line_summary.specs.CurveText.{row_of, rows_from}
 use Rattle.line_summary.specs.Points.{IsPoint, ArePoints}

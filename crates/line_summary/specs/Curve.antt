@@ -1,8 +1,8 @@
 -- What writing a curve puts into a sink, for callers of `write_curve`.
 use Rattle.std.specs.Prelude.{◌≡◌, ℕ, ◌+◌, ◌<◌, ◌≤◌, List, length, slice_index_or, Option, None, IfSome}
 use Rattle.plant_model.specs.declared.plant.Plant.{Plant}
-use Rattle.line_io.specs.Faults.{Rose}
-use Rattle.line_io.specs.SinkView.{SinkView, PutsAll, PutsPrefix}
+use Rattle.outside_io.specs.Faults.{Rose}
+use Rattle.outside_io.specs.SinkView.{SinkView, PutsAll, PutsPrefix}
 use Rattle.line_summary.specs.CurveText.{rows_from}
 use Rattle.line_summary.specs.Points.{IsPoint, ArePoints}
 use Rattle.line_summary.specs.declared.curve.CurveError.{CurveError}

@@ -2,7 +2,7 @@
 ghost use Rattle.std.specs.Prelude.{◌≡◌, ◌+◌, ◌-◌, ◌<◌, ◌≤◌, length, true, false, IfSome, OnOk, OnErr, IfErr};
 ghost use Rattle.card_sizing.specs.Sized.{has_single_count, lowest};
 ghost use Rattle.line_base.specs.Limits.{most_cards};
-ghost use Rattle.line_io.specs.Outgoing.{nothing_waiting};
+ghost use Rattle.outside_io.specs.Outgoing.{nothing_waiting};
 ghost use Rattle.line_summary.specs.Curve.{HavePoints, PutsRows, EndsEarly, PutsPrefixOfCurve};
 ghost use Rattle.line_summary.specs.Points.{IsPoint};
 ghost use Rattle.line_summary.specs.declared.curve.CurveError.{CurveError};
@@ -13,7 +13,7 @@ use crate::rows::write_row;
 use crate::trying::point_at;
 use card_sizing::lowest_count;
 use line_base::for_each_mut;
-use line_io::{Outgoing, Sink};
+use outside_io::{Outgoing, Sink};
 use plant_model::Plant;
 use std::alloc::{AllocError, Global};
 use std::thread::Threads;
@@ -35,10 +35,10 @@ impl From<AllocError> for CurveError {
     }
 }
 
-impl From<line_io::Failed> for CurveError {
+impl From<outside_io::Failed> for CurveError {
     ghost from_gives = { λ _ e. e ≡ CurveError.Failed };
 
-    fn from(_: line_io::Failed) -> Self {
+    fn from(_: outside_io::Failed) -> Self {
         CurveError::Failed
     }
 }

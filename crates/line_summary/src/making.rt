@@ -1,14 +1,14 @@
 //! What a summary is made of.
 ghost use Rattle.std.specs.Prelude.{◌≡◌, false, IfOk};
 ghost use Rattle.event_graph.specs.Table.{date_in};
-ghost use Rattle.line_io.specs.Outgoing.{nothing_waiting};
+ghost use Rattle.outside_io.specs.Outgoing.{nothing_waiting};
 ghost use Rattle.line_summary.specs.Machines.{machine_uses};
 ghost use Rattle.line_summary.specs.Summarized.{ArePercentiles, IsOfPlant};
 
 use crate::machines::{MachineUse, machine_uses};
 use crate::percentiles::{Percentiles, wait_percentiles};
 use line_core::Table;
-use line_io::Outgoing;
+use outside_io::Outgoing;
 use plant_model::{LineNumbers, Plant};
 use std::alloc::{AllocError, Global};
 

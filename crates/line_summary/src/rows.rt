@@ -1,14 +1,14 @@
 //! The rows of a curve.
 ghost use Rattle.std.specs.Prelude.{◌≡◌, false};
-ghost use Rattle.line_io.specs.Outgoing.{Pushed, stream, nothing_waiting};
-ghost use Rattle.line_io.specs.SinkView.{WritesText};
+ghost use Rattle.outside_io.specs.Outgoing.{Pushed, stream, nothing_waiting};
+ghost use Rattle.outside_io.specs.SinkView.{WritesText};
 ghost use Rattle.line_summary.specs.CurveText.{too_few_row, dead_row, figures_row, row_of};
 
 use crate::figures::Figures;
 use crate::point::Point;
 use crate::thousandths::write_ratio;
-use line_io::{Failed, Outgoing, Sink};
 use line_report::write_number_behind;
+use outside_io::{Failed, Outgoing, Sink};
 
 /// Writes that this many cards are fewer than the stock needs.
 fn push_too_few<K: Sink>(out: &mut Outgoing, sink: &mut K, count: u32)

@@ -1,5 +1,5 @@
 ghost use Rattle.std.specs.Prelude.{◌≡◌, IfOk};
-ghost use Rattle.line_io.specs.SinkView.{WritesText};
+ghost use Rattle.outside_io.specs.SinkView.{WritesText};
 ghost use Rattle.line_stats.specs.PlantDates.{AreLeastDates, Stays};
 ghost use Rattle.line_summary.specs.Summarized.{IsOfPlant, text_of};
 
@@ -7,7 +7,7 @@ use crate::figures::Figures;
 use crate::making::memory_for;
 use crate::texts::{SummaryRun, write_text};
 use line_core::Table;
-use line_io::{Failed, Outgoing, Sink};
+use outside_io::{Failed, Outgoing, Sink};
 use plant_model::Plant;
 use std::alloc::{AllocError, Global};
 use std::marker::Model;
@@ -22,7 +22,7 @@ pub struct Summary {
 impl Model for Summary {
     ghost use Rattle.std.specs.Prelude.{◌≡◌, false};
     ghost use Rattle.line_core.specs.Run.{IsLeastTable};
-    ghost use Rattle.line_io.specs.Outgoing.{nothing_waiting};
+    ghost use Rattle.outside_io.specs.Outgoing.{nothing_waiting};
     ghost use Rattle.line_stats.specs.PlantDates.{PlantDates};
     ghost use Rattle.line_summary.specs.Summarized.{IsOfRun};
 

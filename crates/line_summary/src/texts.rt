@@ -2,7 +2,7 @@
 ghost use Rattle.std.specs.List.{flat_map};
 ghost use Rattle.std.specs.Prelude.{◌<◌, length, slice_index_or};
 ghost use Rattle.event_graph.specs.Table.{date_in};
-ghost use Rattle.line_io.specs.Outgoing.{Pushed, stream};
+ghost use Rattle.outside_io.specs.Outgoing.{Pushed, stream};
 ghost use Rattle.line_summary.specs.Machines.{label_of};
 ghost use Rattle.line_summary.specs.Summarized.{IsOfRun};
 ghost use Rattle.line_summary.specs.SummaryText.{job_lines, wait_line, percentile_line, at_once_line, backlog_line, parts_line, head_lines, stage_line, machine_line, busiest_line, summary_text};
@@ -17,9 +17,9 @@ use crate::thousandths::write_ratio;
 use crate::waits::most_backlog;
 use line_base::Date;
 use line_core::Table;
-use line_io::{Outgoing, Sink};
 use line_report::{write_number_behind, write_number_line, write_peak_end};
 use line_stats::peak;
+use outside_io::{Outgoing, Sink};
 use plant_model::{LineNumbers, Machine, Plant, bound_of};
 
 /// A finished run of a plant, and what was found of it beforehand: what writing its summary looks at.

@@ -1,9 +1,9 @@
 ghost use Rattle.std.specs.Prelude.{◌<◌, ◌^◌};
-ghost use Rattle.line_io.specs.Outgoing.{Pushed, stream};
+ghost use Rattle.outside_io.specs.Outgoing.{Pushed, stream};
 ghost use Rattle.line_summary.specs.SummaryText.{mean_words};
 ghost use Rattle.line_summary.specs.Thousandths.{three_digits, thousandths};
 
-use line_io::{Outgoing, Sink};
+use outside_io::{Outgoing, Sink};
 
 /// Gives the three digits of a number below 1,000 to the sink.
 fn push_three_digits<K: Sink>(out: &mut Outgoing, sink: &mut K, n: u64)

@@ -1,8 +1,8 @@
-/// A watcher of the stations' steps. It is called before every step, by the thread of the worker that makes it, and
+/// A watcher of the workers' sweeps. Each worker passes it before each of its sweeps, in the thread in which it sweeps. It
 /// answers nothing.
 pub trait Gate: Sync {
-    /// A worker is about to let a station make a step.
-    fn pass(&self, worker: u32, station: u32);
+    /// A worker is about to sweep: to give each of its stations a turn.
+    fn pass(&self, worker: u32);
 }
 
 /// The gate that does nothing.
@@ -10,5 +10,5 @@ pub trait Gate: Sync {
 pub struct FreeGate;
 
 impl Gate for FreeGate {
-    fn pass(&self, _worker: u32, _station: u32) {}
+    fn pass(&self, _worker: u32) {}
 }

@@ -37,6 +37,7 @@ pub const SWEEPS: u32 = 16;
 #[derive(Drop)]
 pub struct Worker {
     worker_number: u32,
+    // The first of its stations. Contracts alone read it.
     first: u32,
     // How many dates each station makes.
     target: u32,
@@ -129,9 +130,9 @@ impl Worker {
         matches!(stepped, Stepped::Fired)
     }
 
-    /// Lets station number `nth` of the order make a step, counted from 0, behind the gate. Answers whether it fired.
+    /// Lets station number `nth` of the order make a step, counted from 0. Answers whether it fired.
     #[inline(always)]
-    fn turn<G: Gate>(&mut self, live: &Live, gate: &G, nth: usize) -> bool
+    fn turn(&mut self, live: &Live, nth: usize) -> bool
         requires made_for { live.now ≡ self.old.live }
         requires nth { nth < length self.old.order }
         requires turns { TurnsBelow (2 ^ 40) self.old.team }
@@ -142,12 +143,11 @@ impl Worker {
             dates_made self.old.team + (if result then 1 else 0) }
     {
         let i = self.order[nth];
-        gate.pass(self.worker_number, self.first + i);
         self.step(live, i)
     }
 
-    /// Lets each station of the worker make one step, in the order of their ranks, with the gate before each step.
-    /// Answers the number of firings, by which the logs of its stations together grew. It takes no memory.
+    /// Passes the gate, and lets each station of the worker make one step then, in the order of their ranks. Answers the
+    /// number of firings, by which the logs of its stations together grew. It takes no memory.
     pub fn sweep<G: Gate>(&mut self, live: &Live, gate: &G) -> u64
         requires made_for { live.now ≡ self.old.live }
         requires turns { TurnsBelow (2 ^ 39) self.old.team }
@@ -161,9 +161,10 @@ impl Worker {
         ensures alone { (times : ℕ) → IsAlone self.old times → times < jobs self.old.live.graph →
             IsAlone self.new (times + 1) }
     {
+        gate.pass(self.worker_number);
         let mut fired = 0;
         for nth in 0..self.order.len() {
-            if self.turn(live, gate, nth) {
+            if self.turn(live, nth) {
                 fired += 1;
             }
         }

@@ -188,6 +188,14 @@ impl Line {
         }
     }
 
+    /// How many workers the line has.
+    pub fn worker_count(&self) -> u32
+        ensures count { result ≡ self.now.worker_count }
+        ensures line { IsLine self.now }
+    {
+        self.workers.len() as u32
+    }
+
     /// How many firings made the state that the line stands for.
     pub fn fired(&self) -> u64
         ensures fired { result ≡ firing_count self.now.state }

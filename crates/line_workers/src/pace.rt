@@ -8,9 +8,6 @@ const LOOKS: u32 = 20;
 /// How often a worker lets another thread run in a burst, at most. After that it waits for nobody.
 const ROUNDS: u64 = 400;
 
-/// Stands for no station.
-const NO_STATION: u64 = u64::MAX;
-
 /// What the workers of a burst that keep pace tell each other.
 #[derive(Drop)]
 pub(crate) struct Waits {
@@ -43,8 +40,6 @@ pub(crate) struct Pace<'a> {
     waits: &'a Waits,
     // How many sweeps the worker has begun.
     sweeps: AtomicU64,
-    // The station at which its sweeps begin, once it has made a step.
-    first: AtomicU64,
     // How often it has let another thread run.
     rounds: AtomicU64,
     // How often it has looked for the others.
@@ -57,21 +52,9 @@ impl<'a> Pace<'a> {
         Pace {
             waits,
             sweeps: AtomicU64::new(0),
-            first: AtomicU64::new(NO_STATION),
             rounds: AtomicU64::new(0),
             looks: AtomicU64::new(0),
         }
-    }
-
-    /// Whether a sweep begins at this station.
-    fn begins_at(&self, station: u32) -> bool {
-        let station = u64::from(station);
-        let first = self.first.load(Ordering::SeqCst);
-        if first == NO_STATION {
-            self.first.store(station, Ordering::SeqCst);
-            return true;
-        }
-        first == station
     }
 
     /// Looks for a moment whether this many sweeps have begun.
@@ -98,12 +81,8 @@ impl<'a> Pace<'a> {
         }
     }
 
-    /// The worker is about to let a station make a step. Where a sweep begins with it, looks for a while whether every
-    /// worker has begun as many sweeps as this one.
-    fn step(&self, station: u32) {
-        if !self.begins_at(station) {
-            return;
-        }
+    /// The worker is about to sweep: looks for a while whether every worker has begun as many sweeps as this one.
+    fn begin_sweep(&self) {
         let before = self.sweeps.fetch_add(1, Ordering::SeqCst);
         self.look_for(before.saturating_mul(self.waits.workers));
         self.waits.begun.fetch_add(1, Ordering::SeqCst);
@@ -127,8 +106,8 @@ pub(crate) struct PacedGate<'a, G> {
 }
 
 impl<'a, G: Gate> Gate for PacedGate<'a, G> {
-    fn pass(&self, worker: u32, station: u32) {
-        self.pace.step(station);
-        self.gate.pass(worker, station);
+    fn pass(&self, worker: u32) {
+        self.pace.begin_sweep();
+        self.gate.pass(worker);
     }
 }

@@ -3,19 +3,19 @@ use Rattle.std.proofs.Common.{◌≡◌, ◌⊎◌, ℕ, ◌≤◌, Bool, List, 
 use Rattle.std.specs.Prelude.{Result, Ok, Err, IfErr, IsErrAnd}
 use Rattle.std.proofs.lemmas.Result.{err_from_is_err_and}
 use Rattle.std.proofs.lemmas.List.Elements.{All-append, All-weaker}
-use Rattle.line_disk.specs.DiskView.{DiskView}
-use Rattle.line_io.specs.Calls.{Read, Write, Asked}
-use Rattle.line_io.specs.Contents.{Contents, SameFiles, IsTorn}
-use Rattle.line_io.specs.Faults.{NeverFall}
-use Rattle.line_io.specs.StoreView.{StoreView}
-use Rattle.line_io.specs.declared.store.StoreError.{StoreError}
-use Rattle.line_io.specs.declared.store.StoreError.TheVariants as store_error
+use Rattle.crash_disk.specs.DiskView.{DiskView}
+use Rattle.outside_io.specs.Calls.{Read, Write, Asked}
+use Rattle.outside_io.specs.Contents.{Contents, SameFiles, IsTorn}
+use Rattle.outside_io.specs.Faults.{NeverFall}
+use Rattle.outside_io.specs.StoreView.{StoreView}
+use Rattle.outside_io.specs.declared.store.StoreError.{StoreError}
+use Rattle.outside_io.specs.declared.store.StoreError.TheVariants as store_error
 use Rattle.live_plant.specs.declared.refusals.refusal.Refusal.{Refusal}
 use Rattle.live_plant.specs.declared.refusals.refusal.Refusal.TheVariants.{NoMemory, StoreFault, TooLong, Disk}
 use Rattle.live_plant.specs.Actions.{DiskOver, Action, Plainly, ThenDoes, with_asked, LeavesFile, RaisesCount, Changes, HasCause, Does, DoesOnStore, DoesOnDisk}
-use Rattle.live_plant.specs.Outside.{StoreOver, store_over, with_reads, IsOfFile, IsCaused}
+use Rattle.live_plant.specs.Outside.{StoreOver, store_over, with_reads, IsOfFile, IsCaused, NeedsNoCause}
 use Rattle.live_plant.specs.Steps.{Step, Settles, Then, Makes}
-use Rattle.live_plant.proofs.StepLemmas.{fits_along, NeedsNoCause, settled_is_caused, settles, then_makes, then_settles, then_stops}
+use Rattle.live_plant.proofs.StepLemmas.{fits_along, settled_is_caused, settles, then_makes, then_settles, then_stops}
 
 -- reads more, as reads and writes more
 reads_asked : (asked : Asked) (reads : List Read) → with_reads asked reads ≡ with_asked asked (record { reads = reads; writes = [] })

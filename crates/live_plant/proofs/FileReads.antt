@@ -3,12 +3,12 @@ use Rattle.std.proofs.Common.{◌≡◌, ◌≢◌, ◌⊎◌, ℕ, ◌<◌, ◌
 use Rattle.std.specs.Prelude.{Result, Ok, Err, IfErr, IsTrue, Some}
 use Rattle.std.proofs.lemmas.List.Elements.{All-nil, All-cons}
 use Rattle.line_base.specs.declared.event.Parts.{Parts}
-use Rattle.line_io.specs.Calls.{Read}
-use Rattle.line_io.specs.Contents.{SameFiles, IsLongerThan}
-use Rattle.line_io.specs.Faults.{Rose, NeverFall}
-use Rattle.line_io.specs.StoreView.{StoreView}
-use Rattle.line_io.specs.declared.store.StoreError.{StoreError}
-use Rattle.line_io.specs.declared.store.StoreError.TheVariants as store_error
+use Rattle.outside_io.specs.Calls.{Read}
+use Rattle.outside_io.specs.Contents.{SameFiles, IsLongerThan}
+use Rattle.outside_io.specs.Faults.{Rose, NeverFall}
+use Rattle.outside_io.specs.StoreView.{StoreView}
+use Rattle.outside_io.specs.declared.store.StoreError.{StoreError}
+use Rattle.outside_io.specs.declared.store.StoreError.TheVariants as store_error
 use Rattle.plant_file.specs.declared.draft.DraftPlant.{DraftPlant}
 use Rattle.plant_file.specs.Finish.{completed_plant}
 use Rattle.plant_model.specs.declared.error.PlantError.{PlantError}
@@ -20,8 +20,9 @@ use Rattle.live_plant.specs.declared.refusals.refusal.Refusal.TheVariants.{NoMem
 use Rattle.live_plant.specs.Outside.{StoreOver, store_over, limit_of, with_reads, IsOfFile, IsCaused}
 use Rattle.live_plant.specs.Refused.{IsFaultOf, refusal_of}
 use Rattle.live_plant.specs.Steps.{LooksAt, Makes}
-use Rattle.live_plant.specs.PlantSteps.{or_refused, IsDeadRefusal, IsLiveOrDead}
-use Rattle.live_plant.proofs.StepLemmas.{NeedsNoCause}
+use Rattle.live_plant.specs.PlantSteps.{or_refused}
+use Rattle.live_plant.specs.LiveSteps.{IsDeadRefusal, IsLiveOrDead}
+use Rattle.live_plant.specs.Outside.{NeedsNoCause}
 
 -- a read of a store that only added itself to what was asked
 abbrev pub one_read : (name : List ℕ) (given : Result (List ℕ) StoreError) → List Read

@@ -9,6 +9,7 @@ pub mod LintReads
 pub mod Lists
 pub mod Names
 pub mod NoneRefused
+pub mod OneReading
 pub mod PlantsOfFiles
 mod RefusalLines
 pub mod ScheduleErrors

@@ -4,11 +4,11 @@ use Rattle.std.specs.Prelude.{Option, Some, None, Result, Ok, Err, IfOk, IfErr, 
 use Rattle.std.proofs.lemmas.List.Elements.{All-nil, All-cons, All-head, All-tail}
 use Rattle.event_graph.specs.Live.{IsLive}
 use Rattle.line_base.specs.declared.event.Parts.{Parts}
-use Rattle.line_io.specs.Calls.{Read}
-use Rattle.line_io.specs.Contents.{Contents}
-use Rattle.line_io.specs.StoreView.{StoreView}
-use Rattle.line_io.specs.declared.store.StoreError.{StoreError}
-use Rattle.line_io.specs.declared.store.StoreError.TheVariants as store_error
+use Rattle.outside_io.specs.Calls.{Read}
+use Rattle.outside_io.specs.Contents.{Contents}
+use Rattle.outside_io.specs.StoreView.{StoreView}
+use Rattle.outside_io.specs.declared.store.StoreError.{StoreError}
+use Rattle.outside_io.specs.declared.store.StoreError.TheVariants as store_error
 use Rattle.plant_model.specs.declared.error.PlantError.{PlantError}
 use Rattle.plant_model.specs.declared.plant.Plant.{Plant}
 use Rattle.plant_model.specs.Graph.{graph}
@@ -24,7 +24,8 @@ use Rattle.live_plant.specs.Outside.{StoreOver, store_over, Fits, IsOfFile, IsCa
 use Rattle.live_plant.specs.Steps.{Step, Settles, Gives, AnswersRead, LooksAt, LooksAtNamed, GoesOn, Then, Makes}
 use Rattle.live_plant.proofs.FileReads.{stopped, dead_caused, dead_answer}
 use Rattle.live_plant.proofs.StepLemmas.{then_settles}
-use Rattle.live_plant.specs.PlantSteps.{or_refused, OfDraft, OfBytes, OfPlantFile, OfLivePlant, OfPlantNamed, IsDeadRefusal, IsLiveOrDead, IsOfPlant}
+use Rattle.live_plant.specs.PlantSteps.{or_refused, OfDraft, OfBytes, OfPlantFile}
+use Rattle.live_plant.specs.LiveSteps.{OfLivePlant, OfPlantNamed, IsDeadRefusal, IsLiveOrDead, IsOfPlant}
 use Rattle.live_plant.specs.declared.live_plant.LivePlant.{LivePlant}
 
 -- each of a list, and so each of its two parts

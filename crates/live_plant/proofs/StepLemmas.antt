@@ -3,15 +3,15 @@ use Rattle.std.proofs.Common.{◌≡◌, ◌⊎◌, ℕ, Bool, List, [], ◌++�
 use Rattle.std.specs.Prelude.{Result, Ok, Err, IfErr, IsErrAnd, ⊤}
 use Rattle.std.proofs.lemmas.Result.{err_from_is_err_and}
 use Rattle.std.proofs.lemmas.List.Elements.{All-nil, All-append, All-weaker}
-use Rattle.line_io.specs.Calls.{Read, Asked}
-use Rattle.line_io.specs.Contents.{Contents, SameFiles, IsLongerThan}
-use Rattle.line_io.specs.Faults.{NeverFall}
-use Rattle.line_io.specs.StoreView.{StoreView}
-use Rattle.line_io.specs.declared.store.StoreError.{StoreError}
-use Rattle.line_io.specs.declared.store.StoreError.TheVariants as store_error
+use Rattle.outside_io.specs.Calls.{Read, Asked}
+use Rattle.outside_io.specs.Contents.{Contents, SameFiles, IsLongerThan}
+use Rattle.outside_io.specs.Faults.{NeverFall}
+use Rattle.outside_io.specs.StoreView.{StoreView}
+use Rattle.outside_io.specs.declared.store.StoreError.{StoreError}
+use Rattle.outside_io.specs.declared.store.StoreError.TheVariants as store_error
 use Rattle.live_plant.specs.declared.refusals.refusal.Refusal.{Refusal}
 use Rattle.live_plant.specs.declared.refusals.refusal.Refusal.TheVariants.{Disk, NoMemory, StoreFault, TooLong}
-use Rattle.live_plant.specs.Outside.{StoreOver, store_over, limit_of, with_reads, Fits, IsOfFile, IsCaused}
+use Rattle.live_plant.specs.Outside.{StoreOver, store_over, limit_of, with_reads, Fits, IsOfFile, IsCaused, NeedsNoCause}
 use Rattle.live_plant.specs.Steps.{Step, Settles, Then, Makes}
 
 -- reads after reads
@@ -28,13 +28,7 @@ fits_along tells files between same name (Err store_error.TooLong) fits = λ kno
 fits_along tells files between same name (Err store_error.Failed) fits = tt
 fits_along tells files between same name (Err store_error.NoMemory) fits = tt
 
--- refusals that need no cause, over whatever store
-abbrev pub NeedsNoCause : Refusal → Type 0
-NeedsNoCause (StoreFault file) = ⊥
-NeedsNoCause (TooLong file) = ⊥
-NeedsNoCause Disk = ⊥
-NeedsNoCause other = ⊤
-
+-- refusals that need no cause have it, over whatever store
 pub needs_none : (store : StoreOver) (refusal : Refusal) → NeedsNoCause refusal → IsCaused store refusal
 needs_none store (StoreFault file) none = absurd none
 needs_none store (TooLong file) none = absurd none

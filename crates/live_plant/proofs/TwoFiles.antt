@@ -2,12 +2,12 @@
 -- bytes.
 use Rattle.std.proofs.Common.{◌≡◌, ◌⊎◌, Bool, Option, ℕ, List, Result, ap, subst, ⊎_elim, inr}
 use Rattle.std.specs.Prelude.{Ok, Err, IfErr, IsErrAnd}
-use Rattle.line_io.specs.StoreView.{StoreView}
-use Rattle.line_io.specs.Calls.{Read}
+use Rattle.outside_io.specs.StoreView.{StoreView}
+use Rattle.outside_io.specs.Calls.{Read}
 use Rattle.live_plant.specs.declared.files.NamedFiles.{NamedFiles}
 use Rattle.live_plant.specs.declared.refusals.refusal.Refusal.{Refusal}
 use Rattle.live_plant.specs.declared.refusals.refusal.Refusal.TheVariants.{NoMemory}
-use Rattle.live_plant.specs.Outside.{store_over, IsCaused}
+use Rattle.live_plant.specs.Outside.{StoreOver, store_over, IsCaused}
 use Rattle.live_plant.specs.Steps.{Step, Settles, GoesOn, LooksAtNamed, Then, Makes}
 use Rattle.live_plant.proofs.StepLemmas.{then_makes, then_settles, then_hands_on}
 
@@ -54,35 +54,42 @@ second_goes_on P x files answer (Ok y) after on holds =
     (on.0, ⊎_elim (λ is. let same : files ≡ both = cc in subst (λ (f : NamedFiles). Holds P f answer) same holds) (λ none. absurd (cc)) on.1)
 second_goes_on P x files answer (Err refusal) after on holds = absurd (let no = on.1 in cc)
 
-first_goes_on : {A : Type 0} (second : Option (List ℕ)) (P : Option (List ℕ) → Option (List ℕ) → Result A Refusal → Type 0) (files : NamedFiles) (answer : Result A Refusal) (between : Result (Option (List ℕ)) Refusal) (after : List Read) → GoesOn (AfterFirst second AreBoth) between after (Ok files) → Holds P files answer → GoesOn (AfterFirst second P) between after answer
-first_goes_on second P files answer (Ok x) after on holds = record {
-  before = on.before;
-  after = on.after;
-  split = on.split;
-  between = on.between;
-  answers = on.answers;
-  goes_on = second_goes_on P x files answer on.between on.after on.goes_on holds;
-}
-first_goes_on second P files answer (Err refusal) after on holds = absurd (let no = on.1 in cc)
-
-pub both_given : {A : Type 0} (tells : Bool) (old new : StoreView) (first second : Option (List ℕ)) (P : Option (List ℕ) → Option (List ℕ) → Result A Refusal → Type 0) (files : NamedFiles) (answer : Result A Refusal) → Makes (store_over tells old new) (ByBoth first second AreBoth) (Ok files) → Holds P files answer → IfErr answer (IsCaused (store_over tells old new)) → Makes (store_over tells old new) (ByBoth first second P) answer
-both_given tells old new first second P files answer m holds caused = record {
+-- a step that answers something else and read the same
+made_of : {A B : Type 0} (store : StoreOver) (step : Step A) (other : Step B) (found : Result A Refusal) (answer : Result B Refusal) (m : Makes store step found) → other m.reads answer → IfErr answer (IsCaused store) → Makes store other answer
+made_of store step other found answer m answers caused = record {
   reads = m.reads;
   asked = m.asked;
   of_files = m.of_files;
-  answers = record {
-    before = m.answers.before;
-    after = m.answers.after;
-    split = m.answers.split;
-    between = m.answers.between;
-    answers = m.answers.answers;
-    goes_on = first_goes_on second P files answer m.answers.between m.answers.after m.answers.goes_on holds;
-  };
+  answers = answers;
   caused = caused;
   files_stay = m.files_stay;
   read_faults_stay_or_rise = m.read_faults_stay_or_rise;
   write_faults_stay_or_rise = m.write_faults_stay_or_rise;
 }
+
+-- another way on from the same first step
+other_way : {X A B : Type 0} (first : Step X) (next : X → Step A) (other : X → Step B) (reads : List Read) (found : Result A Refusal) (answer : Result B Refusal) (m : Then first next reads found) → GoesOn other m.between m.after answer → Then first other reads answer
+other_way first next other reads found answer m on = record {
+  before = m.before;
+  after = m.after;
+  split = m.split;
+  between = m.between;
+  answers = m.answers;
+  goes_on = on;
+}
+
+first_goes_on : {A : Type 0} (second : Option (List ℕ)) (P : Option (List ℕ) → Option (List ℕ) → Result A Refusal → Type 0) (files : NamedFiles) (answer : Result A Refusal) (between : Result (Option (List ℕ)) Refusal) (after : List Read) → GoesOn (AfterFirst second AreBoth) between after (Ok files) → Holds P files answer → GoesOn (AfterFirst second P) between after answer
+first_goes_on second P files answer (Ok x) after on holds =
+    other_way (LooksAtNamed second) (λ y. Settles (AreBoth x y)) (λ y. Settles (P x y)) after (Ok files) answer on
+    (second_goes_on P x files answer on.between on.after on.goes_on holds)
+first_goes_on second P files answer (Err refusal) after on holds = absurd (let no = on.1 in cc)
+
+pub both_given : {A : Type 0} (tells : Bool) (old new : StoreView) (first second : Option (List ℕ)) (P : Option (List ℕ) → Option (List ℕ) → Result A Refusal → Type 0) (files : NamedFiles) (answer : Result A Refusal) → Makes (store_over tells old new) (ByBoth first second AreBoth) (Ok files) → Holds P files answer → IfErr answer (IsCaused (store_over tells old new)) → Makes (store_over tells old new) (ByBoth first second P) answer
+both_given tells old new first second P files answer m holds caused =
+    made_of (store_over tells old new) (ByBoth first second AreBoth) (ByBoth first second P) (Ok files) answer m
+    (other_way (LooksAtNamed first) (AfterFirst second AreBoth) (AfterFirst second P) m.reads (Ok files) answer m.answers
+    (first_goes_on second P files answer m.answers.between m.answers.after m.answers.goes_on holds))
+    caused
 
 -- and a refusal, where it didn't
 second_stops : {A : Type 0} (P : Option (List ℕ) → Option (List ℕ) → Result A Refusal → Type 0) (x : Option (List ℕ)) (refusal : Refusal) (between : Result (Option (List ℕ)) Refusal) (after : List Read) → GoesOn (λ y. Settles (AreBoth x y)) between after (Err refusal) → GoesOn {B = A} (λ y. Settles (P x y)) between after (Err refusal)
@@ -91,31 +98,14 @@ second_stops P x refusal (Ok y) after on =
 second_stops P x refusal (Err stop) after on = let is = on.1 in let same : refusal ≡ stop = cc in (on.0, ap Err same)
 
 first_stops : {A : Type 0} (second : Option (List ℕ)) (P : Option (List ℕ) → Option (List ℕ) → Result A Refusal → Type 0) (refusal : Refusal) (between : Result (Option (List ℕ)) Refusal) (after : List Read) → GoesOn (AfterFirst second AreBoth) between after (Err refusal) → GoesOn {B = A} (AfterFirst second P) between after (Err refusal)
-first_stops second P refusal (Ok x) after on = record {
-  before = on.before;
-  after = on.after;
-  split = on.split;
-  between = on.between;
-  answers = on.answers;
-  goes_on = second_stops P x refusal on.between on.after on.goes_on;
-}
+first_stops second P refusal (Ok x) after on =
+    other_way (LooksAtNamed second) (λ y. Settles (AreBoth x y)) (λ y. Settles (P x y)) after (Err refusal) (Err refusal) on
+    (second_stops P x refusal on.between on.after on.goes_on)
 first_stops second P refusal (Err stop) after on = let is = on.1 in let same : refusal ≡ stop = cc in (on.0, ap Err same)
 
 pub none_given : {A : Type 0} (tells : Bool) (old new : StoreView) (first second : Option (List ℕ)) (P : Option (List ℕ) → Option (List ℕ) → Result A Refusal → Type 0) (refusal : Refusal) → Makes {A = NamedFiles} (store_over tells old new) (ByBoth first second AreBoth) (Err refusal) → Makes {A = A} (store_over tells old new) (ByBoth first second P) (Err refusal)
-none_given tells old new first second P refusal m = record {
-  reads = m.reads;
-  asked = m.asked;
-  of_files = m.of_files;
-  answers = record {
-    before = m.answers.before;
-    after = m.answers.after;
-    split = m.answers.split;
-    between = m.answers.between;
-    answers = m.answers.answers;
-    goes_on = first_stops second P refusal m.answers.between m.answers.after m.answers.goes_on;
-  };
-  caused = m.caused;
-  files_stay = m.files_stay;
-  read_faults_stay_or_rise = m.read_faults_stay_or_rise;
-  write_faults_stay_or_rise = m.write_faults_stay_or_rise;
-}
+none_given tells old new first second P refusal m =
+    made_of (store_over tells old new) (ByBoth first second AreBoth) (ByBoth first second P) (Err refusal) (Err refusal) m
+    (other_way (LooksAtNamed first) (AfterFirst second AreBoth) (AfterFirst second P) m.reads (Err refusal) (Err refusal) m.answers
+    (first_stops second P refusal m.answers.between m.answers.after m.answers.goes_on))
+    m.caused

@@ -1,12 +1,12 @@
 -- The last step of a command, which may also write a file, and use the slots of a disk.
 use Rattle.std.specs.Prelude.{◌≡◌, ◌⊎◌, ℕ, ◌<◌, ◌≤◌, List, [], ◌∷◌, ◌++◌, Bool, IsTrue, Some, Result, Ok, Err, IfErr, All, Any, ⊤}
-use Rattle.line_disk.specs.DiskView.{DiskView}
-use Rattle.line_io.specs.Calls.{Read, Write, Asked, none_asked}
-use Rattle.line_io.specs.Contents.{Contents, SameFiles, OthersStay, IsTorn}
-use Rattle.line_io.specs.Faults.{Rose, NeverFall}
-use Rattle.line_io.specs.StoreView.{StoreView}
-use Rattle.line_io.specs.declared.store.StoreError.{StoreError}
-use Rattle.line_io.specs.declared.store.StoreError.TheVariants as store_error
+use Rattle.crash_disk.specs.DiskView.{DiskView}
+use Rattle.outside_io.specs.Calls.{Read, Write, Asked, none_asked}
+use Rattle.outside_io.specs.Contents.{Contents, SameFiles, OthersStay, IsTorn}
+use Rattle.outside_io.specs.Faults.{Rose, NeverFall}
+use Rattle.outside_io.specs.StoreView.{StoreView}
+use Rattle.outside_io.specs.declared.store.StoreError.{StoreError}
+use Rattle.outside_io.specs.declared.store.StoreError.TheVariants as store_error
 use Rattle.live_plant.specs.declared.refusals.refusal.Refusal.{Refusal}
 use Rattle.live_plant.specs.declared.refusals.refusal.Refusal.TheVariants.{Disk, StoreFault, TooLong}
 use Rattle.live_plant.specs.Outside.{StoreOver, store_over, limit_of, IsOfFile}

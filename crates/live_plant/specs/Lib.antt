@@ -5,10 +5,12 @@ pub mod DeadLine
 pub mod Generator
 pub mod LintSteps
 pub mod LivePlant
+pub mod LiveSteps
 pub mod Outside
 pub mod PlantSteps
 pub mod Refusal
 pub mod Refusals
 pub mod Refused
 pub mod Schedules
+pub mod Sources
 pub mod Steps

@@ -7,24 +7,24 @@ use Rattle.plant_file.specs.Finish.{plant_of_bytes}
 use Rattle.plant_lint.specs.DraftLints.{lint_of_draft}
 use Rattle.plant_lint.specs.FileLints.{LintsFile}
 use Rattle.plant_lint.specs.PlantLints.{clean_text}
-use Rattle.plant_lint.specs.declared.file.FileLint.{FileLint}
-use Rattle.plant_lint.specs.declared.file.FileLint.TheVariants as lint
+use Rattle.plant_lint.specs.declared.lint.Lint.{Lint}
+use Rattle.plant_lint.specs.declared.lint.Lint.TheVariants as lint
 use Rattle.plant_model.specs.declared.plant.Plant.{Plant}
 use Rattle.plant_model.specs.Graph.{graph}
 use Rattle.live_plant.specs.declared.refusals.refusal.Refusal.{Refusal}
 use Rattle.live_plant.specs.declared.refusals.refusal.Refusal.TheVariants.{Faults}
-use Rattle.live_plant.specs.PlantSteps.{IsDeadRefusal}
+use Rattle.live_plant.specs.LiveSteps.{IsDeadRefusal}
 use Rattle.live_plant.specs.Steps.{Step, Settles, LooksAt, LooksAtNamed, Then}
 use Rattle.live_plant.specs.declared.sound_file.SoundFile.{SoundFile}
 
 -- a file of which something is said is refused with these lines
-abbrev pub IsRefusedWith : FileLint → Refusal → Type 0
+abbrev pub IsRefusedWith : Lint → Refusal → Type 0
 IsRefusedWith (lint.Refused lines) refusal = refusal ≡ Faults lines
 IsRefusedWith (lint.Sound notes) refusal = ⊥
 
 -- what lint says of bytes that it refuses
 pub record IsRefusedFile (bytes : List ℕ) (refusal : Refusal) : Type 0 where
-  pub said : FileLint
+  pub said : Lint
   pub lints : LintsFile bytes said
   pub refused : IsRefusedWith said refusal
 
@@ -40,7 +40,7 @@ IsCleanOrDead p text (Ok same) = (same ≡ text) × IsLive (graph p)
 IsCleanOrDead p text (Err refusal) = IsDeadRefusal (graph p) refusal
 
 -- what is answered by what lint says of a plant
-abbrev pub IsSaid : Plant → List ℕ → FileLint → Result (List ℕ) Refusal → Type 0
+abbrev pub IsSaid : Plant → List ℕ → Lint → Result (List ℕ) Refusal → Type 0
 IsSaid p notes (lint.Refused lines) answer = answer ≡ Err (Faults lines)
 IsSaid p notes (lint.Sound more) answer = IsCleanOrDead p (clean_text notes more) answer
 

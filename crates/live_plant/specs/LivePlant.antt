@@ -9,11 +9,11 @@ use Rattle.live_plant.specs.declared.refusals.refusal.Refusal.{Refusal}
 
 -- the plant, or the refusal where there is none
 abbrev pub plant_in : Result LivePlant Refusal → Result Plant Refusal
-plant_in (Ok line) = Ok line.plant
+plant_in (Ok live) = Ok live.plant
 plant_in (Err refusal) = Err refusal
 
 -- the plant is sound, the label of each station is one, and the live graph is the plant's graph
-pub record IsLivePlant (line : LivePlant) : Type 0 where
-  pub sound : IsSound line.plant
-  pub labels : HasLabels (graph line.plant)
-  pub graph : line.live.graph ≡ graph line.plant
+pub record IsLivePlant (live : LivePlant) : Type 0 where
+  pub sound : IsSound live.plant
+  pub labels : HasLabels (graph live.plant)
+  pub graph : live.live.graph ≡ graph live.plant

@@ -2,13 +2,13 @@
 use Rattle.std.specs.Prelude.{◌≡◌, ℕ, ◌<◌, ◌≤◌, List, ◌++◌, length, Bool, IsTrue, if◌then◌else◌, Some, Result, Ok, Err, ⊤}
 use Rattle.line_base.specs.Limits.{most_file_bytes, most_checkpoint_bytes}
 use Rattle.line_base.specs.Text.{is_checkpoint_name}
-use Rattle.line_io.specs.Calls.{Read, Asked}
-use Rattle.line_io.specs.Contents.{Contents, IsLongerThan}
-use Rattle.line_io.specs.Faults.{Rose}
-use Rattle.line_io.specs.SinkView.{SinkView}
-use Rattle.line_io.specs.StoreView.{StoreView}
-use Rattle.line_io.specs.declared.store.StoreError.{StoreError}
-use Rattle.line_io.specs.declared.store.StoreError.TheVariants as store_error
+use Rattle.outside_io.specs.Calls.{Read, Asked}
+use Rattle.outside_io.specs.Contents.{Contents, IsLongerThan}
+use Rattle.outside_io.specs.Faults.{Rose}
+use Rattle.outside_io.specs.SinkView.{SinkView}
+use Rattle.outside_io.specs.StoreView.{StoreView}
+use Rattle.outside_io.specs.declared.store.StoreError.{StoreError}
+use Rattle.outside_io.specs.declared.store.StoreError.TheVariants as store_error
 use Rattle.live_plant.specs.declared.refusals.refusal.Refusal.{Refusal}
 use Rattle.live_plant.specs.declared.refusals.refusal.Refusal.TheVariants.{Disk, StoreFault, TooLong}
 
@@ -56,3 +56,10 @@ IsCaused store (StoreFault file) = Rose (store.old.read_faults file) (store.new.
 IsCaused store (TooLong file) = limit_of file < store.new.taken
 IsCaused store Disk = ⊥
 IsCaused store other = ⊤
+
+-- refusals that need no cause, over whatever store and disk: no file failed, none is too long, nor did a disk fail
+abbrev pub NeedsNoCause : Refusal → Type 0
+NeedsNoCause (StoreFault file) = ⊥
+NeedsNoCause (TooLong file) = ⊥
+NeedsNoCause Disk = ⊥
+NeedsNoCause other = ⊤

@@ -1,11 +1,11 @@
 -- The steps of a command. A step makes reads, and then answers a value to go on with, or the refusal that the command
 -- ends with.
 use Rattle.std.specs.Prelude.{◌≡◌, ◌⊎◌, ℕ, List, [], ◌∷◌, ◌++◌, Option, Some, None, Result, Ok, Err, IfErr, All}
-use Rattle.line_io.specs.Calls.{Read}
-use Rattle.line_io.specs.Contents.{SameFiles}
-use Rattle.line_io.specs.Faults.{NeverFall}
-use Rattle.line_io.specs.declared.store.StoreError.{StoreError}
-use Rattle.line_io.specs.declared.store.StoreError.TheVariants as store_error
+use Rattle.outside_io.specs.Calls.{Read}
+use Rattle.outside_io.specs.Contents.{SameFiles}
+use Rattle.outside_io.specs.Faults.{NeverFall}
+use Rattle.outside_io.specs.declared.store.StoreError.{StoreError}
+use Rattle.outside_io.specs.declared.store.StoreError.TheVariants as store_error
 use Rattle.live_plant.specs.Outside.{StoreOver, with_reads, IsOfFile, IsCaused}
 use Rattle.live_plant.specs.declared.refusals.refusal.Refusal.{Refusal}
 use Rattle.live_plant.specs.declared.refusals.refusal.Refusal.TheVariants.{NoMemory, StoreFault, TooLong}

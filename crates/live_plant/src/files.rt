@@ -11,7 +11,7 @@ ghost use Rattle.live_plant.specs.declared.refusals.refusal.Refusal.TheVariants.
 use crate::refusals::Refusal;
 use command_line::FileName;
 use line_base::{Items, MAX_CHECKPOINT_BYTES, MAX_FILE_BYTES, is_checkpoint_name};
-use line_io::{Store, StoreError};
+use outside_io::{Store, StoreError};
 use plant_file::{Draft, complete_draft, read_plant};
 use plant_model::{Plant, PlantError};
 use std::alloc::Global;

@@ -11,6 +11,7 @@ mod lint;
 mod live_plant;
 mod refusals;
 mod sound_file;
+mod source;
 
 pub use big::big_plant;
 pub use command_line::FileName;
@@ -21,3 +22,4 @@ pub use lint::lint_plant_file;
 pub use live_plant::{LivePlant, live_graph, live_plant_of, read_live_plant};
 pub use refusals::{OUT_OF_MEMORY, Refusal, checkpoint_refusal, cycle_refusal, schedule_refusal};
 pub use sound_file::SoundFile;
+pub use source::read_source;

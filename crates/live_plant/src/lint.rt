@@ -1,8 +1,6 @@
 //! What lint says of a plant file and of the files that it names.
 ghost use Rattle.std.specs.Prelude.{◌≡◌, ◌⊎◌, Ok, Err};
-ghost use Rattle.plant_lint.specs.FileLints.{LintsFile};
 ghost use Rattle.plant_lint.specs.PlantLints.{clean_text};
-ghost use Rattle.plant_lint.specs.declared.file.FileLint.TheVariants as lint;
 ghost use Rattle.plant_model.specs.Sound.{IsSound};
 ghost use Rattle.live_plant.specs.declared.refusals.refusal.Refusal.TheVariants.{NoMemory};
 ghost use Rattle.live_plant.specs.LintSteps.{IsCleanOrDead, IsDraftLint, IsFileLint, LintsDraft, LintsPlant};
@@ -15,8 +13,7 @@ use crate::live_plant::live_graph;
 use crate::refusals::Refusal;
 use crate::sound_file::SoundFile;
 use line_base::{Items, Text};
-use line_io::Store;
-use plant_file::{Draft, read_plant};
+use outside_io::Store;
 use plant_lint::{DraftLint, FileLint, clean_text, lint_draft, lint_file};
 use plant_model::Plant;
 use std::alloc::Global;
@@ -42,19 +39,8 @@ fn sound_file(alloc: Global, bytes: Items<u8>) -> Result<SoundFile, Refusal>
     ensures { IsFileLint bytes result ⊎ (result ≡ Err NoMemory) }
 {
     match lint_file(alloc, bytes.as_slice()) {
-        Ok(FileLint::Sound { notes }) => file_with(alloc, bytes.as_slice(), notes),
+        Ok(FileLint::Sound { draft, notes }) => Ok(SoundFile { notes, draft }),
         Ok(FileLint::Refused { lines }) => Err(Refusal::Faults { lines }),
-        Err(_) => Err(Refusal::NoMemory),
-    }
-}
-
-/// The plant file of bytes of which lint has these notes. Such bytes are a draft, so only memory may be missing.
-fn file_with(alloc: Global, bytes: &[u8], notes: Text) -> Result<SoundFile, Refusal>
-    requires { LintsFile bytes.now (lint.Sound notes) }
-    ensures { IsFileLint bytes.now result ⊎ (result ≡ Err NoMemory) }
-{
-    match read_plant(alloc, bytes) {
-        Ok(draft) => Ok(SoundFile { notes, draft }),
         Err(_) => Err(Refusal::NoMemory),
     }
 }

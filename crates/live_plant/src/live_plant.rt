@@ -6,15 +6,15 @@ ghost use Rattle.plant_model.specs.Graph.{graph};
 ghost use Rattle.plant_model.specs.Sound.{IsSound};
 ghost use Rattle.live_plant.specs.LivePlant.{plant_in, IsLivePlant};
 ghost use Rattle.live_plant.specs.Outside.{store_over};
-ghost use Rattle.live_plant.specs.PlantSteps.{OfPlantNamed, IsDeadRefusal};
+ghost use Rattle.live_plant.specs.LiveSteps.{OfPlantNamed, IsDeadRefusal};
 ghost use Rattle.live_plant.specs.Steps.{Makes};
 
 use crate::files::read_plant_files;
 use crate::refusals::Refusal;
 use event_graph::Graph;
 use line_graph::{dead_labels, graph_of};
-use line_io::Store;
 use live_check::{Live, NotLive, rank};
+use outside_io::Store;
 use plant_model::Plant;
 use std::alloc::Global;
 
@@ -44,7 +44,7 @@ pub fn read_live_plant<S: Store>(
 /// The live plant of a plant, or the circuit without a token that its graph has.
 pub fn live_plant_of(alloc: Global, plant: Plant) -> Result<LivePlant, Refusal>
     requires { IsSound plant }
-    ensures plant { IfOk result (λ line. line.plant ≡ plant) }
+    ensures plant { IfOk result (λ live. live.plant ≡ plant) }
     ensures line { IfOk result IsLivePlant }
     ensures live { OnOk result (IsLive (graph plant)) }
     ensures dead { IfErr result (λ refusal. IsDeadRefusal (graph plant) refusal ⊎ (refusal ≡ Refusal.NoMemory)) }

@@ -1,5 +1,5 @@
 -- The names of a tree differ where those of its draft do.
-use Rattle.std.proofs.Common.{◌≡◌, ℕ, zero, suc, ◌+◌, true, false, ◌==◌, List, [], ◌∷◌, map, take, refl, ap, sym, ◌∙◌, codes}
+use Rattle.std.proofs.Common.{◌≡◌, ℕ, zero, suc, ◌+◌, true, false, ◌==◌, List, [], ◌∷◌, ◌++◌, map, take, refl, ap, sym, ◌∙◌, codes}
 use Rattle.std.specs.Prelude.{bytes_eq}
 use Rattle.std.specs.List.{list_any}
 use Rattle.std.proofs.lemmas.Bool.{eqb-true, eq-eqb, ne_eqb, eqb-false}
@@ -10,10 +10,17 @@ use Rattle.plant_model.specs.Place.{key_of}
 use Rattle.plant_model.specs.Refusals.{each_from, each, refuse_if}
 use Rattle.toml.specs.Data.{Data}
 use Rattle.plant_model.specs.Refusals as model
-use Rattle.plant_keys.specs.Walk as tree
+use Rattle.plant_keys.specs.Rules as tree
 use Rattle.plant_keys.specs.Readers.{name_in, tables_at, stage_names}
 use Rattle.plant_file.specs.Reading.{machine_of, stage_of, draft_of}
-use Rattle.plant_keys.proofs.KeyLists.{each_map}
+
+each_from_map : {X Y : Type 0} (f : ℕ → Y → List PlantError) (g : X → Y) (k : ℕ) (xs : List X) → each_from f k (map g xs) ≡ each_from (λ i x. f i (g x)) k xs
+each_from_map f g k [] = refl
+each_from_map f g k (x ∷ xs) = ap (λ rest. f k (g x) ++ rest) (each_from_map f g (k + 1) xs)
+
+-- what is refused of each of a list, of which each is made of another
+pub each_map : {X Y : Type 0} (f : ℕ → Y → List PlantError) (g : X → Y) (xs : List X) → each f (map g xs) ≡ each (λ i x. f i (g x)) xs
+each_map f g xs = each_from_map f g 0 xs
 
 nat_eq-sym : (x y : ℕ) → (x == y) ≡ (y == x)
 nat_eq-sym x y =

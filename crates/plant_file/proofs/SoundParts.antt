@@ -17,7 +17,7 @@ use Rattle.plant_keys.specs.declared.keys.Kind.TheVariants.{StageName, Numbers, 
 use Rattle.plant_keys.specs.Readers.{is_filled}
 use Rattle.plant_file.specs.Draft.{are_up_to, are_sound_times, is_sound_machine, is_sound_loop, is_sound_policy, are_sound_demands}
 use Rattle.plant_keys.specs.Readers.{number_in, number_of, number_at, numbers_at, elements_of, tables_of, text_of, has}
-use Rattle.plant_keys.specs.Walk.{out_unless, value_refusals, absence_refusals}
+use Rattle.plant_keys.specs.Rules.{out_unless, value_refusals, absence_refusals}
 use Rattle.plant_file.specs.Reading.{machine_of, loop_of, policy_of, count_at, time_at, column_at}
 
 if_holds : (P : ℕ → Bool) (b : Bool) (x d : ℕ) → (b ≡ true → P x ≡ true) → P d ≡ true → P (if b then x else d) ≡ true

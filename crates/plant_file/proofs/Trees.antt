@@ -1,8 +1,6 @@
 -- The tree that bytes are, from what toml's reader answers, and the exits of the reader of a tree.
 use Rattle.std.proofs.Common.{◌≡◌, ◌≢◌, ℕ, List, [], ◌∷◌, ◌++◌, Bool, true, false, cond, Option, Some, None, option_map, Result, Ok, Err, refl, ap, sym}
-use Rattle.std.specs.Prelude.{IsErrAnd}
 use Rattle.std.specs.Str.{IsUtf8, is_utf8}
-use Rattle.std.proofs.lemmas.Result.{err_from_is_err_and}
 use Rattle.std.proofs.lemmas.Str.{IsUtf8-from_is_utf8, is_utf8-from_IsUtf8}
 use Rattle.plant_model.specs.declared.error.PlantError.{PlantError}
 use Rattle.plant_model.specs.declared.error.PlantError.TheVariants.{NoMemory}
@@ -25,28 +23,16 @@ no_tree_by bytes false is refused = refl
 pub tree_of_refused : (bytes : List ℕ) → (IsUtf8 bytes → parse_document bytes ≡ None) → tree_of bytes ≡ None
 tree_of_refused bytes refused = no_tree_by bytes (is_utf8 bytes) refl refused
 
--- the first refusal of some is the answer where more follow
-first_answers : (found rest : List PlantError) (d : DraftPlant) (e : PlantError) → first found ≡ Some e → draft_or_first (found ++ rest) d ≡ Err e
-first_answers [] rest d e h = cc
-first_answers (x ∷ xs) rest d e h = cc
-
--- the exit at the refusal e of one of the classes, where those before refuse nothing
-pub stops_reading : {e : PlantError} (r : Result DraftPlant PlantError) (found rest : List PlantError) (d : DraftPlant) → IsErrAnd r (λ y. y ≡ e) → (e ≢ NoMemory → first found ≡ Some e) → AnswersReading r (draft_or_first (found ++ rest) d)
-stops_reading {e} r found rest d was named =
-    let p = err_from_is_err_and r was in rw (p.1, p.2) (λ ne. first_answers found rest d e (named ne))
-
 none_is_some : {e : PlantError} → ◌≡◌ {A = Option PlantError} None (Some e) → ⊥
 none_is_some h = cc
 
 some_same : {x e : PlantError} → ◌≡◌ {A = Option PlantError} (Some x) (Some e) → x ≡ e
 some_same h = cc
 
--- the exit at the refusal e of the last of the classes
-pub stops_last : {e : PlantError} (r : Result DraftPlant PlantError) (found : List PlantError) (d : DraftPlant) → IsErrAnd r (λ y. y ≡ e) → (e ≢ NoMemory → first found ≡ Some e) → AnswersReading r (draft_or_first found d)
-stops_last {e} r [] d was named =
-    let p = err_from_is_err_and r was in rw (p.1, p.2) (λ ne. absurd (none_is_some (named ne)))
-stops_last {e} r (x ∷ xs) d was named =
-    let p = err_from_is_err_and r was in rw (p.1, p.2) (λ ne. ap Err (some_same (named ne)))
+-- the first refusal is the answer
+pub first_answers : (refusals : List PlantError) (d : DraftPlant) (e : PlantError) → (e ≢ NoMemory → first refusals ≡ Some e) → AnswersReading (Err e) (draft_or_first refusals d)
+first_answers [] d e named = λ ne. absurd (none_is_some (named ne))
+first_answers (x ∷ xs) d e named = λ ne. ap Err (some_same (named ne))
 
 -- what is built is the reading, where nothing is refused
 pub builds_reading : (r : Result DraftPlant PlantError) (d : DraftPlant) → Builds r d → AnswersReading r (draft_or_first [] d)

@@ -1,5 +1,5 @@
 -- What a plant file says: its draft, or the first of the refusals 1 to 9 of its bytes.
-use Rattle.std.specs.Prelude.{◌≡◌, ◌≢◌, ℕ, if◌then◌else◌, List, [], ◌∷◌, ◌++◌, map, Option, Some, None, option_map, Result, Ok, Err, MatchResult, codes, bytes_eq}
+use Rattle.std.specs.Prelude.{◌≡◌, ◌≢◌, ℕ, if◌then◌else◌, List, [], ◌∷◌, map, Option, Some, None, option_map, Result, Ok, Err, MatchResult, codes, bytes_eq}
 use Rattle.std.specs.List.{position, position_or_len}
 use Rattle.std.specs.Option.{option_map_or}
 use Rattle.std.specs.Str.{is_utf8}
@@ -17,11 +17,13 @@ use Rattle.plant_file.specs.declared.draft.DraftTimes.TheVariants.{Column, Fixed
 use Rattle.plant_file.specs.Draft.{DraftMachine, DraftStage}
 use Rattle.plant_file.specs.declared.draft.DraftLoop.{DraftLoop}
 use Rattle.plant_file.specs.declared.draft.DraftPlant.{DraftPlant}
-use Rattle.plant_keys.specs.declared.keys.Class.TheVariants.{UnknownKeys, MissingKeys, WrongTypes, BadNames, OutOfRanges}
-use Rattle.plant_model.specs.Refusals.{feeds_not_later_in, second_finals_in}
+use Rattle.plant_file.specs.declared.reading.TreeReading.{TreeReading}
+use Rattle.plant_file.specs.declared.reading.TreeReading.TheVariants.{Draft, Faults}
 use Rattle.plant_keys.specs.Readers.{has, text_of, text_at, tables_at, number_at, numbers_at, name_in, stage_names}
 use Rattle.plant_keys.specs.Keys.{policy_word, has_column}
-use Rattle.plant_keys.specs.Walk.{walk, names_twice}
+use Rattle.plant_keys.specs.Faults.{errors}
+use Rattle.plant_keys.specs.Found.{AreFaults}
+use Rattle.plant_keys.specs.Walk.{tree_faults}
 
 -- a number of cards, of stock or of servers, and a length of time, at a key
 abbrev pub count_at : ℕ → List ℕ → Data → ℕ
@@ -104,18 +106,9 @@ draft_of top =
       loops = map (loop_of (stage_names top)) (tables_at (codes "loop") top);
     }
 
--- what is wrong with a tree where its keys and names are right: the classes 7 to 9
-abbrev pub last_refusals : Data → List PlantError
-last_refusals top =
-    walk OutOfRanges top ++ (feeds_not_later_in (draft_of top).stages ++ second_finals_in (draft_of top).stages)
-
--- what is wrong with a tree as a plant file: the classes 2 to 9, each over the whole tree before the next
-unfoldable pub tree_refusals : Data → List PlantError
-tree_refusals top =
-    walk UnknownKeys top
-    ++ (walk MissingKeys top
-    ++ (walk WrongTypes top
-    ++ (walk BadNames top ++ (names_twice top ++ last_refusals top))))
+-- what a tree is refused for as a plant file: all that is wrong with it, in the order of the walk
+abbrev pub tree_refusals : Data → List PlantError
+tree_refusals top = errors (tree_faults top)
 
 -- the draft where nothing is refused, and else the first refusal
 abbrev pub draft_or_first : List PlantError → DraftPlant → Result DraftPlant PlantError
@@ -137,3 +130,8 @@ reading bytes = option_map_or tree_reading (tree_of bytes) (Err NotToml)
 -- the answer is the reading; running out of memory may come instead
 abbrev pub AnswersReading : Result DraftPlant PlantError → Result DraftPlant PlantError → Type 0
 AnswersReading r read = MatchResult r (λ draft. read ≡ Ok draft) (λ e. e ≢ NoMemory → read ≡ Err e)
+
+-- A tree in which nothing is wrong is the draft, and of any other the faults are listed.
+abbrev pub IsReadingOf : Data → TreeReading → Type 0
+IsReadingOf top (Draft draft) = (tree_faults top ≡ []) × (draft ≡ draft_of top)
+IsReadingOf top (Faults list) = (tree_faults top ≢ []) × AreFaults list (tree_faults top)

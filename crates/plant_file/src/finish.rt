@@ -1,11 +1,12 @@
 //! A draft becomes a plant, once the files that it names have been read.
-ghost use Rattle.std.specs.Prelude.{◌≡◌, ◌≢◌, ◌≤◌, ◌<◌, ◌++◌, [], ◌∷◌, ℕ, List, Option, All, Ok, Some, IfErr, IfOk, IfSome, OnOk, map, is_some, option_map, option_copied, length, vec_len};
+ghost use Rattle.std.specs.Prelude.{◌≡◌, ◌≢◌, ◌≤◌, ◌<◌, ◌++◌, [], ◌∷◌, ℕ, List, Option, All, false, Ok, Some, IfErr, IfOk, IfSome, OnOk, map, is_some, option_map, option_copied, length, vec_len};
 ghost use Rattle.demand_feed.specs.Dates.{dates_of};
 ghost use Rattle.demand_feed.specs.Times.{times_of};
 ghost use Rattle.line_base.specs.declared.limits.TheConstants.{MAX_CHECKPOINT_BYTES, MAX_DEMAND_DATE};
+ghost use Rattle.plant_file.specs.Counts.{can_be_copied};
 ghost use Rattle.plant_file.specs.Draft.{demands_file, demands_column, columns_of};
 ghost use Rattle.plant_file.specs.Complete.{HoldsDates, HoldsTimes, refusal_of};
-ghost use Rattle.plant_file.specs.Finish.{AnswersPlant, AreFilesOf, HasColumn, HasColumns, IsWithinLimit, bad_record_in, bad_records, plant_of_bytes, completed_plant, dates_with, finished_plant, loop_with, machine_with, plant_or_first, plant_with, stage_with, times_with};
+ghost use Rattle.plant_file.specs.Finish.{AnswersPlant, AreFilesOf, HasColumn, HasColumns, IsWithinLimit, bad_record_in, bad_records, completed_plant, dates_with, finished_plant, loop_with, machine_with, plant_or_first, plant_with, stage_with, times_with};
 ghost use Rattle.plant_file.specs.PlantOfFiles.{Contents, IsReadFrom, plant_of};
 ghost use Rattle.plant_model.specs.Refusals.{all_feeds_not_later, first, parts_refusals, whole_refusals};
 ghost use Rattle.plant_model.specs.Sound.{IsSound};
@@ -96,31 +97,36 @@ pub fn complete_draft(
     }
 }
 
-/// The plant of a draft and of the bytes of its files, whatever is wrong with it as a whole: the refusals 11 to 15
-/// aren't tried. The error is the first of class 10, the demand file tried before the times file. Memory may run out
-/// before that, and `NoMemory` comes too where the columns of the machines would be more than 512 MiB.
+/// Why the plant of a draft and of its tables isn't made.
+#[derive(Drop)]
+pub enum CopyError {
+    /// The columns of its machines would be more than 512 MiB.
+    TooManyTimes,
+    /// Memory ran out.
+    NoMemory,
+}
+
+/// The plant of a draft, with the dates of its demand file and the times of its times file where it uses them, whatever
+/// is wrong with it as a whole: the refusals 11 to 15 aren't tried. It isn't made where the columns of the machines
+/// would be more than 512 MiB.
 pub fn assemble_plant(
     alloc: Global,
     draft: Draft,
-    demands: Option<&[u8]>,
-    times: Option<&[u8]>,
-) -> Result<Plant, PlantError>
-    requires { AreFilesOf draft demands times }
-    ensures plant { IfOk result (λ made.
-        made ≡ plant_of_bytes draft (option_copied demands.entry) (option_copied times.entry)) }
+    dates: Option<Vec<Date>>,
+    times: Option<Columns>,
+) -> Result<Plant, CopyError>
+    requires dates_where_used { is_some dates ≡ is_some (demands_file draft) }
+    requires some_dates { IfSome dates (λ read. 0 < vec_len read) }
+    requires dates_limit { IfSome dates (λ read. All (λ date. date ≤ MAX_DEMAND_DATE) read.items) }
+    requires times_where_used { is_some times ≡ is_some draft.times_file }
+    requires times_columns { IfSome times (λ table. table.columns ≡ columns_of draft) }
+    ensures plant { IfOk result (λ made. made ≡ plant_with draft (option_map (λ read. read.items) dates) times) }
     ensures feeds { IfOk result (λ made. all_feeds_not_later made ≡ []) }
     ensures sound { IfOk result (λ made. whole_refusals made ≡ [] → IsSound made) }
-    ensures good { OnOk result (bad_records draft (option_copied demands.entry) (option_copied times.entry) ≡ []) }
-    ensures refused { IfErr result (λ e. e ≢ PlantError.NoMemory
-        → first (bad_records draft (option_copied demands.entry) (option_copied times.entry)) ≡ Some e) }
+    ensures too_many { IfErr result (λ error. error ≡ CopyError.TooManyTimes
+        → can_be_copied draft.stages times ≡ false) }
 {
-    match tables_in(alloc, &draft, demands, times) {
-        Ok(tables) => copied_plant(alloc, draft.into_plant(), tables.0, tables.1),
-        Err(error) => {
-            drop(draft);
-            Err(error)
-        }
-    }
+    copied_plant(alloc, draft.into_plant(), dates, times)
 }
 
 /// The plant of a draft, with the dates of its demand file and the table of its times file, unless its columns would be
@@ -130,19 +136,26 @@ fn copied_plant(
     draft: DraftPlant,
     dates: Option<Vec<Date>>,
     table: Option<Columns>,
-) -> Result<Plant, PlantError>
+) -> Result<Plant, CopyError>
     requires columns { All (HasColumns table) draft.stages }
     ensures plant { IfOk result (λ made. made ≡ plant_with draft (option_map (λ read. read.items) dates) table) }
     ensures limit { IfOk result (λ _. IfSome table IsWithinLimit) }
-    ensures memory { IfErr result (λ error. error ≡ PlantError.NoMemory) }
+    ensures too_many { IfErr result (λ error. error ≡ CopyError.TooManyTimes
+        → can_be_copied draft.stages table ≡ false) }
 {
     if can_be_copied(draft.stages.as_slice(), &table) {
-        return plant_with(alloc, draft, dates, table);
+        return match plant_with(alloc, draft, dates, table) {
+            Ok(plant) => Ok(plant),
+            Err(error) => {
+                drop(error);
+                Err(CopyError::NoMemory)
+            }
+        };
     }
     drop(draft);
     drop(dates);
     drop(table);
-    Err(PlantError::NoMemory)
+    Err(CopyError::TooManyTimes)
 }
 
 /// The dates and the table of the bytes of a draft's files, each where there is one; the demand file is tried first.
@@ -163,8 +176,8 @@ fn tables_in(
     Ok((dates, table))
 }
 
-/// The dates of the bytes of the demand file, if there is one.
-fn dates_in(
+/// The dates of the bytes of a draft's demand file, if there is one, or its first bad record.
+pub fn dates_in(
     alloc: Global,
     draft: &Draft,
     bytes: Option<&[u8]>,
@@ -185,8 +198,8 @@ fn dates_in(
     }
 }
 
-/// The table of the bytes of the times file, if there is one.
-fn times_in(
+/// The table of the bytes of a draft's times file, if there is one, or its first bad record.
+pub fn times_in(
     alloc: Global,
     draft: &Draft,
     bytes: Option<&[u8]>,

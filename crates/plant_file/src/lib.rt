@@ -7,7 +7,9 @@ mod counts;
 mod draft;
 mod finish;
 mod read;
+mod reading;
 
 pub use draft::{Draft, DraftDemands, DraftLoop, DraftMachine, DraftPlant, DraftStage, DraftTimes};
-pub use finish::{assemble_plant, complete_draft, finish_draft};
-pub use read::read_plant;
+pub use finish::{CopyError, assemble_plant, complete_draft, dates_in, finish_draft, times_in};
+pub use read::{read_plant, read_tree_or_faults};
+pub use reading::TreeReading;

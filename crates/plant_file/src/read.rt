@@ -1,20 +1,19 @@
-ghost use Rattle.std.specs.Prelude.{◌≡◌, ◌≢◌, [], Some, None, MatchResult};
-ghost use Rattle.plant_file.specs.Code.{Builds};
+ghost use Rattle.std.specs.Prelude.{◌≡◌, ◌≢◌, [], Some, None, IfOk, IfSome, MatchResult};
+ghost use Rattle.plant_file.specs.Code.{AreStageNames, Builds};
 ghost use Rattle.plant_file.specs.Draft.{IsSoundDraft};
-ghost use Rattle.plant_file.specs.Reading.{AnswersReading, draft_of, draft_or_first, last_refusals, tree_of, tree_reading, reading};
+ghost use Rattle.plant_file.specs.Reading.{AnswersReading, IsReadingOf, draft_of, tree_of, tree_reading, reading};
 ghost use Rattle.plant_model.specs.declared.error.PlantError.TheVariants.{NoMemory, NotToml};
-ghost use Rattle.plant_keys.specs.Readers.{stage_names};
-ghost use Rattle.plant_keys.specs.Walk.{names_twice, walk};
-ghost use Rattle.plant_keys.specs.declared.keys.Class.TheVariants.{MissingKeys, BadNames};
+ghost use Rattle.plant_keys.specs.Found.{AreFaults};
+ghost use Rattle.plant_keys.specs.Walk.{tree_faults};
 ghost use Rattle.toml.specs.View.{view};
 
 use crate::build::draft_of;
 use crate::columns::columns_of;
 use crate::draft::{Draft, DraftPlant};
-use plant_check::check_flow;
-use plant_keys::{Class, Names, check_tree, names_of_stages};
+use crate::reading::TreeReading;
+use plant_keys::{Asked, FaultList, Faults, Names, find_in_plant};
 use plant_model::PlantError;
-use std::alloc::Global;
+use std::alloc::{AllocError, Global};
 use toml::Value;
 
 /// Reads the bytes of a plant file. The answer is what the file says, or the first of the refusals 1 to 9 of
@@ -40,38 +39,84 @@ fn tree_of(alloc: Global, bytes: &[u8]) -> Result<Value, PlantError>
     }
 }
 
-/// Reads a tree as a plant file.
-#[tactic(auto, unfolding(crate::specs::Reading::tree_refusals))]
+/// Reads a tree as a plant file: what it says, or the first refusal.
 fn read_tree(alloc: Global, top: &Value) -> Result<Draft, PlantError>
     ensures { AnswersReading result (tree_reading (view top.now)) }
 {
-    check_tree(alloc, Class::UnknownKeys, top)?;
-    check_tree(alloc, Class::MissingKeys, top)?;
-    check_tree(alloc, Class::WrongTypes, top)?;
-    check_tree(alloc, Class::BadNames, top)?;
-    let names = names_of_stages(alloc, top)?;
-    let draft = read_named(alloc, &names, top);
+    let mut faults = Faults::new(alloc, Asked::First);
+    let names = find_in_plant(top, &mut faults);
+    match faults.into_first() {
+        Ok(()) => draft_with(alloc, names, top),
+        Err(refusal) => {
+            drop(names);
+            Err(refusal)
+        }
+    }
+}
+
+/// Reads a tree as a plant file: what it says, or all that is wrong with it.
+pub fn read_tree_or_faults(alloc: Global, top: &Value) -> Result<TreeReading, AllocError>
+    ensures { IfOk result (IsReadingOf (view top.now)) }
+{
+    let mut faults = Faults::new(alloc, Asked::All);
+    let names = find_in_plant(top, &mut faults);
+    match faults.into_list() {
+        Ok(list) => draft_or_faults(alloc, names, list, top),
+        Err(AllocError) => {
+            drop(names);
+            Err(AllocError)
+        }
+    }
+}
+
+/// What a tree says with which this is wrong, if something is.
+fn draft_or_faults(
+    alloc: Global,
+    names: Option<Names<'_>>,
+    list: FaultList,
+    top: &Value,
+) -> Result<TreeReading, AllocError>
+    requires list { AreFaults list (tree_faults (view top.now)) }
+    requires names { IfSome names (AreStageNames (view top.now)) }
+    ensures { IfOk result (IsReadingOf (view top.now)) }
+{
+    if list.count > 0 {
+        drop(names);
+        return Ok(TreeReading::Faults(list));
+    }
+    drop(list);
+    match draft_with(alloc, names, top) {
+        Ok(draft) => Ok(TreeReading::Draft(draft)),
+        Err(error) => {
+            drop(error);
+            Err(AllocError)
+        }
+    }
+}
+
+/// The draft of a tree with which nothing is wrong, whose stages have these names. There are none where memory ran out
+/// before.
+fn draft_with(alloc: Global, names: Option<Names<'_>>, top: &Value) -> Result<Draft, PlantError>
+    requires sound { tree_faults (view top.now) ≡ [] }
+    requires names { IfSome names (AreStageNames (view top.now)) }
+    ensures { Builds result (draft_of (view top.now)) }
+{
+    let Some(names) = names else {
+        return Err(PlantError::NoMemory);
+    };
+    let draft = named_draft(alloc, &names, top);
     drop(names);
     draft
 }
 
-/// Reads a tree as a plant file whose stages have these names, and in which no key is missing and no name is refused.
-fn read_named(alloc: Global, names: &Names<'_>, top: &Value) -> Result<Draft, PlantError>
-    requires names { names.now ≡ stage_names (view top.now) }
-    requires keys { walk MissingKeys (view top.now) ≡ [] }
-    requires rules { walk BadNames (view top.now) ≡ [] }
-    requires once { names_twice (view top.now) ≡ [] }
-    ensures { AnswersReading result (draft_or_first (last_refusals (view top.now)) (draft_of (view top.now))) }
+/// The same, where the names are there.
+fn named_draft(alloc: Global, names: &Names<'_>, top: &Value) -> Result<Draft, PlantError>
+    requires sound { tree_faults (view top.now) ≡ [] }
+    requires names { AreStageNames (view top.now) names.now }
+    ensures { Builds result (draft_of (view top.now)) }
 {
-    check_tree(alloc, Class::OutOfRanges, top)?;
     let plant = draft_of(alloc, names, top)?;
-    match check_flow(alloc, plant.stages.as_slice()) {
-        Ok(()) => draft_with_columns(alloc, plant),
-        Err(refusal) => {
-            drop(plant);
-            Err(refusal)
-        }
-    }
+    draft_with_columns(alloc, plant)
 }
 
 /// The draft of what a plant file says, where nothing is wrong with it.

@@ -1,9 +1,8 @@
 -- What the values of the code stand for.
-use Rattle.std.specs.Prelude.{◌≡◌, ◌≢◌, ℕ, Bool, if◌then◌else◌, List, [], ◌∷◌, ◌++◌, map, Some, Result, MatchResult, bytes_eq}
+use Rattle.std.specs.Prelude.{ℕ, Bool, if◌then◌else◌, List, [], ◌∷◌, ◌++◌, map, bytes_eq}
 use Rattle.std.specs.List.{list_any}
 use Rattle.plant_model.specs.declared.error.PlantError.{PlantError}
-use Rattle.plant_model.specs.declared.error.PlantError.TheVariants.{UnknownKey, Missing, WrongType, BadName, OutOfRange, NoMemory}
-use Rattle.plant_model.specs.Refusals.{first}
+use Rattle.plant_model.specs.declared.error.PlantError.TheVariants.{UnknownKey, Missing, WrongType, BadName, OutOfRange}
 use Rattle.toml.specs.Data.{Data}
 use Rattle.toml.specs.View.{view}
 use Rattle.toml.specs.declared.value.Value.{Value}
@@ -43,8 +42,3 @@ refusal OutOfRanges place = OutOfRange place
 -- names that differ, with one more at the end, unless it is among them
 abbrev pub with_name : List ℕ → List (List ℕ) → List (List ℕ)
 with_name name names = if list_any (bytes_eq name) names then names else names ++ name ∷ []
-
--- the answer gives names where nothing is refused, and else is the first refusal; running out of memory may come
--- instead
-abbrev pub GivesNames : Result (List (List ℕ)) PlantError → List PlantError → List (List ℕ) → Type 0
-GivesNames r rs names = MatchResult r (λ given. (rs ≡ []) × (given ≡ names)) (λ e. e ≢ NoMemory → first rs ≡ Some e)

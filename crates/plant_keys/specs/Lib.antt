@@ -1,4 +1,10 @@
-pub mod Code
 pub mod Keys
+pub mod Code
 pub mod Readers
+pub mod Rules
+pub mod Classes
+pub mod Faults
+pub mod Wants
+pub mod Found
 pub mod Walk
+pub mod Seen

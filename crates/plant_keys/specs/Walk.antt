@@ -1,181 +1,117 @@
--- The classes of refusals that single keys meet, each over the whole tree in one order: the keys of the top table, then
--- each stage with its keys and after them its machines, then each loop. Within a table the keys stand in byte order, a
--- key that is missing among them, and the elements of a list right after its key.
-use Rattle.std.specs.Prelude.{ℕ, Bool, true, not, ◌&&◌, ◌||◌, ◌==◌, if◌then◌else◌, List, [], ◌++◌, map, take, codes, bytes_eq}
-use Rattle.std.specs.List.{list_all, list_any}
+-- The walk: all that is wrong with the tree of a plant file, the refusals of the classes 2 to 9, each beside what is
+-- wanted there. Each class goes over the whole tree before the next, in one order: the keys of the top table, then each
+-- stage with its keys and after them its machines, then each loop. Within a table the keys stand in byte order, a key
+-- that is missing among them, and the elements of a list right after its key.
+use Rattle.std.specs.Prelude.{ℕ, ◌+◌, Bool, not, ◌&&◌, nat_lt, if◌then◌else◌, List, [], ◌++◌, length, take, codes, bytes_eq}
+use Rattle.std.specs.List.{list_any}
 use Rattle.std.specs.Option.{option_map_or}
-use Rattle.line_base.specs.Text.{is_between, is_name, is_file_name}
-use Rattle.plant_model.specs.declared.error.PlantError.{PlantError}
-use Rattle.plant_model.specs.declared.error.PlantError.TheVariants.{UnknownKey, Missing, WrongType, BadName, NameTwice, OutOfRange}
 use Rattle.plant_model.specs.declared.place.FileTable.{FileTable}
 use Rattle.plant_model.specs.declared.place.FileTable.TheVariants.{Top, InStage, InMachine, InLoop}
-use Rattle.plant_model.specs.Place.{at, key_of}
-use Rattle.plant_model.specs.Refusals.{refuse_if, each, is_reserved}
-use Rattle.toml.specs.Data.{Data, integer, Members, no_members, member, get}
+use Rattle.plant_model.specs.declared.error.PlantError.TheVariants.{NameTwice, FeedsNotLater, TwoFinals}
+use Rattle.plant_model.specs.Place.{place_of, key_of}
+use Rattle.plant_model.specs.Refusals.{refuse_if}
+use Rattle.toml.specs.Data.{Data, get}
 use Rattle.plant_keys.specs.declared.keys.Kind.{Kind}
-use Rattle.plant_keys.specs.declared.keys.Kind.TheVariants.{PolicyWord, StageName, MachineName, FileName, StageReference, Number, Numbers, Tables}
 use Rattle.plant_keys.specs.declared.keys.Class.{Class}
 use Rattle.plant_keys.specs.declared.keys.Class.TheVariants.{UnknownKeys, MissingKeys, WrongTypes, BadNames, OutOfRanges}
-use Rattle.plant_keys.specs.Readers.{members_in, elements_of, is_text, is_number, is_table, is_list_of, text_of, tables_of, tables_at, is_within, name_in, stage_names, is_filled}
-use Rattle.plant_keys.specs.Keys.{Key, has_stage_cards, top_keys, stage_keys, machine_keys, loop_keys, is_allowed}
+use Rattle.plant_keys.specs.Keys.{Key, has_stage_cards, top_keys, stage_keys, machine_keys, loop_keys}
+use Rattle.plant_keys.specs.Readers.{has, members_in, tables_at, text_of, is_filled, stage_names}
+use Rattle.plant_keys.specs.Rules.{shown_key, unknown_keys, value_refusals, absence_refusals, names_twice}
+use Rattle.plant_keys.specs.declared.fault.Wants.TheVariants as wants
+use Rattle.plant_keys.specs.declared.fault.Fault.{Fault}
+use Rattle.plant_keys.specs.Faults.{wanting, plain, all_of, wants_of}
 
--- A to Z, a to z, 0 to 9, `_` and `-`
-abbrev pub is_plain : ℕ → Bool
-is_plain byte =
-    is_between 65 90 byte || (is_between 97 122 byte || (is_between 48 57 byte || (byte == 95 || byte == 45)))
+-- of what stands at a key
+abbrev pub value_faults : Class → Kind → List ℕ → Data → List Fault
+value_faults class kind place v = wanting (wants_of class kind v) (value_refusals class kind place v)
 
--- a key as paths show it: one that has another character is a question mark
-abbrev pub shown_key : List ℕ → List ℕ
-shown_key key = if list_all is_plain key then key else codes "?"
+-- of a key of a table
+abbrev pub key_faults : Class → FileTable → Data → Key → List Fault
+key_faults class table d key =
+    option_map_or
+    (value_faults class key.kind (key_of table key.name))
+    (get key.name d)
+    (plain (absence_refusals class key.required (key_of table key.name)))
 
--- 2, of a member of a table with these keys
-abbrev pub unknown_key : FileTable → List Key → List ℕ → List PlantError
-unknown_key table keys name = refuse_if (not (is_allowed keys name)) (UnknownKey (key_of table (shown_key name)))
+-- of the keys of a table
+abbrev pub keys_faults : Class → FileTable → Data → List Key → List Fault
+keys_faults class table d keys = all_of (λ _ key. key_faults class table d key) keys
 
--- 2, of all members of a table with these keys
-abbrev pub unknown_keys : FileTable → List Key → Members → List PlantError
-unknown_keys table keys no_members = []
-unknown_keys table keys (member name value rest) = unknown_key table keys name ++ unknown_keys table keys rest
-
--- the value is of the kind
-abbrev pub has_kind : Kind → Data → Bool
-has_kind PolicyWord v = is_text v
-has_kind StageName v = is_text v
-has_kind MachineName v = is_text v
-has_kind FileName v = is_text v
-has_kind StageReference v = is_text v
-has_kind (Number least most) v = is_number v
-has_kind (Numbers most may_be_empty) v = is_list_of is_number v
-has_kind (Tables may_be_empty) v = is_list_of is_table v
-
--- a text keeps the rule of what it names
-abbrev pub keeps_name_rule : Kind → List ℕ → Bool
-keeps_name_rule StageName text = is_name text && not (is_reserved text)
-keeps_name_rule MachineName text = is_name text
-keeps_name_rule FileName text = is_file_name text
-keeps_name_rule PolicyWord text = true
-keeps_name_rule StageReference text = true
-keeps_name_rule (Number least most) text = true
-keeps_name_rule (Numbers most may_be_empty) text = true
-keeps_name_rule (Tables may_be_empty) text = true
-
--- one of the four words for a policy
-abbrev pub is_policy : List ℕ → Bool
-is_policy word =
-    bytes_eq word (codes "kanban")
-    || (bytes_eq word (codes "conwip") || (bytes_eq word (codes "base-stock") || bytes_eq word (codes "extended")))
-
--- 7, at a path, unless the test gives true
-abbrev pub out_unless : Bool → List ℕ → List PlantError
-out_unless test place = refuse_if (not test) (OutOfRange place)
-
--- a value, if it is a whole number, is one within limits
-abbrev pub may_be_number : ℕ → ℕ → Data → Bool
-may_be_number least most (integer z) = is_within least most z
-may_be_number least most _ = true
-
--- 7, of element k of a list at a path
-abbrev pub element_out : ℕ → List ℕ → ℕ → Data → List PlantError
-element_out most place k v = out_unless (may_be_number 0 most v) (at place k)
-
--- 7, of a list of numbers at a path: that it is empty, then its elements
-abbrev pub list_out : ℕ → Bool → List ℕ → List Data → List PlantError
-list_out most may_be_empty place vs =
-    out_unless (may_be_empty || is_filled vs) place ++ each (element_out most place) vs
-
--- 7, of a value of a kind at a path
-abbrev pub out_of_range : Kind → List ℕ → Data → List PlantError
-out_of_range PolicyWord place v = out_unless (is_policy (text_of v)) place
-out_of_range StageName place v = []
-out_of_range MachineName place v = []
-out_of_range FileName place v = []
-out_of_range StageReference place v = []
-out_of_range (Number least most) place v = out_unless (may_be_number least most v) place
-out_of_range (Numbers most may_be_empty) place v =
-    list_out most may_be_empty place (elements_of v)
-out_of_range (Tables may_be_empty) place v = out_unless (may_be_empty || is_filled (tables_of v)) place
-
--- 4, of a value at a path
-abbrev pub refused_type : Kind → List ℕ → Data → List PlantError
-refused_type kind place v = refuse_if (not (has_kind kind v)) (WrongType place)
-
--- 5, of a value at a path
-abbrev pub refused_name : Kind → List ℕ → Data → List PlantError
-refused_name kind place v = refuse_if (not (keeps_name_rule kind (text_of v))) (BadName place)
-
--- what a class refuses of the value at a key
-abbrev pub value_refusals : Class → Kind → List ℕ → Data → List PlantError
-value_refusals UnknownKeys kind place v = []
-value_refusals MissingKeys kind place v = []
-value_refusals WrongTypes kind place v = refused_type kind place v
-value_refusals BadNames kind place v = refused_name kind place v
-value_refusals OutOfRanges kind place v = out_of_range kind place v
-
--- what a class refuses of a key that isn't there
-abbrev pub absence_refusals : Class → Bool → List ℕ → List PlantError
-absence_refusals MissingKeys required place = refuse_if required (Missing place)
-absence_refusals UnknownKeys required place = []
-absence_refusals WrongTypes required place = []
-absence_refusals BadNames required place = []
-absence_refusals OutOfRanges required place = []
-
--- what a class refuses of a key of a table
-abbrev pub key_refusals : Class → FileTable → Data → Key → List PlantError
-key_refusals class table d key =
-    let place = key_of table key.name in
-    option_map_or (value_refusals class key.kind place) (get key.name d) (absence_refusals class key.required place)
-
--- what a class refuses of the keys of a table
-abbrev pub keys_refusals : Class → FileTable → Data → List Key → List PlantError
-keys_refusals class table d keys = each (λ _ key. key_refusals class table d key) keys
-
--- what a class refuses of a table
-abbrev pub table_refusals : Class → FileTable → Data → List Key → List PlantError
-table_refusals UnknownKeys table d keys = unknown_keys table keys (members_in d)
-table_refusals MissingKeys table d keys = keys_refusals MissingKeys table d keys
-table_refusals WrongTypes table d keys = keys_refusals WrongTypes table d keys
-table_refusals BadNames table d keys = keys_refusals BadNames table d keys
-table_refusals OutOfRanges table d keys = keys_refusals OutOfRanges table d keys
+-- of a table
+abbrev pub table_faults : Class → FileTable → Data → List Key → List Fault
+table_faults UnknownKeys table d keys = plain (unknown_keys table keys (members_in d))
+table_faults MissingKeys table d keys = keys_faults MissingKeys table d keys
+table_faults WrongTypes table d keys = keys_faults WrongTypes table d keys
+table_faults BadNames table d keys = keys_faults BadNames table d keys
+table_faults OutOfRanges table d keys = keys_faults OutOfRanges table d keys
 
 -- of machine j of stage i
-abbrev pub machine_refusals : Class → ℕ → ℕ → Data → List PlantError
-machine_refusals class i j m = table_refusals class (InMachine i j) m (machine_keys m)
+abbrev pub machine_faults : Class → ℕ → ℕ → Data → List Fault
+machine_faults class i j m = table_faults class (InMachine i j) m (machine_keys m)
 
 -- of stage i: its keys, then its machines
-abbrev pub stage_refusals : Class → Bool → ℕ → Data → List PlantError
-stage_refusals class with_cards i s =
-    table_refusals class (InStage i) s (stage_keys with_cards)
-    ++ each (machine_refusals class i) (tables_at (codes "machine") s)
+abbrev pub stage_faults : Class → Bool → ℕ → Data → List Fault
+stage_faults class with_cards i s =
+    table_faults class (InStage i) s (stage_keys with_cards)
+    ++ all_of (machine_faults class i) (tables_at (codes "machine") s)
 
 -- of loop k
-abbrev pub loop_refusals : Class → ℕ → Data → List PlantError
-loop_refusals class k l = table_refusals class (InLoop k) l loop_keys
+abbrev pub loop_faults : Class → ℕ → Data → List Fault
+loop_faults class k l = table_faults class (InLoop k) l loop_keys
 
--- what a class refuses of a plant file
-unfoldable pub walk : Class → Data → List PlantError
-walk class top =
-    table_refusals class Top top (top_keys top)
-    ++ (each (stage_refusals class (has_stage_cards top)) (tables_at (codes "stage") top)
-    ++ each (loop_refusals class) (tables_at (codes "loop") top))
+-- all that a class refuses of a plant file
+unfoldable pub walk_faults : Class → Data → List Fault
+walk_faults class top =
+    table_faults class Top top (top_keys top)
+    ++ (all_of (stage_faults class (has_stage_cards top)) (tables_at (codes "stage") top)
+    ++ all_of (loop_faults class) (tables_at (codes "loop") top))
 
--- 6, of a name that comes after these
-abbrev pub name_twice : FileTable → List (List ℕ) → List ℕ → List PlantError
-name_twice table before name = refuse_if (list_any (bytes_eq name) before) (NameTwice (key_of table (codes "name")))
+-- 6, of the name of a table, which is new or isn't
+abbrev pub name_faults : FileTable → Bool → List Fault
+name_faults table is_new = plain (refuse_if (not is_new) (NameTwice (key_of table (codes "name"))))
 
--- 6, of machine j of stage i, whose machines have these names
-abbrev pub machine_name_twice : ℕ → List (List ℕ) → ℕ → Data → List PlantError
-machine_name_twice i names j m = name_twice (InMachine i j) (take j names) (name_in m)
+-- a later stage than stage i has the name, and none up to that one
+abbrev pub is_later : List (List ℕ) → ℕ → List ℕ → Bool
+is_later names i name = list_any (bytes_eq name) names && not (list_any (bytes_eq name) (take (i + 1) names))
 
--- 6, of the machines of stage i
-abbrev pub machine_names_twice : ℕ → List Data → List PlantError
-machine_names_twice i machines = each (machine_name_twice i (map name_in machines)) machines
+-- the text in place of a name, as lines show it: one that is empty or has another character than a key is a question
+-- mark
+abbrev pub shown_name : List ℕ → List ℕ
+shown_name text = if is_filled text then shown_key text else codes "?"
 
--- 6, of stage i, which comes after stages of these names: its name, then those of its machines
-abbrev pub stage_name_twice : List (List ℕ) → ℕ → Data → List PlantError
-stage_name_twice before i s =
-    name_twice (InStage i) before (name_in s) ++ machine_names_twice i (tables_at (codes "machine") s)
+-- 8, of the name that stands at `feeds` of stage i, which is that of a later stage or isn't
+abbrev pub fed_fault : Bool → ℕ → List ℕ → List Fault
+fed_fault later i name =
+    wanting
+    (wants.LaterThan (shown_name name))
+    (refuse_if (not later) (FeedsNotLater (key_of (InStage i) (codes "feeds"))))
 
--- 6: an earlier stage, or an earlier machine of the same stage, has the name
-abbrev pub names_twice : Data → List PlantError
-names_twice top =
-    each (λ i s. stage_name_twice (take i (stage_names top)) i s) (tables_at (codes "stage") top)
+-- the same, where all stages have these names
+abbrev pub fed_faults : List (List ℕ) → ℕ → List ℕ → List Fault
+fed_faults names i name = fed_fault (is_later names i name) i name
+
+-- 8, of stage i
+abbrev pub feeds_faults : List (List ℕ) → ℕ → Data → List Fault
+feeds_faults names i s = option_map_or (λ v. fed_faults names i (text_of v)) (get (codes "feeds") s) []
+
+-- 9, of stage i, where there are `count` stages
+abbrev pub final_faults : ℕ → ℕ → Data → List Fault
+final_faults count i s =
+    plain (refuse_if (not (has (codes "feeds") s) && nat_lt (i + 1) count) (TwoFinals (place_of (InStage i))))
+
+-- the classes 7 to 9
+abbrev pub last_faults : Data → List Fault
+last_faults top =
+    walk_faults OutOfRanges top
+    ++ (all_of (feeds_faults (stage_names top)) (tables_at (codes "stage") top)
+    ++ all_of (final_faults (length (tables_at (codes "stage") top))) (tables_at (codes "stage") top))
+
+-- the classes 2 to 5
+abbrev pub first_faults : Data → List Fault
+first_faults top =
+    walk_faults UnknownKeys top
+    ++ (walk_faults MissingKeys top ++ (walk_faults WrongTypes top ++ walk_faults BadNames top))
+
+-- the classes 2 to 9, each over the whole tree before the next
+unfoldable pub tree_faults : Data → List Fault
+tree_faults top = first_faults top ++ (plain (names_twice top) ++ last_faults top)

@@ -1,21 +1,23 @@
-//! The tree of a plant file: what stands at its keys, and the refusals that its keys and names meet.
+//! The tree of a plant file: what stands at its keys, and all that its keys and names are refused for.
 #![tactic(auto)]
 
-mod check;
+mod allowed;
+mod classes;
+mod fault;
+mod faults;
+mod flow;
 mod keys;
 mod names;
-mod refuse;
+mod rows;
 mod rules;
-mod unknown;
+mod tree;
+mod twice;
 mod values;
+mod walk;
 
-pub use check::{check_tree, has_kind, has_right_size, may_be_number};
-pub use keys::{
-    Class, Key, Kind, has_column, has_line_cards, has_stage_cards, loop_keys, machine_keys,
-    stage_keys, top_keys,
-};
-pub use names::{Names, names_of_stages};
-pub use refuse::refusal;
-pub use rules::{is_policy, keeps_name_rule, shown_key};
-pub use unknown::is_allowed;
-pub use values::{elements_of, has, tables_at, tables_of, text_at, text_of, value_at};
+pub use fault::{Fault, Wants};
+pub use faults::{Asked, FaultList, Faults, MOST_FAULTS};
+pub use keys::{has_column, has_line_cards, has_stage_cards};
+pub use names::Names;
+pub use tree::find_in_plant;
+pub use values::{elements_of, has, tables_at, text_at, text_of, value_at};

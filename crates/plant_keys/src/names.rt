@@ -1,17 +1,10 @@
 ghost use Rattle.std.specs.List.{list_any, position_or_len};
-ghost use Rattle.std.specs.Prelude.{◌≡◌, ◌++◌, [], ◌∷◌, length, map, not, take, IfOk, OnOk, bytes_eq, position, codes};
-ghost use Rattle.plant_model.specs.Refusals.{AnswersFirst, each};
-ghost use Rattle.plant_keys.specs.Code.{GivesNames, views, with_name};
-ghost use Rattle.plant_keys.specs.Readers.{name_in, stage_names};
-ghost use Rattle.plant_keys.specs.Walk.{name_twice, machine_name_twice, stage_name_twice, names_twice};
-ghost use Rattle.toml.specs.View.{view};
+ghost use Rattle.std.specs.Prelude.{◌≡◌, [], length, not, IfOk, OnOk, bytes_eq, position};
+ghost use Rattle.plant_keys.specs.Code.{with_name};
 
-use crate::values::{tables_at, text_at};
 use indexmap::IndexSet;
-use plant_model::{FileTable, PlantError, key_place};
 use std::alloc::{AllocError, Global};
 use std::marker::Model;
-use toml::Value;
 
 /// Names that differ, numbered from 0 in the order in which they came. Contracts see the list of the names.
 #[derive(Drop)]
@@ -47,64 +40,6 @@ impl<'a> Names<'a> {
         Ok(is_new)
     }
 
-    /// Adds a name of a table at the end, or refuses it where it is among those before.
-    fn add_name(&mut self, alloc: Global, table: FileTable, name: &'a str) -> Result<(), PlantError>
-        ensures first { AnswersFirst result (name_twice table self.old name.now) }
-        ensures added { OnOk result (self.new ≡ self.old ++ name.now ∷ []) }
-    {
-        let Ok(is_new) = self.add(name) else {
-            return Err(PlantError::NoMemory);
-        };
-        if is_new {
-            return Ok(());
-        }
-        let place = key_place(alloc, table, "name")?;
-        Err(PlantError::NameTwice { place })
-    }
-
-    /// Adds the names of these stages, or refuses the first name that an earlier one, or an earlier machine of the same
-    /// stage, has.
-    fn add_stages(&mut self, alloc: Global, stages: &'a [Value]) -> Result<(), PlantError>
-        requires { self.old ≡ [] }
-        ensures first { AnswersFirst result
-            (each (λ i s. stage_name_twice (take i (map name_in (views stages.now))) i (view s)) stages.now) }
-        ensures added { OnOk result (self.new ≡ map name_in (views stages.now)) }
-    {
-        for (i, stage) in stages.iter().enumerate() {
-            self.add_stage(alloc, i, stage)?;
-        }
-        Ok(())
-    }
-
-    /// Adds the name of stage `i` to those of the stages before, and looks at those of its machines.
-    fn add_stage(&mut self, alloc: Global, i: usize, stage: &'a Value) -> Result<(), PlantError>
-        ensures first { AnswersFirst result (stage_name_twice self.old i (view stage.now)) }
-        ensures added { OnOk result (self.new ≡ self.old ++ name_in (view stage.now) ∷ []) }
-    {
-        self.add_name(alloc, FileTable::InStage(i), text_at(stage, "name"))?;
-        let mut names = Names::new(alloc);
-        let answer = names.add_machines(alloc, i, tables_at(stage, "machine"));
-        drop(names);
-        answer
-    }
-
-    /// Adds the names of these machines of stage `i`, or refuses the first that an earlier one has.
-    fn add_machines(
-        &mut self,
-        alloc: Global,
-        i: usize,
-        machines: &'a [Value],
-    ) -> Result<(), PlantError>
-        requires { self.old ≡ [] }
-        ensures { AnswersFirst result
-            (each (λ j m. machine_name_twice i (map name_in (views machines.now)) j (view m)) machines.now) }
-    {
-        for (j, machine) in machines.iter().enumerate() {
-            self.add_name(alloc, FileTable::InMachine(i, j), text_at(machine, "name"))?;
-        }
-        Ok(())
-    }
-
     /// Whether a name is among these. It takes no memory.
     #[tactic(auto, using(crate::proofs::NameLists::list_any_texts))]
     pub fn has(&self, name: &str) -> bool
@@ -138,20 +73,5 @@ impl<'a> Names<'a> {
         ensures { result ≡ length self.now }
     {
         self.set.len()
-    }
-}
-
-/// The names of the stages of a plant file, or the first name that an earlier stage, or an earlier machine of the same
-/// stage, has.
-pub fn names_of_stages(alloc: Global, top: &Value) -> Result<Names<'_>, PlantError>
-    ensures { GivesNames result (names_twice (view top.now)) (stage_names (view top.now)) }
-{
-    let mut names = Names::new(alloc);
-    match names.add_stages(alloc, tables_at(top, "stage")) {
-        Ok(()) => Ok(names),
-        Err(error) => {
-            drop(names);
-            Err(error)
-        }
     }
 }

@@ -1,26 +1,28 @@
 -- What lint says of a draft: the refusals of its faults, and that nothing is wrong where it says so.
-use Rattle.std.proofs.Common.{◌≡◌, ℕ, List, [], ◌∷◌, ◌++◌, Option, None, Some, refl, ap, ◌∙◌}
+use Rattle.std.proofs.Common.{◌≡◌, ℕ, List, [], ◌∷◌, Option, None, Some, refl, ap, subst, ◌∙◌}
 use Rattle.std.specs.Prelude.{unwrap_or, Result, Ok, Err, IfOk}
 use Rattle.std.specs.Option.{option_map_or}
-use Rattle.std.proofs.lemmas.List.{map-append, append-nil}
+use Rattle.std.proofs.lemmas.List.{map-append}
 use Rattle.plant_file.specs.declared.draft.DraftPlant.{DraftPlant}
 use Rattle.plant_file.specs.Draft.{demands_file, demands_column, columns_of}
-use Rattle.plant_file.specs.Finish.{bad_record, bad_record_in, bad_records, plant_of_bytes}
+use Rattle.plant_file.specs.Finish.{bad_record, bad_record_in, bad_records, held_in, plant_of_bytes, plant_with}
 use Rattle.plant_model.specs.declared.plant.Plant.{Plant}
 use Rattle.plant_model.specs.declared.error.PlantError.{PlantError}
 use Rattle.demand_feed.specs.Dates.{dates_of}
-use Rattle.demand_feed.specs.Rows.{FeedResult}
+use Rattle.demand_feed.specs.JobTimes.{JobTimes}
 use Rattle.demand_feed.specs.Times.{times_of}
 use Rattle.plant_lint.specs.declared.draft_lint.DraftLint.{DraftLint}
 use Rattle.plant_lint.specs.declared.draft_lint.DraftLint.TheVariants as draft
-use Rattle.plant_lint.specs.declared.fault.Fault.{Fault}
-use Rattle.plant_lint.specs.declared.fault.Wants.{Wants}
-use Rattle.plant_lint.specs.declared.file.FileLint.TheVariants.{Sound}
-use Rattle.plant_lint.specs.DraftLints.{lines_if_any, LintsDraft, LintsWhole}
+use Rattle.plant_keys.specs.declared.fault.Fault.{Fault}
+use Rattle.plant_keys.specs.declared.fault.Wants.{Wants}
+use Rattle.plant_lint.specs.declared.lint.Lint.{Lint}
+use Rattle.plant_lint.specs.declared.lint.Lint.TheVariants.{Refused, Sound}
+use Rattle.plant_lint.specs.DraftLints.{faults_or, LintsDraft, LintsWhole}
 use Rattle.plant_lint.specs.FileLints.{faults_or_notes}
-use Rattle.plant_lint.specs.Faults.{wanting, plain}
-use Rattle.plant_lint.specs.Laws.{errors}
-use Rattle.plant_lint.specs.Records.{dates_faults, times_faults, record_faults}
+use Rattle.plant_keys.specs.Faults.{errors, wanting, plain}
+use Rattle.plant_lint.specs.Records.{dates_faults, times_faults, demand_faults, time_faults, record_faults}
+use Rattle.plant_lint.specs.Remarks.{Remark, no_remark}
+use Rattle.plant_lint.specs.Texts.{fault_lines}
 
 -- refusals, beside what is wanted and again without it
 errors-wanting : (what : Wants) (rs : List PlantError) → errors (wanting what rs) ≡ rs
@@ -41,25 +43,39 @@ errors-records d demands times =
     ∙ rw (of_dates (demands_file d) (demands_column d) demands, of_times d.times_file (columns_of d) times) refl
 
 -- a plant that lint finds nothing wrong with
-pub none_refused : (rs : List PlantError) (notes more : List ℕ) → faults_or_notes (plain rs) notes ≡ Sound more → rs ≡ []
-none_refused [] notes more h = refl
-none_refused (r ∷ rs) notes more h = absurd (cc h)
+pub none_refused : (remark : Remark) (rs : List PlantError) (notes more : List ℕ) → faults_or_notes remark (plain rs) notes ≡ Sound more → rs ≡ []
+none_refused remark [] notes more h = refl
+none_refused remark (r ∷ rs) notes more h = absurd (cc h)
 
--- a file without a bad record has none that is wrong
-pub good_record : {A : Type 0} (xs : List Fault) (what : Wants) (name : List ℕ) (held : FeedResult A) (read : A) → held ≡ Ok read → xs ≡ xs ++ wanting what (bad_record name held)
-good_record xs what name held read good = rw good (rw (append-nil xs) refl)
+-- a file whose records can be used has none that is wrong
+pub good_dates : (d : DraftPlant) (bytes : Option (List ℕ)) → bad_record_in (dates_of (demands_column d)) (demands_file d) bytes ≡ [] → demand_faults d bytes ≡ []
+good_dates d None h = refl
+good_dates d (Some bytes) h = ap (wanting _) h
+
+pub good_times : (d : DraftPlant) (bytes : Option (List ℕ)) → bad_record_in (times_of (columns_of d)) d.times_file bytes ≡ [] → time_faults d bytes ≡ []
+good_times d None h = refl
+good_times d (Some bytes) h = ap (wanting _) h
+
+-- what is said of a plant is said of an equal one
+pub lints_of : {E : Type 0} (file same : Option (List ℕ)) (p q : Plant) (r : Result DraftLint E) → file ≡ same → p ≡ q → IfOk r (LintsWhole file p) → IfOk r (LintsWhole same q)
+lints_of file same p q r named are is = rw (← named, ← are) is
 
 -- a draft with bad records
-pub some_refused : (d : DraftPlant) (demands times : Option (List ℕ)) (faults : List Fault) (lines : List ℕ) → faults ≡ record_faults d demands times → Some lines ≡ lines_if_any faults → LintsDraft d demands times (draft.Refused lines)
-some_refused d demands times [] lines are is = absurd (cc is)
-some_refused d demands times (fault ∷ faults) lines are is = rw (← are) (cc is)
-
-pub none_found : (faults : List Fault) → None ≡ lines_if_any faults → faults ≡ []
-none_found [] is = refl
-none_found (fault ∷ faults) is = absurd (cc is)
+pub bad_lints : {E : Type 0} (d : DraftPlant) (demands times : Option (List ℕ)) (r : Result DraftLint E) → (record_faults d demands times ≡ [] → ⊥) → IfOk r (λ lint. lint ≡ draft.Refused (fault_lines no_remark (record_faults d demands times))) → IfOk r (LintsDraft d demands times)
+bad_lints d demands times (Err e) some is = tt
+bad_lints d demands times (Ok lint) some is = rw is (by_faults (record_faults d demands times) _ some)
+  where
+    by_faults : (faults : List Fault) (more : Lint) → (faults ≡ [] → ⊥) → faults_or faults more ≡ Refused (fault_lines no_remark faults)
+    by_faults [] more some = absurd (some refl)
+    by_faults (fault ∷ faults) more some = refl
 
 -- and one without
-pub none_bad : {E : Type 0} (d : DraftPlant) (demands times file : Option (List ℕ)) (p : Plant) (r : Result DraftLint E) → record_faults d demands times ≡ [] → file ≡ demands_file d → p ≡ plant_of_bytes d demands times → IfOk r (LintsWhole file p) → IfOk r (LintsDraft d demands times)
-none_bad d demands times file p (Err e) good named are is = tt
-none_bad d demands times file p (Ok (draft.Refused lines)) good named are is = rw good (rw (← named, ← are) is)
-none_bad d demands times file p (Ok (draft.Sound plant notes)) good named are is = rw good (rw (← named, ← are) is)
+pub whole_lints : {E : Type 0} (d : DraftPlant) (demands times : Option (List ℕ)) (r : Result DraftLint E) (dates : Option (List ℕ)) (table : Option JobTimes) → dates ≡ held_in (dates_of (demands_column d)) demands → table ≡ held_in (times_of (columns_of d)) times → record_faults d demands times ≡ [] → IfOk r (LintsWhole (demands_file d) (plant_with d dates table)) → IfOk r (LintsDraft d demands times)
+whole_lints d demands times r dates table dates_are table_is good is =
+    none_bad d demands times r good
+    (subst (λ p. IfOk r (LintsWhole (demands_file d) p)) (rw (dates_are, table_is) refl) is)
+  where
+    none_bad : {E : Type 0} (d : DraftPlant) (demands times : Option (List ℕ)) (r : Result DraftLint E) → record_faults d demands times ≡ [] → IfOk r (LintsWhole (demands_file d) (plant_of_bytes d demands times)) → IfOk r (LintsDraft d demands times)
+    none_bad d demands times (Err e) good is = tt
+    none_bad d demands times (Ok (draft.Refused lines)) good is = rw good is
+    none_bad d demands times (Ok (draft.Sound plant notes)) good is = rw good is

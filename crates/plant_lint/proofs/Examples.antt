@@ -3,10 +3,12 @@ use Rattle.std.specs.Prelude.{◌≡◌, ℕ, pos, List, [], ◌++◌, codes, re
 use Rattle.std.specs.Fmt.{digits}
 use Rattle.toml.specs.Data.{Data, string, integer, array, table, no_items, item, no_members, member}
 use Rattle.plant_lint.specs.FileLints.{lint_of_tree}
-use Rattle.plant_lint.specs.declared.file.FileLint.TheVariants.{Refused, Sound}
+use Rattle.plant_lint.specs.declared.lint.Lint.TheVariants.{Refused, Sound}
+use Rattle.plant_lint.specs.Headers.{has_line, no_toml_line}
 use Rattle.plant_lint.specs.Positions.{position_line}
+use Rattle.plant_lint.specs.Paths.{row_of}
 use Rattle.plant_lint.specs.Texts.{fault_lines}
-use Rattle.plant_lint.specs.Trees.{walk_faults, tree_faults}
+use Rattle.plant_keys.specs.Walk.{walk_faults, tree_faults}
 use Rattle.plant_lint.specs.Unused.{unused_lines}
 
 -- a machine with its time at this key
@@ -44,10 +46,10 @@ sound_file = refl
 three_faults :
     lint_of_tree (plant_a (codes "kanban") 99999 (codes "tim"))
     ≡ Refused
-    (codes "plant: unknown key: stage[2].machine[1].tim\n"
-    ++ (codes "plant: missing: stage[2].machine[1].time\n"
-    ++ codes "plant: out of range: stage[1].cards wants 0 to 10000\n"))
-unfolding tree_faults walk_faults fault_lines digits
+    (codes "plant: unknown key: stage[2].machine[1].tim (weld.torch)\n"
+    ++ (codes "plant: missing: stage[2].machine[1].time (weld.torch)\n"
+    ++ codes "plant: out of range: stage[1].cards (cut) wants 0 to 10000\n"))
+unfolding tree_faults walk_faults row_of fault_lines digits
 three_faults = refl
 
 -- under base stock no stage has cards of its own
@@ -58,10 +60,21 @@ unfolding tree_faults walk_faults unused_lines digits
 unused_cards = refl
 
 -- an error at the tenth character of the first line, and at the second of the next
-first_line : position_line (codes "policy = ") ≡ codes "line 1 column 10: not toml\n"
+first_line : position_line (codes "policy = ") ≡ codes "line 1 column 10: not toml"
 unfolding digits
 first_line = refl
 
-next_line : position_line (codes "a = 1\nb") ≡ codes "line 2 column 2: not toml\n"
+next_line : position_line (codes "a = 1\nb") ≡ codes "line 2 column 2: not toml"
 unfolding digits
 next_line = refl
+
+-- the head of a table that stands twice, and one that doesn't
+twice :
+    no_toml_line (codes "[stage]\na = 1\n") (codes "[stage]\na = 2\n")
+    ≡ codes "line 3 column 1: not toml is 'stage' a list? write [[stage]]\n"
+unfolding digits has_line
+twice = refl
+
+once : no_toml_line (codes "[[stage]]\n") (codes "[stage]\n") ≡ codes "line 2 column 1: not toml\n"
+unfolding digits has_line
+once = refl

@@ -1,12 +1,10 @@
-pub mod ClassFaults
 pub mod Columns
-pub mod Examples
-pub mod FaultLists
-pub mod LineLists
-pub mod GatheredFaults
-pub mod NoToml
-pub mod Later
-pub mod Refusals
-pub mod SeenNames
-pub mod SoundFiles
 pub mod DraftLints
+pub mod Examples
+pub mod FaultLints
+pub mod GatheredNotes
+pub mod LineLists
+pub mod NoToml
+pub mod SoundFiles
+mod Searches
+mod HeadLines

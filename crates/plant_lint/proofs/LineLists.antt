@@ -1,16 +1,17 @@
--- The lines of faults, once the shown ones are written.
-use Rattle.std.proofs.Common.{◌≡◌, ℕ, ◌-◌, min, List, ◌++◌, length, take, Result, OnOk, ap, ◌∙◌, arith}
+-- The lines of faults: a line for each that is kept, and how many more there are.
+use Rattle.std.proofs.Common.{◌≡◌, ℕ, ◌-◌, List, ◌++◌, length, take, Result, Ok, Err, OnOk, ap, ◌∙◌, append_assoc}
 use Rattle.std.specs.Prelude.{⊤}
 use Rattle.std.specs.List.{flat_map}
-use Rattle.std.proofs.lemmas.List.{take_min}
-use Rattle.plant_lint.specs.declared.fault.Fault.{Fault}
-use Rattle.plant_lint.specs.Texts.{most_lines, fault_line, more_line, fault_lines}
-use Rattle.plant_lint.proofs.FaultLists.{then_more}
+use Rattle.plant_keys.specs.declared.fault.Fault.{Fault}
+use Rattle.plant_keys.specs.Found.{most_faults}
+use Rattle.plant_lint.specs.Remarks.{Remark}
+use Rattle.plant_lint.specs.Texts.{fault_line, more_line, fault_lines}
 
-pub shown_lines : {E : Type 0} (r : Result ⊤ E) (old text new : List ℕ) (faults : List Fault) (n : ℕ) → n ≡ min most_lines (length faults) → text ≡ old ++ flat_map fault_line (take n faults) → OnOk r (new ≡ text ++ more_line (length faults - n)) → OnOk r (new ≡ old ++ fault_lines faults)
+pub shown_lines : {E : Type 0} (remark : Remark) (r : Result ⊤ E) (old text new : List ℕ) (kept faults : List Fault) (more : ℕ) → kept ≡ take most_faults faults → more ≡ length faults - most_faults → text ≡ old ++ flat_map (fault_line remark) kept → OnOk r (new ≡ text ++ more_line more) → OnOk r (new ≡ old ++ fault_lines remark faults)
 unfolding fault_lines
-shown_lines r old text new faults n is was here =
-    let left : length faults - n ≡ length faults - most_lines = omega (arith, is) in
-    let front : take n faults ≡ take most_lines faults = rw is (take_min most_lines faults) in
-    then_more r old text new (flat_map fault_line (take most_lines faults)) (more_line (length faults - most_lines))
-    (was ∙ ap (λ shown. old ++ flat_map fault_line shown) front) (rw left at here)
+shown_lines remark (Ok v) old text new kept faults more is left was here =
+    here
+    ∙ ap (λ start. start ++ more_line more) (was ∙ ap (λ shown. old ++ flat_map (fault_line remark) shown) is)
+    ∙ ap (λ n. (old ++ flat_map (fault_line remark) (take most_faults faults)) ++ more_line n) left
+    ∙ append_assoc old _ _
+shown_lines remark (Err e) old text new kept faults more is left was here = here

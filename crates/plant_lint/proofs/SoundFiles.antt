@@ -6,27 +6,26 @@ use Rattle.plant_model.specs.declared.error.PlantError.TheVariants.{NotToml}
 use Rattle.toml.specs.Data.{Data}
 use Rattle.plant_file.specs.declared.draft.DraftPlant.{DraftPlant}
 use Rattle.plant_file.specs.Reading.{draft_of, draft_or_first, tree_of, tree_reading, reading}
-use Rattle.plant_lint.specs.declared.fault.Fault.{Fault}
-use Rattle.plant_lint.specs.declared.file.FileLint.{FileLint}
+use Rattle.plant_keys.specs.declared.fault.Fault.{Fault}
+use Rattle.plant_lint.specs.declared.lint.Lint.{Lint}
 use Rattle.plant_lint.specs.FileLints.{faults_or_notes, lint_of_tree, IsNoToml, LintsFile}
-use Rattle.plant_lint.specs.Laws.{errors, is_sound}
-use Rattle.plant_lint.specs.Trees.{tree_faults}
+use Rattle.plant_lint.specs.Laws.{is_sound}
+use Rattle.plant_keys.specs.Faults.{errors}
+use Rattle.plant_keys.specs.Walk.{tree_faults}
+use Rattle.plant_lint.specs.Remarks.{Remark, file_remark}
 use Rattle.plant_lint.specs.Unused.{unused_lines}
-use Rattle.plant_lint.proofs.Refusals.{errors-tree}
 
-sound_by : (faults : List Fault) (notes : List ℕ) (draft : DraftPlant) → is_sound (faults_or_notes faults notes) ≡ is_ok (draft_or_first (errors faults) draft)
-sound_by [] notes draft = refl
-sound_by (fault ∷ faults) notes draft = refl
+sound_by : (remark : Remark) (faults : List Fault) (notes : List ℕ) (draft : DraftPlant) → is_sound (faults_or_notes remark faults notes) ≡ is_ok (draft_or_first (errors faults) draft)
+sound_by remark [] notes draft = refl
+sound_by remark (fault ∷ faults) notes draft = refl
 
 sound_tree : (top : Data) → is_sound (lint_of_tree top) ≡ is_ok (tree_reading top)
-sound_tree top =
-    sound_by (tree_faults top) (unused_lines top) (draft_of top)
-    ∙ ap (λ refusals. is_ok (draft_or_first refusals (draft_of top))) (errors-tree top)
+sound_tree top = sound_by (file_remark top) (tree_faults top) (unused_lines top) (draft_of top)
 
-sound_tree_of : (bytes : List ℕ) (tree : Option Data) (lint : FileLint) → MatchOption tree (IsNoToml bytes lint) (λ top. lint ≡ lint_of_tree top) → is_sound lint ≡ is_ok (option_map_or tree_reading tree (Err NotToml))
+sound_tree_of : (bytes : List ℕ) (tree : Option Data) (lint : Lint) → MatchOption tree (IsNoToml bytes lint) (λ top. lint ≡ lint_of_tree top) → is_sound lint ≡ is_ok (option_map_or tree_reading tree (Err NotToml))
 sound_tree_of bytes None lint h = ap is_sound h.line
 sound_tree_of bytes (Some top) lint h = ap is_sound h ∙ sound_tree top
 
-pub sound_where_read : (bytes : List ℕ) (lint : FileLint) → LintsFile bytes lint → is_sound lint ≡ is_ok (reading bytes)
+pub sound_where_read : (bytes : List ℕ) (lint : Lint) → LintsFile bytes lint → is_sound lint ≡ is_ok (reading bytes)
 unfolding reading
 sound_where_read bytes lint h = sound_tree_of bytes (tree_of bytes) lint h

@@ -1,5 +1,5 @@
 -- What lint says of a draft, which nothing is wrong with by itself, and of the bytes of the files that it names.
-use Rattle.std.specs.Prelude.{◌≡◌, ℕ, List, [], ◌∷◌, Option, None, Some}
+use Rattle.std.specs.Prelude.{◌≡◌, ℕ, List, [], ◌∷◌, Option}
 use Rattle.plant_file.specs.declared.draft.DraftPlant.{DraftPlant}
 use Rattle.plant_file.specs.Draft.{demands_file}
 use Rattle.plant_file.specs.Finish.{plant_of_bytes}
@@ -7,25 +7,21 @@ use Rattle.plant_model.specs.declared.plant.Plant.{Plant}
 use Rattle.plant_model.specs.Sound.{IsSound}
 use Rattle.plant_lint.specs.declared.draft_lint.DraftLint.{DraftLint}
 use Rattle.plant_lint.specs.declared.draft_lint.DraftLint.TheVariants as draft
-use Rattle.plant_lint.specs.declared.fault.Fault.{Fault}
-use Rattle.plant_lint.specs.declared.file.FileLint.{FileLint}
-use Rattle.plant_lint.specs.declared.file.FileLint.TheVariants.{Refused, Sound}
+use Rattle.plant_keys.specs.declared.fault.Fault.{Fault}
+use Rattle.plant_lint.specs.declared.lint.Lint.{Lint}
+use Rattle.plant_lint.specs.declared.lint.Lint.TheVariants.{Refused, Sound}
 use Rattle.plant_lint.specs.PlantLints.{lint_of_plant}
 use Rattle.plant_lint.specs.Records.{record_faults}
+use Rattle.plant_lint.specs.Remarks.{no_remark}
 use Rattle.plant_lint.specs.Texts.{fault_lines}
 
 -- the lines of the faults, and where there is none what else is said
-abbrev pub faults_or : List Fault → FileLint → FileLint
+abbrev pub faults_or : List Fault → Lint → Lint
 faults_or [] more = more
-faults_or (fault ∷ faults) more = Refused (fault_lines (fault ∷ faults))
-
--- the lines of the faults, if there is one
-abbrev pub lines_if_any : List Fault → Option (List ℕ)
-lines_if_any [] = None
-lines_if_any (fault ∷ faults) = Some (fault_lines (fault ∷ faults))
+faults_or (fault ∷ faults) more = Refused (fault_lines no_remark (fault ∷ faults))
 
 -- the bad records of its files, and where there is none what is said of its plant
-abbrev pub lint_of_draft : DraftPlant → Option (List ℕ) → Option (List ℕ) → FileLint
+abbrev pub lint_of_draft : DraftPlant → Option (List ℕ) → Option (List ℕ) → Lint
 lint_of_draft d demands times =
     faults_or (record_faults d demands times) (lint_of_plant (demands_file d) (plant_of_bytes d demands times))
 

@@ -1,9 +1,9 @@
-pub mod Faults
-pub mod Classes
-pub mod Seen
-pub mod Trees
+pub mod Paths
+pub mod Labels
+pub mod Remarks
 pub mod Texts
 pub mod Positions
+pub mod Headers
 pub mod Unused
 pub mod FileLints
 pub mod PlantLints

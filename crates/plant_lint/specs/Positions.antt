@@ -24,8 +24,8 @@ line_after before = count_by ends_line before + 1
 abbrev pub column_after : List ℕ → ℕ
 column_after before = count_by begins_character (last_line before) + 1
 
--- the line of a file that is no TOML, where the reader's error begins behind these bytes
+-- that a file is no TOML, where the reader's error begins behind these bytes
 abbrev pub position_line : List ℕ → List ℕ
 position_line before =
     codes "line " ++ (decimal (line_after before)
-    ++ (codes " column " ++ (decimal (column_after before) ++ codes ": not toml\n")))
+    ++ (codes " column " ++ (decimal (column_after before) ++ codes ": not toml")))

@@ -6,7 +6,7 @@ use Rattle.plant_model.specs.Place.{key_of}
 use Rattle.toml.specs.Data.{Data}
 use Rattle.plant_keys.specs.Keys.{policy_word, has_stage_cards, has_line_cards, has_column}
 use Rattle.plant_keys.specs.Readers.{has, tables_at}
-use Rattle.plant_lint.specs.Faults.{all_of}
+use Rattle.plant_keys.specs.Faults.{all_of}
 
 -- the note of a key that is there and not used
 abbrev pub unused_line : List ℕ → List ℕ

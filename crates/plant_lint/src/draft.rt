@@ -1,20 +1,26 @@
 //! What lint says of a draft, which nothing is wrong with by itself, and of the files that it names.
-ghost use Rattle.std.specs.Prelude.{◌≡◌, ◌≤◌, [], IfOk, IfSome, length, option_copied, option_map};
-ghost use Rattle.line_base.specs.declared.limits.TheConstants.{MAX_CHECKPOINT_BYTES};
-ghost use Rattle.plant_file.specs.Finish.{AreFilesOf};
-ghost use Rattle.plant_lint.specs.DraftLints.{lines_if_any, LintsDraft, LintsWhole};
-ghost use Rattle.plant_lint.specs.Records.{record_faults};
+ghost use Rattle.std.specs.Prelude.{◌≡◌, ◌≤◌, ◌<◌, List, [], All, IfOk, IfSome, is_some, option_copied, option_map, vec_len};
+ghost use Rattle.line_base.specs.declared.limits.TheConstants.{MAX_DEMAND_DATE};
+ghost use Rattle.plant_file.specs.Draft.{demands_file, columns_of};
+ghost use Rattle.plant_file.specs.Finish.{AreFilesOf, plant_with};
+ghost use Rattle.plant_keys.specs.Found.{AreFaults};
+ghost use Rattle.plant_keys.specs.declared.fault.Fault.{Fault};
+ghost use Rattle.plant_lint.specs.DraftLints.{LintsDraft, LintsWhole};
+ghost use Rattle.plant_lint.specs.Remarks.{no_remark};
+ghost use Rattle.plant_lint.specs.Texts.{fault_lines};
 ghost use Rattle.plant_model.specs.Refusals.{all_feeds_not_later, whole_refusals};
 ghost use Rattle.plant_model.specs.Sound.{IsSound};
 
 use crate::draft_lint::DraftLint;
-use crate::fault::Fault;
-use crate::file::FileLint;
-use crate::lines::lines_of;
+use crate::file::text_of;
+use crate::lint::Lint;
 use crate::plant::lint_plant;
-use crate::records::bad_records;
-use line_base::Text;
+use crate::records::{TablesRead, read_tables};
+use crate::remarks::NoRemarks;
+use demand_feed::Columns;
+use line_base::{Date, Text};
 use plant_file::{Draft, assemble_plant};
+use plant_keys::FaultList;
 use plant_model::Plant;
 use std::alloc::{AllocError, Global};
 
@@ -29,11 +35,13 @@ pub fn lint_draft(
     requires { AreFilesOf draft demands times }
     ensures { IfOk result (LintsDraft draft (option_copied demands.entry) (option_copied times.entry)) }
 {
-    match refused_records(alloc, &draft, demands, times) {
-        Ok(None) => lint_tables(alloc, draft, demands, times),
-        Ok(Some(lines)) => {
+    match read_tables(alloc, &draft, demands, times) {
+        Ok(TablesRead::Whole { dates, table }) => lint_tables(alloc, draft, dates, table),
+        Ok(TablesRead::Bad(list)) => {
             drop(draft);
-            Ok(DraftLint::Refused { lines })
+            let lint = refused_by(alloc, &list);
+            drop(list);
+            lint
         }
         Err(AllocError) => {
             drop(draft);
@@ -42,47 +50,32 @@ pub fn lint_draft(
     }
 }
 
-/// The lines of the first bad record of each file that a draft names, where one is bad.
-fn refused_records(
-    alloc: Global,
-    draft: &Draft,
-    demands: Option<&[u8]>,
-    times: Option<&[u8]>,
-) -> Result<Option<Text>, AllocError>
-    requires { IfSome times (λ bytes. length bytes.now ≤ MAX_CHECKPOINT_BYTES) }
-    ensures { IfOk result (λ lines.
-        lines ≡ lines_if_any (record_faults draft.now (option_copied demands.entry) (option_copied times.entry))) }
+/// That there are these faults.
+fn refused_by(alloc: Global, list: &FaultList) -> Result<DraftLint, AllocError>
+    ensures { (faults : List Fault) → AreFaults list.now faults
+        → IfOk result (λ lint. lint ≡ DraftLint.Refused (fault_lines no_remark faults)) }
 {
-    let faults = bad_records(alloc, draft, demands, times)?;
-    let lines = lines_if_any(alloc, faults.as_slice());
-    drop(faults);
-    lines
+    let lines = text_of(alloc, &NoRemarks, list)?;
+    Ok(DraftLint::Refused { lines })
 }
 
-/// The lines of faults, if there is one.
-fn lines_if_any(alloc: Global, faults: &[Fault]) -> Result<Option<Text>, AllocError>
-    ensures { IfOk result (λ lines. lines ≡ lines_if_any faults.now) }
-{
-    if faults.is_empty() {
-        return Ok(None);
-    }
-    let lines = lines_of(alloc, faults)?;
-    Ok(Some(Text::from_string(lines)))
-}
-
-/// What lint says of a draft and of the bytes of the files that it names, of which no record is bad.
+/// What lint says of a draft, with the dates of its demand file and the times of its times file where it uses them.
 fn lint_tables(
     alloc: Global,
     draft: Draft,
-    demands: Option<&[u8]>,
-    times: Option<&[u8]>,
+    dates: Option<Vec<Date>>,
+    times: Option<Columns>,
 ) -> Result<DraftLint, AllocError>
-    requires files { AreFilesOf draft demands times }
-    requires good { record_faults draft (option_copied demands) (option_copied times) ≡ [] }
-    ensures { IfOk result (LintsDraft draft (option_copied demands.entry) (option_copied times.entry)) }
+    requires dates_where_used { is_some dates ≡ is_some (demands_file draft) }
+    requires some_dates { IfSome dates (λ read. 0 < vec_len read) }
+    requires dates_limit { IfSome dates (λ read. All (λ date. date ≤ MAX_DEMAND_DATE) read.items) }
+    requires times_where_used { is_some times ≡ is_some draft.times_file }
+    requires times_columns { IfSome times (λ table. table.columns ≡ columns_of draft) }
+    ensures { IfOk result (LintsWhole (demands_file draft)
+        (plant_with draft (option_map (λ read. read.items) dates) times)) }
 {
     match copy_of(alloc, draft.demands_file()) {
-        Ok(file) => match assemble_plant(alloc, draft, demands, times) {
+        Ok(file) => match assemble_plant(alloc, draft, dates, times) {
             Ok(plant) => lint_whole(alloc, text_in(&file), plant),
             Err(error) => {
                 drop(error);
@@ -91,6 +84,8 @@ fn lint_tables(
         },
         Err(AllocError) => {
             drop(draft);
+            drop(dates);
+            drop(times);
             Err(AllocError)
         }
     }
@@ -123,8 +118,8 @@ fn lint_whole(alloc: Global, file: Option<&str>, plant: Plant) -> Result<DraftLi
     ensures { IfOk result (LintsWhole (option_map (λ name. name.now) file.entry) plant) }
 {
     match lint_plant(alloc, file, &plant) {
-        Ok(FileLint::Sound { notes }) => Ok(DraftLint::Sound { plant, notes }),
-        Ok(FileLint::Refused { lines }) => {
+        Ok(Lint::Sound { notes }) => Ok(DraftLint::Sound { plant, notes }),
+        Ok(Lint::Refused { lines }) => {
             drop(plant);
             Ok(DraftLint::Refused { lines })
         }

@@ -1,33 +1,39 @@
 //! What lint says of a plant file by itself.
-ghost use Rattle.std.specs.Prelude.{◌≡◌, IfOk};
-ghost use Rattle.plant_lint.specs.FileLints.{faults_or_notes, lint_of_tree, IsNoToml, LintsFile};
+ghost use Rattle.std.specs.Prelude.{◌≡◌, List, [], IfOk, drop, take};
+ghost use Rattle.plant_file.specs.Reading.{draft_of};
+ghost use Rattle.plant_keys.specs.Found.{AreFaults};
+ghost use Rattle.plant_keys.specs.Walk.{tree_faults};
+ghost use Rattle.plant_keys.specs.declared.fault.Fault.{Fault};
+ghost use Rattle.plant_lint.specs.FileLints.{ReadsFile, ReadsTree};
+ghost use Rattle.plant_lint.specs.Headers.{no_toml_line};
+ghost use Rattle.plant_lint.specs.Remarks.{file_remark};
 ghost use Rattle.plant_lint.specs.Texts.{fault_lines};
-ghost use Rattle.plant_lint.specs.Unused.{unused_lines};
-ghost use Rattle.toml.specs.Errors.{IsMemory, IsWithin};
+ghost use Rattle.toml.specs.Errors.{IsMemory, IsWithin, span_start};
 ghost use Rattle.toml.specs.View.{view};
 
-use crate::fault::Fault;
+use crate::headers::no_toml_line;
 use crate::lines::lines_of;
-use crate::position::position_line;
-use crate::tree::faults_of_tree;
+use crate::remarks::{FileRemarks, Remarks};
 use crate::unused::unused_lines;
 use line_base::Text;
+use plant_file::{Draft, TreeReading, read_tree_or_faults};
+use plant_keys::FaultList;
 use std::alloc::{AllocError, Global};
 use toml::Value;
 
-/// What lint says of the bytes of a plant file by themselves.
+/// The reading of a plant file, with what lint says of it by itself.
 #[derive(Drop)]
 pub enum FileLint {
     /// Where the file stops being TOML, or what is wrong with it.
     Refused { lines: Text },
-    /// Nothing is wrong with it by itself; the notes of the keys that aren't used.
-    Sound { notes: Text },
+    /// Nothing is wrong with it by itself: what it says, and the notes of the keys that aren't used.
+    Sound { draft: Draft, notes: Text },
 }
 
 /// What lint says of the bytes of a plant file: where they stop being TOML, else all that is wrong with them by
-/// themselves, and where nothing is, which keys the policy doesn't use.
+/// themselves, and where nothing is, which keys the policy doesn't use. A file that is right is read with it.
 pub fn lint_file(alloc: Global, bytes: &[u8]) -> Result<FileLint, AllocError>
-    ensures { IfOk result (LintsFile bytes.now) }
+    ensures { IfOk result (ReadsFile bytes.now) }
 {
     match toml::table_from_slice(alloc, bytes) {
         Ok(top) => lint_tree(alloc, &Value::Table(top)),
@@ -35,43 +41,69 @@ pub fn lint_file(alloc: Global, bytes: &[u8]) -> Result<FileLint, AllocError>
     }
 }
 
-/// What lint says of a tree.
+/// What lint says of a tree, which is read with it.
 fn lint_tree(alloc: Global, top: &Value) -> Result<FileLint, AllocError>
-    ensures { IfOk result (λ lint. lint ≡ lint_of_tree (view top.now)) }
+    ensures { IfOk result (ReadsTree (view top.now)) }
 {
-    let faults = faults_of_tree(alloc, top)?;
-    let lint = faults_or_unused(alloc, &faults, top);
-    drop(faults);
-    lint
+    match read_tree_or_faults(alloc, top)? {
+        TreeReading::Draft(draft) => with_notes(alloc, draft, top),
+        TreeReading::Faults(list) => {
+            let lint = refused_by(alloc, top, &list);
+            drop(list);
+            lint
+        }
+    }
 }
 
-/// The lines of a tree's faults, and where there is none the notes of the keys that aren't used.
-fn faults_or_unused(alloc: Global, faults: &[Fault], top: &Value) -> Result<FileLint, AllocError>
-    ensures { IfOk result (λ lint. lint ≡ faults_or_notes faults.now (unused_lines (view top.now))) }
+/// The draft of a tree with which nothing is wrong, with the notes of the keys that aren't used.
+fn with_notes(alloc: Global, draft: Draft, top: &Value) -> Result<FileLint, AllocError>
+    requires sound { tree_faults (view top.now) ≡ [] }
+    requires draft { draft ≡ draft_of (view top.now) }
+    ensures { IfOk result (ReadsTree (view top.now)) }
 {
-    if !faults.is_empty() {
-        return lint_of_faults(alloc, faults);
+    match unused_lines(alloc, top) {
+        Ok(notes) => Ok(FileLint::Sound {
+            draft,
+            notes: Text::from_string(notes),
+        }),
+        Err(AllocError) => {
+            drop(draft);
+            Err(AllocError)
+        }
     }
-    let notes = Text::from_string(unused_lines(alloc, top)?);
-    Ok(FileLint::Sound { notes })
 }
 
 /// That there are these faults.
-pub(crate) fn lint_of_faults(alloc: Global, faults: &[Fault]) -> Result<FileLint, AllocError>
-    ensures { IfOk result (λ lint. lint ≡ FileLint.Refused (fault_lines faults.now)) }
+fn refused_by(alloc: Global, top: &Value, list: &FaultList) -> Result<FileLint, AllocError>
+    ensures { (faults : List Fault) → AreFaults list.now faults
+        → IfOk result (λ lint. lint ≡ FileLint.Refused (fault_lines (file_remark (view top.now)) faults)) }
 {
-    let lines = Text::from_string(lines_of(alloc, faults)?);
+    let lines = text_of(alloc, &FileRemarks { top }, list)?;
     Ok(FileLint::Refused { lines })
 }
 
-/// What lint says of bytes that the reader refuses. An error of memory points at no byte.
+/// The lines of these faults, with what is said behind each.
+pub(crate) fn text_of<R: Remarks>(
+    alloc: Global,
+    remarks: &R,
+    list: &FaultList,
+) -> Result<Text, AllocError>
+    ensures { (faults : List Fault) → AreFaults list.now faults
+        → IfOk result (λ lines. lines ≡ fault_lines (R.remark remarks.now) faults) }
+{
+    Ok(Text::from_string(lines_of(alloc, remarks, list)?))
+}
+
+/// What lint says of bytes that the reader refuses: where its error begins. An error of memory points at no byte.
 fn lint_error(alloc: Global, bytes: &[u8], error: &toml::de::Error) -> Result<FileLint, AllocError>
     requires { IsWithin bytes.now error.now }
-    ensures { IfOk result (λ lint. IsNoToml bytes.now lint × (IsMemory error.now → ⊥)) }
+    ensures line { IfOk result (λ lint. lint ≡ FileLint.Refused
+        (no_toml_line (take (span_start error.now) bytes.now) (drop (span_start error.now) bytes.now))) }
+    ensures memory { IfOk result (λ _. IsMemory error.now → ⊥) }
 {
     let Some(span) = error.span() else {
         return Err(AllocError);
     };
-    let lines = Text::from_string(position_line(alloc, bytes, span.start)?);
+    let lines = Text::from_string(no_toml_line(alloc, bytes, span.start)?);
     Ok(FileLint::Refused { lines })
 }

@@ -11,7 +11,7 @@ pub(crate) fn position_line(alloc: Global, bytes: &[u8], at: usize) -> Result<St
 {
     let line = line_at(bytes, at);
     let column = column_at(bytes, at);
-    format!(in alloc; "line {line} column {column}: not toml\n")
+    format!(in alloc; "line {line} column {column}: not toml")
 }
 
 /// The line of a byte, from 1.
@@ -29,7 +29,7 @@ fn line_at(bytes: &[u8], at: usize) -> usize
 }
 
 /// Whether a byte ends a line.
-fn ends_line(byte: u8) -> bool
+pub(crate) fn ends_line(byte: u8) -> bool
     ensures { result ≡ ends_line byte }
 {
     byte == b'\n'

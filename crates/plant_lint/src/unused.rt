@@ -1,6 +1,6 @@
 //! The keys of a plant file that its policy doesn't use.
 ghost use Rattle.std.specs.Prelude.{◌≡◌, ◌++◌, not, IfOk, OnOk, string_bytes};
-ghost use Rattle.plant_lint.specs.Faults.{all_of};
+ghost use Rattle.plant_keys.specs.Faults.{all_of};
 ghost use Rattle.plant_lint.specs.Unused.{unused_line, unused_if, unused_at_top, unused_in_stage, is_kanban, unused_lines};
 ghost use Rattle.toml.specs.View.{view};
 

@@ -3,12 +3,14 @@
 
 mod hints;
 
-use hints::hint;
-use line_disk::{Disk, FileDisk};
-use line_io::{FileStore, Sink, StdSink, Store};
+use crash_disk::{Disk, FileDisk};
+use hints::line_beside;
+use host_calls::{HostFile, HostFiles, HostOut};
 use line_workers::FreeGate;
+use outside_io::{FileStore, Sink, StdSink, Store};
 use pull_cli::pull;
 use std::alloc::Global;
+use std::fs::Files;
 use std::process::ExitCode;
 use std::rt::Env;
 use std::sync::Wait;
@@ -28,15 +30,19 @@ fn words_of<R: Env + AllocGlobal>(rt: &R) -> io::Result<Vec<String>> {
     Ok(words.collect(rt.alloc())?)
 }
 
-/// The end with a status. Where it isn't 0, standard error gets a line: which status it is, and what to do next.
-/// Whether that can be written changes nothing.
-fn end<R: Eprint + AllocGlobal>(rt: &R, status: u8, words: &[String]) -> ExitCode {
-    if status != 0 {
-        let _ = match hint(rt.alloc(), status, words) {
-            Ok(line) => eprintln!(rt; "{line}"),
-            Err(_) => eprintln!(rt; "pull: status {status}, and out of memory"),
-        };
-    }
+/// The end with a status. Where there is something to say beside the answer, standard error gets a line: which status
+/// it is, and what to do next. Whether that can be written changes nothing.
+fn end<R: Eprint + AllocGlobal + Files, S: Store>(
+    rt: &R,
+    store: &mut S,
+    status: u8,
+    words: &[String],
+) -> ExitCode {
+    let _ = match line_beside(rt, rt.alloc(), store, status, words) {
+        Ok(Some(line)) => eprintln!(rt; "{line}"),
+        Ok(None) => Ok(()),
+        Err(_) => eprintln!(rt; "pull: status {status}, and out of memory"),
+    };
     status.into()
 }
 
@@ -69,15 +75,15 @@ fn main(rt: HostRuntime) -> ExitCode {
         fs::open(&rt, "/dev/null"),
         fs::open(&rt, "/dev/null"),
     ];
+    let mut store = FileStore::over(rt.alloc(), HostFiles::new(&rt));
     match words_of(&rt) {
         Ok(words) => {
             let words = words.as_slice();
-            let mut store = FileStore::new(&rt);
-            let mut sink = StdSink::new(rt.stdout());
-            let mut disk = FileDisk::new(&rt);
+            let mut sink = StdSink::over(HostOut::new(rt.stdout()));
+            let mut disk = FileDisk::over(HostFile::new(&rt));
             let status = status_of(&rt, rt.alloc(), words, &mut store, &mut sink, &mut disk);
-            end(&rt, status, words)
+            end(&rt, &mut store, status, words)
         }
-        Err(error) => end(&rt, status_without_words(&error), &[]),
+        Err(error) => end(&rt, &mut store, status_without_words(&error), &[]),
     }
 }

@@ -5,9 +5,9 @@ use Rattle.std.proofs.lemmas.Result.{err_from_is_err_and}
 use Rattle.command_line.specs.declared.command.Command.{Command}
 use Rattle.command_line.specs.declared.command.WordsError.{WordsError}
 use Rattle.command_line.specs.declared.command.WordsError.TheVariants as words_error
-use Rattle.line_io.specs.Calls.{none_asked}
-use Rattle.line_disk.specs.DiskView.{DiskView}
-use Rattle.line_io.specs.StoreView.{StoreView}
+use Rattle.outside_io.specs.Calls.{none_asked}
+use Rattle.crash_disk.specs.DiskView.{DiskView}
+use Rattle.outside_io.specs.StoreView.{StoreView}
 use Rattle.live_plant.specs.declared.refusals.refusal.Refusal.{Refusal}
 use Rattle.live_plant.specs.declared.refusals.refusal.Refusal.TheVariants.{NoMemory}
 use Rattle.live_plant.specs.Actions.{DiskOver, disk_over, HasCause, Does}

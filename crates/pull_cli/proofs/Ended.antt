@@ -6,21 +6,11 @@ use Rattle.live_plant.specs.declared.refusals.refusal.Refusal.{Refusal}
 use Rattle.live_plant.specs.Actions.{DiskOver, Does}
 use Rattle.live_plant.specs.Outside.{StoreOver, SinkOver}
 use Rattle.answers.specs.declared.answer.Answer.{Answer}
+use Rattle.pull_cli.specs.Ended.{Ended}
 use Rattle.pull_cli.specs.Ends.{Ends, Finishes}
-use Rattle.pull_cli.specs.Files.{FilesStay}
-use Rattle.pull_cli.specs.RunReports.{RunReports}
-use Rattle.pull_cli.specs.StopsAndResumes.{StopsAndResumes}
 use Rattle.pull_cli.specs.Verdict.{OfWords}
 use Rattle.pull_cli.proofs.FileLemmas.{files_of}
-use Rattle.pull_cli.proofs.HeadlineLemmas.{reports_of, stops_of}
-
--- the four clauses of the top call
-pub record Ended (words : List (List ℕ)) (store : StoreOver) (sink : SinkOver) (disk : DiskOver)
-    (status : ℕ) : Type 0 where
-  pub ends : Ends words store sink disk status
-  pub reports : RunReports words store sink status
-  pub stops : StopsAndResumes words store sink status
-  pub files : FilesStay words store sink status
+use Rattle.pull_cli.proofs.HeadlineLemmas.{reports_of, stops_of, stops_where_of}
 
 pub ended : {words : List (List ℕ)} {store : StoreOver} {disk : DiskOver} {answer : Result Answer Refusal} {status : ℕ}
     (sink : SinkOver) → Does store disk (OfWords store.tells store.old.files (command_of words)) answer →
@@ -31,5 +21,6 @@ ended {words} {store} {disk} {answer} {status} sink does finishes =
       ends = ends;
       reports = reports_of words store sink disk status ends;
       stops = stops_of words store sink disk status ends;
+      stops_where = stops_where_of words store sink disk status ends;
       files = files_of words store sink disk status ends;
     }

@@ -2,32 +2,30 @@
 use Rattle.std.proofs.Common.{◌≡◌, ◌≢◌, ◌⊎◌, ℕ, List, [], ◌++◌, ap, sym, subst, append-nil, inl, inr}
 use Rattle.std.proofs.Common.{⊎_elim, arith}
 use Rattle.std.specs.Prelude.{Option, Some, None, Result, Ok, Err, IsTrue}
-use Rattle.checkpoint.specs.Text.{text}
-use Rattle.checkpoint.specs.declared.format.Format.TheVariants.{Differences}
+use Rattle.command_line.specs.Sources.{plant_at}
 use Rattle.command_line.specs.Words.{command_of}
 use Rattle.command_line.specs.declared.command.Command.{Command}
 use Rattle.command_line.specs.declared.command.Command.TheVariants as command
 use Rattle.command_line.specs.declared.command.Stop.{Stop}
+use Rattle.command_line.specs.declared.disk_question.DiskQuestion.TheVariants as of_disk
 use Rattle.line_core.specs.Consistent.{firing_count}
-use Rattle.line_io.specs.Calls.{Read, Asked, write_of, none_asked}
-use Rattle.line_io.specs.Contents.{IsTorn}
-use Rattle.line_io.specs.SinkView.{PutsAll}
-use Rattle.line_io.specs.declared.store.StoreError.{StoreError}
-use Rattle.line_io.specs.declared.store.StoreError.TheVariants as store_error
+use Rattle.outside_io.specs.Calls.{Read, Asked, write_of, none_asked}
+use Rattle.outside_io.specs.Contents.{IsTorn}
+use Rattle.outside_io.specs.SinkView.{PutsAll}
+use Rattle.outside_io.specs.declared.store.StoreError.{StoreError}
+use Rattle.outside_io.specs.declared.store.StoreError.TheVariants as store_error
 use Rattle.plant_model.specs.declared.plant.Plant.{Plant}
-use Rattle.plant_model.specs.Graph.{graph}
-use Rattle.answers.specs.Answer.{answer_bytes}
 use Rattle.live_plant.specs.declared.refusals.refusal.Refusal.{Refusal}
 use Rattle.live_plant.specs.declared.refusals.refusal.Refusal.TheVariants.{StoreFault}
 use Rattle.live_plant.specs.Actions.{Action, DiskOver, DoesOn, with_asked, LeavesFile, WritesOne, Changes}
 use Rattle.live_plant.specs.Outside.{StoreOver, SinkOver}
-use Rattle.live_plant.specs.PlantSteps.{OfPlantNamed}
+use Rattle.live_plant.specs.LiveSteps.{OfPlantNamed}
 use Rattle.commands.specs.Saving.{AnswersWrite, ResumesSlots, RunsUntil, RunsWithSlots, Stops}
 use Rattle.answers.specs.declared.answer.Answer.{Answer}
-use Rattle.answers.specs.declared.answer.Answer.TheVariants.{Stopped}
 use Rattle.pull_cli.specs.Ends.{Ends, Finishes, Writes, WritesRefusal}
 use Rattle.pull_cli.specs.Files.{save_of, LeavesSaved, StaysOrSaves, FilesStay}
 use Rattle.pull_cli.specs.RunReports.{IsPlantRead}
+use Rattle.pull_cli.specs.StopsAndResumes.{saved_text, stopped_line}
 use Rattle.pull_cli.specs.Verdict.{OfCommand, OfWords}
 use Rattle.pull_cli.proofs.HeadlineLemmas.{plant_read}
 
@@ -38,10 +36,10 @@ unwritten asks after none = ap (λ (a : Asked). a.writes) none
 -- what the status says of a file, where the line of a stop was written, and where that of a failed write was
 abbrev pub SaysOfFile : SinkOver → ℕ → Option (List ℕ) → Option (List ℕ) → List ℕ → ℕ → Type 0
 SaysOfFile sink status old new bytes count =
-    LeavesSaved status old new bytes × (status ≡ 0 → PutsAll sink.old sink.new (answer_bytes (Stopped count)))
+    LeavesSaved status old new bytes × (status ≡ 0 → PutsAll sink.old sink.new (stopped_line count))
 
 stop_says : (sink : SinkOver) (status count : ℕ) (old new : Option (List ℕ)) (bytes : List ℕ) →
-    Writes sink (answer_bytes (Stopped count)) 0 status → new ≡ Some bytes → SaysOfFile sink status old new bytes count
+    Writes sink (stopped_line count) 0 status → new ≡ Some bytes → SaysOfFile sink status old new bytes count
 stop_says sink status count old new bytes (inl all) is = (inl (all.0, is), λ zero. all.1)
 stop_says sink status count old new bytes (inr broke) is =
     (inr (inr broke.0, inr (bytes, [], sym (append-nil bytes), is)), λ zero. absurd (omega (arith, broke.0, zero)))
@@ -75,7 +73,7 @@ module _ (store : StoreOver) (sink : SinkOver) (disk : DiskOver) (answer : Resul
 
   -- so did the run that is this command
   abbrev StopsIn : Command → Type 0
-  StopsIn (command.Run name workers (Some stop)) = HasStopped name workers stop
+  StopsIn (command.Stopping plant workers stop) = HasStopped plant.file workers stop
   StopsIn other = ⊥
 
   none_written : asks.writes ≡ [] → (q : List ℕ) → store.new.files q ≡ store.old.files q
@@ -109,15 +107,14 @@ module _ (store : StoreOver) (sink : SinkOver) (disk : DiskOver) (answer : Resul
 
   -- what each command wrote
   writes_of : (c : Command) → OfCommand store.tells store.old.files c asks disk answer → (asks.writes ≡ []) ⊎ StopsIn c
-  writes_of (command.Run plant workers (Some stop)) does =
-      stop_writes plant workers stop does.between does.before does.after does.split does.answers does.does_on
-  writes_of (command.RunSlots plant every workers) does =
+  writes_of (command.Stopping plant workers stop) does =
+      stop_writes plant.file workers stop does.between does.before does.after does.split does.answers does.does_on
+  writes_of (command.OnDisk plant (of_disk.RunSlots every workers)) does =
       inl (on_unwritten (λ p. RunsWithSlots p every) does.between does.after does.does_on
       (λ p on. unwritten asks does.after on.nothing))
-  writes_of (command.ResumeSlots plant workers) does =
+  writes_of (command.OnDisk plant (of_disk.ResumeSlots workers)) does =
       inl (on_unwritten ResumesSlots does.between does.after does.does_on
       (λ p on. unwritten asks does.after on.nothing))
-  writes_of (command.Run plant workers None) does = inl does.unwritten
   writes_of other does = inl does.unwritten
 
   writes_of_words : (c : Command) → OfWords store.tells store.old.files (Some c) asks disk answer →
@@ -127,7 +124,7 @@ module _ (store : StoreOver) (sink : SinkOver) (disk : DiskOver) (answer : Resul
 
   -- what was written where a run stopped
   state_written : (name : List ℕ) (workers : ℕ) (stop : Stop) (s : HasStopped name workers stop) →
-      WritesOne store (write_of stop.save (text Differences (graph s.plant) s.stops.state) s.stops.saved.given)
+      WritesOne store (write_of stop.save (saved_text s.plant s.stops.state) s.stops.saved.given)
   state_written name workers stop s =
       subst (Changes store) (ap (λ (a : Asked). a.writes) s.stops.saved.writes) changes
 
@@ -135,8 +132,8 @@ module _ (store : StoreOver) (sink : SinkOver) (disk : DiskOver) (answer : Resul
   others_of : (c : Command) → (asks.writes ≡ []) ⊎ StopsIn c → (q : List ℕ) → save_of (Some c) ≢ Some q →
       store.new.files q ≡ store.old.files q
   others_of c (inl none) q other = none_written none q
-  others_of (command.Run name workers (Some stop)) (inr s) q other =
-      (state_written name workers stop s).others_stay known q
+  others_of (command.Stopping plant workers stop) (inr s) q other =
+      (state_written plant.file workers stop s).others_stay known q
       (λ same. other (ap (λ (n : List ℕ). Some n) (sym same)))
   others_of c (inr s) q other = absurd s
 
@@ -160,7 +157,7 @@ module _ (store : StoreOver) (sink : SinkOver) (disk : DiskOver) (answer : Resul
   left file bytes count (Err store_error.NoMemory) leaves answers = inl (leaves known)
 
   saved_in : (name : List ℕ) (workers : ℕ) (stop : Stop) → HasStopped name workers stop →
-      StaysOrSaves name stop store sink status
+      StaysOrSaves name workers stop store sink status
   saved_in name workers stop s =
       ⊎_elim (λ same. inl same)
       (λ says. inr (record {
@@ -168,42 +165,41 @@ module _ (store : StoreOver) (sink : SinkOver) (disk : DiskOver) (answer : Resul
         read = s.read;
         state = s.stops.state;
         stopped = s.stops.resumed;
-        workers = workers;
         first_end = s.stops.first_end;
         count = s.stops.stop;
         leaves = says.0;
         says = says.1;
       }))
-      (left stop.save (text Differences (graph s.plant) s.stops.state) (firing_count s.stops.state) s.stops.saved.given
+      (left stop.save (saved_text s.plant s.stops.state) (firing_count s.stops.state) s.stops.saved.given
       (state_written name workers stop s).leaves s.stops.saved.answers)
 
   saved_so : (name : List ℕ) (workers : ℕ) (stop : Stop) →
-      (asks.writes ≡ []) ⊎ HasStopped name workers stop → StaysOrSaves name stop store sink status
+      (asks.writes ≡ []) ⊎ HasStopped name workers stop → StaysOrSaves name workers stop store sink status
   saved_so name workers stop (inl none) = inl (none_written none stop.save)
   saved_so name workers stop (inr s) = saved_in name workers stop s
 
   saved : (w : Option Command) → OfWords store.tells store.old.files w asks disk answer →
-      (name : List ℕ) (workers : ℕ) (stop : Stop) → w ≡ Some (command.Run name workers (Some stop)) →
-      StaysOrSaves name stop store sink status
+      (name : List ℕ) (workers : ℕ) (stop : Stop) → w ≡ Some (command.Stopping (plant_at name) workers stop) →
+      StaysOrSaves name workers stop store sink status
   saved w of name workers stop is =
       saved_so name workers stop
-      (writes_of_words (command.Run name workers (Some stop))
+      (writes_of_words (command.Stopping (plant_at name) workers stop)
       (subst (λ (o : Option Command). OfWords store.tells store.old.files o asks disk answer) is of))
 
-  stays : (name : List ℕ) (stop : Stop) → status ≢ 0 → status ≢ 5 → status ≢ 6 →
-      StaysOrSaves name stop store sink status → store.new.files stop.save ≡ store.old.files stop.save
-  stays name stop not_0 not_5 not_6 (inl same) = same
-  stays name stop not_0 not_5 not_6 (inr s) =
-      absurd (no_other_status status (store.old.files stop.save) (store.new.files stop.save)
-      (text Differences (graph s.plant) s.state) not_0 not_5 not_6 s.leaves)
+  stays : (name : List ℕ) (workers : ℕ) (stop : Stop) → status ≢ 0 → status ≢ 5 → status ≢ 6 →
+      StaysOrSaves name workers stop store sink status → store.new.files stop.save ≡ store.old.files stop.save
+  stays name workers stop not_0 not_5 not_6 (inl same) = same
+  stays name workers stop not_0 not_5 not_6 (inr s) =
+      absurd (no_other_status status (store.old.files stop.save) (store.new.files stop.save) (saved_text s.plant s.state)
+      not_0 not_5 not_6 s.leaves)
 
   file_of : (w : Option Command) → OfWords store.tells store.old.files w asks disk answer → (q : List ℕ) →
       save_of w ≡ Some q → status ≢ 0 → status ≢ 5 → status ≢ 6 → store.new.files q ≡ store.old.files q
-  file_of (Some (command.Run name workers (Some stop))) of q is not_0 not_5 not_6 =
+  file_of (Some (command.Stopping plant workers stop)) of q is not_0 not_5 not_6 =
       let same : stop.save ≡ q = cc in
       subst (λ (f : List ℕ). store.new.files f ≡ store.old.files f) same
-      (stays name stop not_0 not_5 not_6 (saved_so name workers stop
-      (writes_of_words (command.Run name workers (Some stop)) of)))
+      (stays plant.file workers stop not_0 not_5 not_6 (saved_so plant.file workers stop
+      (writes_of_words (command.Stopping plant workers stop) of)))
   file_of other of q is not_0 not_5 not_6 = absurd (cc)
 
 -- the files, by how the call ends

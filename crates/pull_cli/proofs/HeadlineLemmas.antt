@@ -1,20 +1,19 @@
 -- A run whose call has ended with status 0 has ended well.
 use Rattle.std.proofs.Common.{◌≡◌, ◌⊎◌, ℕ, ◌≤◌, List, [], ◌∷◌, ◌++◌, refl, ap, sym, ◌∙◌, subst, inl, inr, arith}
 use Rattle.std.specs.Prelude.{Option, Some, None, Result, Ok, Err}
-use Rattle.checkpoint.specs.Text.{text}
-use Rattle.checkpoint.specs.declared.format.Format.TheVariants.{Differences}
+use Rattle.command_line.specs.Sources.{plant_at}
 use Rattle.command_line.specs.Words.{command_of}
 use Rattle.command_line.specs.declared.command.Command.{Command}
 use Rattle.command_line.specs.declared.command.Command.TheVariants as command
 use Rattle.command_line.specs.declared.command.Stop.{Stop}
-use Rattle.event_graph.specs.State.{State}
+use Rattle.command_line.specs.declared.disk_question.DiskQuestion.TheVariants as of_disk
+use Rattle.command_line.specs.declared.file_question.FileQuestion.TheVariants as of_file
+use Rattle.command_line.specs.declared.plant_question.PlantQuestion.TheVariants as of_plant
 use Rattle.line_core.specs.Consistent.{firing_count}
-use Rattle.line_io.specs.Calls.{Read, Write, Asked, write_of}
-use Rattle.line_io.specs.declared.store.StoreError.{StoreError}
-use Rattle.line_io.specs.declared.store.StoreError.TheVariants as store_error
-use Rattle.line_io.specs.SinkView.{PutsAll}
-use Rattle.line_runs.specs.Headline.{MayBeResumed}
-use Rattle.line_runs.specs.Resume.{IsCheckpoint}
+use Rattle.outside_io.specs.Calls.{Read, Write, Asked, write_of}
+use Rattle.outside_io.specs.declared.store.StoreError.{StoreError}
+use Rattle.outside_io.specs.declared.store.StoreError.TheVariants as store_error
+use Rattle.outside_io.specs.SinkView.{PutsAll}
 use Rattle.plant_model.specs.declared.plant.Plant.{Plant}
 use Rattle.plant_model.specs.Graph.{graph}
 use Rattle.live_plant.specs.Checkpoints.{checkpoint_refusal}
@@ -25,22 +24,24 @@ use Rattle.live_plant.specs.declared.refusals.refusal.Refusal.TheVariants.{NotRe
 use Rattle.live_plant.specs.declared.refusals.refusal.Refusal.TheVariants.{NotFollowed, Disk, NoCount, NothingSaved}
 use Rattle.live_plant.specs.declared.refusals.refusal.Refusal.TheVariants.{NotEdited, NoSingleCount, NoDate, Late}
 use Rattle.live_plant.specs.declared.refusals.refusal.Refusal.TheVariants.{TooLarge}
+use Rattle.live_plant.proofs.OneReading.{read_live}
 use Rattle.live_plant.specs.Actions.{Action, DiskOver, Plainly, DoesOn, ThenDoes, with_asked, Changes}
 use Rattle.live_plant.specs.Outside.{StoreOver, SinkOver}
-use Rattle.live_plant.specs.PlantSteps.{OfPlantNamed}
+use Rattle.live_plant.specs.LiveSteps.{OfPlantNamed}
 use Rattle.live_plant.specs.Steps.{Step, Settles, LooksAt, GoesOn, Then}
 use Rattle.commands.specs.Reports.{IsReport, IsResumed, IsNoCheckpoint}
 use Rattle.line_report.specs.ReportText.{report}
 use Rattle.event_graph.specs.Table.{date_in}
-use Rattle.answers.specs.Answer.{answer_bytes}
 use Rattle.commands.specs.Saving.{AsksNothing, AnswersWrite, Ends as EndsFirst, IsResumedOf, ResumesSaved, ResumesSlots}
 use Rattle.commands.specs.Saving.{RunsUntil, RunsWithSlots, Saves, Stops}
 use Rattle.answers.specs.declared.answer.Answer.{Answer}
 use Rattle.answers.specs.declared.answer.Answer.TheVariants.{Stopped}
 use Rattle.pull_cli.specs.Ends.{Ends, Finishes, Writes, WritesRefusal}
+use Rattle.pull_cli.proofs.ResumeLemmas.{resumes_of}
 use Rattle.pull_cli.proofs.WriteStatus.{whole}
 use Rattle.pull_cli.specs.RunReports.{run_of, IsPlantRead, HasReported, Reports, RunReports}
-use Rattle.pull_cli.specs.StopsAndResumes.{ResumesToReport, HasSaved, ReportsOrSaves, StopsAndResumes}
+use Rattle.pull_cli.specs.StopsAndResumes.{saved_text, stopped_line, HasSaved, ReportsOrSaves, StopsAndResumes}
+use Rattle.pull_cli.specs.StopsWhereAsked.{ReportsFirst, SavesFirstEnd, EndsWhereAsked, StopsWhereAsked}
 use Rattle.pull_cli.specs.Verdict.{OfCommand, OfWords}
 
 -- bytes that a call wrote which ends with status 0: all of them, and their status is 0
@@ -93,20 +94,6 @@ report_written p sink (Ok done) ended is = record {
 }
 report_written p sink (Err refusal) ended is = absurd is.written
 
--- the text of a state that firings reach is a checkpoint
-text_is_checkpoint : (p : Plant) (s : State) → MayBeResumed (graph p) s →
-    IsCheckpoint (graph p) (text Differences (graph p) s)
-text_is_checkpoint p s resumed = record {
-  state = s;
-  reached = resumed.reached;
-  text = record { format = Differences; read = tt; is = refl };
-}
-
--- so whatever resuming it answers is the report
-pub text_resumes : (p : Plant) (s : State) → MayBeResumed (graph p) s → ResumesToReport p (text Differences (graph p) s)
-text_resumes p s resumed answer (inl both) = both.1
-text_resumes p s resumed answer (inr other) = absurd (other.none (text_is_checkpoint p s resumed))
-
 -- steps that write nothing, as a step and then an action that writes nothing
 on_plainly : {A B : Type 0} (next : A → Step B) (between : Result A Refusal) (asked : Asked) (after : List Read)
     (disk : DiskOver) (answer : Result B Refusal) → asked.writes ≡ [] → disk.new ≡ disk.old →
@@ -138,13 +125,16 @@ plainly_then first next asked disk answer plain = record {
 pub plant_read : (store : StoreOver) (asks : Asked) → store.new.asked ≡ with_asked store.old.asked asks →
     (name : List ℕ) (p : Plant) (before after : List Read) → asks.reads ≡ before ++ after →
     OfPlantNamed store.tells store.old.files name before (Ok p) → IsPlantRead p name store
-plant_read store asks asked name p before after split answered = record {
-  reads = before;
-  more = after;
-  asked = ap (λ (a : Asked). a.reads) asked ∙ ap (λ (reads : List Read). store.old.asked.reads ++ reads) split;
-  answers = answered.answers;
-  of_files = answered.of_files;
-}
+plant_read store asks asked name p before after split answered =
+    let steps = read_live name before p answered.answers in
+    record {
+      reads = before;
+      more = after;
+      asked = ap (λ (a : Asked). a.reads) asked ∙ ap (λ (reads : List Read). store.old.asked.reads ++ reads) split;
+      answers = steps.answers;
+      live = steps.live;
+      of_files = answered.of_files;
+    }
 
 -- a call that answered this and ended with status 0, which asked this of the store
 module _ (store : StoreOver) (sink : SinkOver) (disk : DiskOver) (answer : Result Answer Refusal)
@@ -243,34 +233,45 @@ module _ (store : StoreOver) (sink : SinkOver) (disk : DiskOver) (answer : Resul
   write_done file count (Err store_error.TooLong) answers = absurd answers
   write_done file count (Err store_error.NoMemory) answers = absurd (no_refusal sink answer NoMemory ended answers)
 
-  has_saved : (p : Plant) (workers : ℕ) (stop : Stop) (after : List Read) →
-      Stops p workers stop.after stop.save (record asks { reads = after }) answer → HasSaved p stop store sink
-  has_saved p workers stop after stops =
-      let bytes = text Differences (graph p) stops.state in
-      let done = write_done stop.save (firing_count stops.state) stops.saved.given stops.saved.answers in
-      let one : asks.writes ≡ write_of stop.save bytes (Ok tt) ∷ [] =
+  saves_first : (p : Plant) (workers : ℕ) (stop : Stop) (after : List Read) →
+      Stops p workers stop.after stop.save (record asks { reads = after }) answer →
+      SavesFirstEnd p workers stop store sink
+  saves_first p workers stop after stops =
+      let s = stops.state in
+      let done = write_done stop.save (firing_count s) stops.saved.given stops.saved.answers in
+      let one : asks.writes ≡ write_of stop.save (saved_text p s) (Ok tt) ∷ [] =
       ap (λ (a : Asked). a.writes) stops.saved.writes ∙
-      ap (λ (given : Result (Unit {0}) StoreError). write_of stop.save bytes given ∷ []) done.0 in
+      ap (λ (given : Result (Unit {0}) StoreError). write_of stop.save (saved_text p s) given ∷ []) done.0 in
       record {
-        state = stops.state;
-        stopped = stops.resumed;
-        workers = workers;
+        saved = record {
+          state = s;
+          stopped = record {
+            enough = stops.first_end.enough;
+            not_all = stops.resumed.not_all;
+            reached = stops.resumed.reached;
+            circuits = stops.resumed.circuits;
+          };
+          fits = stops.fits;
+          asked = ap (λ (a : Asked). a.writes) asked ∙ ap (λ (writes : List Write). store.old.asked.writes ++ writes)
+              one;
+          saved = (subst (Changes store) one changes).leaves;
+          written = (zero_writes sink (stopped_line (firing_count s)) 0
+              (subst (λ (r : Result Answer Refusal). Finishes sink r 0) done.1 ended)).1;
+        };
+        resumed = stops.resumed;
         first_end = stops.first_end;
-        fits = stops.fits;
-        asked = ap (λ (a : Asked). a.writes) asked ∙ ap (λ (writes : List Write). store.old.asked.writes ++ writes) one;
-        saved = (subst (Changes store) one changes).leaves;
-        written = (zero_writes sink (answer_bytes (Stopped (firing_count stops.state))) 0
-            (subst (λ (r : Result Answer Refusal). Finishes sink r 0) done.1 ended)).1;
-        resumes = text_resumes p stops.state stops.resumed;
+        count = stops.stop;
       }
 
-  stop_well : (p : Plant) (workers : ℕ) (stop : Stop) (after : List Read) →
+  stops_first : (p : Plant) (workers : ℕ) (stop : Stop) (after : List Read) →
       Stops p workers stop.after stop.save (record asks { reads = after }) answer ⊎
       (EndsFirst p workers stop.after (record asks { reads = after }) answer ⊎
-      AsksNothing (record asks { reads = after }) answer) → HasReported p sink ⊎ HasSaved p stop store sink
-  stop_well p workers stop after (inl stops) = inr (has_saved p workers stop after stops)
-  stop_well p workers stop after (inr (inl whole)) = inl (report_written p sink answer ended whole.report)
-  stop_well p workers stop after (inr (inr wanting)) = absurd (no_refusal sink answer NoMemory ended wanting.1)
+      AsksNothing (record asks { reads = after }) answer) →
+      ReportsFirst p workers stop.after sink ⊎ SavesFirstEnd p workers stop store sink
+  stops_first p workers stop after (inl stops) = inr (saves_first p workers stop after stops)
+  stops_first p workers stop after (inr (inl ends)) =
+      inl (record { reported = report_written p sink answer ended ends.report; first = ends.first; short = ends.short })
+  stops_first p workers stop after (inr (inr wanting)) = absurd (no_refusal sink answer NoMemory ended wanting.1)
 
   -- a run to the end
   run_well : (plant name : List ℕ) → plant ≡ name →
@@ -284,34 +285,34 @@ module _ (store : StoreOver) (sink : SinkOver) (disk : DiskOver) (answer : Resul
   -- each command that runs a plant and isn't asked to stop
   of_run : (c : Command) (name : List ℕ) → run_of c ≡ Some name →
       OfCommand store.tells store.old.files c asks disk answer → Reports name store sink
-  of_run (command.Run plant workers None) name is does =
-      let same : plant ≡ name = cc in run_well plant name same does
-  of_run (command.RunRoom plant room workers) name is does =
-      let same : plant ≡ name = cc in run_well plant name same does
-  of_run (command.RunStand plant workers) name is does =
-      let same : plant ≡ name = cc in run_well plant name same does
-  of_run (command.RunSlots plant every workers) name is does =
-      let same : plant ≡ name = cc in
-      then_reports plant name same (λ p. RunsWithSlots p every) does (λ p after on. slots_saved p every on.answers)
-  of_run (command.Resume plant saved workers) name is does =
-      let same : plant ≡ name = cc in
-      then_reports plant name same (λ p. Plainly (Then (LooksAt saved) (λ bytes. Settles (IsResumed p bytes))))
-      (plainly_then (OfPlantNamed store.tells store.old.files plant)
+  of_run (command.OnPlant plant (of_plant.Run workers)) name is does =
+      let same : plant.file ≡ name = cc in run_well plant.file name same does
+  of_run (command.OnPlant plant (of_plant.RunRoom room workers)) name is does =
+      let same : plant.file ≡ name = cc in run_well plant.file name same does
+  of_run (command.Standing plant workers) name is does =
+      let same : plant.file ≡ name = cc in run_well plant.file name same does
+  of_run (command.OnDisk plant (of_disk.RunSlots every workers)) name is does =
+      let same : plant.file ≡ name = cc in
+      then_reports plant.file name same (λ p. RunsWithSlots p every) does (λ p after on. slots_saved p every on.answers)
+  of_run (command.OnDisk plant (of_disk.ResumeSlots workers)) name is does =
+      let same : plant.file ≡ name = cc in
+      then_reports plant.file name same ResumesSlots does (λ p after on. slots_resumed p on.answers)
+  of_run (command.OnFile plant saved (of_file.Resume workers)) name is does =
+      let same : plant.file ≡ name = cc in
+      then_reports plant.file name same (λ p. Plainly (Then (LooksAt saved) (λ bytes. Settles (IsResumed p bytes))))
+      (plainly_then (OfPlantNamed store.tells store.old.files plant.file)
       (λ p. Then (LooksAt saved) (λ bytes. Settles (IsResumed p bytes))) asks disk answer does)
       (λ p after on. file_resumed p saved after on.answers)
-  of_run (command.ResumeSlots plant workers) name is does =
-      let same : plant ≡ name = cc in
-      then_reports plant name same ResumesSlots does (λ p after on. slots_resumed p on.answers)
   of_run other name is does = absurd (cc)
 
   -- and one that is asked to
   of_stop : (name : List ℕ) (workers : ℕ) (stop : Stop) →
-      OfCommand store.tells store.old.files (command.Run name workers (Some stop)) asks disk answer →
-      ReportsOrSaves name stop store sink
+      OfCommand store.tells store.old.files (command.Stopping (plant_at name) workers stop) asks disk answer →
+      EndsWhereAsked name workers stop store sink
   of_stop name workers stop does =
       let of =
-      then_holds name (λ p. HasReported p sink ⊎ HasSaved p stop store sink)
-      (λ p. RunsUntil p workers stop.after stop.save) does (λ p after on. stop_well p workers stop after on.answers) in
+      then_holds name (λ p. ReportsFirst p workers stop.after sink ⊎ SavesFirstEnd p workers stop store sink)
+      (λ p. RunsUntil p workers stop.after stop.save) does (λ p after on. stops_first p workers stop after on.answers) in
       record { plant = of.plant; read = of.read; done = of.holds }
 
   -- what the words ask for
@@ -320,7 +321,22 @@ module _ (store : StoreOver) (sink : SinkOver) (disk : DiskOver) (answer : Resul
   done_whole c (inl does) = does
   done_whole c (inr wanting) = absurd (no_refusal sink answer NoMemory ended wanting.2)
 
--- both halves of the headline follow from how the call ends
+-- what such a run has done, without where it ended
+reported_or_saved : (p : Plant) (workers : ℕ) (stop : Stop) (store : StoreOver) (sink : SinkOver) →
+    ReportsFirst p workers stop.after sink ⊎ SavesFirstEnd p workers stop store sink →
+    HasReported p sink ⊎ HasSaved p stop store sink
+reported_or_saved p workers stop store sink (inl first) = inl first.reported
+reported_or_saved p workers stop store sink (inr saves) = inr saves.saved
+
+reports_or_saves : (name : List ℕ) (workers : ℕ) (stop : Stop) (store : StoreOver) (sink : SinkOver) →
+    EndsWhereAsked name workers stop store sink → ReportsOrSaves name stop store sink
+reports_or_saves name workers stop store sink ends = record {
+  plant = ends.plant;
+  read = ends.read;
+  done = reported_or_saved ends.plant workers stop store sink ends.done;
+}
+
+-- both halves of the headline, and where a run stops, follow from how the call ends
 module _ (words : List (List ℕ)) (store : StoreOver) (sink : SinkOver) (disk : DiskOver) (status : ℕ)
     (ends : Ends words store sink disk status) where
   finished : status ≡ 0 → Finishes sink ends.answer 0
@@ -338,7 +354,14 @@ module _ (words : List (List ℕ)) (store : StoreOver) (sink : SinkOver) (disk :
       of_run store sink disk ends.answer (finished zero) ends.does.asks ends.does.asked ends.does.changes c name runs
       (done c is zero)
 
-  pub stops_of : StopsAndResumes words store sink status
-  stops_of name workers stop is zero =
+  pub stops_where_of : StopsWhereAsked words store sink status
+  stops_where_of name workers stop is zero =
       of_stop store sink disk ends.answer (finished zero) ends.does.asks ends.does.asked ends.does.changes name workers
-      stop (done (command.Run name workers (Some stop)) is zero)
+      stop (done (command.Stopping (plant_at name) workers stop) is zero)
+
+  pub stops_of : StopsAndResumes words store sink status
+  stops_of = record {
+    stops = λ name workers stop is zero. reports_or_saves name workers stop store sink
+        (stops_where_of name workers stop is zero);
+    resumes = resumes_of words store sink disk status ends;
+  }

@@ -1,7 +1,7 @@
-pub mod Causes
 pub mod Ended
 pub mod CommandAnswers
 pub mod FileLemmas
 pub mod HeadlineLemmas
-pub mod TaskSteps
+pub mod CommandSteps
+pub mod ResumeLemmas
 pub mod WriteStatus

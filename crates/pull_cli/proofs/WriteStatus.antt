@@ -1,8 +1,8 @@
 -- What a call has written, and the status that it then answers.
 use Rattle.std.proofs.Common.{ℕ, List, refl, subst, inl, inr}
 use Rattle.std.specs.Prelude.{Result, Ok, Err}
-use Rattle.line_io.specs.SinkView.{SinkView, WritesText}
-use Rattle.line_io.specs.declared.sink.Failed.{Failed}
+use Rattle.outside_io.specs.SinkView.{SinkView, WritesText}
+use Rattle.outside_io.specs.declared.sink.Failed.{Failed}
 use Rattle.live_plant.specs.Outside.{SinkOver, sink_over}
 use Rattle.live_plant.specs.Refusal.{status_of, text_of}
 use Rattle.live_plant.specs.declared.refusals.refusal.Refusal.TheVariants.{NoMemory}

@@ -1,9 +1,9 @@
 -- The theorem of the top call: for every list of words, every store, sink, gate and disk, every number of workers and
 -- whatever their threads do, the call ends in one of the ways that are allowed here.
 use Rattle.std.specs.Prelude.{◌≡◌, ◌⊎◌, ℕ, List, Result, Ok, Err, ⊤}
-use Rattle.line_io.specs.Faults.{Rose}
-use Rattle.line_io.specs.SinkView.{SinkView, PutsAll, PutsPrefix}
-use Rattle.line_io.specs.declared.sink.Failed.{Failed}
+use Rattle.outside_io.specs.Faults.{Rose}
+use Rattle.outside_io.specs.SinkView.{SinkView, PutsAll, PutsPrefix}
+use Rattle.outside_io.specs.declared.sink.Failed.{Failed}
 use Rattle.command_line.specs.Words.{command_of}
 use Rattle.live_plant.specs.Refusal.{status_of, text_of, IsFixed}
 use Rattle.live_plant.specs.declared.refusals.refusal.Refusal.{Refusal}

@@ -5,33 +5,37 @@ use Rattle.std.specs.Prelude.{◌≡◌, ℕ, List, ◌++◌, IsTrue, Option, So
 use Rattle.command_line.specs.Words.{command_of}
 use Rattle.command_line.specs.declared.command.Command.{Command}
 use Rattle.command_line.specs.declared.command.Command.TheVariants as command
+use Rattle.command_line.specs.declared.file_question.FileQuestion.TheVariants as of_file
+use Rattle.command_line.specs.declared.plant_question.PlantQuestion.TheVariants as of_plant
 use Rattle.event_graph.specs.Least.{IsLeast}
+use Rattle.event_graph.specs.Live.{IsLive}
 use Rattle.event_graph.specs.Table.{date_in}
-use Rattle.line_io.specs.Calls.{Read}
-use Rattle.line_io.specs.SinkView.{PutsAll}
+use Rattle.outside_io.specs.Calls.{Read}
+use Rattle.outside_io.specs.SinkView.{PutsAll}
 use Rattle.line_report.specs.ReportText.{report}
 use Rattle.live_plant.specs.Outside.{StoreOver, SinkOver}
-use Rattle.live_plant.specs.PlantSteps.{OfLivePlant}
+use Rattle.live_plant.specs.PlantSteps.{OfPlantFile}
 use Rattle.plant_file.specs.PlantOfFiles.{plant_of}
 use Rattle.plant_model.specs.Graph.{graph}
 use Rattle.plant_model.specs.declared.plant.Plant.{Plant}
 
 -- the plant file of a command that runs a plant and isn't asked to stop
 abbrev pub run_of : Command → Option (List ℕ)
-run_of (command.Run plant workers None) = Some plant
-run_of (command.RunSlots plant every workers) = Some plant
-run_of (command.RunRoom plant room workers) = Some plant
-run_of (command.RunStand plant workers) = Some plant
-run_of (command.Resume plant saved workers) = Some plant
-run_of (command.ResumeSlots plant workers) = Some plant
+run_of (command.OnPlant plant (of_plant.Run workers)) = Some plant.file
+run_of (command.OnPlant plant (of_plant.RunRoom room workers)) = Some plant.file
+run_of (command.OnFile plant saved (of_file.Resume workers)) = Some plant.file
+run_of (command.Standing plant workers) = Some plant.file
+run_of (command.OnDisk plant question) = Some plant.file
 run_of other = None
 
--- "the plant file": the plant of the files, where they are known, and of the bytes that were read from them
+-- "the plant file": the plant of the bytes that were read from its files, which is live; and that of the files, where
+-- they are known
 pub record IsPlantRead (p : Plant) (name : List ℕ) (store : StoreOver) : Type 0 where
   pub reads : List Read
   pub more : List Read
   pub asked : store.new.asked.reads ≡ store.old.asked.reads ++ (reads ++ more)
-  pub answers : OfLivePlant name reads (Ok p)
+  pub answers : OfPlantFile name reads (Ok p)
+  pub live : IsLive (graph p)
   pub of_files : IsTrue store.tells → plant_of name store.old.files ≡ Ok p
 
 -- "has written exactly the report of the least solution of the policy's equations"

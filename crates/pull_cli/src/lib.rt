@@ -3,7 +3,7 @@
 //! and writes what it has to say to a sink.
 #![tactic(auto)]
 
-mod tasks;
+mod actions;
 mod top;
 
 pub use command_line::{Command, FileName, Stop, USAGE, WordsError, has_stand, read_words};

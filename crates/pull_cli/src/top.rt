@@ -2,24 +2,25 @@ ghost use Rattle.std.specs.Prelude.{◌≡◌, false, Some, Ok, IfOk, IfErr};
 ghost use Rattle.command_line.specs.Options.{has_stand, texts};
 ghost use Rattle.command_line.specs.Ranges.{IsInRange};
 ghost use Rattle.command_line.specs.Words.{command_of};
+ghost use Rattle.pull_cli.specs.Ended.{Ended};
 ghost use Rattle.pull_cli.specs.Ends.{Ends, Finishes, IsStatusAfter, IsWrittenInParts, Writes, WritesRefusal};
 ghost use Rattle.live_plant.specs.Refusal.{status_of, text_of};
 ghost use Rattle.live_plant.specs.declared.refusals.refusal.Refusal.TheVariants.{NoMemory};
 ghost use Rattle.pull_cli.specs.Files.{FilesStay};
 ghost use Rattle.pull_cli.specs.RunReports.{RunReports};
 ghost use Rattle.pull_cli.specs.StopsAndResumes.{StopsAndResumes};
+ghost use Rattle.pull_cli.specs.StopsWhereAsked.{StopsWhereAsked};
 ghost use Rattle.pull_cli.specs.Verdict.{CommandDoes, IsWordsRefusal, OfWords};
 ghost use Rattle.live_plant.specs.Actions.{disk_over, Does};
 ghost use Rattle.live_plant.specs.Outside.{store_over, sink_over};
 
-use crate::tasks::{do_task, stand_plant};
+use crate::actions::{do_still, stand_plant};
 use answers::{Answer, Unwritten, put_line, put_text};
 use command_line::{Command, WordsError, has_stand, read_words};
-use commands::task_of;
-use line_disk::Disk;
-use line_io::{Failed, Sink, Store};
+use crash_disk::Disk;
 use line_workers::Gate;
 use live_plant::{OUT_OF_MEMORY, Refusal};
+use outside_io::{Failed, Sink, Store};
 use std::alloc::Global;
 use std::sync::Wait;
 use std::thread::Threads;
@@ -52,6 +53,9 @@ pub fn pull<R: Threads + Wait + Sync, S: Store, K: Sink, G: Gate, D: Disk>(
     ensures stops { StopsAndResumes (texts words.now)
         (store_over S.tells (S.shown store.old) (S.shown store.new))
         (sink_over (K.shown sink.old) (K.shown sink.new)) result }
+    ensures stops_where { StopsWhereAsked (texts words.now)
+        (store_over S.tells (S.shown store.old) (S.shown store.new))
+        (sink_over (K.shown sink.old) (K.shown sink.new)) result }
     ensures files { FilesStay (texts words.now)
         (store_over S.tells (S.shown store.old) (S.shown store.new))
         (sink_over (K.shown sink.old) (K.shown sink.new)) result }
@@ -64,7 +68,7 @@ pub fn pull<R: Threads + Wait + Sync, S: Store, K: Sink, G: Gate, D: Disk>(
     }
 }
 
-/// `pull`, for words of which none is `--stand`. It waits for nothing, and returns.
+/// `pull`, for words of which none is `--stand`: it promises the same, waits for nothing, and returns.
 pub fn pull_still<R: Threads + Sync, S: Store, K: Sink, G: Gate, D: Disk>(
     rt: &R,
     alloc: Global,
@@ -75,19 +79,10 @@ pub fn pull_still<R: Threads + Sync, S: Store, K: Sink, G: Gate, D: Disk>(
     disk: &mut D,
 ) -> u8
     requires still { has_stand (texts words.now) ≡ false }
-    ensures ends { Ends (texts words.now)
+    ensures ended { Ended (texts words.now)
         (store_over S.tells (S.shown store.old) (S.shown store.new))
         (sink_over (K.shown sink.old) (K.shown sink.new))
         (disk_over D.tells (D.shown disk.old) (D.shown disk.new)) result }
-    ensures reports { RunReports (texts words.now)
-        (store_over S.tells (S.shown store.old) (S.shown store.new))
-        (sink_over (K.shown sink.old) (K.shown sink.new)) result }
-    ensures stops { StopsAndResumes (texts words.now)
-        (store_over S.tells (S.shown store.old) (S.shown store.new))
-        (sink_over (K.shown sink.old) (K.shown sink.new)) result }
-    ensures files { FilesStay (texts words.now)
-        (store_over S.tells (S.shown store.old) (S.shown store.new))
-        (sink_over (K.shown sink.old) (K.shown sink.new)) result }
 {
     let outcome = do_words_still(rt, alloc, words, store, gate, disk);
     write_outcome(rt, alloc, outcome, sink)
@@ -201,7 +196,7 @@ fn do_words_still<R: Threads + Sync, S: Store, G: Gate, D: Disk>(
         (OfWords S.tells (S.shown store.old).files (command_of (texts words.now))) result }
 {
     let command = command_in(alloc, words)?;
-    do_task(rt, alloc, task_of(command), store, gate, disk)
+    do_still(rt, alloc, command, store, gate, disk)
 }
 
 /// The command that the words are, or the refusal where there is none, or no memory for it.
@@ -231,9 +226,9 @@ fn do_command<R: Threads + Wait + Sync, S: Store, G: Gate, D: Disk>(
         (disk_over D.tells (D.shown disk.old) (D.shown disk.new)) command result }
 {
     match command {
-        Command::RunStand { plant, workers } => {
-            stand_plant(rt, alloc, store, plant.as_str(), workers, gate)
+        Command::Standing { plant, workers } => {
+            stand_plant(rt, alloc, store, &plant, workers, gate)
         }
-        command => do_task(rt, alloc, task_of(command), store, gate, disk),
+        command => do_still(rt, alloc, command, store, gate, disk),
     }
 }

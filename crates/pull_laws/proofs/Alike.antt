@@ -3,11 +3,11 @@ use Rattle.std.proofs.Common.{◌≡◌, ◌⊎◌, ℕ, Bool, List, [], ◌++�
 use Rattle.std.specs.Prelude.{Option, Some, None, Result, Ok, Err, IsTrue, All, ⊤}
 use Rattle.std.proofs.Math.Seq.{take-append_seam}
 use Rattle.std.proofs.lemmas.List.Elements.{All-head, All-take}
-use Rattle.line_io.specs.Calls.{Read, none_asked}
-use Rattle.line_io.specs.Contents.{Contents, IsLongerThan}
-use Rattle.line_io.specs.StoreView.{StoreView}
-use Rattle.line_io.specs.declared.store.StoreError.{StoreError}
-use Rattle.line_io.specs.declared.store.StoreError.TheVariants as store_error
+use Rattle.outside_io.specs.Calls.{Read, none_asked}
+use Rattle.outside_io.specs.Contents.{Contents, IsLongerThan}
+use Rattle.outside_io.specs.StoreView.{StoreView}
+use Rattle.outside_io.specs.declared.store.StoreError.{StoreError}
+use Rattle.outside_io.specs.declared.store.StoreError.TheVariants as store_error
 use Rattle.event_graph.specs.Live.{IsLive}
 use Rattle.plant_file.specs.Draft.{demands_file}
 use Rattle.plant_file.specs.Reading.{reading}
@@ -21,12 +21,13 @@ use Rattle.live_plant.specs.Refusal.{status_of}
 use Rattle.live_plant.specs.declared.refusals.refusal.Refusal.{Refusal}
 use Rattle.live_plant.specs.declared.refusals.refusal.Refusal.TheVariants.{Dead, NoMemory, StoreFault, TooLong}
 use Rattle.live_plant.specs.Outside.{limit_of, Fits, store_over}
-use Rattle.live_plant.specs.PlantSteps.{or_refused, OfDraft, OfBytes, OfPlantFile, IsLiveOrDead, OfLivePlant}
+use Rattle.live_plant.specs.PlantSteps.{or_refused, OfDraft, OfBytes, OfPlantFile}
+use Rattle.live_plant.specs.LiveSteps.{IsLiveOrDead, OfLivePlant}
 use Rattle.live_plant.specs.Steps.{Step, Settles, Gives, AnswersRead, LooksAt, LooksAtNamed, Then}
+use Rattle.live_plant.proofs.OneReading.{not_dead, read_live}
 use Rattle.live_plant.proofs.PlantsOfFiles.{then_leads, of_live_plant}
 use Rattle.pull_laws.specs.Verdicts.{IsFree}
 use Rattle.pull_laws.proofs.FileNames.{reading_sound}
-use Rattle.pull_laws.proofs.ResumeEnds.{not_dead}
 use Rattle.pull_laws.proofs.ShortFiles.{IsShort, short_bytes}
 use Rattle.pull_laws.proofs.SoundFiles.{plant_of-sound}
 
@@ -152,21 +153,6 @@ pub record IsSoundAndLive (p : Plant) : Type 0 where
   pub live : IsLive (graph p)
 
 -- so is the plant that is answered over files that are known
-abbrev IsLiveIn : Result Plant Refusal → Type 0
-IsLiveIn (Ok p) = IsLive (graph p)
-IsLiveIn (Err refusal) = ⊤
-
-settled_live : (x p : Plant) → IsLiveOrDead x (Ok p) ⊎ (◌≡◌ {A = Result Plant Refusal} (Ok p) (Err NoMemory)) →
-    IsLive (graph p)
-settled_live x p (inl is) = subst (λ (v : Plant). IsLive (graph v)) (sym is.0) is.1
-settled_live x p (inr none) = absurd (cc)
-
-plant_live : (tells : Bool) (files : Contents) (name : List ℕ) (reads : List Read) (p : Plant) →
-    OfLivePlant name reads (Ok p) → All (IsHeld tells files) reads → IsLive (graph p)
-plant_live tells files name reads p steps all =
-    then_leads (OfPlantFile name) (λ v. Settles (IsLiveOrDead v)) (IsHeld tells files) IsLiveIn reads (Ok p) steps all
-    (λ refusal before held stops. tt) (λ x before after held rest answers on. settled_live x p on.1)
-
 pub plant_known : (tells : Bool) (files : Contents) → IsTrue tells → (name : List ℕ) (reads : List Read) (p : Plant) →
     OfLivePlant name reads (Ok p) → All (IsHeld tells files) reads → IsSoundAndLive p
 plant_known tells files known name reads p steps all =
@@ -180,7 +166,7 @@ plant_known tells files known name reads p steps all =
     let is = of_live_plant (store_over tells view view) known name reads (Ok p) steps all in
     record {
       sound = plant_of-sound name files p (reading_sound (bytes_at files name)) is;
-      live = plant_live tells files name reads p steps all;
+      live = (read_live name reads p steps).live;
     }
 
 -- stores that are known to have the same files

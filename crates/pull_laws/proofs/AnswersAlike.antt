@@ -16,9 +16,9 @@ use Rattle.event_graph.specs.Table.{date_in}
 use Rattle.line_base.specs.declared.event.Parts.{Parts}
 use Rattle.line_core.specs.Consistent.{firing_count}
 use Rattle.line_core.specs.declared.error.ReplayError.{ReplayError}
-use Rattle.line_io.specs.Calls.{Asked}
-use Rattle.line_io.specs.declared.store.StoreError.{StoreError}
-use Rattle.line_io.specs.declared.store.StoreError.TheVariants as store_error
+use Rattle.outside_io.specs.Calls.{Asked}
+use Rattle.outside_io.specs.declared.store.StoreError.{StoreError}
+use Rattle.outside_io.specs.declared.store.StoreError.TheVariants as store_error
 use Rattle.line_report.specs.ReportText.{report}
 use Rattle.live_plant.specs.Actions.{DiskOver}
 use Rattle.plant_model.specs.declared.plant.Plant.{Plant}

@@ -1,6 +1,6 @@
 -- What a draft that was read says of names and limits: it names no checkpoint, so files that differ in checkpoints
 -- alone have one plant; and it is sound.
-use Rattle.std.proofs.Common.{◌≡◌, ℕ, Bool, true, false, not, ◌&&◌, List, [], ◌∷◌, refl, ap, ◌∙◌, subst, codes, arith}
+use Rattle.std.proofs.Common.{◌≡◌, ℕ, Bool, true, false, not, ◌&&◌, List, [], ◌∷◌, get_or, refl, ap, ◌∙◌, subst, codes, arith}
 use Rattle.std.proofs.Common.{if◌then◌else◌}
 use Rattle.std.specs.Prelude.{Option, Some, None, Result, Ok, Err, IfSome, unwrap_or}
 use Rattle.std.specs.Option.{option_map_or}
@@ -8,18 +8,18 @@ use Rattle.line_base.specs.Text.{is_file_name, is_checkpoint_name}
 use Rattle.plant_model.specs.declared.error.PlantError.{PlantError}
 use Rattle.plant_model.specs.declared.error.PlantError.TheVariants.{NotToml}
 use Rattle.plant_model.specs.declared.place.FileTable.TheVariants.{Top}
-use Rattle.plant_model.proofs.NoRefusals.{append-nil_left, append-nil_right, each-none, refuse_if-none}
+use Rattle.plant_model.proofs.NoRefusals.{append-nil_left, refuse_if-none}
 use Rattle.toml.specs.Data.{Data, get}
-use Rattle.plant_keys.specs.declared.keys.Class.TheVariants.{UnknownKeys, MissingKeys, WrongTypes, BadNames}
-use Rattle.plant_keys.specs.declared.keys.Class.TheVariants.{OutOfRanges}
+use Rattle.plant_keys.specs.declared.keys.Class.TheVariants.{BadNames}
 use Rattle.plant_keys.specs.declared.keys.Kind.TheVariants.{StageReference, FileName}
 use Rattle.plant_keys.specs.Keys.{Key, optional, top_keys, has_column}
 use Rattle.plant_keys.specs.Readers.{has, text_of, text_at}
-use Rattle.plant_model.specs.Refusals.{feeds_not_later_in}
-use Rattle.plant_keys.specs.Walk.{walk, names_twice, key_refusals, table_refusals, value_refusals}
+use Rattle.plant_keys.specs.Rules.{value_refusals}
+use Rattle.plant_keys.specs.Walk.{key_faults, table_faults, walk_faults, tree_faults}
 use Rattle.plant_file.specs.declared.draft.DraftDemands.TheVariants.{Given, File}
 use Rattle.plant_file.specs.declared.draft.DraftPlant.{DraftPlant}
 use Rattle.plant_file.specs.Draft.{file_of, demands_file, IsSoundDraft}
+use Rattle.plant_file.proofs.NoFaults.{all_of-none, key-none, no_errors, no_faults}
 use Rattle.plant_file.proofs.SoundDrafts.{sound_draft}
 use Rattle.plant_file.specs.Reading.{column_at, draft_of, tree_refusals, draft_or_first, tree_of, tree_reading}
 use Rattle.plant_file.specs.Reading.{reading}
@@ -30,14 +30,14 @@ use Rattle.plant_file.specs.PlantOfFiles.{Contents, bytes_at, bytes_of, plant_of
 abbrev pub IsPlain : List ℕ → Type 0
 IsPlain name = is_checkpoint_name name ≡ false
 
-plain_of : (may ends : Bool) → (may && not ends) ≡ true → (may && ends) ≡ false
-plain_of true true h = absurd (cc)
-plain_of true false h = refl
-plain_of false ends h = refl
+plain_of : (may ends own : Bool) → (may && not ends && not own) ≡ true → (may && ends) ≡ false
+plain_of true true own h = absurd (cc)
+plain_of true false own h = refl
+plain_of false ends own h = refl
 
 -- so is the name of any other file
 pub file_is_plain : (name : List ℕ) → is_file_name name ≡ true → IsPlain name
-file_is_plain name h = plain_of _ _ h
+file_is_plain name h = plain_of _ _ _ h
 
 not_false : (b : Bool) → not b ≡ false → b ≡ true
 not_false true h = refl
@@ -68,22 +68,19 @@ times_plain : (used : Bool) (name : List ℕ) → IsPlain name → IfSome (if us
 times_plain true name plain = plain
 times_plain false name plain = tt
 
-top_of_walk : (top : Data) → walk BadNames top ≡ [] → table_refusals BadNames Top top (top_keys top) ≡ []
-unfolding walk
-top_of_walk top h = append-nil_left (table_refusals BadNames Top top (top_keys top)) _ h
+top_of_walk : (top : Data) → walk_faults BadNames top ≡ [] → table_faults BadNames Top top (top_keys top) ≡ []
+unfolding walk_faults
+top_of_walk top h = append-nil_left (table_faults BadNames Top top (top_keys top)) _ h
 
-bad_names : (top : Data) → tree_refusals top ≡ [] → walk BadNames top ≡ []
-unfolding tree_refusals
-bad_names top h =
-    append-nil_left (walk BadNames top) _
-    (append-nil_right (walk WrongTypes top) _ (append-nil_right (walk MissingKeys top) _
-    (append-nil_right (walk UnknownKeys top) _ h)))
-
-draft_names : (top : Data) → walk BadNames top ≡ [] → NamesNoCheckpoint (draft_of top)
+draft_names : (top : Data) → walk_faults BadNames top ≡ [] → NamesNoCheckpoint (draft_of top)
 draft_names top h =
     let keys = top_of_walk top h in
-    let demands = each-none (λ _ k. key_refusals BadNames Top top k) (top_keys top) 4 no_key (omega arith) keys in
-    let times = each-none (λ _ k. key_refusals BadNames Top top k) (top_keys top) 9 no_key (omega arith) keys in
+    let demands =
+    key-none BadNames Top top (get_or (top_keys top) 4 no_key)
+    (all_of-none (λ _ k. key_faults BadNames Top top k) (top_keys top) 4 no_key (omega arith) keys) in
+    let times =
+    key-none BadNames Top top (get_or (top_keys top) 9 no_key)
+    (all_of-none (λ _ k. key_faults BadNames Top top k) (top_keys top) 9 no_key (omega arith) keys) in
     record {
       demands = demands_plain (has (codes "demands") top) _ (text_at (codes "demands_file") top)
           (column_at (codes "demands_column") top) (named_plain _ (get (codes "demands_file") top) demands);
@@ -105,7 +102,7 @@ tree_names : (o : Option Data) (d : DraftPlant) → option_map_or tree_reading o
 tree_names None d is = absurd (cc)
 tree_names (Some top) d is =
     subst NamesNoCheckpoint (same_draft (tree_refusals top) (draft_of top) d is)
-    (draft_names top (bad_names top (none_refused (tree_refusals top) (draft_of top) d is)))
+    (draft_names top (no_faults top (no_errors (tree_faults top) (none_refused (tree_refusals top) (draft_of top) d is))).bad)
 
 -- a draft that was read names no checkpoint
 pub reading_names : (bytes : List ℕ) (d : DraftPlant) → reading bytes ≡ Ok d → NamesNoCheckpoint d
@@ -114,18 +111,7 @@ reading_names bytes d is = tree_names (tree_of bytes) d is
 
 -- a draft in which nothing is refused is sound
 tree_sound : (top : Data) → tree_refusals top ≡ [] → IsSoundDraft (draft_of top)
-unfolding tree_refusals
-tree_sound top h =
-    let missing = append-nil_right (walk UnknownKeys top) _ h in
-    let types = append-nil_right (walk MissingKeys top) _ missing in
-    let bad = append-nil_right (walk WrongTypes top) _ types in
-    let twice = append-nil_right (walk BadNames top) _ bad in
-    let out = append-nil_right (names_twice top) _ twice in
-    let rest = append-nil_right (walk OutOfRanges top) _ out in
-    sound_draft top (append-nil_left (walk MissingKeys top) _ missing) (append-nil_left (walk BadNames top) _ bad)
-    (append-nil_left (names_twice top) _ twice) (append-nil_left (walk OutOfRanges top) _ out)
-    (append-nil_left (feeds_not_later_in (draft_of top).stages) _ rest)
-    (append-nil_right (feeds_not_later_in (draft_of top).stages) _ rest)
+tree_sound top h = sound_draft top (no_errors (tree_faults top) h)
 
 answered_sound : (rs : List PlantError) (draft d : DraftPlant) → (rs ≡ [] → IsSoundDraft draft) →
     draft_or_first rs draft ≡ Ok d → IsSoundDraft d

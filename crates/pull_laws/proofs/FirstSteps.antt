@@ -1,7 +1,7 @@
 -- Two steps, of which the first is said in other words.
 use Rattle.std.proofs.Common.{List}
 use Rattle.std.specs.Prelude.{Result}
-use Rattle.line_io.specs.Calls.{Read}
+use Rattle.outside_io.specs.Calls.{Read}
 use Rattle.live_plant.specs.Steps.{Step, Then}
 use Rattle.live_plant.specs.declared.refusals.refusal.Refusal.{Refusal}
 

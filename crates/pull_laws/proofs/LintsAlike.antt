@@ -2,7 +2,7 @@
 -- thing more.
 use Rattle.std.proofs.Common.{◌≡◌, ◌⊎◌, ℕ, Bool, List, ap, sym, ◌∙◌, subst, inl, inr}
 use Rattle.std.specs.Prelude.{Option, Some, None, Result, Ok, Err, IsTrue, MatchOption, ⊤}
-use Rattle.line_io.specs.Contents.{Contents}
+use Rattle.outside_io.specs.Contents.{Contents}
 use Rattle.live_plant.specs.LintSteps.{IsRefusedWith, IsFileLint, IsCleanOrDead, IsSaid, IsDraftLint, LintsDraft}
 use Rattle.live_plant.specs.LintSteps.{LintsPlant}
 use Rattle.live_plant.specs.Steps.{Step, Settles, LooksAt, LooksAtNamed, Then}
@@ -14,8 +14,8 @@ use Rattle.plant_file.specs.Finish.{plant_of_bytes}
 use Rattle.plant_lint.specs.DraftLints.{lint_of_draft}
 use Rattle.plant_lint.specs.FileLints.{lint_of_tree, IsNoToml, LintsFile}
 use Rattle.plant_lint.specs.PlantLints.{clean_text}
-use Rattle.plant_lint.specs.declared.file.FileLint.{FileLint}
-use Rattle.plant_lint.specs.declared.file.FileLint.TheVariants as lint
+use Rattle.plant_lint.specs.declared.lint.Lint.{Lint}
+use Rattle.plant_lint.specs.declared.lint.Lint.TheVariants as lint
 use Rattle.plant_model.specs.declared.error.PlantError.{PlantError}
 use Rattle.plant_model.specs.declared.plant.Plant.{Plant}
 use Rattle.live_plant.specs.Refusal.{status_of}
@@ -27,22 +27,22 @@ use Rattle.pull_laws.proofs.Alike.{gives_alike, look_agrees, named_agrees}
 
 -- ---- what is said of the bytes of a file
 
-abbrev IsRefusedLint : FileLint → Type 0
+abbrev IsRefusedLint : Lint → Type 0
 IsRefusedLint (lint.Refused lines) = ⊤
 IsRefusedLint (lint.Sound notes) = ⊥
 
 -- two things that are said of bytes are one, or each is a refusal
-abbrev OneLint : FileLint → FileLint → Type 0
+abbrev OneLint : Lint → Lint → Type 0
 OneLint a b = (a ≡ b) ⊎ (IsRefusedLint a × IsRefusedLint b)
 
-of_tree : (tree : Option Data) (bytes : List ℕ) (a b : FileLint) →
+of_tree : (tree : Option Data) (bytes : List ℕ) (a b : Lint) →
     MatchOption tree (IsNoToml bytes a) (λ top. a ≡ lint_of_tree top) →
     MatchOption tree (IsNoToml bytes b) (λ top. b ≡ lint_of_tree top) → OneLint a b
 of_tree None bytes a b is also =
     inr (subst IsRefusedLint (sym is.line) tt, subst IsRefusedLint (sym also.line) tt)
 of_tree (Some top) bytes a b is also = inl (is ∙ sym also)
 
-one_lint : (bytes : List ℕ) (a b : FileLint) → LintsFile bytes a → LintsFile bytes b → OneLint a b
+one_lint : (bytes : List ℕ) (a b : Lint) → LintsFile bytes a → LintsFile bytes b → OneLint a b
 one_lint bytes a b is also = of_tree (tree_of bytes) bytes a b is also
 
 -- the notes are one
@@ -51,16 +51,16 @@ one_notes m n (inl same) = cc
 one_notes m n (inr both) = absurd both.0
 
 -- nothing is refused of a sound file
-refused_lint : (said : FileLint) (refusal : Refusal) → IsRefusedWith said refusal → IsRefusedLint said
+refused_lint : (said : Lint) (refusal : Refusal) → IsRefusedWith said refusal → IsRefusedLint said
 refused_lint (lint.Refused lines) refusal is = tt
 refused_lint (lint.Sound notes) refusal is = absurd is
 
-sound_not_refused : (notes : List ℕ) (said : FileLint) → OneLint (lint.Sound notes) said → IsRefusedLint said → ⊥
+sound_not_refused : (notes : List ℕ) (said : Lint) → OneLint (lint.Sound notes) said → IsRefusedLint said → ⊥
 sound_not_refused notes said (inl same) refused = subst IsRefusedLint (sym same) refused
 sound_not_refused notes said (inr both) refused = both.0
 
 -- a refusal of a file ends with 3
-refused_status : (said : FileLint) (refusal : Refusal) → IsRefusedWith said refusal → status_of refusal ≡ 3
+refused_status : (said : Lint) (refusal : Refusal) → IsRefusedWith said refusal → status_of refusal ≡ 3
 refused_status (lint.Refused lines) refusal is = ap status_of is
 refused_status (lint.Sound notes) refusal is = absurd is
 
@@ -91,7 +91,7 @@ clean_alike p text (Ok x) (Err other) is also = absurd (live_not_dead p other is
 clean_alike p text (Err one) (Ok y) is also = absurd (live_not_dead p one also.1 is)
 clean_alike p text (Err one) (Err other) is also = inr (inr (dead_status p one is ∙ sym (dead_status p other also)))
 
-said_alike : (p : Plant) (notes : List ℕ) (said : FileLint) (one other : Result (List ℕ) Refusal) →
+said_alike : (p : Plant) (notes : List ℕ) (said : Lint) (one other : Result (List ℕ) Refusal) →
     IsSaid p notes said one → IsSaid p notes said other → AreAlike (λ (x y : List ℕ). x ≡ y) one other
 said_alike p notes (lint.Refused lines) one other is also =
     gives_alike {A = List ℕ} (Err (Faults lines)) one other is also

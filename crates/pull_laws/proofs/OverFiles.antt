@@ -10,23 +10,21 @@ use Rattle.std.proofs.lemmas.List.Elements.{All-nil, All-cons, All-head, All-tai
 use Rattle.std.proofs.lemmas.Slice.Eq.{bytes_eq-Decides}
 use Rattle.command_line.specs.Words.{command_of}
 use Rattle.command_line.specs.declared.command.Command.{Command}
-use Rattle.commands.specs.Task.{task_of}
-use Rattle.commands.specs.declared.task.Task.{Task}
-use Rattle.commands.specs.declared.task.Task.TheVariants.{Alone, Linting, OnPlant, OnFile, Stopping, OnDisk}
+use Rattle.command_line.specs.declared.command.Command.TheVariants.{Alone, Lint, OnPlant, OnFile, Standing, Stopping, OnDisk}
 use Rattle.answers.specs.declared.answer.Answer.{Answer}
-use Rattle.line_io.specs.Calls.{Read, Write, Asked}
-use Rattle.line_io.specs.Contents.{Contents}
-use Rattle.line_io.specs.declared.store.StoreError.{StoreError}
-use Rattle.line_io.specs.declared.store.StoreError.TheVariants as store_error
+use Rattle.outside_io.specs.Calls.{Read, Write, Asked}
+use Rattle.outside_io.specs.Contents.{Contents}
+use Rattle.outside_io.specs.declared.store.StoreError.{StoreError}
+use Rattle.outside_io.specs.declared.store.StoreError.TheVariants as store_error
 use Rattle.plant_model.specs.declared.plant.Plant.{Plant}
 use Rattle.live_plant.specs.declared.refusals.refusal.Refusal.{Refusal}
 use Rattle.live_plant.specs.declared.refusals.refusal.Refusal.TheVariants.{Disk, StoreFault, TooLong}
 use Rattle.live_plant.specs.Actions.{Action, DiskOver, Does, Plainly, ThenDoes, Changes, HasCause, with_asked}
 use Rattle.live_plant.specs.Outside.{StoreOver, Fits, IsOfFile}
-use Rattle.live_plant.specs.PlantSteps.{OfPlantNamed}
+use Rattle.live_plant.specs.LiveSteps.{OfPlantNamed}
 use Rattle.live_plant.specs.Steps.{Step, Then}
 use Rattle.live_plant.proofs.PlantsOfFiles.{of_live_plant}
-use Rattle.pull_cli.specs.Verdict.{OfTask, OfWords}
+use Rattle.pull_cli.specs.Verdict.{OfCommand, OfWords}
 use Rattle.pull_laws.specs.Recorded.{IsAnswer, IsReadOf, ReadsFrom, with_file, telling, over_files, HasEnded}
 use Rattle.pull_laws.specs.Resuming.{Call}
 use Rattle.pull_laws.proofs.FirstSteps.{also_then}
@@ -117,21 +115,27 @@ module _ (store : StoreOver) (before after : Contents) where
     does_on = does.does_on;
   }
 
-  -- what each task does
-  task_does : (task : Task) (asks : Asked) (disk : DiskOver) (answer : Result Answer Refusal) →
-      OfTask store.tells own task asks disk answer → All Held asks.reads → OfTask true before task asks disk answer
-  task_does (Alone question) asks disk answer does held = does
-  task_does (Linting plant) asks disk answer does held = does
-  task_does (OnPlant plant question) asks disk answer does held = plant_plainly _ plant asks disk answer does held
-  task_does (OnFile plant file question) asks disk answer does held = plant_plainly _ plant asks disk answer does held
-  task_does (Stopping plant workers stop) asks disk answer does held = plant_does _ plant asks disk answer does held
-  task_does (OnDisk plant question) asks disk answer does held = plant_does _ plant asks disk answer does held
+  -- what each command does
+  command_does : (command : Command) (asks : Asked) (disk : DiskOver) (answer : Result Answer Refusal) →
+      OfCommand store.tells own command asks disk answer → All Held asks.reads →
+      OfCommand true before command asks disk answer
+  command_does (Alone question) asks disk answer does held = does
+  command_does (Lint file) asks disk answer does held = does
+  command_does (OnPlant plant question) asks disk answer does held =
+      plant_plainly _ plant.file asks disk answer does held
+  command_does (OnFile plant file question) asks disk answer does held =
+      plant_plainly _ plant.file asks disk answer does held
+  command_does (Standing plant workers) asks disk answer does held =
+      plant_plainly _ plant.file asks disk answer does held
+  command_does (Stopping plant workers stop) asks disk answer does held =
+      plant_does _ plant.file asks disk answer does held
+  command_does (OnDisk plant question) asks disk answer does held = plant_does _ plant.file asks disk answer does held
 
   words_do : (asked : Option Command) (asks : Asked) (disk : DiskOver) (answer : Result Answer Refusal) →
       OfWords store.tells own asked asks disk answer → All Held asks.reads → OfWords true before asked asks disk answer
   words_do None asks disk answer does held = does
   words_do (Some command) asks disk answer (inl does) held =
-      inl (task_does (task_of command) asks disk answer does held)
+      inl (command_does command asks disk answer does held)
   words_do (Some command) asks disk answer (inr wanting) held = inr wanting
 
   -- the cause of a refusal is in the counts, which are the same

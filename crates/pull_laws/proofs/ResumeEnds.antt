@@ -7,14 +7,12 @@ use Rattle.std.proofs.lemmas.List.{append_cancel_left}
 use Rattle.std.proofs.lemmas.List.Elements.{All-take}
 use Rattle.line_base.specs.Limits.{most_file_bytes, most_checkpoint_bytes}
 use Rattle.line_base.specs.Text.{is_checkpoint_name}
-use Rattle.checkpoint.specs.Text.{text}
-use Rattle.checkpoint.specs.declared.format.Format.TheVariants.{Differences}
 use Rattle.command_line.specs.declared.command.Command.{Command}
-use Rattle.command_line.specs.declared.command.Command.TheVariants.{Resume}
+use Rattle.command_line.specs.Words.{resuming}
 use Rattle.command_line.specs.declared.command.Stop.{Stop}
 use Rattle.event_graph.specs.Live.{IsLive}
 use Rattle.line_graph.specs.DeadLabels.{AreDead}
-use Rattle.line_io.specs.Calls.{Read, Write, Asked}
+use Rattle.outside_io.specs.Calls.{Read, Write, Asked}
 use Rattle.plant_file.specs.PlantOfFiles.{plant_of}
 use Rattle.plant_model.specs.declared.error.PlantError.{PlantError}
 use Rattle.plant_model.specs.declared.plant.Plant.{Plant}
@@ -24,15 +22,17 @@ use Rattle.live_plant.specs.declared.refusals.refusal.Refusal.{Refusal}
 use Rattle.live_plant.specs.declared.refusals.refusal.Refusal.TheVariants.{Dead, NoMemory, Refused, StoreFault}
 use Rattle.live_plant.specs.Actions.{HasCause, IsFailedWrite}
 use Rattle.live_plant.specs.Outside.{limit_of, IsOfFile}
-use Rattle.live_plant.specs.PlantSteps.{OfLivePlant, OfPlantNamed, IsLiveOrDead, IsOfPlant}
+use Rattle.live_plant.specs.LiveSteps.{OfPlantNamed, IsOfPlant}
 use Rattle.live_plant.specs.Steps.{GoesOn, LooksAt, Settles, Then}
+use Rattle.live_plant.proofs.OneReading.{live_read, not_dead}
 use Rattle.live_plant.proofs.PlantsOfFiles.{then_leads, looked}
 use Rattle.commands.specs.Reports.{IsReport, IsResumed}
 use Rattle.event_graph.specs.Table.{date_in}
 use Rattle.line_report.specs.ReportText.{report}
 use Rattle.answers.specs.declared.answer.Answer.{Answer}
 use Rattle.pull_cli.specs.Ends.{Finishes, Writes, WritesRefusal}
-use Rattle.pull_cli.specs.StopsAndResumes.{ResumesToReport}
+use Rattle.pull_cli.specs.StopsAndResumes.{saved_text}
+use Rattle.pull_cli.proofs.ResumeLemmas.{ResumesToReport, saved_resumes}
 use Rattle.pull_cli.proofs.WriteStatus.{whole}
 use Rattle.pull_laws.specs.Resuming.{Call, files_before, HasFailedRead, HasStopped, IsResumedBy, EndsResumed, reported}
 use Rattle.pull_laws.specs.Resuming.{unread, unwritten, no_memory}
@@ -48,27 +48,6 @@ GivesReport p (Ok output) = IsReport p (Ok output)
 GivesReport p (Err (StoreFault file)) = ⊤
 GivesReport p (Err NoMemory) = ⊤
 GivesReport p (Err other) = ⊥
-
--- a plant that was read is live
-live_settled : (q p : Plant) → IsLiveOrDead q (Ok p) ⊎ (◌≡◌ {A = Result Plant Refusal} (Ok p) (Err NoMemory)) →
-    IsLive (graph p)
-live_settled q p (inl live) = subst (λ (v : Plant). IsLive (graph v)) (sym live.0) live.1
-live_settled q p (inr none) = absurd (cc)
-
-no_plant : (p : Plant) (refusal : Refusal) → ◌≡◌ {A = Result Plant Refusal} (Ok p) (Err refusal) → ⊥
-no_plant p refusal is = cc
-
-live_on : (between : Result Plant Refusal) (after : List Read) (p : Plant) →
-    GoesOn (λ q. Settles (IsLiveOrDead q)) between after (Ok p) → IsLive (graph p)
-live_on (Ok q) after p on = live_settled q p on.1
-live_on (Err refusal) after p on = absurd (no_plant p refusal on.1)
-
-live_of : (name : List ℕ) (reads : List Read) (p : Plant) → OfLivePlant name reads (Ok p) → IsLive (graph p)
-live_of name reads p steps = live_on steps.between steps.after p steps.goes_on
-
--- no circuit of a live plant is dead
-pub not_dead : (p : Plant) (labels : List (List ℕ)) → IsLive (graph p) → AreDead (graph p) labels → ⊥
-not_dead p labels live dead = let some = live dead.arcs dead.dead.circuit in omega (arith, some, dead.dead.empty)
 
 no_error : (W : Result Plant PlantError) (p : Plant) (error : PlantError) → W ≡ Ok p → W ≡ Err error → ⊥
 no_error W p error is also = cc
@@ -141,7 +120,7 @@ module _ (p : Plant) (name : List ℕ) (stop : Stop) (first second : Call) (stop
   Reports = GivesReport p
 
   abbrev bytes : List ℕ
-  bytes = text Differences (graph p) stopped.saved.state
+  bytes = saved_text p stopped.saved.state
 
   saved_there : files_before second stop.save ≡ Some bytes
   saved_there = resumed.over stop.save ∙ stopped.saved.saved stopped.calls.known
@@ -163,7 +142,8 @@ module _ (p : Plant) (name : List ℕ) (stop : Stop) (first second : Call) (stop
       (sym (ap (λ (a : Asked). a.reads) does.asked) ∙ stopped.read.asked)
       in
       let held = subst (All (IsOfFile first.store)) whole does.of_files in
-      plant_short first.store stopped.calls.known name reads p stopped.read.answers
+      plant_short first.store stopped.calls.known name reads p
+      (live_read name reads p stopped.read.answers stopped.read.live)
       (subst (All (IsOfFile first.store)) (take-append_seam reads stopped.read.more)
       (All-take (IsOfFile first.store) (length reads) (reads ++ stopped.read.more) held))
 
@@ -183,7 +163,8 @@ module _ (p : Plant) (name : List ℕ) (stop : Stop) (first second : Call) (stop
       (λ found before after fits rest looks on.
       settled_answers p found answer
       (subst (ResumesToReport p) (one_content (files_before second stop.save) found bytes
-      (looked second.store resumed.calls.known stop.save before found looks fits) saved_there) stopped.saved.resumes)
+      (looked second.store resumed.calls.known stop.save before found looks fits) saved_there)
+      (saved_resumes p stopped.saved.state stopped.saved.stopped.reached))
       on.1)
 
   -- the plant is read, and then the file
@@ -194,7 +175,7 @@ module _ (p : Plant) (name : List ℕ) (stop : Stop) (first second : Call) (stop
   of_plant reads answer steps all =
       let W = plant_of name (files_before second) in
       let is : W ≡ Ok p = second_plant p name stop first stopped second resumed in
-      let live = live_of name stopped.read.reads p stopped.read.answers in
+      let live = stopped.read.live in
       then_leads (OfPlantNamed second.store.tells (files_before second) name)
       (λ q. Then (LooksAt stop.save) (λ found. Settles (IsResumed q found))) Held Reports reads answer steps all
       (λ refusal before fits stops.
@@ -220,7 +201,7 @@ module _ (p : Plant) (name : List ℕ) (stop : Stop) (first second : Call) (stop
   abbrev Resumes : Asked → Result Answer Refusal → Type 0
   Resumes asks answer =
       OfWords second.store.tells (files_before second)
-      (Some (Resume name stop.save resumed.workers)) asks second.disk answer
+      (Some (resuming name stop.save resumed.workers)) asks second.disk answer
 
   of_words : (asks : Asked) (answer : Result Answer Refusal) → All Held asks.reads → Resumes asks answer →
       Reports answer

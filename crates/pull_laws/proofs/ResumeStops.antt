@@ -3,9 +3,9 @@
 use Rattle.std.proofs.Common.{◌≡◌, ◌⊎◌, ℕ, List, [], sym, subst, inl, inr}
 use Rattle.std.specs.Prelude.{Option, Some, None, Result, Ok, Err, IfErr, IfSome, IsTrue, All}
 use Rattle.std.proofs.lemmas.List.Elements.{All-head}
-use Rattle.line_io.specs.Calls.{Read}
-use Rattle.line_io.specs.declared.store.StoreError.{StoreError}
-use Rattle.line_io.specs.declared.store.StoreError.TheVariants as store_error
+use Rattle.outside_io.specs.Calls.{Read}
+use Rattle.outside_io.specs.declared.store.StoreError.{StoreError}
+use Rattle.outside_io.specs.declared.store.StoreError.TheVariants as store_error
 use Rattle.plant_file.specs.Draft.{demands_file}
 use Rattle.plant_file.specs.Reading.{reading}
 use Rattle.plant_file.specs.declared.draft.DraftPlant.{DraftPlant}
@@ -15,7 +15,8 @@ use Rattle.plant_model.specs.declared.plant.Plant.{Plant}
 use Rattle.live_plant.specs.declared.refusals.refusal.Refusal.{Refusal}
 use Rattle.live_plant.specs.declared.refusals.refusal.Refusal.TheVariants.{Dead, NoMemory, Refused, StoreFault}
 use Rattle.live_plant.specs.Outside.{StoreOver, Fits, IsOfFile}
-use Rattle.live_plant.specs.PlantSteps.{or_refused, OfDraft, OfBytes, OfPlantFile, IsLiveOrDead, OfLivePlant}
+use Rattle.live_plant.specs.PlantSteps.{or_refused, OfDraft, OfBytes, OfPlantFile}
+use Rattle.live_plant.specs.LiveSteps.{IsLiveOrDead, OfLivePlant}
 use Rattle.live_plant.specs.Steps.{Step, Settles, Gives, AnswersRead, LooksAt, LooksAtNamed, Then}
 use Rattle.live_plant.proofs.PlantsOfFiles.{then_leads, looked}
 use Rattle.pull_laws.proofs.ShortFiles.{IsShort, NamesShort, IsShortPlant, drafted, reading_at}

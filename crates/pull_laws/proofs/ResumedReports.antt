@@ -2,25 +2,24 @@
 use Rattle.std.proofs.Common.{◌≡◌, ◌≢◌, ℕ, true, false, List, [], ◌∷◌, refl, ap, sym, ◌∙◌, subst}
 use Rattle.std.specs.Prelude.{Some, None, Result, Ok}
 use Rattle.std.proofs.lemmas.List.{append_cancel_left}
-use Rattle.checkpoint.specs.Text.{text}
-use Rattle.checkpoint.specs.declared.format.Format.TheVariants.{Differences}
+use Rattle.command_line.specs.Words.{asking, resuming}
 use Rattle.command_line.specs.declared.command.Command.{Command}
-use Rattle.command_line.specs.declared.command.Command.TheVariants.{Resume, Run}
+use Rattle.command_line.specs.declared.plant_question.PlantQuestion.TheVariants.{Run}
 use Rattle.command_line.specs.declared.command.Stop.{Stop}
 use Rattle.event_graph.specs.Table.{date_in}
 use Rattle.line_base.specs.Text.{is_checkpoint_name}
-use Rattle.line_io.specs.Calls.{Write, Asked, write_of}
-use Rattle.line_io.specs.SinkView.{PutsAll}
+use Rattle.outside_io.specs.Calls.{Write, Asked, write_of}
+use Rattle.outside_io.specs.SinkView.{PutsAll}
 use Rattle.line_report.specs.ReportText.{report}
 use Rattle.line_report.proofs.SameReports.{one_report}
 use Rattle.plant_model.specs.declared.error.PlantError.{PlantError}
 use Rattle.plant_model.specs.declared.plant.Plant.{Plant}
-use Rattle.plant_model.specs.Graph.{graph}
 use Rattle.plant_model.specs.Sound.{IsSound}
 use Rattle.plant_file.specs.PlantOfFiles.{bytes_at, plant_of}
 use Rattle.pull_laws.proofs.SoundFiles.{plant_of-sound}
 use Rattle.live_plant.specs.Actions.{Changes}
 use Rattle.pull_cli.specs.RunReports.{run_of, HasReported, Reports}
+use Rattle.pull_cli.specs.StopsAndResumes.{saved_text}
 use Rattle.pull_laws.specs.Resuming.{Call, files_before, files_after, CallsFor, HasStopped, IsResumedBy, IsWholeRun}
 use Rattle.pull_laws.specs.Resuming.{ResumingWritesTheSame, WroteTheSame}
 use Rattle.pull_laws.proofs.FileNames.{IsPlain, file_is_plain, reading_sound, same_plant}
@@ -52,7 +51,7 @@ module _ (p : Plant) (name : List ℕ) (stop : Stop) (first : Call) (stopped : H
   others_stay : (q : List ℕ) → q ≢ stop.save → files_after first q ≡ files_before first q
   others_stay q other =
       let does = stopped.calls.ends.does in
-      let w : Write = write_of stop.save (text Differences (graph p) stopped.saved.state) (Ok tt) in
+      let w : Write = write_of stop.save (saved_text p stopped.saved.state) (Ok tt) in
       let one : does.asks.writes ≡ w ∷ [] =
       append_cancel_left first.store.old.asked.writes does.asks.writes (w ∷ [])
       (sym (ap (λ (a : Asked). a.writes) does.asked) ∙ stopped.saved.asked) in
@@ -75,12 +74,12 @@ module _ (p : Plant) (name : List ℕ) (stop : Stop) (first : Call) (stopped : H
 
     pub second_reports : second.status ≡ 0 → HasReported p second.sink
     second_reports zero =
-        run_reports (Resume name stop.save resumed.workers) name p second resumed.calls refl zero second_plant
+        run_reports (resuming name stop.save resumed.workers) name p second resumed.calls refl zero second_plant
 
     -- a run that isn't asked to stop reports the same plant
     whole_reports : (whole : Call) → IsWholeRun name first whole → HasReported p whole.sink
     whole_reports whole run =
-        run_reports (Run name run.workers None) name p whole run.calls refl run.status
+        run_reports (asking name (Run run.workers)) name p whole run.calls refl run.status
         (same_plant (files_before whole) (files_before first) (λ q plain. run.over q) name plant_plain ∙
         stopped.read.of_files stopped.calls.known)
 

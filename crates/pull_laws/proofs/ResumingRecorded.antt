@@ -3,14 +3,16 @@
 use Rattle.std.proofs.Common.{◌≡◌, ℕ, List, [], ◌∷◌, ◌++◌, refl, ap, sym, ◌∙◌, subst, inl, inr}
 use Rattle.std.specs.Prelude.{Option, Some, None, Ok, All}
 use Rattle.std.proofs.lemmas.List.{append_cancel_left}
+use Rattle.command_line.specs.Words.{asking, resuming}
 use Rattle.command_line.specs.declared.command.Command.{Command}
-use Rattle.command_line.specs.declared.command.Command.TheVariants.{Resume, Run}
+use Rattle.command_line.specs.declared.plant_question.PlantQuestion.TheVariants.{Run}
 use Rattle.command_line.specs.declared.command.Stop.{Stop}
-use Rattle.line_io.specs.Calls.{Write, Asked, write_of}
-use Rattle.line_io.specs.Contents.{Contents}
+use Rattle.outside_io.specs.Calls.{Write, Asked, write_of}
+use Rattle.outside_io.specs.Contents.{Contents}
 use Rattle.plant_model.specs.declared.plant.Plant.{Plant}
 use Rattle.live_plant.specs.Actions.{Changes}
 use Rattle.live_plant.specs.Outside.{IsOfFile}
+use Rattle.live_plant.proofs.OneReading.{live_read}
 use Rattle.live_plant.proofs.PlantsOfFiles.{of_live_plant}
 use Rattle.pull_cli.specs.RunReports.{IsPlantRead}
 use Rattle.pull_cli.specs.StopsAndResumes.{HasSaved}
@@ -31,11 +33,11 @@ WritesNone command =
     (call : Call) (ends : HasEnded call) → OfWords call.store.tells call.store.old.files
     (Some command) ends.does.asks call.disk ends.answer → ends.does.asks.writes ≡ []
 
-resume_writes_none : (name save : List ℕ) (workers : ℕ) → WritesNone (Resume name save workers)
+resume_writes_none : (name save : List ℕ) (workers : ℕ) → WritesNone (resuming name save workers)
 resume_writes_none name save workers call ends (inl does) = does.unwritten
 resume_writes_none name save workers call ends (inr wanting) = ap (λ (a : Asked). a.writes) wanting.0
 
-run_writes_none : (name : List ℕ) (workers : ℕ) → WritesNone (Run name workers None)
+run_writes_none : (name : List ℕ) (workers : ℕ) → WritesNone (asking name (Run workers))
 run_writes_none name workers call ends (inl does) = does.unwritten
 run_writes_none name workers call ends (inr wanting) = ap (λ (a : Asked). a.writes) wanting.0
 
@@ -112,20 +114,19 @@ module _ (p : Plant) (name : List ℕ) (stop : Stop) (first : Call) (saves : Sav
     more = saves.read.more;
     asked = saves.read.asked;
     answers = saves.read.answers;
-    of_files = λ known. of_live_plant over_them.store known name saves.read.reads (Ok p) saves.read.answers held;
+    live = saves.read.live;
+    of_files = λ known. of_live_plant over_them.store known name saves.read.reads (Ok p)
+        (live_read name saves.read.reads p saves.read.answers saves.read.live) held;
   }
 
   state_saved : HasSaved p stop over_them.store over_them.sink
   state_saved = record {
     state = saves.saved.state;
     stopped = saves.saved.stopped;
-    workers = saves.saved.workers;
     saved = λ known. with_file-named files stop.save bytes;
-    first_end = saves.saved.first_end;
     fits = saves.saved.fits;
     asked = saves.saved.asked;
     written = saves.saved.written;
-    resumes = saves.saved.resumes;
   }
 
   pub has_stopped : HasStopped p name stop over_them
@@ -162,7 +163,7 @@ module _ (p : Plant) (name : List ℕ) (stop : Stop) (first second : Call) (save
   resumed : IsResumedBy name stop first_told second_told
   resumed = record {
     workers = resumes.workers;
-    calls = calls_over_files (Resume name stop.save resumes.workers)
+    calls = calls_over_files (resuming name stop.save resumes.workers)
         (resume_writes_none name stop.save resumes.workers) second stays resumes.calls resumes.second_reads;
     over = λ q. refl;
   }
@@ -177,7 +178,7 @@ module _ (p : Plant) (name : List ℕ) (stop : Stop) (first second : Call) (save
       writes_the_same p name stop first_told stopped second_told resumed zero (over_files found found whole)
       (record {
         workers = runs.workers;
-        calls = calls_over_files (Run name runs.workers None)
+        calls = calls_over_files (asking name (Run runs.workers))
             (run_writes_none name runs.workers) whole found runs.calls runs.reads;
         status = runs.status;
         over = λ q. refl;

@@ -3,10 +3,10 @@
 use Rattle.std.proofs.Common.{◌≡◌, ◌⊎◌, ℕ, ◌≤◌, List, [], length, sym, subst, inl, inr, ⊎_elim, arith}
 use Rattle.std.specs.Prelude.{Option, Some, None, Result, Ok, Err, OnOk, IfSome, IsTrue, All, unwrap_or}
 use Rattle.std.proofs.lemmas.List.Elements.{All-head}
-use Rattle.line_io.specs.Calls.{Read}
-use Rattle.line_io.specs.Contents.{Contents, IsLongerThan}
-use Rattle.line_io.specs.declared.store.StoreError.{StoreError}
-use Rattle.line_io.specs.declared.store.StoreError.TheVariants as store_error
+use Rattle.outside_io.specs.Calls.{Read}
+use Rattle.outside_io.specs.Contents.{Contents, IsLongerThan}
+use Rattle.outside_io.specs.declared.store.StoreError.{StoreError}
+use Rattle.outside_io.specs.declared.store.StoreError.TheVariants as store_error
 use Rattle.plant_file.specs.Draft.{demands_file}
 use Rattle.plant_file.specs.Reading.{reading}
 use Rattle.plant_file.specs.declared.draft.DraftPlant.{DraftPlant}
@@ -17,7 +17,8 @@ use Rattle.plant_model.specs.declared.plant.Plant.{Plant}
 use Rattle.live_plant.specs.declared.refusals.refusal.Refusal.{Refusal}
 use Rattle.live_plant.specs.declared.refusals.refusal.Refusal.TheVariants.{NoMemory}
 use Rattle.live_plant.specs.Outside.{StoreOver, limit_of, Fits, IsOfFile}
-use Rattle.live_plant.specs.PlantSteps.{or_refused, OfDraft, OfBytes, OfPlantFile, IsLiveOrDead, OfLivePlant}
+use Rattle.live_plant.specs.PlantSteps.{or_refused, OfDraft, OfBytes, OfPlantFile}
+use Rattle.live_plant.specs.LiveSteps.{IsLiveOrDead, OfLivePlant}
 use Rattle.live_plant.specs.Steps.{Settles, Gives, AnswersRead, LooksAt, LooksAtNamed, Then}
 use Rattle.live_plant.proofs.PlantsOfFiles.{then_leads, looked}
 use Rattle.pull_laws.proofs.FileNames.{IsPlain, reading_names}

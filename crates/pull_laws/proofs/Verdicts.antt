@@ -11,24 +11,23 @@ use Rattle.command_line.specs.Screens.{help_text}
 use Rattle.command_line.specs.Words.{command_of}
 use Rattle.command_line.specs.declared.command.Command.{Command}
 use Rattle.commands.specs.Answers.{AnswersAlone, AnswersOfPlant, AnswersOfFile}
-use Rattle.commands.specs.Reports.{Writes as Answers}
+use Rattle.commands.specs.Reports.{IsReport, Writes as Answers}
 use Rattle.commands.specs.Saving.{DoesOnSlots, RunsUntil}
-use Rattle.commands.specs.Task.{task_of}
-use Rattle.commands.specs.declared.task.AloneQuestion.{AloneQuestion}
-use Rattle.commands.specs.declared.task.AloneQuestion.TheVariants as alone
-use Rattle.commands.specs.declared.task.DiskQuestion.{DiskQuestion}
-use Rattle.commands.specs.declared.task.DiskQuestion.TheVariants as of_disk
-use Rattle.commands.specs.declared.task.FileQuestion.{FileQuestion}
-use Rattle.commands.specs.declared.task.FileQuestion.TheVariants as file
-use Rattle.commands.specs.declared.task.PlantQuestion.{PlantQuestion}
-use Rattle.commands.specs.declared.task.PlantQuestion.TheVariants as of_plant
-use Rattle.commands.specs.declared.task.Task.{Task}
-use Rattle.commands.specs.declared.task.Task.TheVariants.{Alone, Linting, OnPlant, OnFile, Stopping, OnDisk}
+use Rattle.command_line.specs.declared.alone_question.AloneQuestion.{AloneQuestion}
+use Rattle.command_line.specs.declared.alone_question.AloneQuestion.TheVariants as alone
+use Rattle.command_line.specs.declared.command.Command.TheVariants.{Alone, Lint, OnPlant, OnFile, Standing, Stopping, OnDisk}
+use Rattle.command_line.specs.declared.disk_question.DiskQuestion.{DiskQuestion}
+use Rattle.command_line.specs.declared.disk_question.DiskQuestion.TheVariants as of_disk
+use Rattle.command_line.specs.declared.file_question.FileQuestion.{FileQuestion}
+use Rattle.command_line.specs.declared.file_question.FileQuestion.TheVariants as file
+use Rattle.command_line.specs.declared.plant_question.PlantQuestion.{PlantQuestion}
+use Rattle.command_line.specs.declared.plant_question.PlantQuestion.TheVariants as of_plant
+use Rattle.command_line.specs.declared.plant_source.PlantSource.{PlantSource}
 use Rattle.line_core.specs.Schedule.{follow}
-use Rattle.line_io.specs.Calls.{Read, Write, Asked}
-use Rattle.line_io.specs.Contents.{Contents}
-use Rattle.line_io.specs.SinkView.{SinkView}
-use Rattle.line_io.proofs.OutgoingLemmas.{rose_after}
+use Rattle.outside_io.specs.Calls.{Read, Write, Asked}
+use Rattle.outside_io.specs.Contents.{Contents}
+use Rattle.outside_io.specs.SinkView.{SinkView}
+use Rattle.outside_io.proofs.OutgoingLemmas.{rose_after}
 use Rattle.line_report.specs.ReportText.{report}
 use Rattle.line_report.specs.SummaryText.{summary}
 use Rattle.line_summary.specs.SummaryText.{summary_text}
@@ -36,7 +35,7 @@ use Rattle.line_chart.specs.TableText.{table_text}
 use Rattle.live_plant.specs.Actions.{Action, DiskOver, DoesOn, ThenDoes, HasCause}
 use Rattle.live_plant.specs.LintSteps.{LintsPlant}
 use Rattle.live_plant.specs.Outside.{sink_over}
-use Rattle.live_plant.specs.PlantSteps.{OfLivePlant, OfPlantNamed}
+use Rattle.live_plant.specs.LiveSteps.{OfLivePlant, OfPlantNamed}
 use Rattle.live_plant.specs.Steps.{Step, Settles, LooksAt, Then}
 use Rattle.plant_model.specs.declared.plant.Plant.{Plant}
 use Rattle.plant_model.specs.Graph.{graph}
@@ -44,9 +43,9 @@ use Rattle.live_plant.specs.Refusal.{status_of, text_of}
 use Rattle.live_plant.specs.declared.refusals.refusal.Refusal.{Refusal}
 use Rattle.live_plant.specs.declared.refusals.refusal.Refusal.TheVariants.{Disk, NoMemory, StoreFault, Usage}
 use Rattle.pull_cli.specs.Ends.{Finishes, FinishesCurve, Writes, WritesRefusal}
-use Rattle.pull_cli.specs.Verdict.{AsksWith, OfTask, OfWords}
+use Rattle.pull_cli.specs.Verdict.{AsksWith, OfCommand, OfWords}
 use Rattle.pull_laws.specs.Resuming.{Call, files_before}
-use Rattle.pull_laws.specs.Verdicts.{HoldsForTask, HoldsFor, status_in, IsFree, IsDecidedAnswer, HasVerdict, IsCallOver}
+use Rattle.pull_laws.specs.Verdicts.{HoldsForCommand, HoldsFor, status_in, IsFree, IsDecidedAnswer, HasVerdict, IsCallOver}
 use Rattle.pull_laws.specs.Verdicts.{HasFailed, unread, unsaved, unwritten, disk_failed, no_memory}
 use Rattle.pull_laws.proofs.Alike.{IsHeld, IsFreeAnswer, AreAlike, Fit, IsSoundAndLive, Agrees, all_of_front}
 use Rattle.pull_laws.proofs.Alike.{memory_free, plant_known, then_agrees, then_agrees_where, settles_agrees}
@@ -197,46 +196,55 @@ module _ (tells_one : Bool) (files_one : Contents) (known_one : IsTrue tells_one
 
   -- a run with slots is done, or its disk failed, or there was no memory; what goes on from slots is decided by what is
   -- saved there
-  slot_task_alike : (name : List ℕ) (saved : Option (List ℕ)) (q : DiskQuestion) (p : Plant) (asked more : Asked)
-      (disk more_disk : DiskOver) (one other : Result Answer Refusal) → HoldsForTask (OnDisk name q) saved disk →
-      HoldsForTask (OnDisk name q) saved more_disk → DoesOnSlots q p asked disk one →
-      DoesOnSlots q p more more_disk other → Ends one other
-  slot_task_alike name saved (of_disk.RunSlots every workers) p asked more disk more_disk one other holds holds_too is
-      also =
+  slot_question_alike : (source : PlantSource) (saved : Option (List ℕ)) (q : DiskQuestion) (p : Plant)
+      (asked more : Asked) (disk more_disk : DiskOver) (one other : Result Answer Refusal) →
+      HoldsForCommand (OnDisk source q) saved disk → HoldsForCommand (OnDisk source q) saved more_disk →
+      DoesOnSlots q p asked disk one → DoesOnSlots q p more more_disk other → Ends one other
+  slot_question_alike source saved (of_disk.RunSlots every workers) p asked more disk more_disk one other holds
+      holds_too is also =
       done_or_free one other (slots_done p every asked disk one is) (slots_done p every more more_disk other also)
-  slot_task_alike name saved (of_disk.ResumeSlots workers) p asked more disk more_disk one other holds holds_too is
-      also =
+  slot_question_alike source saved (of_disk.ResumeSlots workers) p asked more disk more_disk one other holds holds_too
+      is also =
       slots_alike p saved asked more disk more_disk one other holds holds_too is also
 
-  -- each task
-  task_alike : (t : Task) (saved : Option (List ℕ)) (asked more : Asked) (disk more_disk : DiskOver)
+  -- each command
+  command_alike : (c : Command) (saved : Option (List ℕ)) (asked more : Asked) (disk more_disk : DiskOver)
       (one other : Result Answer Refusal) → All (IsHeld tells_one files_one) asked.reads →
-      All (IsHeld tells_other files_other) more.reads → HoldsForTask t saved disk → HoldsForTask t saved more_disk →
-      OfTask tells_one files_one t asked disk one → OfTask tells_other files_other t more more_disk other →
-      Ends one other
-  task_alike (Alone q) saved asked more disk more_disk one other held held_too holds holds_too does also =
+      All (IsHeld tells_other files_other) more.reads → HoldsForCommand c saved disk →
+      HoldsForCommand c saved more_disk → OfCommand tells_one files_one c asked disk one →
+      OfCommand tells_other files_other c more more_disk other → Ends one other
+  command_alike (Alone q) saved asked more disk more_disk one other held held_too holds holds_too does also =
       settle (AnswersAlone q) (alone_alike q) asked.reads more.reads one other does.answers held also.answers held_too
-  task_alike (Linting name) saved asked more disk more_disk one other held held_too holds holds_too does also =
+  command_alike (Lint name) saved asked more disk more_disk one other held held_too holds holds_too does also =
       of_lint name asked.reads more.reads one other does.answers held also.answers held_too
-  task_alike (OnPlant name q) saved asked more disk more_disk one other held held_too holds holds_too does also =
-      of_question name q asked.reads more.reads one other
-      (of_live tells_one files_one name (λ p. Settles (AnswersOfPlant q p)) asked.reads one does.answers) held
-      (of_live tells_other files_other name (λ p. Settles (AnswersOfPlant q p)) more.reads other also.answers) held_too
-  task_alike (OnFile name further q) saved asked more disk more_disk one other held held_too holds holds_too does also =
-      of_file name further q asked.reads more.reads one other
-      (of_live tells_one files_one name (λ p. AsksWith further (AnswersOfFile q p)) asked.reads one does.answers) held
-      (of_live tells_other files_other name (λ p. AsksWith further (AnswersOfFile q p)) more.reads other also.answers)
+  command_alike (OnPlant source q) saved asked more disk more_disk one other held held_too holds holds_too does also =
+      of_question source.file q asked.reads more.reads one other
+      (of_live tells_one files_one source.file (λ p. Settles (AnswersOfPlant q p)) asked.reads one does.answers) held
+      (of_live tells_other files_other source.file (λ p. Settles (AnswersOfPlant q p)) more.reads other also.answers)
       held_too
-  task_alike (Stopping name workers stop) saved asked more disk more_disk one other held held_too holds holds_too does
+  command_alike (OnFile source further q) saved asked more disk more_disk one other held held_too holds holds_too does
       also =
-      then_alike (λ p. RunsUntil p workers stop.after stop.save) name asked more disk more_disk one other
+      of_file source.file further q asked.reads more.reads one other
+      (of_live tells_one files_one source.file (λ p. AsksWith further (AnswersOfFile q p)) asked.reads one does.answers)
+      held
+      (of_live tells_other files_other source.file (λ p. AsksWith further (AnswersOfFile q p)) more.reads other
+      also.answers)
+      held_too
+  command_alike (Standing source workers) saved asked more disk more_disk one other held held_too holds holds_too does
+      also =
+      of_question source.file (of_plant.Run workers) asked.reads more.reads one other
+      (of_live tells_one files_one source.file (λ p. Settles (IsReport p)) asked.reads one does.answers) held
+      (of_live tells_other files_other source.file (λ p. Settles (IsReport p)) more.reads other also.answers) held_too
+  command_alike (Stopping source workers stop) saved asked more disk more_disk one other held held_too holds holds_too
+      does also =
+      then_alike (λ p. RunsUntil p workers stop.after stop.save) source.file asked more disk more_disk one other
       (λ p rest later on on_too. done_or_free one other (run_done p workers stop.after stop.save rest disk one on)
       (run_done p workers stop.after stop.save later more_disk other on_too))
       held held_too does also
-  task_alike (OnDisk name q) saved asked more disk more_disk one other held held_too holds holds_too does also =
-      then_alike (DoesOnSlots q) name asked more disk more_disk one other
-      (λ p rest later on on_too. slot_task_alike name saved q p rest later disk more_disk one other holds holds_too on
-      on_too)
+  command_alike (OnDisk source q) saved asked more disk more_disk one other held held_too holds holds_too does also =
+      then_alike (DoesOnSlots q) source.file asked more disk more_disk one other
+      (λ p rest later on on_too. slot_question_alike source saved q p rest later disk more_disk one other holds
+      holds_too on on_too)
       held held_too does also
 
   -- so the words
@@ -252,7 +260,7 @@ module _ (tells_one : Bool) (files_one : Contents) (known_one : IsTrue tells_one
   words_alike (Some c) saved asked more disk more_disk one other held held_too holds holds_too (inl does) (inr none) =
       inr (inl (memory_free other none.2))
   words_alike (Some c) saved asked more disk more_disk one other held held_too holds holds_too (inl does) (inl also) =
-      task_alike (task_of c) saved asked more disk more_disk one other held held_too holds holds_too does also
+      command_alike c saved asked more disk more_disk one other held held_too holds holds_too does also
 
 -- ---- how a call ends
 

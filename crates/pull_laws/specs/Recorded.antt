@@ -2,10 +2,10 @@
 -- write with its answer, and so what its files were, as far as the call has asked for them.
 use Rattle.std.specs.Prelude.{◌≡◌, ℕ, List, true, if◌then◌else◌, Option, Some, Result, Ok, Err, All, ⊤}
 use Rattle.std.specs.Str.{bytes_eq}
-use Rattle.line_io.specs.Calls.{Read, Asked}
-use Rattle.line_io.specs.Contents.{Contents, IsLongerThan}
-use Rattle.line_io.specs.declared.store.StoreError.{StoreError}
-use Rattle.line_io.specs.declared.store.StoreError.TheVariants as store_error
+use Rattle.outside_io.specs.Calls.{Read, Asked}
+use Rattle.outside_io.specs.Contents.{Contents, IsLongerThan}
+use Rattle.outside_io.specs.declared.store.StoreError.{StoreError}
+use Rattle.outside_io.specs.declared.store.StoreError.TheVariants as store_error
 use Rattle.live_plant.specs.Actions.{Changes, with_asked}
 use Rattle.live_plant.specs.Outside.{StoreOver, store_over, limit_of}
 use Rattle.pull_cli.specs.Ends.{Ends}

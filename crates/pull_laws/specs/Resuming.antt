@@ -1,13 +1,15 @@
 -- The law on two calls: a run that stopped and saved, and the call that resumes it. The second writes the report of the
 -- same plant, which every run of the plant writes that never stops.
 use Rattle.std.specs.Prelude.{◌≡◌, ℕ, List, IsTrue, Some, None}
-use Rattle.command_line.specs.Words.{command_of}
+use Rattle.command_line.specs.Sources.{plant_at}
+use Rattle.command_line.specs.Words.{asking, command_of, resuming}
 use Rattle.command_line.specs.declared.command.Command.{Command}
-use Rattle.command_line.specs.declared.command.Command.TheVariants.{Resume, Run}
+use Rattle.command_line.specs.declared.command.Command.TheVariants.{Stopping}
 use Rattle.command_line.specs.declared.command.Stop.{Stop}
-use Rattle.line_io.specs.Contents.{Contents}
-use Rattle.line_io.specs.Faults.{Rose}
-use Rattle.line_io.specs.SinkView.{PutsAll}
+use Rattle.command_line.specs.declared.plant_question.PlantQuestion.TheVariants.{Run}
+use Rattle.outside_io.specs.Contents.{Contents}
+use Rattle.outside_io.specs.Faults.{Rose}
+use Rattle.outside_io.specs.SinkView.{PutsAll}
 use Rattle.plant_model.specs.declared.plant.Plant.{Plant}
 use Rattle.live_plant.specs.Actions.{DiskOver}
 use Rattle.live_plant.specs.Outside.{StoreOver, SinkOver}
@@ -41,7 +43,7 @@ pub record CallsFor (command : Command) (call : Call) : Type 0 where
 pub record StopsBy (IsFor : Command → Call → Type 0) (p : Plant) (name : List ℕ) (stop : Stop)
     (call : Call) : Type 0 where
   pub workers : ℕ
-  pub calls : IsFor (Run name workers (Some stop)) call
+  pub calls : IsFor (Stopping (plant_at name) workers stop) call
   pub status : call.status ≡ 0
   pub read : IsPlantRead p name call.store
   pub saved : HasSaved p stop call.store call.sink
@@ -53,13 +55,13 @@ HasStopped = StopsBy CallsFor
 -- the second call resumes from the file that the first has saved, by any number of workers, over the files that it left
 pub record IsResumedBy (name : List ℕ) (stop : Stop) (first second : Call) : Type 0 where
   pub workers : ℕ
-  pub calls : CallsFor (Resume name stop.save workers) second
+  pub calls : CallsFor (resuming name stop.save workers) second
   pub over : (q : List ℕ) → files_before second q ≡ files_after first q
 
 -- a run of the plant file that isn't asked to stop, over the files that the first call found, has ended with status 0
 pub record IsWholeRun (name : List ℕ) (first whole : Call) : Type 0 where
   pub workers : ℕ
-  pub calls : CallsFor (Run name workers None) whole
+  pub calls : CallsFor (asking name (Run workers)) whole
   pub status : whole.status ≡ 0
   pub over : (q : List ℕ) → files_before whole q ≡ files_before first q
 

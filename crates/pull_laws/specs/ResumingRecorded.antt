@@ -2,15 +2,13 @@
 -- machine: both calls show their reads and writes with the answers, and the second has read what the first has read and
 -- written.
 use Rattle.std.specs.Prelude.{◌≡◌, ℕ, List, Some, None}
-use Rattle.checkpoint.specs.Text.{text}
-use Rattle.checkpoint.specs.declared.format.Format.TheVariants.{Differences}
-use Rattle.command_line.specs.Words.{command_of}
+use Rattle.command_line.specs.Words.{asking, command_of, resuming}
 use Rattle.command_line.specs.declared.command.Command.{Command}
-use Rattle.command_line.specs.declared.command.Command.TheVariants.{Resume, Run}
 use Rattle.command_line.specs.declared.command.Stop.{Stop}
-use Rattle.line_io.specs.Contents.{Contents}
+use Rattle.command_line.specs.declared.plant_question.PlantQuestion.TheVariants.{Run}
+use Rattle.outside_io.specs.Contents.{Contents}
 use Rattle.plant_model.specs.declared.plant.Plant.{Plant}
-use Rattle.plant_model.specs.Graph.{graph}
+use Rattle.pull_cli.specs.StopsAndResumes.{saved_text}
 use Rattle.pull_laws.specs.Recorded.{ReadsFrom, with_file, HasEnded}
 use Rattle.pull_laws.specs.Resuming.{Call, StopsBy, EndsResumed, WroteTheSame}
 
@@ -26,13 +24,13 @@ SavesState = StopsBy EndsFor
 
 -- the bytes that it has written
 abbrev pub bytes_saved : {p : Plant} {name : List ℕ} {stop : Stop} {call : Call} → SavesState p name stop call → List ℕ
-bytes_saved {p} saves = text Differences (graph p) saves.saved.state
+bytes_saved {p} saves = saved_text p saves.saved.state
 
 -- The second call resumes from FILE, by any number of workers. There are files from which every read of the first call
 -- was answered, and from which, but that FILE has these bytes, every read of the second was.
 pub record ResumesWhatWasRead (name : List ℕ) (stop : Stop) (bytes : List ℕ) (first second : Call) : Type 0 where
   pub workers : ℕ
-  pub calls : EndsFor (Resume name stop.save workers) second
+  pub calls : EndsFor (resuming name stop.save workers) second
   pub files : Contents
   pub first_reads : ReadsFrom files first.store
   pub second_reads : ReadsFrom (with_file files stop.save bytes) second.store
@@ -41,7 +39,7 @@ pub record ResumesWhatWasRead (name : List ℕ) (stop : Stop) (bytes : List ℕ)
 -- files.
 pub record RunsWhole (name : List ℕ) (files : Contents) (whole : Call) : Type 0 where
   pub workers : ℕ
-  pub calls : EndsFor (Run name workers None) whole
+  pub calls : EndsFor (asking name (Run workers)) whole
   pub status : whole.status ≡ 0
   pub reads : ReadsFrom files whole.store
 

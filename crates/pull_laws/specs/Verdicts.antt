@@ -5,21 +5,19 @@ use Rattle.std.specs.Prelude.{◌≡◌, ◌⊎◌, ℕ, List, IsTrue, true, Opt
 use Rattle.answers.specs.declared.answer.Answer.{Answer}
 use Rattle.command_line.specs.Words.{command_of}
 use Rattle.command_line.specs.declared.command.Command.{Command}
-use Rattle.commands.specs.Task.{task_of}
-use Rattle.commands.specs.declared.task.DiskQuestion.TheVariants as of_disk
-use Rattle.commands.specs.declared.task.Task.{Task}
-use Rattle.commands.specs.declared.task.Task.TheVariants.{OnDisk}
+use Rattle.command_line.specs.declared.command.Command.TheVariants.{OnDisk}
+use Rattle.command_line.specs.declared.disk_question.DiskQuestion.TheVariants as of_disk
 use Rattle.line_base.specs.Limits.{most_checkpoint_bytes}
-use Rattle.line_io.specs.Calls.{Read, Asked}
-use Rattle.line_io.specs.Contents.{Contents}
-use Rattle.line_io.specs.Faults.{Rose}
+use Rattle.outside_io.specs.Calls.{Read, Asked}
+use Rattle.outside_io.specs.Contents.{Contents}
+use Rattle.outside_io.specs.Faults.{Rose}
 use Rattle.live_plant.specs.Actions.{DiskOver}
 use Rattle.live_plant.specs.Outside.{Fits}
 use Rattle.live_plant.specs.Refusal.{status_of}
 use Rattle.live_plant.specs.declared.refusals.refusal.Refusal.{Refusal}
 use Rattle.live_plant.specs.declared.refusals.refusal.Refusal.TheVariants.{Disk, NoMemory, StoreFault}
-use Rattle.line_disk.specs.Crash.{bytes_now}
-use Rattle.line_disk.specs.Layout.{content}
+use Rattle.crash_disk.specs.Crash.{bytes_now}
+use Rattle.crash_disk.specs.Layout.{content}
 use Rattle.pull_cli.specs.Ends.{Ends}
 use Rattle.pull_cli.specs.Verdict.{OfWords}
 use Rattle.pull_laws.specs.Resuming.{Call, files_before, HasFailedRead}
@@ -29,14 +27,14 @@ pub record HoldsSaved (saved : Option (List ℕ)) (disk : DiskOver) : Type 0 whe
   pub known : IsTrue disk.tells
   pub holds : content (bytes_now disk.old) most_checkpoint_bytes ≡ saved
 
--- so it is where a task goes on from slots; what a disk holds decides the status of no other
-abbrev pub HoldsForTask : Task → Option (List ℕ) → DiskOver → Type 0
-HoldsForTask (OnDisk plant (of_disk.ResumeSlots workers)) saved disk = HoldsSaved saved disk
-HoldsForTask other saved disk = ⊤
+-- so it is where a command goes on from slots; what a disk holds decides the status of no other
+abbrev pub HoldsForCommand : Command → Option (List ℕ) → DiskOver → Type 0
+HoldsForCommand (OnDisk plant (of_disk.ResumeSlots workers)) saved disk = HoldsSaved saved disk
+HoldsForCommand other saved disk = ⊤
 
 abbrev pub HoldsFor : Option Command → Option (List ℕ) → DiskOver → Type 0
 HoldsFor None saved disk = ⊤
-HoldsFor (Some command) saved disk = HoldsForTask (task_of command) saved disk
+HoldsFor (Some command) saved disk = HoldsForCommand command saved disk
 
 -- the status of an answer
 abbrev pub status_in : Result Answer Refusal → ℕ

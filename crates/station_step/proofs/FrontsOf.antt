@@ -18,7 +18,7 @@ use Rattle.station_step.specs.Input.{input_at, TakeApart, TakeWithin, NoneTakes}
 use Rattle.station_step.specs.Kept.{saturating}
 use Rattle.station_step.specs.RingInputs.{is_ring_input}
 use Rattle.station_step.specs.Station.{bare_input}
-use Rattle.station_step.proofs.OwnQueues.{None-Some, Some-injective, inlet_queue-same, input-same}
+use Rattle.station_step.proofs.OwnQueues.{None-Some, Some-injective, inlet_queue-same, is_ring-same, input-same}
 
 abbrev no_front : Front
 no_front = front_at [] 0
@@ -32,13 +32,6 @@ pub ring-none : (i : Inlet) → inlet_queue i ≡ None → is_ring_inlet i ≡ t
 ring-none (inlet.Ring take) none = refl
 ring-none (inlet.Room take) none = refl
 ring-none (inlet.Local q) none = absurd (None-Some (sym none))
-
-pub ring-same : (before after : Inlet) → bare_inlet after ≡ bare_inlet before → is_ring_inlet after ≡ is_ring_inlet before
-ring-same before after same = sym (ring-bare after) ∙ ap is_ring_inlet same ∙ ring-bare before where
-  ring-bare : (i : Inlet) → is_ring_inlet (bare_inlet i) ≡ is_ring_inlet i
-  ring-bare (inlet.Ring take) = refl
-  ring-bare (inlet.Room take) = refl
-  ring-bare (inlet.Local q) = refl
 
 both : {b : Bool} → b ≡ true → b ≡ false → ⊥
 both is is_not = absurd (cc)
@@ -180,7 +173,7 @@ fronts-same delays extras before after fronts count same is =
       later = is.later;
       each = λ k low local.
           is.each k (omega (arith, low, count))
-          (sym (ring-same (input_at before k).inlet (input_at after k).inlet (bare k)) ∙ local);
+          (sym (is_ring-same (input_at before k).inlet (input_at after k).inlet (bare k)) ∙ local);
     }
 
 pub direct-same : (g : Parts) (t : ℕ) (before after : List Input) (fronts : List Front) (fixed bounded direct : Bool) → length after ≡ length before → map bare_input after ≡ map bare_input before → (IsTrue direct → IsDirect g t before fronts fixed bounded) → IsTrue direct → IsDirect g t after fronts fixed bounded
@@ -193,7 +186,7 @@ direct-same g t before after fronts fixed bounded direct count same was is = rec
 
 -- whether one of them is over a ring
 ring-bare_input : (i : Input) → is_ring_input (bare_input i) ≡ is_ring_input i
-ring-bare_input i = ring-same i.inlet (bare_input i).inlet (bare-twice i.inlet) where
+ring-bare_input i = is_ring-same i.inlet (bare_input i).inlet (bare-twice i.inlet) where
   bare-twice : (i : Inlet) → bare_inlet (bare_inlet i) ≡ bare_inlet i
   bare-twice (inlet.Ring take) = refl
   bare-twice (inlet.Room take) = refl

@@ -17,7 +17,7 @@ use Rattle.station_step.specs.Kept.{saturating}
 use Rattle.station_step.specs.Refilled.{hand_asks}
 use Rattle.station_step.specs.RingInputs.{is_ring_input, HasLookedIn, HasGiven, ring_taken, ring_token, ring_asks}
 use Rattle.station_step.proofs.Dates.{greatest-above, greatest-below}
-use Rattle.station_step.proofs.OwnQueues.{None-Some, Some-injective, bare-unseen}
+use Rattle.station_step.proofs.OwnQueues.{None-Some, Some-injective, is_ring-same, bare-unseen}
 use Rattle.station_step.proofs.Queues.{front-some, front-more}
 
 abbrev no_input : Input
@@ -40,14 +40,9 @@ pub ring_taken-looked : (before mid : Inlet) → unseen_inlet mid ≡ unseen_inl
 ring_taken-looked before mid same =
     sym (ring_taken-unseen mid) ∙ ap ring_taken same ∙ ring_taken-unseen before
 
-is_ring-unseen : (i : Inlet) → is_ring_inlet (unseen_inlet i) ≡ is_ring_inlet i
-is_ring-unseen (inlet.Ring take) = refl
-is_ring-unseen (inlet.Room take) = refl
-is_ring-unseen (inlet.Local q) = refl
-
 pub is_ring-looked : (before mid : Inlet) → unseen_inlet mid ≡ unseen_inlet before → is_ring_inlet mid ≡ is_ring_inlet before
 is_ring-looked before mid same =
-    sym (is_ring-unseen mid) ∙ ap is_ring_inlet same ∙ is_ring-unseen before
+    is_ring-same before mid (sym (bare-unseen mid) ∙ ap bare_inlet same ∙ bare-unseen before)
 
 local-looked : (before mid : Inlet) → unseen_inlet mid ≡ unseen_inlet before → is_ring_inlet before ≡ false → mid ≡ before
 local-looked (inlet.Ring take) mid same local = absurd (cc)
@@ -171,6 +166,7 @@ module _ (delays extras : List ℕ) (shelf : List PlainQueue) (before after : Li
             (λ j below at same. subst (λ r. queue_at mid r ≡ with_take (queue_at shelf r)) same (now j below))).1);
         full = λ full. absurd (not_full b.hand (empty k low) full);
         empty = tt;
+        asked = tt;
       })
 
   -- ---- the date that they ask for

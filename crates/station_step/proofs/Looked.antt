@@ -13,13 +13,13 @@ use Rattle.station_step.specs.declared.input.Input.{Input}
 use Rattle.station_step.specs.declared.stepped.Stepped.{Stepped}
 use Rattle.station_step.specs.declared.stepped.Stepped.TheVariants.{Fired, Blocked, Full, Done}
 use Rattle.station_step.specs.Shelf.{WorkShelf, queue_at}
-use Rattle.station_step.specs.Ends.{inlet_taken, inlet_ahead, inlet_queue, bare_inlet, unseen_inlet, bare_outlet, KnowsMore}
+use Rattle.station_step.specs.Ends.{inlet_taken, inlet_ahead, inlet_queue, bare_inlet, unseen_inlet, bare_outlet, KnowsMore, HasAsked}
 use Rattle.station_step.specs.Input.{input_at, tokens_ahead, IsRefilled, NoneTakes}
 use Rattle.station_step.specs.RingInputs.{HasLookedIn, HaveLooked}
 use Rattle.station_step.specs.Station.{WorkStation, firings, IsSeated, StandsAt, MayPut, bare_input, bare_station}
 use Rattle.station_step.specs.Kept.{IsKept}
 use Rattle.station_step.specs.Step.{IsReady, IsDone, IfBlocked, IsBlockedAt, IsBlocked, IfFull, IsFullAt, IsFull, FiredOnce, OnlyRefilled, OnlyLooked, OnlyTurned, Did, MovesItsOwn, MovesApart}
-use Rattle.station_step.proofs.OwnQueues.{inlet_queue-same, bare-unseen, taken-unseen}
+use Rattle.station_step.proofs.OwnQueues.{inlet_queue-same, is_ring-same, bare-unseen, taken-unseen}
 use Rattle.station_step.proofs.Dates.{date_for-agree}
 use Rattle.station_step.proofs.KeptStations.{bare-same, seated-same, moves-apart}
 use Rattle.station_step.proofs.Posts.{stands-same}
@@ -65,6 +65,15 @@ none_ahead : (shelf : List PlainQueue) (before after : Input) (hand : Option ℕ
 none_ahead shelf before after None looked none = omega (arith, none, tokens-looked shelf before after looked)
 none_ahead shelf before after (Some date) looked none = tt
 
+-- what has looked since the look has looked since before it
+asked-looked : (before mid : Input) (after : Inlet) → HasLookedIn before mid → HasAsked mid.inlet after → HasAsked before.inlet after
+asked-looked before mid after looked asked ring =
+    omega (arith, looked.looks, asked (is_ring-same before.inlet mid.inlet (bare-looked before mid looked) ∙ ring))
+
+none_asked : (before mid : Input) (after : Inlet) (hand : Option ℕ) → HasLookedIn before mid → IfNone hand (HasAsked mid.inlet after) → IfNone hand (HasAsked before.inlet after)
+none_asked before mid after None looked asked = asked-looked before mid after looked asked
+none_asked before mid after (Some date) looked asked = tt
+
 -- what refills the hand after the look refills the hand as it was before it
 refilled-looked : (old new : List PlainQueue) (before mid after : Input) → HasLookedIn before mid → IsRefilled old new mid after → IsRefilled old new before after
 refilled-looked old new before mid after looked is = record {
@@ -74,6 +83,7 @@ refilled-looked old new before mid after looked is = record {
       ∙ ap (λ (l : List ℕ). l ++ option_to_list after.hand) (taken-looked old before mid looked);
   full = subst (λ (hand : Option ℕ). IsSome hand → after.hand ≡ hand) looked.hand is.full;
   empty = none_ahead old before mid after.hand looked is.empty;
+  asked = none_asked before mid after.inlet after.hand looked is.asked;
 }
 
 -- ---- a station whose inputs have looked
@@ -90,7 +100,7 @@ input-looked s mid looked k =
     let was : input_at s.inputs k ≡ no_input = get_or_past s.inputs k no_input past in
     let is : input_at mid.inputs k ≡ no_input = get_or_past mid.inputs k no_input (omega (arith, looked.count)) in
     subst (λ (input : Input). HasLookedIn input (input_at mid.inputs k)) (sym was)
-    (subst (HasLookedIn no_input) (sym is) (record { same = refl; more = tt; hand = refl })))
+    (subst (HasLookedIn no_input) (sym is) (record { same = refl; more = tt; looks = omega arith; hand = refl })))
     (cases_lt k (length s.inputs))
 
 pub bare_inputs-looked : (s mid : WorkStation) → HaveLooked s mid → map bare_input mid.inputs ≡ map bare_input s.inputs
@@ -179,6 +189,7 @@ blocked-looked (Blocked arc) shelf s mid after looked is =
         there = omega (arith, at.there, looked.count);
         arc_is = at.arc_is;
         none = omega (arith, at.none, tokens-looked shelf (input_at s.inputs k) (input_at mid.inputs k) (input-looked s mid looked k));
+        looked = asked-looked (input_at s.inputs k) (input_at mid.inputs k) (input_at after.inputs k).inlet (input-looked s mid looked k) at.looked;
         empty = at.empty;
         first = at.first;
       },

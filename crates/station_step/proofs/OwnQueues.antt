@@ -9,7 +9,7 @@ use Rattle.station_step.specs.declared.ends.Inlet.TheVariants as inlet
 use Rattle.station_step.specs.declared.ends.Outlet.TheVariants as outlet
 use Rattle.station_step.specs.declared.input.Input.{Input}
 use Rattle.station_step.specs.Shelf.{queue_at, OnlyTakes, OnlyPuts}
-use Rattle.station_step.specs.Ends.{inlet_taken, inlet_ahead, inlet_queue, bare_inlet, unseen_inlet, outlet_added, outlet_queue, bare_outlet}
+use Rattle.station_step.specs.Ends.{inlet_taken, inlet_ahead, inlet_queue, bare_inlet, unseen_inlet, is_ring_inlet, outlet_added, outlet_queue, bare_outlet}
 use Rattle.station_step.specs.Input.{input_at}
 use Rattle.station_step.specs.Station.{bare_input, outlet_at}
 
@@ -55,6 +55,16 @@ outlet_queue-bare (outlet.Local q) = refl
 pub inlet_queue-same : (before after : Inlet) → bare_inlet after ≡ bare_inlet before → inlet_queue after ≡ inlet_queue before
 inlet_queue-same before after same =
     sym (inlet_queue-bare after) ∙ ap inlet_queue same ∙ inlet_queue-bare before
+
+-- and so does whether it is a ring's
+is_ring-bare : (i : Inlet) → is_ring_inlet (bare_inlet i) ≡ is_ring_inlet i
+is_ring-bare (inlet.Ring take) = refl
+is_ring-bare (inlet.Room take) = refl
+is_ring-bare (inlet.Local q) = refl
+
+pub is_ring-same : (before after : Inlet) → bare_inlet after ≡ bare_inlet before → is_ring_inlet after ≡ is_ring_inlet before
+is_ring-same before after same =
+    sym (is_ring-bare after) ∙ ap is_ring_inlet same ∙ is_ring-bare before
 
 pub outlet_queue-same : (before after : Outlet) → bare_outlet after ≡ bare_outlet before → outlet_queue after ≡ outlet_queue before
 outlet_queue-same before after same =

@@ -44,6 +44,7 @@ refilled-later old mid new before after is stays = record {
   taken = ap (λ xs. xs ++ option_to_list before.hand) (inlet_taken-same mid new after.inlet stays) ∙ is.taken;
   full = is.full;
   empty = is.empty;
+  asked = is.asked;
 }
 
 refilled-earlier : (old mid new : List PlainQueue) (before after : Input) → IsRefilled mid new before after → InletQueueStays old mid before.inlet → IsRefilled old new before after
@@ -52,6 +53,7 @@ refilled-earlier old mid new before after is stays = record {
   taken = is.taken ∙ ap (λ xs. xs ++ option_to_list after.hand) (inlet_taken-same old mid before.inlet stays);
   full = is.full;
   empty = subst (λ (n : ℕ). IfNone after.hand (length (option_to_list before.hand) + n ≡ 0)) (inlet_ahead-same old mid before.inlet stays) is.empty;
+  asked = is.asked;
 }
 
 -- the next input is refilled

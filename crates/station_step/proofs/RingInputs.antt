@@ -18,6 +18,7 @@ use Rattle.station_step.specs.Kept.{saturating}
 use Rattle.station_step.specs.Noted.{inputs_of}
 use Rattle.station_step.specs.RingInputs.{is_ring_input, HasLookedIn, ring_taken, ring_token, HasGiven, ring_asks}
 use Rattle.station_step.specs.Station.{bare_input}
+use Rattle.station_step.proofs.OwnQueues.{is_ring-same}
 use Rattle.station_step.proofs.Dates.{greatest-more, greatest-agree, latest-none}
 use Rattle.station_step.proofs.Turns.{below-set}
 
@@ -52,7 +53,7 @@ knows_more-refl (inlet.Local q) = tt
 
 -- an input that has not looked
 pub looked_in-refl : (input : Input) → HasLookedIn input input
-looked_in-refl input = record { same = refl; more = knows_more-refl input.inlet; hand = refl }
+looked_in-refl input = record { same = refl; more = knows_more-refl input.inlet; looks = omega arith; hand = refl }
 
 -- ---- the walk that looks
 
@@ -90,11 +91,6 @@ known_more k inputs input low earlier here =
 
 -- ---- one input that gives
 
-ring-bare : (i : Inlet) → is_ring_inlet (bare_inlet i) ≡ is_ring_inlet i
-ring-bare (inlet.Ring take) = refl
-ring-bare (inlet.Room take) = refl
-ring-bare (inlet.Local q) = refl
-
 -- no shelf is asked what was taken at a ring
 taken-ring : (i : Inlet) → is_ring_inlet i ≡ true → inlet_taken [] i ≡ ring_taken i
 taken-ring (inlet.Ring take) is = refl
@@ -104,7 +100,7 @@ taken-ring (inlet.Local q) is = absurd (cc)
 -- a ring from which this token was taken
 ring_taken-more : (token : ℕ) (before after : Inlet) → is_ring_inlet before ≡ true → bare_inlet after ≡ bare_inlet before → inlet_taken [] after ≡ inlet_taken [] before ++ token ∷ [] → ring_taken after ≡ ring_taken before ++ token ∷ []
 ring_taken-more token before after ring same taken =
-    sym (taken-ring after (sym (ring-bare after) ∙ ap is_ring_inlet same ∙ ring-bare before ∙ ring))
+    sym (taken-ring after (is_ring-same before after same ∙ ring))
     ∙ taken
     ∙ ap (λ xs. xs ++ token ∷ []) (taken-ring before ring)
 

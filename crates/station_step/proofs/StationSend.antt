@@ -1,8 +1,10 @@
 -- A shelf and a station may go to another thread: each of their fields may. A search does not see through the fields
 -- that contracts alone read.
 use denote.Param.Send.{IsSend, sendable, view_send}
-use denote.Param.SendFields.{as_row_send, declared_send}
+use denote.Param.SendFields.{as_row_send, declared_send, variants_send}
 use Rattle.std.proofs.Crossing.{crosses, Vec-send}
+use Rattle.card_queue.proofs.Sends.{take_send}
+use Rattle.room_ring.proofs.take.RoomTake.TheSendSync as RoomTakeSent
 use Rattle.line_base.specs.contracts.log.Log as Log
 use Rattle.line_base.specs.contracts.log.Log.TheInside as LogInside
 use Rattle.station_step.specs.contracts.shelf.Shelf as Shelf
@@ -11,6 +13,8 @@ use Rattle.station_step.specs.contracts.tally.Tally as Tally
 use Rattle.station_step.specs.contracts.tally.Tally.TheInside as TallyInside
 use Rattle.station_step.specs.contracts.tally.Origin as Origin
 use Rattle.station_step.specs.contracts.fronts.Front as Front
+use Rattle.station_step.specs.contracts.ends.Inlet as Inlet
+use Rattle.station_step.specs.contracts.input.Input as Input
 use Rattle.station_step.specs.contracts.noted.NotedInput as NotedInput
 use Rattle.station_step.specs.contracts.noted.NotedOutlet as NotedOutlet
 use Rattle.station_step.specs.contracts.station.Station as Station
@@ -18,7 +22,6 @@ use Rattle.station_step.specs.contracts.station.Station.TheInside as StationInsi
 use Rattle.station_step.specs.contracts.waits.EmptyHand as EmptyHand
 use Rattle.station_step.proofs.waits.EmptyHand.TheSendSync as HandSent
 use Rattle.station_step.proofs.tally.Origin.TheSendSync as OriginSent
-use Rattle.station_step.proofs.noted.NotedInput.TheSendSync as InputSent
 use Rattle.station_step.proofs.noted.NotedOutlet.TheSendSync as OutletSent
 
 log_send : IsSend Log.the_row
@@ -80,6 +83,19 @@ front_send =
       ),
     )
 
+inlet_send : IsSend Inlet.the_row
+inlet_send = variants_send Inlet.enum ((take_send, tt), ((RoomTakeSent.the_send, tt), ((search sendable, tt), tt)))
+
+input_send : IsSend NotedInput.the_row
+input_send =
+    declared_send NotedInput.the_type (
+      declared_send Input.the_type (inlet_send, (search sendable depth 20, tt)),
+      (
+        search sendable,
+        tt,
+      ),
+    )
+
 station_fields : IsSend StationInside.the_row
 station_fields =
     declared_send StationInside.the_type (
@@ -103,7 +119,7 @@ station_fields =
                       (
                         Vec-send Front.the_row front_send,
                         (
-                          Vec-send NotedInput.the_row (as_row_send NotedInput.the_field InputSent.the_field_send),
+                          Vec-send NotedInput.the_row input_send,
                           (
                             Vec-send NotedOutlet.the_row (as_row_send NotedOutlet.the_field OutletSent.the_field_send),
                             (

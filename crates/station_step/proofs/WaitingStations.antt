@@ -12,7 +12,7 @@ use Rattle.station_step.specs.declared.ends.Inlet.TheVariants as inlet
 use Rattle.station_step.specs.declared.input.Input.{Input}
 use Rattle.station_step.specs.declared.waits.EmptyHand.{EmptyHand}
 use Rattle.station_step.specs.Shelf.{WorkShelf}
-use Rattle.station_step.specs.Ends.{inlet_taken, inlet_ahead, unseen_inlet, KnowsMore}
+use Rattle.station_step.specs.Ends.{inlet_taken, inlet_ahead, unseen_inlet, KnowsMore, HasAsked}
 use Rattle.station_step.specs.Input.{input_at, tokens_ahead, IsRefilled}
 use Rattle.station_step.specs.RingInputs.{HasLookedIn, HaveLooked}
 use Rattle.station_step.specs.Station.{WorkStation, IsStation, IsSeated, StandsAt}
@@ -103,6 +103,7 @@ hands-trans : (a b c : Input) → HasLookedIn a b → HasLookedIn b c → HasLoo
 hands-trans a b c first next = record {
   same = next.same ∙ first.same;
   more = knows-trans a.inlet b.inlet c.inlet first.same first.more next.more;
+  looks = omega (arith, first.looks, next.looks);
   hand = next.hand ∙ first.hand;
 }
 
@@ -150,14 +151,15 @@ looked-set inputs j input low looked k less =
 
 -- ---- a step at which no token has come
 
--- each hand is refilled from a shelf that stays, where nothing was known for one that is empty
-refilled-still : (shelf : List PlainQueue) (before after : Input) → HasLookedIn before after → IfNone after.hand (tokens_ahead shelf before ≡ 0) → IsRefilled shelf shelf before after
-refilled-still shelf before after looked none = record {
+-- each hand is refilled from a shelf that stays, where nothing was known for one that is empty, and it has looked there
+refilled-still : (shelf : List PlainQueue) (before after : Input) → HasLookedIn before after → IfNone after.hand (tokens_ahead shelf before ≡ 0) → IfNone after.hand (HasAsked before.inlet after.inlet) → IsRefilled shelf shelf before after
+refilled-still shelf before after looked none asked = record {
   same = bare-looked before after looked;
   taken = ap (λ (l : List ℕ). l ++ option_to_list before.hand) (taken-looked shelf before after looked)
       ∙ ap (λ (hand : Option ℕ). inlet_taken shelf before.inlet ++ option_to_list hand) (sym looked.hand);
   full = λ _. looked.hand;
   empty = none;
+  asked = asked;
 }
 
 none-where_full : (Fact : Type 0) (hand : Option ℕ) → IsSome hand → IfNone hand Fact
@@ -183,8 +185,8 @@ none-where_not some zero is_not is_so = refl
 none-where_not true (suc n) is_not is_so = absurd (cc)
 none-where_not false (suc n) is_not is_so = let is = is_so (omega arith) in absurd (cc)
 
-pub stays-blocked : (shelf : List PlainQueue) (s : WorkStation) (inputs : List Input) (hand : EmptyHand) → IsStation s → length s.log.dates < jobs s.graph → IsOnlyEmpty s.graph s.number s.inputs hand → HaveLooked s (record s { inputs = inputs }) → inlet_ahead shelf (input_at inputs hand.input).inlet ≡ 0 → StaysBlocked shelf s (record s { inputs = inputs; turns = s.turns + 1 }) hand.arc
-stays-blocked shelf s inputs hand sound left only looked none =
+pub stays-blocked : (shelf : List PlainQueue) (s : WorkStation) (inputs : List Input) (hand : EmptyHand) → IsStation s → length s.log.dates < jobs s.graph → IsOnlyEmpty s.graph s.number s.inputs hand → HaveLooked s (record s { inputs = inputs }) → inlet_ahead shelf (input_at inputs hand.input).inlet ≡ 0 → HasAsked (input_at s.inputs hand.input).inlet (input_at inputs hand.input).inlet → StaysBlocked shelf s (record s { inputs = inputs; turns = s.turns + 1 }) hand.arc
+stays-blocked shelf s inputs hand sound left only looked none asked =
     let k = hand.input in
     let before : tokens_ahead shelf (input_at s.inputs k) ≡ 0 =
     none-before shelf (input_at s.inputs k) (input_at inputs k) (looked.each k only.there) only.empty none in
@@ -194,6 +196,7 @@ stays-blocked shelf s inputs hand sound left only looked none =
       there = only.there;
       arc_is = only.arc_is;
       none = before;
+      looked = asked;
       empty = (looked.each k only.there).hand ∙ only.empty;
       first = λ j less. full j (omega (arith, less, only.there)) (λ e. absurd (omega (arith, less, e)));
     } in record {
@@ -206,10 +209,14 @@ stays-blocked shelf s inputs hand sound left only looked none =
         outlets = refl;
         puts = record { count = refl; puts = λ q. refl };
         hands = λ j low.
+            let at_empty : (P : ℕ → Type 0) → P k → IfNone (input_at inputs j).hand (P j) =
+            λ P is.
+            ⊎_elim
+            (λ (e : j ≡ k). none-where_so (P j) (input_at inputs j).hand (subst P (sym e) is))
+            (λ (ne : j ≢ k). none-where_full (P j) (input_at inputs j).hand (full j low ne))
+            (cases_eq j k) in
             refilled-still shelf (input_at s.inputs j) (input_at inputs j) (looked.each j low)
-            (⊎_elim
-            (λ (e : j ≡ k). none-where_so _ (input_at inputs j).hand (ap (λ n. tokens_ahead shelf (input_at s.inputs n)) e ∙ before))
-            (λ (ne : j ≢ k). none-where_full _ (input_at inputs j).hand (full j low ne))
-            (cases_eq j k));
+            (at_empty (λ n. tokens_ahead shelf (input_at s.inputs n) ≡ 0) before)
+            (at_empty (λ n. HasAsked (input_at s.inputs n).inlet (input_at inputs n).inlet) asked);
       };
     }

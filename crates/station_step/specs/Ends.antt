@@ -37,6 +37,12 @@ outlet_room shelf (outlet.Ring put) = put.room
 outlet_room shelf (outlet.Room put) = 2 ^ 40
 outlet_room shelf (outlet.Local k) = (queue_at shelf k).room
 
+-- how often an inlet has looked for a token, which only that of a ring does
+abbrev pub inlet_looks : Inlet → ℕ
+inlet_looks (inlet.Ring take) = take.looks
+inlet_looks (inlet.Room take) = take.loads
+inlet_looks (inlet.Local k) = 0
+
 -- how often an outlet has looked for space, which only that of a ring of bounded room does
 abbrev pub outlet_looks : Outlet → ℕ
 outlet_looks (outlet.Ring put) = 0
@@ -45,7 +51,7 @@ outlet_looks (outlet.Local k) = 0
 
 -- an inlet without its tokens and what it has seen: which queue's it is
 abbrev pub bare_inlet : Inlet → Inlet
-bare_inlet (inlet.Ring take) = inlet.Ring (record take { taken = []; known = [] })
+bare_inlet (inlet.Ring take) = inlet.Ring (record take { taken = []; known = []; looks = 0 })
 bare_inlet (inlet.Room take) = inlet.Room (record take { taken = []; tail = 0; loads = 0 })
 bare_inlet (inlet.Local k) = inlet.Local k
 
@@ -57,7 +63,7 @@ bare_outlet (outlet.Local k) = outlet.Local k
 
 -- an inlet without what it has seen of the tokens that come next
 abbrev pub unseen_inlet : Inlet → Inlet
-unseen_inlet (inlet.Ring take) = inlet.Ring (record take { known = [] })
+unseen_inlet (inlet.Ring take) = inlet.Ring (record take { known = []; looks = 0 })
 unseen_inlet (inlet.Room take) = inlet.Room (record take { tail = 0; loads = 0 })
 unseen_inlet (inlet.Local k) = inlet.Local k
 
@@ -102,6 +108,10 @@ abbrev pub HasKnown : Inlet → Type 0
 HasKnown (inlet.Ring take) = 0 < length take.known
 HasKnown (inlet.Room take) = 0 < room_known take
 HasKnown (inlet.Local k) = ⊤
+
+-- an inlet that is the end of a ring has looked since, at least once
+abbrev pub HasAsked : Inlet → Inlet → Type 0
+HasAsked before after = is_ring_inlet before ≡ true → inlet_looks before < inlet_looks after
 
 -- this many more tokens may be put at a ring's put
 abbrev pub HasRingRoom : ℕ → Outlet → Type 0

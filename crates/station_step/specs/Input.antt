@@ -4,7 +4,7 @@ use Rattle.card_queue.specs.Plain.{PlainQueue}
 use Rattle.station_step.specs.declared.ends.Inlet.{Inlet}
 use Rattle.station_step.specs.declared.ends.Inlet.TheVariants.{Local}
 use Rattle.station_step.specs.declared.input.Input.{Input}
-use Rattle.station_step.specs.Ends.{inlet_taken, inlet_ahead, inlet_queue, bare_inlet}
+use Rattle.station_step.specs.Ends.{inlet_taken, inlet_ahead, inlet_queue, bare_inlet, HasAsked}
 
 -- an input with an empty hand
 abbrev pub empty_handed : Inlet → Input
@@ -23,13 +23,15 @@ pub record IsHeld (shelf : List PlainQueue) (fired : ℕ) (input : Input) : Type
 abbrev pub tokens_ahead : List PlainQueue → Input → ℕ
 tokens_ahead shelf input = length (option_to_list input.hand) + inlet_ahead shelf input.inlet
 
--- a full hand stays; an empty one takes the next token, and is empty after that only where none was known
+-- a full hand stays; an empty one takes the next token, and is empty after that only where none was known, and none was
+-- found by a look at the ring, where its inlet is the end of one
 pub record IsRefilled (old new : List PlainQueue) (before after : Input) : Type 0 where
   pub same : bare_inlet after.inlet ≡ bare_inlet before.inlet
   pub taken : inlet_taken new after.inlet ++ option_to_list before.hand ≡
       inlet_taken old before.inlet ++ option_to_list after.hand
   pub full : IsSome before.hand → after.hand ≡ before.hand
   pub empty : IfNone after.hand (tokens_ahead old before ≡ 0)
+  pub asked : IfNone after.hand (HasAsked before.inlet after.inlet)
 
 -- the inputs with these numbers take from no queue of the shelf twice
 abbrev pub TakeApart : List Input → Type 0

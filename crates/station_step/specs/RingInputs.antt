@@ -1,9 +1,9 @@
 -- What looks and takes at the inputs of a station that are over rings change: only the station itself reads these words.
-use Rattle.std.specs.Prelude.{◌≡◌, ℕ, ◌<◌, ◌++◌, ◌∷◌, Bool, true, false, List, [], if◌then◌else◌, length, slice_index}
+use Rattle.std.specs.Prelude.{◌≡◌, ℕ, ◌<◌, ◌≤◌, ◌++◌, ◌∷◌, Bool, true, false, List, [], if◌then◌else◌, length, slice_index}
 use Rattle.station_step.specs.declared.ends.Inlet.{Inlet}
 use Rattle.station_step.specs.declared.ends.Inlet.TheVariants as inlet
 use Rattle.station_step.specs.declared.input.Input.{Input}
-use Rattle.station_step.specs.Ends.{unseen_inlet, is_ring_inlet, HasKnown, KnowsMore}
+use Rattle.station_step.specs.Ends.{inlet_looks, unseen_inlet, is_ring_inlet, HasKnown, KnowsMore}
 use Rattle.station_step.specs.Input.{input_at}
 use Rattle.station_step.specs.Kept.{saturating}
 use Rattle.station_step.specs.Station.{WorkStation}
@@ -12,10 +12,11 @@ use Rattle.station_step.specs.Station.{WorkStation}
 abbrev pub is_ring_input : Input → Bool
 is_ring_input input = is_ring_inlet input.inlet
 
--- an input may know of more tokens; nothing was taken, and its hand stays
+-- an input may have looked, and know of more tokens; nothing was taken, and its hand stays
 pub record HasLookedIn (before after : Input) : Type 0 where
   pub same : unseen_inlet after.inlet ≡ unseen_inlet before.inlet
   pub more : KnowsMore before.inlet after.inlet
+  pub looks : inlet_looks before.inlet ≤ inlet_looks after.inlet
   pub hand : after.hand ≡ before.hand
 
 -- the inputs of a station may know of more tokens; nothing else of it changed

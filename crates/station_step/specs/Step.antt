@@ -7,7 +7,7 @@ use Rattle.event_graph.specs.Network.{jobs, ins, outs}
 use Rattle.station_step.specs.declared.stepped.Stepped.{Stepped}
 use Rattle.station_step.specs.declared.stepped.Stepped.TheVariants.{Fired, Blocked, Full, Done}
 use Rattle.station_step.specs.Shelf.{WorkShelf, queue_at, unused_queue, OnlyTakes}
-use Rattle.station_step.specs.Ends.{outlet_looks, HasSpace, HasNoSpace, HasLooked}
+use Rattle.station_step.specs.Ends.{outlet_looks, HasSpace, HasNoSpace, HasLooked, HasAsked}
 use Rattle.station_step.specs.Input.{input_at, tokens_ahead, IsRefilled, NoneTakes}
 use Rattle.station_step.specs.Station.{WorkStation, IsStation, IsSeated, StandsAt, AreApart, outlet_at, NonePuts, bare_station}
 use Rattle.station_step.specs.Kept.{IsKept}
@@ -19,11 +19,13 @@ pub record IsReady (shelf : List PlainQueue) (s : WorkStation) : Type 0 where
   pub tokens : (k : ℕ) → k < length s.inputs → 0 < tokens_ahead shelf (input_at s.inputs k)
   pub space : (k : ℕ) → k < length s.outlets → HasSpace (outlet_at s.outlets k)
 
--- this arc, that of input k, had no token in the hand and none known; every input before it has its hand full now
+-- this arc, that of input k, had no token in the hand and none known, and its ring, where it is one, was looked at in
+-- this step; every input before it has its hand full now
 pub record IsBlockedAt (shelf : List PlainQueue) (before after : WorkStation) (arc k : ℕ) : Type 0 where
   pub there : k < length before.inputs
   pub arc_is : slice_index (ins before.graph before.number) k ≡ arc
   pub none : tokens_ahead shelf (input_at before.inputs k) ≡ 0
+  pub looked : HasAsked (input_at before.inputs k).inlet (input_at after.inputs k).inlet
   pub empty : (input_at after.inputs k).hand ≡ None
   pub first : (j : ℕ) → j < k → IsSome (input_at after.inputs j).hand
 

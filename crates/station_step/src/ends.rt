@@ -1,6 +1,6 @@
 ghost use Rattle.std.specs.Prelude.{◌≡◌, ◌≢◌, ℕ, ◌+◌, ◌<◌, ◌≤◌, ◌++◌, ◌∷◌, ◌↔◌, List, [], Some, length, IsTrue, IsSome, IfSome, IfNone, option_to_list};
 ghost use Rattle.card_queue.specs.Plain.{PlainQueue};
-ghost use Rattle.station_step.specs.Ends.{inlet_taken, inlet_ahead, bare_inlet, bare_outlet, unseen_inlet, unseen_outlet, inlet_queue, outlet_queue, is_ring_inlet, HasKnown, HasRingRoom, HasGot, is_bounded, is_ring, HasSpace, HasLooked, AreEnds, AreMet, KnowsMore, HasMoreSpace};
+ghost use Rattle.station_step.specs.Ends.{inlet_taken, inlet_ahead, inlet_looks, bare_inlet, bare_outlet, unseen_inlet, unseen_outlet, inlet_queue, outlet_queue, is_ring_inlet, HasKnown, HasAsked, HasRingRoom, HasGot, is_bounded, is_ring, HasSpace, HasLooked, AreEnds, AreMet, KnowsMore, HasMoreSpace};
 ghost use Rattle.station_step.specs.Shelf.{queue_at, OnlyTakes};
 
 use crate::shelf::Shelf;
@@ -50,6 +50,7 @@ impl Inlet {
     pub(crate) fn look(&mut self) -> bool
         ensures same { unseen_inlet self.new ≡ unseen_inlet self.old }
         ensures more { KnowsMore self.old self.new }
+        ensures looks { inlet_looks self.old ≤ inlet_looks self.new }
         ensures known { IsTrue result ↔ HasKnown self.new }
     {
         match self {
@@ -59,12 +60,14 @@ impl Inlet {
         }
     }
 
-    /// Looks for a token, at the end of a ring or on the shelf. Tells whether one is there.
+    /// Looks for a token, at the end of a ring or on the shelf, also where one is known. Tells whether one is there.
     #[inline(always)]
     pub(crate) fn has_token(&mut self, shelf: &Shelf) -> bool
         requires { IfSome (inlet_queue self.old) (λ q. q < length shelf.now.queues) }
         ensures same { unseen_inlet self.new ≡ unseen_inlet self.old }
         ensures more { KnowsMore self.old self.new }
+        ensures looks { inlet_looks self.old ≤ inlet_looks self.new }
+        ensures asked { HasAsked self.old self.new }
         ensures there { IsTrue result ↔ (0 < inlet_ahead shelf.now.queues self.new) }
     {
         match self {
@@ -91,7 +94,8 @@ impl Inlet {
         }
     }
 
-    /// Takes the next token, if one is there. `None` comes only where none was known.
+    /// Takes the next token, if one is there. `None` comes only where none was known, and at the end of a ring only
+    /// where this call has looked there.
     #[inline]
     pub(crate) fn take(&mut self, shelf: &mut Shelf) -> Option<Date>
         requires { IfSome (inlet_queue self.old) (λ q. q < length shelf.old.queues) }
@@ -99,6 +103,7 @@ impl Inlet {
         ensures taken { inlet_taken shelf.new.queues self.new ≡ inlet_taken shelf.old.queues self.old ++
             option_to_list result }
         ensures none { IfNone result (inlet_ahead shelf.old.queues self.old ≡ 0) }
+        ensures asked { IfNone result (HasAsked self.old self.new) }
         ensures only_takes { OnlyTakes shelf.old.queues shelf.new.queues }
         ensures others { (q : ℕ) → inlet_queue self.old ≢ Some q →
             queue_at shelf.new.queues q ≡ queue_at shelf.old.queues q }

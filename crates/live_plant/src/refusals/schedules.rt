@@ -21,32 +21,64 @@ fn labelled_refusal(alloc: Global, graph: &Graph, error: ReplayError) -> Result<
     ensures { IfOk result (λ refusal. refusal ≡ schedule_refusal graph.now error) }
 {
     match error {
-        ReplayError::NoStation { line } => {
-            let text = format!(in alloc; "replay: line {line} is no station")?.into_bytes();
-            Ok(not_followed(text))
-        }
-        ReplayError::Done { line, station } => {
-            let mut text = line_words(alloc, line, graph.label(station))?;
-            text.extend_from_slice(b" is done")?;
-            Ok(not_followed(text))
-        }
+        ReplayError::NoStation { line } => no_station_line(alloc, line),
+        ReplayError::Done { line, station } => done_line(alloc, line, graph.label(station)),
         ReplayError::Empty { line, arc } => {
             let arc = graph.arc(arc);
-            let mut text = line_words(alloc, line, graph.label(arc.to))?;
-            text.extend_from_slice(b" waits for ")?;
-            text.extend_from_slice(graph.label(arc.from))?;
-            Ok(not_followed(text))
+            waiting_line(alloc, line, graph.label(arc.to), graph.label(arc.from))
         }
         ReplayError::Unfinished { station, have } => {
-            let jobs = graph.jobs();
-            let mut text = Vec::from_slice(alloc, b"replay: ")?;
-            text.extend_from_slice(graph.label(station))?;
-            let fired = format!(in alloc; " made {have} of {jobs}")?;
-            text.extend_from_slice(fired.as_bytes())?;
-            Ok(not_followed(text))
+            unfinished_line(alloc, graph.label(station), have, graph.jobs())
         }
         ReplayError::NoMemory => Ok(Refusal::NoMemory),
     }
+}
+
+/// The refusal of a line that names no station.
+fn no_station_line(alloc: Global, line: u64) -> Result<Refusal, AllocError>
+    ensures { IfOk result (λ refusal. refusal ≡ Refusal.NotFollowed (codes "replay: line "
+        ++ decimal line ++ codes " is no station")) }
+{
+    let text = format!(in alloc; "replay: line {line} is no station")?.into_bytes();
+    Ok(not_followed(text))
+}
+
+/// The refusal of a line that names the station with this label, which has fired once for each job.
+fn done_line(alloc: Global, line: u64, label: &[u8]) -> Result<Refusal, AllocError>
+    ensures { IfOk result (λ refusal. refusal ≡ Refusal.NotFollowed (codes "replay: line "
+        ++ decimal line ++ codes ": " ++ label.now ++ codes " is done")) }
+{
+    let mut text = line_words(alloc, line, label)?;
+    text.extend_from_slice(b" is done")?;
+    Ok(not_followed(text))
+}
+
+/// The refusal of a line that names the station with this label, which waits for a token of another one.
+fn waiting_line(
+    alloc: Global,
+    line: u64,
+    label: &[u8],
+    source: &[u8],
+) -> Result<Refusal, AllocError>
+    ensures { IfOk result (λ refusal. refusal ≡ Refusal.NotFollowed (codes "replay: line "
+        ++ decimal line ++ codes ": " ++ label.now ++ codes " waits for " ++ source.now)) }
+{
+    let mut text = line_words(alloc, line, label)?;
+    text.extend_from_slice(b" waits for ")?;
+    text.extend_from_slice(source)?;
+    Ok(not_followed(text))
+}
+
+/// The refusal at the schedule's end, where the station with this label hasn't fired once for each job.
+fn unfinished_line(alloc: Global, label: &[u8], have: u64, jobs: u32) -> Result<Refusal, AllocError>
+    ensures { IfOk result (λ refusal. refusal ≡ Refusal.NotFollowed (codes "replay: "
+        ++ label.now ++ codes " made " ++ decimal have ++ codes " of " ++ decimal jobs)) }
+{
+    let mut text = Vec::from_slice(alloc, b"replay: ")?;
+    text.extend_from_slice(label)?;
+    let fired = format!(in alloc; " made {have} of {jobs}")?;
+    text.extend_from_slice(fired.as_bytes())?;
+    Ok(not_followed(text))
 }
 
 /// The refusal with this line.

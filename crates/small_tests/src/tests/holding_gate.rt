@@ -6,8 +6,8 @@ use std::sync::atomic::{AtomicBool, AtomicU64, Ordering};
 /// busy machine.
 const LOOKS: u64 = 200_000_000;
 
-/// A gate for two workers that holds the first pass of one until the other has passed this often. It counts how often
-/// it was passed for the feed, which is station 0.
+/// A gate for two workers that holds the first sweep of one until the other has begun this many. It counts the sweeps of
+/// worker 0, in each of which the feed steps once: it is station 0.
 #[derive(Drop)]
 pub struct HoldingGate {
     holds: u32,
@@ -19,7 +19,7 @@ pub struct HoldingGate {
 }
 
 impl HoldingGate {
-    /// A gate that holds this worker until the other has passed this often.
+    /// A gate that holds this worker until the other has begun this many sweeps.
     pub fn new(holds: u32, opens_at: u64) -> HoldingGate {
         HoldingGate {
             holds,
@@ -41,7 +41,7 @@ impl HoldingGate {
         self.missed.load(Ordering::SeqCst)
     }
 
-    /// How often it was passed for the feed.
+    /// How often the feed has stepped, or is about to.
     pub fn feeds(&self) -> u64 {
         self.feeds.load(Ordering::SeqCst)
     }
@@ -59,8 +59,8 @@ impl HoldingGate {
 }
 
 impl Gate for HoldingGate {
-    fn pass(&self, worker: u32, station: u32) {
-        if station == 0 {
+    fn pass(&self, worker: u32) {
+        if worker == 0 {
             self.feeds.fetch_add(1, Ordering::SeqCst);
         }
         if worker != self.holds {

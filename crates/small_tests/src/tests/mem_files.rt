@@ -1,7 +1,7 @@
 ghost use Rattle.std.specs.Prelude.{◌≡◌, ◌≤◌, length, true, IfOk, IsErr};
 
 use crate::tests::parts::{copy_first, first};
-use line_io::{FilesCalls, RawFiles};
+use outside_io::{FilesCalls, RawFiles};
 use std::alloc::{AllocError, Global};
 use std::io;
 use std::io::ErrorKind;
@@ -256,8 +256,8 @@ fn opened(is_open: &mut bool, answer: io::Result<()>) -> io::Result<()>
 
 impl RawFiles for MemFiles {
     ghost use Rattle.std.specs.Prelude.{[], None, false};
-    ghost use Rattle.line_io.specs.HostFiles.{files_calls};
-    ghost use Rattle.line_io.specs.RawFiles.{Named};
+    ghost use Rattle.outside_io.specs.HostFiles.{files_calls};
+    ghost use Rattle.outside_io.specs.RawFiles.{Named};
 
     ghost tells = { false };
 

@@ -29,7 +29,7 @@ impl NotingGate {
 }
 
 impl Gate for NotingGate {
-    fn pass(&self, worker: u32, _station: u32) {
+    fn pass(&self, worker: u32) {
         self.greatest.fetch_max(worker, Ordering::SeqCst);
         self.passes.fetch_add(1, Ordering::SeqCst);
     }

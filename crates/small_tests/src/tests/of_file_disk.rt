@@ -3,7 +3,7 @@ use crate::tests::leak::leak;
 use crate::tests::of_slots::{rank_after, rank_of, save};
 use crate::tests::short_file::ShortFile;
 use crate::tests::texts::TEXTS;
-use line_disk::{Disk, DiskError, FileDisk, MemDisk};
+use crash_disk::{Disk, DiskError, FileDisk, MemDisk};
 use std::alloc::{AllocError, Global};
 use std::test::Fail;
 

@@ -3,7 +3,7 @@ use crate::tests::expect_ok::expect_ok;
 use crate::tests::leak::leak;
 use crate::tests::mem_files::{Faults, MemFiles};
 use crate::tests::texts::{NO_TEXT, OLD, TEXTS, rank_among};
-use line_io::{FileStore, Store, StoreError};
+use outside_io::{FileStore, Store, StoreError};
 use std::alloc::Global;
 use std::process::Abort;
 

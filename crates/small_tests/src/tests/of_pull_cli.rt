@@ -8,20 +8,17 @@ use crate::tests::pair_gate::PairGate;
 use crate::tests::samples::{
     BASE_STOCK, FORTY_DEMANDS, KANBAN, ONE_CARD, ONE_PART, THREE_DEMANDS, stages_file,
 };
-use line_disk::MemDisk;
-use line_io::{Files, MemSink, MemStore, Store};
+use crash_disk::MemDisk;
 use line_workers::{FreeGate, Gate};
+use outside_io::{Files, MemSink, MemStore, Store};
 use pull_cli::pull;
 use std::alloc::{AllocError, Global};
 use std::process::Abort;
 use std::sync::Wait;
 use std::thread::Threads;
 
-/// How often a worker with three stations passes a gate in a burst.
-const PASSES: u64 = 48;
-
-/// How often a worker with thirty stations passes a gate in a burst.
-const PASSES_OF_THIRTY: u64 = 480;
+/// How many sweeps a worker makes in a burst.
+const SWEEPS: u64 = 16;
 
 /// The checkpoint of the two stages with a card each after all firings for three demands, in format 1.
 const FINISHED: &str = "\
@@ -147,9 +144,9 @@ fn answer_over<R: Abort + Threads + Wait + Sync, G: Gate>(
 }
 
 /// How often the feed steps at the least and at the most in a run of two workers, of which the second begins when the
-/// first has made all of its first burst. It makes forty firings. Without a bound each step is one, and so with room
-/// for forty tokens; with room for one token it has then reached a stop, and most of its firings are left for later
-/// bursts.
+/// first has made all of its first burst. It makes forty firings. With room for forty tokens each step is one; with room
+/// for one token it has then reached a stop, and most of its firings are left for later bursts. Without a bound one
+/// worker pays, and makes each firing in a step.
 const FEEDS: [(&str, u64, u64); 3] = [
     ("run a.toml --workers 2", 40, 40),
     ("run a.toml --room 40 --workers 2", 40, 40),
@@ -162,7 +159,7 @@ fn a_bounded_ring_holds_the_feed_back(rt: HostRuntime) {
     let mut store = stages_store(&rt, alloc, BASE_STOCK, FORTY_DEMANDS, ONE_PART);
     let whole = output_of(&rt, alloc, "run a.toml", &mut store, &FreeGate);
     for (line, least, most) in FEEDS {
-        let gate = HoldingGate::new(1, PASSES);
+        let gate = HoldingGate::new(1, SWEEPS);
         let report = output_of(&rt, alloc, line, &mut store, &gate);
         assert_same(&rt, gate.has_missed(), false);
         let feeds = gate.feeds();
@@ -174,29 +171,52 @@ fn a_bounded_ring_holds_the_feed_back(rt: HostRuntime) {
     drop(store);
 }
 
-/// What three workers do, two of six stations each, and how many steps they make together at the least: a run makes 240
-/// firings, and the states that are saved have 191 of them at the most in the file, 225 in the slots.
-const BY_THREE: [(&str, u64); 8] = [
-    ("run a.toml --workers 3", 240),
-    ("run a.toml --room 1 --workers 3", 240),
-    ("run a.toml --stand --workers 3", 240),
-    ("run a.toml --stop-after 96 --save c.ckpt --workers 3", 96),
-    ("resume a.toml c.ckpt --workers 3", 49),
-    ("run a.toml --every 130 --slots --workers 3", 240),
-    ("resume a.toml --slots --workers 3", 15),
-    ("big 7 --workers 3", 100_000),
+/// What three workers do with thirty stations each, and how many sweeps they make together at the least: in a run each
+/// station fires forty times, and the state that is saved in the file has 1,535 of 3,600 firings at the most.
+const BY_THREE: [(&str, u64); 7] = [
+    ("run a.toml --workers 3", 120),
+    ("run a.toml --room 1 --workers 3", 120),
+    ("run a.toml --stand --workers 3", 120),
+    ("run a.toml --stop-after 96 --save c.ckpt --workers 3", 4),
+    ("resume a.toml c.ckpt --workers 3", 69),
+    ("run a.toml --every 130 --slots --workers 3", 120),
+    ("resume a.toml --slots --workers 3", 1),
 ];
 
 #[test]
 fn as_many_workers_are_at_work_as_are_asked_for(rt: HostRuntime) {
     let alloc = rt.alloc();
-    let mut store = stages_store(&rt, alloc, KANBAN, FORTY_DEMANDS, ONE_CARD);
+    let said = expect_ok(&rt, said_of_many_machines(alloc, 42));
+    let mut store = stages_store(&rt, alloc, KANBAN, FORTY_DEMANDS, said.as_str());
+    drop(said);
     let disk = expect_ok(&rt, leak(alloc, MemDisk::new(alloc, Vec::new(alloc))));
     for (line, steps) in BY_THREE {
         let gate = NotingGate::new();
         drop(output_over(&rt, alloc, line, &mut store, &gate, disk));
         assert_same(&rt, gate.greatest(), 2);
         assert_same(&rt, gate.passes() >= steps, true);
+    }
+    drop(store);
+}
+
+/// What two workers are asked to do with six stations, or fifty, and the greatest number of a worker that sweeps.
+const BY_FEW: [(&str, u32); 6] = [
+    ("run a.toml --workers 2", 0),
+    ("run a.toml --room 1 --workers 2", 1),
+    ("run a.toml --stand --workers 2", 1),
+    ("run a.toml --stop-after 96 --save c.ckpt --workers 2", 1),
+    ("resume a.toml c.ckpt --workers 2", 0),
+    ("big 7 --workers 2", 0),
+];
+
+#[test]
+fn workers_that_do_not_pay_are_not_made(rt: HostRuntime) {
+    let alloc = rt.alloc();
+    let mut store = stages_store(&rt, alloc, KANBAN, FORTY_DEMANDS, ONE_CARD);
+    for (line, greatest) in BY_FEW {
+        let gate = NotingGate::new();
+        drop(output_of(&rt, alloc, line, &mut store, &gate));
+        assert_same(&rt, gate.greatest(), greatest);
     }
     drop(store);
 }
@@ -217,14 +237,14 @@ fn assert_delivers_forty(rt: &impl Abort, alloc: Global, report: &[u8]) {
     assert_same(rt, report.ends_with(end.as_bytes()), true);
 }
 
-// Sixteen sweeps of six stations are 96 firings, of 240; a run that began again would make all of them.
+// Sixteen sweeps of six stations are 96 firings, of 240; a run that began again would make all forty sweeps.
 #[test]
 fn a_resumed_run_goes_on_from_its_checkpoint(rt: HostRuntime) {
     let alloc = rt.alloc();
     let mut store = stages_store(&rt, alloc, KANBAN, FORTY_DEMANDS, ONE_CARD);
     let whole = CountingGate::new();
     let report = output_of(&rt, alloc, "run a.toml", &mut store, &whole);
-    assert_same(&rt, whole.steps(), 240);
+    assert_same(&rt, whole.sweeps(), 40);
     assert_delivers_forty(&rt, alloc, &report);
     let line = "run a.toml --stop-after 96 --save c.ckpt";
     let stopped = output_of(&rt, alloc, line, &mut store, &FreeGate);
@@ -232,7 +252,7 @@ fn a_resumed_run_goes_on_from_its_checkpoint(rt: HostRuntime) {
     let rest = CountingGate::new();
     let resumed = output_of(&rt, alloc, "resume a.toml c.ckpt", &mut store, &rest);
     drop(store);
-    assert_same(&rt, rest.steps(), 144);
+    assert_same(&rt, rest.sweeps(), 24);
     assert_same(&rt, resumed, report);
 }
 
@@ -252,35 +272,35 @@ fn assert_writes_report<R: Abort + Threads + Wait + Sync, G: Gate>(
 }
 
 #[test]
-fn a_finished_run_is_resumed_without_a_step(rt: HostRuntime) {
+fn a_finished_run_is_resumed_without_a_sweep(rt: HostRuntime) {
     let gate = CountingGate::new();
     assert_writes_report(&rt, rt.alloc(), "resume a.toml one.ckpt", &gate);
-    assert_same(&rt, gate.steps(), 0);
+    assert_same(&rt, gate.sweeps(), 0);
 }
 
 // Where one thread ran both workers, the first at the gate would look in vain for the other.
 #[test]
 fn two_workers_are_at_work_at_once(rt: HostRuntime) {
     let gate = PairGate::new();
-    assert_writes_report(&rt, rt.alloc(), "run a.toml --workers 2", &gate);
+    assert_writes_report(&rt, rt.alloc(), "run a.toml --room 1 --workers 2", &gate);
     assert!(rt; gate.has_come(0) && gate.has_come(1));
     assert_same(&rt, gate.has_missed(), false);
 }
 
-// In a run of bursts worker 1 would pass 48 times, and worker 0 look in vain.
+// In a run of bursts worker 1 would sweep 16 times, and worker 0 look in vain.
 #[test]
 fn a_worker_stays_in_its_thread_between_sweeps(rt: HostRuntime) {
-    let gate = HoldingGate::new(0, PASSES + 1);
+    let gate = HoldingGate::new(0, SWEEPS + 1);
     assert_writes_report(&rt, rt.alloc(), "run a.toml --stand --workers 2", &gate);
     assert!(rt; gate.is_open());
     assert_same(&rt, gate.has_missed(), false);
 }
 
-/// What is said of a stage with a card and twenty-seven machines before its own. The plant of two such stages has sixty
-/// stations.
-fn said_of_many_machines(alloc: Global) -> Result<String, AllocError> {
+/// What is said of a stage with a card and this many machines before its own. The plant of two such stages has six
+/// stations and two for each of these.
+fn said_of_many_machines(alloc: Global, machines: u32) -> Result<String, AllocError> {
     let mut said = String::from_str(alloc, ONE_CARD)?;
-    for machine in 0..27u32 {
+    for machine in 0..machines {
         write!(
             said,
             "\n[[stage.machine]]\nname = \"m{}\"\ntime = 1",
@@ -290,15 +310,15 @@ fn said_of_many_machines(alloc: Global) -> Result<String, AllocError> {
     Ok(said)
 }
 
-// In a run of bursts worker 1 would pass 480 times, and worker 0 look in vain.
+// In a run of bursts worker 1 would sweep 16 times, and worker 0 look in vain.
 #[test]
 fn workers_with_thirty_stations_each_sweep_on_in_a_long_burst(rt: HostRuntime) {
     let alloc = rt.alloc();
-    let said = expect_ok(&rt, said_of_many_machines(alloc));
+    let said = expect_ok(&rt, said_of_many_machines(alloc, 27));
     let mut store = stages_store(&rt, alloc, KANBAN, THREE_DEMANDS, said.as_str());
     drop(said);
     let whole = output_of(&rt, alloc, "run a.toml", &mut store, &FreeGate);
-    let gate = HoldingGate::new(0, PASSES_OF_THIRTY + 1);
+    let gate = HoldingGate::new(0, SWEEPS + 1);
     let report = output_of(&rt, alloc, "run a.toml --workers 2", &mut store, &gate);
     drop(store);
     assert!(rt; gate.is_open());

@@ -1,8 +1,8 @@
 use crate::tests::assert_same::assert_same;
 use crate::tests::leak::leak;
 use crate::tests::texts::{NO_TEXT, TEXTS, rank_among};
-use line_disk::slots::{SlotError, Slots};
-use line_disk::{Disk, MemDisk};
+use crash_disk::slots::{SlotError, Slots};
+use crash_disk::{Disk, MemDisk};
 use std::alloc::Global;
 use std::test::Fail;
 

@@ -5,7 +5,7 @@ use std::sync::atomic::{AtomicBool, AtomicU64, Ordering};
 /// How often a worker looks whether the other is at the gate.
 const LOOKS: u64 = 200_000_000;
 
-/// A gate at which each of two workers waits at its first step until the other is at its own.
+/// A gate at which each of two workers waits at its first sweep until the other is at its own.
 #[derive(Drop)]
 pub struct PairGate {
     passes: [AtomicU64; 2],
@@ -33,7 +33,7 @@ impl PairGate {
 }
 
 impl Gate for PairGate {
-    fn pass(&self, worker: u32, _station: u32) {
+    fn pass(&self, worker: u32) {
         self.passes[worker as usize % 2].fetch_add(1, Ordering::SeqCst);
         if self.has_missed() {
             return;

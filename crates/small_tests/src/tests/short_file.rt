@@ -1,8 +1,8 @@
 ghost use Rattle.std.specs.Prelude.{◌≡◌, ◌≢◌, ◌+◌, ◌≤◌, length, true, IfOk, IfSome};
-ghost use Rattle.line_disk.specs.declared.opening.Opening.TheVariants.{Opened};
+ghost use Rattle.crash_disk.specs.declared.opening.Opening.TheVariants.{Opened};
 
 use crate::tests::parts::{copy_first, first};
-use line_disk::{DISK_END, Disk, MemDisk, Opening, RawCalls, RawFile};
+use crash_disk::{DISK_END, Disk, MemDisk, Opening, RawCalls, RawFile};
 use std::alloc::Global;
 use std::io;
 
@@ -98,8 +98,8 @@ impl ShortFile {
 
 impl RawFile for ShortFile {
     ghost use Rattle.std.specs.Prelude.{false};
-    ghost use Rattle.line_disk.specs.DiskView.{blank};
-    ghost use Rattle.line_disk.specs.HostFile.{calls_of};
+    ghost use Rattle.crash_disk.specs.DiskView.{blank};
+    ghost use Rattle.crash_disk.specs.HostFile.{calls_of};
 
     ghost tells = { false };
 
@@ -130,5 +130,9 @@ impl RawFile for ShortFile {
             Err(_) => Err(io::ErrorKind::Other.into()),
         };
         self.calls.note_sync(answer)
+    }
+
+    fn sync_folder(&mut self) -> io::Result<()> {
+        self.calls.note_sync_folder(Ok(()))
     }
 }

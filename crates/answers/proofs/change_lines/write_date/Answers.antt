@@ -1,4 +1,4 @@
-use Rattle.line_io.proofs.OutgoingLemmas.{◌⨟◌}
+use Rattle.outside_io.proofs.OutgoingLemmas.{◌⨟◌}
 use Rattle.answers.specs.ChangesText.{change_line}
 use Rattle.answers.proofs.SinkLines.{written_none, written_line, no_line, one_line}
 use Rattle.answers.proofs.change_lines.write_date.Goals as goal

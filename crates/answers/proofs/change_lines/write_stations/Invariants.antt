@@ -1,6 +1,6 @@
 use Rattle.std.proofs.Common.{◌≤◌, ◌*◌, ◌^◌}
 use Rattle.std.specs.List.{flat_map, range_with_len}
-use Rattle.line_io.specs.Outgoing.{stream}
+use Rattle.outside_io.specs.Outgoing.{stream}
 use Rattle.answers.specs.ChangesText.{lines_of_station}
 use Rattle.answers.specs.Written.{IsWritten}
 use Rattle.answers.proofs.change_lines.write_stations.Given as goal

@@ -1,4 +1,4 @@
-use Rattle.line_io.proofs.OutgoingLemmas.{◌⨟◌}
+use Rattle.outside_io.proofs.OutgoingLemmas.{◌⨟◌}
 use Rattle.answers.specs.ChangesText.{changes_text}
 use Rattle.answers.proofs.changes.write_text.Goals as goal
 

@@ -1,6 +1,6 @@
 use Rattle.std.proofs.Common.{◌≡◌, ℕ, ◌+◌, ◌-◌, ◌/◌, ◌^◌, get_or, refl, sym, subst, arith}
 use Rattle.card_sizing.specs.Counted.{IsStageSearch}
-use Rattle.card_sizing.proofs.Searches.{try_counted}
+use Rattle.card_sizing.proofs.Searches.{try_counted, halving_begins, half_counted, halving_ends}
 use Rattle.card_sizing.proofs.StageSearches.{search_begins, search_on, search_down}
 use Rattle.card_sizing.proofs.lowering.lower.Goals as goal
 
@@ -15,6 +15,9 @@ loop-low-preserved-in-None c =
       tries =
           try_counted (c.args.tries.now + 14) at.tries _ (at.high - at.low) (middle - at.low) c.in_ok-try_counts.ensures.counted
           at.invariant.tries (omega arith) (omega arith);
+      halving =
+          half_counted c.args.tries.now at.tries _ _ (at.high - at.low) (middle - at.low) c.in_ok-try_counts.ensures.counted
+          at.invariant.halving (omega arith);
     }
 
 pub loop-low-preserved : goal.loop-low-preserved
@@ -28,6 +31,9 @@ loop-low-preserved c =
       tries =
           try_counted (c.args.tries.now + 14) at.tries _ (at.high - at.low) (at.high - (middle + 1)) c.in_ok-try_counts.ensures.counted
           at.invariant.tries (omega arith) (omega arith);
+      halving =
+          half_counted c.args.tries.now at.tries _ _ (at.high - at.low) (at.high - (middle + 1)) c.in_ok-try_counts.ensures.counted
+          at.invariant.halving (omega arith);
     }
 
 pub loop-low-init : goal.loop-low-init
@@ -40,6 +46,7 @@ loop-low-init c =
     record {
       search = subst (λ (low : ℕ). IsStageSearch p c.args.may counts stage low (get_or counts stage 0)) (sym c.least_count-low.ensures) (search_begins p c.requires.sound c.requires.counts c.args.may counts stage c.requires.serves c.requires.stage);
       tries = record { left = 14; all = omega arith; halved = omega (arith, few, fit.within stage c.requires.stage) };
+      halving = halving_begins c.args.tries.now _ _ (omega (arith, c.least_count-low.ensures));
     }
 
 pub try_counts-requires-clause-fit : goal.try_counts-requires-clause-fit
@@ -56,9 +63,13 @@ returns-clause-least c =
     let search = c.loop-low.invariant.search in
     record {
       count = c.loop-low.high;
-      least = record { serves = search.serves; none = λ d low. search.none d (omega (arith, low, c.loop-low-test.false)); no_more = search.no_more };
+      least = record { holds = search.serves; none = λ d low. search.none d (omega (arith, low, c.loop-low-test.false)) };
       lowered = refl;
     }
 
 pub returns-clause-counted : goal.returns-clause-counted
 returns-clause-counted c = omega (arith, c.loop-low.invariant.tries.all)
+
+pub returns-clause-halved : goal.returns-clause-halved
+returns-clause-halved c =
+    halving_ends _ _ _ _ c.loop-low.invariant.halving (omega (arith, c.loop-low-test.false))

@@ -1,6 +1,7 @@
 use Rattle.std.proofs.Common.{◌≡◌, ◌∙◌, sym, ap, subst}
 use Rattle.plant_model.specs.Sound.{IsSound}
-use Rattle.card_sizing.specs.Counted.{with_counts, with_count}
+use Rattle.card_sizing.specs.Counted.{with_counts}
+use Rattle.card_sizing.specs.Lowered.{with_count}
 use Rattle.card_sizing.proofs.CountedPlants.{sound_counted}
 use Rattle.card_sizing.proofs.StageSearches.{fit_with}
 use Rattle.card_sizing.proofs.lowering.try_counts.Goals as goal

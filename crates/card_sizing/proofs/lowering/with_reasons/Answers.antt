@@ -37,6 +37,7 @@ loop-i-preserved c =
       named = names_more old new s c.as_slice-stages.result.now i c.index-stages-i.result is before.named (c.in_ok-copy.ensures ∙ ap (λ (t : Stage). t.name) c.index-stages-i.is) c.loop-i-test.true;
       below = subst (λ (l : List StageSizing). HaveReasons p c.args.may counts l (i + 1)) (sym is) (reasons_more p c.args.may counts old s i long before.below c.in_ok-below.ensures.below);
       tries = omega (arith, c.in_ok-below.ensures.counted, before.tries);
+      kept = omega (arith, c.in_ok-below.ensures.kept, before.kept);
       count = omega (arith, before.count, c.push_reserved.ensures.len);
       room = omega (arith, before.room, c.push_reserved.ensures.capacity);
     }
@@ -47,6 +48,7 @@ loop-i-init c = record {
   named = ap names_of c.in_ok-sizings.ensures.items;
   below = λ i low. absurd (omega (arith, low));
   tries = omega arith;
+  kept = omega arith;
   count = c.in_ok-sizings.ensures.len;
   room = c.in_ok-sizings.ensures.capacity;
 }
@@ -57,17 +59,17 @@ reason_of-requires-clause-stage c = omega (arith, c.loop-i-test.true, ap (λ (ss
 pub returns-in_err-sizings : goal.returns-in_err-sizings
 returns-in_err-sizings c =
     let p = err_from_is_err_and c.from_residual.result c.from_residual.ensures.1 in
-    rw p.1 (record { counts = tt; named = tt; below = tt; counted = tt })
+    rw p.1 (record { counts = tt; named = tt; below = tt; counted = tt; kept = tt })
 
 pub returns-in_err-below : goal.returns-in_err-below
 returns-in_err-below c =
     let p = err_from_is_err_and c.from_residual-in_err-below.result c.from_residual-in_err-below.ensures.1 in
-    rw p.1 (record { counts = tt; named = tt; below = tt; counted = tt })
+    rw p.1 (record { counts = tt; named = tt; below = tt; counted = tt; kept = tt })
 
 pub returns-in_err-copy : goal.returns-in_err-copy
 returns-in_err-copy c =
     let p = err_from_is_err_and c.from_residual-in_err-copy.result c.from_residual-in_err-copy.ensures.1 in
-    rw p.1 (record { counts = tt; named = tt; below = tt; counted = tt })
+    rw p.1 (record { counts = tt; named = tt; below = tt; counted = tt; kept = tt })
 
 pub returns : goal.returns
 returns c =
@@ -82,5 +84,6 @@ returns c =
       counts = ap counts_of c.from_vec.ensures ∙ done.counts ∙ take_all i counts (omega (arith, c.loop-i-test.false, long, c.requires.fit.number));
       named = ap names_of c.from_vec.ensures ∙ done.named ∙ ap names (take_all i c.as_slice-stages.result.now c.loop-i-test.false ∙ given);
       below = λ k low. subst (λ (l : List StageSizing). IsBelowAt p c.args.may counts k (below_at l k)) (sym c.from_vec.ensures) (done.below k (omega (arith, low, c.loop-i-test.false, long)));
+      kept = done.kept;
       counted = omega (arith, done.tries, c.loop-i.auto.i-end, long);
     }

@@ -8,6 +8,7 @@ invariant-loop-i l = record {
   named : names_of l.sizings.items ≡ map (λ s. s.name) (take l.i l.stages);
   below : HaveReasons l.plant l.may l.counts l.sizings.items l.i;
   tries : l.tries ≤ l.initial.tries + l.i;
+  kept : l.initial.tries ≤ l.tries;
   count : vec_len l.sizings ≡ l.i;
   room : length l.stages ≤ vec_capacity l.sizings;
 }

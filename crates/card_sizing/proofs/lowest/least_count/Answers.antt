@@ -1,4 +1,4 @@
-use Rattle.std.proofs.Common.{◌≡◌, ◌<◌, List, ap, ◌∙◌, arith, length, get_or}
+use Rattle.std.proofs.Common.{◌<◌, List, ap, ◌∙◌, arith, length, get_or}
 use Rattle.std.proofs.lemmas.List.{get_or_default}
 use Rattle.plant_model.specs.Stages.{Stage}
 use Rattle.plant_model.specs.Line.{no_stage}

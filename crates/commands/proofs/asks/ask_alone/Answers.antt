@@ -1,4 +1,4 @@
 use Rattle.commands.proofs.asks.ask_alone.Goals as goal
 
-pub returns-in-Big : goal.returns-in-Big
-returns-in-Big g c = rw c.in-Big.is c.big.ensures
+pub returns-in-Big-clause-answers : goal.returns-in-Big-clause-answers
+returns-in-Big-clause-answers g c = rw c.in-Big.is c.big.ensures

@@ -29,6 +29,7 @@ returns c =
           (λ none. no_error each (sized.no_single_count.1 none));
       serves = sized.serves;
       least = sized.least;
+      in_order = sized.in_order;
       below = sized.below;
       named = sized.named;
       total = sized.total;

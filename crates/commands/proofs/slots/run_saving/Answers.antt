@@ -9,7 +9,7 @@ use Rattle.commands.proofs.Checkpoints.{never_too_long}
 use Rattle.commands.proofs.SlotRuns.{kept_of, run_fails, run_saves, late_of}
 use Rattle.commands.specs.Saving.{SavesOnTheWay}
 use Rattle.live_plant.specs.Actions.{disk_over}
-use Rattle.line_disk.specs.declared.slots.error.SlotError.{SlotError}
+use Rattle.crash_disk.specs.declared.slots.error.SlotError.{SlotError}
 use Rattle.commands.proofs.slots.run_saving.Goals as goal
 
 pub slot_refusal-requires-clause-fits : goal.slot_refusal-requires-clause-fits

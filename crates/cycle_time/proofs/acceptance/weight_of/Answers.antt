@@ -2,14 +2,15 @@ use Rattle.std.proofs.Common.{◌*◌, ◌≤◌, arith, ap, ◌∙◌}
 use Rattle.std.proofs.lemmas.Nat.{mul-le}
 use Rattle.std.proofs.lemmas.Int.{ints}
 use Rattle.event_graph.proofs.Sizes.{tokens-small}
+use Rattle.cycle_time.specs.Certificate.{most_ratio_time, most_ratio_cards}
 use Rattle.cycle_time.proofs.acceptance.weight_of.Goals as goal
 
-gain_small : (c : goal.After-from-4) → c.from.result * c.from-2.result ≤ 1_000_000_000 * 2_000_000_000
-gain_small c = mul-le c.from.result c.from-2.result 1_000_000_000 2_000_000_000 (omega arith) (omega arith)
+gain_small : (c : goal.After-from-4) → c.from.result * c.from-2.result ≤ most_ratio_cards * 2_000_000_000
+gain_small c = mul-le c.from.result c.from-2.result most_ratio_cards 2_000_000_000 (omega arith) (omega arith)
 
-loss_small : (c : goal.After-from-4) → c.from-3.result * c.from-4.result ≤ 1_000_000_000_000_000_000 * 10_000
+loss_small : (c : goal.After-from-4) → c.from-3.result * c.from-4.result ≤ most_ratio_time * 10_000
 loss_small c =
-    mul-le c.from-3.result c.from-4.result 1_000_000_000_000_000_000 10_000 (omega arith)
+    mul-le c.from-3.result c.from-4.result most_ratio_time 10_000 (omega arith)
     (omega (arith, tokens-small c.args.graph.now c.args.a c.tokens.ensures.limits))
 
 pub overflow_sub-result : goal.overflow_sub-result

@@ -1,6 +1,6 @@
 use Rattle.std.proofs.Common.{◌*◌, ◌≤◌, arith}
 use Rattle.std.proofs.lemmas.List.Elements.{All-weaker}
-use Rattle.cycle_time.specs.Search.{most_gain, IsGrown}
+use Rattle.cycle_time.specs.Search.{most_before_pass, most_gain, IsGrown}
 use Rattle.cycle_time.proofs.Rounds.{after_none, after_more, final}
 use Rattle.cycle_time.proofs.search.search.Goals as goal
 
@@ -53,7 +53,7 @@ pub pass-requires-clause-small : goal.pass-requires-clause-small
 pass-requires-clause-small c =
     let h = c.loop-turn.invariant in
     let few = c.graph-graph.ensures.ranked.limits.few_stations in
-    All-weaker (λ v. v ≤ c.loop-turn.turn * (512 * most_gain)) (λ v. v ≤ 100_000_000_000_000_000_000_000) (λ v fits. omega (arith, fits, few, h.early)) c.loop-turn.tree.potentials h.within
+    All-weaker (λ v. v ≤ c.loop-turn.turn * (512 * most_gain)) (λ v. v ≤ most_before_pass) (λ v fits. omega (arith, fits, few, h.early)) c.loop-turn.tree.potentials h.within
 
 pub circuit_behind-requires-clause-station : goal.circuit_behind-requires-clause-station
 circuit_behind-requires-clause-station c = c.in-Some.ensures.risen.exists

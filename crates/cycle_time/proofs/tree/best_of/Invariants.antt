@@ -1,11 +1,12 @@
-use Rattle.std.proofs.Common.{◌≡◌, ℕ, ◌+◌, ◌<◌, ◌≤◌, ◌⊎◌, get_or}
+use Rattle.std.proofs.Common.{◌≡◌, ℕ, ◌+◌, ◌*◌, ◌<◌, ◌≤◌, ◌⊎◌, get_or}
 use Rattle.event_graph.specs.Network.{arc, EndsAt}
+use Rattle.cycle_time.specs.Certificate.{most_potential}
 use Rattle.cycle_time.specs.Search.{gain, loss, IsGiven}
 use Rattle.cycle_time.proofs.tree.best_of.Given as goal
 
 abbrev pub invariant-loop-a : goal.invariant-loop-a
 invariant-loop-a l = record {
-  small : l.best.potential ≤ 2_000_000_000_000_000_000_000_000;
+  small : l.best.potential ≤ 2 * most_potential;
   kept : get_or l.potentials l.t 0 ≤ l.best.potential;
   covers : (k : ℕ) → k < l.a-index →
       get_or l.potentials (arc l.graph (get_or l.ins k 0)).from 0 + gain l.graph l.weights.weighing (get_or l.ins k 0)

@@ -1,7 +1,7 @@
 use Rattle.std.proofs.Common.{ap, ◌∙◌, length}
 use Rattle.std.proofs.lemmas.List.FromFn.{length-map-range_with_len}
 use Rattle.event_graph.specs.Network.{stations}
-use Rattle.line_io.proofs.OutgoingLemmas.{◌⨟◌}
+use Rattle.outside_io.proofs.OutgoingLemmas.{◌⨟◌}
 use Rattle.date_causes.specs.Shares.{share}
 use Rattle.date_causes.specs.WhyText.{why_text}
 use Rattle.date_causes.proofs.writing.write_chain.Goals as goal

@@ -1,5 +1,5 @@
 use Rattle.std.proofs.lemmas.List.{take_all}
-use Rattle.line_io.proofs.OutgoingLemmas.{pushed_none, pushed_element}
+use Rattle.outside_io.proofs.OutgoingLemmas.{pushed_none, pushed_element}
 use Rattle.date_causes.specs.declared.link.Cause.TheVariants.{DemandDate}
 use Rattle.date_causes.specs.WhyText.{link_line}
 use Rattle.date_causes.proofs.writing.write_links.Goals as goal

@@ -1,5 +1,5 @@
 use Rattle.std.proofs.lemmas.Bool.{ne_eqb}
-use Rattle.line_io.proofs.OutgoingLemmas.{pushed_none, ◌⨟◌}
+use Rattle.outside_io.proofs.OutgoingLemmas.{pushed_none, ◌⨟◌}
 use Rattle.date_causes.proofs.Lines.{no_share}
 use Rattle.date_causes.proofs.writing.write_share.Goals as goal
 

@@ -1,6 +1,6 @@
 use Rattle.std.proofs.Common.{◌≡◌, arith}
 use Rattle.event_graph.specs.Network.{stations}
-use Rattle.line_io.proofs.OutgoingLemmas.{pushed_none, pushed_next}
+use Rattle.outside_io.proofs.OutgoingLemmas.{pushed_none, pushed_next}
 use Rattle.date_causes.specs.WhyText.{share_line, share_lines}
 use Rattle.date_causes.proofs.writing.write_shares.Goals as goal
 

@@ -1,5 +1,5 @@
 use Rattle.std.specs.List.{flat_map, range_with_len}
-use Rattle.line_io.specs.Outgoing.{Pushed, stream}
+use Rattle.outside_io.specs.Outgoing.{Pushed, stream}
 use Rattle.date_causes.specs.WhyText.{share_line}
 use Rattle.date_causes.proofs.writing.write_shares.Given as goal
 

@@ -1,4 +1,4 @@
-use Rattle.line_io.proofs.OutgoingLemmas.{◌⨟◌}
+use Rattle.outside_io.proofs.OutgoingLemmas.{◌⨟◌}
 use Rattle.latest_dates.specs.LatestText.{latest_text}
 use Rattle.latest_dates.proofs.writing.write_latest.Goals as goal
 

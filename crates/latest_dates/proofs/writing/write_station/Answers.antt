@@ -2,7 +2,7 @@ use Rattle.std.proofs.Common.{◌≡◌, refl, sym, ap, ◌∙◌, arith}
 use Rattle.line_base.specs.declared.event.Parts.{Parts}
 use Rattle.event_graph.specs.Network.{jobs, label}
 use Rattle.event_graph.specs.Table.{date_in}
-use Rattle.line_io.proofs.OutgoingLemmas.{pushed_none}
+use Rattle.outside_io.proofs.OutgoingLemmas.{pushed_none}
 use Rattle.latest_dates.specs.Found.{found_of, latest_of}
 use Rattle.latest_dates.specs.JobLines.{tight_jobs}
 use Rattle.latest_dates.proofs.Lines.{job_lines-none, tight_jobs-none, tight_jobs-split, pushed_jobs, job_lines-all, tight_jobs-all}

@@ -1,7 +1,7 @@
 use Rattle.std.proofs.Common.{◌≡◌, ◌+◌, ◌-◌, ◌≤◌, length}
 use Rattle.event_graph.specs.Network.{label}
 use Rattle.event_graph.specs.Table.{date_in}
-use Rattle.line_io.specs.Outgoing.{Pushed, stream}
+use Rattle.outside_io.specs.Outgoing.{Pushed, stream}
 use Rattle.latest_dates.specs.Found.{found_of, latest_of}
 use Rattle.latest_dates.specs.JobLines.{job_lines, tight_jobs}
 use Rattle.latest_dates.proofs.writing.write_station.Given as goal

@@ -1,7 +1,7 @@
 use Rattle.std.proofs.Common.{◌≡◌, ◌-◌, refl, ap, arith}
 use Rattle.event_graph.specs.Network.{stations}
 use Rattle.event_graph.specs.Table.{date_in}
-use Rattle.line_io.proofs.OutgoingLemmas.{pushed_none}
+use Rattle.outside_io.proofs.OutgoingLemmas.{pushed_none}
 use Rattle.latest_dates.specs.Found.{found_of, latest_of}
 use Rattle.latest_dates.specs.LatestText.{station_lines, tight_at, all_lines, tight_count}
 use Rattle.latest_dates.proofs.Lines.{pushed_next, sum_by-next}

@@ -2,7 +2,7 @@ use Rattle.std.proofs.Common.{◌≡◌, ◌*◌, ◌≤◌}
 use Rattle.std.specs.List.{flat_map, range_with_len, sum_by}
 use Rattle.event_graph.specs.Network.{jobs}
 use Rattle.event_graph.specs.Table.{date_in}
-use Rattle.line_io.specs.Outgoing.{Pushed, stream}
+use Rattle.outside_io.specs.Outgoing.{Pushed, stream}
 use Rattle.latest_dates.specs.Found.{found_of, latest_of}
 use Rattle.latest_dates.specs.LatestText.{station_lines, tight_at}
 use Rattle.latest_dates.proofs.writing.write_stations.Given as goal

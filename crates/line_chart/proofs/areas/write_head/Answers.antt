@@ -1,4 +1,4 @@
-use Rattle.line_io.proofs.OutgoingLemmas.{◌⨟◌}
+use Rattle.outside_io.proofs.OutgoingLemmas.{◌⨟◌}
 use Rattle.line_chart.specs.ChartText.{area_head}
 use Rattle.line_chart.proofs.areas.write_head.Goals as goal
 

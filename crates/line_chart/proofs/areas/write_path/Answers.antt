@@ -1,6 +1,6 @@
 use Rattle.std.proofs.Common.{◌≡◌, ◌≢◌, ◌-◌, sym, ◌∙◌, arith}
 use Rattle.event_graph.specs.Table.{date_in}
-use Rattle.line_io.proofs.OutgoingLemmas.{pushed_none, ◌⨟◌}
+use Rattle.outside_io.proofs.OutgoingLemmas.{pushed_none, ◌⨟◌}
 use Rattle.line_chart.specs.Areas.{count_of}
 use Rattle.line_chart.specs.ChartText.{path_text}
 use Rattle.line_chart.proofs.StepLists.{steps-none, steps-step, steps-same}

@@ -1,17 +1,13 @@
-use Rattle.std.proofs.Common.{◌∙◌, arith}
-use Rattle.plant_model.proofs.LayoutFacts.{few_stages}
-use Rattle.line_io.proofs.OutgoingLemmas.{◌⨟◌}
+use Rattle.std.proofs.Common.{◌∙◌}
+use Rattle.outside_io.proofs.OutgoingLemmas.{◌⨟◌}
 use Rattle.line_chart.specs.ChartText.{class_path, stage_area}
 use Rattle.line_chart.proofs.LaneFacts.{stage-name}
 use Rattle.line_chart.proofs.areas.write_stage.Goals as goal
-
-pub write_head-requires-clause-small : goal.write_head-requires-clause-small
-write_head-requires-clause-small g c = omega (arith, few_stages c.args.run.now.plant c.requires.run.of_plant.sound, c.requires.exists, c.requires.run.small)
 
 pub returns : goal.returns
 unfolding stage_area class_path
 returns g c =
     let p = c.args.run.now.plant in
     let name = c.text-name.ensures.text ∙ stage-name p c.args.stage c.as_slice.result.now c.index-as_slice-stage.result c.as_slice.ensures c.requires.exists in
-    let head = rw (name, c.requires.run.lanes, c.most.ensures) at c.write_head.ensures in
+    let head = rw (name, c.areas_end-y.ensures.end, c.most.ensures) at c.write_head.ensures in
     head ⨟ c.write_path_element.ensures ⨟ c.write_path_element-2.ensures ⨟ c.push.ensures

@@ -1,7 +1,7 @@
 use Rattle.std.proofs.Common.{arith}
 use Rattle.plant_model.proofs.LayoutFacts.{few_stages}
 use Rattle.event_graph.specs.Table.{date_in}
-use Rattle.line_io.proofs.OutgoingLemmas.{pushed_next}
+use Rattle.outside_io.proofs.OutgoingLemmas.{pushed_next}
 use Rattle.line_chart.specs.ChartText.{stage_area}
 use Rattle.line_chart.proofs.areas.write_stages.Goals as goal
 

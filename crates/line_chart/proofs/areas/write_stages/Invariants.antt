@@ -1,5 +1,5 @@
 use Rattle.std.specs.List.{flat_map, range_with_len}
-use Rattle.line_io.specs.Outgoing.{Pushed, stream}
+use Rattle.outside_io.specs.Outgoing.{Pushed, stream}
 use Rattle.event_graph.specs.Table.{date_in}
 use Rattle.line_chart.specs.ChartText.{stage_area}
 use Rattle.line_chart.proofs.areas.write_stages.Given as goal

@@ -1,4 +1,4 @@
-use Rattle.line_io.proofs.OutgoingLemmas.{◌⨟◌}
+use Rattle.outside_io.proofs.OutgoingLemmas.{◌⨟◌}
 use Rattle.line_chart.proofs.areas.write_step.Goals as goal
 
 pub returns : goal.returns

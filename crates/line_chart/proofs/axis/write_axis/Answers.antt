@@ -1,5 +1,5 @@
 use Rattle.std.proofs.Common.{◌≡◌, ◌+◌, ◌-◌, ◌/◌, arith}
-use Rattle.line_io.proofs.OutgoingLemmas.{pushed_none}
+use Rattle.outside_io.proofs.OutgoingLemmas.{pushed_none}
 use Rattle.line_chart.specs.Axis.{multiples}
 use Rattle.line_chart.specs.ChartText.{axis_text}
 use Rattle.line_chart.proofs.AxisFacts.{from-multiple, to-multiple, pushed_multiple}

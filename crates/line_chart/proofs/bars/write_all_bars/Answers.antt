@@ -2,7 +2,7 @@ use Rattle.std.proofs.Common.{◌<◌, length, ◌∙◌, arith}
 use Rattle.std.proofs.lemmas.List.{take_all}
 use Rattle.plant_model.specs.Graph.{graph}
 use Rattle.event_graph.specs.Table.{date_in}
-use Rattle.line_io.proofs.OutgoingLemmas.{pushed_none}
+use Rattle.outside_io.proofs.OutgoingLemmas.{pushed_none}
 use Rattle.line_chart.specs.Bars.{machine_bars, bars}
 use Rattle.line_chart.specs.ChartText.{bar_line}
 use Rattle.line_chart.proofs.ChartLines.{pushed_bars_read, machine_read}

@@ -1,4 +1,4 @@
-use Rattle.line_io.proofs.OutgoingLemmas.{◌⨟◌}
+use Rattle.outside_io.proofs.OutgoingLemmas.{◌⨟◌}
 use Rattle.line_chart.specs.ChartText.{field_line, bars_text}
 use Rattle.line_chart.proofs.bars.write_bars.Goals as goal
 

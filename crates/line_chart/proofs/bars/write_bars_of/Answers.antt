@@ -1,7 +1,7 @@
 use Rattle.std.proofs.Common.{◌≡◌, sym, ap, ◌∙◌, arith}
 use Rattle.event_graph.specs.Network.{jobs}
 use Rattle.event_graph.specs.Table.{date_in}
-use Rattle.line_io.proofs.OutgoingLemmas.{pushed_none, ◌⨟◌}
+use Rattle.outside_io.proofs.OutgoingLemmas.{pushed_none, ◌⨟◌}
 use Rattle.line_chart.specs.Bars.{meets, machine_bars}
 use Rattle.line_chart.specs.ChartText.{bar_line}
 use Rattle.line_chart.proofs.ChartLines.{first_bars-missed, text-met}

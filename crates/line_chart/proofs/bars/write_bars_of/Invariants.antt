@@ -1,5 +1,5 @@
 use Rattle.std.specs.List.{flat_map}
-use Rattle.line_io.specs.Outgoing.{Pushed, stream}
+use Rattle.outside_io.specs.Outgoing.{Pushed, stream}
 use Rattle.event_graph.specs.Table.{date_in}
 use Rattle.line_chart.specs.ChartText.{bar_line}
 use Rattle.line_chart.proofs.ChartLines.{first_bars}

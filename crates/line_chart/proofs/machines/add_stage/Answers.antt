@@ -1,5 +1,6 @@
-use Rattle.std.proofs.Common.{◌≡◌, ◌+◌, length, append-nil, sym, ap, ◌∙◌, arith}
-use Rattle.plant_model.specs.Stages.{Machine}
+use Rattle.std.proofs.Common.{◌≡◌, ℕ, ◌+◌, ◌<◌, List, get_or, length, append-nil, sym, ap, ◌∙◌, arith}
+use Rattle.plant_model.specs.Stages.{Machine, Stage}
+use Rattle.plant_model.specs.declared.plant.Plant.{Plant}
 use Rattle.plant_model.specs.Line.{release, stage_at}
 use Rattle.plant_model.proofs.LayoutFacts.{small_last_machine}
 use Rattle.plant_model.proofs.LayoutStations.{release-next}
@@ -62,12 +63,16 @@ loop-before-preserved c =
       omega (arith, inv.2, count, few),
     )
 
+-- where as many machines were gone over as are read, these are all of the stage
+all_counted : (p : Plant) (i : ℕ) (stages : List Stage) (s : Stage) (machines : List Machine) (n : ℕ) → stages ≡ p.stages → i < length p.stages → machines ≡ (get_or stages i s).machines → n ≡ length machines → n ≡ length (stage_at p i).machines
+all_counted p i stages s machines n same exists are all =
+    all ∙ ap length (machines-count p i stages s machines same exists are)
+
 pub returns-clause-next : goal.returns-clause-next
 returns-clause-next c =
     let p = c.args.plant.now in
     let i = c.args.stage in
-    let many = ap length (machines-count p i c.as_slice.result.now c.index-as_slice-stage.result c.as_slice-machines.result.now c.as_slice.ensures c.requires.exists c.as_slice-machines.ensures) in
-    let all : c.loop-before.before ≡ length (stage_at p i).machines = omega (arith, many) in
+    let all = all_counted p i c.as_slice.result.now c.index-as_slice-stage.result c.as_slice-machines.result.now c.loop-before.before c.as_slice.ensures c.requires.exists c.as_slice-machines.ensures (omega arith) in
     c.loop-before.invariant.1 ∙ ap (λ k. k + lanes_before p i c.loop-before.before) c.requires.first ∙ stage_lanes-read p i c.loop-before.before all
 
 pub returns-clause-few : goal.returns-clause-few
@@ -81,6 +86,5 @@ pub returns-clause-added : goal.returns-clause-added
 returns-clause-added c =
     let p = c.args.plant.now in
     let i = c.args.stage in
-    let many = ap length (machines-count p i c.as_slice.result.now c.index-as_slice-stage.result c.as_slice-machines.result.now c.as_slice.ensures c.requires.exists c.as_slice-machines.ensures) in
-    let all : c.loop-before.before ≡ length (stage_at p i).machines = omega (arith, many) in
+    let all = all_counted p i c.as_slice.result.now c.index-as_slice-stage.result c.as_slice-machines.result.now c.loop-before.before c.as_slice.ensures c.requires.exists c.as_slice-machines.ensures (omega arith) in
     rw all at c.loop-before.invariant.0

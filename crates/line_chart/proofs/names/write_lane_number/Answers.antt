@@ -1,4 +1,4 @@
-use Rattle.line_io.proofs.OutgoingLemmas.{pushed_none}
+use Rattle.outside_io.proofs.OutgoingLemmas.{pushed_none}
 use Rattle.line_chart.proofs.ChartLines.{lane_number-one}
 use Rattle.line_chart.proofs.names.write_lane_number.Goals as goal
 

@@ -1,7 +1,7 @@
 use Rattle.std.proofs.Common.{◌<◌, length, ◌∙◌, arith}
 use Rattle.std.proofs.lemmas.List.{take_all}
 use Rattle.plant_model.specs.Graph.{graph}
-use Rattle.line_io.proofs.OutgoingLemmas.{pushed_none}
+use Rattle.outside_io.proofs.OutgoingLemmas.{pushed_none}
 use Rattle.line_chart.specs.ChartText.{lane_lines, names_text}
 use Rattle.line_chart.proofs.ChartLines.{pushed_read, machine_read}
 use Rattle.line_chart.proofs.names.write_names.Goals as goal

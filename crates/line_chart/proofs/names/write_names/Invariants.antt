@@ -1,6 +1,6 @@
 use Rattle.std.specs.Prelude.{take}
 use Rattle.std.specs.List.{flat_map}
-use Rattle.line_io.specs.Outgoing.{Pushed, stream}
+use Rattle.outside_io.specs.Outgoing.{Pushed, stream}
 use Rattle.plant_model.specs.Graph.{graph}
 use Rattle.line_chart.specs.ChartText.{lane_lines}
 use Rattle.line_chart.proofs.names.write_names.Given as goal

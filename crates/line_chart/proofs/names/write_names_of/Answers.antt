@@ -1,5 +1,5 @@
 use Rattle.std.proofs.Common.{◌≡◌, arith}
-use Rattle.line_io.proofs.OutgoingLemmas.{pushed_none, ◌⨟◌, pushed_next}
+use Rattle.outside_io.proofs.OutgoingLemmas.{pushed_none, ◌⨟◌, pushed_next}
 use Rattle.line_chart.specs.ChartText.{lane_line, lane_lines}
 use Rattle.line_chart.proofs.names.write_names_of.Goals as goal
 

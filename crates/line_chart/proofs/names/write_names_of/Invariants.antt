@@ -1,5 +1,5 @@
 use Rattle.std.specs.List.{flat_map, range_with_len}
-use Rattle.line_io.specs.Outgoing.{Pushed, stream}
+use Rattle.outside_io.specs.Outgoing.{Pushed, stream}
 use Rattle.line_chart.specs.ChartText.{lane_line}
 use Rattle.line_chart.proofs.names.write_names_of.Given as goal
 

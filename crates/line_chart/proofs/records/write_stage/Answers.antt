@@ -5,7 +5,7 @@ use Rattle.plant_model.proofs.LayoutPaths.{path_stock-small}
 use Rattle.plant_model.proofs.LayoutStations.{last_machine-below}
 use Rattle.event_graph.specs.Network.{stations}
 use Rattle.line_graph.proofs.Sizes.{stations-graph}
-use Rattle.line_io.proofs.OutgoingLemmas.{◌⨟◌}
+use Rattle.outside_io.proofs.OutgoingLemmas.{◌⨟◌}
 use Rattle.line_chart.specs.TableText.{stage_records}
 use Rattle.line_chart.proofs.StageRuns.{stocks-inside, stock-read}
 use Rattle.line_chart.proofs.records.write_stage.Goals as goal

@@ -1,7 +1,7 @@
 use Rattle.std.proofs.Common.{◌≡◌, ◌+◌, cond, Some, None, sym, ap, ◌∙◌, arith}
 use Rattle.event_graph.specs.Network.{jobs}
 use Rattle.event_graph.specs.Table.{date_in}
-use Rattle.line_io.proofs.OutgoingLemmas.{pushed_none, pushed_next}
+use Rattle.outside_io.proofs.OutgoingLemmas.{pushed_none, pushed_next}
 use Rattle.line_chart.specs.Starts.{start}
 use Rattle.line_chart.specs.TableText.{start_of, job_record, station_records}
 use Rattle.line_chart.proofs.records.write_station.Goals as goal

@@ -1,6 +1,6 @@
 use Rattle.std.proofs.Common.{ap, ◌∙◌, arith}
 use Rattle.plant_model.specs.Line.{deliver}
-use Rattle.line_io.proofs.OutgoingLemmas.{◌⨟◌}
+use Rattle.outside_io.proofs.OutgoingLemmas.{◌⨟◌}
 use Rattle.line_stats.proofs.PlantTables.{exists_in}
 use Rattle.line_chart.specs.TableText.{table_text}
 use Rattle.line_chart.proofs.records.write_table.Goals as goal

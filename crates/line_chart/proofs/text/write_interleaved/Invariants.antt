@@ -1,5 +1,5 @@
 use Rattle.std.specs.Prelude.{drop}
-use Rattle.line_io.specs.Outgoing.{Stream, Pushed, stream}
+use Rattle.outside_io.specs.Outgoing.{Stream, Pushed, stream}
 use Rattle.line_chart.specs.Interleaved.{interleave}
 use Rattle.line_chart.proofs.text.write_interleaved.Given as goal
 

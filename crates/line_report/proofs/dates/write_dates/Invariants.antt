@@ -1,5 +1,5 @@
 use Rattle.std.proofs.Common.{◌≡◌, ◌-◌, ◌≤◌, length}
-use Rattle.line_io.specs.Outgoing.{Pushed, stream}
+use Rattle.outside_io.specs.Outgoing.{Pushed, stream}
 use Rattle.event_graph.specs.Table.{date_in}
 use Rattle.line_report.specs.Portions.{numbered_lines}
 use Rattle.line_report.proofs.dates.write_dates.Given as goal

@@ -2,8 +2,8 @@ use Rattle.std.proofs.Common.{◌+◌, ◌/◌, ◌%◌, ◌<◌, ◌≤◌, sub
 use Rattle.line_base.specs.declared.event.Parts.{Parts}
 use Rattle.event_graph.specs.Network.{stations, jobs}
 use Rattle.event_graph.specs.Table.{date_in}
-use Rattle.line_io.specs.Outgoing.{last_two_numbers}
-use Rattle.line_io.proofs.OutgoingLemmas.{pushed_after}
+use Rattle.outside_io.specs.Outgoing.{last_two_numbers}
+use Rattle.outside_io.proofs.OutgoingLemmas.{pushed_after}
 use Rattle.line_report.specs.ReportText.{date_line}
 use Rattle.line_report.proofs.Portions.{station_there, job_there}
 use Rattle.line_report.specs.Portions.{numbered_line}

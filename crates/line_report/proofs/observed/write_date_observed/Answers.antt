@@ -1,6 +1,6 @@
 use Rattle.std.proofs.Common.{◌≡◌, length, arith}
 use Rattle.event_graph.specs.Table.{date_in}
-use Rattle.line_io.proofs.OutgoingLemmas.{pushed_none, pushed_next, ◌⨟◌}
+use Rattle.outside_io.proofs.OutgoingLemmas.{pushed_none, pushed_next, ◌⨟◌}
 use Rattle.line_report.specs.ReportText.{stage_line, observed_lines}
 use Rattle.line_report.proofs.observed.write_date_observed.Goals as goal
 

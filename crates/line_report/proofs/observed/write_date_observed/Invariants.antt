@@ -1,4 +1,4 @@
-use Rattle.line_io.specs.Outgoing.{stream}
+use Rattle.outside_io.specs.Outgoing.{stream}
 use Rattle.event_graph.specs.Table.{date_in}
 use Rattle.line_report.specs.ReportText.{stage_line}
 use Rattle.line_report.proofs.Lines.{AreWritten}

@@ -1,6 +1,6 @@
 use Rattle.std.proofs.lemmas.List.{take_all}
 use Rattle.event_graph.specs.Table.{date_in}
-use Rattle.line_io.proofs.OutgoingLemmas.{pushed_none, pushed_element}
+use Rattle.outside_io.proofs.OutgoingLemmas.{pushed_none, pushed_element}
 use Rattle.line_report.specs.ReportText.{observed_lines}
 use Rattle.line_report.proofs.observed.write_observed.Goals as goal
 

@@ -1,6 +1,6 @@
 use Rattle.std.specs.Prelude.{take}
 use Rattle.std.specs.List.{flat_map}
-use Rattle.line_io.specs.Outgoing.{Pushed, stream}
+use Rattle.outside_io.specs.Outgoing.{Pushed, stream}
 use Rattle.event_graph.specs.Table.{date_in}
 use Rattle.line_report.specs.ReportText.{observed_lines}
 use Rattle.line_report.proofs.observed.write_observed.Given as goal

@@ -4,8 +4,8 @@ use Rattle.plant_model.specs.Line.{stage_at}
 use Rattle.plant_model.specs.Sound.{IsSound}
 use Rattle.event_graph.specs.Table.{date_in}
 use Rattle.line_stats.specs.Counts.{in_move}
-use Rattle.line_io.specs.Outgoing.{Pushed, stream}
-use Rattle.line_io.proofs.OutgoingLemmas.{pushed_none, ◌⨟◌}
+use Rattle.outside_io.specs.Outgoing.{Pushed, stream}
+use Rattle.outside_io.proofs.OutgoingLemmas.{pushed_none, ◌⨟◌}
 use Rattle.line_report.proofs.Lines.{stage_read, stage_line-parts, move_words, move_words-moving, move_words-still}
 use Rattle.line_report.proofs.observed.write_stage.Goals as goal
 use Rattle.line_report.proofs.observed.write_stage.Goals.{then-part-gt0, else-part-gt0}

@@ -1,4 +1,4 @@
-use Rattle.line_io.proofs.OutgoingLemmas.{◌⨟◌}
+use Rattle.outside_io.proofs.OutgoingLemmas.{◌⨟◌}
 use Rattle.line_report.specs.SummaryText.{size_lines}
 use Rattle.line_report.proofs.summary.write_sizes.Goals as goal
 

@@ -1,5 +1,5 @@
 use Rattle.std.proofs.Common.{◌∙◌}
-use Rattle.line_io.proofs.OutgoingLemmas.{◌⨟◌}
+use Rattle.outside_io.proofs.OutgoingLemmas.{◌⨟◌}
 use Rattle.line_report.specs.SummaryText.{summary}
 use Rattle.line_report.proofs.texts.write_summary_text.Goals as goal
 

@@ -1,6 +1,6 @@
 use Rattle.std.proofs.Common.{◌≡◌}
 use Rattle.plant_model.specs.Line.{stage_at}
-use Rattle.line_io.proofs.OutgoingLemmas.{◌⨟◌}
+use Rattle.outside_io.proofs.OutgoingLemmas.{◌⨟◌}
 use Rattle.line_report.specs.ReportText.{peak_line}
 use Rattle.line_report.proofs.Lines.{stage_read}
 use Rattle.line_report.proofs.totals.write_peak.Goals as goal

@@ -1,6 +1,6 @@
 use Rattle.std.proofs.Common.{arith}
 use Rattle.event_graph.specs.Table.{date_in}
-use Rattle.line_io.proofs.OutgoingLemmas.{pushed_none, pushed_next}
+use Rattle.outside_io.proofs.OutgoingLemmas.{pushed_none, pushed_next}
 use Rattle.line_report.specs.ReportText.{peak_line}
 use Rattle.line_report.proofs.totals.write_peaks.Goals as goal
 

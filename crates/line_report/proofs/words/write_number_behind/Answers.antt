@@ -1,4 +1,4 @@
-use Rattle.line_io.proofs.OutgoingLemmas.{pushed_after}
+use Rattle.outside_io.proofs.OutgoingLemmas.{pushed_after}
 use Rattle.line_report.proofs.words.write_number_behind.Goals as goal
 
 pub returns : goal.returns

@@ -1,7 +1,7 @@
 use Rattle.std.proofs.Common.{sym, ap, ◌∙◌, subst, arith, rules}
 use Rattle.live_check.specs.Order.{LiveGraph}
-use Rattle.line_disk.specs.DiskView.{LeavesOnly, held_now}
-use Rattle.line_disk.specs.declared.slots.head.TheConstants.{MAX_ROOM}
+use Rattle.crash_disk.specs.DiskView.{LeavesOnly, held_now}
+use Rattle.crash_disk.specs.declared.slots.head.TheConstants.{MAX_ROOM}
 use Rattle.line_runs.specs.Bursts.{IsDone}
 use Rattle.line_runs.specs.Saves.{IsOldOrState, HasTooLongState}
 use Rattle.line_runs.proofs.Firings.{burst_leaves_less}

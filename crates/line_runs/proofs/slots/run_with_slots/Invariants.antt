@@ -1,6 +1,6 @@
 use Rattle.std.proofs.Common.{◌≡◌}
 use Rattle.checkpoint.specs.Kept.{Follows}
-use Rattle.line_disk.specs.declared.slots.head.TheConstants.{MAX_ROOM}
+use Rattle.crash_disk.specs.declared.slots.head.TheConstants.{MAX_ROOM}
 use Rattle.line_runs.proofs.Firings.{left_of}
 use Rattle.line_runs.proofs.RunSaves.{SavesOn}
 use Rattle.line_runs.proofs.slots.run_with_slots.Given as goal

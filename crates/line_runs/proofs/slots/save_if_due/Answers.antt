@@ -1,5 +1,5 @@
 use Rattle.std.proofs.Common.{IsTrue, refl, rules}
-use Rattle.line_disk.specs.declared.slots.head.TheConstants.{MAX_ROOM}
+use Rattle.crash_disk.specs.declared.slots.head.TheConstants.{MAX_ROOM}
 use Rattle.line_runs.specs.Saves.{IsDue}
 use Rattle.line_runs.proofs.RunSaves.{leaves_saved}
 use Rattle.line_runs.proofs.slots.save_if_due.Goals as goal

@@ -1,7 +1,7 @@
 use Rattle.std.proofs.Common.{◌≡◌, List, ℕ, OnOk, IsTrue, subst, rules}
-use Rattle.line_disk.specs.DiskView.{LeavesOnly, held_now}
-use Rattle.line_disk.specs.declared.slots.head.TheConstants.{MAX_ROOM}
-use Rattle.line_disk.specs.Crash.{IsOldOrNew, IsSaved}
+use Rattle.crash_disk.specs.DiskView.{LeavesOnly, held_now}
+use Rattle.crash_disk.specs.declared.slots.head.TheConstants.{MAX_ROOM}
+use Rattle.crash_disk.specs.Crash.{IsOldOrNew, IsSaved}
 use Rattle.line_workers.specs.Line.{run_in}
 use Rattle.line_runs.specs.Store.{text_of, IsOver}
 use Rattle.line_runs.proofs.slots.save_line.Goals as goal

@@ -1,6 +1,6 @@
 use Rattle.std.proofs.Common.{◌≡◌, ℕ, OnOk, IsTrue, subst, rules}
-use Rattle.line_disk.specs.DiskView.{held_now}
-use Rattle.line_disk.specs.Crash.{IsSaved}
+use Rattle.crash_disk.specs.DiskView.{held_now}
+use Rattle.crash_disk.specs.Crash.{IsSaved}
 use Rattle.line_runs.proofs.slots.save_text.Goals as goal
 
 pub returns-clause-saved : goal.returns-clause-saved

@@ -1,12 +1,13 @@
 use Rattle.std.proofs.Common.{◌≡◌, ℕ, IsTrue, List, None, Ok, Err, ap, subst, arith, rules}
 use Rattle.std.proofs.lemmas.Result.{err_from_is_err_and}
-use Rattle.line_disk.specs.declared.slots.error.SlotError.{SlotError}
-use Rattle.line_disk.specs.declared.slots.error.SlotError.TheVariants.{NoneSaved}
-use Rattle.line_disk.specs.declared.slots.head.TheConstants.{MAX_ROOM}
-use Rattle.line_disk.specs.Crash.{bytes_now}
-use Rattle.line_disk.specs.Layout.{content}
-use Rattle.line_disk.specs.Loads.{HasLoaded}
+use Rattle.crash_disk.specs.declared.slots.error.SlotError.{SlotError}
+use Rattle.crash_disk.specs.declared.slots.error.SlotError.TheVariants.{NoneSaved}
+use Rattle.crash_disk.specs.declared.slots.head.TheConstants.{MAX_ROOM}
+use Rattle.crash_disk.specs.Crash.{bytes_now}
+use Rattle.crash_disk.specs.Layout.{content}
+use Rattle.crash_disk.specs.Loads.{HasLoaded}
 use Rattle.line_runs.specs.Resume.{Resumes}
+use Rattle.line_runs.specs.Scheduler.{IsResumedBy}
 use Rattle.line_runs.proofs.SlotsResumed.{Found, not_loaded, load_fault, not_resumed, resumed}
 use Rattle.line_runs.proofs.slots_resuming.resume_slots.Given.{Over}
 use Rattle.line_runs.proofs.slots_resuming.resume_slots.Goals as goal
@@ -43,7 +44,7 @@ returns-in_err-resume-in-Ok-clause-resumes g c =
     let p = err_from_is_err_and c.from_residual.result c.from_residual.ensures.1 in
     let given : c.load.new.self.disk.now ≡ c.disk-1.given.0 = search rules in
     let found = rw given at (loaded g (goal.at.returns-in_err-resume-in-Ok-clause-resumes g c).In-Ok) in
-    let resumes = subst (λ (xs : List ℕ). Resumes c.args.live.now.graph xs (Err error)) c.as_slice.ensures.value c.in_err-resume-in-Ok.ensures in
+    let resumes = subst (λ (xs : List ℕ). Resumes c.args.live.now.graph xs (Err error)) c.as_slice.ensures.value c.in_err-resume-in-Ok.ensures.resumes in
     rw (p.1, p.2) (not_resumed g.D.Disk.tells (g.D.Disk.shown c.args.disk.now) (g.D.Disk.shown c.disk-1.given.0) MAX_ROOM c.args.live.now.graph bytes error found resumes)
 
 pub returns-in_ok-resume-in-Ok-clause-resumes : goal.returns-in_ok-resume-in-Ok-clause-resumes
@@ -52,5 +53,15 @@ returns-in_ok-resume-in-Ok-clause-resumes g c =
     let dates = c.in_ok-resume-in-Ok.field-0 in
     let given : c.load.new.self.disk.now ≡ c.disk-1.given.0 = search rules in
     let found = rw given at (loaded g (goal.at.returns-in_ok-resume-in-Ok-clause-resumes g c).In-Ok) in
-    let resumes = subst (λ (xs : List ℕ). Resumes c.args.live.now.graph xs (Ok dates)) c.as_slice.ensures.value c.in_ok-resume-in-Ok.ensures in
+    let resumes = subst (λ (xs : List ℕ). Resumes c.args.live.now.graph xs (Ok dates)) c.as_slice.ensures.value c.in_ok-resume-in-Ok.ensures.resumes in
     resumed g.D.Disk.tells (g.D.Disk.shown c.args.disk.now) (g.D.Disk.shown c.disk-1.given.0) MAX_ROOM c.args.live.now.graph bytes dates found resumes
+
+pub returns-in_ok-resume-in-Ok-clause-by : goal.returns-in_ok-resume-in-Ok-clause-by
+returns-in_ok-resume-in-Ok-clause-by g c =
+    let dates = c.in_ok-resume-in-Ok.field-0 in
+    let found = loaded g (goal.at.returns-in_ok-resume-in-Ok-clause-by g c).In-Ok in
+    record {
+      bytes = c.in-Ok.text.items;
+      saved = found.known;
+      resumed = subst (λ (xs : List ℕ). IsResumedBy c.args.live.now xs c.args.workers dates) c.as_slice.ensures.value c.in_ok-resume-in-Ok.ensures.by;
+    }

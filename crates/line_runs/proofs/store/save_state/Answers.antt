@@ -1,6 +1,6 @@
 use Rattle.std.proofs.Common.{◌≡◌, ℕ, List, Some, OnOk, IsTrue, inl, subst, ◌∙◌}
-use Rattle.line_io.specs.Calls.{after_write}
-use Rattle.line_io.specs.Contents.{IsTorn}
+use Rattle.outside_io.specs.Calls.{after_write}
+use Rattle.outside_io.specs.Contents.{IsTorn}
 use Rattle.line_runs.specs.Store.{text_of}
 use Rattle.line_runs.proofs.store.save_state.Goals as goal
 

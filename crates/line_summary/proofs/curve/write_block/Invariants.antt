@@ -1,5 +1,5 @@
 use Rattle.std.proofs.Common.{◌≡◌, false}
-use Rattle.line_io.specs.Outgoing.{nothing_waiting}
+use Rattle.outside_io.specs.Outgoing.{nothing_waiting}
 use Rattle.line_summary.specs.Curve.{PutsRows}
 use Rattle.line_summary.proofs.curve.write_block.Given as goal
 

@@ -1,4 +1,4 @@
-use Rattle.line_io.proofs.OutgoingLemmas.{◌⨟◌}
+use Rattle.outside_io.proofs.OutgoingLemmas.{◌⨟◌}
 use Rattle.line_summary.specs.CurveText.{figures_row}
 use Rattle.line_summary.proofs.rows.push_figures.Goals as goal
 

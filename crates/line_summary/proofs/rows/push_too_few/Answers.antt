@@ -1,4 +1,4 @@
-use Rattle.line_io.proofs.OutgoingLemmas.{◌⨟◌}
+use Rattle.outside_io.proofs.OutgoingLemmas.{◌⨟◌}
 use Rattle.line_summary.specs.CurveText.{too_few_row}
 use Rattle.line_summary.proofs.rows.push_too_few.Goals as goal
 

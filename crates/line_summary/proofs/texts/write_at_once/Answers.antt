@@ -1,4 +1,4 @@
-use Rattle.line_io.proofs.OutgoingLemmas.{◌⨟◌}
+use Rattle.outside_io.proofs.OutgoingLemmas.{◌⨟◌}
 use Rattle.line_summary.specs.SummaryText.{at_once_line}
 use Rattle.line_summary.proofs.texts.write_at_once.Goals as goal
 

@@ -1,4 +1,4 @@
-use Rattle.line_io.proofs.OutgoingLemmas.{◌⨟◌}
+use Rattle.outside_io.proofs.OutgoingLemmas.{◌⨟◌}
 use Rattle.line_summary.specs.SummaryText.{backlog_line}
 use Rattle.line_summary.proofs.texts.write_backlog.Goals as goal
 

@@ -1,4 +1,4 @@
-use Rattle.line_io.proofs.OutgoingLemmas.{◌⨟◌}
+use Rattle.outside_io.proofs.OutgoingLemmas.{◌⨟◌}
 use Rattle.std.proofs.Common.{ap, ◌∙◌}
 use Rattle.line_summary.specs.Machines.{busiest_of}
 use Rattle.line_summary.specs.SummaryText.{busiest_line}

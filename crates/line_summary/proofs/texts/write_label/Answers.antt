@@ -1,4 +1,4 @@
-use Rattle.line_io.proofs.OutgoingLemmas.{◌⨟◌}
+use Rattle.outside_io.proofs.OutgoingLemmas.{◌⨟◌}
 use Rattle.line_summary.proofs.texts.write_label.Goals as goal
 
 pub returns : goal.returns

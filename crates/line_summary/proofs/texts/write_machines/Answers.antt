@@ -1,6 +1,6 @@
 use Rattle.std.proofs.Common.{arith}
 use Rattle.std.proofs.lemmas.List.{take_all}
-use Rattle.line_io.proofs.OutgoingLemmas.{pushed_none, pushed_element}
+use Rattle.outside_io.proofs.OutgoingLemmas.{pushed_none, pushed_element}
 use Rattle.line_summary.specs.SummaryText.{machine_line}
 use Rattle.line_summary.proofs.texts.write_machines.Goals as goal
 

@@ -1,7 +1,7 @@
 use Rattle.std.proofs.Common.{◌≤◌, length, arith}
 use Rattle.std.proofs.lemmas.List.{get_or_past}
 use Rattle.plant_model.specs.Line.{no_machine}
-use Rattle.line_io.proofs.OutgoingLemmas.{pushed_none}
+use Rattle.outside_io.proofs.OutgoingLemmas.{pushed_none}
 use Rattle.line_summary.proofs.texts.write_name_of.Goals as goal
 
 pub returns-in-None : goal.returns-in-None

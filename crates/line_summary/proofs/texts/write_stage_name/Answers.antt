@@ -1,7 +1,7 @@
 use Rattle.std.proofs.Common.{◌≤◌, length, ap, arith}
 use Rattle.std.proofs.lemmas.List.{get_or_past}
 use Rattle.plant_model.specs.Line.{no_stage}
-use Rattle.line_io.proofs.OutgoingLemmas.{pushed_none}
+use Rattle.outside_io.proofs.OutgoingLemmas.{pushed_none}
 use Rattle.line_summary.proofs.texts.write_stage_name.Goals as goal
 
 pub returns-in-None : goal.returns-in-None

@@ -1,4 +1,4 @@
-use Rattle.line_io.proofs.OutgoingLemmas.{◌⨟◌}
+use Rattle.outside_io.proofs.OutgoingLemmas.{◌⨟◌}
 use Rattle.std.proofs.Common.{◌∙◌}
 use Rattle.line_summary.specs.SummaryText.{summary_text}
 use Rattle.line_summary.proofs.Read.{figures-read}

@@ -1,5 +1,5 @@
 use Rattle.std.proofs.Common.{◌<◌, refl, arith}
-use Rattle.line_io.proofs.OutgoingLemmas.{◌⨟◌}
+use Rattle.outside_io.proofs.OutgoingLemmas.{◌⨟◌}
 use Rattle.line_summary.proofs.Ratios.{thousandths-parts}
 use Rattle.line_summary.proofs.thousandths.push_thousandths.Goals as goal
 

@@ -1,6 +1,6 @@
 use Rattle.std.proofs.Common.{ℕ, ◌<◌, ap, subst}
 use Rattle.std.specs.Prelude.{Err, IsTrue}
-use Rattle.line_io.specs.Contents.{IsLongerThan}
+use Rattle.outside_io.specs.Contents.{IsLongerThan}
 use Rattle.live_plant.proofs.FileReads.{read_fault}
 use Rattle.live_plant.proofs.files.read_file.Goals as goal
 

@@ -2,7 +2,8 @@ use Rattle.std.specs.Prelude.{Err}
 use Rattle.std.proofs.lemmas.Result.{err_from_is_err_and}
 use Rattle.plant_model.specs.declared.plant.Plant.{Plant}
 use Rattle.live_plant.specs.Steps.{Settles}
-use Rattle.live_plant.specs.PlantSteps.{OfPlantFile, IsLiveOrDead}
+use Rattle.live_plant.specs.PlantSteps.{OfPlantFile}
+use Rattle.live_plant.specs.LiveSteps.{IsLiveOrDead}
 use Rattle.live_plant.proofs.PlantsOfFiles.{makes_named, makes_live}
 use Rattle.live_plant.proofs.StepLemmas.{then_stops}
 use Rattle.live_plant.proofs.live_plant.read_live_plant.Goals as goal

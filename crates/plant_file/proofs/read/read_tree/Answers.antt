@@ -1,55 +1,28 @@
 use Rattle.std.proofs.Common.{◌≡◌, []}
-use Rattle.plant_keys.specs.Walk.{walk}
-use Rattle.plant_keys.specs.declared.keys.Class.TheVariants.{MissingKeys}
+use Rattle.plant_keys.specs.declared.faults.Asked.TheVariants.{First}
+use Rattle.plant_keys.specs.Faults.{errors}
+use Rattle.plant_keys.specs.Walk.{tree_faults}
 use Rattle.toml.specs.View.{view}
-use Rattle.plant_file.specs.Reading.{tree_refusals}
-use Rattle.plant_file.proofs.Trees.{stops_reading}
+use Rattle.plant_file.specs.Reading.{draft_of}
+use Rattle.plant_file.proofs.NoFaults.{no_errors}
+use Rattle.plant_file.proofs.Trees.{first_answers, builds_reading}
 use Rattle.plant_file.proofs.read.read_tree.Goals as goal
 
-pub returns-in_err-check_tree : goal.returns-in_err-check_tree
-unfolding tree_refusals
-returns-in_err-check_tree c =
-    stops_reading c.from_residual.result _ _ _ c.from_residual.ensures.1 c.in_err-check_tree.ensures
+pub draft_with-requires : goal.draft_with-requires
+draft_with-requires c =
+    let top = view c.args.top.now in
+    let found = c.find_in_plant-names.ensures.found.more First [] c.new-faults.ensures in
+    record { sound = no_errors (tree_faults top) (c.in-Ok.ensures (tree_faults top) found); names = c.find_in_plant-names.ensures.names }
 
-pub returns-in_err-check_tree-2 : goal.returns-in_err-check_tree-2
-unfolding tree_refusals
-returns-in_err-check_tree-2 c =
-    rw (c.in_ok-check_tree.ensures)
-    (stops_reading c.from_residual-in_err-check_tree-2.result (walk MissingKeys (view c.args.top.now)) _ _ c.from_residual-in_err-check_tree-2.ensures.1 c.in_err-check_tree-2.ensures)
+pub returns-in-Ok : goal.returns-in-Ok
+returns-in-Ok c =
+    let top = view c.args.top.now in
+    let found = c.find_in_plant-names.ensures.found.more First [] c.new-faults.ensures in
+    let none : errors (tree_faults top) ≡ [] = c.in-Ok.ensures (tree_faults top) found in
+    rw none (builds_reading c.draft_with.result (draft_of top) c.draft_with.ensures)
 
-pub returns-in_err-check_tree-3 : goal.returns-in_err-check_tree-3
-unfolding tree_refusals
-returns-in_err-check_tree-3 c =
-    let missing : walk MissingKeys (view c.args.top.now) ≡ [] = c.in_ok-check_tree-2.ensures in
-    rw (c.in_ok-check_tree.ensures, missing)
-    (stops_reading c.from_residual-in_err-check_tree-3.result _ _ _ c.from_residual-in_err-check_tree-3.ensures.1 c.in_err-check_tree-3.ensures)
-
-pub returns-in_err-check_tree-4 : goal.returns-in_err-check_tree-4
-unfolding tree_refusals
-returns-in_err-check_tree-4 c =
-    let missing : walk MissingKeys (view c.args.top.now) ≡ [] = c.in_ok-check_tree-2.ensures in
-    rw (c.in_ok-check_tree.ensures, missing, c.in_ok-check_tree-3.ensures)
-    (stops_reading c.from_residual-in_err-check_tree-4.result _ _ _ c.from_residual-in_err-check_tree-4.ensures.1 c.in_err-check_tree-4.ensures)
-
-pub returns-in_err-names : goal.returns-in_err-names
-unfolding tree_refusals
-returns-in_err-names c =
-    let missing : walk MissingKeys (view c.args.top.now) ≡ [] = c.in_ok-check_tree-2.ensures in
-    rw (c.in_ok-check_tree.ensures, missing, c.in_ok-check_tree-3.ensures, c.in_ok-check_tree-4.ensures)
-    (stops_reading c.from_residual-in_err-names.result _ _ _ c.from_residual-in_err-names.ensures.1 c.in_err-names.ensures)
-
-pub read_named-draft-requires : goal.read_named-draft-requires
-read_named-draft-requires c =
-    record {
-      names = c.in_ok-names.ensures.1;
-      keys = c.in_ok-check_tree-2.ensures;
-      rules = c.in_ok-check_tree-4.ensures;
-      once = c.in_ok-names.ensures.0;
-    }
-
-pub returns : goal.returns
-unfolding tree_refusals
-returns c =
-    let missing : walk MissingKeys (view c.args.top.now) ≡ [] = c.in_ok-check_tree-2.ensures in
-    rw (c.in_ok-check_tree.ensures, missing, c.in_ok-check_tree-3.ensures, c.in_ok-check_tree-4.ensures, c.in_ok-names.ensures.0)
-    c.read_named-draft.ensures
+pub returns-in-Err : goal.returns-in-Err
+returns-in-Err c =
+    let top = view c.args.top.now in
+    let found = c.find_in_plant-names.ensures.found.more First [] c.new-faults.ensures in
+    first_answers (errors (tree_faults top)) (draft_of top) _ (c.in-Err.ensures (tree_faults top) found)

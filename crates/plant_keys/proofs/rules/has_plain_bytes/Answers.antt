@@ -1,7 +1,7 @@
 use Rattle.std.proofs.Common.{sym, refl, arith}
 use Rattle.std.proofs.lemmas.List.{take_all}
 use Rattle.std.proofs.lemmas.List.Folds.{list_all_at, list_all_more}
-use Rattle.plant_keys.specs.Walk.{is_plain}
+use Rattle.plant_keys.specs.Rules.{is_plain}
 use Rattle.plant_keys.proofs.rules.has_plain_bytes.Goals as goal
 
 pub loop-byte-init : goal.loop-byte-init

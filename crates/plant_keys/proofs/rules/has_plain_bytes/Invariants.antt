@@ -1,6 +1,6 @@
 use Rattle.std.proofs.Common.{◌≡◌, true, take}
 use Rattle.std.specs.List.{list_all}
-use Rattle.plant_keys.specs.Walk.{is_plain}
+use Rattle.plant_keys.specs.Rules.{is_plain}
 use Rattle.plant_keys.proofs.rules.has_plain_bytes.Given as goal
 
 abbrev pub invariant-loop-byte : goal.invariant-loop-byte

@@ -12,4 +12,6 @@ returns-in-Ok c =
     c.lint_tree.ensures
 
 pub returns-in-Err : goal.returns-in-Err
-returns-in-Err c = lints_no_toml c.args.bytes.now _ c.lint_error.ensures c.in-Err.ensures.refused
+returns-in-Err c =
+    lints_no_toml c.args.bytes.now c.in-Err.error _ c.in-Err.ensures.span c.lint_error.ensures.line c.lint_error.ensures.memory
+    c.in-Err.ensures.refused

@@ -1,10 +1,6 @@
 use Rattle.plant_lint.proofs.DraftLints.{errors-records}
-use Rattle.plant_lint.proofs.Refusals.{errors-tree}
 use Rattle.plant_lint.proofs.SoundFiles.{sound_where_read}
 use Rattle.plant_lint.proofs.laws.faults_are_refusals.Goals as goal
-
-pub returns-clause-trees : goal.returns-clause-trees
-returns-clause-trees c = errors-tree
 
 pub returns-clause-files : goal.returns-clause-files
 returns-clause-files c = sound_where_read

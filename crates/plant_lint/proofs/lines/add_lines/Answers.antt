@@ -1,8 +1,9 @@
-use Rattle.std.proofs.Common.{◌≡◌, ◌∙◌, arith}
+use Rattle.std.proofs.Common.{◌≡◌, ◌-◌, length, arith, ◌∙◌}
+use Rattle.plant_keys.specs.Found.{most_faults}
 use Rattle.plant_lint.proofs.LineLists.{shown_lines}
 use Rattle.plant_lint.proofs.lines.add_lines.Goals as goal
 
 pub returns : goal.returns
-returns c =
-    let n : c.loop-n.n ≡ c.shown_count-shown.result = omega arith in
-    shown_lines _ _ _ _ c.args.faults.now c.loop-n.n (n ∙ c.shown_count-shown.ensures) c.loop-n.invariant (rw (← n) at c.add_count.ensures)
+returns g c faults are =
+    let more : c.saturating_sub.result ≡ length faults - most_faults = omega (arith, are.count) in
+    shown_lines _ _ _ _ _ c.as_slice.result.now faults c.saturating_sub.result (c.as_slice.ensures ∙ are.kept) more c.in_ok-add_each.ensures c.add_count.ensures

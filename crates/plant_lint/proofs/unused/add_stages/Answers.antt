@@ -1,7 +1,7 @@
 use Rattle.std.proofs.Common.{arith}
 use Rattle.toml.specs.View.{view}
 use Rattle.plant_lint.specs.Unused.{unused_in_stage}
-use Rattle.plant_lint.proofs.GatheredFaults.{gathered_none, gathers, gathered_all}
+use Rattle.plant_lint.proofs.GatheredNotes.{gathered_none, gathers, gathered_all}
 use Rattle.plant_lint.proofs.unused.add_stages.Goals as goal
 
 pub loop-i-init : goal.loop-i-init

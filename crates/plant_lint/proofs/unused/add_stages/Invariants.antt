@@ -1,7 +1,7 @@
 use Rattle.std.specs.Prelude.{string_bytes}
 use Rattle.toml.specs.View.{view}
 use Rattle.plant_lint.specs.Unused.{unused_in_stage}
-use Rattle.plant_lint.proofs.GatheredFaults.{Gathered}
+use Rattle.plant_lint.proofs.GatheredNotes.{Gathered}
 use Rattle.plant_lint.proofs.unused.add_stages.Given as goal
 
 abbrev pub invariant-loop-i : goal.invariant-loop-i

@@ -1,4 +1,4 @@
-use Rattle.plant_lint.proofs.FaultLists.{then_two}
+use Rattle.plant_lint.proofs.GatheredNotes.{then_two}
 use Rattle.plant_lint.proofs.unused.add_top.Goals as goal
 
 pub returns : goal.returns

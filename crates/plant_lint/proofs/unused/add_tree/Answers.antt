@@ -3,7 +3,7 @@ use Rattle.toml.specs.View.{view}
 use Rattle.plant_keys.specs.Keys.{has_stage_cards}
 use Rattle.plant_keys.specs.Readers.{tables_at}
 use Rattle.plant_lint.specs.Unused.{unused_at_top, unused_in_stage, is_kanban, unused_lines}
-use Rattle.plant_lint.proofs.FaultLists.{all_of_rows, then_more}
+use Rattle.plant_lint.proofs.GatheredNotes.{all_of_rows, then_more}
 use Rattle.plant_lint.proofs.unused.add_tree.Goals as goal
 
 pub returns : goal.returns

@@ -9,4 +9,4 @@ returns-in_err-command g c =
     c.from_residual.ensures.1 c.in_err-command.ensures.none
 
 pub returns : goal.returns
-returns g c = command_does c.in_ok-command.ensures.command (rw c.task_of.ensures.task at c.do_task.ensures)
+returns g c = command_does c.in_ok-command.ensures.command c.do_still.ensures

@@ -13,4 +13,21 @@ returns-then-has_stand g c =
     {answer = c.do_words-outcome.result} {status = c.write_outcome.result}
     (sink_over (g.K.Sink.shown c.args.sink.now) (g.K.Sink.shown c.write_outcome.new.sink))
     c.do_words-outcome.ensures c.write_outcome.ensures in
-    record { ends = all.ends; reports = all.reports; stops = all.stops; files = all.files }
+    record {
+      ends = all.ends;
+      reports = all.reports;
+      stops = all.stops;
+      stops_where = all.stops_where;
+      files = all.files;
+    }
+
+pub returns-else-has_stand : goal.returns-else-has_stand
+returns-else-has_stand g c =
+    let all = c.pull_still.ensures.ended in
+    record {
+      ends = all.ends;
+      reports = all.reports;
+      stops = all.stops;
+      stops_where = all.stops_where;
+      files = all.files;
+    }

@@ -52,7 +52,7 @@ looked c =
     let k = c.loop-noted.noted-index in
     let at : (lent c).input ≡ input_at inputs k =
     ap (λ (n : NotedInput). n.input) (lent-is c) ∙ sym (input-at c.loop-noted.noted-items k) in
-    let has : HasLookedIn (lent c).input (noted c).input = record { same = c.look.ensures.same; more = c.look.ensures.more; hand = refl } in
+    let has : HasLookedIn (lent c).input (noted c).input = record { same = c.look.ensures.same; more = c.look.ensures.more; looks = c.look.ensures.looks; hand = refl } in
     subst (LookedUpTo (k + 1) before) (changed c)
     (looked_more k before inputs (noted c).input (low c) c.loop-noted.invariant.looked
     (subst (λ (i : Input). HasLookedIn i (noted c).input) at has))

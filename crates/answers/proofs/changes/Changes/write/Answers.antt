@@ -1,5 +1,5 @@
 use Rattle.std.proofs.Common.{ap}
-use Rattle.line_io.proofs.OutgoingLemmas.{writes_text}
+use Rattle.outside_io.proofs.OutgoingLemmas.{writes_text}
 use Rattle.answers.proofs.changes.Changes.write.Goals as goal
 
 pub returns-clause-puts : goal.returns-clause-puts

@@ -2,7 +2,8 @@ use Rattle.std.proofs.Common.{◌+◌, ◌*◌, ◌<◌, ◌≤◌, sym, subst, 
 use Rattle.std.proofs.lemmas.Bool.{MatchBool-at_true, MatchBool-at_false}
 use Rattle.std.proofs.lemmas.List.Elements.{All-weaker}
 use Rattle.event_graph.specs.Network.{arc, stations}
-use Rattle.cycle_time.specs.Search.{most_gain, IsRaisedAt, IsKeptAt}
+use Rattle.cycle_time.specs.Certificate.{most_potential}
+use Rattle.cycle_time.specs.Search.{most_before_pass, most_gain, IsRaisedAt, IsKeptAt}
 use Rattle.cycle_time.proofs.Passes.{IsPassed, passed_none, passed_raised, passed_rest, step_within}
 use Rattle.cycle_time.proofs.tree.Tree.pass.Goals as goal
 use Rattle.cycle_time.proofs.tree.Tree.pass.Goals.{then-raise, else-raise}
@@ -14,7 +15,7 @@ pub raise-requires-clause-small : goal.raise-requires-clause-small
 raise-requires-clause-small c =
     let h = c.loop-step.invariant in
     let few = c.stations-stations.ensures.limits.few_stations in
-    All-weaker (λ v. v ≤ 100_000_000_000_000_000_000_000 + c.loop-step.step * most_gain) (λ v. v ≤ 1_000_000_000_000_000_000_000_000) (λ v fits. omega (arith, fits, few, c.loop-step-test.true)) c.loop-step.self.potentials (h.within 100_000_000_000_000_000_000_000 c.requires.small)
+    All-weaker (λ v. v ≤ most_before_pass + c.loop-step.step * most_gain) (λ v. v ≤ most_potential) (λ v fits. omega (arith, fits, few, c.loop-step-test.true)) c.loop-step.self.potentials (h.within most_before_pass c.requires.small)
 
 pub loop-step-preserved : goal.loop-step-preserved
 loop-step-preserved c =

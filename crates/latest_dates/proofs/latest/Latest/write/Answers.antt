@@ -1,5 +1,5 @@
 use Rattle.std.proofs.Common.{subst}
-use Rattle.line_io.proofs.OutgoingLemmas.{text_written}
+use Rattle.outside_io.proofs.OutgoingLemmas.{text_written}
 use Rattle.latest_dates.specs.Found.{IsFound}
 use Rattle.latest_dates.proofs.latest.Latest.write.Goals as goal
 

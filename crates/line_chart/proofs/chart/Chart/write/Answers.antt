@@ -1,4 +1,4 @@
-use Rattle.line_io.proofs.OutgoingLemmas.{text_written}
+use Rattle.outside_io.proofs.OutgoingLemmas.{text_written}
 use Rattle.line_chart.proofs.chart.Chart.write.Goals as goal
 
 pub returns-clause-puts : goal.returns-clause-puts

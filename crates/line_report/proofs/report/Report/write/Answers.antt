@@ -2,7 +2,7 @@ use Rattle.std.proofs.Common.{◌≡◌, length, vec_len, subst, arith}
 use Rattle.line_base.specs.declared.event.Parts.{Parts}
 use Rattle.line_core.specs.Run.{IsLeastTable}
 use Rattle.line_stats.specs.PlantDates.{AreLeastDates}
-use Rattle.line_io.proofs.OutgoingLemmas.{text_written}
+use Rattle.outside_io.proofs.OutgoingLemmas.{text_written}
 use Rattle.line_report.proofs.Lines.{given_back}
 use Rattle.line_report.proofs.report.Report.write.Goals as goal
 

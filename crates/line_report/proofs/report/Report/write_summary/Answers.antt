@@ -1,4 +1,4 @@
-use Rattle.line_io.proofs.OutgoingLemmas.{text_written}
+use Rattle.outside_io.proofs.OutgoingLemmas.{text_written}
 use Rattle.line_report.proofs.report.Report.write_summary.Goals as goal
 
 pub write_summary_text-requires : goal.write_summary_text-requires

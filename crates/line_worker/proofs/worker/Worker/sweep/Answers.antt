@@ -70,15 +70,15 @@ loop-nth-init g c =
     }
 
 pub turn-requires-clause-made_for : goal.turn-requires-clause-made_for
-turn-requires-clause-made_for g c κs h =
+turn-requires-clause-made_for g c =
     c.requires.made_for ∙ sym (ap (λ (w : LineWorker). w.live) c.loop-nth.invariant.frame)
 
 pub turn-requires-clause-turns : goal.turn-requires-clause-turns
-turn-requires-clause-turns g c κs h =
+turn-requires-clause-turns g c =
     turns_below c.args.self.now.order c.args.self.now.team c.loop-nth.self.team c.loop-nth.nth c.loop-nth.invariant.sweeping c.requires.turns
 
 pub turn-requires-clause-nth : goal.turn-requires-clause-nth
-turn-requires-clause-nth g c κs h =
+turn-requires-clause-nth g c =
     omega (arith, c.loop-nth-test.true, c.len-nth-end.ensures, ap (λ (w : LineWorker). length w.order) c.self.view_is, ap (λ (w : LineWorker). length w.order) c.loop-nth.invariant.frame)
 
 pub returns-clause-swept : goal.returns-clause-swept

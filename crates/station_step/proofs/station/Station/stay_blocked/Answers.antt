@@ -1,9 +1,10 @@
 use Rattle.std.proofs.Common.{◌≡◌, ◌+◌, ◌<◌, ℕ, List, length, set, get_or, map, refl, sym, subst, ap, ◌∙◌, arith}
 use Rattle.std.specs.Prelude.{Some}
 use Rattle.std.proofs.lemmas.List.{length-set}
+use Rattle.station_step.specs.declared.ends.Inlet.{Inlet}
 use Rattle.station_step.specs.declared.input.Input.{Input}
 use Rattle.station_step.specs.declared.noted.NotedInput.{NotedInput}
-use Rattle.station_step.specs.Ends.{inlet_ahead}
+use Rattle.station_step.specs.Ends.{inlet_ahead, HasAsked}
 use Rattle.station_step.specs.Input.{input_at}
 use Rattle.station_step.specs.Fronts.{IsReadied}
 use Rattle.station_step.specs.Noted.{IsNoted, inputs_of}
@@ -63,7 +64,7 @@ have_looked c =
     let k = c.in-Some.hand.input in
     let has : HasLookedIn (input_at (inputs c) k) (noted c).input =
     subst (λ (i : Input). HasLookedIn i (noted c).input) (at c)
-    (record { same = c.has_token.ensures.same; more = c.has_token.ensures.more; hand = refl }) in
+    (record { same = c.has_token.ensures.same; more = c.has_token.ensures.more; looks = c.has_token.ensures.looks; hand = refl }) in
     record {
       rest = refl;
       count = ap length (sym (changed c)) ∙ length-set (inputs c) k (noted c).input;
@@ -144,5 +145,8 @@ returns-clause-blocked c =
     let none : inlet_ahead shelf (input_at after k).inlet ≡ 0 =
     ap (inlet_ahead shelf) looked_at
     ∙ none-where_not c.has_token.result (inlet_ahead shelf c.has_token.new.self) c.if-has_token.false c.has_token.ensures.there.1 in
+    let asked : HasAsked (input_at (inputs from) k).inlet (input_at after k).inlet =
+    subst (λ (i : Inlet). HasAsked (input_at (inputs from) k).inlet i) (sym looked_at)
+    (subst (λ (i : Input). HasAsked i.inlet c.has_token.new.self) (at from) c.has_token.ensures.asked) in
     subst (λ (w : WorkStation). StaysBlocked shelf w (record s { inputs = after; turns = s.turns + 1 }) c.in-Some.hand.arc) c.self.view_is
-    (stays-blocked shelf s after c.in-Some.hand c.self.invariant.station (waits from).left (waits from).hand (have_looked from) none)
+    (stays-blocked shelf s after c.in-Some.hand c.self.invariant.station (waits from).left (waits from).hand (have_looked from) none asked)

@@ -7,7 +7,7 @@ use Rattle.event_graph.specs.Network.{stations, jobs, delay, ins, outs}
 use Rattle.card_queue.specs.Plain.{PlainQueue}
 use Rattle.station_step.specs.Shelf.{log_on, queue_at, OnlyTakes}
 use Rattle.station_step.specs.Input.{input_at, tokens_ahead, IsRefilled, NoneTakes, TakeApart, TakeWithin}
-use Rattle.station_step.specs.Ends.{HasNoSpace, outlet_added}
+use Rattle.station_step.specs.Ends.{HasNoSpace, HasAsked, outlet_added}
 use Rattle.station_step.specs.Station.{WorkStation, IsStation, IsSeated, StandsAt, MayPut, outlet_at, bare_input, bare_station}
 use Rattle.station_step.specs.Kept.{IsKept, date_for, saturating}
 use Rattle.station_step.specs.Step.{MovesItsOwn, MovesApart, IsReady, IsBlockedAt, IsFullAt, FiredOnce, OnlyRefilled, OnlyLooked}
@@ -282,6 +282,7 @@ returns-in-Empty-clause-blocked c =
       there = below;
       arc_is = ap (λ (l : List ℕ). slice_index l k) (sym (c.ins.ensures.arcs ∙ ap (λ (g : Parts). ins g s.number) (graph_is from.After-dates)));
       none = subst (λ (hand : Option ℕ). IfNone hand (tokens_ahead old (input_at s.inputs k) ≡ 0)) c.in-Empty.ensures.empty filled.empty;
+      looked = subst (λ (hand : Option ℕ). IfNone hand (HasAsked (input_at s.inputs k).inlet (input_at full k).inlet)) c.in-Empty.ensures.empty filled.asked;
       empty = c.in-Empty.ensures.empty;
       first = c.in-Empty.ensures.first;
     } in (k, subst (λ (w : WorkStation). IsBlockedAt old w after arc k) c.self.view_is is)

@@ -1,0 +1,6 @@
+use borrow.Author.Rules.{rules, lives}
+use Rattle.crash_disk.proofs.asked.note_read.Goals as goal
+
+-- what is noted lives as long as the call
+pub of-requires : goal.of-requires
+of-requires c κs within = search (rules, lives, within) depth 24 fits 20000

@@ -1,0 +1,16 @@
+pub mod DiskView
+pub mod Memory
+pub mod MemDisk
+pub mod RawFile
+pub mod HostFile
+pub mod Openings
+pub mod Asked
+pub mod Counted
+pub mod Limits
+pub mod Layout
+pub mod Crash
+pub mod Within
+pub mod Saving
+pub mod Errors
+pub mod Loads
+pub mod SaveCalls

@@ -1,7 +1,0 @@
-use Rattle.std.proofs.Common.{◌≡◌, ◌≤◌, take}
-use Rattle.line_disk.specs.Memory.{settled_count}
-use Rattle.line_disk.proofs.patch.settled_count.Given as goal
-
--- the count of the calls so far
-abbrev pub invariant-loop-i : goal.invariant-loop-i
-invariant-loop-i l = (l.count ≡ settled_count (take l.i l.calls)) × (l.count ≤ l.i)

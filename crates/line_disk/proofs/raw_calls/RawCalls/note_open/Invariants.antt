@@ -1,7 +1,0 @@
-use Rattle.std.proofs.Common.{◌++◌, ◌∷◌, []}
-use Rattle.line_disk.specs.RawFile.{Opens}
-use Rattle.line_disk.proofs.raw_calls.RawCalls.note_open.Given as goal
-
--- the calls of before, and this one
-abbrev pub ghost-of : goal.ghost-of
-ghost-of a = a.from.now.0.now.items ++ Opens a.from.now.1 a.from.now.2 ∷ []

@@ -1,6 +1,0 @@
-use borrow.Author.Rules.{rules, lives}
-use Rattle.line_disk.proofs.raw_calls.RawCalls.note_sync.Goals as goal
-
--- what is noted lives as long as the call
-pub of-self-requires : goal.of-self-requires
-of-self-requires c κs within = search (rules, lives, within) depth 24 fits 20000

@@ -1,6 +1,0 @@
-use Rattle.std.proofs.Common.{◌++◌, ◌∷◌, []}
-use Rattle.line_disk.proofs.raw_calls.note_call.Given as goal
-
--- the calls of before, and this one
-abbrev pub ghost-of : goal.ghost-of
-ghost-of g a = a.from.now.items ++ g.call ∷ []

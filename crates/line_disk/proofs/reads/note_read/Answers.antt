@@ -1,6 +1,0 @@
-use borrow.Author.Rules.{rules, lives}
-use Rattle.line_disk.proofs.reads.note_read.Goals as goal
-
--- what is noted lives as long as the call
-pub of-requires : goal.of-requires
-of-requires c κs within = search (rules, lives, within) depth 24 fits 20000

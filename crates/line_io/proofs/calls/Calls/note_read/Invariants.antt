@@ -1,5 +1,0 @@
-use Rattle.line_io.specs.Calls.{read_of}
-use Rattle.line_io.proofs.calls.Calls.note_read.Given as goal
-
-abbrev pub ghost-note_call : goal.ghost-note_call
-ghost-note_call a = read_of a.given.now a.answer

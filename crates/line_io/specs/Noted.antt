@@ -1,7 +1,0 @@
--- What a store notes of the calls that it got.
-use Rattle.line_io.specs.Calls.{Asked}
-use Rattle.line_io.specs.declared.calls.Calls.{Calls}
-
--- all reads and all writes that were noted
-abbrev pub asked_of : Calls → Asked
-asked_of calls = record { reads = calls.reads.items; writes = calls.writes.items }

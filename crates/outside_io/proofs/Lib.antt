@@ -1,0 +1,10 @@
+pub mod CountedLemmas
+pub mod HeldLemmas
+pub mod OutgoingLemmas
+pub mod RawFilesModel
+pub mod RawFilesRuns
+pub mod RawOutLemmas
+pub mod ReadingLemmas
+pub mod Spares
+pub mod WritesFileLemmas
+pub mod WrittenLemmas

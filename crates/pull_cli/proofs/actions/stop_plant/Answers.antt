@@ -1,0 +1,14 @@
+use Rattle.std.proofs.Common.{refl}
+use Rattle.command_line.specs.declared.command.Command.TheVariants.{Stopping}
+use Rattle.pull_cli.proofs.CommandSteps.{stopping_does, no_plant}
+use Rattle.pull_cli.proofs.actions.stop_plant.Goals as goal
+
+pub returns-in_err-line : goal.returns-in_err-line
+returns-in_err-line g c = λ disk same.
+    no_plant disk c.args.plant.now (Stopping c.args.plant.now c.args.workers c.args.stop) c.in_err-line.field-0.0
+    c.from_residual.result refl same c.from_residual.ensures.1 c.in_err-line.ensures.makes
+
+pub returns : goal.returns
+returns g c = λ disk same.
+    stopping_does disk c.args.plant.now c.args.workers c.args.stop c.in_ok-line.line.plant c.run_until.result same
+    c.in_ok-line.ensures.makes c.run_until.ensures
