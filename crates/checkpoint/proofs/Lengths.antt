@@ -14,7 +14,7 @@ use Rattle.line_base.specs.Text.{is_label}
 use Rattle.line_base.specs.Limits.{most_arcs, most_checkpoint_bytes}
 use Rattle.line_base.specs.declared.event.Parts.{Parts}
 use Rattle.event_graph.specs.Network.{stations, jobs, arc_count, arc, delay, label, IsGraph}
-use Rattle.event_graph.specs.Limits.{IsWithinLimits}
+use Rattle.event_graph.specs.Limits.{IsWithinLimits, HasFewArcs}
 use Rattle.event_graph.specs.State.{State, log, place}
 use Rattle.event_graph.specs.Reached.{Reached}
 use Rattle.event_graph.proofs.Ranges.{All-range}
@@ -25,7 +25,7 @@ use Rattle.line_core.proofs.Consistency.{reached_is_consistent}
 use Rattle.checkpoint.specs.declared.format.Format.{Format}
 use Rattle.checkpoint.specs.declared.format.Format.TheVariants.{Dates, Differences}
 use Rattle.checkpoint.specs.Text.{dates_text, delayed_arcs, two_words, delay_words, delays_line, head_lines, station_words, place_words, station_lines, place_lines, lines, lines_text}
-use Rattle.checkpoint.specs.Length.{HasFewArcs, HasShortLabels, FitsLimit}
+use Rattle.checkpoint.specs.Length.{HasShortLabels, FitsLimit}
 use Rattle.checkpoint.proofs.FilledTexts.{filled-lines}
 use Rattle.checkpoint.proofs.WordLengths.{IsEarly, log_text-le, left_text-le, dated_lines-le, sum_of_sizes}
 

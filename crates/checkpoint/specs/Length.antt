@@ -1,16 +1,11 @@
 -- How long a text of a state is at most.
-use Rattle.std.specs.Prelude.{◌+◌, ◌*◌, ◌≤◌, length, All}
+use Rattle.std.specs.Prelude.{◌≤◌, length, All}
 use Rattle.line_base.specs.Limits.{most_checkpoint_bytes}
 use Rattle.line_base.specs.declared.event.Parts.{Parts}
-use Rattle.event_graph.specs.Network.{stations, arc_count}
 use Rattle.event_graph.specs.State.{State}
 use Rattle.event_graph.specs.Reached.{Reached}
 use Rattle.checkpoint.specs.declared.format.Format.{Format}
 use Rattle.checkpoint.specs.Text.{text}
-
--- the graph has few arcs for its stations
-abbrev pub HasFewArcs : Parts → Type 0
-HasFewArcs g = arc_count g ≤ 3 * stations g + 59
 
 -- no label is longer than a label may be
 abbrev pub HasShortLabels : Parts → Type 0

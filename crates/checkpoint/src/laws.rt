@@ -1,6 +1,6 @@
 ghost use Rattle.checkpoint.specs.Laws.{SaysOneState};
-ghost use Rattle.checkpoint.specs.Length.{HasFewArcs, HasShortLabels, FitsLimit};
-ghost use Rattle.event_graph.specs.Limits.{IsWithinLimits};
+ghost use Rattle.checkpoint.specs.Length.{HasShortLabels, FitsLimit};
+ghost use Rattle.event_graph.specs.Limits.{IsWithinLimits, HasFewArcs};
 ghost use Rattle.event_graph.specs.Network.{IsGraph};
 ghost use Rattle.line_base.specs.declared.event.Parts.{Parts};
 

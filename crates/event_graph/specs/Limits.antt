@@ -1,5 +1,5 @@
 -- The sizes within which a graph is built.
-use Rattle.std.specs.Prelude.{◌≡◌, ℕ, ◌*◌, ◌≤◌, length, All}
+use Rattle.std.specs.Prelude.{◌≡◌, ℕ, ◌+◌, ◌*◌, ◌≤◌, length, All}
 use Rattle.std.specs.List.Sorted.{IsNonDecreasing}
 use Rattle.line_base.specs.Limits.{most_stations, most_demands, most_dates, most_arcs, most_cards, longest_time, last_demand}
 use Rattle.line_base.specs.declared.event.Parts.{Parts}
@@ -28,3 +28,7 @@ pub record IsWithinLimits (g : Parts) : Type 0 where
   pub few_tokens : All (λ a. a.tokens ≤ most_cards) g.arcs
   pub delays_for_each : length g.delays ≡ arc_count g
   pub delays_small : All (λ delay. delay ≤ longest_time) g.delays
+
+-- the graph has few arcs for its stations, as that of every plant has
+abbrev pub HasFewArcs : Parts → Type 0
+HasFewArcs g = arc_count g ≤ 3 * stations g + 59

@@ -1,12 +1,13 @@
 -- The parts of a sound plant's graph are built without a refusal.
-use Rattle.std.proofs.Common.{◌≡◌, ◌+◌, ◌*◌, ◌≤◌, refl, inl, inr, arith}
+use Rattle.std.proofs.Common.{◌≡◌, refl, inl, inr, arith}
 use Rattle.line_base.specs.declared.event.Parts.{Parts}
 use Rattle.plant_model.specs.declared.plant.Plant.{Plant}
 use Rattle.plant_model.specs.Graph.{labels, times, rows, arcs_of, delays_of, graph}
 use Rattle.plant_model.specs.Sound.{IsSound}
 use Rattle.event_graph.specs.declared.error.GraphError.{GraphError}
 use Rattle.event_graph.specs.declared.error.GraphError.TheVariants.{EndOutOfRange, FeedInput, NoInput, NoMemory}
-use Rattle.event_graph.specs.Network.{stations, arc_count, IsGraph}
+use Rattle.event_graph.specs.Limits.{HasFewArcs}
+use Rattle.event_graph.specs.Network.{IsGraph}
 use Rattle.event_graph.specs.Faults.{IsFirstFault}
 use Rattle.line_graph.proofs.Sizes.{stations-graph, arc_count-graph, few_arcs}
 
@@ -29,5 +30,5 @@ no_fault g (NoInput t) good h =
     absurd (h.2.found.1 input.0 input.1 input.2)
 no_fault g NoMemory good h = refl
 
-pub few_arcs-graph : (p : Plant) → IsSound p → arc_count (graph p) ≤ 3 * stations (graph p) + 59
+pub few_arcs-graph : (p : Plant) → IsSound p → HasFewArcs (graph p)
 few_arcs-graph p sound = omega (arith, stations-graph p, arc_count-graph p, few_arcs p sound)

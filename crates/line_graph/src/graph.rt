@@ -1,5 +1,5 @@
-ghost use Rattle.std.specs.Prelude.{◌≡◌, ◌+◌, ◌*◌, ◌≤◌, IfOk};
-ghost use Rattle.event_graph.specs.Network.{stations, arc_count};
+ghost use Rattle.std.specs.Prelude.{◌≡◌, IfOk};
+ghost use Rattle.event_graph.specs.Limits.{HasFewArcs};
 ghost use Rattle.line_graph.specs.Labels.{HasLabels};
 ghost use Rattle.plant_model.specs.Graph.{graph};
 ghost use Rattle.plant_model.specs.Sound.{IsSound};
@@ -18,7 +18,7 @@ use std::alloc::{AllocError, Global};
 pub fn graph_of(alloc: Global, plant: &Plant) -> Result<Graph, AllocError>
     requires { IsSound plant.now }
     ensures graph { IfOk result (λ g. g ≡ graph plant.now) }
-    ensures few_arcs { IfOk result (λ g. arc_count g ≤ 3 * stations g + 59) }
+    ensures few_arcs { IfOk result HasFewArcs }
     ensures labels { IfOk result HasLabels }
 {
     let parts = parts_of(alloc, plant)?;
