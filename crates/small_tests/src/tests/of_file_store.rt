@@ -72,40 +72,40 @@ fn ends_of(rt: &impl Abort, alloc: Global, calls: (u32, u32), bars_spare: bool) 
     [count, last, now, left, usize::from(files.has_spare())]
 }
 
-// Each write asks for six calls: to look at the name, to remove a spare file, to make one, to write it, to sync it, and
-// to rename it. Where the second fails, all goes well.
+// Each write asks for eight calls: to look at the name, to remove a spare file, to make one, to write it, to sync it, to
+// rename it, to open the folder, and to sync that. Where the second fails, or one of the last two, all goes well.
 #[test]
 fn each_call_that_fails_is_a_fault_of_its_write_alone_and_leaves_the_file_as_it_was(
     rt: HostRuntime,
 ) {
-    for number in 1..=18 {
-        let goes_well = number % 6 == 2;
+    for number in 1..=24 {
+        let goes_well = matches!(number % 8, 2 | 7 | 0);
         let count = if goes_well { 3 } else { 2 };
-        let last = if number > 12 && !goes_well { 1 } else { 2 };
+        let last = if number > 16 && !goes_well { 1 } else { 2 };
         let ends = ends_of(&rt, rt.alloc(), (number, number), false);
         assert_same(&rt, ends, [count, last, last, last, 0]);
     }
 }
 
-// A machine that stops behind so many calls. Behind the third of a write it leaves the spare file.
+// A machine that stops behind some calls. Six of them make a write; behind the third it leaves the spare file.
 #[test]
 fn a_stop_at_any_call_leaves_what_was_acknowledged(rt: HostRuntime) {
-    for calls in 0..=18u32 {
-        let count = calls as usize / 6;
+    for calls in 0..=24u32 {
+        let count = (calls as usize + 2) / 8;
         let last = [3, 0, 1, 2][count];
-        let spare = usize::from(calls % 6 >= 3);
+        let spare = usize::from(matches!(calls % 8, 3..=5));
         let ends = ends_of(&rt, rt.alloc(), (calls + 1, u32::MAX), false);
         assert_same(&rt, ends, [count, last, last, last, spare]);
     }
 }
 
-/// Which call of three writes in place fails, and how they end. Each asks for six calls: to look at the name, to remove
-/// and to make a spare file, to empty the file, to write it, and to sync it.
+/// Which call of three writes in place fails, and how they end. Each asks for eight calls: to look at the name, to remove
+/// and to make a spare file, to empty the file, to write it, to sync it, to open the folder, and to sync that.
 const IN_PLACE: [(u32, [usize; 5]); 4] = [
-    (19, [3, 2, 2, 2, 0]),
-    (16, [2, 1, 1, 1, 0]),
-    (17, [2, 1, NO_TEXT, NO_TEXT, 0]),
-    (18, [2, 1, 2, NO_TEXT, 0]),
+    (23, [3, 2, 2, 2, 0]),
+    (20, [2, 1, 1, 1, 0]),
+    (21, [2, 1, NO_TEXT, NO_TEXT, 0]),
+    (22, [2, 1, 2, NO_TEXT, 0]),
 ];
 
 #[test]
