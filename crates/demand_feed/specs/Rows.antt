@@ -1,5 +1,5 @@
 -- From the records of a file to one row of numbers a job, or to the first bad record.
-use Rattle.std.specs.Prelude.{◌≡◌, ℕ, ◌-◌, Bool, false, ◌==◌, ◌&&◌, not, List, map, length, Option, Some, None, Result, Ok, Err, is_none, slice_get}
+use Rattle.std.specs.Prelude.{◌≡◌, ℕ, ◌-◌, Bool, false, ◌==◌, ◌&&◌, not, if◌then◌else◌, List, [], ◌∷◌, map, length, Option, Some, None, Result, Ok, Err, is_none, slice_get}
 use Rattle.std.specs.List.{concat, enumerate_from, filter, filter_map, find, list_all, list_any}
 use Rattle.std.specs.Option.{option_and_then, option_map, option_map_or}
 use Rattle.demand_feed.specs.Field.{is_title, number_in}
@@ -24,6 +24,11 @@ NumberedRecord = ℕ × Record
 -- a header: the first record, where it has a title in every used column
 abbrev pub is_header : List ℕ → NumberedRecord → Bool
 is_header used row = row.0 == 1 && list_all (has_title_at row.1) used
+
+-- how many records stand before that of the first job: a header, or none
+abbrev pub headers_of : List ℕ → List Record → ℕ
+headers_of used [] = 0
+headers_of used (first ∷ rest) = if is_header used (1, first) then 1 else 0
 
 -- the records of jobs: all but a header
 unfoldable pub jobs : List ℕ → List Record → List NumberedRecord

@@ -1,6 +1,6 @@
 ghost use Rattle.std.specs.Prelude.{◌↔◌, IsTrue};
 ghost use Rattle.line_workers.specs.Gather.{IsWorkerAfter};
-ghost use Rattle.line_runs.specs.Sweeping.{IsWorkerFor, IsMostTurns, MaySweep};
+ghost use Rattle.line_runs.specs.Sweeping.{IsWorkerFor, IsMostTurns, MaySweep, IsExceeded};
 ghost use Rattle.line_worker.specs.Worker.{IsWorker};
 
 use line_workers::{Gate, Worker};
@@ -78,7 +78,9 @@ impl IdleSweeps {
     }
 
     /// Whether a worker has made more of them than its patience allows.
-    fn exceed(&self, patience: Patience) -> bool {
+    fn exceed(&self, patience: Patience) -> bool
+        ensures { IsTrue result ↔ IsExceeded patience self.now.made }
+    {
         match patience {
             Patience::Endless => false,
             Patience::Sweeps(most) => self.made > most,
