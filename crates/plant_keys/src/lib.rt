@@ -17,8 +17,9 @@ mod walk;
 
 pub use fault::{Fault, Wants};
 pub use faults::{Asked, FaultList, Faults, MOST_FAULTS};
-pub use keys::{Key, has_column, has_line_cards, has_stage_cards};
-pub use keys::{loop_keys, machine_keys, stage_keys, top_keys};
+pub use keys::{
+    Key, has_column, has_line_cards, has_stage_cards, loop_keys, machine_keys, stage_keys, top_keys,
+};
 pub use names::Names;
 pub use tree::find_in_plant;
 pub use values::{elements_of, has, tables_at, text_at, text_of, value_at};
